@@ -1,5 +1,6 @@
 -- What reading and writing a page of an area does. An area may tell its pages, or tell nothing.
 use Rattle.std.specs.Prelude.{◌≡◌, ◌≢◌, ℕ, ◌≤◌, ◌<◌, List, length, slice_get, slice_set, Option, Some, None}
+use Rattle.solo_base.specs.declared.page.Page.{Page}
 use Rattle.solo_devices.specs.Count.{Rose}
 use Rattle.solo_devices.specs.declared.area.Moved.{Moved}
 use Rattle.solo_devices.specs.declared.area.Moved.TheVariants.{Done, Failed}
@@ -36,3 +37,7 @@ pub record CountsFaults (before now : ℕ) (answer : Moved) : Type 0 where
 -- an area that tells its pages tells as many as its size
 abbrev pub HasSize : Option (List (List ℕ)) → ℕ → Type 0
 HasSize pages size = (told : List (List ℕ)) → pages ≡ Some told → length told ≡ size
+
+-- the bytes of a page
+abbrev pub page_bytes : Page → List ℕ
+page_bytes page = page.0

@@ -3,9 +3,19 @@
 #![tactic(auto)]
 
 mod area;
+mod mem_sink;
+mod mem_source;
 mod sink;
 mod source;
+mod sure_area;
+mod sure_sink;
+mod sure_source;
 
 pub use area::{Area, Moved};
+pub use mem_sink::MemSink;
+pub use mem_source::MemSource;
 pub use sink::{Gave, Sink};
 pub use source::{Source, Took};
+pub use sure_area::SureArea;
+pub use sure_sink::SureSink;
+pub use sure_source::SureSource;
