@@ -8,7 +8,7 @@ use Rattle.page_codec.specs.Items.{items_bytes}
 use Rattle.page_codec.specs.Form.{mark, IsPage}
 use Rattle.page_codec.specs.Places.{number_at, content_of, IsLeastWrong}
 use Rattle.page_codec.specs.Reading.{items_after, bad_place, PageContent, content_or_bad, page_read}
-use Rattle.page_codec.specs.Stream.{IsStream, Awaited, ContinuesFrom, HasTaken}
+use Rattle.page_codec.specs.Stream.{IsStream, Awaited, ContinuesFrom, HasTaken, is_empty, TheNextIsTaken, AllIsGiven}
 use Rattle.page_codec.proofs.Judged.{some_or_none, least_wrong, least_found}
 use Rattle.page_codec.proofs.Pages.{IsBytes, is_page, nothing_wrong_again, items_again}
 use Rattle.page_codec.proofs.Cutting.{page_of-same, stream_on}
@@ -146,3 +146,36 @@ taken_on awaited pages items last page given after running taken form place-is e
             subst (λ (b : Bool). ContinuesFrom after.place b more after-page.rest) (sym ended-is) after-page.continues,
           );
     }
+
+-- ---- what was packed is read back
+
+-- the first page of what can still come
+record IsFirst (ended : Bool) (place : ℕ) (page : Page) (more : List Page) (items : List Item) : Type 0 where
+  first : List Item
+  rest : List Item
+  parts : items ≡ first ++ rest
+  form : IsPage place (is_empty more) first page
+  running : ended ≡ false
+
+first_of_stream : (ended : Bool) (place : ℕ) (page : Page) (more : List Page) (items : List Item) → ContinuesFrom place ended (page ∷ more) items → IsFirst ended place page more items
+first_of_stream true place page more items continues = let e : page ∷ more ≡ [] = continues.0 in absurd cc
+first_of_stream false place page [] items continues = record { first = items; rest = []; parts = sym (append-nil items); form = continues; running = refl }
+first_of_stream false place page (next ∷ more) items continues =
+    record { first = continues.0; rest = continues.1; parts = continues.2; form = continues.3; running = refl }
+
+end_of_stream : (ended : Bool) (place : ℕ) (items : List Item) → ContinuesFrom place ended [] items → (ended ≡ true) × (items ≡ [])
+end_of_stream true place items continues = (refl, continues.1)
+end_of_stream false place items continues = absurd continues
+
+pub the_next_is_taken : TheNextIsTaken
+the_next_is_taken front page more all given awaited stream taken =
+    let next = taken.nothing_else (page ∷ more) all stream in
+    let here = first_of_stream awaited.ended awaited.place page more next.0 next.2 in
+    (here.first, here.rest, next.1 ∙ ap (λ (l : List Item). given ++ l) here.parts ∙ sym (append_assoc given here.first here.rest), here.form, here.running)
+
+pub all_is_given : AllIsGiven
+all_is_given pages all given awaited stream taken =
+    let whole : IsStream 0 (pages ++ []) all = rw append-nil stream in
+    let next = taken.nothing_else [] all whole in
+    let over = end_of_stream awaited.ended awaited.place next.0 next.2 in
+    (sym (next.1 ∙ rw over.1 (append-nil given)), over.0)

@@ -23,10 +23,10 @@ pub record Awaited : Type 0 where
 abbrev pub at_the_first : Awaited
 at_the_first = record { place = 0; ended = false }
 
--- what it awaits after a page: the next one, where it took this one
-abbrev pub awaited_after : Awaited → Result PageContent BadPage → Awaited
-awaited_after awaited (Ok content) = record { place = (awaited.place + 1) % 2 ^ 16; ended = content.last }
-awaited_after awaited (Err bad) = awaited
+-- what it awaits after a page that was handed in with this mark: the next one, where it took this one
+abbrev pub awaited_after : Awaited → Bool → Result PageContent BadPage → Awaited
+awaited_after awaited last (Ok content) = record { place = (awaited.place + 1) % 2 ^ 16; ended = last }
+awaited_after awaited last (Err bad) = awaited
 
 -- what can still come: the rest of the stream, or after the last page nothing
 abbrev pub ContinuesFrom : ℕ → Bool → List Page → List Item → Type 0
@@ -36,9 +36,24 @@ ContinuesFrom place true pages items = (pages ≡ []) × (items ≡ [])
 abbrev pub Continues : Awaited → List Page → List Item → Type 0
 Continues awaited pages items = ContinuesFrom awaited.place awaited.ended pages items
 
+abbrev pub is_empty : List Page → Bool
+is_empty [] = true
+is_empty (page ∷ more) = false
+
 -- The history of an unpacker: it took these pages and gave these items. However the stream goes on,
 -- its items are those that were given and those that can still come.
 pub record HasTaken (awaited : Awaited) (pages : List Page) (items : List Item) : Type 0 where
   pub goes_on : (more : List Page) (rest : List Item) → Continues awaited more rest → IsStream 0 (pages ++ more) (items ++ rest)
   pub nothing_else : (more : List Page) (all : List Item) → IsStream 0 (pages ++ more) all
       → (rest : List Item) × (all ≡ items ++ rest) × Continues awaited more rest
+
+-- An unpacker that took the front of a stream gave the front of its items, and the next page is in
+-- the form that it expects, marked as the last exactly where no page follows.
+abbrev pub TheNextIsTaken : Type 0
+TheNextIsTaken =
+    (front : List Page) (page : Page) (more : List Page) (all given : List Item) (awaited : Awaited) → IsStream 0 (front ++ page ∷ more) all → HasTaken awaited front given
+    → (here : List Item) × (rest : List Item) × (all ≡ given ++ here ++ rest) × IsPage awaited.place (is_empty more) here page × (awaited.ended ≡ false)
+
+-- One that took a whole stream gave all of its items.
+abbrev pub AllIsGiven : Type 0
+AllIsGiven = (pages : List Page) (all given : List Item) (awaited : Awaited) → IsStream 0 pages all → HasTaken awaited pages given → (given ≡ all) × (awaited.ended ≡ true)

@@ -1,4 +1,4 @@
-ghost use Rattle.std.specs.Prelude.{◌≡◌, ◌++◌, ◌↔◌, ◌≤◌, [], true, Some, None, option_to_list, IsNone};
+ghost use Rattle.std.specs.Prelude.{◌≡◌, ◌++◌, ◌↔◌, ◌≤◌, [], true, None, option_to_list, IsNone};
 ghost use Rattle.page_codec.specs.Places.{content_length, content_of};
 ghost use Rattle.page_codec.specs.Reading.{begins_item, item_at, items_after, bad_item_after};
 
@@ -57,7 +57,7 @@ impl PageItems {
         let first = *first;
         let item = item_at(first, rest);
         self.at += 1 + characters(first);
-        item
+        Some(item)
     }
 
     /// Whether the page is the last of its stream.
@@ -69,12 +69,12 @@ impl PageItems {
 }
 
 /// The item with this first byte, whose characters follow it.
-fn item_at(first: u8, rest: &[u8]) -> Option<Item>
+fn item_at(first: u8, rest: &[u8]) -> Item
     requires { begins_item first rest.now ≡ true }
-    ensures { result ≡ Some (item_at first rest.now) }
+    ensures { result ≡ item_at first rest.now }
 {
     if first == SPOILED {
-        return Some(Item::Spoiled);
+        return Item::Spoiled;
     }
-    Line::of(&rest[..first as usize]).map(Item::Line)
+    Item::Line(Line::of(&rest[..first as usize]).unwrap())
 }

@@ -44,7 +44,7 @@ impl Unpacker {
     pub fn take(&mut self, page: &Page, last: bool) -> Result<PageItems, BadPage>
         requires { self.old.ended ≡ false }
         ensures read { result ≡ page_read self.old.place last page.now }
-        ensures awaited { self.new ≡ awaited_after self.old result }
+        ensures awaited { self.new ≡ awaited_after self.old last result }
 
         // It is taken exactly where it is in the form, and its items are those that it then gives.
         ensures form { (items : List Item) → IsPage self.old.place last items page.now
