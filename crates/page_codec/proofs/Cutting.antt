@@ -1,5 +1,5 @@
 -- Groups of items that are cut into pages, and the stream of their pages.
-use Rattle.std.proofs.Common.{◌≡◌, ℕ, suc, ◌+◌, ◌/◌, ◌%◌, ◌≤◌, ◌<◌, Bool, true, false, List, [], ◌∷◌, ◌++◌, length, refl, sym, ap, subst, ◌∙◌, append_assoc, arith}
+use Rattle.std.proofs.Common.{◌≡◌, ℕ, suc, ◌+◌, ◌/◌, ◌%◌, ◌≤◌, ◌<◌, Bool, true, false, List, [], ◌∷◌, ◌++◌, length, refl, sym, ap, subst, ◌∙◌, append_assoc, arith, leb, inl, inr}
 use Rattle.std.proofs.lemmas.List.{append-nil, length-append, length_push}
 use Rattle.std.specs.List.{flat_map}
 use Rattle.solo_base.specs.declared.item.Item.{Item}
@@ -9,6 +9,8 @@ use Rattle.page_codec.specs.Items.{item_bytes, items_bytes, IsItem, AreItems}
 use Rattle.page_codec.specs.Form.{page_of, IsPage}
 use Rattle.page_codec.specs.Packing.{HasNoRoomFor, IsCut, pages_from, PageInHand, HasPacked}
 use Rattle.page_codec.specs.Stream.{IsStream}
+use Rattle.page_codec.specs.Laws.{PackingGoesOn, PagesAreAStream}
+use Rattle.std.proofs.lemmas.Bool.{cases_lt, le-leb, lt-leb}
 
 -- ---- items
 
@@ -172,3 +174,20 @@ packed_stream hand items pages page packed page-is =
     page-is ∙ page_of-same hand.place (0 + length packed.groups) true hand.content number ∙ ap (λ (l : List ℕ). page_of (0 + length packed.groups) true l) packed.content in
     rw (packed.given, page-number, ← packed.whole)
     (stream_of packed.groups packed.last 0 (rw packed.whole packed.valid) packed.cut)
+
+abbrev after_push : ℕ → List ℕ → PageInHand
+after_push place content = record { place = place % 65536; content = content }
+
+pub packing_goes_on : PackingGoesOn
+packing_goes_on hand items pages item packed valid =
+    elim (cases_lt 506 (length (hand.content ++ item_bytes item))) [
+      | inl full ↦
+          let test : leb (length (hand.content ++ item_bytes item)) 506 ≡ false = lt-leb _ _ full in
+          rw test (packed_more hand items pages item (after_push (hand.place + 1) (item_bytes item)) (page_of hand.place false hand.content) packed valid full refl refl refl)
+      | inr short ↦
+          let test : leb (length (hand.content ++ item_bytes item)) 506 ≡ true = le-leb _ _ short in
+          rw test (packed_on hand items pages item (record hand { content = hand.content ++ item_bytes item }) packed valid short refl refl)
+    ]
+
+pub pages_are_a_stream : PagesAreAStream
+pages_are_a_stream hand items pages packed = packed_stream hand items pages (page_of hand.place true hand.content) packed refl

@@ -1,6 +1,6 @@
 -- What an unpacker says of a page, and the history of what it took and gave.
 use Rattle.std.proofs.Common.{◌≡◌, ℕ, ◌+◌, ◌%◌, ◌^◌, ◌<◌, Bool, true, false, List, [], ◌∷◌, ◌++◌, length, get_or, Option, Some, None, Result, Ok, Err, refl, sym, ap, subst, ◌∙◌, append_assoc, arith, inl, inr}
-use Rattle.std.proofs.lemmas.List.{append-nil}
+use Rattle.std.proofs.lemmas.List.{append-nil, length_push}
 use Rattle.solo_base.specs.declared.item.Item.{Item}
 use Rattle.solo_base.specs.declared.page.Page.{Page}
 use Rattle.page_codec.specs.declared.judge.BadPage.{BadPage}
@@ -8,7 +8,8 @@ use Rattle.page_codec.specs.Items.{items_bytes}
 use Rattle.page_codec.specs.Form.{mark, IsPage}
 use Rattle.page_codec.specs.Places.{number_at, content_of, IsLeastWrong}
 use Rattle.page_codec.specs.Reading.{items_after, bad_place, PageContent, content_or_bad, page_read}
-use Rattle.page_codec.specs.Stream.{IsStream, Awaited, ContinuesFrom, HasTaken, is_empty, TheNextIsTaken, AllIsGiven}
+use Rattle.page_codec.specs.Stream.{IsStream, Awaited, ContinuesFrom, HasTaken}
+use Rattle.page_codec.specs.Laws.{is_empty, TheNextIsTaken, AllIsGiven}
 use Rattle.page_codec.proofs.Judged.{some_or_none, least_wrong, least_found}
 use Rattle.page_codec.proofs.Pages.{IsBytes, is_page, nothing_wrong_again, items_again}
 use Rattle.page_codec.proofs.Cutting.{page_of-same, stream_on}
@@ -131,6 +132,7 @@ pub taken_on : (awaited : Awaited) (pages : List Page) (items : List Item) (last
     → after.place ≡ (awaited.place + 1) % 65536 → after.ended ≡ last → HasTaken after (pages ++ page ∷ []) (items ++ given)
 taken_on awaited pages items last page given after running taken form place-is ended-is =
     record {
+      place = omega (arith, place-is, taken.place, length_push pages page);
       goes_on = λ more rest continues.
           let from : ContinuesFrom after.place last more rest = subst (λ (b : Bool). ContinuesFrom after.place b more rest) ended-is continues in
           let stream = continues_back awaited.place after.place last page given more rest place-is form from in
@@ -159,7 +161,8 @@ record IsFirst (ended : Bool) (place : ℕ) (page : Page) (more : List Page) (it
 
 first_of_stream : (ended : Bool) (place : ℕ) (page : Page) (more : List Page) (items : List Item) → ContinuesFrom place ended (page ∷ more) items → IsFirst ended place page more items
 first_of_stream true place page more items continues = let e : page ∷ more ≡ [] = continues.0 in absurd cc
-first_of_stream false place page [] items continues = record { first = items; rest = []; parts = sym (append-nil items); form = continues; running = refl }
+first_of_stream false place page [] items continues =
+    record { first = items; rest = []; parts = sym (append-nil items); form = continues; running = refl }
 first_of_stream false place page (next ∷ more) items continues =
     record { first = continues.0; rest = continues.1; parts = continues.2; form = continues.3; running = refl }
 
@@ -171,7 +174,15 @@ pub the_next_is_taken : TheNextIsTaken
 the_next_is_taken front page more all given awaited stream taken =
     let next = taken.nothing_else (page ∷ more) all stream in
     let here = first_of_stream awaited.ended awaited.place page more next.0 next.2 in
-    (here.first, here.rest, next.1 ∙ ap (λ (l : List Item). given ++ l) here.parts ∙ sym (append_assoc given here.first here.rest), here.form, here.running)
+    record {
+      running = here.running;
+      here = here.first;
+      rest = here.rest;
+      parts = next.1 ∙ ap (λ (l : List Item). given ++ l) here.parts ∙ sym (append_assoc given here.first here.rest);
+      marked = ap (λ (p : Page). get_or p.0 2 0) here.form.spelled;
+      form = here.form;
+      read = taken_from_form awaited.place (is_empty more) here.first page (omega (arith, taken.place)) here.form;
+    }
 
 pub all_is_given : AllIsGiven
 all_is_given pages all given awaited stream taken =

@@ -4,3 +4,5 @@ pub mod Places
 pub mod Packing
 pub mod Reading
 pub mod Stream
+pub mod Laws
+pub use Rattle.solo_base.specs.Line

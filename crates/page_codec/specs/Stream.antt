@@ -1,5 +1,5 @@
 -- Streams of pages, and the history of an unpacker.
-use Rattle.std.specs.Prelude.{◌≡◌, ℕ, ◌+◌, ◌%◌, ◌^◌, Bool, true, false, List, [], ◌∷◌, ◌++◌, Result, Ok, Err}
+use Rattle.std.specs.Prelude.{◌≡◌, ℕ, ◌+◌, ◌%◌, ◌^◌, Bool, true, false, List, [], ◌∷◌, ◌++◌, length, Result, Ok, Err}
 use Rattle.solo_base.specs.declared.item.Item.{Item}
 use Rattle.solo_base.specs.declared.page.Page.{Page}
 use Rattle.page_codec.specs.declared.judge.BadPage.{BadPage}
@@ -36,24 +36,10 @@ ContinuesFrom place true pages items = (pages ≡ []) × (items ≡ [])
 abbrev pub Continues : Awaited → List Page → List Item → Type 0
 Continues awaited pages items = ContinuesFrom awaited.place awaited.ended pages items
 
-abbrev pub is_empty : List Page → Bool
-is_empty [] = true
-is_empty (page ∷ more) = false
-
 -- The history of an unpacker: it took these pages and gave these items. However the stream goes on,
 -- its items are those that were given and those that can still come.
 pub record HasTaken (awaited : Awaited) (pages : List Page) (items : List Item) : Type 0 where
+  pub place : awaited.place ≡ length pages % 2 ^ 16
   pub goes_on : (more : List Page) (rest : List Item) → Continues awaited more rest → IsStream 0 (pages ++ more) (items ++ rest)
   pub nothing_else : (more : List Page) (all : List Item) → IsStream 0 (pages ++ more) all
       → (rest : List Item) × (all ≡ items ++ rest) × Continues awaited more rest
-
--- An unpacker that took the front of a stream gave the front of its items, and the next page is in
--- the form that it expects, marked as the last exactly where no page follows.
-abbrev pub TheNextIsTaken : Type 0
-TheNextIsTaken =
-    (front : List Page) (page : Page) (more : List Page) (all given : List Item) (awaited : Awaited) → IsStream 0 (front ++ page ∷ more) all → HasTaken awaited front given
-    → (here : List Item) × (rest : List Item) × (all ≡ given ++ here ++ rest) × IsPage awaited.place (is_empty more) here page × (awaited.ended ≡ false)
-
--- One that took a whole stream gave all of its items.
-abbrev pub AllIsGiven : Type 0
-AllIsGiven = (pages : List Page) (all given : List Item) (awaited : Awaited) → IsStream 0 pages all → HasTaken awaited pages given → (given ≡ all) × (awaited.ended ≡ true)

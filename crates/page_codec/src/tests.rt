@@ -1,5 +1,5 @@
 use crate::{BadPage, Packer, PageItems, Unpacker};
-use solo_base::{Item, LINE_LENGTH, Line, Page};
+use solo_base::{Item, LINE_LENGTH, Line, PAGE_LENGTH, Page};
 use std::process::Abort;
 use std::test::Fail;
 
@@ -78,13 +78,12 @@ fn a_spoiled_card_is_one_byte(rt: HostRuntime) -> Result<(), Fail> {
 }
 
 #[test]
-fn a_wrong_byte_is_found_at_its_place(rt: HostRuntime) -> Result<(), Fail> {
+fn a_wrong_byte_is_found_at_its_place(rt: HostRuntime) {
     let mut packer = Packer::new();
     assert!(rt; packer.push(&line(&rt, b"HI")).is_none());
     assert!(rt; packer.push(&line(&rt, b"A")).is_none());
     // 0, 0, 1, 0, 0, 5, 2, `H`, `I`, 1, `A`, and zeros
     let page = packer.finish();
-    let mut unpacker = Unpacker::new();
     for (byte, value, found, at) in [
         (1, 7, 7, 0),
         (0, 1, 256, 0),
@@ -102,6 +101,7 @@ fn a_wrong_byte_is_found_at_its_place(rt: HostRuntime) -> Result<(), Fail> {
         (511, 32, 0, 511),
     ] {
         let mut wrong = page;
+        assert!(rt; byte < PAGE_LENGTH);
         wrong.0[byte] = value;
         let refusal = BadPage {
             expected: 0,
@@ -109,14 +109,23 @@ fn a_wrong_byte_is_found_at_its_place(rt: HostRuntime) -> Result<(), Fail> {
             at,
         };
         assert_eq!(rt;
-            unpacker.take(&wrong, true).err(),
+            Unpacker::new().take(&wrong, true).err(),
             Some(refusal),
             "at {byte}"
         );
     }
-    // the other mark, and then the page itself, since no refusal changed anything
-    assert!(rt; matches!(unpacker.take(&page, false), Err(BadPage { at: 2, .. })));
-    assert!(rt; unpacker.take(&page, true).is_ok());
+}
+
+#[test]
+fn a_refusal_changes_nothing(rt: HostRuntime) -> Result<(), Fail> {
+    let page = Packer::new().finish();
+    let mut unpacker = Unpacker::new();
+    let Err(refusal) = unpacker.take(&page, false) else {
+        panic!(rt; "the mark is another");
+    };
+    assert_eq!(rt; refusal.at, 2);
+    let items = unpacker.take(&page, true)?;
+    assert!(rt; items.last());
     Ok(())
 }
 
@@ -136,7 +145,7 @@ fn a_page_before_the_last_is_full(rt: HostRuntime) {
 }
 
 #[test]
-fn the_places_begin_again_after_65536_pages(rt: HostRuntime) {
+fn the_places_begin_again_after_65536_pages(rt: HostRuntime) -> Result<(), Fail> {
     let mut packer = Packer::new();
     let mut unpacker = Unpacker::new();
     let long = letters(&rt, 132);
@@ -150,7 +159,8 @@ fn the_places_begin_again_after_65536_pages(rt: HostRuntime) {
             u32::from(page.0[0]) * 256 + u32::from(page.0[1]),
             place % 65_536
         );
-        assert!(rt; unpacker.take(&page, false).is_ok());
+        let _ = unpacker.take(&page, false)?;
     }
-    assert!(rt; unpacker.take(&packer.finish(), true).is_ok());
+    let _ = unpacker.take(&packer.finish(), true)?;
+    Ok(())
 }
