@@ -1,10 +1,10 @@
 -- The laws of packing and unpacking, over lists of items and of pages.
-use Rattle.std.specs.Prelude.{◌≡◌, ℕ, ◌<◌, Bool, true, false, List, [], ◌∷◌, ◌++◌, slice_index, option_to_list, Result, Ok, Err}
+use Rattle.std.specs.Prelude.{◌≡◌, Bool, true, false, List, [], ◌∷◌, ◌++◌, slice_index, option_to_list, Ok}
 use Rattle.solo_base.specs.declared.item.Item.{Item}
 use Rattle.solo_base.specs.declared.page.Page.{Page}
 use Rattle.page_codec.specs.Items.{IsItem}
 use Rattle.page_codec.specs.Form.{mark, page_of, IsPage}
-use Rattle.page_codec.specs.Reading.{PageContent, page_read}
+use Rattle.page_codec.specs.Reading.{page_read}
 use Rattle.page_codec.specs.Packing.{PageInHand, page_given, hand_after, HasPacked}
 use Rattle.page_codec.specs.Stream.{IsStream, Awaited, HasTaken}
 
