@@ -38,7 +38,8 @@ HasNoRoomFor group (item ∷ rest) = CONTENT_ROOM < length (items_bytes group ++
 abbrev pub IsCut : List (List Item) → Type 0
 IsCut [] = Unit {0}
 IsCut (group ∷ []) = length (items_bytes group) ≤ CONTENT_ROOM
-IsCut (group ∷ next ∷ rest) = (length (items_bytes group) ≤ CONTENT_ROOM) × HasNoRoomFor group next × IsCut (next ∷ rest)
+IsCut (group ∷ next ∷ rest) =
+    (length (items_bytes group) ≤ CONTENT_ROOM) × HasNoRoomFor group next × IsCut (next ∷ rest)
 
 -- the pages of these groups from a place on, none of which is the last
 abbrev pub pages_from : ℕ → List (List Item) → List Page

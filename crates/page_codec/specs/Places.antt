@@ -27,15 +27,17 @@ pub record IsBadItem (content : List ℕ) (at : ℕ) : Type 0 where
   pub some : left ≢ []
   pub none_begins : (item : Item) (more : List ℕ) → IsItem item → left ≡ item_bytes item ++ more → ⊥
 
--- this place is wrong, where a page with this number and this mark is expected
+-- this place is wrong, where the page with this number and this mark is expected
 pub data IsWrong (expected : ℕ) (last : Bool) (bytes : List ℕ) (at : ℕ) : Type 0 where
   other_number : at ≡ 0 → number_at 0 bytes ≢ expected → IsWrong expected last bytes at
   other_mark : at ≡ 2 → slice_index bytes 2 ≢ mark last → IsWrong expected last bytes at
   not_zero : at ≡ 3 → slice_index bytes 3 ≢ 0 → IsWrong expected last bytes at
   too_long : at ≡ 4 → CONTENT_ROOM < content_length bytes → IsWrong expected last bytes at
-  not_full : at ≡ 4 → slice_index bytes 2 ≡ 0 → content_length bytes < LEAST_FULL → IsWrong expected last bytes at
+  not_full : at ≡ 4 → slice_index bytes 2 ≡ 0 → content_length bytes < LEAST_FULL
+      → IsWrong expected last bytes at
   bad_item : IsBadItem (content_of bytes) at → IsWrong expected last bytes at
-  not_blank : HEADER_LENGTH + content_length bytes ≤ at → at < length bytes → slice_index bytes at ≢ 0 → IsWrong expected last bytes at
+  not_blank : HEADER_LENGTH + content_length bytes ≤ at → at < length bytes → slice_index bytes at ≢ 0
+      → IsWrong expected last bytes at
 
 -- the least place that is wrong
 pub record IsLeastWrong (expected : ℕ) (last : Bool) (bytes : List ℕ) (at : ℕ) : Type 0 where

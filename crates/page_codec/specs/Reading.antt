@@ -32,7 +32,8 @@ items_after zero (byte ∷ rest) = item_at byte rest ∷ items_after (characters
 abbrev pub bad_item_after : ℕ → ℕ → List ℕ → Option ℕ
 bad_item_after at passed [] = None
 bad_item_after at (suc passed) (byte ∷ rest) = bad_item_after (at + 1) passed rest
-bad_item_after at zero (byte ∷ rest) = if begins_item byte rest then bad_item_after (at + 1) (characters byte) rest else Some at
+bad_item_after at zero (byte ∷ rest) =
+    if begins_item byte rest then bad_item_after (at + 1) (characters byte) rest else Some at
 
 -- the place of the first byte that isn't 0, of bytes from a place on
 abbrev pub first_other_than_zero : ℕ → List ℕ → Option ℕ

@@ -15,7 +15,8 @@ IsStream place (page ∷ next ∷ rest) items =
     (front : List Item) × (left : List Item) × (items ≡ front ++ left) × IsPage place false front page
     × IsStream (place + 1) (next ∷ rest) left
 
--- an unpacker, as its callers see it: the number of the page that it expects, and whether the last was taken
+-- an unpacker, as its callers see it: the number of the page that it expects, and whether the last
+-- page was taken
 pub record Awaited : Type 0 where
   pub place : ℕ
   pub ended : Bool
@@ -40,6 +41,7 @@ Continues awaited pages items = ContinuesFrom awaited.place awaited.ended pages 
 -- its items are those that were given and those that can still come.
 pub record HasTaken (awaited : Awaited) (pages : List Page) (items : List Item) : Type 0 where
   pub place : awaited.place ≡ length pages % 2 ^ 16
-  pub goes_on : (more : List Page) (rest : List Item) → Continues awaited more rest → IsStream 0 (pages ++ more) (items ++ rest)
+  pub goes_on : (more : List Page) (rest : List Item) → Continues awaited more rest
+      → IsStream 0 (pages ++ more) (items ++ rest)
   pub nothing_else : (more : List Page) (all : List Item) → IsStream 0 (pages ++ more) all
       → (rest : List Item) × (all ≡ items ++ rest) × Continues awaited more rest

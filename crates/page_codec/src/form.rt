@@ -1,5 +1,5 @@
 ghost use Rattle.std.specs.Prelude.{◌≡◌, ◌+◌, ◌≤◌, ◌++◌, length, take, drop};
-ghost use Rattle.page_codec.specs.Form.{page_of, page_bytes, mark};
+ghost use Rattle.page_codec.specs.Form.{page_of, mark};
 
 use solo_base::{LINE_LENGTH, PAGE_LENGTH, Page};
 

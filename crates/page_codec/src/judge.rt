@@ -1,12 +1,12 @@
-ghost use Rattle.std.specs.Prelude.{◌≡◌, ◌+◌, ◌≤◌, ◌<◌, ℕ, length, take, drop, slice_index};
-ghost use Rattle.page_codec.specs.Places.{number_at, content_length, content_of};
+ghost use Rattle.std.specs.Prelude.{◌≡◌, ◌+◌, ◌≤◌, ◌<◌, ℕ, length, slice_index};
+ghost use Rattle.page_codec.specs.Places.{number_at};
 ghost use Rattle.page_codec.specs.Reading.{begins_item, characters, bad_item_after, first_other_than_zero, has_length, bad_body, bad_place};
 
 use crate::form::{CONTENT_ROOM, HEADER_LENGTH, LEAST_FULL, SPOILED, mark};
 use solo_base::{LINE_LENGTH, PAGE_LENGTH, all_printable};
 
-/// A page that isn't the one that was expected: the number that was expected, the one that it has,
-/// and its least byte that is wrong.
+/// What shows that a page isn't the one that was expected: the place in the stream that was expected,
+/// the one that the page has, and its least byte that is wrong.
 #[derive(Clone, Copy, Debug, PartialEq, Eq)]
 pub struct BadPage {
     pub expected: u16,

@@ -1,4 +1,4 @@
-ghost use Rattle.std.specs.Prelude.{◌≡◌, true, ◌+◌, ◌≤◌, ℕ, List, [], ◌∷◌, ◌++◌, length, option_to_list, IsNone, ◌↔◌};
+ghost use Rattle.std.specs.Prelude.{◌≡◌, true, List, [], ◌∷◌, ◌++◌, option_to_list};
 ghost use Rattle.solo_base.specs.declared.item.Item.{Item};
 ghost use Rattle.solo_base.specs.declared.page.Page.{Page};
 ghost use Rattle.page_codec.specs.Items.{item_bytes, IsItem};

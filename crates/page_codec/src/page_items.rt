@@ -23,7 +23,10 @@ impl Model for PageItems {
 
     ghost Value = { PageContent };
 
-    ghost view = { λ given. record { items = items_after 0 (take (given.end - given.at) (drop given.at given.page.0)); last = given.last } };
+    ghost view = { λ given. record {
+      items = items_after 0 (take (given.end - given.at) (drop given.at given.page.0));
+      last = given.last;
+    } };
 
     ghost invariant = { λ given. (given.at ≤ given.end) × (given.end ≤ PAGE_LENGTH)
         × (bad_item_after given.at 0 (take (given.end - given.at) (drop given.at given.page.0)) ≡ None) };

@@ -21,7 +21,7 @@ fn is_next(items: &mut PageItems, bytes: &[u8]) -> bool {
     }
 }
 
-/// The first page and the last of the report of a listing: six cards of 80 columns, and one of some more.
+/// The two pages of a listing: six cards of 80 columns, and one of so many.
 fn listing(rt: &impl Abort, columns: usize) -> (Page, Page) {
     let mut packer = Packer::new();
     assert!(rt; packer.push(&line(rt, b"JOB A")).is_none());

@@ -1,4 +1,4 @@
-ghost use Rattle.std.specs.Prelude.{◌≡◌, ◌+◌, ℕ, false, List, [], ◌∷◌, ◌++◌, Ok, Err, IfOk, ◌↔◌};
+ghost use Rattle.std.specs.Prelude.{◌≡◌, ℕ, false, List, [], ◌∷◌, ◌++◌, Ok, Err, IfOk, ◌↔◌};
 ghost use Rattle.solo_base.specs.declared.item.Item.{Item};
 ghost use Rattle.solo_base.specs.declared.page.Page.{Page};
 ghost use Rattle.page_codec.specs.Form.{IsPage};
@@ -38,9 +38,10 @@ impl Unpacker {
         }
     }
 
-    /// The items of a page. It is refused where it isn't in the form with the place that comes next and
-    /// the mark `last`, and the unpacker then stays as it was. For a page of a page buffer `last` is
-    /// `page.last()`; for a page of a spool it is the mark that the spool answers.
+    /// The items of the next page; none is taken after the last. A page is refused where it isn't in
+    /// the form with the place that comes next and the mark `last`, and the unpacker then stays as it
+    /// was. For a page of a page buffer `last` is `page.last()`; for a page of a spool it is the mark
+    /// that the spool answers.
     pub fn take(&mut self, page: &Page, last: bool) -> Result<PageItems, BadPage>
         requires { self.old.ended ≡ false }
         ensures read { result ≡ page_read self.old.place last page.now }
