@@ -1,0 +1,6 @@
+pub mod Kind
+pub mod Views
+pub mod Rule
+pub mod Steps
+pub mod Ends
+pub mod Inside
