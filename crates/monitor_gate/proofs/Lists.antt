@@ -3,7 +3,6 @@ use Rattle.std.proofs.Common.{◌≡◌, ℕ, zero, suc, ◌≢◌, ◌⊎◌, �
 use prog.Atomic.{either}
 use lib.ListN.{get_elem?}
 use mathlib.Core.Option.{some, some-injective, some-ne-none}
-use Rattle.monitor_gate.specs.Kind.{with_entry}
 use Rattle.monitor_gate.specs.declared.view.Line.{Line}
 use Rattle.monitor_gate.specs.Views.{Each, AreApart}
 use Rattle.monitor_gate.specs.Rule.{IsLineOf}
@@ -13,13 +12,6 @@ either_hit n old new e = ap (λ b. either b new n) (eq-eqb n old e)
 
 pub either_miss : (n old new : ℕ) → n ≢ old → either (eqb n old) new n ≡ n
 either_miss n old new e = ap (λ b. either b new n) (ne_eqb n old e)
-
-module _ {E : Type 0} where
-  pub with_entry_same : (lists : ℕ → List E) (p : ℕ) (e : E) → with_entry lists p e p ≡ lists p ++ e ∷ []
-  with_entry_same lists p e = ap (λ b. cond b (lists p ++ e ∷ []) (lists p)) (eq-eqb p p refl)
-
-  pub with_entry_other : (lists : ℕ → List E) (p : ℕ) (e : E) (q : ℕ) → q ≢ p → with_entry lists p e q ≡ lists q
-  with_entry_other lists p e q n = ap (λ b. cond b (lists q ++ e ∷ []) (lists q)) (ne_eqb q p n)
 
 pub each_map : {A : Type 0} (P Q : A → Type 0) → ((x : A) → P x → Q x) → (xs : List A) → Each P xs → Each Q xs
 each_map P Q f [] e = tt

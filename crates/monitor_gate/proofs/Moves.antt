@@ -17,7 +17,8 @@ use Rattle.monitor_gate.specs.Kind.{with_entry, OthersWait, Completes, Suspends}
 use Rattle.monitor_gate.specs.Views.{Each, AreApart, own_line, at_stage, completed}
 use Rattle.monitor_gate.specs.Rule.{IsWithin, Stands, IsLineOf, Fits, Waiter, HandedTo, IsKept}
 use Rattle.monitor_gate.specs.Steps.{Found, entered, resumed, left, delayed, unchanged}
-use Rattle.monitor_gate.proofs.Lists.{either_hit, either_miss, with_entry_same, with_entry_other, there}
+use Rattle.monitor_gate.specs.Lists.{with_entry_same, with_entry_other}
+use Rattle.monitor_gate.proofs.Lists.{either_hit, either_miss, there}
 use Rattle.monitor_gate.proofs.Stays.{IsActive, active_agrees, active_listed, active_own, active_apart, other_fits}
 
 module _ {S E : Type 0} (handed : S → Option ℕ) (ties : S → S → (ℕ → List E) → Type 0) (waits : ℕ → S → Bool) (wakes : ℕ → S → Type 0) (opening : S) (passes : ℕ) where

@@ -1,6 +1,6 @@
 -- What contracts see of a gate and of a pass.
 use Rattle.std.specs.Prelude.{◌≡◌, ℕ, zero, suc, true, List, [], ◌∷◌, ◌++◌, Some}
-use Rattle.atomic_table.specs.Seated.{TableId}
+pub use Rattle.atomic_table.specs.Seated.{TableId}
 use Rattle.monitor_gate.specs.declared.view.Line.{Line}
 use Rattle.monitor_gate.specs.declared.view.Stage.TheVariants.{Outside, Inside}
 use Rattle.monitor_gate.specs.declared.view.View.{View}

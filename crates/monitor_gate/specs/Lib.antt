@@ -1,4 +1,5 @@
 pub mod Kind
+pub mod Lists
 pub mod Views
 pub mod Rule
 pub mod Steps
