@@ -15,5 +15,4 @@ pub use gate::{Gate, make};
 pub use inside::Inside;
 pub use kind::MonitorKind;
 pub use pass::{GatePass, Pass};
-pub use rule::GateRule;
-pub use view::{Line, Opening, Stage, View};
+pub use view::{Line, Stage, View};

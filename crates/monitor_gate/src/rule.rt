@@ -6,7 +6,7 @@ use atomic_table::{Join, Play, Split, TableRule};
 use std::marker::{Brand, PhantomData};
 
 /// The rule of a gate for the monitors of a kind.
-pub struct GateRule<M> {
+pub(crate) struct GateRule<M> {
     kind: PhantomData<M>,
 }
 

@@ -33,7 +33,7 @@ pub struct View<S, E> {
 }
 
 /// What a gate was made with.
-pub struct Opening<S> {
+pub(crate) struct Opening<S> {
     pub state: Snapshot<S>,
     pub passes: u8,
 }
