@@ -29,6 +29,7 @@ impl<M: MonitorKind> Gate<M> {
         ensures gate { gate_of result ≡ self.now }
         ensures lender { lender_of result ≡ pass.entry.ghost_name }
         ensures pass { (pass_of result ≡ entered pass.old (state_of result)) × IsEntered result }
+        ensures taken { HasTaken result (state_of result) }
 
         ensures tied { Found M.ties self.now.opening pass.old.view.number pass.old.view.entries (state_of result) }
         ensures free { M.handed_to (state_of result) ≡ None }
@@ -70,6 +71,7 @@ impl<'a, M: MonitorKind> Inside<'a, M> {
         ensures gate { gate_of result ≡ gate_of self.entry }
         ensures lender { lender_of result ≡ lender_of self.entry }
         ensures pass { (pass_of result ≡ entered (pass_of self.entry) (state_of result)) × IsEntered result }
+        ensures taken { HasTaken result (state_of result) }
 
         ensures tied { Found M.ties (gate_of self.entry).opening (number_of self.entry) (pass_of self.entry).view.entries (state_of result) }
         ensures handed { M.handed_to (state_of result) ≡ Some (number_of self.entry) }

@@ -12,7 +12,7 @@ pub trait MonitorKind {
 
     type State: Send;
     /// A call with its arguments and its answer.
-    type Entry: Drop;
+    type Entry: Send + Drop;
 
     // The process to which the turn of a state is handed.
     ghost handed_to: { Self.State → Option ℕ };
@@ -36,7 +36,9 @@ pub trait MonitorKind {
     fn handed(state: &Self::State) -> Option<ProcNo>
         ensures { result ≡ handed_to state.now };
 
+    // The first law: a completed entry keeps the tie, once it stands on the list of its process.
     ghost completes: { (opening before after : Self.State) (lists : ℕ → List Self.Entry) (p : ℕ) (entry : Self.Entry) → ties opening before lists → moves p before entry after → ties opening after (with_entry lists p entry) × Completes handed_to waits wakes p before after };
 
+    // The second law: an entry that ends in a delay keeps the tie to the same lists.
     ghost suspends: { (opening before after : Self.State) (lists : ℕ → List Self.Entry) (p : ℕ) → ties opening before lists → rests p before after → ties opening after lists × Suspends handed_to waits p before after };
 }

@@ -16,3 +16,6 @@ pub use inside::Inside;
 pub use kind::MonitorKind;
 pub use pass::{GatePass, Pass};
 pub use view::{Line, Stage, View};
+
+#[cfg(test)]
+mod tests;

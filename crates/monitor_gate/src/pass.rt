@@ -8,7 +8,7 @@ use atomic_table::Seat;
 use solo_base::ProcNo;
 use std::marker::Model;
 
-/// A pass, by the types of its state and its entries. Contracts see the gate that it is of, and what it knows of it.
+/// A pass, by the types of its state and its entries. Contracts see its gate and what it knows of it, the list of its completed entries above all.
 pub struct GatePass<S, E> {
     pub(crate) number: ProcNo,
     pub(crate) seat: Seat<Option<S>, View<S, E>>,

@@ -23,7 +23,7 @@ pub enum Stage<S> {
     Delayed,
 }
 
-/// The number of a pass, the state that its gate was made with, and the entries that it has completed itself and that the passes which it joined have.
+/// What a pass knows: its number, the state that its gate was made with, the entries that it has completed, and the lists of the passes that it joined.
 pub struct View<S, E> {
     pub number: ProcNo,
     pub opening: Option<S>,
