@@ -15,37 +15,19 @@ for crate in solo_base monitor_gate level_monitor; do
     rm -rf "$work/crates/$crate/out"
 done
 cp "$root/HANDLES" "$work/"
-: > "$work/crates.txt"
 git init -q "$work"
-(cd "$work" && rt new crates/gate_bench start_io > /dev/null)
+mkdir -p "$work/crates/gate_bench/src"
 grep -E '^(solo_base|monitor_gate|level_monitor):' "$root/crates.txt" > "$work/crates.txt"
 echo 'gate_bench: level_monitor monitor_gate solo_base anyhow' >> "$work/crates.txt"
-rm -rf "$work/crates/gate_bench/proofs" "$work/crates/gate_bench/specs" "$work/crates/gate_bench/stdin" "$work/crates/gate_bench/stdout"
 cat > "$work/crates/gate_bench/src/main.rt" <<'PROGRAM'
 #![tactic(auto)]
 
-use level_monitor::{Level, LevelKind, change_once, run_four};
-use monitor_gate::make;
+use level_monitor::{run_four, run_in_turn};
 use std::time::Instant;
-
-// The entries of two processes in turn, in one thread, so that nobody waits.
-fn alternate(rt: &HostRuntime, times: u64) {
-    let Ok((gate, mut passes)) = make::<LevelKind>(rt.alloc(), Level::new(), 2) else {
-        return;
-    };
-    let mut second = passes.pop().unwrap();
-    let mut first = passes.pop().unwrap();
-    for _ in 0..times {
-        change_once(&gate, &mut first, rt);
-        change_once(&gate, &mut second, rt);
-    }
-    gate.join(&mut first, second);
-    drop(gate.close(first));
-}
 
 fn main(rt: HostRuntime) -> Result<(), anyhow::Error> {
     let start = Instant::now(&rt)?;
-    alternate(&rt, ALONE);
+    let _level = run_in_turn(&rt, rt.alloc(), ALONE);
     let taken = start.elapsed(&rt)?.as_nanos() / (2 * ALONE);
     println!(rt; "gate, one thread: {taken} ns an entry")?;
 
@@ -57,7 +39,7 @@ fn main(rt: HostRuntime) -> Result<(), anyhow::Error> {
 }
 PROGRAM
 sed -i "s/ALONE/$alone/g; s/TOGETHER/$together/g" "$work/crates/gate_bench/src/main.rt"
-(cd "$work/crates/gate_bench" && rt try) | grep ' ns an entry'
+(cd "$work/crates/gate_bench" && rt run) | grep ' ns an entry'
 
 rustc --edition 2021 -O -o "$work/mutex" "$here/mutex.rs"
 "$work/mutex" "$alone" "$together"

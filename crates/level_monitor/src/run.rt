@@ -97,6 +97,42 @@ fn side_by_side<R: Threads + Wait + Sync>(
     )
 }
 
+/// The same in one thread, where the processes take turns and nobody waits.
+pub fn run_in_turn<R: Threads + Wait + Sync>(
+    rt: &R,
+    alloc: Global,
+    times: u64,
+) -> Result<u64, NoMemory>
+    ensures { IfOk result (λ level. level ≡ 0) }
+{
+    let (gate, mut passes) = match make::<LevelKind>(alloc, Level::new(), 2) {
+        Ok(made) => made,
+        Err((_, refused)) => return Err(refused),
+    };
+    let (first, second) = last_two(&mut passes);
+    let (mut first, second) = in_turn(rt, &gate, first, second, times);
+    gate.join(&mut first, second);
+    Ok(gate.close(first).level)
+}
+
+fn in_turn<R: Threads + Wait + Sync>(
+    rt: &R,
+    gate: &Gate<LevelKind>,
+    mut first: Pass<LevelKind>,
+    mut second: Pass<LevelKind>,
+    times: u64,
+) -> (Pass<LevelKind>, Pass<LevelKind>)
+    requires first { CanRun gate.now first }
+    requires second { CanRun gate.now second }
+    ensures { (result.0 ≡ after first times) × (result.1 ≡ after second times) }
+{
+    for _ in 0..times {
+        change_once(gate, &mut first, rt);
+        change_once(gate, &mut second, rt);
+    }
+    (first, second)
+}
+
 /// Two processes raise the level and two lower it, so many times each, side by side. Gives the level at the end.
 pub fn run_four<R: Threads + Wait + Sync>(
     rt: &R,

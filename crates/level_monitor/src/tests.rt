@@ -14,3 +14,10 @@ fn four_processes_raise_and_lower_a_level(rt: HostRuntime) -> Result<(), Fail> {
     assert!(rt; level == Ok(0));
     Ok(())
 }
+
+#[test]
+fn two_processes_take_turns(rt: HostRuntime) -> Result<(), Fail> {
+    let level = run_in_turn(&rt, rt.alloc(), 10_000);
+    assert!(rt; level == Ok(0));
+    Ok(())
+}
