@@ -1,27 +1,12 @@
--- What many changes come to.
-use Rattle.std.proofs.Common.{◌≡◌, ℕ, zero, suc, ◌+◌, ◌*◌, List, [], ◌∷◌, ◌++◌, length, replicate, Some, sym, ap, ◌∙◌, subst, arith, append_assoc, suc-mul, length-append}
-use Rattle.std.proofs.lemmas.List.{append-nil, replicate-append-replicate}
-use Rattle.monitor_gate.specs.declared.view.Stage.{Stage}
-use Rattle.monitor_gate.specs.declared.view.Stage.TheVariants.{Outside}
+-- What many changes come to: as many up as down.
+use Rattle.std.proofs.Common.{◌≡◌, ℕ, zero, suc, ◌*◌, List, [], ◌∷◌, ◌++◌, length, replicate, Some, sym, ap, ◌∙◌, subst, arith, suc-mul, length-append}
 use Rattle.monitor_gate.specs.Views.{fresh, entries_of}
-use Rattle.monitor_gate.specs.Ends.{TableId, PassView, IsOutside, left, joined, new_passes, lists_of}
+use Rattle.monitor_gate.specs.Ends.{TableId, PassView, left, joined, new_passes, lists_of}
 use Rattle.level_monitor.specs.declared.level.Change.{Change}
 use Rattle.level_monitor.specs.declared.level.Change.TheVariants.{Raise, Lower}
 use Rattle.level_monitor.specs.declared.level.Level.{Level}
-use Rattle.level_monitor.specs.Level.{change_of, raised_by, lowered_by, sum_of, IsTied}
+use Rattle.level_monitor.specs.Level.{raised_by, lowered_by, sum_of, IsTied}
 use Rattle.level_monitor.specs.Run.{after}
-
-abbrev with : PassView Level Change → Stage Level → List Change → PassView Level Change
-with p stage es = record { gate = p.gate; view = record { number = p.view.number; opening = p.view.opening; stage = stage; entries = es; joined = p.view.joined } }
-
-pub after_none : (p : PassView Level Change) → IsOutside p → p ≡ after p 0
-after_none p out = λ i. with p (out i) (sym (append-nil p.view.entries) i)
-
-pub after_more : (p : PassView Level Change) (n : ℕ) → left (after p n) (change_of p.view.number) ≡ after p (n + 1)
-after_more p n = ap (with p Outside) (append_assoc p.view.entries (replicate n e) (e ∷ []) ∙ ap (λ es. p.view.entries ++ es) (replicate-append-replicate n 1 e))
-  where
-    e : Change
-    e = change_of p.view.number
 
 pub sum_of-replicate : (f : Change → ℕ) (n : ℕ) (e : Change) → sum_of f (replicate n e) ≡ n * f e
 sum_of-replicate f zero e = omega arith
