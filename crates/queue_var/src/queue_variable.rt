@@ -18,7 +18,7 @@ impl Model for QueueVar {
 
 impl QueueVar {
     /// A queue variable without a process.
-    pub fn new() -> Self
+    pub const fn new() -> Self
         ensures { result ≡ None }
     {
         QueueVar { process: None }
