@@ -4,3 +4,6 @@ pub mod Count
 pub mod Source
 pub mod Sink
 pub mod Area
+pub mod CardUnit
+pub mod Reader
+pub mod PrinterUnit

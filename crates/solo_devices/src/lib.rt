@@ -3,8 +3,14 @@
 #![tactic(auto)]
 
 mod area;
+mod card_read;
+mod card_unit;
+mod judge;
 mod mem_sink;
 mod mem_source;
+mod pending;
+mod printer_unit;
+mod reader;
 mod sink;
 mod source;
 mod sure_area;
@@ -12,8 +18,12 @@ mod sure_sink;
 mod sure_source;
 
 pub use area::{Area, Moved};
+pub use card_read::CardRead;
+pub use card_unit::CardUnit;
 pub use mem_sink::MemSink;
 pub use mem_source::MemSource;
+pub use printer_unit::{PrintFault, PrinterUnit};
+pub use reader::BYTE_LIMIT;
 pub use sink::{Gave, Sink};
 pub use source::{Source, Took};
 pub use sure_area::SureArea;
