@@ -1,9 +1,8 @@
 -- The places around a circle of N.
-use Rattle.std.proofs.Common.{◌≡◌, ◌≢◌, ℕ, zero, suc, ◌+◌, ◌-◌, ◌%◌, ◌<◌, ◌≤◌, ◌⊎◌, inl, inr, List, [], ◌∷◌, ◌++◌, length, refl, ap, sym, ◌∙◌, add-one, zero-add, arith, get_or, Contains, drop}
-use Rattle.std.proofs.lemmas.Grind.{common_steps}
+use Rattle.std.proofs.Common.{◌≡◌, ◌≢◌, ℕ, zero, suc, ◌+◌, ◌-◌, ◌%◌, ◌<◌, ◌≤◌, inl, inr, List, [], ◌∷◌, ◌++◌, length, refl, ap, sym, ◌∙◌, add-one, zero-add, arith, get_or, Contains, drop}
 use Rattle.std.proofs.Math.Nat.{suc-mod, mod_self, mod-lt, mod-eq_of_lt}
 use Rattle.std.proofs.lemmas.Bool.{cases_lt}
-use Rattle.queue_var.specs.Fifo.{place, places, Move, Arrival, Departure, StandsFor, Positions, arrivals, waiting, shown}
+use Rattle.queue_var.specs.Fifo.{place, places, Move, Arrival, Departure, StandsFor, arrivals, shown}
 
 pub length-places : (N first i k : ℕ) → length (places N first i k) ≡ k
 length-places N first i zero = refl

@@ -1,11 +1,11 @@
 -- Who waits keeps a cause to, whatever an entry of a buffer does.
-use Rattle.std.proofs.Common.{◌≡◌, ◌⊎◌, inl, inr, ℕ, Option, None, Some, List, [], ◌∷◌, ◌++◌, refl, ap, sym, ◌∙◌, Bool, true, false, ◌||◌, arith}
+use Rattle.std.proofs.Common.{◌≡◌, ◌⊎◌, inl, inr, ℕ, Option, None, Some, List, [], ◌∷◌, ◌++◌, refl, ap, sym, ◌∙◌, ◌||◌, arith}
 use Rattle.solo_base.specs.declared.outcome.Side.{Side}
 use Rattle.solo_base.specs.declared.outcome.Side.TheVariants.{Sender, Receiver}
-use Rattle.queue_var.specs.declared.turn.Turn.TheVariants.{Free, Handed}
+use Rattle.queue_var.specs.declared.turn.Turn.TheVariants.{Handed}
 use Rattle.queue_var.specs.declared.stops.Stops.{Stops}
 use Rattle.queue_var.specs.declared.stops.Stops.TheVariants.{Neither, One, Both}
-use Rattle.queue_var.specs.Sides.{Sides, NamesWhoWaits, MayEnter, queue, stopped_by, has_stopped, other, turn_to, entered, delayed, continued, stopped, with_stop, first_of, is_among, same_side}
+use Rattle.queue_var.specs.Sides.{Sides, NamesWhoWaits, MayEnter, queue, stopped_by, other, turn_to, entered, delayed, continued, with_stop, first_of, is_among, same_side}
 use Rattle.queue_var.specs.HandsOver.{WaitsWithCause, StoppedFirst, earliest, is_one_of}
 
 not_theirs : (sides : Sides) (side : Side) (p : ℕ) → MayEnter sides side p → sides.turn ≡ Handed (other side) → ⊥

@@ -1,5 +1,5 @@
 -- What the positions in use are, before and after one more.
-use Rattle.std.proofs.Common.{◌≡◌, ◌<◌, ap, sym, ◌∙◌, length, arith, rules}
+use Rattle.std.proofs.Common.{rules}
 use Rattle.queue_var.proofs.Places.{length-shown, behind, fresh, stands-arrival}
 use Rattle.queue_var.proofs.fifo.Fifo.arrival.Goals as goal
 

@@ -1,6 +1,5 @@
 -- What the positions in use are, before and after the first has gone.
-use Rattle.std.proofs.Common.{◌≡◌, ◌<◌, ap, sym, ◌∙◌, length, arith, rules}
-use Rattle.queue_var.proofs.Places.{length-shown, not_empty, earliest, next-kept, alone, stands-departure}
+use Rattle.queue_var.proofs.Places.{not_empty, earliest, next-kept, alone, stands-departure}
 use Rattle.queue_var.proofs.fifo.Fifo.departure.Goals as goal
 
 pub returns-clause-earliest : goal.returns-clause-earliest

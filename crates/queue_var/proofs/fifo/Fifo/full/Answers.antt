@@ -1,4 +1,4 @@
-use Rattle.std.proofs.Common.{◌≡◌, ap, sym, ◌∙◌, length, arith, rules}
+use Rattle.std.proofs.Common.{arith, rules}
 use Rattle.queue_var.proofs.Places.{length-shown}
 use Rattle.queue_var.proofs.fifo.Fifo.full.Goals as goal
 
