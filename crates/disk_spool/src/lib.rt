@@ -8,3 +8,6 @@ mod spool;
 
 pub use answers::{Await, Fetched};
 pub use spool::Spool;
+
+#[cfg(test)]
+mod tests;

@@ -84,6 +84,7 @@ impl<A: Area> Spool<A> {
         requires may_enter { MayEnter self.old.sides Sender p }
         requires not_stopped { has_stopped self.old.sides Sender ≡ false }
         ensures answer { result ≡ room_answer self.old }
+        ensures room { result ≡ Await.Ready → length self.new.ring.marks < self.new.ring.capacity }
         ensures after { self.new ≡ after_await self.old Sender p result }
         ensures history { (sent : List (List ℕ)) (taken : List Received) (stops : List Side)
             → StandsFor A.pages sent taken stops self.old → StandsFor A.pages sent taken stops self.new }
@@ -129,6 +130,7 @@ impl<A: Area> Spool<A> {
         requires may_enter { MayEnter self.old.sides Receiver p }
         requires not_stopped { has_stopped self.old.sides Receiver ≡ false }
         ensures answer { result ≡ item_answer self.old }
+        ensures item { result ≡ Await.Ready → self.new.ring.marks ≢ [] }
         ensures after { self.new ≡ after_await self.old Receiver p result }
         ensures history { (sent : List (List ℕ)) (taken : List Received) (stops : List Side)
             → StandsFor A.pages sent taken stops self.old → StandsFor A.pages sent taken stops self.new }
