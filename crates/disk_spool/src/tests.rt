@@ -19,6 +19,15 @@ fn page_of(byte: u8) -> Page {
     page
 }
 
+fn crosses<T: Send>(value: T) -> T {
+    value
+}
+
+// A spool crosses threads where its area does.
+fn crosses_threads<A: Area + Send>(spool: Spool<A>) -> Spool<A> {
+    crosses(spool)
+}
+
 fn send<A: Area>(rt: &impl Abort, spool: &mut Spool<A>, byte: u8)
     requires { spool.old.sides ≡ nobody }
     ensures { spool.new.sides ≡ nobody }
@@ -143,7 +152,7 @@ fn a_stop_of_the_receiver_wakes_the_sender_that_waits(rt: HostRuntime) {
 
 #[test]
 fn a_mark_is_never_read_from_the_area(rt: HostRuntime) {
-    let mut spool = Spool::make(BlankArea::new(1));
+    let mut spool = crosses_threads(Spool::make(BlankArea::new(1)));
     let mut page = Page([0; 512]);
     assert_eq!(rt; spool.await_room(SENDER), Await::Ready);
     assert_eq!(rt; spool.put(&page_of(6)), Moved::Done);
