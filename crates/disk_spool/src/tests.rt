@@ -19,12 +19,16 @@ fn page_of(byte: u8) -> Page {
     page
 }
 
-fn crosses<T: Send>(value: T) -> T {
+fn crosses<T: Send>(value: T) -> T
+    ensures { result ≡ value }
+{
     value
 }
 
 // A spool crosses threads where its area does.
-fn crosses_threads<A: Area + Send>(spool: Spool<A>) -> Spool<A> {
+fn crosses_threads<A: Area + Send>(spool: Spool<A>) -> Spool<A>
+    ensures { result ≡ spool }
+{
     crosses(spool)
 }
 
