@@ -1,0 +1,7 @@
+pub mod Pages
+pub mod Stops
+pub mod InputKeeps
+pub mod OutputKeeps
+pub mod JobKeeps
+pub mod CoreKeeps
+pub mod Headline

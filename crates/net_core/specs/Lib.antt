@@ -1,0 +1,9 @@
+pub mod CardUnit
+pub mod Page
+pub mod Work
+pub mod Input
+pub mod Job
+pub mod Output
+pub mod Core
+pub mod Facts
+pub mod EveryInterleaving

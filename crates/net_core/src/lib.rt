@@ -1,0 +1,5 @@
+//! The core.
+#![tactic(auto)]
+
+mod stub;
+pub use stub::CardRead;
