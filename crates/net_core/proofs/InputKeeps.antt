@@ -7,9 +7,9 @@ use Rattle.solo_base.specs.declared.outcome.Side.TheVariants.{Sender, Receiver}
 use Rattle.solo_base.specs.declared.outcome.Outcome.{Outcome}
 use Rattle.solo_base.specs.declared.outcome.Outcome.TheVariants as outcome
 use Rattle.queue_var.specs.HandsOver.{is_one_of}
-use Rattle.net_core.specs.CardUnit.{item_of}
-use Rattle.net_core.specs.declared.stub.CardRead.{CardRead}
-use Rattle.net_core.specs.declared.stub.CardRead.TheVariants as read
+use Rattle.solo_devices.specs.CardUnit.{item_of}
+use Rattle.solo_devices.specs.declared.card_read.CardRead.{CardRead}
+use Rattle.solo_devices.specs.declared.card_read.CardRead.TheVariants as read
 use Rattle.slot_buffer.specs.declared.answers.Put.{Put}
 use Rattle.slot_buffer.specs.declared.answers.Put.TheVariants as put
 use Rattle.net_core.specs.Page.{Page, items_in, is_ended, IsStream}

@@ -5,3 +5,4 @@ pub mod OutputKeeps
 pub mod JobKeeps
 pub mod CoreKeeps
 pub mod Headline
+pub mod InputSteps

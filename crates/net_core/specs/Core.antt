@@ -5,9 +5,9 @@ use Rattle.solo_base.specs.declared.item.Item.{Item}
 use Rattle.solo_base.specs.declared.outcome.Side.{Side}
 use Rattle.solo_base.specs.declared.outcome.Side.TheVariants.{Sender, Receiver}
 use Rattle.solo_base.specs.Text.{line_text}
-use Rattle.net_core.specs.declared.stub.CardRead.{CardRead}
-use Rattle.net_core.specs.declared.stub.CardRead.TheVariants as read
-use Rattle.net_core.specs.CardUnit.{item_of}
+use Rattle.solo_devices.specs.declared.card_read.CardRead.{CardRead}
+use Rattle.solo_devices.specs.declared.card_read.CardRead.TheVariants as read
+use Rattle.solo_devices.specs.CardUnit.{item_of}
 use Rattle.queue_var.specs.declared.turn.Turn.TheVariants.{Free}
 use Rattle.queue_var.specs.Sides.{MayEnter, queue, nobody}
 use Rattle.slot_buffer.specs.declared.answers.Put.{Put}

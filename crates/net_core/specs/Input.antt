@@ -4,9 +4,9 @@ use Rattle.solo_base.specs.declared.item.Item.{Item}
 use Rattle.solo_base.specs.declared.outcome.Outcome.{Outcome}
 use Rattle.solo_base.specs.declared.outcome.Outcome.TheVariants as outcome
 use Rattle.solo_base.specs.declared.outcome.Cause.TheVariants.{ReadFault, DeckLimit}
-use Rattle.net_core.specs.declared.stub.CardRead.{CardRead}
-use Rattle.net_core.specs.declared.stub.CardRead.TheVariants as read
-use Rattle.net_core.specs.CardUnit.{item_of}
+use Rattle.solo_devices.specs.declared.card_read.CardRead.{CardRead}
+use Rattle.solo_devices.specs.declared.card_read.CardRead.TheVariants as read
+use Rattle.solo_devices.specs.CardUnit.{item_of}
 use Rattle.slot_buffer.specs.declared.answers.Put.{Put}
 use Rattle.slot_buffer.specs.declared.answers.Put.TheVariants as put
 use Rattle.net_core.specs.Page.{Page}

@@ -1,4 +1,3 @@
-pub mod CardUnit
 pub mod Page
 pub mod Work
 pub mod Input
@@ -7,3 +6,5 @@ pub mod Output
 pub mod Core
 pub mod Facts
 pub mod EveryInterleaving
+pub mod InputProcess
+pub mod OutputProcess

@@ -1,5 +1,8 @@
-//! The core.
+//! The core of the Job Stream System: its processes over their buffers, stepped one event at a time.
 #![tactic(auto)]
 
-mod stub;
-pub use stub::CardRead;
+mod input_process;
+mod output_process;
+mod plain_page;
+
+pub use plain_page::{PAGE_ITEMS, PlainPage};

@@ -1,9 +1,0 @@
-use solo_base::Line;
-
-pub enum CardRead {
-    Card(Line),
-    Spoiled,
-    End,
-    Failed,
-    Limit,
-}
