@@ -1,0 +1,3 @@
+mod Parting
+mod Numerals
+mod Steps

@@ -1,0 +1,13 @@
+//! The card deck of the Job Stream System: which cards control it, and the jobs that it has.
+#![tactic(auto)]
+
+mod control;
+mod job;
+mod job_reader;
+mod place;
+mod words;
+
+pub use control::{Control, DEFAULT_LIMIT, Opener, control_of};
+pub use job::{CardFault, CardFaultKind, Job};
+pub use job_reader::JobReader;
+pub use place::Place;
