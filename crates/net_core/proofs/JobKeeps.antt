@@ -15,7 +15,11 @@ use Rattle.slot_buffer.specs.declared.answers.Put.TheVariants as put
 use Rattle.slot_buffer.specs.declared.answers.Take.{Take}
 use Rattle.slot_buffer.specs.declared.answers.Take.TheVariants as takes
 use Rattle.net_core.specs.Page.{Page, items_in, is_ended, IsStream, as_items}
-use Rattle.net_core.specs.Work.{Job, jobs, completed, report, completed-more, completed-jobs}
+use Rattle.deck_format.specs.declared.job.Job.{Job}
+use Rattle.deck_format.specs.Jobs.{jobs}
+use Rattle.net_core.specs.Completed.{completed}
+use Rattle.net_core.specs.Work.{report}
+use Rattle.net_core.proofs.Completed.{completed-more, completed-jobs}
 use Rattle.net_core.specs.Job as job
 use Rattle.net_core.specs.Facts.{JobWorks, JobKnows, GoesOut, JobFacts}
 use Rattle.net_core.proofs.Stops.{stopped_one, other_stop}

@@ -6,3 +6,4 @@ pub mod JobKeeps
 pub mod CoreKeeps
 pub mod Headline
 pub mod InputSteps
+pub mod Completed

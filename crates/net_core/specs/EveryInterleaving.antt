@@ -4,7 +4,7 @@ use Rattle.solo_base.specs.declared.item.Item.{Item}
 use Rattle.solo_base.specs.declared.outcome.Outcome.TheVariants as outcome
 use Rattle.solo_base.specs.Text.{text}
 use Rattle.queue_var.specs.HandsOver.{HandsOver, StoppedFirst}
-use Rattle.net_core.specs.Work.{jobs}
+use Rattle.deck_format.specs.Jobs.{jobs}
 use Rattle.net_core.specs.Input as input
 use Rattle.net_core.specs.Job as job
 use Rattle.net_core.specs.Output as output

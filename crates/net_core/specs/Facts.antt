@@ -10,7 +10,10 @@ use Rattle.solo_base.specs.Text.{text}
 use Rattle.queue_var.specs.HandsOver.{is_one_of}
 use Rattle.slot_buffer.specs.Slot.{StandsFor}
 use Rattle.net_core.specs.Page.{Page, items_in, is_ended, IsStream, lines_in, as_items}
-use Rattle.net_core.specs.Work.{Job, jobs, completed, report}
+use Rattle.deck_format.specs.declared.job.Job.{Job}
+use Rattle.deck_format.specs.Jobs.{jobs}
+use Rattle.net_core.specs.Completed.{completed}
+use Rattle.net_core.specs.Work.{report}
 use Rattle.net_core.specs.Input as input
 use Rattle.net_core.specs.Job as job
 use Rattle.net_core.specs.Output as output

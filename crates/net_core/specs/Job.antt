@@ -9,7 +9,10 @@ use Rattle.slot_buffer.specs.declared.answers.Put.TheVariants as put
 use Rattle.slot_buffer.specs.declared.answers.Take.{Take}
 use Rattle.slot_buffer.specs.declared.answers.Take.TheVariants as takes
 use Rattle.net_core.specs.Page.{Page, items_in, is_ended, as_items}
-use Rattle.net_core.specs.Work.{Job, jobs, completed, report}
+use Rattle.deck_format.specs.declared.job.Job.{Job}
+use Rattle.deck_format.specs.Jobs.{jobs}
+use Rattle.net_core.specs.Completed.{completed}
+use Rattle.net_core.specs.Work.{report}
 
 -- whether there was memory for the work that comes with an action
 pub data Memory : Type 0 where

@@ -1,4 +1,5 @@
 pub mod Page
+pub mod Completed
 pub mod Work
 pub mod Input
 pub mod Job
