@@ -30,12 +30,12 @@ pub record Led (place : Place) (item : Item) : Type 0 where
 leads : (place : Place) (item : Item) → Led place item
 leads place item =
     elim (opener_in (control_in item)) as (λ found. opener_in (control_in item) ≡ found → Led place item) [
-      Some o ↦ (λ e. record { gives = closed place; to = opened o; more = λ more. open_more place item o more e })
-    | None ↦ (λ e. elim (is_in_group place) as (λ group. is_in_group place ≡ group → Led place item) [
-        false ↦ (λ out. record { gives = []; to = behind place item (deck.is_some (control_in item)); more = λ more. behind_more place item (deck.is_some (control_in item)) more refl e (λ group. cc) })
-      | true ↦ (λ inside. elim (deck.ends_in (control_in item)) as (λ ends. deck.ends_in (control_in item) ≡ ends → Led place item) [
-          true ↦ (λ ends. record { gives = closed place; to = Outside 0; more = λ more. end_more place item more inside e ends })
-        | false ↦ (λ goes_on. record { gives = []; to = behind place item (deck.is_some (control_in item)); more = λ more. behind_more place item (deck.is_some (control_in item)) more refl e (λ group. goes_on) })
+      | Some o ↦ (λ e. record { gives = closed place; to = opened o; more = λ more. open_more place item o more e })
+      | None ↦ (λ e. elim (is_in_group place) as (λ group. is_in_group place ≡ group → Led place item) [
+        | false ↦ (λ out. record { gives = []; to = behind place item (deck.is_some (control_in item)); more = λ more. behind_more place item (deck.is_some (control_in item)) more refl e (λ group. cc) })
+        | true ↦ (λ inside. elim (deck.ends_in (control_in item)) as (λ ends. deck.ends_in (control_in item) ≡ ends → Led place item) [
+          | true ↦ (λ ends. record { gives = closed place; to = Outside 0; more = λ more. end_more place item more inside e ends })
+          | false ↦ (λ goes_on. record { gives = []; to = behind place item (deck.is_some (control_in item)); more = λ more. behind_more place item (deck.is_some (control_in item)) more refl e (λ group. goes_on) })
         ] refl)
       ] refl)
     ] refl

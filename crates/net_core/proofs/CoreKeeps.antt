@@ -77,7 +77,8 @@ input-keeps deck paper s (input.PutPage page) (input.Puts put answer) next (same
     rw same
     record {
       input_process = input-puts deck s.deck s.first.stops s.input page answer next i;
-      job_process = f.job_process; output_process = f.output_process;
+      job_process = f.job_process;
+      output_process = f.output_process;
       first_buffer = rw (input-sent s.input page answer) (buffer-put s.first input_number page answer (input.sent s.input) (job.taken s.job) may is (i.mark ∙ w.1) f.first_buffer);
       second_buffer = f.second_buffer;
     }
@@ -144,7 +145,8 @@ output-keeps deck paper s output.TakePage (output.Takes answer) next (is, may) f
     let o = f.output_process in
     let w = o.works (rw next tt) in
     record {
-      input_process = f.input_process; job_process = f.job_process;
+      input_process = f.input_process;
+      job_process = f.job_process;
       output_process = output-takes paper s.paper s.second.stops s.output answer next o;
       first_buffer = f.first_buffer;
       second_buffer = rw (output-taken s.output answer) (buffer-take s.second output_number answer (job.sent s.job) (output.taken s.output) may is (o.mark ∙ w.1) f.second_buffer);
@@ -180,14 +182,32 @@ opening-facts deck paper =
     record {
       input_process = record {
         reads = λ items told. (items, told, refl);
-        kept = refl; puts = tt; stream = tt; works = λ works. (refl, refl); complete = λ e. cc; mark = refl;
+        kept = refl;
+        puts = tt;
+        stream = tt;
+        works = λ works. (refl, refl);
+        complete = λ e. cc;
+        mark = refl;
       };
       job_process = record {
-        kept = refl; within = omega arith; stream = tt; knows = refl; works = λ works. (refl, refl, refl); complete = λ e. cc; first_mark = refl; second_mark = refl;
+        kept = refl;
+        within = omega arith;
+        stream = tt;
+        knows = refl;
+        works = λ works. (refl, refl, refl);
+        complete = λ e. cc;
+        first_mark = refl;
+        second_mark = refl;
       };
       output_process = record {
         prints = λ given told. told ∙ ap Some (sym (append-nil given));
-        kept = refl; part = ([], refl); works = λ works. (refl, refl); knows = (refl, refl); page = λ works. refl; done = λ e. cc; mark = refl;
+        kept = refl;
+        part = ([], refl);
+        works = λ works. (refl, refl);
+        knows = (refl, refl);
+        page = λ works. refl;
+        done = λ e. cc;
+        mark = refl;
       };
       first_buffer = fresh-stands;
       second_buffer = fresh-stands;

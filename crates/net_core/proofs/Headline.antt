@@ -17,7 +17,7 @@ use Rattle.net_core.specs.Output as output
 use Rattle.net_core.specs.Core.{State, Buffer, Event, run, AreEnabled, opening}
 use Rattle.net_core.specs.Facts.{Facts, InputFacts, JobFacts, OutputFacts, IsAtEnd}
 use Rattle.net_core.specs.EveryInterleaving.{one_thread_lines, IsPrefixOf, PrintsPrefix, PrintsAll, AllDone, Holds}
-use Rattle.net_core.proofs.Pages.{items_in-append, is_ended-part, stream-ends, lines_in-append, lines_in-as_items}
+use Rattle.net_core.proofs.Streams.{items_in-append, is_ended-part, stream-ends, lines_in-append, lines_in-as_items}
 use Rattle.net_core.proofs.OutputKeeps.{text-append}
 use Rattle.net_core.proofs.JobKeeps.{reports-append}
 use Rattle.net_core.proofs.CoreKeeps.{run-keeps, opening-facts}
@@ -50,8 +50,8 @@ taken-of_deck deck paper s items told f =
     let i = f.input_process in
     let (left, now, all) = i.reads items told in
     prefix-trans (items_in (job.taken s.job)) (items_in (input.sent s.input)) items
-      (items-prefix (job.taken s.job) (input.sent s.input) (s.first.slot.inside, f.first_buffer.hands_over.in_order))
-      (prefix-trans (items_in (input.sent s.input)) (input.was_read s.input) items (input.held s.input, i.kept) (left, all))
+    (items-prefix (job.taken s.job) (input.sent s.input) (s.first.slot.inside, f.first_buffer.hands_over.in_order))
+    (prefix-trans (items_in (input.sent s.input)) (input.was_read s.input) items (input.held s.input, i.kept) (left, all))
 
 -- all of it, where it took the last page
 taken-is_deck : (deck : Option (List Item)) (paper : Option (List ℕ)) (s : State) (items : List Item) → deck ≡ Some items → Facts deck paper s → is_ended (job.taken s.job) ≡ true → (items_in (job.taken s.job) ≡ items) × (s.deck ≡ Some [])
@@ -60,9 +60,10 @@ taken-is_deck deck paper s items told f ended =
     let (left, now, all) = i.reads items told in
     let same = whole-taken (input.sent s.input) (job.taken s.job) s.first.slot.inside f.first_buffer.hands_over.in_order i.stream ended in
     let (sent, at_end) = i.complete (ap is_ended (sym same) ∙ ended) in
-    let none = at_end left now in
-    ( ap items_in same ∙ sent ∙ sym (append-nil (input.was_read s.input)) ∙ ap (λ xs. input.was_read s.input ++ xs) (sym none) ∙ all,
-      now ∙ ap Some none )
+    let none = at_end left now in (
+      ap items_in same ∙ sent ∙ sym (append-nil (input.was_read s.input)) ∙ ap (λ xs. input.was_read s.input ++ xs) (sym none) ∙ all,
+      now ∙ ap Some none,
+    )
 
 -- the jobs that it knows are the first of the deck
 jobs-of_deck : (deck : Option (List Item)) (paper : Option (List ℕ)) (s : State) (items : List Item) → deck ≡ Some items → Facts deck paper s → IsPrefixOf (job.jobs_of (job.taken s.job)) (jobs items)
@@ -70,8 +71,8 @@ jobs-of_deck deck paper s items told f =
     let (more, part) = taken-of_deck deck paper s items told f in
     let P : Bool → Type 0 = λ b. is_ended (job.taken s.job) ≡ b → IsPrefixOf (if b then jobs (items_in (job.taken s.job)) else completed (items_in (job.taken s.job))) (jobs items) in
     elim (is_ended (job.taken s.job)) as P [
-      true ↦ (λ e. let same = (taken-is_deck deck paper s items told f e).0 in ([], append-nil (jobs (items_in (job.taken s.job))) ∙ ap jobs same))
-    | false ↦ (λ e. let (rest, some) = completed-jobs (items_in (job.taken s.job)) more in (rest, some ∙ ap jobs part))
+      | true ↦ (λ e. let same = (taken-is_deck deck paper s items told f e).0 in ([], append-nil (jobs (items_in (job.taken s.job))) ∙ ap jobs same))
+      | false ↦ (λ e. let (rest, some) = completed-jobs (items_in (job.taken s.job)) more in (rest, some ∙ ap jobs part))
     ] refl
 
 pub prints-prefix : (deck : Option (List Item)) (paper : Option (List ℕ)) (s : State) → Facts deck paper s → PrintsPrefix deck paper s
@@ -79,21 +80,23 @@ prints-prefix deck paper s f items given told on =
     let o = f.output_process in
     let j = f.job_process in
     let made : IsPrefixOf (job.made s.job) (one_thread_lines items) =
-      reports-prefix (take (job.worked s.job) (job.jobs_of (job.taken s.job))) (jobs items)
-        (prefix-trans (take (job.worked s.job) (job.jobs_of (job.taken s.job))) (job.jobs_of (job.taken s.job)) (jobs items)
-          (drop (job.worked s.job) (job.jobs_of (job.taken s.job)), take-append-drop (job.worked s.job) (job.jobs_of (job.taken s.job)))
-          (jobs-of_deck deck paper s items told f)) in
+    reports-prefix (take (job.worked s.job) (job.jobs_of (job.taken s.job))) (jobs items)
+    (prefix-trans (take (job.worked s.job) (job.jobs_of (job.taken s.job))) (job.jobs_of (job.taken s.job)) (jobs items)
+    (drop (job.worked s.job) (job.jobs_of (job.taken s.job)), take-append-drop (job.worked s.job) (job.jobs_of (job.taken s.job)))
+    (jobs-of_deck deck paper s items told f)) in
     let sent : IsPrefixOf (lines_in (items_in (job.sent s.job))) (job.made s.job) =
-      (let (rest, e) = lines-prefix (items_in (job.sent s.job)) (as_items (job.made s.job)) (as_items (job.unput s.job), j.kept) in (rest, e ∙ lines_in-as_items (job.made s.job))) in
+    (let (rest, e) = lines-prefix (items_in (job.sent s.job)) (as_items (job.made s.job)) (as_items (job.unput s.job), j.kept) in (rest, e ∙ lines_in-as_items (job.made s.job))) in
     let taken : IsPrefixOf (lines_in (items_in (output.taken s.output))) (lines_in (items_in (job.sent s.job))) =
-      lines-prefix (items_in (output.taken s.output)) (items_in (job.sent s.job))
-        (items-prefix (output.taken s.output) (job.sent s.job) (s.second.slot.inside, f.second_buffer.hands_over.in_order)) in
+    lines-prefix (items_in (output.taken s.output)) (items_in (job.sent s.job))
+    (items-prefix (output.taken s.output) (job.sent s.job) (s.second.slot.inside, f.second_buffer.hands_over.in_order)) in
     let lines : IsPrefixOf (lines_in (items_in (output.taken s.output))) (one_thread_lines items) =
-      prefix-trans (lines_in (items_in (output.taken s.output))) (lines_in (items_in (job.sent s.job))) (one_thread_lines items) taken
-        (prefix-trans (lines_in (items_in (job.sent s.job))) (job.made s.job) (one_thread_lines items) sent made) in
-    ( output.gained s.output, o.prints given on,
+    prefix-trans (lines_in (items_in (output.taken s.output))) (lines_in (items_in (job.sent s.job))) (one_thread_lines items) taken
+    (prefix-trans (lines_in (items_in (job.sent s.job))) (job.made s.job) (one_thread_lines items) sent made) in (
+      output.gained s.output,
+      o.prints given on,
       prefix-trans (output.gained s.output) (text (lines_in (items_in (output.taken s.output)))) (text (one_thread_lines items)) o.part
-        (text-prefix (lines_in (items_in (output.taken s.output))) (one_thread_lines items) lines) )
+          (text-prefix (lines_in (items_in (output.taken s.output))) (one_thread_lines items) lines),
+    )
 
 pub prints-all : (deck : Option (List Item)) (paper : Option (List ℕ)) (s : State) → Facts deck paper s → PrintsAll deck paper s
 prints-all deck paper s f items given told on done =
@@ -104,8 +107,8 @@ prints-all deck paper s f items given told on done =
     let (ended, lines) = j.complete (ap is_ended (sym second) ∙ printed.last) in
     let (deck_is, left) = taken-is_deck deck paper s items told f ended in
     let bytes : output.gained s.output ≡ text (one_thread_lines items) =
-      printed.bytes ∙ ap (λ pages. text (lines_in (items_in pages))) second ∙ ap (λ items. text (lines_in items)) lines
-      ∙ ap text (lines_in-as_items (job.reports (jobs (items_in (job.taken s.job))))) ∙ ap (λ items. text (one_thread_lines items)) deck_is in
+    printed.bytes ∙ ap (λ pages. text (lines_in (items_in pages))) second ∙ ap (λ items. text (lines_in items)) lines
+    ∙ ap text (lines_in-as_items (job.reports (jobs (items_in (job.taken s.job))))) ∙ ap (λ items. text (one_thread_lines items)) deck_is in
     (o.prints given on ∙ ap (λ bytes. Some (given ++ bytes)) bytes, left)
 
 pub facts-hold : (deck : Option (List Item)) (paper : Option (List ℕ)) (s : State) → Facts deck paper s → Holds deck paper s

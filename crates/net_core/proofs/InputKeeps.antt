@@ -17,7 +17,7 @@ use Rattle.net_core.specs.Input as input
 use Rattle.net_core.specs.Core.{deck_after, Gives}
 use Rattle.net_core.specs.Facts.{IsAtEnd, ReadsOf, InputWorks, InputPuts, InputFacts}
 use Rattle.net_core.proofs.Stops.{stopped_one, other_stop}
-use Rattle.net_core.proofs.Pages.{items_in-more, is_ended-more, stream-more}
+use Rattle.net_core.proofs.Streams.{items_in-more, is_ended-more, stream-more}
 
 drop-first : (front rest : List Item) → drop (length front) (front ++ rest) ≡ rest
 drop-first [] rest = refl
@@ -27,9 +27,11 @@ drop-first (item ∷ front) rest = drop-first front rest
 reads-more : (opening deck : Option (List Item)) (was_read : List Item) (answer : CardRead) → Gives deck answer → ReadsOf opening deck was_read → ReadsOf opening (deck_after deck answer) (was_read ++ item_of answer)
 reads-more opening deck was_read answer gives reads items told =
     let (left, now, all) = reads items told in
-    let (rest, parts) = gives.item left now in
-    (rest, (ap (option_map (drop (length (item_of answer)))) now ∙ ap (λ xs. Some (drop (length (item_of answer)) xs)) parts ∙ ap Some (drop-first (item_of answer) rest)),
-     (append_assoc was_read (item_of answer) rest ∙ ap (λ xs. was_read ++ xs) (sym parts) ∙ all))
+    let (rest, parts) = gives.item left now in (
+      rest,
+      (ap (option_map (drop (length (item_of answer)))) now ∙ ap (λ xs. Some (drop (length (item_of answer)) xs)) parts ∙ ap Some (drop-first (item_of answer) rest)),
+      (append_assoc was_read (item_of answer) rest ∙ ap (λ xs. was_read ++ xs) (sym parts) ∙ all),
+    )
 
 read_or_put-puts : (deck : Option (List Item)) (items : List Item) → InputPuts deck items (input.read_or_put items)
 read_or_put-puts deck items =
@@ -70,14 +72,14 @@ put-done opening deck stops acts page next f =
     let w = f.works (rw next tt) in
     let puts = rw next at f.puts in
     let all : items_in (input.sent acts ++ page ∷ []) ≡ input.was_read acts =
-      items_in-more (input.sent acts) page ∙ ap (λ items. items_in (input.sent acts) ++ items) puts.0 ∙ f.kept in
+    items_in-more (input.sent acts) page ∙ ap (λ items. items_in (input.sent acts) ++ items) puts.0 ∙ f.kept in
     record {
       reads = f.reads;
       kept = append-nil (items_in (input.sent acts ++ page ∷ [])) ∙ all;
       puts = (let P : Bool → Type 0 = λ last. InputPuts deck [] (if last then input.End outcome.Done else input.ReadCard) in elim page.last as P [ true ↦ tt | false ↦ tt ]);
       stream = stream-more (input.sent acts) page f.stream w.0;
       works = (let P : Bool → Type 0 = λ last. is_ended (input.sent acts ++ page ∷ []) ≡ last → InputWorks (if last then input.End outcome.Done else input.ReadCard) → (is_ended (input.sent acts ++ page ∷ []) ≡ false) × (input.has_stopped acts ≡ false) in
-        elim page.last as P [ true ↦ (λ e impossible. absurd impossible) | false ↦ (λ e works. (e, w.1)) ] (is_ended-more (input.sent acts) page w.0));
+          elim page.last as P [ true ↦ (λ e impossible. absurd impossible) | false ↦ (λ e works. (e, w.1)) ] (is_ended-more (input.sent acts) page w.0));
       complete = λ ended. (all, puts.1 (sym (is_ended-more (input.sent acts) page w.0) ∙ ended));
       mark = f.mark;
     }

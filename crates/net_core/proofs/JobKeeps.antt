@@ -18,12 +18,12 @@ use Rattle.net_core.specs.Page.{Page, items_in, is_ended, IsStream, as_items}
 use Rattle.deck_format.specs.declared.job.Job.{Job}
 use Rattle.deck_format.specs.Jobs.{jobs}
 use Rattle.net_core.specs.Completed.{completed}
-use Rattle.net_core.specs.Work.{report}
+use Rattle.batch_job.specs.Report.{report}
 use Rattle.net_core.proofs.Completed.{completed-more, completed-jobs}
 use Rattle.net_core.specs.Job as job
 use Rattle.net_core.specs.Facts.{JobWorks, JobKnows, GoesOut, JobFacts}
 use Rattle.net_core.proofs.Stops.{stopped_one, other_stop}
-use Rattle.net_core.proofs.Pages.{items_in-more, is_ended-more, stream-more, as_items-append, length-as_items}
+use Rattle.net_core.proofs.Streams.{items_in-more, is_ended-more, stream-more, as_items-append, length-as_items}
 
 pub reports-append : (some more : List Job) → job.reports (some ++ more) ≡ job.reports some ++ job.reports more
 reports-append [] more = refl
@@ -43,10 +43,10 @@ jobs_of-more pages page none =
     let before : job.jobs_of pages ≡ completed (items_in pages) = rw none refl in
     let P : Bool → Type 0 = λ b. (rest : List Job) × ((if b then jobs (items_in (pages ++ page ∷ [])) else completed (items_in (pages ++ page ∷ []))) ≡ job.jobs_of pages ++ rest) in
     elim (is_ended (pages ++ page ∷ [])) as P [
-      true ↦ (let (rest, e) = completed-jobs (items_in pages) page.items in
-        (rest, ap jobs (items_in-more pages page) ∙ sym e ∙ ap (λ js. js ++ rest) (sym before)))
-    | false ↦ (let (rest, e) = completed-more (items_in pages) page.items in
-        (rest, ap completed (items_in-more pages page) ∙ sym e ∙ ap (λ js. js ++ rest) (sym before)))
+      | true ↦ (let (rest, e) = completed-jobs (items_in pages) page.items in
+          (rest, ap jobs (items_in-more pages page) ∙ sym e ∙ ap (λ js. js ++ rest) (sym before)))
+      | false ↦ (let (rest, e) = completed-more (items_in pages) page.items in
+          (rest, ap completed (items_in-more pages page) ∙ sym e ∙ ap (λ js. js ++ rest) (sym before)))
     ]
 
 -- ---- what it does next
@@ -73,9 +73,10 @@ choose-knows unput worked jobs ended =
 takes-kept : (acts : List job.Act) (page : Page) (memory : job.Memory) → is_ended (job.taken acts) ≡ false → job.worked acts ≤ length (job.jobs_of (job.taken acts)) → (job.made (job.Takes (takes.Item page) memory ∷ acts) ≡ job.made acts) × (job.worked acts ≤ length (job.jobs_of (job.taken acts ++ page ∷ [])))
 takes-kept acts page memory none within =
     let (rest, e) = jobs_of-more (job.taken acts) page none in
-    let longer : length (job.jobs_of (job.taken acts ++ page ∷ [])) ≡ length (job.jobs_of (job.taken acts)) + length rest = ap length e ∙ length-append (job.jobs_of (job.taken acts)) rest in
-    ( ap (λ js. job.reports (take (job.worked acts) js)) e ∙ ap job.reports (take-append-le (job.worked acts) (job.jobs_of (job.taken acts)) rest within),
-      (omega arith) )
+    let longer : length (job.jobs_of (job.taken acts ++ page ∷ [])) ≡ length (job.jobs_of (job.taken acts)) + length rest = ap length e ∙ length-append (job.jobs_of (job.taken acts)) rest in (
+      ap (λ js. job.reports (take (job.worked acts) js)) e ∙ ap job.reports (take-append-le (job.worked acts) (job.jobs_of (job.taken acts)) rest within),
+      (omega arith),
+    )
 
 takes-with : (first second : List Side) (acts : List job.Act) (page : Page) (memory : job.Memory) → job.next acts ≡ job.TakePage → JobFacts first second acts → JobKnows (job.unput (job.Takes (takes.Item page) memory ∷ acts)) (job.worked acts) (length (job.jobs_of (job.taken acts ++ page ∷ []))) (is_ended (job.taken acts ++ page ∷ [])) (job.next (job.Takes (takes.Item page) memory ∷ acts)) → JobFacts first second (job.Takes (takes.Item page) memory ∷ acts)
 takes-with first second acts page memory next f knows =
@@ -155,24 +156,26 @@ drop-two (suc n) (line ∷ lines) front more within e =
 puts-kept : (acts : List job.Act) (page : Page) → items_in (job.sent acts) ++ as_items (job.unput acts) ≡ as_items (job.made acts) → (o : GoesOut (job.unput acts) (job.worked acts) (length (job.jobs_of (job.taken acts))) (is_ended (job.taken acts)) page) → (job.unput (job.Puts page put.Done ∷ acts) ≡ o.more) × (items_in (job.sent acts ++ page ∷ []) ≡ items_in (job.sent acts) ++ as_items o.front)
 puts-kept acts page kept o =
     let items : items_in (job.sent acts ++ page ∷ []) ≡ items_in (job.sent acts) ++ as_items o.front =
-      items_in-more (job.sent acts) page ∙ ap (λ items. items_in (job.sent acts) ++ items) o.items_are in
+    items_in-more (job.sent acts) page ∙ ap (λ items. items_in (job.sent acts) ++ items) o.items_are in
     let count : length (items_in (job.sent acts ++ page ∷ [])) ≡ length (items_in (job.sent acts)) + length o.front =
-      ap length items ∙ length-append (items_in (job.sent acts)) (as_items o.front) ∙ ap (λ n. length (items_in (job.sent acts)) + n) (length-as_items o.front) in
-    ( ap (λ n. drop n (job.made acts)) count ∙ drop-two (length (items_in (job.sent acts))) (job.made acts) o.front o.more (sent-within acts kept) o.lines_are,
-      items )
+    ap length items ∙ length-append (items_in (job.sent acts)) (as_items o.front) ∙ ap (λ n. length (items_in (job.sent acts)) + n) (length-as_items o.front) in (
+      ap (λ n. drop n (job.made acts)) count ∙ drop-two (length (items_in (job.sent acts))) (job.made acts) o.front o.more (sent-within acts kept) o.lines_are,
+      items,
+    )
 
 -- the last page comes when all jobs are done and all lines were put
 puts-complete : (acts : List job.Act) (page : Page) → items_in (job.sent acts) ++ as_items (job.unput acts) ≡ as_items (job.made acts) → GoesOut (job.unput acts) (job.worked acts) (length (job.jobs_of (job.taken acts))) (is_ended (job.taken acts)) page → page.last ≡ true → (is_ended (job.taken acts) ≡ true) × (items_in (job.sent acts ++ page ∷ []) ≡ as_items (job.reports (jobs (items_in (job.taken acts)))))
 puts-complete acts page kept o last =
     let (none, all, ended) = o.last last in
     let whole : as_items o.front ≡ as_items (job.unput acts) = ap as_items (sym (append-nil o.front) ∙ ap (λ more. o.front ++ more) (sym none) ∙ sym o.lines_are) in
-    let js : job.jobs_of (job.taken acts) ≡ jobs (items_in (job.taken acts)) = rw ended refl in
-    ( ended,
+    let js : job.jobs_of (job.taken acts) ≡ jobs (items_in (job.taken acts)) = rw ended refl in (
+      ended,
       (puts-kept acts page kept o).1
-      ∙ ap (λ items. items_in (job.sent acts) ++ items) whole
-      ∙ kept
-      ∙ ap (λ js. as_items (job.reports js)) (take_all (job.worked acts) (job.jobs_of (job.taken acts)) all)
-      ∙ ap (λ js. as_items (job.reports js)) js )
+          ∙ ap (λ items. items_in (job.sent acts) ++ items) whole
+          ∙ kept
+          ∙ ap (λ js. as_items (job.reports js)) (take_all (job.worked acts) (job.jobs_of (job.taken acts)) all)
+          ∙ ap (λ js. as_items (job.reports js)) js,
+    )
 
 puts-done : (first second : List Side) (acts : List job.Act) (page : Page) → job.next acts ≡ job.PutPage page → JobFacts first second acts → JobFacts first second (job.Puts page put.Done ∷ acts)
 puts-done first second acts page next f =
@@ -181,16 +184,16 @@ puts-done first second acts page next f =
     let (waits, items) = puts-kept acts page f.kept o in
     record {
       kept = ap (λ lines. items_in (job.sent acts ++ page ∷ []) ++ as_items lines) waits
-        ∙ ap (λ sent. sent ++ as_items o.more) items
-        ∙ append_assoc (items_in (job.sent acts)) (as_items o.front) (as_items o.more)
-        ∙ ap (λ items. items_in (job.sent acts) ++ items) (sym (as_items-append o.front o.more) ∙ ap as_items (sym o.lines_are))
-        ∙ f.kept;
+          ∙ ap (λ sent. sent ++ as_items o.more) items
+          ∙ append_assoc (items_in (job.sent acts)) (as_items o.front) (as_items o.more)
+          ∙ ap (λ items. items_in (job.sent acts) ++ items) (sym (as_items-append o.front o.more) ∙ ap as_items (sym o.lines_are))
+          ∙ f.kept;
       within = f.within;
       stream = stream-more (job.sent acts) page f.stream w.0;
       knows = (let P : Bool → Type 0 = λ last. JobKnows (job.unput (job.Puts page put.Done ∷ acts)) (job.worked acts) (length (job.jobs_of (job.taken acts))) (is_ended (job.taken acts)) (if last then job.End outcome.Done else job.chosen (job.Puts page put.Done ∷ acts)) in
-        elim page.last as P [ true ↦ tt | false ↦ choose-knows (job.unput (job.Puts page put.Done ∷ acts)) (job.worked acts) (length (job.jobs_of (job.taken acts))) (is_ended (job.taken acts)) ]);
+          elim page.last as P [ true ↦ tt | false ↦ choose-knows (job.unput (job.Puts page put.Done ∷ acts)) (job.worked acts) (length (job.jobs_of (job.taken acts))) (is_ended (job.taken acts)) ]);
       works = (let P : Bool → Type 0 = λ last. is_ended (job.sent acts ++ page ∷ []) ≡ last → JobWorks (if last then job.End outcome.Done else job.chosen (job.Puts page put.Done ∷ acts)) → (is_ended (job.sent acts ++ page ∷ []) ≡ false) × (job.has_stopped job.First acts ≡ false) × (job.has_stopped job.Second acts ≡ false) in
-        elim page.last as P [ true ↦ (λ e impossible. absurd impossible) | false ↦ (λ e works. (e, w.1, w.2)) ] (is_ended-more (job.sent acts) page w.0));
+          elim page.last as P [ true ↦ (λ e impossible. absurd impossible) | false ↦ (λ e works. (e, w.1, w.2)) ] (is_ended-more (job.sent acts) page w.0));
       complete = λ ended. puts-complete acts page f.kept o (sym (is_ended-more (job.sent acts) page w.0) ∙ ended);
       first_mark = f.first_mark;
       second_mark = f.second_mark;

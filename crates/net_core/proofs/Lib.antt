@@ -1,9 +1,8 @@
-pub mod Pages
+pub mod Streams
 pub mod Stops
 pub mod InputKeeps
 pub mod OutputKeeps
 pub mod JobKeeps
 pub mod CoreKeeps
 pub mod Headline
-pub mod InputSteps
 pub mod Completed

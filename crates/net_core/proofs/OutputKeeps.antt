@@ -14,7 +14,7 @@ use Rattle.net_core.specs.Output as output
 use Rattle.net_core.specs.Core.{paper_after, IsPart, PrintMay}
 use Rattle.net_core.specs.Facts.{OutputWorks, OutputKnows, AllPrinted, OutputFacts}
 use Rattle.net_core.proofs.Stops.{stopped_one, other_stop}
-use Rattle.net_core.proofs.Pages.{items_in-more, is_ended-more, lines_in-append}
+use Rattle.net_core.proofs.Streams.{items_in-more, is_ended-more, lines_in-append}
 
 pub text-append : (lines more : List (List ℕ)) → text (lines ++ more) ≡ text lines ++ text more
 text-append [] more = refl
@@ -40,8 +40,8 @@ takes-item opening paper stops acts page next f =
     let w = f.works (rw next tt) in
     let k = rw next at f.knows in
     let all : output.printed acts ++ lines_in page.items ≡ lines_in (items_in (output.taken acts ++ page ∷ [])) =
-      ap (λ lines. lines ++ lines_in page.items) (sym (append-nil (output.printed acts)) ∙ ap (λ lines. output.printed acts ++ lines) (sym k.0) ∙ f.kept)
-      ∙ sym (lines_in-append (items_in (output.taken acts)) page.items) ∙ ap lines_in (sym (items_in-more (output.taken acts) page)) in
+    ap (λ lines. lines ++ lines_in page.items) (sym (append-nil (output.printed acts)) ∙ ap (λ lines. output.printed acts ++ lines) (sym k.0) ∙ f.kept)
+    ∙ sym (lines_in-append (items_in (output.taken acts)) page.items) ∙ ap lines_in (sym (items_in-more (output.taken acts) page)) in
     record {
       prints = f.prints;
       kept = all;
@@ -67,9 +67,9 @@ prints-whole opening paper stops acts line next f =
     let page = f.page (rw next tt) in
     let rest : drop 1 (output.unprinted acts) ≡ more = ap (drop 1) lines in
     let all : (output.printed acts ++ line ∷ []) ++ drop 1 (output.unprinted acts) ≡ lines_in (items_in (output.taken acts)) =
-      ap (λ xs. (output.printed acts ++ line ∷ []) ++ xs) rest ∙ append_assoc (output.printed acts) (line ∷ []) more ∙ ap (λ xs. output.printed acts ++ xs) (sym lines) ∙ f.kept in
+    ap (λ xs. (output.printed acts ++ line ∷ []) ++ xs) rest ∙ append_assoc (output.printed acts) (line ∷ []) more ∙ ap (λ xs. output.printed acts ++ xs) (sym lines) ∙ f.kept in
     let exact : output.gained acts ++ line_text line ≡ text (output.printed acts ++ line ∷ []) =
-      ap (λ bytes. bytes ++ line_text line) w.0 ∙ ap (λ bytes. text (output.printed acts) ++ bytes) (sym (append-nil (line_text line))) ∙ sym (text-append (output.printed acts) (line ∷ [])) in
+    ap (λ bytes. bytes ++ line_text line) w.0 ∙ ap (λ bytes. text (output.printed acts) ++ bytes) (sym (append-nil (line_text line))) ∙ sym (text-append (output.printed acts) (line ∷ [])) in
     record {
       prints = prints-more opening paper (output.gained acts) (line_text line) f.prints;
       kept = all;
@@ -85,21 +85,38 @@ prints-whole opening paper stops acts line next f =
 part-printed : (opening paper : Option (List ℕ)) (stops : List Side) (acts : List output.Act) (line part : List ℕ) → output.next acts ≡ output.Print line → IsPart part line → OutputFacts opening paper stops acts → (rest : List ℕ) × ((output.gained acts ++ part) ++ rest ≡ text (lines_in (items_in (output.taken acts))))
 part-printed opening paper stops acts line part next (left, is) f =
     let w = f.works (rw next tt) in
-    let (more, lines) = rw next at f.knows in
-    (left ++ text more,
-     append_assoc (output.gained acts) part (left ++ text more)
-     ∙ ap (λ bytes. output.gained acts ++ bytes) (sym (append_assoc part left (text more)) ∙ ap (λ bytes. bytes ++ text more) is)
-     ∙ ap (λ lines. output.gained acts ++ text lines) (sym lines)
-     ∙ rest-of (output.printed acts) (output.unprinted acts) (output.gained acts) _ w.0 f.kept)
+    let (more, lines) = rw next at f.knows in (
+      left ++ text more,
+      append_assoc (output.gained acts) part (left ++ text more)
+          ∙ ap (λ bytes. output.gained acts ++ bytes) (sym (append_assoc part left (text more)) ∙ ap (λ bytes. bytes ++ text more) is)
+          ∙ ap (λ lines. output.gained acts ++ text lines) (sym lines)
+          ∙ rest-of (output.printed acts) (output.unprinted acts) (output.gained acts) _ w.0 f.kept,
+    )
 
 pub output-prints : (opening paper : Option (List ℕ)) (stops : List Side) (acts : List output.Act) (line : List ℕ) (answer : output.Printed) → output.next acts ≡ output.Print line → PrintMay line answer → OutputFacts opening paper stops acts → OutputFacts opening (paper_after paper (output.bytes_of line answer)) stops (output.Prints line answer ∷ acts)
 output-prints opening paper stops acts line output.Whole next may f = prints-whole opening paper stops acts line next f
 output-prints opening paper stops acts line (output.Failed part) next may f =
-    record { prints = prints-more opening paper (output.gained acts) part f.prints; kept = f.kept; part = part-printed opening paper stops acts line part next may f;
-      works = λ impossible. absurd impossible; knows = tt; page = λ impossible. absurd impossible; done = λ e. cc; mark = f.mark }
+    record {
+      prints = prints-more opening paper (output.gained acts) part f.prints;
+      kept = f.kept;
+      part = part-printed opening paper stops acts line part next may f;
+      works = λ impossible. absurd impossible;
+      knows = tt;
+      page = λ impossible. absurd impossible;
+      done = λ e. cc;
+      mark = f.mark;
+    }
 output-prints opening paper stops acts line (output.OutOfMemory part) next may f =
-    record { prints = prints-more opening paper (output.gained acts) part f.prints; kept = f.kept; part = part-printed opening paper stops acts line part next may f;
-      works = λ impossible. absurd impossible; knows = tt; page = λ impossible. absurd impossible; done = λ e. cc; mark = f.mark }
+    record {
+      prints = prints-more opening paper (output.gained acts) part f.prints;
+      kept = f.kept;
+      part = part-printed opening paper stops acts line part next may f;
+      works = λ impossible. absurd impossible;
+      knows = tt;
+      page = λ impossible. absurd impossible;
+      done = λ e. cc;
+      mark = f.mark;
+    }
 
 -- why it stops is never that its work is done
 stops-undone : (acts : List output.Act) (taken : List Page) (unprinted : List (List ℕ)) → (OutputWorks (output.End (output.outcome_of acts)) → ⊥) × OutputKnows unprinted taken (output.End (output.outcome_of acts))
@@ -129,8 +146,16 @@ ends-done opening paper stops acts outcome.Stopped next f e = cc
 
 pub output-ends : (opening paper : Option (List ℕ)) (stops : List Side) (acts : List output.Act) (how : Outcome) → output.next acts ≡ output.End how → OutputFacts opening paper stops acts → OutputFacts opening paper stops (output.Ends how ∷ acts)
 output-ends opening paper stops acts how next f =
-    record { prints = f.prints; kept = f.kept; part = f.part; works = λ impossible. absurd impossible; knows = tt; page = λ impossible. absurd impossible;
-      done = ends-done opening paper stops acts how next f; mark = f.mark }
+    record {
+      prints = f.prints;
+      kept = f.kept;
+      part = f.part;
+      works = λ impossible. absurd impossible;
+      knows = tt;
+      page = λ impossible. absurd impossible;
+      done = ends-done opening paper stops acts how next f;
+      mark = f.mark;
+    }
 
 -- another process stops the other side of the buffer
 pub output-other : (opening paper : Option (List ℕ)) (stops : List Side) (acts : List output.Act) → OutputFacts opening paper stops acts → OutputFacts opening paper (stops ++ Sender ∷ []) acts

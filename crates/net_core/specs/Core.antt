@@ -21,8 +21,10 @@ use Rattle.net_core.specs.Output as output
 -- the processes by their numbers
 abbrev pub input_number : ℕ
 input_number = 1
+
 abbrev pub job_number : ℕ
 job_number = 2
+
 abbrev pub output_number : ℕ
 output_number = 3
 
@@ -58,14 +60,17 @@ pub data Event : Type 0 where
 -- ---- what an action does to a buffer
 abbrev pub put_in : Buffer → ℕ → Page → Put Page → Buffer
 put_in buffer p page answer = record buffer { slot = after_put buffer.slot p page answer }
+
 abbrev pub take_from : Buffer → ℕ → Take Page → Buffer
 take_from buffer p answer = record buffer { slot = after_take buffer.slot p answer }
+
 abbrev pub stop_by : Buffer → Side → Buffer
 stop_by buffer side = record { slot = after_stop buffer.slot side; stops = buffer.stops ++ side ∷ [] }
 
 -- ---- what is left of a told deck, and what a told paper was given
 abbrev pub deck_after : Option (List Item) → CardRead → Option (List Item)
 deck_after deck answer = option_map (drop (length (item_of answer))) deck
+
 abbrev pub paper_after : Option (List ℕ) → List ℕ → Option (List ℕ)
 paper_after paper bytes = option_map (λ given. given ++ bytes) paper
 

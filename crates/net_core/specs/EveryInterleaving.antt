@@ -1,10 +1,11 @@
 -- What holds in each state that can be reached, whatever the order of the events and whichever device fails.
-use Rattle.std.specs.Prelude.{◌≡◌, ℕ, List, [], ◌∷◌, ◌++◌, Option, Some, None}
+use Rattle.std.specs.Prelude.{◌≡◌, ℕ, List, [], ◌∷◌, ◌++◌, flat_map, Option, Some, None}
 use Rattle.solo_base.specs.declared.item.Item.{Item}
 use Rattle.solo_base.specs.declared.outcome.Outcome.TheVariants as outcome
 use Rattle.solo_base.specs.Text.{text}
 use Rattle.queue_var.specs.HandsOver.{HandsOver, StoppedFirst}
 use Rattle.deck_format.specs.Jobs.{jobs}
+use Rattle.batch_job.specs.Report.{report}
 use Rattle.net_core.specs.Input as input
 use Rattle.net_core.specs.Job as job
 use Rattle.net_core.specs.Output as output
@@ -12,7 +13,7 @@ use Rattle.net_core.specs.Core.{State, Buffer}
 
 -- the lines that one thread prints for these items: the reports of their jobs, in order
 abbrev pub one_thread_lines : List Item → List (List ℕ)
-one_thread_lines items = job.reports (jobs items)
+one_thread_lines items = flat_map report (jobs items)
 
 abbrev pub IsPrefixOf : {T : Type 0} → List T → List T → Type 0
 IsPrefixOf {T} part whole = (rest : List T) × (part ++ rest ≡ whole)

@@ -13,7 +13,7 @@ use Rattle.net_core.specs.Page.{Page, items_in, is_ended, IsStream, lines_in, as
 use Rattle.deck_format.specs.declared.job.Job.{Job}
 use Rattle.deck_format.specs.Jobs.{jobs}
 use Rattle.net_core.specs.Completed.{completed}
-use Rattle.net_core.specs.Work.{report}
+use Rattle.batch_job.specs.Report.{report}
 use Rattle.net_core.specs.Input as input
 use Rattle.net_core.specs.Job as job
 use Rattle.net_core.specs.Output as output

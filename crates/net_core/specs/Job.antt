@@ -1,5 +1,5 @@
 -- The job process: what it did, and what it does next.
-use Rattle.std.specs.Prelude.{◌≡◌, ℕ, ◌+◌, ◌≤◌, nat_le, nat_lt, Bool, true, false, ◌||◌, List, [], ◌∷◌, ◌++◌, length, take, drop, if◌then◌else◌, Option, Some, None}
+use Rattle.std.specs.Prelude.{◌≡◌, ℕ, ◌+◌, ◌≤◌, nat_le, nat_lt, Bool, true, false, ◌||◌, List, [], ◌∷◌, ◌++◌, length, take, drop, flat_map, if◌then◌else◌, Option, Some, None}
 use Rattle.solo_base.specs.declared.item.Item.{Item}
 use Rattle.solo_base.specs.declared.outcome.Outcome.{Outcome}
 use Rattle.solo_base.specs.declared.outcome.Outcome.TheVariants as outcome
@@ -12,7 +12,7 @@ use Rattle.net_core.specs.Page.{Page, items_in, is_ended, as_items}
 use Rattle.deck_format.specs.declared.job.Job.{Job}
 use Rattle.deck_format.specs.Jobs.{jobs}
 use Rattle.net_core.specs.Completed.{completed}
-use Rattle.net_core.specs.Work.{report}
+use Rattle.batch_job.specs.Report.{report}
 
 -- whether there was memory for the work that comes with an action
 pub data Memory : Type 0 where
@@ -79,8 +79,7 @@ jobs_of pages = if is_ended pages then jobs (items_in pages) else completed (ite
 
 -- the reports of these jobs, behind each other
 abbrev pub reports : List Job → List (List ℕ)
-reports [] = []
-reports (job ∷ jobs) = report job ++ reports jobs
+reports jobs = flat_map report jobs
 
 -- the lines that its work gave so far
 abbrev pub made : List Act → List (List ℕ)

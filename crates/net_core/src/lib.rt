@@ -1,8 +1,8 @@
-//! The core of the Job Stream System: its processes over their buffers, stepped one event at a time.
+//! The core of the Job Stream System: its processes over their buffers.
 #![tactic(auto)]
 
-mod input_process;
-mod output_process;
+mod interleavings;
 mod plain_page;
 
+pub use interleavings::every_interleaving;
 pub use plain_page::{PAGE_ITEMS, PlainPage};

@@ -83,6 +83,7 @@ impl PlainPage {
         requires { place < length self.now.items }
         ensures { slice_get self.now.items place ≡ Some result.now }
     {
-        &self.items[place]
+        let items = &self.items[..self.count];
+        &items[place]
     }
 }

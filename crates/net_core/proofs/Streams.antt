@@ -33,8 +33,8 @@ pub stream-ends : (taken inside : List Page) → IsStream (taken ++ inside) → 
 stream-ends [] inside s ended = cc
 stream-ends (page ∷ pages) inside s ended =
     elim page.last as (λ last. (last ≡ true → pages ++ inside ≡ []) → (last || is_ended pages) ≡ true → inside ≡ []) [
-      true ↦ (λ none e. both_empty pages inside (none refl))
-    | false ↦ (λ none e. stream-ends pages inside s.1 e)
+      | true ↦ (λ none e. both_empty pages inside (none refl))
+      | false ↦ (λ none e. stream-ends pages inside s.1 e)
     ] s.0 ended
 
 pub is_ended-part : (taken inside : List Page) → is_ended taken ≡ true → is_ended (taken ++ inside) ≡ true
