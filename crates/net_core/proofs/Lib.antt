@@ -6,3 +6,7 @@ pub mod JobKeeps
 pub mod CoreKeeps
 pub mod Headline
 pub mod Completed
+mod Printing
+mod Taking
+mod Pages
+mod Underway

@@ -12,3 +12,5 @@ pub mod Output
 pub mod Core
 pub mod Facts
 pub mod EveryInterleaving
+pub mod Prints
+pub mod Turns
