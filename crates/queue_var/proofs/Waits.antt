@@ -91,7 +91,7 @@ among-with (One Receiver) Receiver Sender = refl
 among-with (One Receiver) Receiver Receiver = refl
 among-with (Both first) side s = refl
 
-one_of-more : (stops : List Side) (side s : Side) → is_one_of s (stops ++ side ∷ []) ≡ (is_one_of s stops || same_side s side)
+pub one_of-more : (stops : List Side) (side s : Side) → is_one_of s (stops ++ side ∷ []) ≡ (is_one_of s stops || same_side s side)
 one_of-more [] side s = grind arith
 one_of-more (first ∷ later) side s = let rest = one_of-more later side s in grind arith
 

@@ -1,10 +1,8 @@
 -- Each entry of a resource keeps its history.
-use Rattle.std.proofs.Common.{◌≡◌, ◌≢◌, ◌⊎◌, inl, inr, ℕ, Option, None, Some, List, [], ◌∷◌, ◌++◌, option_to_list, refl, sym, ◌∙◌, ap, append_assoc, arith}
+use Rattle.std.proofs.Common.{◌≡◌, ◌≢◌, ◌⊎◌, ℕ, Option, None, Some, List, [], ◌∷◌, ◌++◌, option_to_list, refl, sym, ◌∙◌, ap, append_assoc}
 use Rattle.std.proofs.lemmas.List.{append-nil}
-use Rattle.std.specs.List.{AllByRecursion}
 use Rattle.resource_mon.specs.declared.grant.Grant.{Grant}
-use Rattle.resource_mon.specs.declared.grant.Grant.TheVariants.{Got, Wait}
-use Rattle.resource_mon.specs.Claims.{Claims, IsNoneOf, EachOnce, HasOneHolder, claimants, grant_by, after_request, granted_with, first_of, later_of, after_release, after_resumed}
+use Rattle.resource_mon.specs.Claims.{Claims, IsNoneOf, EachOnce, HasOneHolder, claimants, grant_by, after_request, granted_with, first_of, after_release, after_resumed}
 
 each_once-more : (processes : List ℕ) (p : ℕ) → EachOnce processes → IsNoneOf processes p → EachOnce (processes ++ p ∷ [])
 each_once-more [] p each none = (tt, tt)

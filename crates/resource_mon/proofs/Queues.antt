@@ -1,12 +1,12 @@
 -- The queues of a resource as processes come and go.
-use Rattle.std.proofs.Common.{◌≡◌, ◌≢◌, ◌⊎◌, inl, inr, ℕ, zero, suc, ◌+◌, ◌<◌, ◌≤◌, Option, None, Some, List, [], ◌∷◌, ◌++◌, length, option_to_list, slice_index_or, slice_set, get_or-set_other, get_or-set_same, refl, sym, ◌∙◌, ap, append_assoc, arith, Contains, subst}
+use Rattle.std.proofs.Common.{◌≡◌, ◌≢◌, ◌⊎◌, inl, inr, ℕ, suc, ◌<◌, Option, None, Some, List, [], ◌∷◌, ◌++◌, length, option_to_list, slice_set, get_or-set_other, get_or-set_same, refl, sym, ◌∙◌, ap, append_assoc, arith, Contains}
 use Rattle.std.proofs.lemmas.List.{append-nil}
 use Rattle.std.proofs.lemmas.Bool.Decides.{eqb_tells}
 use Rattle.std.specs.List.{AllByRecursion}
 use Rattle.queue_var.specs.declared.turn.Turn.{Turn}
 use Rattle.queue_var.specs.declared.turn.Turn.TheVariants.{Free, Handed}
 use Rattle.queue_var.specs.Turn.{handed}
-use Rattle.resource_mon.specs.Claims.{Claims, IsNoneOf, EachOnce, HasOneHolder, claimants}
+use Rattle.resource_mon.specs.Claims.{IsNoneOf}
 use Rattle.resource_mon.specs.Queued.{Queued, in_queue, processes_at}
 
 -- a position that isn't contained is none of them

@@ -1,9 +1,9 @@
 -- How the claims stand in queues: who waits is in the queue at its position.
-use Rattle.std.specs.Prelude.{◌≡◌, ◌≢◌, ℕ, ◌<◌, Option, None, Some, List, [], ◌∷◌, ◌++◌, option_to_list, slice_index_or, length}
+use Rattle.std.specs.Prelude.{◌≡◌, ◌≢◌, ℕ, ◌<◌, Option, None, Some, List, [], ◌∷◌, ◌++◌, option_to_list, slice_index_or}
 use Rattle.std.specs.List.{AllByRecursion}
 use Rattle.resource_mon.specs.Claims.{IsNoneOf}
 use Rattle.queue_var.specs.declared.turn.Turn.{Turn}
-use Rattle.queue_var.specs.declared.turn.Turn.TheVariants.{Free, Handed}
+use Rattle.queue_var.specs.declared.turn.Turn.TheVariants.{Handed}
 
 abbrev pub in_queue : List (Option ℕ) → ℕ → Option ℕ
 in_queue queues k = slice_index_or queues k None

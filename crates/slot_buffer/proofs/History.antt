@@ -1,18 +1,14 @@
 -- Each entry of a one-slot buffer keeps its history.
-use Rattle.std.proofs.Common.{◌≡◌, ◌≢◌, ◌⊎◌, ℕ, ◌≤◌, Option, None, Some, Bool, true, false, List, [], ◌∷◌, ◌++◌, length, refl, sym, ◌∙◌, ap, append_assoc, append-nil, lit≤, arith}
-use Rattle.std.proofs.lemmas.Grind.{common_steps}
+use Rattle.std.proofs.Common.{◌≡◌, ℕ, Option, None, Some, false, List, [], ◌∷◌, ◌++◌, refl, sym, ◌∙◌, ap, append_assoc, append-nil, lit≤, arith}
 use Rattle.solo_base.specs.declared.outcome.Side.{Side}
 use Rattle.solo_base.specs.declared.outcome.Side.TheVariants.{Sender, Receiver}
-use Rattle.queue_var.specs.declared.turn.Turn.TheVariants.{Free, Handed}
 use Rattle.queue_var.specs.declared.stops.Stops.{Stops}
 use Rattle.queue_var.specs.declared.stops.Stops.TheVariants.{Neither, One, Both}
-use Rattle.queue_var.specs.Sides.{Sides, MayEnter, queue, stopped_by, has_stopped, is_among, first_of, other, entered, delayed, continued, stopped, nobody}
-use Rattle.queue_var.specs.HandsOver.{WaitsWithCause, HandsOver, StoppedFirst, Lacks}
-use Rattle.queue_var.proofs.Waits.{waits-entered, waits-turned_away, waits-delayed, waits-continued, stops-more}
+use Rattle.queue_var.specs.Sides.{Sides, MayEnter, queue, stopped_by, has_stopped, is_among, first_of, entered, stopped}
+use Rattle.queue_var.specs.HandsOver.{HandsOver, StoppedFirst, Lacks}
+use Rattle.queue_var.proofs.Waits.{waits-turned_away, waits-delayed, waits-continued, stops-more}
 use Rattle.slot_buffer.specs.declared.answers.Put.{Put}
-use Rattle.slot_buffer.specs.declared.answers.Put.TheVariants as Put
 use Rattle.slot_buffer.specs.declared.answers.Take.{Take}
-use Rattle.slot_buffer.specs.declared.answers.Take.TheVariants as Take
 use Rattle.slot_buffer.specs.Slot.{Slot, StandsFor, put_by, put_answer, after_put, sent_with, take_by, take_answer, after_take, taken_with, after_stop}
 
 -- who hasn't stopped was not the first to stop

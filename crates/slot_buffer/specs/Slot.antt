@@ -1,13 +1,11 @@
 -- What a one-slot buffer answers, and how it stands afterwards.
-use Rattle.std.specs.Prelude.{◌≡◌, ℕ, Bool, true, false, Option, None, Some, List, [], ◌∷◌, ◌++◌, drop}
+use Rattle.std.specs.Prelude.{ℕ, Option, Some, List, [], ◌∷◌, ◌++◌, drop}
 use Rattle.solo_base.specs.declared.outcome.Side.{Side}
 use Rattle.solo_base.specs.declared.outcome.Side.TheVariants.{Sender, Receiver}
 use Rattle.queue_var.specs.Sides.{Sides, stopped_by, entered, delayed, continued, stopped, other}
 use Rattle.queue_var.specs.HandsOver.{HandsOver, StoppedFirst}
 use Rattle.slot_buffer.specs.declared.answers.Put.{Put}
-use Rattle.slot_buffer.specs.declared.answers.Put.TheVariants as Put
 use Rattle.slot_buffer.specs.declared.answers.Take.{Take}
-use Rattle.slot_buffer.specs.declared.answers.Take.TheVariants as Take
 
 -- what is inside, at most one item, and its two sides
 pub record Slot (T : Type 0) : Type 0 where

@@ -1,4 +1,4 @@
-use Rattle.std.proofs.Common.{rules, ◌≡◌, None, sym, ap, ◌∙◌, refl}
+use Rattle.std.proofs.Common.{rules, None, refl}
 use Rattle.resource_mon.proofs.resource.Resource.new.Goals as goal
 
 pub invariant_of-result : goal.invariant_of-result

@@ -1,5 +1,4 @@
-use Rattle.std.proofs.Common.{rules, ◌≡◌, None, sym, ap, ◌∙◌}
-use Rattle.resource_mon.specs.Claims.{first_of}
+use Rattle.std.proofs.Common.{rules, None}
 use Rattle.resource_mon.proofs.Queues.{none_of, turn_is_free, queued-departed, first_at, processes-departed}
 use Rattle.resource_mon.proofs.History.{release-history}
 use Rattle.resource_mon.proofs.resource.Resource.release.Goals as goal

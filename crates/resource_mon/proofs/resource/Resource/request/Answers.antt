@@ -1,9 +1,6 @@
 -- The position of who waits was unused, since the turn is free and no two that wait have one position.
-use Rattle.std.proofs.Common.{rules, ◌≡◌, ◌≢◌, ◌<◌, ◌++◌, ◌∷◌, [], ℕ, length, Some, None, lit<, sym, ap, ◌∙◌}
-use Rattle.queue_var.specs.declared.turn.Turn.TheVariants.{Handed}
+use Rattle.std.proofs.Common.{rules, ◌<◌, length, Some, lit<}
 use Rattle.resource_mon.specs.declared.grant.Grant.TheVariants.{Got, Wait}
-use Rattle.resource_mon.specs.Claims.{IsNoneOf}
-use Rattle.resource_mon.specs.Queued.{Queued, processes_at}
 use Rattle.resource_mon.proofs.Queues.{none_of, free_turn, empty_at, queued-delayed, processes-delayed, length-processes, handed-delayed}
 use Rattle.resource_mon.proofs.History.{request-history}
 use Rattle.resource_mon.proofs.resource.Resource.request.Goals as goal

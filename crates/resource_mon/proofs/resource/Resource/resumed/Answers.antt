@@ -1,4 +1,3 @@
-use Rattle.std.proofs.Common.{rules, ◌≡◌, length, sym, ap, ◌∙◌, refl}
 use Rattle.resource_mon.proofs.Queues.{queued-resumed, processes-resumed}
 use Rattle.resource_mon.proofs.History.{resumed-history}
 use Rattle.resource_mon.proofs.resource.Resource.resumed.Goals as goal
