@@ -7,3 +7,6 @@ mod words;
 
 pub use command::{Finished, top};
 pub use words::Command;
+
+#[cfg(test)]
+mod tests;
