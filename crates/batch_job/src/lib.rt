@@ -4,3 +4,6 @@
 mod report;
 
 pub use report::run_job;
+
+#[cfg(test)]
+mod tests;

@@ -1,3 +1,3 @@
 mod Parting
 mod Numerals
-mod Steps
+pub mod Steps

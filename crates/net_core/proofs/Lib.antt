@@ -1,3 +1,11 @@
+pub mod Streams
+pub mod Stops
+pub mod InputKeeps
+pub mod OutputKeeps
+pub mod JobKeeps
+pub mod CoreKeeps
+pub mod Headline
+pub mod Completed
 mod Printing
 mod Taking
 mod Pages

@@ -3,6 +3,14 @@ pub use Rattle.solo_devices.specs.Count
 pub use Rattle.solo_devices.specs.CardUnit
 pub use Rattle.solo_devices.specs.PrinterUnit
 pub use Rattle.batch_job.specs.OneThread
+pub use Rattle.queue_var.specs.HandsOver
 pub mod Page
+pub mod Completed
+pub mod Input
+pub mod Job
+pub mod Output
+pub mod Core
+pub mod Facts
+pub mod EveryInterleaving
 pub mod Prints
 pub mod Turns

@@ -2,10 +2,12 @@
 #![tactic(auto)]
 
 mod input_turn;
+mod interleavings;
 mod job_turn;
 mod listing;
 mod output_turn;
 mod plain_page;
 
+pub use interleavings::every_interleaving;
 pub use listing::{Listed, run_lists};
 pub use plain_page::{PAGE_ITEMS, PlainPage};

@@ -1,14 +1,12 @@
 -- Where a text is cut into lines.
-use Rattle.std.proofs.Common.{◌≡◌, ℕ, ◌+◌, ◌-◌, ◌<◌, ◌≤◌, List, [], ◌∷◌, ◌++◌, length, zero, suc, subst, take, drop, drop-cons, add-one, refl, ap, append_assoc, length-append, ◌∙◌, sym, arith, Bool, true, false}
-use Rattle.std.specs.Prelude.{◌&&◌, not, ◌==◌, nat_le, slice_index, map, if◌then◌else◌}
+use Rattle.std.proofs.Common.{◌≡◌, ℕ, ◌+◌, ◌<◌, ◌≤◌, List, [], ◌∷◌, ◌++◌, length, zero, suc, subst, take, drop, drop-cons, add-one, refl, ap, append_assoc, length-append, ◌∙◌, sym, arith, Bool, true, false}
+use Rattle.std.specs.Prelude.{◌&&◌, ◌==◌, nat_le, slice_index, map}
 use Rattle.std.specs.List.{list_all}
 use Rattle.std.proofs.lemmas.Bool.Decides.{nat_tests}
 use Rattle.std.proofs.lemmas.List.{take-append-drop, take_all, length-take-le}
 use Rattle.std.proofs.lemmas.List.Folds.{list_all-append}
-use Rattle.solo_base.specs.Line.{is_printable}
-use Rattle.solo_base.specs.Card.{lines, before_lines, card_of, judged, cards, without_return}
-use Rattle.solo_base.specs.declared.item.Item.{Item}
-use Rattle.solo_base.specs.declared.item.Item.TheVariants.{Line, Spoiled}
+use Rattle.solo_base.specs.Card.{lines, before_lines, card_of, cards, without_return}
+use Rattle.solo_base.specs.declared.item.Item.TheVariants.{Spoiled}
 use Rattle.solo_devices.specs.CardUnit.{goes_on, IsPartial}
 use Rattle.solo_devices.proofs.Judging.{length-without_return}
 

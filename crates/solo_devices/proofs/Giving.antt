@@ -1,10 +1,10 @@
 -- What one call of a sink adds to the part of a piece that was given.
-use Rattle.std.proofs.Common.{◌≡◌, ℕ, ◌≤◌, List, [], ◌∷◌, ◌++◌, length, take, drop, refl, ap, ◌∙◌, sym, Option, Some, None, append_assoc}
+use Rattle.std.proofs.Common.{◌≡◌, ℕ, List, [], ◌++◌, take, drop, refl, ap, ◌∙◌, sym, Option, Some, append_assoc}
 use Rattle.std.proofs.lemmas.List.{append-nil, take-append-drop}
 use Rattle.solo_devices.specs.Sink.{GivesTo, bytes_given}
 use Rattle.solo_devices.specs.declared.sink.Gave.{Gave}
 use Rattle.solo_devices.specs.declared.sink.Gave.TheVariants.{Bytes}
-use Rattle.solo_devices.specs.PrinterUnit.{HasGiven, Gains, IsPrefixOf}
+use Rattle.solo_devices.specs.PrinterUnit.{HasGiven, Gains}
 
 pub given_none : (before : Option (List ℕ)) (piece : List ℕ) → HasGiven before before piece piece
 given_none before piece = record {

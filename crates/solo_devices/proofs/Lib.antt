@@ -2,3 +2,4 @@ mod Judging
 mod Cutting
 mod Reading
 mod Giving
+mod Spoiling

@@ -1,20 +1,19 @@
 -- What a read adds to the calls of the source before it.
-use Rattle.std.proofs.Common.{◌≡◌, ℕ, ◌+◌, ◌-◌, ◌*◌, ◌<◌, ◌≤◌, List, [], ◌∷◌, ◌++◌, length, take, drop, subst, refl, ap, ◌∙◌, sym, arith, Bool, true, false, Option, Some, None, append_assoc, length-append}
-use Rattle.std.specs.Prelude.{min, ◌↔◌, ◌==◌, if◌then◌else◌}
+use Rattle.std.proofs.Common.{◌≡◌, ℕ, ◌+◌, ◌<◌, ◌≤◌, List, [], ◌∷◌, ◌++◌, length, take, drop, subst, refl, ap, ◌∙◌, sym, arith, Bool, true, false, Option, Some, None, append_assoc, length-append}
+use Rattle.std.specs.Prelude.{◌↔◌, ◌==◌, if◌then◌else◌}
 use Rattle.std.proofs.lemmas.List.{append-nil, take-append-drop, length-take-le}
 use Rattle.std.proofs.Math.Seq.{drop-nil}
 use Rattle.std.proofs.lemmas.Bool.Decides.{nat_tests}
 use Rattle.solo_base.specs.Card.{cards}
 use Rattle.solo_base.specs.declared.item.Item.{Item}
-use Rattle.solo_devices.specs.Count.{Rose, raised, last_count}
+use Rattle.solo_devices.specs.Count.{Rose, raised}
 use Rattle.solo_devices.specs.Source.{TakesFrom, TakesFirst, CountsFaults}
-use Rattle.solo_devices.specs.declared.source.Took.{Took}
 use Rattle.solo_devices.specs.declared.source.Took.TheVariants as took
-use Rattle.solo_devices.specs.CardUnit.{IsPartial, bytes_total, items_ahead, item_of, work_ahead, byte_limit, GivesNext, TakesItem, IsAllTaken, StandsFor}
+use Rattle.solo_devices.specs.CardUnit.{IsPartial, bytes_total, items_ahead, item_of, byte_limit, GivesNext, TakesItem, IsAllTaken, StandsFor}
 use Rattle.solo_devices.specs.declared.card_read.CardRead.{CardRead}
 use Rattle.solo_devices.specs.declared.card_read.CardRead.TheVariants.{End, Failed, Limit}
 use Rattle.solo_devices.specs.declared.reader.Reader.{Reader}
-use Rattle.solo_devices.specs.Reader.{IsReader, HasWaited, IsRead, Refills, work}
+use Rattle.solo_devices.specs.Reader.{IsReader, HasWaited, IsRead, Refills}
 
 -- a line taken out of the pending bytes is the next item
 next_item : (left : Option (List ℕ)) (old new : List ℕ) (item : Item) (answer : CardRead) → item_of answer ≡ item ∷ [] →

@@ -1,5 +1,5 @@
 -- What reading and writing a page of an area does. An area may tell its pages, or tell nothing.
-use Rattle.std.specs.Prelude.{◌≡◌, ◌≢◌, ℕ, ◌≤◌, ◌<◌, List, length, slice_get, slice_set, Option, Some, None}
+use Rattle.std.specs.Prelude.{◌≡◌, ◌≢◌, ℕ, ◌≤◌, List, length, slice_get, slice_set, Option, Some, None}
 use Rattle.solo_base.specs.declared.page.Page.{Page}
 use Rattle.solo_devices.specs.Count.{Rose}
 use Rattle.solo_devices.specs.declared.area.Moved.{Moved}

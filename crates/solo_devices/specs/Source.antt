@@ -1,6 +1,6 @@
 -- What a take from a source does. A source may tell the bytes that it has left, or tell nothing.
 use Rattle.std.specs.Prelude.{◌≡◌, ℕ, ◌≤◌, ◌<◌, List, [], length, take, drop, Option, Some, None}
-use Rattle.solo_devices.specs.Count.{raised, Rose}
+use Rattle.solo_devices.specs.Count.{Rose}
 use Rattle.solo_devices.specs.declared.source.Took.{Took}
 use Rattle.solo_devices.specs.declared.source.Took.TheVariants.{Bytes, Failed}
 

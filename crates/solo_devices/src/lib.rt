@@ -3,9 +3,11 @@
 #![tactic(auto)]
 
 mod area;
+mod blank_area;
 mod card_read;
 mod card_unit;
 mod judge;
+mod mem_area;
 mod mem_sink;
 mod mem_source;
 mod pending;
@@ -18,8 +20,10 @@ mod sure_sink;
 mod sure_source;
 
 pub use area::{Area, Moved};
+pub use blank_area::BlankArea;
 pub use card_read::CardRead;
 pub use card_unit::CardUnit;
+pub use mem_area::MemArea;
 pub use mem_sink::MemSink;
 pub use mem_source::MemSource;
 pub use printer_unit::{PrintFault, PrinterUnit};
@@ -29,3 +33,6 @@ pub use source::{Source, Took};
 pub use sure_area::SureArea;
 pub use sure_sink::SureSink;
 pub use sure_source::SureSource;
+
+#[cfg(test)]
+mod area_tests;

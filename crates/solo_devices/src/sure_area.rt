@@ -55,7 +55,7 @@ impl Area for SureArea {
     }
 }
 
-fn zero_page() -> Page
+pub(crate) fn zero_page() -> Page
     ensures { result.0 ≡ replicate 512 0 }
 {
     Page([0; PAGE_LENGTH])

@@ -1,5 +1,4 @@
-use Rattle.std.proofs.Common.{◌≡◌, arith, length, ◌∙◌, sym}
-use Rattle.solo_base.specs.Card.{without_return}
+use Rattle.std.proofs.Common.{arith, sym}
 use Rattle.solo_devices.proofs.Judging.{length-trimmed-le, trimmed_prints}
 use Rattle.solo_devices.proofs.judge.judge.Goals as goal
 

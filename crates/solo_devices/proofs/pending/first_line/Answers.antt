@@ -1,5 +1,4 @@
-use Rattle.std.proofs.Common.{◌≡◌, ◌<◌, ◌≤◌, ℕ, length, arith, sym}
-use Rattle.std.proofs.lemmas.Bool.Decides.{nat_tests}
+use Rattle.std.proofs.Common.{arith}
 use Rattle.solo_devices.proofs.Cutting.{partial_all, cards-first}
 use Rattle.solo_devices.proofs.pending.first_line.Goals as goal
 

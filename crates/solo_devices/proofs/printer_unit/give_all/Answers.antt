@@ -1,5 +1,4 @@
-use Rattle.std.proofs.Common.{◌≡◌, ℕ, false, true, ap, [], arith, take, refl, ◌∙◌}
-use Rattle.solo_devices.specs.Sink.{bytes_given}
+use Rattle.std.proofs.Common.{◌≡◌, false, true, ap, arith, take, refl}
 use Rattle.solo_devices.specs.declared.sink.Gave.TheVariants.{Bytes, Failed, NoMemory}
 use Rattle.solo_devices.proofs.Giving.{given_more, gains_part}
 use Rattle.solo_devices.proofs.printer_unit.give_all.Goals as goal

@@ -1,4 +1,4 @@
-use Rattle.std.proofs.Common.{◌≡◌, ◌≤◌, length, take, arith, sym}
+use Rattle.std.proofs.Common.{◌≡◌, length, take, arith, sym}
 use Rattle.std.proofs.lemmas.List.{length-take-le}
 use Rattle.solo_devices.proofs.Cutting.{cards-long}
 use Rattle.solo_devices.proofs.reader.kept.Goals as goal

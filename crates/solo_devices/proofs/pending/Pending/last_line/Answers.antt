@@ -1,5 +1,5 @@
-use Rattle.std.proofs.Common.{◌≡◌, ◌<◌, ◌∙◌, length, false, true, ℕ, arith, ap, sym}
-use Rattle.std.specs.Prelude.{◌==◌, ◌∷◌, []}
+use Rattle.std.proofs.Common.{◌≡◌, ◌<◌, length, false, ℕ, arith}
+use Rattle.std.specs.Prelude.{◌==◌}
 use Rattle.std.proofs.lemmas.Bool.Decides.{nat_tests}
 use Rattle.solo_devices.proofs.Cutting.{cards-last}
 use Rattle.solo_devices.proofs.pending.Pending.last_line.Goals as goal

@@ -1,4 +1,4 @@
-use Rattle.solo_devices.proofs.Reading.{waited_none, waited_more, read_line, read_last, read_failed, read_limit}
+use Rattle.solo_devices.proofs.Reading.{waited_none}
 use Rattle.solo_devices.proofs.reader.Reader.next.Goals as goal
 
 pub reading-init : goal.reading-init

@@ -1,4 +1,4 @@
-use Rattle.std.proofs.Common.{◌≡◌, Some, List, ℕ, map, slice_set, ap, ◌∙◌, sym}
+use Rattle.std.proofs.Common.{◌≡◌, Some, map, slice_set, ap, ◌∙◌}
 use Rattle.std.proofs.lemmas.List.{map-set}
 use Rattle.solo_devices.specs.Area.{page_bytes}
 use Rattle.solo_devices.proofs.sure_area.SureAreaArea.write.Goals as goal

@@ -1,0 +1,4 @@
+pub mod OneBit
+pub mod MarkedPages
+pub mod KeptMap
+pub mod BitMaps

@@ -1,0 +1,3 @@
+pub mod Level
+pub mod Laws
+pub mod Run

@@ -1,0 +1,6 @@
+pub mod Lists
+pub mod Stays
+pub mod Moves
+pub mod Deals
+pub mod Closes
+pub mod Held

@@ -1,0 +1,7 @@
+use Rattle.std.proofs.Common.{◌∷◌, ◌++◌, [], Some, ap, ◌∙◌}
+use Rattle.monitor_gate.proofs.Deals.{opens_with}
+use Rattle.monitor_gate.proofs.gate.lay.Goals as goal
+
+pub new-requires : goal.new-requires
+new-requires g c = opens_with _ _ _ _ _ _ c.args.state _ c.of.ensures (c.push_reserved.ensures.items ∙ ap (λ xs. xs ++ Some c.args.state ∷ []) c.in-Ok.ensures.items)
+    c.requires.tied c.requires.nobody_waits c.requires.free

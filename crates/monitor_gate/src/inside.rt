@@ -1,0 +1,11 @@
+//! A process that is inside a gate.
+use crate::gate::Gate;
+use crate::kind::MonitorKind;
+use crate::pass::Pass;
+
+/// The state of a monitor, which one process has to itself. It isn't `Drop`: end it by `leave` or `delay`.
+pub struct Inside<'a, M: MonitorKind> {
+    pub(crate) pass: &'a mut Pass<M>,
+    pub(crate) gate: &'a Gate<M>,
+    pub(crate) state: M::State,
+}

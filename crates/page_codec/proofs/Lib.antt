@@ -1,0 +1,5 @@
+pub mod Scan
+pub mod Judged
+pub mod Pages
+pub mod Cutting
+pub mod Taking

@@ -1,0 +1,87 @@
+ghost use Rattle.std.specs.Prelude.{◌≡◌, true, List, [], ◌∷◌, ◌++◌, option_to_list};
+ghost use Rattle.solo_base.specs.declared.item.Item.{Item};
+ghost use Rattle.solo_base.specs.declared.page.Page.{Page};
+ghost use Rattle.page_codec.specs.Items.{item_bytes, IsItem};
+ghost use Rattle.page_codec.specs.Form.{page_of};
+ghost use Rattle.page_codec.specs.Packing.{first_page, page_given, hand_after, HasPacked};
+ghost use Rattle.page_codec.specs.Stream.{IsStream};
+
+use crate::form::{CONTENT_ROOM, ITEM_LENGTH, SPOILED, page_of};
+use arrayvec::ArrayVec;
+use solo_base::{Item, Page};
+use std::marker::Model;
+
+/// Puts items into pages. An item goes into the page in hand if it fits, else into the next. Places
+/// of pages count modulo 65,536.
+#[derive(Debug, Drop)]
+pub struct Packer {
+    place: u16,
+    content: ArrayVec<u8, CONTENT_ROOM>,
+}
+
+impl Model for Packer {
+    ghost use Rattle.page_codec.specs.Packing.{PageInHand};
+
+    ghost Value = { PageInHand };
+
+    ghost view = { λ packer. record { place = packer.place; content = packer.content.items } };
+}
+
+impl Packer {
+    /// A packer with the first page in hand, which has no items.
+    pub fn new() -> Packer
+        ensures first { result ≡ first_page }
+        ensures history { HasPacked result [] [] }
+    {
+        Packer {
+            place: 0,
+            content: ArrayVec::new(),
+        }
+    }
+
+    /// Adds an item. It gives the page in hand, which isn't the last, where the item doesn't fit
+    /// behind those held; the item then begins the next page.
+    pub fn push(&mut self, item: &Item) -> Option<Page>
+        ensures page { result ≡ page_given self.old item.now }
+        ensures hand { self.new ≡ hand_after self.old item.now }
+        ensures history { (items : List Item) (pages : List Page) → HasPacked self.old items pages
+            → HasPacked self.new (items ++ item.now ∷ []) (pages ++ option_to_list result) }
+    {
+        let bytes = item_bytes(item);
+        if bytes.len() <= self.content.remaining_capacity() {
+            let _ = self.content.try_extend_from_slice(&bytes);
+            return None;
+        }
+        let full = page_of(self.place, false, &self.content);
+        self.place = self.place.wrapping_add(1);
+        self.content.clear();
+        let _ = self.content.try_extend_from_slice(&bytes);
+        Some(full)
+    }
+
+    /// The last page.
+    pub fn finish(self) -> Page
+        ensures page { result ≡ page_of self.place true self.content }
+        ensures stream { (items : List Item) (pages : List Page) → HasPacked self items pages
+            → IsStream 0 (pages ++ result ∷ []) items }
+    {
+        page_of(self.place, true, &self.content)
+    }
+}
+
+/// The bytes of an item: the length and the characters of a line, or the one byte of a spoiled card.
+fn item_bytes(item: &Item) -> ArrayVec<u8, ITEM_LENGTH>
+    ensures bytes { result.items ≡ item_bytes item.now }
+    ensures item { IsItem item.now }
+{
+    let mut bytes = ArrayVec::new();
+    match item {
+        Item::Line(line) => {
+            let characters = line.bytes();
+            bytes.push(characters.len() as u8);
+            let _ = bytes.try_extend_from_slice(characters);
+        }
+        Item::Spoiled => bytes.push(SPOILED),
+    }
+    bytes
+}

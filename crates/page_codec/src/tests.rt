@@ -1,0 +1,166 @@
+use crate::{BadPage, Packer, PageItems, Unpacker};
+use solo_base::{Item, LINE_LENGTH, Line, PAGE_LENGTH, Page};
+use std::process::Abort;
+use std::test::Fail;
+
+fn line(rt: &impl Abort, bytes: &[u8]) -> Item {
+    Item::Line(Line::of(bytes).expect(rt, "it is a line"))
+}
+
+/// A line of so many letters B.
+fn letters(rt: &impl Abort, count: usize) -> Item {
+    assert!(rt; count <= LINE_LENGTH);
+    line(rt, &[b'B'; LINE_LENGTH][..count])
+}
+
+/// Whether the next item is this line.
+fn is_next(items: &mut PageItems, bytes: &[u8]) -> bool {
+    match items.next() {
+        Some(Item::Line(line)) => line.bytes() == bytes,
+        _ => false,
+    }
+}
+
+/// The two pages of a listing: six cards of 80 columns, and one of so many.
+fn listing(rt: &impl Abort, columns: usize) -> (Page, Page) {
+    let mut packer = Packer::new();
+    assert!(rt; packer.push(&line(rt, b"JOB A")).is_none());
+    for _ in 0..6 {
+        assert!(rt; packer.push(&letters(rt, 80)).is_none());
+    }
+    let early = packer.push(&letters(rt, columns));
+    let late = packer.push(&line(rt, b"A: LISTED 7 CARDS"));
+    let first = early.or(late).expect(rt, "a page is full");
+    (first, packer.finish())
+}
+
+#[test]
+fn seven_cards_fill_the_first_page_of_a_listing(rt: HostRuntime) {
+    // 6 + 486 + 14 bytes of items, and then 18
+    let (first, last) = listing(&rt, 13);
+    assert_eq!(rt; &first.0[..8], [0, 0, 0, 0, 1, 250, 5, b'J'].as_slice());
+    assert_eq!(rt; &last.0[..8], [0, 1, 1, 0, 0, 18, 17, b'A'].as_slice());
+    // with one column more 6 + 486, and then 15 + 18
+    let (first, last) = listing(&rt, 14);
+    assert_eq!(rt; &first.0[..8], [0, 0, 0, 0, 1, 236, 5, b'J'].as_slice());
+    assert_eq!(rt; &last.0[..8], [0, 1, 1, 0, 0, 33, 14, b'B'].as_slice());
+}
+
+#[test]
+fn the_pages_of_a_listing_are_read_back(rt: HostRuntime) -> Result<(), Fail> {
+    let (first, last) = listing(&rt, 13);
+    let mut unpacker = Unpacker::new();
+    let mut items = unpacker.take(&first, first.last())?;
+    assert!(rt; !items.last());
+    assert!(rt; is_next(&mut items, b"JOB A"));
+    for _ in 0..6 {
+        assert!(rt; is_next(&mut items, &[b'B'; 80]));
+    }
+    assert!(rt; is_next(&mut items, &[b'B'; 13]));
+    assert!(rt; items.next().is_none());
+    let mut items = unpacker.take(&last, last.last())?;
+    assert!(rt; items.last());
+    assert!(rt; is_next(&mut items, b"A: LISTED 7 CARDS"));
+    assert!(rt; items.next().is_none());
+    Ok(())
+}
+
+#[test]
+fn a_spoiled_card_is_one_byte(rt: HostRuntime) -> Result<(), Fail> {
+    let mut packer = Packer::new();
+    assert!(rt; packer.push(&Item::Spoiled).is_none());
+    let page = packer.finish();
+    assert_eq!(rt; &page.0[..8], [0, 0, 1, 0, 0, 1, 255, 0].as_slice());
+    let mut items = Unpacker::new().take(&page, true)?;
+    assert!(rt; matches!(items.next(), Some(Item::Spoiled)));
+    assert!(rt; items.next().is_none());
+    Ok(())
+}
+
+#[test]
+fn a_wrong_byte_is_found_at_its_place(rt: HostRuntime) {
+    let mut packer = Packer::new();
+    assert!(rt; packer.push(&line(&rt, b"HI")).is_none());
+    assert!(rt; packer.push(&line(&rt, b"A")).is_none());
+    // 0, 0, 1, 0, 0, 5, 2, `H`, `I`, 1, `A`, and zeros
+    let page = packer.finish();
+    for (byte, value, found, at) in [
+        (1, 7, 7, 0),
+        (0, 1, 256, 0),
+        (2, 0, 0, 2),
+        (3, 1, 0, 3),
+        (4, 2, 0, 4),
+        (6, 133, 0, 6),
+        (6, 3, 0, 6),
+        (8, 10, 0, 6),
+        (9, 2, 0, 9),
+        (10, 127, 0, 9),
+        (5, 4, 0, 9),
+        (5, 3, 0, 9),
+        (11, 1, 0, 11),
+        (511, 32, 0, 511),
+    ] {
+        let mut wrong = page;
+        assert!(rt; byte < PAGE_LENGTH);
+        wrong.0[byte] = value;
+        let refusal = BadPage {
+            expected: 0,
+            found,
+            at,
+        };
+        assert_eq!(rt;
+            Unpacker::new().take(&wrong, true).err(),
+            Some(refusal),
+            "at {byte}"
+        );
+    }
+}
+
+#[test]
+fn a_refusal_changes_nothing(rt: HostRuntime) -> Result<(), Fail> {
+    let page = Packer::new().finish();
+    let mut unpacker = Unpacker::new();
+    let Err(refusal) = unpacker.take(&page, false) else {
+        panic!(rt; "the mark is another");
+    };
+    assert_eq!(rt; refusal.at, 2);
+    let items = unpacker.take(&page, true)?;
+    assert!(rt; items.last());
+    Ok(())
+}
+
+#[test]
+fn a_page_before_the_last_is_full(rt: HostRuntime) {
+    let mut packer = Packer::new();
+    assert!(rt; packer.push(&letters(&rt, 132)).is_none());
+    let mut page = packer.finish();
+    page.0[2] = 0;
+    // 133 bytes are fewer than 374
+    assert!(rt;
+        matches!(
+            Unpacker::new().take(&page, false),
+            Err(BadPage { at: 4, .. })
+        )
+    );
+}
+
+#[test]
+fn the_places_begin_again_after_65536_pages(rt: HostRuntime) -> Result<(), Fail> {
+    let mut packer = Packer::new();
+    let mut unpacker = Unpacker::new();
+    let long = letters(&rt, 132);
+    // three lines fill a page, and the fourth begins the next
+    assert!(rt; packer.push(&long).is_none());
+    for place in 0..65_538u32 {
+        assert!(rt; packer.push(&long).is_none());
+        assert!(rt; packer.push(&long).is_none());
+        let page = packer.push(&long).expect(&rt, "the page is full");
+        assert_eq!(rt;
+            u32::from(page.0[0]) * 256 + u32::from(page.0[1]),
+            place % 65_536
+        );
+        let _ = unpacker.take(&page, false)?;
+    }
+    let _ = unpacker.take(&packer.finish(), true)?;
+    Ok(())
+}

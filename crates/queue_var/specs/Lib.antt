@@ -1,0 +1,4 @@
+pub mod Fifo
+pub mod Sides
+pub mod Turn
+pub mod HandsOver

@@ -1,0 +1,181 @@
+// A monitor with one slot.
+ghost use Rattle.std.specs.Prelude.{◌≡◌, ◌↔◌, ◌⊎◌, ℕ, ◌++◌, List, [], ◌∷◌, Bool, false, IsTrue};
+ghost use Rattle.solo_base.specs.declared.outcome.Side.{Side};
+ghost use Rattle.solo_base.specs.declared.outcome.Side.TheVariants.{Sender, Receiver};
+ghost use Rattle.queue_var.specs.declared.turn.Turn.TheVariants.{Free};
+ghost use Rattle.queue_var.specs.Turn.{handed};
+ghost use Rattle.queue_var.specs.Sides.{MayEnter, queue, nobody, stopped_by, has_stopped};
+ghost use Rattle.slot_buffer.specs.Slot.{StandsFor, put_answer, after_put, sent_with, take_answer, after_take, taken_with, after_stop};
+
+use crate::{Put, Take};
+use queue_var::Sides;
+use solo_base::{ProcNo, Side};
+use std::marker::Model;
+
+/// The one-slot buffer of Concurrent Pascal's book: a monitor between one sender and one receiver.
+///
+/// What was taken, and then what is inside, is what was put, in order. A sender waits only while the
+/// buffer is full, a receiver only while it is empty, and neither once a side has stopped.
+#[derive(Debug, Drop)]
+pub struct SlotBuffer<T: Send> {
+    slot: Option<T>,
+    sides: Sides,
+}
+
+impl<T: Send> Model for SlotBuffer<T> {
+    ghost use Rattle.std.specs.Prelude.{option_to_list};
+    ghost use Rattle.slot_buffer.specs.Slot.{Slot};
+
+    ghost Value = { Slot T };
+
+    ghost view = { λ b. record { inside = option_to_list b.slot; sides = b.sides } };
+}
+
+impl<T: Send> SlotBuffer<T> {
+    /// An empty buffer at which nobody waits and which nobody has stopped.
+    pub fn new() -> Self
+        ensures empty { result ≡ record { inside = []; sides = nobody } }
+        ensures history { StandsFor [] [] [] result }
+    {
+        SlotBuffer {
+            slot: None,
+            sides: Sides::new(),
+        }
+    }
+
+    /// Whether a process may enter: the turn is free, or handed to it.
+    pub fn admits(&self, p: ProcNo) -> bool
+        ensures { IsTrue result ↔ (self.now.sides.turn ≡ Free) ⊎ (handed self.now.sides.turn (queue self.now.sides) ≡ Some p) }
+    {
+        self.sides.admits(p)
+    }
+
+    /// The process to which the turn is handed.
+    pub fn handed(&self) -> Option<ProcNo>
+        ensures process { result ≡ handed self.now.sides.turn (queue self.now.sides) }
+        ensures free { (result ≡ None) ↔ (self.now.sides.turn ≡ Free) }
+    {
+        self.sides.handed()
+    }
+
+    /// The first side that stopped.
+    pub fn stopped_by(&self) -> Option<Side>
+        ensures { result ≡ stopped_by self.now.sides }
+    {
+        self.sides.stopped_by()
+    }
+
+    /// Puts an item in, if there is room and the receiver didn't stop first.
+    pub fn put(&mut self, p: ProcNo, item: T) -> Put<T>
+        requires may_enter { MayEnter self.old.sides Sender p }
+        requires not_stopped { has_stopped self.old.sides Sender ≡ false }
+        ensures answer { result ≡ put_answer self.old item }
+        ensures after { self.new ≡ after_put self.old p item result }
+        ensures history { (sent taken : List T) (stops : List Side) → StandsFor sent taken stops self.old → StandsFor (sent_with sent item result) taken stops self.new }
+    {
+        self.sides.enter(Side::Sender);
+        if self.sides.stopped_by() == Some(Side::Receiver) {
+            return Put::Stopped(item);
+        }
+        if self.slot.is_some() {
+            self.sides.delay(Side::Sender, p);
+            return Put::Delayed(item);
+        }
+        fill(&mut self.slot, item);
+        self.sides.cont(Side::Receiver);
+        Put::Done
+    }
+
+    /// Takes the item out, if there is one. What was put before a sender stopped is still taken.
+    pub fn take(&mut self, p: ProcNo) -> Take<T>
+        requires may_enter { MayEnter self.old.sides Receiver p }
+        requires not_stopped { has_stopped self.old.sides Receiver ≡ false }
+        ensures answer { result ≡ take_answer self.old }
+        ensures after { self.new ≡ after_take self.old p result }
+        ensures history { (sent taken : List T) (stops : List Side) → StandsFor sent taken stops self.old → StandsFor sent (taken_with taken result) stops self.new }
+    {
+        self.sides.enter(Side::Receiver);
+        if let Some(item) = self.slot.take() {
+            self.sides.cont(Side::Sender);
+            return Take::Item(item);
+        }
+        if self.sides.stopped_by() == Some(Side::Sender) {
+            return Take::Stopped;
+        }
+        self.sides.delay(Side::Receiver, p);
+        Take::Delayed
+    }
+
+    /// Stops a side for good, and lets the other side know if it waits.
+    pub fn stop(&mut self, side: Side)
+        requires free { self.old.sides.turn ≡ Free }
+        requires nobody_waits { queue self.old.sides side ≡ None }
+        ensures after { self.new ≡ after_stop self.old side }
+        ensures history { (sent taken : List T) (stops : List Side) → StandsFor sent taken stops self.old → StandsFor sent taken (stops ++ side ∷ []) self.new }
+    {
+        self.sides.stop(side);
+        self.sides.cont(match side {
+            Side::Sender => Side::Receiver,
+            Side::Receiver => Side::Sender,
+        });
+    }
+}
+
+/// Puts an item into a slot that is empty.
+fn fill<T>(slot: &mut Option<T>, item: T)
+    requires { slot.old ≡ None }
+    ensures { slot.new ≡ Some item }
+{
+    match slot.replace(item) {
+        None => {}
+        Some(_held) => unreachable!(),
+    }
+}
+
+#[cfg(test)]
+mod tests {
+    use super::*;
+    use crate::LineBuffer;
+
+    #[test]
+    fn a_full_buffer_delays_its_sender_until_the_take(rt: HostRuntime) {
+        let mut buffer: SlotBuffer<u8> = SlotBuffer::new();
+        assert_eq!(rt; buffer.put(1, 10), Put::Done);
+        assert_eq!(rt; buffer.put(1, 20), Put::Delayed(20));
+        assert_eq!(rt; buffer.take(2), Take::Item(10));
+        assert_eq!(rt; buffer.handed(), Some(1));
+        assert_eq!(rt; buffer.put(1, 20), Put::Done);
+        assert_eq!(rt; buffer.take(2), Take::Item(20));
+    }
+
+    #[test]
+    fn a_stop_of_the_sender_wakes_the_receiver_that_waits(rt: HostRuntime) {
+        let mut buffer = LineBuffer::new();
+        assert!(rt; matches!(buffer.take(2), Take::Delayed));
+        buffer.stop(Side::Sender);
+        assert!(rt; buffer.admits(2) && !buffer.admits(1));
+        assert!(rt; matches!(buffer.take(2), Take::Stopped));
+        assert_eq!(rt; buffer.stopped_by(), Some(Side::Sender));
+    }
+
+    #[test]
+    fn a_stop_of_the_receiver_wakes_the_sender_that_waits(rt: HostRuntime) {
+        let mut buffer: SlotBuffer<u8> = SlotBuffer::new();
+        assert_eq!(rt; buffer.put(1, 5), Put::Done);
+        assert_eq!(rt; buffer.put(1, 5), Put::Delayed(5));
+        buffer.stop(Side::Receiver);
+        assert_eq!(rt; buffer.handed(), Some(1));
+        assert_eq!(rt; buffer.put(1, 5), Put::Stopped(5));
+    }
+
+    #[test]
+    fn what_was_put_before_the_stop_is_still_taken(rt: HostRuntime) {
+        let mut buffer: SlotBuffer<u8> = SlotBuffer::new();
+        assert_eq!(rt; buffer.put(1, 10), Put::Done);
+        buffer.stop(Side::Sender);
+        assert_eq!(rt; buffer.take(2), Take::Item(10));
+        assert_eq!(rt; buffer.take(2), Take::Stopped);
+        buffer.stop(Side::Receiver);
+        assert_eq!(rt; buffer.stopped_by(), Some(Side::Sender));
+    }
+}

@@ -1,0 +1,96 @@
+//! The program `solo`: its words are a command, which runs over the standard streams.
+#![tactic(auto)]
+
+mod fault;
+mod streams;
+
+use fault::Fault;
+use solo_base::NoMemory;
+use solo_cli::{Finished, top};
+use solo_devices::{SureArea, SureSink, SureSource};
+use std::env;
+use std::io::{self, BufWriter};
+use std::process::ExitCode;
+use std::rt::Env;
+use streams::{ReaderSource, WriterSink};
+
+/// The pages of the file area and of a spool area, which no command uses yet.
+const FILE_PAGES: u16 = 4288;
+
+const SPOOL_PAGES: u16 = 1;
+
+fn main(rt: HostRuntime) -> ExitCode {
+    let ended = run(&rt).unwrap_or(Ended::without_memory());
+    if let Some(fault) = ended.fault {
+        let _ = rt.eprintln(fault);
+    }
+    ExitCode::from(ended.status)
+}
+
+/// How the program ends.
+#[derive(Drop)]
+struct Ended {
+    status: u8,
+    fault: Option<Fault>,
+}
+
+impl Ended {
+    fn with(status: u8, fault: Fault) -> Ended {
+        Ended {
+            status,
+            fault: Some(fault),
+        }
+    }
+
+    fn without_memory() -> Ended {
+        Ended::with(9, Fault::NoMemory)
+    }
+}
+
+/// Runs the command of the words over standard input and standard output.
+fn run(rt: &(impl Env + Input + Print + AllocGlobal)) -> Result<Ended, NoMemory> {
+    let Ok(words) = words(rt) else {
+        return Ok(Ended::with(1, Fault::Usage));
+    };
+    let Ok(writer) = BufWriter::new(rt.alloc(), io::writer(rt)) else {
+        return Err(NoMemory);
+    };
+    let Finished {
+        status,
+        cause,
+        deck: _,
+        keys: _,
+        mut paper,
+        console: _,
+        files: _,
+        input: _,
+        output: _,
+    } = top(
+        rt.alloc(),
+        &words,
+        ReaderSource::new(rt.reader()),
+        SureSource::new(Vec::new(rt.alloc()), 1),
+        WriterSink::new(writer),
+        SureSink::new(rt.alloc()),
+        SureArea::new(rt.alloc(), FILE_PAGES)?,
+        SureArea::new(rt.alloc(), SPOOL_PAGES)?,
+        SureArea::new(rt.alloc(), SPOOL_PAGES)?,
+    );
+    // What was printed so far goes out whatever the status, and the lowest status decides.
+    if paper.flush().is_err() && (status == 0 || status > 4) {
+        return Ok(Ended::with(4, Fault::Print));
+    }
+    Ok(Ended {
+        status,
+        fault: cause.map(Fault::of),
+    })
+}
+
+/// The words of the command line behind the program's name.
+fn words(rt: &(impl Env + AllocGlobal)) -> io::Result<Vec<String>> {
+    let mut words = Vec::new(rt.alloc());
+    for word in env::args(rt)?.skip(1) {
+        words.push(word)?;
+    }
+    Ok(words)
+}

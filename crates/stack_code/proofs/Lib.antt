@@ -1,0 +1,10 @@
+pub mod Least
+pub mod Rows
+pub mod Positions
+pub mod Regions
+pub mod Reading
+pub mod Writing
+pub mod Pushed
+pub mod StraightLine
+pub mod Good
+pub mod Short

@@ -1,0 +1,106 @@
+ghost use Rattle.std.specs.Prelude.{◌≡◌, ◌<◌, ◌≤◌, ◌^◌, length};
+ghost use Rattle.stack_code.specs.CodeLists.{IsCode};
+ghost use Rattle.stack_code.specs.Rules.{starts_well, routine_is_good, word_fits, array_fits, call_array_fits, bounds_fit, jump_fits, operands_fit, is_target, height_fits};
+
+use crate::interface::call_row;
+use crate::kinds::{is_jump, is_tick, leaves_nothing, pops, pushes};
+use crate::places::{instr_at, own_words, program_words, routine_at, routine_of};
+use crate::{Code, Instr, Op};
+
+/// Whether no rule on a routine is broken.
+pub(crate) fn routine_is_good(code: &Code, k: usize) -> bool
+    ensures { result ≡ routine_is_good code.now k }
+{
+    let routine = routine_at(code, k);
+    starts_well(code, k)
+        && (routine.start as usize) < code.instrs().len()
+        && routine.params <= 16
+        && u16::from(routine.params) + u16::from(routine.function) <= routine.words
+        && routine.words <= 4352
+        && routine.height <= 1536
+}
+
+fn starts_well(code: &Code, k: usize) -> bool
+    ensures { result ≡ starts_well code.now k }
+{
+    let routine = routine_at(code, k);
+    if k == 0 {
+        routine.start == 0 && routine.params == 0 && !routine.function
+    } else {
+        routine_at(code, k - 1).start < routine.start
+    }
+}
+
+/// Whether the operands of the instruction at a place are within their bounds.
+pub(crate) fn operands_fit(code: &Code, place: usize, instr: Instr) -> bool
+    ensures { result ≡ operands_fit code.now place instr.op instr.a instr.b }
+{
+    let Instr { op, a, b } = instr;
+    match op {
+        Op::LoadG | Op::StoreG => a < program_words(code),
+        Op::LoadL | Op::StoreL => a < own_words(code, place),
+        Op::LoadGX | Op::StoreGX => array_fits(program_words(code), a, b),
+        Op::LoadLX | Op::StoreLX => array_fits(own_words(code, place), a, b),
+        Op::Index => bounds_fit(a, b),
+        Op::Jump | Op::JumpF => jump_fits(code, place, a as usize),
+        Op::Call => 1 <= a && (a as usize) < code.routines().len(),
+        Op::Sys => call_row(a).is_some_and(|row| row.array == 0),
+        Op::SysG => call_array_fits(program_words(code), a, b),
+        Op::SysL => call_array_fits(own_words(code, place), a, b),
+        Op::Return => 0 < routine_of(code, place),
+        Op::Halt => routine_of(code, place) == 0,
+        _ => true,
+    }
+}
+
+fn array_fits(words: u16, a: u16, b: u16) -> bool
+    ensures { result ≡ array_fits words a b }
+{
+    1 <= b && b <= 4096 && u32::from(a) + u32::from(b) <= u32::from(words)
+}
+
+fn call_array_fits(words: u16, a: u16, b: u16) -> bool
+    ensures { result ≡ call_array_fits words a b }
+{
+    call_row(a).is_some_and(|row| {
+        1 <= row.array && u32::from(b) + u32::from(row.array) <= u32::from(words)
+    })
+}
+
+fn bounds_fit(a: u16, b: u16) -> bool
+    ensures { result ≡ bounds_fit a b }
+{
+    let low = i32::from(a.cast_signed());
+    let high = i32::from(b.cast_signed());
+    low <= high && high - low <= 4095
+}
+
+fn jump_fits(code: &Code, place: usize, a: usize) -> bool
+    ensures { result ≡ jump_fits code.now place a }
+{
+    a < code.instrs().len()
+        && routine_of(code, a) == routine_of(code, place)
+        && (place < a || is_tick(instr_at(code, a).op))
+}
+
+/// Whether a jump leads to the place.
+pub(crate) fn is_target(code: &Code, place: usize) -> bool
+    ensures { result ≡ is_target code.now place }
+{
+    code.instrs()
+        .iter()
+        .any(|instr| is_jump(instr.op) && instr.a as usize == place)
+}
+
+/// Whether the operand stack, of this height before the instruction at a place, has what it needs.
+pub(crate) fn height_fits(code: &Code, place: usize, instr: Instr, height: usize) -> bool
+    requires { height < 2 ^ 32 }
+    ensures { result ≡ height_fits code.now place instr.op instr.a height }
+{
+    let popped = pops(code, instr.op, instr.a);
+    let left = height.saturating_sub(popped);
+    popped <= height
+        && left + pushes(code, instr.op, instr.a)
+            <= routine_at(code, routine_of(code, place)).height as usize
+        && (!leaves_nothing(instr.op) || left == 0)
+}

@@ -1,0 +1,250 @@
+use crate::*;
+use std::alloc::Global;
+use std::test::*;
+
+// A code file by hand: routines are start, parameters, function's mark, words, height, and
+// instructions are number, a, b.
+fn code_file(alloc: Global, routines: &[[u16; 5]], instrs: &[[u16; 3]]) -> Result<Vec<u8>, Fail> {
+    let mut bytes = Vec::new(alloc);
+    bytes.extend_from_slice(b"SEQCODE1")?;
+    put_number(&mut bytes, (routines.len() % 65536) as u16)?;
+    put_number(&mut bytes, (instrs.len() % 65536) as u16)?;
+    for [start, params, function, words, height] in routines {
+        put_number(&mut bytes, *start)?;
+        bytes.push((params % 256) as u8)?;
+        bytes.push((function % 256) as u8)?;
+        put_number(&mut bytes, *words)?;
+        put_number(&mut bytes, *height)?;
+    }
+    for [op, a, b] in instrs {
+        bytes.push((op % 256) as u8)?;
+        put_number(&mut bytes, *a)?;
+        put_number(&mut bytes, *b)?;
+    }
+    for _ in 0..512 {
+        if bytes.len() % 512 != 0 {
+            bytes.push(0)?;
+        }
+    }
+    Ok(bytes)
+}
+
+fn put_number(bytes: &mut Vec<u8>, number: u16) -> Result<(), Fail> {
+    bytes.push((number / 256) as u8)?;
+    bytes.push((number % 256) as u8)?;
+    Ok(())
+}
+
+// The first bytes of a file.
+fn front(bytes: &[u8], len: usize) -> &[u8] {
+    if len <= bytes.len() {
+        &bytes[..len]
+    } else {
+        bytes
+    }
+}
+
+// The place at which the file is refused, by decode or by verify.
+fn refused_at(alloc: Global, bytes: &[u8]) -> Option<u32> {
+    match decode(alloc, bytes) {
+        Err(CodeFault::BadCode { at }) => Some(at),
+        Err(CodeFault::NoMemory) => None,
+        Ok(code) => match verify(code) {
+            Err(CodeFault::BadCode { at }) => Some(at),
+            Err(CodeFault::NoMemory) | Ok(_) => None,
+        },
+    }
+}
+
+// BEGIN WRITE('A') END.
+const WRITE_A: [[u16; 3]; 4] = [[29, 0, 1], [0, 65, 0], [32, 1, 0], [35, 0, 0]];
+
+#[test]
+fn the_code_of_a_write_has_its_bytes_and_its_listing(rt: HostRuntime) -> Result<(), Fail> {
+    let bytes = code_file(rt.alloc(), &[[0, 0, 0, 0, 1]], &WRITE_A)?;
+    assert_eq!(rt; bytes.len(), 512);
+    assert_eq!(rt;
+        front(&bytes, 40),
+        [
+            0x53, 0x45, 0x51, 0x43, 0x4F, 0x44, 0x45, 0x31, 0x00, 0x01, 0x00, 0x04, 0x00, 0x00,
+            0x00, 0x00, 0x00, 0x00, 0x00, 0x01, 0x1D, 0x00, 0x00, 0x00, 0x01, 0x00, 0x00, 0x41,
+            0x00, 0x00, 0x20, 0x00, 0x01, 0x00, 0x00, 0x23, 0x00, 0x00, 0x00, 0x00,
+        ]
+        .as_slice()
+    );
+    let code = decode(rt.alloc(), &bytes).ok().ok_or("the bytes are code")?;
+    let again = encode(rt.alloc(), &code).ok().ok_or("there is memory")?;
+    assert_eq!(rt; again.as_slice(), bytes.as_slice());
+    let lines = listing(rt.alloc(), &code).ok().ok_or("there is memory")?;
+    assert_eq!(rt; lines.len(), 4);
+    assert_eq!(rt; lines.get(0).bytes(), b"TICK 0 1".as_slice());
+    assert_eq!(rt; lines.get(1).bytes(), b"PUSH 65 0".as_slice());
+    assert_eq!(rt; lines.get(2).bytes(), b"SYS 1 0".as_slice());
+    assert_eq!(rt; lines.get(3).bytes(), b"HALT 0 0".as_slice());
+    let verified = verify(code).ok().ok_or("the code is good")?;
+    assert_eq!(rt; verified.code().instrs().len(), 4);
+    assert_eq!(rt; verified.code().routines().len(), 1);
+    Ok(())
+}
+
+#[test]
+fn a_file_is_refused_at_its_least_wrong_byte(rt: HostRuntime) -> Result<(), Fail> {
+    // BEGIN END.
+    let mut bytes = code_file(rt.alloc(), &[[0, 0, 0, 0, 0]], &[[35, 0, 0]])?;
+    assert_eq!(rt; bytes.len(), 512);
+    assert_eq!(rt; refused_at(rt.alloc(), &bytes), None);
+    assert_eq!(rt; refused_at(rt.alloc(), front(&bytes, 511)), Some(511));
+    assert_eq!(rt; refused_at(rt.alloc(), &[]), Some(0));
+    for (place, byte, at) in [
+        (0, 0x73, 0), // a wrong letter
+        (7, 0x32, 7),
+        (8, 0x01, 8), // 257 routines
+        (9, 0x00, 8), // no routine
+        (10, 0x20, 10), // 8,193 instructions
+        (11, 0x00, 10), // no instruction
+        (15, 0x02, 15), // a function's mark of 2
+        (20, 0x26, 20), // operation 38
+        (22, 0x01, 22), // an unused operand
+        (24, 0x01, 24),
+        (25, 0x01, 25), // the first byte of the padding
+        (30, 0x01, 30),
+        (511, 0x01, 511),
+    ] {
+        if place < bytes.len() {
+            let right = bytes[place];
+            bytes[place] = byte;
+            assert_eq!(rt;
+                refused_at(rt.alloc(), &bytes),
+                Some(at),
+                "byte {place} is {byte}"
+            );
+            if place < bytes.len() {
+                bytes[place] = right;
+            }
+        }
+    }
+    bytes.push(0)?;
+    assert_eq!(rt; refused_at(rt.alloc(), &bytes), Some(512));
+    Ok(())
+}
+
+#[test]
+fn code_is_refused_at_its_first_broken_record(rt: HostRuntime) -> Result<(), Fail> {
+    let one: &[[u16; 5]] = &[[0, 0, 0, 2, 2]];
+    let two: &[[u16; 5]] = &[[0, 0, 0, 2, 2], [3, 1, 1, 2, 1]];
+    let cases: &[(&[[u16; 5]], &[[u16; 3]], Option<u32>)] = &[
+        (one, &[[29, 0, 1], [27, 0, 0]], None),
+        // a jump back to a PUSH, a jump to itself, a jump out of the code
+        (
+            one,
+            &[[29, 0, 1], [0, 65, 0], [32, 1, 0], [27, 1, 0]],
+            Some(35),
+        ),
+        (one, &[[27, 0, 0]], Some(20)),
+        (one, &[[29, 0, 1], [27, 2, 0]], Some(25)),
+        // the last instruction is a TICK
+        (one, &[[29, 0, 1]], Some(20)),
+        // RETURN in the program
+        (one, &[[31, 0, 0]], Some(20)),
+        // a word past the frame, an array past it, an array of no words
+        (one, &[[1, 2, 0], [3, 0, 0], [35, 0, 0]], Some(20)),
+        (
+            one,
+            &[[0, 0, 0], [5, 1, 2], [3, 0, 0], [35, 0, 0]],
+            Some(25),
+        ),
+        (
+            one,
+            &[[0, 0, 0], [5, 1, 0], [3, 0, 0], [35, 0, 0]],
+            Some(25),
+        ),
+        // bounds -1 to 0 are right, 0 to -1 aren't, nor are 0 to 4096
+        (
+            one,
+            &[[0, 0, 0], [9, 65535, 0], [3, 0, 0], [35, 0, 0]],
+            None,
+        ),
+        (
+            one,
+            &[[0, 0, 0], [9, 0, 65535], [3, 0, 0], [35, 0, 0]],
+            Some(25),
+        ),
+        (
+            one,
+            &[[0, 0, 0], [9, 0, 4096], [3, 0, 0], [35, 0, 0]],
+            Some(25),
+        ),
+        // CHR finds nothing, PUSH passes the height, HALT leaves a word
+        (one, &[[26, 0, 0], [35, 0, 0]], Some(20)),
+        (
+            one,
+            &[[0, 1, 0], [0, 2, 0], [0, 3, 0], [35, 0, 0]],
+            Some(30),
+        ),
+        (one, &[[0, 1, 0], [35, 0, 0]], Some(25)),
+        // a jump's target at which a word is on the stack stands before the jump
+        (
+            one,
+            &[[29, 0, 1], [0, 1, 0], [29, 0, 2], [3, 0, 0], [27, 2, 0]],
+            Some(30),
+        ),
+        // an interface row with an array by SYS, one without by SYSG
+        (one, &[[32, 10, 0], [35, 0, 0]], Some(20)),
+        (one, &[[33, 0, 0], [35, 0, 0]], Some(20)),
+        // a program that ends in a CALL, and one that stores the function's result
+        (
+            two,
+            &[[29, 0, 1], [0, 7, 0], [30, 1, 0], [35, 0, 0], [31, 0, 0]],
+            Some(38),
+        ),
+        (
+            &[[0, 0, 0, 2, 2], [5, 1, 1, 2, 1]],
+            &[
+                [29, 0, 1],
+                [0, 7, 0],
+                [30, 1, 0],
+                [3, 0, 0],
+                [35, 0, 0],
+                [31, 0, 0],
+            ],
+            None,
+        ),
+        // a CALL without a TICK, and one with a jump's target before it
+        (
+            &[[0, 0, 0, 2, 2], [4, 1, 1, 2, 1]],
+            &[[0, 7, 0], [30, 1, 0], [3, 0, 0], [35, 0, 0], [31, 0, 0]],
+            Some(33),
+        ),
+        (
+            &[[0, 0, 0, 2, 2], [5, 0, 0, 2, 1]],
+            &[
+                [29, 0, 1],
+                [0, 0, 0],
+                [28, 3, 0],
+                [30, 1, 0],
+                [35, 0, 0],
+                [31, 0, 0],
+            ],
+            Some(43),
+        ),
+        // HALT in a routine, and routines that don't rise
+        (
+            &[[0, 0, 0, 2, 2], [1, 0, 0, 2, 1]],
+            &[[35, 0, 0], [35, 0, 0]],
+            Some(33),
+        ),
+        (
+            &[[0, 0, 0, 2, 2], [0, 0, 0, 2, 1]],
+            &[[35, 0, 0], [31, 0, 0]],
+            Some(20),
+        ),
+        (&[[0, 1, 0, 2, 2]], &[[35, 0, 0]], Some(12)),
+        (&[[0, 0, 0, 4353, 2]], &[[35, 0, 0]], Some(12)),
+        (&[[0, 0, 0, 2, 1537]], &[[35, 0, 0]], Some(12)),
+    ];
+    for (routines, instrs, at) in cases {
+        let bytes = code_file(rt.alloc(), routines, instrs)?;
+        assert_eq!(rt; refused_at(rt.alloc(), &bytes), *at, "{instrs:?}");
+    }
+    Ok(())
+}
