@@ -3,7 +3,7 @@ use Rattle.std.proofs.Common.{◌≡◌, ◌⊎◌, ℕ, ◌+◌, ◌<◌, ◌�
 use Rattle.std.specs.Prelude.{◌↔◌}
 use Rattle.std.proofs.lemmas.List.{append-nil}
 use Rattle.solo_base.specs.declared.item.Item.{Item}
-use Rattle.solo_devices.specs.CardUnit.{Held, items_ahead, item_of, work_ahead, byte_limit, GivesNext, TakesItem, IsAllTaken}
+use Rattle.solo_devices.specs.CardUnit.{Held, bytes_total, items_ahead, item_of, work_ahead, byte_limit, GivesNext, TakesItem, IsAllTaken}
 use Rattle.solo_devices.specs.declared.card_read.CardRead.{CardRead}
 use Rattle.solo_devices.specs.declared.card_read.CardRead.TheVariants.{End, Failed, Limit}
 use Rattle.net_core.specs.Page.{Page}
@@ -16,6 +16,7 @@ pub record HasRead {S : Type 0} (left : S → Option (List ℕ)) (taken faults :
   pub not_last : page.last ≡ false
   pub few : length page.items ≤ 6
   pub counts : faults old.source ≤ faults now.source
+  pub total : bytes_total (taken now.source) (left now.source) ≡ bytes_total (taken old.source) (left old.source)
   pub within : 0 < length page.items → byte_limit < taken now.source → ⊥
   pub falls : work_ahead (taken now.source) now.pending now.ended + length page.items ≤ work_ahead (taken old.source) old.pending old.ended
 
@@ -27,6 +28,7 @@ module _ {S : Type 0} (left : S → Option (List ℕ)) (taken faults : S → ℕ
     not_last = unmarked;
     few = omega (arith, ap length empty);
     counts = omega arith;
+    total = refl;
     within = λ some over. omega (arith, ap length empty, some);
     falls = omega (arith, ap length empty);
   }
@@ -34,10 +36,11 @@ module _ {S : Type 0} (left : S → Option (List ℕ)) (taken faults : S → ℕ
   pub read_more : (old now new : Held S) (page more : Page) (item : Item) (answer : CardRead) → HasRead left taken faults old now page → length page.items < 6 →
       item_of answer ≡ item ∷ [] → more ≡ record page { items = page.items ++ item ∷ [] } →
       GivesNext (items_ahead (left now.source) now.pending) (items_ahead (left new.source) new.pending) answer →
-      faults now.source ≤ faults new.source → (byte_limit < taken new.source → answer ≡ Limit) → new.live ≡ true →
+      faults now.source ≤ faults new.source →
+      bytes_total (taken new.source) (left new.source) ≡ bytes_total (taken now.source) (left now.source) → (byte_limit < taken new.source → answer ≡ Limit) → new.live ≡ true →
       (0 < length (item_of answer) → work_ahead (taken new.source) new.pending new.ended < work_ahead (taken now.source) now.pending now.ended) →
       HasRead left taken faults old new more
-  read_more old now new page more item answer has room is page_is gives counts limit live falls =
+  read_more old now new page more item answer has room is page_is gives counts total limit live falls =
       let long : length more.items ≡ length page.items + 1 = ap (λ p. length p.items) page_is ∙ length-append page.items (item ∷ []) in
       let one : length (item_of answer) ≡ 1 = ap length is in
       record {
@@ -56,6 +59,7 @@ module _ {S : Type 0} (left : S → Option (List ℕ)) (taken faults : S → ℕ
         not_last = ap (λ p. p.last) page_is ∙ has.not_last;
         few = omega (arith, long, room);
         counts = omega (arith, has.counts, counts);
+        total = total ∙ has.total;
         within = λ some over. (let none : [] ≡ item ∷ [] = sym (ap item_of (limit over)) ∙ is in cc);
         falls = omega (arith, has.falls, long, falls (omega (arith, one)));
       }

@@ -1,7 +1,7 @@
 ghost use Rattle.std.specs.Prelude.{◌≡◌, ◌⊎◌, ◌↔◌, ◌<◌, ◌≤◌, List, Some, true, false, OnOk, IfOk, IfErr, IsErrOf};
 ghost use Rattle.solo_base.specs.declared.item.Item.{Item as ItemOf};
 ghost use Rattle.solo_devices.specs.Count.{Rose};
-ghost use Rattle.solo_devices.specs.CardUnit.{items_ahead, work_ahead, byte_limit, IsAllTaken};
+ghost use Rattle.solo_devices.specs.CardUnit.{bytes_total, items_ahead, work_ahead, byte_limit, IsAllTaken};
 ghost use Rattle.net_core.specs.Turns.{TakesPage};
 
 use crate::PlainPage;
@@ -21,6 +21,8 @@ pub fn read_page<S: Source>(deck: &mut CardUnit<S>) -> Result<PlainPage, Cause>
         < work_ahead (S.taken deck.old.source) deck.old.pending deck.old.ended) }
 
     ensures counts { S.faults deck.old.source ≤ S.faults deck.new.source }
+    ensures total { bytes_total (S.taken deck.new.source) (S.left deck.new.source)
+        ≡ bytes_total (S.taken deck.old.source) (S.left deck.old.source) }
     ensures failed { IsErrOf result Cause.ReadFault → Rose (S.faults deck.old.source) (S.faults deck.new.source) }
     ensures limit { IsErrOf result Cause.DeckLimit ↔ (byte_limit < S.taken deck.new.source) }
     ensures known { IfErr result (λ cause. (cause ≡ Cause.ReadFault) ⊎ (cause ≡ Cause.DeckLimit)) }

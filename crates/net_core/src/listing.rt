@@ -2,7 +2,7 @@ ghost use Rattle.std.specs.Prelude.{◌≡◌, ◌⊎◌, ◌↔◌, ◌<◌, �
 ghost use Rattle.solo_base.specs.Text.{text};
 ghost use Rattle.solo_devices.specs.Count.{Rose};
 ghost use Rattle.solo_base.specs.declared.item.Item.{Item};
-ghost use Rattle.solo_devices.specs.CardUnit.{byte_limit, fresh_unit, items_ahead, work_ahead, IsAllTaken};
+ghost use Rattle.solo_devices.specs.CardUnit.{byte_limit, bytes_total, fresh_unit, items_ahead, work_ahead, IsAllTaken};
 ghost use Rattle.solo_devices.specs.PrinterUnit.{Gains, fresh_printer};
 ghost use Rattle.deck_format.specs.JobReader.{given};
 ghost use Rattle.batch_job.specs.Report.{report};
@@ -42,6 +42,10 @@ pub fn run_lists<S: Source, K: Sink>(
         Gains (K.given paper.sink) (K.given result.paper.sink) (text (one_thread_output bytes)) (result.cause ≡ None) }
     ensures all_taken { result.cause ≡ None → IsAllTaken (S.left result.deck.source) }
 
+    // What a deck that tells its bytes had in all is what was taken of it and what is left.
+    ensures total { bytes_total (S.taken result.deck.source) (S.left result.deck.source)
+        ≡ bytes_total (S.taken deck.source) (S.left deck.source) }
+
     // Each fault has its cause.
     ensures read { result.cause ≡ Some Cause.ReadFault → Rose (S.faults deck.source) (S.faults result.deck.source) }
     ensures print { result.cause ≡ Some Cause.PrintFault → Rose (K.faults paper.sink) (K.faults result.paper.sink) }
@@ -65,6 +69,8 @@ fn run<S: Source, K: Sink>(
     ensures output { (bytes : List ℕ) → S.left deck.old.source ≡ Some bytes →
         Gains (K.given paper.old.sink) (K.given paper.new.sink) (text (one_thread_output bytes)) (IsOk result) }
     ensures all_taken { OnOk result (IsAllTaken (S.left deck.new.source)) }
+    ensures total { bytes_total (S.taken deck.new.source) (S.left deck.new.source)
+        ≡ bytes_total (S.taken deck.old.source) (S.left deck.old.source) }
     ensures read { IsErrOf result Cause.ReadFault → Rose (S.faults deck.old.source) (S.faults deck.new.source) }
     ensures print { IsErrOf result Cause.PrintFault → Rose (K.faults paper.old.sink) (K.faults paper.new.sink) }
     ensures limit { IsErrOf result Cause.DeckLimit ↔ (byte_limit < S.taken deck.new.source) }
@@ -100,6 +106,8 @@ fn take_turns<S: Source, K: Sink>(
     ensures falls { result ≡ Ok false →
         work_ahead (S.taken deck.new.source) deck.new.pending deck.new.ended
         < work_ahead (S.taken deck.old.source) deck.old.pending deck.old.ended }
+    ensures total { bytes_total (S.taken deck.new.source) (S.left deck.new.source)
+        ≡ bytes_total (S.taken deck.old.source) (S.left deck.old.source) }
     ensures counts { (S.faults deck.old.source ≤ S.faults deck.new.source) × (K.faults paper.old.sink ≤ K.faults paper.new.sink) }
     ensures read { IsErrOf result Cause.ReadFault → Rose (S.faults deck.old.source) (S.faults deck.new.source) }
     ensures print { IsErrOf result Cause.PrintFault → Rose (K.faults paper.old.sink) (K.faults paper.new.sink) }

@@ -9,7 +9,7 @@ use Rattle.solo_base.specs.declared.item.Item.{Item}
 use Rattle.solo_devices.specs.Count.{Rose, raised}
 use Rattle.solo_devices.specs.Source.{TakesFrom, TakesFirst, CountsFaults}
 use Rattle.solo_devices.specs.declared.source.Took.TheVariants as took
-use Rattle.solo_devices.specs.CardUnit.{IsPartial, items_ahead, item_of, byte_limit, GivesNext, TakesItem, IsAllTaken, StandsFor}
+use Rattle.solo_devices.specs.CardUnit.{IsPartial, bytes_total, items_ahead, item_of, byte_limit, GivesNext, TakesItem, IsAllTaken, StandsFor}
 use Rattle.solo_devices.specs.declared.card_read.CardRead.{CardRead}
 use Rattle.solo_devices.specs.declared.card_read.CardRead.TheVariants.{End, Failed, Limit}
 use Rattle.solo_devices.specs.declared.reader.Reader.{Reader}
@@ -67,6 +67,16 @@ refilled_items (Some left) now n piece pending kept takes same =
     ap (λ taken. (kept ++ taken) ++ drop n left) first.piece_begins ∙ append_assoc kept (take n left) (drop n left) ∙ ap (λ more. kept ++ more) (take-append-drop n left) in
     rw first.rest (ap Some (ap cards all ∙ same left))
 
+-- the bytes of a piece are taken and no longer left
+pub refilled_total : (before now : Option (List ℕ)) (taken n : ℕ) (piece : List ℕ) → TakesFrom before now (took.Bytes n) piece →
+    bytes_total (taken + n) now ≡ bytes_total taken before
+refilled_total None now taken n piece takes = rw (takes.untold refl) refl
+refilled_total (Some left) now taken n piece takes =
+    let first : TakesFirst n left now piece = takes.told left refl in
+    let parts : length (take n left) + length (drop n left) ≡ length left = sym (length-append (take n left) (drop n left)) ∙ ap length (take-append-drop n left) in
+    let few : length (take n left) ≡ n = length-take-le n left first.there in
+    rw first.rest (ap Some (omega (arith, parts, few)))
+
 -- where no bytes came, none are left
 pub all_taken : (before now : Option (List ℕ)) (n : ℕ) (piece : List ℕ) → TakesFrom before now (took.Bytes n) piece → 0 < length piece → n ≡ 0 → IsAllTaken now
 all_taken None now n piece takes some none rest is = let no : None ≡ Some rest = sym (takes.untold refl) ∙ is in cc
@@ -105,6 +115,7 @@ module _ {S : Type 0} (left : S → Option (List ℕ)) (taken faults : S → ℕ
           most = omega arith;
           at_end = λ ended. all_taken (left old.source) (left source) n piece takes room (ended_at n ended);
         };
+        total = refilled_total (left old.source) (left source) old.taken n piece takes;
         items = rw is (refilled_items (left old.source) (left source) n piece old.pending kept takes same);
         cause = cause;
         failed = λ failed. absurd cc;
@@ -119,6 +130,7 @@ module _ {S : Type 0} (left : S → Option (List ℕ)) (taken faults : S → ℕ
   waited_none reader is within = record {
     reader = is;
     within = within;
+    total = refl;
     items = refl;
     later = omega arith;
     falls = omega arith;
@@ -132,6 +144,7 @@ module _ {S : Type 0} (left : S → Option (List ℕ)) (taken faults : S → ℕ
   waited_more old now new n waited partial going refills within = record {
     reader = refills.reader;
     within = within;
+    total = refills.total ∙ waited.total;
     items = refills.items ∙ waited.items;
     later = omega (arith, waited.later, refills.cause.later);
     falls = omega (arith, waited.falls, refills.falls n refl);
@@ -147,6 +160,7 @@ module _ {S : Type 0} (left : S → Option (List ℕ)) (taken faults : S → ℕ
       IsRead left taken faults old (record now { pending = pending }) answer
   read_line old now pending item answer waited is step shorter = record {
     reader = record { taken_is = waited.reader.taken_is; most = waited.reader.most; at_end = waited.reader.at_end };
+    total = waited.total;
     items = subst (λ before. GivesNext before (items_ahead (left now.source) pending) answer) waited.items (next_item (left now.source) now.pending pending item answer is step);
     later = waited.later;
     failed = λ failed. let none : [] ≡ item ∷ [] = sym (ap item_of failed) ∙ is in cc;
@@ -166,6 +180,7 @@ module _ {S : Type 0} (left : S → Option (List ℕ)) (taken faults : S → ℕ
       IsRead left taken faults old (record now { pending = pending }) answer
   read_last old now pending answer waited partial ended items empty end not_failed not_limit = record {
     reader = record { taken_is = waited.reader.taken_is; most = waited.reader.most; at_end = waited.reader.at_end };
+    total = waited.total;
     items =
         subst (λ before. GivesNext before (items_ahead (left now.source) pending) answer) waited.items
         (subst (λ p. GivesNext (items_ahead (left now.source) now.pending) (items_ahead (left now.source) p) answer) (sym empty)
@@ -195,6 +210,7 @@ module _ {S : Type 0} (left : S → Option (List ℕ)) (taken faults : S → ℕ
       Refills left taken faults now new took.Failed → IsRead left taken faults old new Failed
   read_failed old now new waited partial going refills = record {
     reader = refills.reader;
+    total = refills.total ∙ waited.total;
     items = no_item (items_ahead (left old.source) old.pending) (items_ahead (left new.source) new.pending) Failed (refills.items ∙ waited.items) refl (λ e. cc);
     later = omega (arith, waited.later, refills.cause.later);
     failed = λ failed. rose_since (faults old.source) (faults now.source) (faults new.source) waited.later (refills.cause.failed refl);
@@ -210,6 +226,7 @@ module _ {S : Type 0} (left : S → Option (List ℕ)) (taken faults : S → ℕ
       Refills left taken faults now new (took.Bytes n) → byte_limit < new.taken → IsRead left taken faults old new Limit
   read_limit old now new n waited partial going refills over = record {
     reader = refills.reader;
+    total = refills.total ∙ waited.total;
     items = no_item (items_ahead (left old.source) old.pending) (items_ahead (left new.source) new.pending) Limit (refills.items ∙ waited.items) refl (λ e. cc);
     later = omega (arith, waited.later, refills.cause.later);
     failed = λ failed. absurd cc;

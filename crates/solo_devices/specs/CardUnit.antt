@@ -36,6 +36,10 @@ byte_limit = 16777216
 abbrev pub items_ahead : Option (List ℕ) → List ℕ → Option (List Item)
 items_ahead left pending = option_map (λ rest. cards (pending ++ rest)) left
 
+-- how many bytes a source that tells them had in all: those taken and those left
+abbrev pub bytes_total : ℕ → Option (List ℕ) → Option ℕ
+bytes_total taken left = option_map (λ rest. taken + length rest) left
+
 -- the item of an answer
 abbrev pub item_of : CardRead → List Item
 item_of (read.Card line) = Line line ∷ []

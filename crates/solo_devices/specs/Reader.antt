@@ -4,7 +4,7 @@ use Rattle.solo_devices.specs.Count.{Rose}
 use Rattle.solo_devices.specs.Source.{CountsFaults}
 use Rattle.solo_devices.specs.declared.source.Took.{Took}
 use Rattle.solo_devices.specs.declared.source.Took.TheVariants as took
-use Rattle.solo_devices.specs.CardUnit.{IsPartial, items_ahead, item_of, work_ahead, byte_limit, GivesNext, IsAllTaken}
+use Rattle.solo_devices.specs.CardUnit.{IsPartial, bytes_total, items_ahead, item_of, work_ahead, byte_limit, GivesNext, IsAllTaken}
 use Rattle.solo_devices.specs.declared.card_read.CardRead.{CardRead}
 use Rattle.solo_devices.specs.declared.card_read.CardRead.TheVariants.{End, Failed, Limit}
 use Rattle.solo_devices.specs.declared.reader.Reader.{Reader}
@@ -22,6 +22,7 @@ work reader = work_ahead reader.taken reader.pending reader.ended
 pub record HasWaited {S : Type 0} (left : S → Option (List ℕ)) (taken faults : S → ℕ) (old now : Reader S) : Type 0 where
   pub reader : IsReader left taken now
   pub within : now.taken ≤ byte_limit
+  pub total : bytes_total now.taken (left now.source) ≡ bytes_total old.taken (left old.source)
   pub items : items_ahead (left now.source) now.pending ≡ items_ahead (left old.source) old.pending
   pub later : faults old.source ≤ faults now.source
   pub falls : work now ≤ work old
@@ -31,6 +32,7 @@ pub record HasWaited {S : Type 0} (left : S → Option (List ℕ)) (taken faults
 -- one read
 pub record IsRead {S : Type 0} (left : S → Option (List ℕ)) (taken faults : S → ℕ) (old new : Reader S) (answer : CardRead) : Type 0 where
   pub reader : IsReader left taken new
+  pub total : bytes_total new.taken (left new.source) ≡ bytes_total old.taken (left old.source)
   pub items : GivesNext (items_ahead (left old.source) old.pending) (items_ahead (left new.source) new.pending) answer
   pub later : faults old.source ≤ faults new.source
   pub failed : answer ≡ Failed → Rose (faults old.source) (faults new.source)
@@ -44,6 +46,7 @@ pub record IsRead {S : Type 0} (left : S → Option (List ℕ)) (taken faults : 
 -- one call of the source
 pub record Refills {S : Type 0} (left : S → Option (List ℕ)) (taken faults : S → ℕ) (old new : Reader S) (answer : Took) : Type 0 where
   pub reader : IsReader left taken new
+  pub total : bytes_total new.taken (left new.source) ≡ bytes_total old.taken (left old.source)
   pub items : items_ahead (left new.source) new.pending ≡ items_ahead (left old.source) old.pending
   pub cause : CountsFaults (faults old.source) (faults new.source) answer
   pub failed : answer ≡ took.Failed → new.taken ≡ old.taken

@@ -1,7 +1,7 @@
 ghost use Rattle.std.specs.Prelude.{◌≡◌, ◌≢◌, ◌<◌, ◌≤◌, ◌↔◌, ℕ, List, [], ◌++◌, length, true};
 ghost use Rattle.solo_base.specs.declared.item.Item.{Item};
 ghost use Rattle.solo_devices.specs.Count.{Rose};
-ghost use Rattle.solo_devices.specs.CardUnit.{IsPartial, StandsFor, GivesNext, IsAllTaken, items_ahead, item_of, byte_limit, work_ahead, fresh_unit};
+ghost use Rattle.solo_devices.specs.CardUnit.{IsPartial, StandsFor, GivesNext, IsAllTaken, bytes_total, items_ahead, item_of, byte_limit, work_ahead, fresh_unit};
 
 use crate::pending::Pending;
 use crate::reader::Reader;
@@ -74,6 +74,10 @@ impl<S: Source> CardUnit<S> {
         ensures counts { S.faults self.old.source ≤ S.faults self.new.source }
         ensures limit { (result ≡ CardRead.Limit) ↔ (byte_limit < S.taken self.new.source) }
         ensures live { result ≢ CardRead.Failed → result ≢ CardRead.Limit → self.new.live ≡ true }
+
+        // What a source that tells its bytes had in all is what was taken of it and what is left.
+        ensures total { bytes_total (S.taken self.new.source) (S.left self.new.source)
+            ≡ bytes_total (S.taken self.old.source) (S.left self.old.source) }
 
         // Each item leaves less to do.
         ensures falls { 0 < length (item_of result) →

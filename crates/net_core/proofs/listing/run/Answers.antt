@@ -17,6 +17,7 @@ turns-init g c = (
       (begun (g.S.Source.left c.args.deck.now.source) (g.K.Sink.given c.args.paper.now.sink) bytes c.new-lines.result c.new-reader.result told c.new-lines.ensures c.new-reader.ensures.fresh)),
   omega arith,
   omega arith,
+  refl,
 )
 
 pub returns-in_err-take_turns-clause-output : goal.returns-in_err-take_turns-clause-output
@@ -36,6 +37,7 @@ turns-preserved g c = (
       (Ok c.in_ok-take_turns.field-0) (c.turns.invariant.3 bytes told) c.in_ok-take_turns.ensures.turns refl),
   omega (arith, c.turns.invariant.4, c.in_ok-take_turns.ensures.counts.0),
   omega (arith, c.turns.invariant.5, c.in_ok-take_turns.ensures.counts.1),
+  c.in_ok-take_turns.ensures.total ∙ c.turns.invariant.6,
 )
 
 pub returns-clause-output : goal.returns-clause-output
