@@ -11,3 +11,6 @@ pub use control::{Control, DEFAULT_LIMIT, Opener, control_of};
 pub use job::{CardFault, CardFaultKind, Job};
 pub use job_reader::JobReader;
 pub use place::Place;
+
+#[cfg(test)]
+mod tests;
