@@ -1,0 +1,34 @@
+-- The words that a program is made of.
+use Rattle.std.specs.Prelude.{ℕ, ◌≤◌, ◌<◌, ◌⊎◌, List, [], ◌∷◌, length}
+use Rattle.pascal_tree.specs.declared.token.Word.{Word}
+use Rattle.pascal_tree.specs.declared.token.Word.TheVariants as word
+
+-- a word, and the line on which it stands
+pub record Spot : Type 0 where
+  pub word : Word
+  pub line : ℕ
+
+abbrev pub IsCapital : ℕ → Type 0
+IsCapital c = (65 ≤ c) × (c ≤ 90)
+
+abbrev pub IsDigit : ℕ → Type 0
+IsDigit c = (48 ≤ c) × (c ≤ 57)
+
+-- capitals and digits
+abbrev pub AreCapitalsAndDigits : List ℕ → Type 0
+AreCapitalsAndDigits [] = Unit {0}
+AreCapitalsAndDigits (c ∷ cs) = (IsCapital c ⊎ IsDigit c) × AreCapitalsAndDigits cs
+
+-- a capital, then capitals and digits, that fit a line
+abbrev pub IsName : List ℕ → Type 0
+IsName [] = ⊥
+IsName (c ∷ cs) = IsCapital c × AreCapitalsAndDigits cs × (length cs < 132)
+
+-- what every word keeps
+abbrev pub IsWord : Word → Type 0
+IsWord (word.Name letters) = IsName letters
+IsWord (word.Reserved r) = Unit {0}
+IsWord (word.Number n) = n ≤ 32767
+IsWord (word.Character c) = c ≤ 127
+IsWord (word.Symbol s) = Unit {0}
+IsWord word.End = Unit {0}
