@@ -1,0 +1,4 @@
+mod Decimals
+mod Trimming
+mod Cuts
+mod Names

@@ -1,0 +1,26 @@
+//! The words in which the parts of Solo and of the Job Stream System speak to each other: lines,
+//! cards, identifiers, pages, calls of a program, and how a process ends.
+#![tactic(auto)]
+
+mod blanks;
+mod ident;
+mod item;
+mod line;
+mod line_list;
+mod no_memory;
+mod outcome;
+mod page;
+mod system_call;
+
+pub use blanks::trim_end;
+pub use ident::{IDENT_LENGTH, Ident, capital, is_letter, is_letter_or_digit};
+pub use item::{CARD_LENGTH, Feed, Item};
+pub use line::{LINE_LENGTH, Line, NUMBER_LENGTH, all_printable, is_printable};
+pub use line_list::LineList;
+pub use no_memory::NoMemory;
+pub use outcome::{BufferNo, Cause, Outcome, ProcNo, ProgResult, Side};
+pub use page::{PAGE_LENGTH, Page};
+pub use system_call::{Arg, SysCall, SysReply};
+
+#[cfg(test)]
+mod tests;
