@@ -8,6 +8,21 @@ pub record Spot : Type 0 where
   pub word : Word
   pub line : ℕ
 
+-- a name, and the line on which it stands
+pub record NameAt : Type 0 where
+  pub letters : List ℕ
+  pub line : ℕ
+
+-- a number, and the line on which it stands
+pub record NumberAt : Type 0 where
+  pub value : ℕ
+  pub line : ℕ
+
+-- a character's code, and the line on which it stands
+pub record CharacterAt : Type 0 where
+  pub code : ℕ
+  pub line : ℕ
+
 abbrev pub IsCapital : ℕ → Type 0
 IsCapital c = (65 ≤ c) × (c ≤ 90)
 
@@ -32,3 +47,8 @@ IsWord (word.Number n) = n ≤ 32767
 IsWord (word.Character c) = c ≤ 127
 IsWord (word.Symbol s) = Unit {0}
 IsWord word.End = Unit {0}
+
+-- every word of a list keeps it
+abbrev pub AreWords : List Spot → Type 0
+AreWords [] = Unit {0}
+AreWords (s ∷ ss) = IsWord s.word × AreWords ss
