@@ -6,3 +6,6 @@ pub mod Statement
 pub mod SeenStatement
 pub mod SpellStatement
 pub mod Program
+pub mod SeenProgram
+pub mod SpellProgram
+pub mod Limits

@@ -6,7 +6,11 @@ pub mod expression;
 pub mod leaf;
 mod spell_expression;
 mod spell_statement;
+mod spelling;
 pub mod statement;
 mod token;
+mod tree;
 
+pub use spelling::spell;
 pub use token::{Reserved, Symbol, Token, Word};
+pub use tree::Tree;

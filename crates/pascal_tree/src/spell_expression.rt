@@ -3,12 +3,12 @@
 ghost use Rattle.std.specs.Prelude.{◌≡◌, [], ◌∷◌, ◌++◌, OnOk};
 ghost use Rattle.pascal_tree.specs.Word.{Spot};
 ghost use Rattle.pascal_tree.specs.SeenExpression.{seen_expr, seen_simple, seen_term, seen_factor, seen_index, seen_arguments, seen_addends, seen_multipliers, seen_exprs};
-ghost use Rattle.pascal_tree.specs.SpellExpression.{spelled_sign, spelled_expr, spelled_simple, spelled_addends, spelled_term, spelled_multipliers, spelled_factor, spelled_exprs, spelled_index, spelled_arguments, symbol_at, reserved_at, name_at, adding_word, multiplying_word, relation_symbol};
+ghost use Rattle.pascal_tree.specs.SpellExpression.{spelled_sign, spelled_expr, spelled_simple, spelled_addends, spelled_term, spelled_multipliers, spelled_factor, spelled_exprs, spelled_index, spelled_arguments, symbol_at, reserved_at, name_at, number_at, character_at, adding_word, multiplying_word, relation_symbol};
 
 use crate::expression::{
     Adding, Arguments, Expr, Factor, Index, Multiplying, Relation, Sign, Simple, Term,
 };
-use crate::leaf::Name;
+use crate::leaf::{Character, Name, Number};
 use crate::token::{Reserved, Symbol, Token, Word};
 use solo_base::NoMemory;
 
@@ -92,6 +92,26 @@ pub fn push_name(out: &mut Vec<Token>, name: &Name) -> Result<(), NoMemory>
     Ok(())
 }
 
+pub fn push_number(out: &mut Vec<Token>, number: &Number) -> Result<(), NoMemory>
+    ensures { OnOk result (out.new.items ≡ out.old.items ++ number_at number.now ∷ []) }
+{
+    out.push(Token {
+        word: Word::Number(number.value),
+        line: number.line,
+    })?;
+    Ok(())
+}
+
+pub fn push_character(out: &mut Vec<Token>, character: &Character) -> Result<(), NoMemory>
+    ensures { OnOk result (out.new.items ≡ out.old.items ++ character_at character.now ∷ []) }
+{
+    out.push(Token {
+        word: Word::Character(character.code),
+        line: character.line,
+    })?;
+    Ok(())
+}
+
 #[cycle(spell_expression)]
 pub fn spell_expr(out: &mut Vec<Token>, expr: &Expr) -> Result<(), NoMemory>
     ensures { OnOk result (out.new.items ≡ out.old.items ++ spelled_expr (seen_expr expr.now)) }
@@ -158,20 +178,8 @@ fn spell_factor(out: &mut Vec<Token>, factor: &Factor) -> Result<(), NoMemory>
         ≡ out.old.items ++ spelled_factor (seen_factor factor.now)) }
 {
     match factor {
-        Factor::Number(number) => {
-            out.push(Token {
-                word: Word::Number(number.value),
-                line: number.line,
-            })?;
-            Ok(())
-        }
-        Factor::Character(character) => {
-            out.push(Token {
-                word: Word::Character(character.code),
-                line: character.line,
-            })?;
-            Ok(())
-        }
+        Factor::Number(number) => push_number(out, number),
+        Factor::Character(character) => push_character(out, character),
         Factor::Name(name) => push_name(out, name),
         Factor::Element(name, index) => {
             push_name(out, name)?;

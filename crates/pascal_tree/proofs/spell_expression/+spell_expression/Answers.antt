@@ -10,6 +10,6 @@ pub spell_arguments-returns : goal.spell_arguments-returns
 spell_arguments-returns t c =
     let a = out-Arguments c.args.arguments.now in
     let is : spelled_arguments (seen_arguments c.args.arguments.now) ≡ symbol_at symbol.Open a.opening ∷ (spelled_expr (seen_expr c.deref.result.now)
-        ++ (spelled_exprs (seen_exprs c.deref-2.result.now) ++ symbol_at symbol.Close a.closing ∷ [])) = search (rules, the_lemmas) in
+    ++ (spelled_exprs (seen_exprs c.deref-2.result.now) ++ symbol_at symbol.Close a.closing ∷ [])) = search (rules, the_lemmas) in
     rw (c.in_ok-push_symbol-2.ensures, c.in_ok-spell_exprs.ensures, c.in_ok-spell_expr.ensures, c.in_ok-push_symbol.ensures)
     (joined4 _ _ _ _ _ ∙ ap (λ words. c.args.out.now.items ++ words) (sym is))
