@@ -1,0 +1,7 @@
+pub mod Capitals
+pub mod CardEnd
+pub mod Comments
+pub mod Digits
+pub mod Fronts
+pub mod Program
+pub mod Steps

@@ -1,0 +1,4 @@
+pub mod Card
+pub mod Found
+pub mod Piece
+pub mod Scan
