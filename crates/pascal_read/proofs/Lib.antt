@@ -3,5 +3,6 @@ pub mod CardEnd
 pub mod Comments
 pub mod Digits
 pub mod Fronts
+pub mod Longest
 pub mod Program
 pub mod Steps

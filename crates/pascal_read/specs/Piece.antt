@@ -137,6 +137,12 @@ symbol_within (suc shorter) text =
 abbrev pub symbol_at : List ℕ → Piece
 symbol_at text = symbol_within 2 text
 
+-- how many characters the word at a place has, 0 where none stands there
+abbrev pub covered : Piece → ℕ
+covered (Gap length) = 0
+covered (Spells found length) = length
+covered Bad = 0
+
 abbrev pub comment_piece : Option ℕ → Piece
 comment_piece None = Bad
 comment_piece (Some place) = Gap (place + 2)

@@ -13,4 +13,5 @@ mod scanner;
 mod tests;
 
 pub use scan_fault::ScanFault;
+pub use scan_symbol::longest_symbol;
 pub use scanner::scan;

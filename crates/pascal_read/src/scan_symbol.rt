@@ -1,6 +1,7 @@
 ghost use Rattle.std.specs.Prelude.{◌≡◌, ◌<◌, ◌≤◌, ℕ, List, ◌∷◌, ◌++◌, length, Some, IfSome};
 ghost use Rattle.pascal_tree.specs.Word.{IsWord};
-ghost use Rattle.pascal_read.specs.Piece.{symbol_at};
+ghost use Rattle.pascal_read.specs.Piece.{symbol_at, symbols, look_up, covered};
+ghost use Rattle.pascal_tree.specs.declared.token.Symbol.{Symbol};
 ghost use Rattle.pascal_read.specs.Found.{piece_of, found_symbol};
 
 use crate::found::{CARD_END, Found};
@@ -74,3 +75,10 @@ fn found(symbol: Symbol, length: usize) -> Option<Found>
         length,
     })
 }
+
+/// No symbol that a text begins with is longer than the one that is read there.
+#[tactic(auto, using(crate::proofs::Longest::longest_symbol_is))]
+pub fn longest_symbol()
+    ensures { (spelling rest : List ℕ) (symbol : Symbol) → look_up symbols spelling ≡ Some symbol
+        → length spelling ≤ covered (symbol_at (spelling ++ rest)) }
+{}
