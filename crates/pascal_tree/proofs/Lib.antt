@@ -1,3 +1,4 @@
 mod Joined
 mod UniqueExpression
 mod UniqueStatement
+mod UniqueProgram

@@ -61,7 +61,6 @@ same_name m n e =
 pub differ : (a b : Spot) (r s : List Spot) → a ∷ r ≡ b ∷ s → (a.word ≡ b.word → ⊥) → ⊥
 differ a b r s e n = n (ap (λ t. t.word) (first_of e))
 
-
 pub same_number : (m n : NumberAt) → number_at m ≡ number_at n → m ≡ n
 same_number m n e =
     let w : word.Number m.value ≡ word.Number n.value = ap (λ t. t.word) e in
@@ -187,7 +186,7 @@ mutual
       let m = same_name x y (first_of e) in
       let k = line_of _ _ _ _ (first_of (rest_of e)) in
       let t : spelled_expr f ++ (symbol_at symbol.CloseIndex c ∷ r) ≡ spelled_expr g ++ (symbol_at symbol.CloseIndex d ∷ s) =
-          regroup (spelled_expr f) (symbol_at symbol.CloseIndex c ∷ []) r (spelled_expr g) (symbol_at symbol.CloseIndex d ∷ []) s (rest_of (rest_of e)) in
+      regroup (spelled_expr f) (symbol_at symbol.CloseIndex c ∷ []) r (spelled_expr g) (symbol_at symbol.CloseIndex d ∷ []) s (rest_of (rest_of e)) in
       let b = unique_expr f g (symbol_at symbol.CloseIndex c ∷ r) (symbol_at symbol.CloseIndex d ∷ s) (omega arith) (omega arith) t in
       let l : c ≡ d = line_of _ _ _ _ (first_of b.1) in
       let z : r ≡ s = rest_of b.1 in
@@ -197,7 +196,7 @@ mutual
       let m = same_name x y (first_of e) in
       let k = line_of _ _ _ _ (first_of (rest_of e)) in
       let t : spelled_expr f ++ (spelled_exprs es ++ (symbol_at symbol.Close c ∷ r)) ≡ spelled_expr g ++ (spelled_exprs fs ++ (symbol_at symbol.Close d ∷ s)) =
-          regroup3 (spelled_expr f) (spelled_exprs es) (symbol_at symbol.Close c ∷ []) r (spelled_expr g) (spelled_exprs fs) (symbol_at symbol.Close d ∷ []) s (rest_of (rest_of e)) in
+      regroup3 (spelled_expr f) (spelled_exprs es) (symbol_at symbol.Close c ∷ []) r (spelled_expr g) (spelled_exprs fs) (symbol_at symbol.Close d ∷ []) s (rest_of (rest_of e)) in
       let b = unique_expr f g _ _ (rw below_exprs (omega arith)) (rw below_exprs (omega arith)) t in
       let w : f ≡ g = b.0 in
       let a = unique_exprs es fs c d r s b.1 in
@@ -207,7 +206,7 @@ mutual
   unique_factor (group o f c) (group u g d) r s p q e =
       let k = line_of _ _ _ _ (first_of e) in
       let t : spelled_expr f ++ (symbol_at symbol.Close c ∷ r) ≡ spelled_expr g ++ (symbol_at symbol.Close d ∷ s) =
-          regroup (spelled_expr f) (symbol_at symbol.Close c ∷ []) r (spelled_expr g) (symbol_at symbol.Close d ∷ []) s (rest_of e) in
+      regroup (spelled_expr f) (symbol_at symbol.Close c ∷ []) r (spelled_expr g) (symbol_at symbol.Close d ∷ []) s (rest_of e) in
       let b = unique_expr f g (symbol_at symbol.Close c ∷ r) (symbol_at symbol.Close d ∷ s) (omega arith) (omega arith) t in
       let l : c ≡ d = line_of _ _ _ _ (first_of b.1) in
       let w : f ≡ g = b.0 in
@@ -225,7 +224,7 @@ mutual
   unique_exprs (next_expr l f es) (next_expr m g fs) c d r s e =
       let k = line_of _ _ _ _ (first_of e) in
       let t : spelled_expr f ++ (spelled_exprs es ++ (symbol_at symbol.Close c ∷ r)) ≡ spelled_expr g ++ (spelled_exprs fs ++ (symbol_at symbol.Close d ∷ s)) =
-          regroup (spelled_expr f) (spelled_exprs es) (symbol_at symbol.Close c ∷ r) (spelled_expr g) (spelled_exprs fs) (symbol_at symbol.Close d ∷ s) (rest_of e) in
+      regroup (spelled_expr f) (spelled_exprs es) (symbol_at symbol.Close c ∷ r) (spelled_expr g) (spelled_exprs fs) (symbol_at symbol.Close d ∷ s) (rest_of e) in
       let b = unique_expr f g _ _ (rw below_exprs (omega arith)) (rw below_exprs (omega arith)) t in
       let w : f ≡ g = b.0 in
       let a = unique_exprs es fs c d r s b.1 in
@@ -244,7 +243,7 @@ mutual
       let o = same_multiplying m n (ap (λ t. t.word) (first_of e)) in
       let z = line_of _ _ _ _ (first_of e) in
       let t : spelled_factor f ++ (spelled_multipliers xs ++ r) ≡ spelled_factor g ++ (spelled_multipliers ys ++ s) =
-          regroup (spelled_factor f) (spelled_multipliers xs) r (spelled_factor g) (spelled_multipliers ys) s (rest_of e) in
+      regroup (spelled_factor f) (spelled_multipliers xs) r (spelled_factor g) (spelled_multipliers ys) s (rest_of e) in
       let b = unique_factor f g _ _ (below_multipliers xs r p) (below_multipliers ys s q) t in
       let w : f ≡ g = b.0 in
       let a = unique_multipliers xs ys r s p q b.1 in
@@ -255,7 +254,7 @@ mutual
       spelled_term x ++ r ≡ spelled_term y ++ s → (x ≡ y) × (r ≡ s)
   unique_term (term f xs) (term g ys) r s p q e =
       let t : spelled_factor f ++ (spelled_multipliers xs ++ r) ≡ spelled_factor g ++ (spelled_multipliers ys ++ s) =
-          regroup (spelled_factor f) (spelled_multipliers xs) r (spelled_factor g) (spelled_multipliers ys) s (e) in
+      regroup (spelled_factor f) (spelled_multipliers xs) r (spelled_factor g) (spelled_multipliers ys) s (e) in
       let b = unique_factor f g _ _ (below_multipliers xs r p) (below_multipliers ys s q) t in
       let w : f ≡ g = b.0 in
       let a = unique_multipliers xs ys r s p q b.1 in
@@ -273,7 +272,7 @@ mutual
       let o = same_adding m n (ap (λ t. t.word) (first_of e)) in
       let z = line_of _ _ _ _ (first_of e) in
       let t : spelled_term f ++ (spelled_addends xs ++ r) ≡ spelled_term g ++ (spelled_addends ys ++ s) =
-          regroup (spelled_term f) (spelled_addends xs) r (spelled_term g) (spelled_addends ys) s (rest_of e) in
+      regroup (spelled_term f) (spelled_addends xs) r (spelled_term g) (spelled_addends ys) s (rest_of e) in
       let b = unique_term f g _ _ (below_addends xs r p) (below_addends ys s q) t in
       let w : f ≡ g = b.0 in
       let a = unique_addends xs ys r s p q b.1 in
@@ -284,7 +283,7 @@ mutual
       spelled_simple x ++ r ≡ spelled_simple y ++ s → (x ≡ y) × (r ≡ s)
   unique_simple (simple None f xs) (simple None g ys) r s p q e =
       let t : spelled_term f ++ (spelled_addends xs ++ r) ≡ spelled_term g ++ (spelled_addends ys ++ s) =
-          regroup (spelled_term f) (spelled_addends xs) r (spelled_term g) (spelled_addends ys) s (e) in
+      regroup (spelled_term f) (spelled_addends xs) r (spelled_term g) (spelled_addends ys) s (e) in
       let b = unique_term f g _ _ (below_addends xs r p) (below_addends ys s q) t in
       let w : f ≡ g = b.0 in
       let a = unique_addends xs ys r s p q b.1 in
@@ -302,7 +301,7 @@ mutual
       let z : u.1 ≡ v.1 = ap (λ t. t.line) (first_of e) in
       let uv : u ≡ v = ap₂ (λ i j. let k : Sign × ℕ = (i, j) in k) o z in
       let t : spelled_term f ++ (spelled_addends xs ++ r) ≡ spelled_term g ++ (spelled_addends ys ++ s) =
-          regroup (spelled_term f) (spelled_addends xs) r (spelled_term g) (spelled_addends ys) s (rest_of e) in
+      regroup (spelled_term f) (spelled_addends xs) r (spelled_term g) (spelled_addends ys) s (rest_of e) in
       let b = unique_term f g _ _ (below_addends xs r p) (below_addends ys s q) t in
       let w : f ≡ g = b.0 in
       let a = unique_addends xs ys r s p q b.1 in
