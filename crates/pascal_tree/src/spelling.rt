@@ -4,7 +4,6 @@ ghost use Rattle.std.specs.Prelude.{◌≡◌, [], ◌∷◌, ◌++◌, IfOk, On
 ghost use Rattle.pascal_tree.specs.SeenStatement.{seen_body};
 ghost use Rattle.pascal_tree.specs.SeenProgram.{seen_names, seen_consts, seen_group, seen_vars, seen_parameter_group, seen_parameters, seen_block, seen_routine, seen_program};
 ghost use Rattle.pascal_tree.specs.SpellProgram.{spelled, spelled_heading, spelled_constant, spelled_definition, spelled_definitions, spelled_consts, spelled_more_names, spelled_kind, spelled_group, spelled_groups, spelled_vars, spelled_parameter_group, spelled_parameter_groups, spelled_parameters, spelled_block, spelled_routine, spelled_routines};
-ghost use Rattle.pascal_tree.specs.SpellExpression.{number_at, character_at};
 
 use crate::declaration::{
     Block, Constant, Consts, Definition, Group, Heading, Kind, ParameterGroup, Parameters, Program,

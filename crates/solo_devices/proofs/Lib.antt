@@ -1,0 +1,4 @@
+mod Judging
+mod Cutting
+mod Reading
+mod Giving
