@@ -1,0 +1,4 @@
+mod Joined
+mod UniqueExpression
+mod UniqueStatement
+mod UniqueProgram

@@ -1,0 +1,103 @@
+// Expressions, by the productions of the grammar.
+
+use crate::leaf::{Character, Name, Number};
+
+/// A relation: `=`, `<>`, `<`, `>`, `<=` or `>=`.
+#[derive(Clone, Copy, Debug, PartialEq, Eq)]
+pub enum Relation {
+    Equal,
+    NotEqual,
+    Less,
+    Greater,
+    LessOrEqual,
+    GreaterOrEqual,
+}
+
+/// The sign of a simple expression.
+#[derive(Clone, Copy, Debug, PartialEq, Eq)]
+pub enum Sign {
+    Plus,
+    Minus,
+}
+
+/// What stands between two terms: `+`, `-` or OR.
+#[derive(Clone, Copy, Debug, PartialEq, Eq)]
+pub enum Adding {
+    Plus,
+    Minus,
+    Or,
+}
+
+/// What stands between two factors: `*`, DIV, MOD or `&`.
+#[derive(Clone, Copy, Debug, PartialEq, Eq)]
+pub enum Multiplying {
+    Times,
+    Div,
+    Mod,
+    And,
+}
+
+/// A simple expression, or two of them with a relation and its line between them.
+#[cycle(expression)]
+#[derive(Drop)]
+pub struct Expr {
+    pub left: Simple,
+    pub right: Option<(Relation, u32, Simple)>,
+}
+
+/// Terms, each later one with the operator before it and its line.
+#[cycle(expression)]
+#[derive(Drop)]
+pub struct Simple {
+    pub sign: Option<(Sign, u32)>,
+    pub first: Term,
+    pub rest: Vec<(Adding, u32, Term)>,
+}
+
+/// Factors, each later one with the operator before it and its line.
+#[cycle(expression)]
+#[derive(Drop)]
+pub struct Term {
+    pub first: Factor,
+    pub rest: Vec<(Multiplying, u32, Factor)>,
+}
+
+/// A number, a character, a name with or without an index or arguments, an expression in
+/// parentheses, or NOT and a factor.
+#[cycle(expression)]
+#[derive(Drop)]
+pub enum Factor {
+    Number(Number),
+    Character(Character),
+    Name(Name),
+    Element(Name, Index),
+    Call(Name, Arguments),
+    Group {
+        opening: u32,
+        inner: Box<Expr>,
+        closing: u32,
+    },
+    Not {
+        line: u32,
+        operand: Box<Factor>,
+    },
+}
+
+/// An expression between `(.` and `.)`.
+#[cycle(expression)]
+#[derive(Drop)]
+pub struct Index {
+    pub opening: u32,
+    pub place: Box<Expr>,
+    pub closing: u32,
+}
+
+/// Expressions between `(` and `)`, each later one with the line of the comma before it.
+#[cycle(expression)]
+#[derive(Drop)]
+pub struct Arguments {
+    pub opening: u32,
+    pub first: Box<Expr>,
+    pub rest: Vec<(u32, Expr)>,
+    pub closing: u32,
+}
