@@ -1,8 +1,8 @@
 -- No two expressions have one spelling, whatever follows that doesn't continue them.
-use Rattle.std.proofs.Common.{◌≡◌, ◌≢◌, ℕ, zero, suc, ◌+◌, ◌<◌, ◌≤◌, List, [], ◌∷◌, ◌++◌, Option, Some, None, refl, sym, ap, ap₂, ◌∙◌, subst, append_assoc, arith}
+use Rattle.std.proofs.Common.{◌≡◌, ◌≢◌, ℕ, ◌<◌, List, [], ◌∷◌, ◌++◌, Some, None, refl, sym, ap, ap₂, ◌∙◌, append_assoc, arith}
 use Rattle.pascal_tree.specs.Word.{Spot, NameAt, NumberAt, CharacterAt}
-use Rattle.pascal_tree.specs.Expression.{Expr, alone, compared, Simple, simple, Addends, no_addend, addend, Term, term, Multipliers, no_multiplier, multiplier, Factor, number, character, named, element, called, group, negated, Exprs, no_expr, next_expr, Index, Arguments}
-use Rattle.pascal_tree.specs.SpellExpression.{spelled_expr, spelled_simple, spelled_addends, spelled_term, spelled_multipliers, spelled_factor, spelled_exprs, spelled_sign, symbol_at, reserved_at, name_at, number_at, character_at, relation_symbol, sign_symbol, adding_word, multiplying_word}
+use Rattle.pascal_tree.specs.Expression.{Expr, alone, compared, Simple, simple, Addends, no_addend, addend, Term, term, Multipliers, no_multiplier, multiplier, Factor, number, character, named, element, called, group, negated, Exprs, no_expr, next_expr}
+use Rattle.pascal_tree.specs.SpellExpression.{spelled_expr, spelled_simple, spelled_addends, spelled_term, spelled_multipliers, spelled_factor, spelled_exprs, symbol_at, name_at, number_at, character_at, relation_symbol, sign_symbol, adding_word, multiplying_word}
 use Rattle.pascal_tree.specs.declared.token.Word.{Word}
 use Rattle.pascal_tree.specs.declared.token.Word.TheVariants as word
 use Rattle.pascal_tree.specs.declared.token.Reserved.TheVariants as reserved

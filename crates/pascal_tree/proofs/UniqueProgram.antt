@@ -1,9 +1,8 @@
 -- No two programs have one spelling.
-use Rattle.std.proofs.Common.{◌≡◌, ℕ, ◌+◌, ◌<◌, ◌≤◌, List, [], ◌∷◌, ◌++◌, Option, Some, None, refl, sym, ap, ◌∙◌, append_assoc, arith}
+use Rattle.std.proofs.Common.{◌≡◌, ℕ, ◌≤◌, List, [], ◌∷◌, ◌++◌, Option, Some, None, refl, ap, arith}
 use Rattle.pascal_tree.specs.Word.{Spot, NameAt}
-use Rattle.pascal_tree.specs.Statement.{Body}
 use Rattle.pascal_tree.specs.Program.{Names, Consts, Group, Vars, ParameterGroup, Parameters, Block, Routine, procedure, function, Program}
-use Rattle.pascal_tree.specs.SpellExpression.{reserved_at, symbol_at, name_at, number_at, character_at}
+use Rattle.pascal_tree.specs.SpellExpression.{reserved_at, symbol_at, name_at}
 use Rattle.pascal_tree.specs.SpellStatement.{spelled_body}
 use Rattle.pascal_tree.specs.SpellProgram.{spelled, spelled_heading, spelled_constant, spelled_definition, spelled_definitions, spelled_consts, spelled_more_names, spelled_kind, spelled_group, spelled_groups, spelled_vars, spelled_parameter_group, spelled_parameter_groups, spelled_parameters, spelled_block, spelled_routine, spelled_routines}
 use Rattle.pascal_tree.specs.Limits.{BodyFits, RoutineFits, RoutinesFit, IsTree}
