@@ -105,20 +105,20 @@ same_multiplying multiplying.Mod multiplying.Mod e = refl
 same_multiplying multiplying.And multiplying.And e = refl
 same_multiplying a b e = cc
 
-below_multipliers : (ms : Multipliers) (r : List Spot) → first_strength r < 3 → first_strength (spelled_multipliers ms ++ r) < 4
+pub below_multipliers : (ms : Multipliers) (r : List Spot) → first_strength r < 3 → first_strength (spelled_multipliers ms ++ r) < 4
 below_multipliers no_multiplier r h = omega arith
 below_multipliers (multiplier multiplying.Times l f more) r h = omega arith
 below_multipliers (multiplier multiplying.Div l f more) r h = omega arith
 below_multipliers (multiplier multiplying.Mod l f more) r h = omega arith
 below_multipliers (multiplier multiplying.And l f more) r h = omega arith
 
-below_addends : (more : Addends) (r : List Spot) → first_strength r < 2 → first_strength (spelled_addends more ++ r) < 3
+pub below_addends : (more : Addends) (r : List Spot) → first_strength r < 2 → first_strength (spelled_addends more ++ r) < 3
 below_addends no_addend r h = omega arith
 below_addends (addend adding.Plus l t more) r h = omega arith
 below_addends (addend adding.Minus l t more) r h = omega arith
 below_addends (addend adding.Or l t more) r h = omega arith
 
-below_relation : (a : Relation) (l : ℕ) (r : List Spot) → first_strength (symbol_at (relation_symbol a) l ∷ r) ≡ 1
+pub below_relation : (a : Relation) (l : ℕ) (r : List Spot) → first_strength (symbol_at (relation_symbol a) l ∷ r) ≡ 1
 below_relation relation.Equal l r = refl
 below_relation relation.NotEqual l r = refl
 below_relation relation.Less l r = refl
@@ -155,7 +155,7 @@ no_sign_factor (called n o e more c) r h = absurd (omega arith)
 no_sign_factor (group o e c) r h = absurd (omega arith)
 no_sign_factor (negated l f) r h = absurd (omega arith)
 
-no_sign_term : (t : Term) (r : List Spot) → first_strength (spelled_term t ++ r) ≢ 2
+pub no_sign_term : (t : Term) (r : List Spot) → first_strength (spelled_term t ++ r) ≢ 2
 no_sign_term (term f more) r h =
     no_sign_factor f (spelled_multipliers more ++ r) (ap first_strength (sym (append_assoc (spelled_factor f) (spelled_multipliers more) r)) ∙ h)
 

@@ -217,15 +217,15 @@ unique_parameters (Some x) (Some y) r s p q e =
     let b = unique_parameter_groups x.rest y.rest x.closing y.closing r s a.1 in
     (ap Some (same_parameters x y (line_of _ _ _ _ (first_of e)) a.0 b.0 b.1), b.2)
 
-stage_vars : (v : Option Vars) (r : List Spot) → 4 ≤ first_stage r → 3 ≤ first_stage (spelled_vars v ++ r)
+pub stage_vars : (v : Option Vars) (r : List Spot) → 4 ≤ first_stage r → 3 ≤ first_stage (spelled_vars v ++ r)
 stage_vars None r p = omega arith
 stage_vars (Some v) r p = omega arith
 
-stage_consts : (c : Option Consts) (r : List Spot) → 3 ≤ first_stage r → 2 ≤ first_stage (spelled_consts c ++ r)
+pub stage_consts : (c : Option Consts) (r : List Spot) → 3 ≤ first_stage r → 2 ≤ first_stage (spelled_consts c ++ r)
 stage_consts None r p = omega arith
 stage_consts (Some c) r p = omega arith
 
-stage_routines : (rs : List Routine) (r : List Spot) → first_stage r ≡ 5 → 4 ≤ first_stage (spelled_routines rs ++ r)
+pub stage_routines : (rs : List Routine) (r : List Spot) → first_stage r ≡ 5 → 4 ≤ first_stage (spelled_routines rs ++ r)
 stage_routines [] r p = omega arith
 stage_routines (procedure l n p s b e ∷ rs) r q = omega arith
 stage_routines (function l n p c a s b e ∷ rs) r q = omega arith

@@ -166,7 +166,7 @@ same_direction direction.To direction.To e = refl
 same_direction direction.Downto direction.Downto e = refl
 same_direction a b e = cc
 
-direction_strength : (a : Direction) (l : ℕ) (r : List Spot) → first_strength (reserved_at (direction_word a) l ∷ r) ≡ 0
+pub direction_strength : (a : Direction) (l : ℕ) (r : List Spot) → first_strength (reserved_at (direction_word a) l ∷ r) ≡ 0
 direction_strength direction.To l r = refl
 direction_strength direction.Downto l r = refl
 
