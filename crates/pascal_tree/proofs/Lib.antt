@@ -1,4 +1,4 @@
 mod Joined
-mod UniqueExpression
-mod UniqueStatement
-mod UniqueProgram
+pub mod UniqueExpression
+pub mod UniqueProgram
+pub mod UniqueStatement

@@ -1,8 +1,8 @@
 -- No two expressions have one spelling, whatever follows that doesn't continue them.
-use Rattle.std.proofs.Common.{◌≡◌, ◌≢◌, ℕ, zero, suc, ◌+◌, ◌<◌, ◌≤◌, List, [], ◌∷◌, ◌++◌, Option, Some, None, refl, sym, ap, ap₂, ◌∙◌, subst, append_assoc, arith}
+use Rattle.std.proofs.Common.{◌≡◌, ◌≢◌, ℕ, ◌<◌, List, [], ◌∷◌, ◌++◌, Some, None, refl, sym, ap, ap₂, ◌∙◌, append_assoc, arith}
 use Rattle.pascal_tree.specs.Word.{Spot, NameAt, NumberAt, CharacterAt}
-use Rattle.pascal_tree.specs.Expression.{Expr, alone, compared, Simple, simple, Addends, no_addend, addend, Term, term, Multipliers, no_multiplier, multiplier, Factor, number, character, named, element, called, group, negated, Exprs, no_expr, next_expr, Index, Arguments}
-use Rattle.pascal_tree.specs.SpellExpression.{spelled_expr, spelled_simple, spelled_addends, spelled_term, spelled_multipliers, spelled_factor, spelled_exprs, spelled_sign, symbol_at, reserved_at, name_at, number_at, character_at, relation_symbol, sign_symbol, adding_word, multiplying_word}
+use Rattle.pascal_tree.specs.Expression.{Expr, alone, compared, Simple, simple, Addends, no_addend, addend, Term, term, Multipliers, no_multiplier, multiplier, Factor, number, character, named, element, called, group, negated, Exprs, no_expr, next_expr}
+use Rattle.pascal_tree.specs.SpellExpression.{spelled_expr, spelled_simple, spelled_addends, spelled_term, spelled_multipliers, spelled_factor, spelled_exprs, symbol_at, name_at, number_at, character_at, relation_symbol, sign_symbol, adding_word, multiplying_word}
 use Rattle.pascal_tree.specs.declared.token.Word.{Word}
 use Rattle.pascal_tree.specs.declared.token.Word.TheVariants as word
 use Rattle.pascal_tree.specs.declared.token.Reserved.TheVariants as reserved
@@ -105,20 +105,20 @@ same_multiplying multiplying.Mod multiplying.Mod e = refl
 same_multiplying multiplying.And multiplying.And e = refl
 same_multiplying a b e = cc
 
-below_multipliers : (ms : Multipliers) (r : List Spot) → first_strength r < 3 → first_strength (spelled_multipliers ms ++ r) < 4
+pub below_multipliers : (ms : Multipliers) (r : List Spot) → first_strength r < 3 → first_strength (spelled_multipliers ms ++ r) < 4
 below_multipliers no_multiplier r h = omega arith
 below_multipliers (multiplier multiplying.Times l f more) r h = omega arith
 below_multipliers (multiplier multiplying.Div l f more) r h = omega arith
 below_multipliers (multiplier multiplying.Mod l f more) r h = omega arith
 below_multipliers (multiplier multiplying.And l f more) r h = omega arith
 
-below_addends : (more : Addends) (r : List Spot) → first_strength r < 2 → first_strength (spelled_addends more ++ r) < 3
+pub below_addends : (more : Addends) (r : List Spot) → first_strength r < 2 → first_strength (spelled_addends more ++ r) < 3
 below_addends no_addend r h = omega arith
 below_addends (addend adding.Plus l t more) r h = omega arith
 below_addends (addend adding.Minus l t more) r h = omega arith
 below_addends (addend adding.Or l t more) r h = omega arith
 
-below_relation : (a : Relation) (l : ℕ) (r : List Spot) → first_strength (symbol_at (relation_symbol a) l ∷ r) ≡ 1
+pub below_relation : (a : Relation) (l : ℕ) (r : List Spot) → first_strength (symbol_at (relation_symbol a) l ∷ r) ≡ 1
 below_relation relation.Equal l r = refl
 below_relation relation.NotEqual l r = refl
 below_relation relation.Less l r = refl
@@ -155,7 +155,7 @@ no_sign_factor (called n o e more c) r h = absurd (omega arith)
 no_sign_factor (group o e c) r h = absurd (omega arith)
 no_sign_factor (negated l f) r h = absurd (omega arith)
 
-no_sign_term : (t : Term) (r : List Spot) → first_strength (spelled_term t ++ r) ≢ 2
+pub no_sign_term : (t : Term) (r : List Spot) → first_strength (spelled_term t ++ r) ≢ 2
 no_sign_term (term f more) r h =
     no_sign_factor f (spelled_multipliers more ++ r) (ap first_strength (sym (append_assoc (spelled_factor f) (spelled_multipliers more) r)) ∙ h)
 

@@ -1,9 +1,8 @@
 -- No two programs have one spelling.
-use Rattle.std.proofs.Common.{◌≡◌, ℕ, ◌+◌, ◌<◌, ◌≤◌, List, [], ◌∷◌, ◌++◌, Option, Some, None, refl, sym, ap, ◌∙◌, append_assoc, arith}
+use Rattle.std.proofs.Common.{◌≡◌, ℕ, ◌≤◌, List, [], ◌∷◌, ◌++◌, Option, Some, None, refl, ap, arith}
 use Rattle.pascal_tree.specs.Word.{Spot, NameAt}
-use Rattle.pascal_tree.specs.Statement.{Body}
 use Rattle.pascal_tree.specs.Program.{Names, Consts, Group, Vars, ParameterGroup, Parameters, Block, Routine, procedure, function, Program}
-use Rattle.pascal_tree.specs.SpellExpression.{reserved_at, symbol_at, name_at, number_at, character_at}
+use Rattle.pascal_tree.specs.SpellExpression.{reserved_at, symbol_at, name_at}
 use Rattle.pascal_tree.specs.SpellStatement.{spelled_body}
 use Rattle.pascal_tree.specs.SpellProgram.{spelled, spelled_heading, spelled_constant, spelled_definition, spelled_definitions, spelled_consts, spelled_more_names, spelled_kind, spelled_group, spelled_groups, spelled_vars, spelled_parameter_group, spelled_parameter_groups, spelled_parameters, spelled_block, spelled_routine, spelled_routines}
 use Rattle.pascal_tree.specs.Limits.{BodyFits, RoutineFits, RoutinesFit, IsTree}
@@ -218,15 +217,15 @@ unique_parameters (Some x) (Some y) r s p q e =
     let b = unique_parameter_groups x.rest y.rest x.closing y.closing r s a.1 in
     (ap Some (same_parameters x y (line_of _ _ _ _ (first_of e)) a.0 b.0 b.1), b.2)
 
-stage_vars : (v : Option Vars) (r : List Spot) → 4 ≤ first_stage r → 3 ≤ first_stage (spelled_vars v ++ r)
+pub stage_vars : (v : Option Vars) (r : List Spot) → 4 ≤ first_stage r → 3 ≤ first_stage (spelled_vars v ++ r)
 stage_vars None r p = omega arith
 stage_vars (Some v) r p = omega arith
 
-stage_consts : (c : Option Consts) (r : List Spot) → 3 ≤ first_stage r → 2 ≤ first_stage (spelled_consts c ++ r)
+pub stage_consts : (c : Option Consts) (r : List Spot) → 3 ≤ first_stage r → 2 ≤ first_stage (spelled_consts c ++ r)
 stage_consts None r p = omega arith
 stage_consts (Some c) r p = omega arith
 
-stage_routines : (rs : List Routine) (r : List Spot) → first_stage r ≡ 5 → 4 ≤ first_stage (spelled_routines rs ++ r)
+pub stage_routines : (rs : List Routine) (r : List Spot) → first_stage r ≡ 5 → 4 ≤ first_stage (spelled_routines rs ++ r)
 stage_routines [] r p = omega arith
 stage_routines (procedure l n p s b e ∷ rs) r q = omega arith
 stage_routines (function l n p c a s b e ∷ rs) r q = omega arith

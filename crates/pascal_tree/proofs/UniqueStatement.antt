@@ -1,9 +1,9 @@
 -- No two statements have one spelling, whatever may follow them.
-use Rattle.std.proofs.Common.{◌≡◌, ◌≢◌, ℕ, ◌+◌, ◌<◌, ◌≤◌, List, [], ◌∷◌, ◌++◌, Option, Some, None, refl, sym, ap, ap₂, ◌∙◌, subst, append_assoc, arith}
+use Rattle.std.proofs.Common.{◌≡◌, ℕ, ◌≤◌, List, [], ◌∷◌, ◌++◌, Option, Some, None, refl, sym, ap, ap₂, ◌∙◌, append_assoc, arith}
 use Rattle.pascal_tree.specs.Word.{Spot, NameAt}
 use Rattle.pascal_tree.specs.Expression.{Expr, Exprs, Index, Arguments}
 use Rattle.pascal_tree.specs.Statement.{Statement, empty, assign, call, compound, if_then, if_else, while_do, repeat_until, for_do, Statements, no_statement, next_statement, Body}
-use Rattle.pascal_tree.specs.SpellExpression.{spelled_expr, spelled_exprs, spelled_index, spelled_arguments, symbol_at, reserved_at, name_at}
+use Rattle.pascal_tree.specs.SpellExpression.{spelled_expr, spelled_exprs, symbol_at, reserved_at}
 use Rattle.pascal_tree.specs.SpellStatement.{direction_word, spelled_place, spelled_call, spelled_statement, spelled_statements, spelled_body}
 use Rattle.pascal_tree.specs.Limits.{StatementFits, StatementsFit, EndsClosed, BodyFits}
 use Rattle.pascal_tree.proofs.UniqueExpression.{first_strength, first_of, rest_of, differ, same_name, line_of, regroup, regroup3, unique_expr, unique_exprs, below_exprs}
@@ -166,7 +166,7 @@ same_direction direction.To direction.To e = refl
 same_direction direction.Downto direction.Downto e = refl
 same_direction a b e = cc
 
-direction_strength : (a : Direction) (l : ℕ) (r : List Spot) → first_strength (reserved_at (direction_word a) l ∷ r) ≡ 0
+pub direction_strength : (a : Direction) (l : ℕ) (r : List Spot) → first_strength (reserved_at (direction_word a) l ∷ r) ≡ 0
 direction_strength direction.To l r = refl
 direction_strength direction.Downto l r = refl
 

@@ -2,7 +2,6 @@
 use Rattle.std.specs.Prelude.{ℕ, List, Option}
 use Rattle.pascal_tree.specs.Word.{NameAt}
 use Rattle.pascal_tree.specs.Statement.{Body}
-use Rattle.pascal_tree.specs.declared.declaration.Constant.{Constant}
 use Rattle.pascal_tree.specs.declared.declaration.Definition.{Definition}
 use Rattle.pascal_tree.specs.declared.declaration.Kind.{Kind}
 use Rattle.pascal_tree.specs.declared.declaration.Heading.{Heading}

@@ -1,5 +1,5 @@
 -- The program that a value of the code stands for.
-use Rattle.std.specs.Prelude.{List, map, option_map}
+use Rattle.std.specs.Prelude.{map, option_map}
 use Rattle.pascal_tree.specs.Program.{Names, Consts, Group, Vars, ParameterGroup, Parameters, Block, Routine, procedure, function, Program}
 use Rattle.pascal_tree.specs.SeenStatement.{seen_body}
 use Rattle.pascal_tree.specs.declared.declaration.Names as names

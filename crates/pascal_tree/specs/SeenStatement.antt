@@ -1,6 +1,5 @@
 -- The statement that a value of the code stands for.
-use Rattle.std.specs.Prelude.{ℕ, List, [], ◌∷◌, map, Option, Some, None, option_map}
-use Rattle.pascal_tree.specs.Expression.{Expr}
+use Rattle.std.specs.Prelude.{ℕ, List, [], ◌∷◌, map, Some, None, option_map}
 use Rattle.pascal_tree.specs.SeenExpression.{seen_expr, seen_index, seen_arguments}
 use Rattle.pascal_tree.specs.Statement.{Statement, empty, assign, call, compound, if_then, if_else, while_do, repeat_until, for_do, Statements, no_statement, next_statement, Body}
 use Rattle.pascal_tree.specs.declared.statement.Statement as statement_type

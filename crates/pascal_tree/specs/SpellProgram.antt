@@ -1,7 +1,7 @@
 -- The words of a program, production by production.
 use Rattle.std.specs.Prelude.{ℕ, List, [], ◌∷◌, ◌++◌, Option, Some, None}
 use Rattle.pascal_tree.specs.Word.{Spot, NameAt}
-use Rattle.pascal_tree.specs.Program.{Names, Consts, Group, Vars, ParameterGroup, Parameters, Block, Routine, procedure, function, Program}
+use Rattle.pascal_tree.specs.Program.{Consts, Group, Vars, ParameterGroup, Parameters, Block, Routine, procedure, function, Program}
 use Rattle.pascal_tree.specs.SpellExpression.{reserved_at, symbol_at, name_at, number_at, character_at}
 use Rattle.pascal_tree.specs.SpellStatement.{spelled_body}
 use Rattle.pascal_tree.specs.declared.token.Word.TheVariants as word

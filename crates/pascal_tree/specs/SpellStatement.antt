@@ -1,5 +1,5 @@
 -- The words of a statement, production by production.
-use Rattle.std.specs.Prelude.{ℕ, List, [], ◌∷◌, ◌++◌, Option, Some, None}
+use Rattle.std.specs.Prelude.{List, [], ◌∷◌, ◌++◌, Option, Some, None}
 use Rattle.pascal_tree.specs.Word.{Spot}
 use Rattle.pascal_tree.specs.Expression.{Index, Arguments}
 use Rattle.pascal_tree.specs.Statement.{Statement, empty, assign, call, compound, if_then, if_else, while_do, repeat_until, for_do, Statements, no_statement, next_statement, Body}

@@ -9,6 +9,8 @@ mod spell_expression;
 mod spell_statement;
 mod spelling;
 pub mod statement;
+#[cfg(test)]
+mod tests;
 mod token;
 mod tree;
 
