@@ -1,7 +1,7 @@
-ghost use Rattle.std.specs.Prelude.{◌≡◌, ◌↔◌, ◌⊎◌, ◌<◌, ◌≤◌, ℕ, List, None, Some, map, string_bytes, IfSome};
+ghost use Rattle.std.specs.Prelude.{◌≡◌, ◌≢◌, ◌↔◌, ◌⊎◌, ◌<◌, ◌≤◌, ℕ, List, None, Some, length, map, string_bytes, IfSome};
 ghost use Rattle.solo_base.specs.Text.{text};
-ghost use Rattle.solo_devices.specs.Count.{Rose};
-ghost use Rattle.solo_devices.specs.CardUnit.{byte_limit, IsAllTaken};
+ghost use Rattle.solo_devices.specs.Count.{Rose, Stayed};
+ghost use Rattle.solo_devices.specs.CardUnit.{byte_limit, bytes_total, IsAllTaken};
 ghost use Rattle.solo_devices.specs.PrinterUnit.{Gains};
 ghost use Rattle.batch_job.specs.OneThread.{one_thread_output};
 ghost use Rattle.net_core.specs.Turns.{IsListCause};
@@ -51,6 +51,13 @@ pub fn top<S: Source, Y: Source, K: Sink, T: Sink, F: Area, I: Area, O: Area>(
         Gains (K.given paper) (K.given result.paper) (text (one_thread_output bytes)) (result.status ≡ 0) }
     ensures all_taken { result.status ≡ 0 → IsAllTaken (S.left result.deck) }
 
+    // Of a deck that tells its bytes and is within the limit the whole work is done where no count rose, unless
+    // memory was refused; of a longer one never.
+    ensures complete { (bytes : List ℕ) → S.left deck ≡ Some bytes → length bytes ≤ byte_limit →
+        Stayed (S.faults deck) (S.faults result.deck) → Stayed (K.faults paper) (K.faults result.paper) →
+        form (map (λ word. string_bytes word) words.now) ≡ Some Command.Batch → (result.status ≡ 0) ⊎ (result.status ≡ 9) }
+    ensures longer { (bytes : List ℕ) → S.left deck ≡ Some bytes → byte_limit < length bytes → result.status ≢ 0 }
+
     // The words are no command, and then each device is as it came.
     ensures usage { (result.status ≡ 1) ↔ (form (map (λ word. string_bytes word) words.now) ≡ None) }
     ensures unasked { form (map (λ word. string_bytes word) words.now) ≡ None → (result.deck ≡ deck) × (result.paper ≡ paper) }
@@ -90,6 +97,7 @@ fn run_command<S: Source, K: Sink>(
     ensures output { (bytes : List ℕ) → S.left deck ≡ Some bytes → form (map (λ word. string_bytes word) words.now) ≡ Some Command.Batch →
         Gains (K.given paper) (K.given result.2) (text (one_thread_output bytes)) (result.0 ≡ None) }
     ensures all_taken { result.0 ≡ None → IsAllTaken (S.left result.1) }
+    ensures total { bytes_total (S.taken result.1) (S.left result.1) ≡ bytes_total (S.taken deck) (S.left deck) }
     ensures usage { (result.0 ≡ Some Cause.Usage) ↔ (form (map (λ word. string_bytes word) words.now) ≡ None) }
     ensures unasked { form (map (λ word. string_bytes word) words.now) ≡ None → (result.1 ≡ deck) × (result.2 ≡ paper) }
     ensures read { result.0 ≡ Some Cause.ReadFault → Rose (S.faults deck) (S.faults result.1) }
