@@ -7,17 +7,12 @@ mod streams;
 use fault::Fault;
 use solo_base::NoMemory;
 use solo_cli::{Finished, top};
-use solo_devices::{SureArea, SureSink, SureSource};
+use solo_devices::{BlankArea, SureSink, SureSource};
 use std::env;
 use std::io::{self, BufWriter};
 use std::process::ExitCode;
 use std::rt::Env;
 use streams::{ReaderSource, WriterSink};
-
-/// The pages of the file area and of a spool area, which no command uses yet.
-const FILE_PAGES: u16 = 4288;
-
-const SPOOL_PAGES: u16 = 1;
 
 fn main(rt: HostRuntime) -> ExitCode {
     let ended = run(&rt).unwrap_or(Ended::without_memory());
@@ -72,9 +67,9 @@ fn run(rt: &(impl Env + Input + Print + AllocGlobal)) -> Result<Ended, NoMemory>
         SureSource::new(Vec::new(rt.alloc()), 1),
         WriterSink::new(writer),
         SureSink::new(rt.alloc()),
-        SureArea::new(rt.alloc(), FILE_PAGES)?,
-        SureArea::new(rt.alloc(), SPOOL_PAGES)?,
-        SureArea::new(rt.alloc(), SPOOL_PAGES)?,
+        BlankArea::new(0),
+        BlankArea::new(0),
+        BlankArea::new(0),
     );
     // What was printed so far goes out whatever the status, and the lowest status decides.
     if paper.flush().is_err() && (status == 0 || status > 4) {

@@ -36,3 +36,5 @@ pub use sure_source::SureSource;
 
 #[cfg(test)]
 mod area_tests;
+#[cfg(test)]
+mod tests;
