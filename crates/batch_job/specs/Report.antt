@@ -1,5 +1,5 @@
 -- The lines that a job prints.
-use Rattle.std.specs.Prelude.{ℕ, min, List, [], ◌∷◌, ◌++◌, length, Option, Some, None, codes}
+use Rattle.std.specs.Prelude.{ℕ, List, [], ◌∷◌, ◌++◌, length, Option, Some, None, codes}
 use Rattle.std.specs.Fmt.{decimal}
 use Rattle.solo_base.specs.Blanks.{trimmed}
 use Rattle.deck_format.specs.Jobs.{card_count}

@@ -1,8 +1,7 @@
 -- The first word of a text, and the others.
-use Rattle.std.proofs.Common.{◌≡◌, ℕ, suc, ◌+◌, ◌<◌, ◌≤◌, List, [], ◌∷◌, ◌++◌, length, take, drop, refl, ap, ◌∙◌, sym, subst, arith, Bool, true, false, add-one}
-use Rattle.std.specs.Prelude.{filter, ◌==◌, if◌then◌else◌}
-use Rattle.std.proofs.lemmas.Bool.Decides.{nat_tests}
-use Rattle.deck_format.specs.Control.{parts, before_parts, is_word, words, word_length}
+use Rattle.std.proofs.Common.{◌≡◌, ℕ, ◌<◌, List, [], ◌∷◌, length, take, drop, refl, ap, ◌∙◌, arith, Bool, true, false, add-one}
+use Rattle.std.specs.Prelude.{filter, ◌==◌}
+use Rattle.deck_format.specs.Control.{parts, is_word, words, word_length}
 
 -- the parts behind the first
 abbrev others : List ℕ → List (List ℕ)

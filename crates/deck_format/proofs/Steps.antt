@@ -1,21 +1,19 @@
 -- What an item adds to the jobs that are still to come.
-use Rattle.std.proofs.Common.{◌≡◌, ℕ, ◌+◌, ◌≤◌, List, [], ◌∷◌, ◌++◌, length, refl, ap, ◌∙◌, sym, subst, arith, Bool, true, false, Option, Some, None, append_assoc}
-use Rattle.std.specs.Prelude.{min, flat_map, count_by, cond, if◌then◌else◌}
+use Rattle.std.proofs.Common.{◌≡◌, ℕ, ◌+◌, List, [], ◌∷◌, ◌++◌, refl, ap, ◌∙◌, sym, arith, Bool, true, false, Some, None, append_assoc}
+use Rattle.std.specs.Prelude.{flat_map, count_by, cond, if◌then◌else◌}
 use Rattle.std.proofs.lemmas.List.{append-nil}
 use Rattle.std.proofs.lemmas.List.Sums.{sum_by-cons}
 use Rattle.solo_base.specs.declared.item.Item.{Item}
 use Rattle.solo_base.specs.declared.item.Item.TheVariants.{Line, Spoiled}
 use Rattle.deck_format.specs.declared.control.Opener.{Opener}
 use Rattle.deck_format.specs.declared.control.Opener.TheVariants as opener
-use Rattle.deck_format.specs.declared.control.Control.{Control}
-use Rattle.deck_format.specs.declared.control.Control.TheVariants as control
 use Rattle.deck_format.specs.declared.job.Job.{Job}
 use Rattle.deck_format.specs.declared.job.Job.TheVariants as job
 use Rattle.deck_format.specs.declared.place.Place.{Place}
 use Rattle.deck_format.specs.declared.place.Place.TheVariants.{Outside, InList, InUnbuilt}
 use Rattle.deck_format.specs.Control.{control_of}
-use Rattle.deck_format.specs.Jobs.{Groups, cut, before_groups, before_end, after_end, opener_of, opener_in, is_end, ends_in, card_count, counts, is_some, skipped, stretch, listed, list_fault, group_jobs, jobs}
-use Rattle.deck_format.specs.JobReader.{StandsFor, in_hand, jobs_from, given, closed, opened, behind, is_in_group, control_in, list_on}
+use Rattle.deck_format.specs.Jobs.{Groups, cut, before_groups, before_end, after_end, opener_of, opener_in, is_end, ends_in, card_count, counts, is_some, skipped, stretch, listed, group_jobs, jobs}
+use Rattle.deck_format.specs.JobReader.{StandsFor, in_hand, jobs_from, closed, opened, behind, is_in_group, control_in, list_on}
 
 -- where nothing more comes to the job in hand
 pub in_hand-nothing : (place : Place) → in_hand place [] ≡ closed place

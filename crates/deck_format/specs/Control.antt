@@ -1,9 +1,8 @@
 -- What a card says to the deck: `#` in column 1, directly followed by its first word.
-use Rattle.std.specs.Prelude.{ℕ, ◌+◌, ◌-◌, ◌*◌, ◌≤◌, Bool, true, false, not, ◌&&◌, nat_le, ◌==◌, List, [], ◌∷◌, length, filter, Option, Some, None, codes, if◌then◌else◌}
+use Rattle.std.specs.Prelude.{ℕ, ◌+◌, ◌-◌, ◌*◌, Bool, true, false, ◌&&◌, nat_le, ◌==◌, List, [], ◌∷◌, length, filter, Option, Some, None, codes, if◌then◌else◌}
 use Rattle.std.specs.Option.{option_map_or}
 use Rattle.std.specs.List.{list_all}
 use Rattle.solo_base.specs.Ident.{capital, identifier, is_digit}
-use Rattle.deck_format.specs.declared.control.Opener.{Opener}
 use Rattle.deck_format.specs.declared.control.Opener.TheVariants as opener
 use Rattle.deck_format.specs.declared.control.Control.{Control}
 use Rattle.deck_format.specs.declared.control.Control.TheVariants.{Opens, Data, End, Bad}

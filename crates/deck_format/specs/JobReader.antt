@@ -11,7 +11,7 @@ use Rattle.deck_format.specs.declared.job.Job.TheVariants as job
 use Rattle.deck_format.specs.declared.job.CardFault.{CardFault}
 use Rattle.deck_format.specs.declared.place.Place.{Place}
 use Rattle.deck_format.specs.declared.place.Place.TheVariants.{Outside, InList, InUnbuilt}
-use Rattle.deck_format.specs.Jobs.{Groups, cut, before_end, after_end, card_count, counts, skipped, stretch, listed, list_fault, spoiled_at, control_at, group_jobs, jobs}
+use Rattle.deck_format.specs.Jobs.{cut, before_end, after_end, card_count, counts, skipped, stretch, listed, list_fault, spoiled_at, control_at, group_jobs, jobs}
 
 -- a list goes on with these items, unless it has a fault
 abbrev pub list_on : List ℕ → List (List ℕ) → Option CardFault → ℕ → List Item → Job

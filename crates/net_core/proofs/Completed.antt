@@ -1,17 +1,16 @@
 -- The jobs that some items complete stay, whatever follows.
-use Rattle.std.proofs.Common.{◌≡◌, ◌≢◌, ◌⊎◌, inl, inr, ℕ, ◌+◌, Bool, true, false, List, [], ◌∷◌, ◌++◌, Option, Some, None, refl, sym, ◌∙◌, ap, append_assoc, flat_map, zero-add, count_by, arith, eqb}
+use Rattle.std.proofs.Common.{◌≡◌, ◌≢◌, ℕ, ◌+◌, true, false, List, [], ◌∷◌, ◌++◌, Some, None, refl, sym, ◌∙◌, ap, append_assoc, flat_map, zero-add, count_by, arith, eqb}
 use Rattle.std.proofs.lemmas.Bool.Decides.{nat_tests}
 use Rattle.std.proofs.lemmas.List.{append-nil}
 use Rattle.solo_base.specs.declared.item.Item.{Item}
-use Rattle.solo_base.specs.declared.item.Item.TheVariants.{Line, Spoiled}
+use Rattle.solo_base.specs.declared.item.Item.TheVariants.{Spoiled}
 use Rattle.deck_format.specs.declared.job.Job.{Job}
 use Rattle.deck_format.specs.declared.job.Job.TheVariants as job
-use Rattle.deck_format.specs.declared.control.Opener.{Opener}
 use Rattle.deck_format.specs.declared.place.Place.{Place}
 use Rattle.deck_format.specs.declared.place.Place.TheVariants.{Outside, InList, InUnbuilt}
 use Rattle.deck_format.specs.Jobs.{jobs, cut, opener_in}
 use Rattle.deck_format.specs.Jobs as deck
-use Rattle.deck_format.specs.JobReader.{jobs_from, closed, opened, behind, is_in_group, control_in, StandsFor, given}
+use Rattle.deck_format.specs.JobReader.{jobs_from, closed, opened, behind, is_in_group, control_in, StandsFor}
 use Rattle.deck_format.proofs.Steps.{open_more, end_more, behind_more}
 use Rattle.net_core.specs.Completed.{before_last, completed}
 

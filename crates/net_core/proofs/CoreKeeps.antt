@@ -1,25 +1,23 @@
 -- Each enabled event keeps the facts.
-use Rattle.std.proofs.Common.{◌≡◌, ◌⊎◌, inl, inr, ℕ, Bool, true, false, List, [], ◌∷◌, ◌++◌, Option, Some, None, refl, sym, ◌∙◌, ap, append_assoc, arith}
+use Rattle.std.proofs.Common.{◌≡◌, ℕ, false, List, [], ◌∷◌, Option, Some, None, refl, sym, ◌∙◌, ap, arith}
 use Rattle.std.proofs.lemmas.List.{append-nil}
 use Rattle.solo_base.specs.declared.item.Item.{Item}
 use Rattle.solo_base.specs.declared.outcome.Side.{Side}
 use Rattle.solo_base.specs.declared.outcome.Side.TheVariants.{Sender, Receiver}
-use Rattle.solo_base.specs.declared.outcome.Outcome.{Outcome}
-use Rattle.solo_base.specs.declared.outcome.Outcome.TheVariants as outcome
 use Rattle.queue_var.specs.HandsOver.{is_one_of}
-use Rattle.queue_var.specs.Sides.{MayEnter, has_stopped, queue, nobody}
+use Rattle.queue_var.specs.Sides.{MayEnter, queue, nobody}
 use Rattle.slot_buffer.specs.declared.answers.Put.{Put}
 use Rattle.slot_buffer.specs.declared.answers.Put.TheVariants as put
 use Rattle.slot_buffer.specs.declared.answers.Take.{Take}
 use Rattle.slot_buffer.specs.declared.answers.Take.TheVariants as take
-use Rattle.slot_buffer.specs.Slot.{Slot, StandsFor, put_answer, after_put, sent_with, take_answer, after_take, taken_with, after_stop}
+use Rattle.slot_buffer.specs.Slot.{StandsFor, put_answer, after_put, sent_with, take_answer, after_take, taken_with, after_stop}
 use Rattle.slot_buffer.proofs.History.{put-stands, take-stands, stop-stands}
 use Rattle.net_core.specs.Page.{Page}
 use Rattle.net_core.specs.Input as input
 use Rattle.net_core.specs.Job as job
 use Rattle.net_core.specs.Output as output
 use Rattle.net_core.specs.Core.{State, Buffer, Event, Input, Job, Output, IsEnabled, InputMay, JobMay, OutputMay, happens, after_input, after_job, after_output, put_in, take_from, stop_by, input_number, job_number, output_number, run, AreEnabled, opening, fresh}
-use Rattle.net_core.specs.Facts.{Facts, InputFacts, JobFacts, OutputFacts, InputWorks, JobWorks, OutputWorks}
+use Rattle.net_core.specs.Facts.{Facts}
 use Rattle.net_core.proofs.InputKeeps.{input-reads, input-puts, input-stops, input-ends, input-other}
 use Rattle.net_core.proofs.JobKeeps.{job-takes, job-works, job-puts, job-stops_first, job-stops_second, job-ends, job-other_first, job-other_second}
 use Rattle.net_core.proofs.OutputKeeps.{output-takes, output-prints, output-stops, output-ends, output-other}

@@ -1,11 +1,8 @@
 -- From the facts of a state to what the paper gained: along the chain from the deck to the paper.
-use Rattle.std.proofs.Common.{◌≡◌, ◌⊎◌, inl, inr, ℕ, ◌≤◌, Bool, true, false, List, [], ◌∷◌, ◌++◌, Option, Some, None, refl, sym, ◌∙◌, ap, append_assoc, arith, take, drop, if◌then◌else◌}
+use Rattle.std.proofs.Common.{◌≡◌, ℕ, Bool, true, false, List, [], ◌++◌, Option, Some, refl, sym, ◌∙◌, ap, append_assoc, take, drop, if◌then◌else◌}
 use Rattle.std.proofs.lemmas.List.{append-nil, take-append-drop}
 use Rattle.solo_base.specs.declared.item.Item.{Item}
-use Rattle.solo_base.specs.declared.outcome.Outcome.TheVariants as outcome
 use Rattle.solo_base.specs.Text.{text}
-use Rattle.queue_var.specs.HandsOver.{HandsOver}
-use Rattle.slot_buffer.specs.Slot.{StandsFor}
 use Rattle.net_core.specs.Page.{Page, items_in, is_ended, IsStream, lines_in, as_items}
 use Rattle.deck_format.specs.declared.job.Job.{Job}
 use Rattle.deck_format.specs.Jobs.{jobs}
@@ -14,10 +11,10 @@ use Rattle.net_core.proofs.Completed.{completed-jobs}
 use Rattle.net_core.specs.Input as input
 use Rattle.net_core.specs.Job as job
 use Rattle.net_core.specs.Output as output
-use Rattle.net_core.specs.Core.{State, Buffer, Event, run, AreEnabled, opening}
-use Rattle.net_core.specs.Facts.{Facts, InputFacts, JobFacts, OutputFacts, IsAtEnd}
-use Rattle.net_core.specs.EveryInterleaving.{one_thread_lines, IsPrefixOf, PrintsPrefix, PrintsAll, AllDone, Holds}
-use Rattle.net_core.proofs.Streams.{items_in-append, is_ended-part, stream-ends, lines_in-append, lines_in-as_items}
+use Rattle.net_core.specs.Core.{State, Event, run, AreEnabled, opening}
+use Rattle.net_core.specs.Facts.{Facts}
+use Rattle.net_core.specs.EveryInterleaving.{one_thread_lines, IsPrefixOf, PrintsPrefix, PrintsAll, Holds}
+use Rattle.net_core.proofs.Streams.{items_in-append, stream-ends, lines_in-append, lines_in-as_items}
 use Rattle.net_core.proofs.OutputKeeps.{text-append}
 use Rattle.net_core.proofs.JobKeeps.{reports-append}
 use Rattle.net_core.proofs.CoreKeeps.{run-keeps, opening-facts}

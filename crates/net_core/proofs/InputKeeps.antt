@@ -1,18 +1,17 @@
 -- What the input process does keeps its facts.
-use Rattle.std.proofs.Common.{◌≡◌, ◌⊎◌, inl, inr, ℕ, Bool, true, false, ◌||◌, List, [], ◌∷◌, ◌++◌, Option, Some, None, refl, sym, ◌∙◌, ap, append_assoc, arith, drop, length, if◌then◌else◌, ◌==◌, option_map}
+use Rattle.std.proofs.Common.{◌≡◌, Bool, true, false, List, [], ◌∷◌, ◌++◌, Option, Some, None, refl, sym, ◌∙◌, ap, append_assoc, drop, length, if◌then◌else◌, ◌==◌, option_map}
 use Rattle.std.proofs.lemmas.List.{append-nil}
 use Rattle.solo_base.specs.declared.item.Item.{Item}
 use Rattle.solo_base.specs.declared.outcome.Side.{Side}
 use Rattle.solo_base.specs.declared.outcome.Side.TheVariants.{Sender, Receiver}
 use Rattle.solo_base.specs.declared.outcome.Outcome.{Outcome}
 use Rattle.solo_base.specs.declared.outcome.Outcome.TheVariants as outcome
-use Rattle.queue_var.specs.HandsOver.{is_one_of}
 use Rattle.solo_devices.specs.CardUnit.{item_of}
 use Rattle.solo_devices.specs.declared.card_read.CardRead.{CardRead}
 use Rattle.solo_devices.specs.declared.card_read.CardRead.TheVariants as read
 use Rattle.slot_buffer.specs.declared.answers.Put.{Put}
 use Rattle.slot_buffer.specs.declared.answers.Put.TheVariants as put
-use Rattle.net_core.specs.Page.{Page, items_in, is_ended, IsStream}
+use Rattle.net_core.specs.Page.{Page, items_in, is_ended}
 use Rattle.net_core.specs.Input as input
 use Rattle.net_core.specs.Core.{deck_after, Gives}
 use Rattle.net_core.specs.Facts.{IsAtEnd, ReadsOf, InputWorks, InputPuts, InputFacts}

@@ -1,15 +1,14 @@
 -- What the output process does keeps its facts.
-use Rattle.std.proofs.Common.{◌≡◌, ◌⊎◌, inl, inr, ℕ, Bool, true, false, ◌||◌, List, [], ◌∷◌, ◌++◌, Option, Some, None, refl, sym, ◌∙◌, ap, append_assoc, arith, drop, length, if◌then◌else◌, option_map}
+use Rattle.std.proofs.Common.{◌≡◌, ℕ, Bool, true, false, List, [], ◌∷◌, ◌++◌, Option, Some, refl, sym, ◌∙◌, ap, append_assoc, drop, option_map}
 use Rattle.std.proofs.lemmas.List.{append-nil}
 use Rattle.solo_base.specs.declared.outcome.Side.{Side}
 use Rattle.solo_base.specs.declared.outcome.Side.TheVariants.{Sender, Receiver}
 use Rattle.solo_base.specs.declared.outcome.Outcome.{Outcome}
 use Rattle.solo_base.specs.declared.outcome.Outcome.TheVariants as outcome
 use Rattle.solo_base.specs.Text.{text, line_text}
-use Rattle.queue_var.specs.HandsOver.{is_one_of}
 use Rattle.slot_buffer.specs.declared.answers.Take.{Take}
 use Rattle.slot_buffer.specs.declared.answers.Take.TheVariants as take
-use Rattle.net_core.specs.Page.{Page, items_in, is_ended, IsStream, lines_in}
+use Rattle.net_core.specs.Page.{Page, items_in, is_ended, lines_in}
 use Rattle.net_core.specs.Output as output
 use Rattle.net_core.specs.Core.{paper_after, IsPart, PrintMay}
 use Rattle.net_core.specs.Facts.{OutputWorks, OutputKnows, AllPrinted, OutputFacts}

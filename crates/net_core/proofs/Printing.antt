@@ -1,8 +1,8 @@
 -- Steps that print, one after another.
-use Rattle.std.proofs.Common.{◌≡◌, ℕ, List, [], ◌∷◌, ◌++◌, refl, ap, ◌∙◌, sym, Option, Some, None, Result, Ok, Err, IsOk, append_assoc}
+use Rattle.std.proofs.Common.{◌≡◌, ℕ, List, [], ◌++◌, refl, ap, ◌∙◌, sym, Option, Some, Result, Ok, Err, IsOk, append_assoc}
 use Rattle.std.specs.Prelude.{IsErr}
 use Rattle.std.proofs.lemmas.List.{append-nil}
-use Rattle.solo_devices.specs.PrinterUnit.{IsPrefixOf, Gains, GainsOf}
+use Rattle.solo_devices.specs.PrinterUnit.{Gains, GainsOf}
 use Rattle.net_core.specs.Prints.{Prints, PrintsOf}
 
 -- nothing is printed, and all stays ahead

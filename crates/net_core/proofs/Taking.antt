@@ -1,11 +1,9 @@
 -- The cards that a page takes from the deck.
-use Rattle.std.proofs.Common.{◌≡◌, ◌⊎◌, ℕ, ◌+◌, ◌<◌, ◌≤◌, List, [], ◌∷◌, ◌++◌, length, refl, ap, ◌∙◌, sym, arith, Bool, true, false, Option, Some, None, append_assoc, length-append}
-use Rattle.std.specs.Prelude.{◌↔◌}
-use Rattle.std.proofs.lemmas.List.{append-nil}
+use Rattle.std.proofs.Common.{◌≡◌, ℕ, ◌+◌, ◌<◌, ◌≤◌, List, [], ◌∷◌, ◌++◌, length, refl, ap, ◌∙◌, sym, arith, true, false, Option, Some, append_assoc, length-append}
 use Rattle.solo_base.specs.declared.item.Item.{Item}
-use Rattle.solo_devices.specs.CardUnit.{Held, bytes_total, items_ahead, item_of, work_ahead, byte_limit, GivesNext, TakesItem, IsAllTaken}
+use Rattle.solo_devices.specs.CardUnit.{Held, bytes_total, items_ahead, item_of, work_ahead, byte_limit, GivesNext, TakesItem}
 use Rattle.solo_devices.specs.declared.card_read.CardRead.{CardRead}
-use Rattle.solo_devices.specs.declared.card_read.CardRead.TheVariants.{End, Failed, Limit}
+use Rattle.solo_devices.specs.declared.card_read.CardRead.TheVariants.{End, Limit}
 use Rattle.net_core.specs.Page.{Page}
 use Rattle.net_core.specs.Turns.{TakesPage}
 

@@ -8,15 +8,14 @@ use Rattle.deck_format.specs.declared.place.Place.{Place}
 use Rattle.net_core.specs.Page.{Page}
 use Rattle.net_core.specs.Prints.{Prints}
 use Rattle.net_core.specs.Turns.{page_text, jobs_text, TakesTurns}
-use Rattle.std.specs.Prelude.{Err, IsErr, flat_map, OnOk}
+use Rattle.std.specs.Prelude.{Err, IsErr, flat_map}
 use Rattle.std.specs.Result.{result_err}
-use Rattle.std.proofs.Common.{subst, append_assoc}
-use Rattle.std.proofs.lemmas.List.{append-nil}
+use Rattle.std.proofs.Common.{subst}
 use Rattle.solo_base.specs.Text.{text}
 use Rattle.solo_base.specs.Card.{cards}
 use Rattle.solo_devices.specs.PrinterUnit.{Gains}
 use Rattle.deck_format.specs.Jobs.{jobs}
-use Rattle.deck_format.specs.JobReader.{jobs_from, given}
+use Rattle.deck_format.specs.JobReader.{jobs_from}
 use Rattle.batch_job.specs.Report.{report}
 use Rattle.batch_job.specs.OneThread.{one_thread_output}
 use Rattle.net_core.specs.Turns.{TakesPage}

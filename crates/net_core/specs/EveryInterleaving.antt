@@ -1,5 +1,5 @@
 -- What holds in each state that can be reached, whatever the order of the events and whichever device fails.
-use Rattle.std.specs.Prelude.{◌≡◌, ℕ, List, [], ◌∷◌, ◌++◌, flat_map, Option, Some, None}
+use Rattle.std.specs.Prelude.{◌≡◌, ℕ, List, [], ◌++◌, flat_map, Option, Some}
 use Rattle.solo_base.specs.declared.item.Item.{Item}
 use Rattle.solo_base.specs.declared.outcome.Outcome.TheVariants as outcome
 use Rattle.solo_base.specs.Text.{text}
@@ -9,7 +9,7 @@ use Rattle.batch_job.specs.Report.{report}
 use Rattle.net_core.specs.Input as input
 use Rattle.net_core.specs.Job as job
 use Rattle.net_core.specs.Output as output
-use Rattle.net_core.specs.Core.{State, Buffer}
+use Rattle.net_core.specs.Core.{State}
 
 -- the lines that one thread prints for these items: the reports of their jobs, in order
 abbrev pub one_thread_lines : List Item → List (List ℕ)

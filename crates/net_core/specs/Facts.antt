@@ -1,23 +1,19 @@
 -- What each event keeps: facts of each process over its next action, its lists and the stops of its
 -- buffers, and the facts of each buffer.
-use Rattle.std.specs.Prelude.{◌≡◌, ◌⊎◌, ℕ, ◌≤◌, ◌<◌, Bool, true, false, List, [], ◌∷◌, ◌++◌, length, Option, Some, None}
+use Rattle.std.specs.Prelude.{◌≡◌, ℕ, ◌≤◌, ◌<◌, Bool, true, false, List, [], ◌∷◌, ◌++◌, length, Option, Some}
 use Rattle.solo_base.specs.declared.item.Item.{Item}
 use Rattle.solo_base.specs.declared.outcome.Side.{Side}
 use Rattle.solo_base.specs.declared.outcome.Side.TheVariants.{Sender, Receiver}
-use Rattle.solo_base.specs.declared.outcome.Outcome.{Outcome}
 use Rattle.solo_base.specs.declared.outcome.Outcome.TheVariants as outcome
 use Rattle.solo_base.specs.Text.{text}
 use Rattle.queue_var.specs.HandsOver.{is_one_of}
 use Rattle.slot_buffer.specs.Slot.{StandsFor}
 use Rattle.net_core.specs.Page.{Page, items_in, is_ended, IsStream, lines_in, as_items}
-use Rattle.deck_format.specs.declared.job.Job.{Job}
 use Rattle.deck_format.specs.Jobs.{jobs}
-use Rattle.net_core.specs.Completed.{completed}
-use Rattle.batch_job.specs.Report.{report}
 use Rattle.net_core.specs.Input as input
 use Rattle.net_core.specs.Job as job
 use Rattle.net_core.specs.Output as output
-use Rattle.net_core.specs.Core.{State, Buffer}
+use Rattle.net_core.specs.Core.{State}
 
 -- a told deck has nothing left
 abbrev pub IsAtEnd : Option (List Item) → Type 0

@@ -1,11 +1,10 @@
 -- What the three processes of a listing do in their turns.
-use Rattle.std.specs.Prelude.{◌≡◌, ◌≢◌, ◌⊎◌, ◌↔◌, ℕ, ◌<◌, ◌≤◌, true, List, [], ◌++◌, flat_map, length, Bool, Option, Some, None, Result, Ok, IsOk}
+use Rattle.std.specs.Prelude.{◌≡◌, ◌⊎◌, ℕ, true, List, [], ◌++◌, flat_map, Bool, Option, Some, Result, Ok, IsOk}
 use Rattle.solo_base.specs.Text.{text}
 use Rattle.solo_base.specs.declared.item.Item.{Item}
 use Rattle.solo_base.specs.declared.outcome.Cause.{Cause}
 use Rattle.solo_base.specs.declared.outcome.Cause.TheVariants.{ReadFault, PrintFault, DeckLimit, NoMemory}
 use Rattle.solo_devices.specs.Count.{Rose}
-use Rattle.solo_devices.specs.CardUnit.{items_ahead, byte_limit, IsAllTaken}
 use Rattle.deck_format.specs.declared.place.Place.{Place}
 use Rattle.deck_format.specs.JobReader.{jobs_from}
 use Rattle.batch_job.specs.Report.{report}

@@ -1,7 +1,7 @@
 -- What is left to say of the status where no count rose, and of a deck that is too long.
-use Rattle.std.proofs.Common.{◌≡◌, ◌≢◌, ◌⊎◌, ◌<◌, ◌≤◌, ◌+◌, ℕ, List, [], length, Option, Some, None, IfSome, refl, ◌∙◌, sym, ap, inl, inr, arith}
+use Rattle.std.proofs.Common.{◌≡◌, ◌≢◌, ◌⊎◌, ◌≤◌, ◌+◌, ℕ, List, length, Option, Some, None, IfSome, refl, ◌∙◌, ap, inl, inr, arith}
 use Rattle.solo_base.specs.declared.outcome.Cause.{Cause}
-use Rattle.solo_base.specs.declared.outcome.Cause.TheVariants.{Usage, ReadFault, PrintFault, DeckLimit, NoMemory}
+use Rattle.solo_base.specs.declared.outcome.Cause.TheVariants.{Usage, ReadFault, PrintFault, DeckLimit}
 use Rattle.solo_devices.specs.CardUnit.{bytes_total, IsAllTaken}
 use Rattle.net_core.specs.Turns.{IsListCause}
 use Rattle.solo_cli.specs.Status.{status_of}

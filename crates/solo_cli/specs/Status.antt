@@ -1,5 +1,5 @@
 -- The status of a command, and its cause.
-use Rattle.std.specs.Prelude.{◌≡◌, ◌⊎◌, ℕ, Option, Some, None}
+use Rattle.std.specs.Prelude.{ℕ, Option, Some, None}
 use Rattle.solo_base.specs.declared.outcome.Cause.{Cause}
 use Rattle.solo_base.specs.declared.outcome.Cause.TheVariants.{Usage, ReadFault, DiskFault, PrintFault, ConsoleFault, DeckLimit, NotSolo, Damaged, NoMemory}
 

@@ -1,4 +1,4 @@
-use Rattle.std.proofs.Common.{◌≡◌, ◌+◌, ◌≤◌, ◌++◌, length, arith, ap, ◌∙◌, refl}
+use Rattle.std.proofs.Common.{◌≤◌, length, arith, refl}
 use Rattle.std.specs.Fmt.{decimal}
 use Rattle.std.proofs.lemmas.Fmt.{length-decimal-le}
 use Rattle.batch_job.proofs.report.skipped_line.Goals as goal

@@ -1,6 +1,6 @@
 use Rattle.std.proofs.Common.{◌≡◌, ◌∙◌, ap, sym, Some, None, true, false}
 use Rattle.deck_format.specs.Jobs.{opener_in, ends_in, is_some}
-use Rattle.deck_format.specs.JobReader.{behind, control_in, is_in_group, jobs_from}
+use Rattle.deck_format.specs.JobReader.{control_in, is_in_group}
 use Rattle.deck_format.proofs.Steps.{open_more, behind_more}
 use Rattle.deck_format.proofs.place.step.Goals as goal
 use Rattle.deck_format.proofs.place.step.Goals.{else-ends_in-via-then-ends_in+else-is_in_group, else-ends_in-via-else-ends_in}

@@ -1,4 +1,4 @@
-use Rattle.std.proofs.Common.{arith, length, rules}
+use Rattle.std.proofs.Common.{arith, rules}
 use Rattle.deck_format.proofs.Numerals.{OneMore, one_more}
 use Rattle.deck_format.proofs.words.+value_after.Goals as goal
 

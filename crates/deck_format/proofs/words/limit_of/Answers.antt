@@ -1,4 +1,4 @@
-use Rattle.std.proofs.Common.{◌≤◌, length, arith}
+use Rattle.std.proofs.Common.{length, arith}
 use Rattle.deck_format.proofs.Numerals.{first_small}
 use Rattle.deck_format.proofs.words.limit_of.Goals as goal
 

@@ -1,4 +1,4 @@
-use Rattle.std.proofs.Common.{◌≡◌, ◌<◌, ◌∙◌, ℕ, false, length, take, arith, sym}
+use Rattle.std.proofs.Common.{◌≡◌, ◌<◌, ℕ, false, length, take, arith}
 use Rattle.std.specs.Prelude.{◌==◌}
 use Rattle.std.proofs.lemmas.Bool.Decides.{nat_tests}
 use Rattle.deck_format.proofs.Parting.{words-first}

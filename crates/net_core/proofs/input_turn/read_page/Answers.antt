@@ -1,4 +1,4 @@
-use Rattle.std.proofs.Common.{◌≡◌, ◌<◌, ◌∙◌, refl, sym, length, true, false}
+use Rattle.std.proofs.Common.{◌≡◌, ◌∙◌, refl, sym, length, true, false}
 use Rattle.solo_base.specs.declared.item.Item.TheVariants.{Line, Spoiled}
 use Rattle.solo_devices.specs.declared.card_read.CardRead.TheVariants as read
 use Rattle.net_core.proofs.Taking.{read_more, read_end, less_than_six}

@@ -1,6 +1,6 @@
-use Rattle.std.proofs.Common.{true, false, ◌≡◌, refl, ◌∙◌, sym, ap, List, ℕ}
-use Rattle.std.specs.Prelude.{[], ◌∷◌, ◌++◌, IsOk}
-use Rattle.solo_base.specs.Text.{text, line_text}
+use Rattle.std.proofs.Common.{true, false, ◌≡◌, refl, ◌∙◌, sym, ap}
+use Rattle.std.specs.Prelude.{◌++◌, IsOk}
+use Rattle.solo_base.specs.Text.{line_text}
 use Rattle.net_core.specs.Turns.{page_text}
 use Rattle.net_core.proofs.Printing.{prints_none, prints_failed, prints_same, never_ok}
 use Rattle.net_core.proofs.Pages.{page_text-push}

@@ -1,5 +1,5 @@
 use Rattle.std.proofs.Common.{true, false, ◌≡◌, refl, ◌∙◌, sym, ap, ◌+◌, ◌≤◌, drop, length, append_assoc, arith, List, ℕ}
-use Rattle.std.specs.Prelude.{[], ◌∷◌, ◌++◌, IsOk}
+use Rattle.std.specs.Prelude.{◌++◌, IsOk}
 use Rattle.std.proofs.lemmas.List.{append-nil}
 use Rattle.std.proofs.Math.ListN.{drop_of_length-le}
 use Rattle.solo_base.specs.Text.{text, line_text}

@@ -1,5 +1,5 @@
-use Rattle.std.proofs.Common.{◌≡◌, refl}
-use Rattle.std.specs.Prelude.{[], ◌∷◌, ◌++◌, IsOk}
+use Rattle.std.proofs.Common.{refl}
+use Rattle.std.specs.Prelude.{◌∷◌, ◌++◌, IsOk}
 use Rattle.solo_base.specs.Text.{text}
 use Rattle.batch_job.specs.Report.{report}
 use Rattle.net_core.specs.Turns.{page_text, jobs_text}

@@ -1,5 +1,5 @@
-use Rattle.std.proofs.Common.{true, false, ◌≡◌, refl, ◌∙◌, sym, ap, ◌+◌, ◌≤◌, drop, length, arith, List, ℕ}
-use Rattle.std.specs.Prelude.{[], ◌∷◌, ◌++◌, IsOk}
+use Rattle.std.proofs.Common.{true, false, ◌≡◌, refl, ap, ◌+◌, ◌≤◌, drop, length, arith, List, ℕ}
+use Rattle.std.specs.Prelude.{◌∷◌, ◌++◌, IsOk}
 use Rattle.std.proofs.Math.ListN.{drop_of_length-le}
 use Rattle.solo_base.specs.declared.item.Item.{Item}
 use Rattle.net_core.specs.Turns.{page_text, jobs_text}

@@ -1,4 +1,4 @@
-use Rattle.std.proofs.Common.{◌≡◌, ◌<◌, ◌≤◌, ◌++◌, ℕ, List, length, drop, true}
+use Rattle.std.proofs.Common.{◌≡◌, ◌<◌, ◌≤◌, ◌++◌, List, length, drop, true}
 use Rattle.solo_base.specs.declared.item.Item.{Item}
 use Rattle.net_core.specs.Turns.{page_text, jobs_text}
 use Rattle.net_core.specs.Prints.{Prints}

@@ -1,4 +1,4 @@
-use Rattle.std.proofs.Common.{true, ◌≡◌, ◌≤◌, refl, ◌∙◌, ap, sym, arith, subst, Some, [], IsOk}
+use Rattle.std.proofs.Common.{refl, ◌∙◌, ap, sym, arith, subst, IsOk}
 use Rattle.std.specs.Prelude.{Ok}
 use Rattle.solo_base.specs.Text.{text}
 use Rattle.batch_job.specs.OneThread.{one_thread_output}

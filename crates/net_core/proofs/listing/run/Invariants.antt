@@ -1,4 +1,4 @@
-use Rattle.std.proofs.Common.{◌≡◌, ◌<◌, ◌≤◌, ◌++◌, ℕ, List, Some, length, true}
+use Rattle.std.proofs.Common.{◌≡◌, ◌<◌, ◌≤◌, ℕ, List, Some, length, true}
 use Rattle.solo_base.specs.Text.{text}
 use Rattle.solo_devices.specs.CardUnit.{bytes_total, work_ahead}
 use Rattle.batch_job.specs.OneThread.{one_thread_output}

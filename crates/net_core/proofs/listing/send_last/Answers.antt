@@ -1,4 +1,4 @@
-use Rattle.std.proofs.Common.{◌≡◌, ◌∙◌, ap, sym, refl, true, false, List, ℕ}
+use Rattle.std.proofs.Common.{◌≡◌, ◌∙◌, ap, sym, refl, true, false}
 use Rattle.std.specs.Prelude.{[], ◌++◌, IsOk, flat_map}
 use Rattle.std.proofs.lemmas.List.{append-nil}
 use Rattle.solo_base.specs.Text.{text}

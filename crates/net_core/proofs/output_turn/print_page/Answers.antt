@@ -1,6 +1,6 @@
 use Rattle.std.proofs.Common.{true, false, ◌≡◌, refl, ◌+◌, ◌≤◌, drop, length, ap, arith, List, ℕ}
 use Rattle.std.specs.Prelude.{[], ◌∷◌, ◌++◌, IsOk}
-use Rattle.solo_base.specs.Text.{text, line_text}
+use Rattle.solo_base.specs.Text.{text}
 use Rattle.net_core.specs.Page.{lines_in}
 use Rattle.net_core.specs.Turns.{page_text}
 use Rattle.net_core.proofs.Printing.{prints_on, prints_off, prints_same, never_ok}

@@ -1,4 +1,4 @@
-use Rattle.std.proofs.Common.{◌≡◌, ℕ, Some, None, length, ◌∙◌, sym, subst, inl, inr, arith}
+use Rattle.std.proofs.Common.{◌≡◌, Some, None, ◌∙◌, sym, inl, inr, arith}
 use Rattle.solo_base.specs.Text.{text}
 use Rattle.solo_base.specs.declared.outcome.Cause.TheVariants.{DeckLimit}
 use Rattle.solo_cli.specs.declared.words.Command.TheVariants.{Batch}
@@ -17,10 +17,10 @@ returns-clause-complete g c = λ bytes told short deck_stayed paper_stayed is.
     let r : _ = c.run_command-cause.ensures in
     let within : _ = (taken_of (g.S.Source.taken c.run_command-cause.result.1) (g.S.Source.taken c.args.deck) (g.S.Source.left c.run_command-cause.result.1) (g.S.Source.left c.args.deck) bytes c.requires.deck told r.total).0 in
     elim (ends_well c.run_command-cause.result.0 r.known
-      (λ usage. absurd (let no : None ≡ Some Batch = sym (r.usage.0 usage) ∙ is in cc))
-      (λ fault. absurd (omega (arith, deck_stayed, r.read fault)))
-      (λ fault. absurd (omega (arith, paper_stayed, r.print fault)))
-      (λ fault. absurd (omega (arith, short, within, r.limit.0 fault)))) [
+    (λ usage. absurd (let no : None ≡ Some Batch = sym (r.usage.0 usage) ∙ is in cc))
+    (λ fault. absurd (omega (arith, deck_stayed, r.read fault)))
+    (λ fault. absurd (omega (arith, paper_stayed, r.print fault)))
+    (λ fault. absurd (omega (arith, short, within, r.limit.0 fault)))) [
       | inl zero ↦ inl (c.status_of.ensures ∙ zero)
       | inr nine ↦ inr (c.status_of.ensures ∙ nine)
     ]

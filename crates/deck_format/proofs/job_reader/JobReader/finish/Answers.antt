@@ -1,5 +1,5 @@
-use Rattle.std.proofs.Common.{◌≡◌, ◌∙◌, ap, sym, []}
-use Rattle.deck_format.specs.JobReader.{jobs_from, given}
+use Rattle.std.proofs.Common.{◌∙◌, sym}
+use Rattle.deck_format.specs.JobReader.{given}
 use Rattle.deck_format.proofs.Steps.{last_jobs, finish_stands}
 use Rattle.deck_format.proofs.job_reader.JobReader.finish.Goals as goal
 
