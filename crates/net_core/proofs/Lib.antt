@@ -6,6 +6,11 @@ pub mod JobKeeps
 pub mod CoreKeeps
 pub mod Headline
 pub mod Completed
+mod InputSteps
+mod Packing
+mod StreamSteps
+mod JobChoice
+mod JobSteps
 mod Printing
 mod Taking
 mod Pages

@@ -1,13 +1,20 @@
 //! The core of the Job Stream System: its processes over their buffers.
 #![tactic(auto)]
 
+mod input_process;
 mod input_turn;
 mod interleavings;
+mod job_process;
+mod job_stream;
 mod job_turn;
+mod line_packer;
 mod listing;
+mod output_process;
 mod output_turn;
 mod plain_page;
+mod stepped;
 
 pub use interleavings::every_interleaving;
 pub use listing::{Listed, run_lists};
 pub use plain_page::{PAGE_ITEMS, PlainPage};
+pub use stepped::Stepped;
