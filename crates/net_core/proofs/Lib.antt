@@ -11,6 +11,9 @@ mod Packing
 mod StreamSteps
 mod JobChoice
 mod JobSteps
+mod InputActs
+mod JobActs
+mod OutputActs
 mod Printing
 mod Taking
 mod Pages

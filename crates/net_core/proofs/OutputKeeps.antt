@@ -118,7 +118,7 @@ output-prints opening paper stops acts line (output.OutOfMemory part) next may f
     }
 
 -- why it stops is never that its work is done
-stops-undone : (acts : List output.Act) (taken : List Page) (unprinted : List (List ℕ)) → (OutputWorks (output.End (output.outcome_of acts)) → ⊥) × OutputKnows unprinted taken (output.End (output.outcome_of acts))
+pub stops-undone : (acts : List output.Act) (taken : List Page) (unprinted : List (List ℕ)) → (OutputWorks (output.End (output.outcome_of acts)) → ⊥) × OutputKnows unprinted taken (output.End (output.outcome_of acts))
 stops-undone [] taken unprinted = ((λ impossible. impossible), tt)
 stops-undone (output.Takes answer ∷ before) taken unprinted = ((λ impossible. impossible), tt)
 stops-undone (output.Prints line output.Whole ∷ before) taken unprinted = ((λ impossible. impossible), tt)

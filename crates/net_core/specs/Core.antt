@@ -8,8 +8,7 @@ use Rattle.solo_base.specs.Text.{line_text}
 use Rattle.solo_devices.specs.declared.card_read.CardRead.{CardRead}
 use Rattle.solo_devices.specs.declared.card_read.CardRead.TheVariants as read
 use Rattle.solo_devices.specs.CardUnit.{item_of}
-use Rattle.queue_var.specs.declared.turn.Turn.TheVariants.{Free}
-use Rattle.queue_var.specs.Sides.{MayEnter, queue, nobody}
+use Rattle.queue_var.specs.Sides.{MayEnter, MayStop, nobody}
 use Rattle.slot_buffer.specs.declared.answers.Put.{Put}
 use Rattle.slot_buffer.specs.declared.answers.Take.{Take}
 use Rattle.slot_buffer.specs.Slot.{Slot, put_answer, after_put, take_answer, after_take, after_stop}
@@ -110,14 +109,10 @@ pub record Gives (deck : Option (List Item)) (answer : CardRead) : Type 0 where
 abbrev pub IsPart : List ℕ → List ℕ → Type 0
 IsPart part line = (rest : List ℕ) × (part ++ rest ≡ line_text line)
 
--- a stop is no call that waits: nobody of the side is in its queue, and the turn is free
-abbrev pub MayStop : Buffer → Side → Type 0
-MayStop buffer side = (buffer.slot.sides.turn ≡ Free) × (queue buffer.slot.sides side ≡ None)
-
 abbrev pub InputMay : State → input.Next → input.Act → Type 0
 InputMay s input.ReadCard (input.Reads answer) = Gives s.deck answer
 InputMay s (input.PutPage page) (input.Puts put answer) = (put ≡ page) × (answer ≡ put_answer s.first.slot page) × MayEnter s.first.slot.sides Sender input_number
-InputMay s input.Stop input.Stops = MayStop s.first Sender
+InputMay s input.Stop input.Stops = MayStop s.first.slot.sides Sender
 InputMay s (input.End outcome) (input.Ends ended) = ended ≡ outcome
 InputMay s next act = ⊥
 
@@ -125,8 +120,8 @@ abbrev pub JobMay : State → job.Next → job.Act → Type 0
 JobMay s job.TakePage (job.Takes answer memory) = (answer ≡ take_answer s.first.slot) × MayEnter s.first.slot.sides Receiver job_number
 JobMay s job.Work (job.Works memory) = Unit {0}
 JobMay s (job.PutPage page) (job.Puts put answer) = (put ≡ page) × (answer ≡ put_answer s.second.slot page) × MayEnter s.second.slot.sides Sender job_number
-JobMay s (job.Stop job.First) (job.Stops job.First) = MayStop s.first Receiver
-JobMay s (job.Stop job.Second) (job.Stops job.Second) = MayStop s.second Sender
+JobMay s (job.Stop job.First) (job.Stops job.First) = MayStop s.first.slot.sides Receiver
+JobMay s (job.Stop job.Second) (job.Stops job.Second) = MayStop s.second.slot.sides Sender
 JobMay s (job.End outcome) (job.Ends ended) = ended ≡ outcome
 JobMay s next act = ⊥
 
@@ -138,7 +133,7 @@ PrintMay line (output.OutOfMemory part) = IsPart part line
 abbrev pub OutputMay : State → output.Next → output.Act → Type 0
 OutputMay s output.TakePage (output.Takes answer) = (answer ≡ take_answer s.second.slot) × MayEnter s.second.slot.sides Receiver output_number
 OutputMay s (output.Print line) (output.Prints printed answer) = (printed ≡ line) × PrintMay line answer
-OutputMay s output.Stop output.Stops = MayStop s.second Receiver
+OutputMay s output.Stop output.Stops = MayStop s.second.slot.sides Receiver
 OutputMay s (output.End outcome) (output.Ends ended) = ended ≡ outcome
 OutputMay s next act = ⊥
 

@@ -1,13 +1,17 @@
 -- Where the input process stands after a history of its actions.
-use Rattle.std.specs.Prelude.{◌≡◌, ◌<◌, ℕ, Bool, true, false, List, [], ◌∷◌, length, Some}
+use Rattle.std.specs.Prelude.{◌≡◌, ◌<◌, ℕ, Bool, true, false, List, [], ◌∷◌, length, Option, Some}
 use Rattle.solo_base.specs.declared.outcome.Outcome.{Outcome}
+use Rattle.solo_base.specs.declared.item.Item.{Item}
+use Rattle.solo_base.specs.declared.outcome.Side.TheVariants.{Sender}
+use Rattle.queue_var.specs.Sides.{MayEnter, MayStop, has_stopped}
 use Rattle.slot_buffer.specs.declared.answers.Put.{Put}
 use Rattle.slot_buffer.specs.Slot.{Slot, after_put}
 use Rattle.net_core.specs.declared.stepped.Stepped.{Stepped}
 use Rattle.net_core.specs.Steps.{put_step}
-use Rattle.net_core.specs.Core.{input_number}
+use Rattle.net_core.specs.Core.{State, input_number}
 use Rattle.net_core.specs.Page.{Page}
 use Rattle.net_core.specs.Input as input
+use Rattle.net_core.specs.Facts.{InputWorks}
 use Rattle.net_core.specs.declared.input_process.InputProcess.{InputProcess}
 use Rattle.net_core.specs.declared.input_process.InputPhase.{InputPhase}
 use Rattle.net_core.specs.declared.input_process.InputPhase.TheVariants as phase
@@ -45,3 +49,25 @@ pub record Puts (old new : InputProcess) (first first_then : Slot Page) (answer 
   pub process : (acts : List input.Act) → IsAt old acts → IsAt new (input.Puts old.page answer ∷ acts)
   pub buffer : first_then ≡ after_put first input_number old.page answer
   pub step_is : step ≡ put_step first.sides.turn answer
+
+-- ---- its next action
+-- its next action is enabled
+abbrev pub MayAct : InputPhase → Slot Page → Type 0
+MayAct phase.Read first = Unit {0}
+MayAct phase.Put first = MayEnter first.sides Sender input_number
+MayAct (phase.Stop how) first = MayStop first.sides Sender
+MayAct (phase.End how) first = Unit {0}
+MayAct (phase.Ended how) first = ⊥
+
+-- what its calls ask for beside that
+pub record IsReady (process : InputProcess) (live : Bool) (first : Slot Page) : Type 0 where
+  pub room : process.phase ≡ phase.Read → length process.page.items < 6
+  pub live_is : process.phase ≡ phase.Read → live ≡ true
+  pub not_stopped : process.phase ≡ phase.Put → has_stopped first.sides Sender ≡ false
+
+-- The process, what its card unit tells and whether that may be read, and its buffer stand for a state.
+pub record Stands (process : InputProcess) (deck : Option (List Item)) (live : Bool) (first : Slot Page) (s : State) : Type 0 where
+  pub at : IsAt process s.input
+  pub deck_is : s.deck ≡ deck
+  pub live_is : InputWorks (input.next s.input) → live ≡ true
+  pub first_is : s.first.slot ≡ first

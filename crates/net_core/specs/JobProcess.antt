@@ -3,13 +3,15 @@ use Rattle.std.specs.Prelude.{◌≡◌, ◌≢◌, ◌≤◌, ℕ, false, List,
 use Rattle.solo_base.specs.declared.outcome.Outcome.{Outcome}
 use Rattle.solo_base.specs.declared.outcome.Outcome.TheVariants as outcome
 use Rattle.solo_base.specs.declared.outcome.Cause.TheVariants.{NoMemory}
+use Rattle.solo_base.specs.declared.outcome.Side.TheVariants.{Sender, Receiver}
+use Rattle.queue_var.specs.Sides.{MayEnter, MayStop, has_stopped}
 use Rattle.slot_buffer.specs.declared.answers.Take.{Take}
 use Rattle.slot_buffer.specs.declared.answers.Put.{Put}
 use Rattle.slot_buffer.specs.Slot.{Slot, after_put, after_take}
 use Rattle.deck_format.specs.declared.job.Job.{Job}
 use Rattle.deck_format.specs.JobReader.{given}
 use Rattle.net_core.specs.Page.{Page, items_in, is_ended}
-use Rattle.net_core.specs.Core.{job_number}
+use Rattle.net_core.specs.Core.{State, job_number}
 use Rattle.net_core.specs.Job as job
 use Rattle.net_core.specs.JobStream.{StandsAt, IsSpent}
 use Rattle.net_core.specs.LinePacker.{page_of, waiting}
@@ -102,3 +104,29 @@ pub record Puts (old new : JobProcess) (second second_then : Slot Page) (answer 
   pub process : (acts : List job.Act) → IsAt old acts → IsAt new (job.Puts (page_of old.lines) answer ∷ acts)
   pub buffer : second_then ≡ after_put second job_number (page_of old.lines) answer
   pub step_is : step ≡ put_step second.sides.turn answer
+
+-- ---- its next action
+-- its next action is enabled
+abbrev pub MayAct : JobPhase → Slot Page → Slot Page → Type 0
+MayAct phase.Take first second = MayEnter first.sides Receiver job_number
+MayAct phase.Work first second = Unit {0}
+MayAct phase.Put first second = MayEnter second.sides Sender job_number
+MayAct (phase.StopFirst how) first second = MayStop first.sides Receiver
+MayAct (phase.StopSecond how) first second = MayStop second.sides Sender
+MayAct (phase.End how) first second = Unit {0}
+MayAct (phase.Ended how) first second = ⊥
+
+-- what its calls ask for beside that
+pub record IsReady (process : JobProcess) (first second : Slot Page) : Type 0 where
+  pub none_left : process.phase ≡ phase.Take → process.cards.left ≡ []
+  pub not_ended : process.phase ≡ phase.Take → process.cards.last ≡ false
+  pub no_job : process.phase ≡ phase.Take → process.job ≡ None
+  pub none_behind : process.phase ≡ phase.Work → process.lines.rest ≡ []
+  pub first_not_stopped : process.phase ≡ phase.Take → has_stopped first.sides Receiver ≡ false
+  pub second_not_stopped : process.phase ≡ phase.Put → has_stopped second.sides Sender ≡ false
+
+-- The process and its buffers stand for a state.
+pub record Stands (process : JobProcess) (first second : Slot Page) (s : State) : Type 0 where
+  pub at : IsAt process s.job
+  pub first_is : s.first.slot ≡ first
+  pub second_is : s.second.slot ≡ second

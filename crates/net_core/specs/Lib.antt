@@ -10,13 +10,14 @@ pub mod Input
 pub mod Job
 pub mod Output
 pub mod Core
+pub mod Facts
 pub mod Steps
 pub mod InputProcess
 pub mod JobStream
 pub mod LinePacker
 pub mod JobProcess
 pub mod OutputProcess
-pub mod Facts
+pub mod Network
 pub mod EveryInterleaving
 pub mod Prints
 pub mod Turns

@@ -1,16 +1,19 @@
 -- Where the output process stands after a history of its actions.
-use Rattle.std.specs.Prelude.{◌≡◌, ◌≤◌, ℕ, Bool, true, false, List, [], ◌∷◌, length, drop, Some}
+use Rattle.std.specs.Prelude.{◌≡◌, ◌≤◌, ℕ, Bool, true, false, List, [], ◌∷◌, length, drop, Option, Some}
 use Rattle.solo_base.specs.declared.outcome.Outcome.{Outcome}
 use Rattle.solo_base.specs.declared.outcome.Outcome.TheVariants as outcome
 use Rattle.solo_devices.specs.declared.printer_unit.PrintFault.{PrintFault}
 use Rattle.solo_devices.specs.declared.printer_unit.PrintFault.TheVariants.{Failed, NoMemory}
+use Rattle.solo_base.specs.declared.outcome.Side.TheVariants.{Receiver}
+use Rattle.queue_var.specs.Sides.{MayEnter, MayStop, has_stopped}
 use Rattle.slot_buffer.specs.declared.answers.Take.{Take}
 use Rattle.slot_buffer.specs.Slot.{Slot, after_take}
 use Rattle.net_core.specs.declared.stepped.Stepped.{Stepped}
 use Rattle.net_core.specs.Steps.{take_step}
-use Rattle.net_core.specs.Core.{output_number}
+use Rattle.net_core.specs.Core.{State, output_number}
 use Rattle.net_core.specs.Page.{Page, lines_in}
 use Rattle.net_core.specs.Output as output
+use Rattle.net_core.specs.Facts.{OutputWorks}
 use Rattle.net_core.specs.declared.output_process.OutputProcess.{OutputProcess}
 use Rattle.net_core.specs.declared.output_process.OutputPhase.{OutputPhase}
 use Rattle.net_core.specs.declared.output_process.OutputPhase.TheVariants as phase
@@ -61,3 +64,25 @@ pub record Takes (old new : OutputProcess) (second second_then : Slot Page) (ans
   pub process : (acts : List output.Act) → IsAt old acts → IsAt new (output.Takes answer ∷ acts)
   pub buffer : second_then ≡ after_take second output_number answer
   pub step_is : step ≡ take_step second.sides.turn answer
+
+-- ---- its next action
+-- its next action is enabled
+abbrev pub MayAct : OutputPhase → Slot Page → Type 0
+MayAct phase.Take second = MayEnter second.sides Receiver output_number
+MayAct (phase.Print line) second = Unit {0}
+MayAct (phase.Stop how) second = MayStop second.sides Receiver
+MayAct (phase.End how) second = Unit {0}
+MayAct (phase.Ended how) second = ⊥
+
+-- what its calls ask for beside that
+pub record IsReady (process : OutputProcess) (live : Bool) (second : Slot Page) : Type 0 where
+  pub live_is : (line : List ℕ) → process.phase ≡ phase.Print line → live ≡ true
+  pub within : (line : List ℕ) → process.phase ≡ phase.Print line → process.place ≤ length process.page.items
+  pub not_stopped : process.phase ≡ phase.Take → has_stopped second.sides Receiver ≡ false
+
+-- The process, what its paper tells and whether the printer unit may print, and its buffer stand for a state.
+pub record Stands (process : OutputProcess) (paper : Option (List ℕ)) (live : Bool) (second : Slot Page) (s : State) : Type 0 where
+  pub at : IsAt process s.output
+  pub paper_is : s.paper ≡ paper
+  pub live_is : OutputWorks (output.next s.output) → live ≡ true
+  pub second_is : s.second.slot ≡ second

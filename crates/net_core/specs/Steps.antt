@@ -1,4 +1,5 @@
--- What kind of step an entry of a monitor is.
+-- The step of a process: the event that it is, and of what kind.
+use Rattle.std.specs.Prelude.{◌≡◌, ℕ}
 use Rattle.solo_base.specs.declared.outcome.Side.{Side}
 use Rattle.queue_var.specs.declared.turn.Turn.{Turn}
 use Rattle.queue_var.specs.declared.turn.Turn.TheVariants.{Free, Handed}
@@ -7,8 +8,12 @@ use Rattle.slot_buffer.specs.declared.answers.Put.TheVariants as put
 use Rattle.slot_buffer.specs.declared.answers.Take.{Take}
 use Rattle.slot_buffer.specs.declared.answers.Take.TheVariants as take
 use Rattle.net_core.specs.Page.{Page}
+use Rattle.net_core.specs.Input as input
+use Rattle.net_core.specs.Job as job
+use Rattle.net_core.specs.Output as output
+use Rattle.net_core.specs.Core.{State, Event, Input, Job, Output, IsEnabled, happens, input_number, job_number, output_number}
 use Rattle.net_core.specs.declared.stepped.Stepped.{Stepped}
-use Rattle.net_core.specs.declared.stepped.Stepped.TheVariants.{Acted, Delayed, Resumed}
+use Rattle.net_core.specs.declared.stepped.Stepped.TheVariants.{Acted, Delayed, Resumed, Ended}
 
 -- an entry of a process to which the turn was handed is its resumption
 abbrev pub entered : Turn Side → Stepped
@@ -24,3 +29,37 @@ abbrev pub take_step : Turn Side → Take Page → Stepped
 take_step turn (take.Item page) = entered turn
 take_step turn take.Delayed = Delayed
 take_step turn take.Stopped = entered turn
+
+-- whose event it is
+abbrev pub number_of : Event → ℕ
+number_of (Input act) = input_number
+number_of (Job act) = job_number
+number_of (Output act) = output_number
+
+-- a device action, a local action and a stop are done at once; an entry by the buffer's answer
+abbrev pub kind : State → Event → Stepped
+kind s (Input (input.Reads answer)) = Acted
+kind s (Input (input.Puts page answer)) = put_step s.first.slot.sides.turn answer
+kind s (Input input.Stops) = Acted
+kind s (Input (input.Ends how)) = Ended
+kind s (Job (job.Takes answer memory)) = take_step s.first.slot.sides.turn answer
+kind s (Job (job.Works memory)) = Acted
+kind s (Job (job.Puts page answer)) = put_step s.second.slot.sides.turn answer
+kind s (Job (job.Stops its)) = Acted
+kind s (Job (job.Ends how)) = Ended
+kind s (Output (output.Takes answer)) = take_step s.second.slot.sides.turn answer
+kind s (Output (output.Prints line answer)) = Acted
+kind s (Output output.Stops) = Acted
+kind s (Output (output.Ends how)) = Ended
+
+-- some event of this process may happen
+abbrev pub MayStep : State → ℕ → Type 0
+MayStep s p = (event : Event) × (number_of event ≡ p) × IsEnabled s event
+
+-- From this state a process made a step of this kind: an enabled event of its own, after which this holds of the state.
+pub record Steps (s : State) (p : ℕ) (step : Stepped) (Then : State → Type 0) : Type 0 where
+  pub event : Event
+  pub its_own : number_of event ≡ p
+  pub enabled : IsEnabled s event
+  pub step_is : step ≡ kind s event
+  pub after : Then (happens s event)

@@ -1,18 +1,19 @@
-ghost use Rattle.std.specs.Prelude.{◌≡◌, ◌<◌, ◌==◌, List, [], ◌∷◌, ◌++◌, length, false, if◌then◌else◌};
-ghost use Rattle.std.specs.Prelude.{None};
+ghost use Rattle.std.specs.Prelude.{◌≡◌, ◌<◌, ◌==◌, ◌↔◌, List, [], ◌∷◌, ◌++◌, length, false, if◌then◌else◌, None, IsTrue};
 ghost use Rattle.solo_base.specs.declared.outcome.Side.TheVariants.{Sender};
 ghost use Rattle.queue_var.specs.declared.turn.Turn.TheVariants.{Free};
 ghost use Rattle.queue_var.specs.Sides.{MayEnter, has_stopped, queue};
 ghost use Rattle.slot_buffer.specs.Slot.{put_answer, after_stop};
-ghost use Rattle.net_core.specs.Core.{input_number};
+ghost use Rattle.solo_devices.specs.CardUnit.{items_ahead};
+ghost use Rattle.net_core.specs.Core.{State, input_number};
+ghost use Rattle.net_core.specs.Steps.{Steps};
 ghost use Rattle.net_core.specs.Input as input;
-ghost use Rattle.net_core.specs.InputProcess.{IsAt, Puts};
+ghost use Rattle.net_core.specs.InputProcess.{IsAt, IsReady, MayAct, Puts, Stands};
 ghost use Rattle.net_core.specs.declared.input_process.InputPhase.TheVariants as phase;
 
 use crate::{PlainPage, Stepped};
 use slot_buffer::{Put, SlotBuffer};
 use solo_base::{Cause, Item, Outcome, ProcNo, Side};
-use solo_devices::CardRead;
+use solo_devices::{CardRead, CardUnit, Source};
 use std::mem;
 
 /// The number of the input process.
@@ -46,8 +47,50 @@ impl InputProcess {
         }
     }
 
+    /// Whether its next action is enabled.
+    pub fn may_act(&self, first: &SlotBuffer<PlainPage>) -> bool
+        ensures { IsTrue result ↔ MayAct self.now.phase first.now }
+    {
+        match self.phase {
+            InputPhase::Read | InputPhase::End(_) => true,
+            InputPhase::Put => first.may_enter(Side::Sender, INPUT),
+            InputPhase::Stop(_) => first.may_stop(Side::Sender),
+            InputPhase::Ended(_) => false,
+        }
+    }
+
+    /// Takes its next action.
+    pub fn step<S: Source>(
+        &mut self,
+        deck: &mut CardUnit<S>,
+        first: &mut SlotBuffer<PlainPage>,
+    ) -> Stepped
+        requires may { MayAct self.old.phase first.old }
+        requires ready { IsReady self.old deck.old.live first.old }
+        ensures steps { (s : State) → Stands self.old (items_ahead (S.left deck.old.source) deck.old.pending) deck.old.live first.old s →
+            Steps s input_number result (Stands self.new (items_ahead (S.left deck.new.source) deck.new.pending) deck.new.live first.new) }
+    {
+        match self.phase {
+            InputPhase::Read => {
+                let answer = deck.read();
+                self.take_card(answer);
+                Stepped::Acted
+            }
+            InputPhase::Put => self.put(first),
+            InputPhase::Stop(how) => {
+                self.stop(how, first);
+                Stepped::Acted
+            }
+            InputPhase::End(how) => {
+                self.end(how);
+                Stepped::Ended
+            }
+            InputPhase::Ended(_) => unreachable!(),
+        }
+    }
+
     /// Takes what the card unit answered.
-    pub fn take_card(&mut self, answer: CardRead)
+    fn take_card(&mut self, answer: CardRead)
         requires reads { self.old.phase ≡ phase.Read }
         requires room { length self.old.page.items < 6 }
         ensures { (acts : List input.Act) → IsAt self.old acts → IsAt self.new (input.Reads answer ∷ acts) }
@@ -78,7 +121,7 @@ impl InputProcess {
     }
 
     /// Puts the page in hand into the buffer.
-    pub fn put(&mut self, first: &mut SlotBuffer<PlainPage>) -> Stepped
+    fn put(&mut self, first: &mut SlotBuffer<PlainPage>) -> Stepped
         requires puts { self.old.phase ≡ phase.Put }
         requires may_enter { MayEnter first.old.sides Sender input_number }
         requires not_stopped { has_stopped first.old.sides Sender ≡ false }
@@ -104,7 +147,7 @@ impl InputProcess {
     }
 
     /// Stops the buffer.
-    pub fn stop(&mut self, how: Outcome, first: &mut SlotBuffer<PlainPage>)
+    fn stop(&mut self, how: Outcome, first: &mut SlotBuffer<PlainPage>)
         requires stops { self.old.phase ≡ phase.Stop how }
         requires free { first.old.sides.turn ≡ Free }
         requires nobody_waits { queue first.old.sides Sender ≡ None }
@@ -116,7 +159,7 @@ impl InputProcess {
     }
 
     /// Ends.
-    pub fn end(&mut self, how: Outcome)
+    fn end(&mut self, how: Outcome)
         requires ends { self.old.phase ≡ phase.End how }
         ensures { (acts : List input.Act) → IsAt self.old acts → IsAt self.new (input.Ends how ∷ acts) }
     {

@@ -1,13 +1,14 @@
-ghost use Rattle.std.specs.Prelude.{◌≡◌, ◌≢◌, List, [], ◌∷◌, false, None};
+ghost use Rattle.std.specs.Prelude.{◌≡◌, ◌↔◌, IsTrue, List, [], ◌∷◌, false, None};
 ghost use Rattle.solo_base.specs.declared.outcome.Side.TheVariants.{Sender, Receiver};
 ghost use Rattle.queue_var.specs.declared.turn.Turn.TheVariants.{Free};
 ghost use Rattle.queue_var.specs.Sides.{MayEnter, has_stopped, queue};
 ghost use Rattle.slot_buffer.specs.Slot.{put_answer, take_answer, after_stop};
-ghost use Rattle.net_core.specs.Core.{job_number};
+ghost use Rattle.net_core.specs.Core.{State, job_number};
+ghost use Rattle.net_core.specs.Steps.{Steps};
 ghost use Rattle.net_core.specs.Job as job;
 ghost use Rattle.net_core.specs.JobStream.{IsSpent};
 ghost use Rattle.net_core.specs.LinePacker.{page_of};
-ghost use Rattle.net_core.specs.JobProcess.{IsAt, LooksAhead, Ready, Takes, Works, Puts};
+ghost use Rattle.net_core.specs.JobProcess.{IsAt, IsReady, LooksAhead, MayAct, Puts, Ready, Stands, Takes, Works};
 ghost use Rattle.net_core.specs.declared.job_process.JobPhase.TheVariants as phase;
 
 use crate::job_stream::JobStream;
@@ -57,8 +58,60 @@ impl JobProcess {
         }
     }
 
+    /// Whether its next action is enabled.
+    pub fn may_act(
+        &self,
+        first: &SlotBuffer<PlainPage>,
+        second: &SlotBuffer<PlainPage>,
+    ) -> bool
+        ensures { IsTrue result ↔ MayAct self.now.phase first.now second.now }
+    {
+        match self.phase {
+            JobPhase::Take => first.may_enter(Side::Receiver, JOB),
+            JobPhase::Work | JobPhase::End(_) => true,
+            JobPhase::Put => second.may_enter(Side::Sender, JOB),
+            JobPhase::StopFirst(_) => first.may_stop(Side::Receiver),
+            JobPhase::StopSecond(_) => second.may_stop(Side::Sender),
+            JobPhase::Ended(_) => false,
+        }
+    }
+
+    /// Takes its next action.
+    pub fn step(
+        &mut self,
+        alloc: Global,
+        first: &mut SlotBuffer<PlainPage>,
+        second: &mut SlotBuffer<PlainPage>,
+    ) -> Stepped
+        requires may { MayAct self.old.phase first.old second.old }
+        requires ready { IsReady self.old first.old second.old }
+        ensures steps { (s : State) → Stands self.old first.old second.old s → Steps s job_number result (Stands self.new first.new second.new) }
+    {
+        match self.phase {
+            JobPhase::Take => self.take(first),
+            JobPhase::Work => {
+                self.work(alloc);
+                Stepped::Acted
+            }
+            JobPhase::Put => self.put(second),
+            JobPhase::StopFirst(how) => {
+                self.stop_first(how, first);
+                Stepped::Acted
+            }
+            JobPhase::StopSecond(how) => {
+                self.stop_second(how, second);
+                Stepped::Acted
+            }
+            JobPhase::End(how) => {
+                self.end(how);
+                Stepped::Ended
+            }
+            JobPhase::Ended(_) => unreachable!(),
+        }
+    }
+
     /// Takes a page from the first buffer, and looks for the first job that it completes.
-    pub fn take(&mut self, first: &mut SlotBuffer<PlainPage>) -> Stepped
+    fn take(&mut self, first: &mut SlotBuffer<PlainPage>) -> Stepped
         requires takes { self.old.phase ≡ phase.Take }
         requires none_left { self.old.cards.left ≡ [] }
         requires not_ended { self.old.cards.last ≡ false }
@@ -83,7 +136,7 @@ impl JobProcess {
     }
 
     /// Works on the job that comes next, and looks for the one behind it.
-    pub fn work(&mut self, alloc: Global)
+    fn work(&mut self, alloc: Global)
         requires works { self.old.phase ≡ phase.Work }
         requires none_behind { self.old.lines.rest ≡ [] }
         ensures { Works self.old self.new }
@@ -101,7 +154,7 @@ impl JobProcess {
     }
 
     /// Puts the page of lines into the second buffer.
-    pub fn put(&mut self, second: &mut SlotBuffer<PlainPage>) -> Stepped
+    fn put(&mut self, second: &mut SlotBuffer<PlainPage>) -> Stepped
         requires puts { self.old.phase ≡ phase.Put }
         requires may_enter { MayEnter second.old.sides Sender job_number }
         requires not_stopped { has_stopped second.old.sides Sender ≡ false }
@@ -130,7 +183,7 @@ impl JobProcess {
     }
 
     /// Stops the first buffer.
-    pub fn stop_first(&mut self, how: Outcome, first: &mut SlotBuffer<PlainPage>)
+    fn stop_first(&mut self, how: Outcome, first: &mut SlotBuffer<PlainPage>)
         requires stops { self.old.phase ≡ phase.StopFirst how }
         requires free { first.old.sides.turn ≡ Free }
         requires nobody_waits { queue first.old.sides Receiver ≡ None }
@@ -142,7 +195,7 @@ impl JobProcess {
     }
 
     /// Stops the second buffer.
-    pub fn stop_second(&mut self, how: Outcome, second: &mut SlotBuffer<PlainPage>)
+    fn stop_second(&mut self, how: Outcome, second: &mut SlotBuffer<PlainPage>)
         requires stops { self.old.phase ≡ phase.StopSecond how }
         requires free { second.old.sides.turn ≡ Free }
         requires nobody_waits { queue second.old.sides Sender ≡ None }
@@ -154,7 +207,7 @@ impl JobProcess {
     }
 
     /// Ends.
-    pub fn end(&mut self, how: Outcome)
+    fn end(&mut self, how: Outcome)
         requires ends { self.old.phase ≡ phase.End how }
         ensures { (acts : List job.Act) → IsAt self.old acts → IsAt self.new (job.Ends how ∷ acts) }
     {

@@ -1,18 +1,19 @@
-ghost use Rattle.std.specs.Prelude.{◌≡◌, ◌≤◌, ℕ, List, [], ◌∷◌, length, drop, None, Some, IfSome, IfNone, Ok, Err, false};
+ghost use Rattle.std.specs.Prelude.{◌≡◌, ◌≤◌, ◌↔◌, IsTrue, ℕ, List, [], ◌∷◌, length, drop, None, Some, IfSome, IfNone, Ok, Err, false};
 ghost use Rattle.solo_base.specs.declared.outcome.Side.TheVariants.{Receiver};
 ghost use Rattle.queue_var.specs.declared.turn.Turn.TheVariants.{Free};
 ghost use Rattle.queue_var.specs.Sides.{MayEnter, has_stopped, queue};
 ghost use Rattle.slot_buffer.specs.Slot.{take_answer, after_stop};
 ghost use Rattle.net_core.specs.Page.{lines_in};
-ghost use Rattle.net_core.specs.Core.{output_number};
+ghost use Rattle.net_core.specs.Core.{State, output_number};
+ghost use Rattle.net_core.specs.Steps.{Steps};
 ghost use Rattle.net_core.specs.Output as output;
-ghost use Rattle.net_core.specs.OutputProcess.{IsAt, Takes, GoesOn, printed_as};
+ghost use Rattle.net_core.specs.OutputProcess.{IsAt, IsReady, MayAct, Stands, Takes, GoesOn, printed_as};
 ghost use Rattle.net_core.specs.declared.output_process.OutputPhase.TheVariants as phase;
 
 use crate::{PlainPage, Stepped};
 use slot_buffer::{SlotBuffer, Take};
 use solo_base::{Cause, Item, Line, Outcome, ProcNo, Side};
-use solo_devices::PrintFault;
+use solo_devices::{PrintFault, PrinterUnit, Sink};
 
 /// The number of the output process.
 pub const OUTPUT: ProcNo = 3;
@@ -48,8 +49,54 @@ impl OutputProcess {
         }
     }
 
+    /// Whether its next action is enabled.
+    pub fn may_act(&self, second: &SlotBuffer<PlainPage>) -> bool
+        ensures { IsTrue result ↔ MayAct self.now.phase second.now }
+    {
+        match self.phase {
+            OutputPhase::Take => second.may_enter(Side::Receiver, OUTPUT),
+            OutputPhase::Print(_) | OutputPhase::End(_) => true,
+            OutputPhase::Stop(_) => second.may_stop(Side::Receiver),
+            OutputPhase::Ended(_) => false,
+        }
+    }
+
+    /// Takes its next action.
+    pub fn step<K: Sink>(
+        &mut self,
+        paper: &mut PrinterUnit<K>,
+        second: &mut SlotBuffer<PlainPage>,
+    ) -> Stepped
+        requires may { MayAct self.old.phase second.old }
+        requires ready { IsReady self.old paper.old.live second.old }
+        ensures steps { (s : State) → Stands self.old (K.given paper.old.sink) paper.old.live second.old s →
+            Steps s output_number result (Stands self.new (K.given paper.new.sink) paper.new.live second.new) }
+    {
+        match &self.phase {
+            OutputPhase::Take => self.take(second),
+            OutputPhase::Print(line) => {
+                match paper.print(line) {
+                    Ok(()) => self.was_printed(),
+                    Err(fault) => self.was_refused(fault),
+                }
+                Stepped::Acted
+            }
+            OutputPhase::Stop(how) => {
+                let how = *how;
+                self.stop(how, second);
+                Stepped::Acted
+            }
+            OutputPhase::End(how) => {
+                let how = *how;
+                self.end(how);
+                Stepped::Ended
+            }
+            OutputPhase::Ended(_) => unreachable!(),
+        }
+    }
+
     /// Takes a page from the buffer.
-    pub fn take(&mut self, second: &mut SlotBuffer<PlainPage>) -> Stepped
+    fn take(&mut self, second: &mut SlotBuffer<PlainPage>) -> Stepped
         requires takes { self.old.phase ≡ phase.Take }
         requires may_enter { MayEnter second.old.sides Receiver output_number }
         requires not_stopped { has_stopped second.old.sides Receiver ≡ false }
@@ -71,7 +118,7 @@ impl OutputProcess {
     }
 
     /// Goes on once the line was printed.
-    pub fn was_printed(&mut self)
+    fn was_printed(&mut self)
         requires within { self.old.place ≤ length self.old.page.items }
         ensures { (line : List ℕ) (acts : List output.Act) → self.old.phase ≡ phase.Print line → IsAt self.old acts →
             IsAt self.new (output.Prints line output.Whole ∷ acts) }
@@ -80,7 +127,7 @@ impl OutputProcess {
     }
 
     /// Stops because a line was refused.
-    pub fn was_refused(&mut self, fault: PrintFault)
+    fn was_refused(&mut self, fault: PrintFault)
         ensures { (line part : List ℕ) (acts : List output.Act) → self.old.phase ≡ phase.Print line → IsAt self.old acts →
             IsAt self.new (output.Prints line (printed_as fault part) ∷ acts) }
     {
@@ -92,7 +139,7 @@ impl OutputProcess {
     }
 
     /// Stops the buffer.
-    pub fn stop(&mut self, how: Outcome, second: &mut SlotBuffer<PlainPage>)
+    fn stop(&mut self, how: Outcome, second: &mut SlotBuffer<PlainPage>)
         requires stops { self.old.phase ≡ phase.Stop how }
         requires free { second.old.sides.turn ≡ Free }
         requires nobody_waits { queue second.old.sides Receiver ≡ None }
@@ -104,7 +151,7 @@ impl OutputProcess {
     }
 
     /// Ends.
-    pub fn end(&mut self, how: Outcome)
+    fn end(&mut self, how: Outcome)
         requires ends { self.old.phase ≡ phase.End how }
         ensures { (acts : List output.Act) → IsAt self.old acts → IsAt self.new (output.Ends how ∷ acts) }
     {

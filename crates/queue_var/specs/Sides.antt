@@ -60,6 +60,10 @@ abbrev pub MayEnter : Sides → Side → ℕ → Type 0
 MayEnter sides side p =
     ((sides.turn ≡ Free) × (queue sides side ≡ None)) ⊎ ((sides.turn ≡ Handed side) × (queue sides side ≡ Some p))
 
+-- A stop is no call that waits: a side may stop where the turn is free and nobody of the side waits.
+abbrev pub MayStop : Sides → Side → Type 0
+MayStop sides side = (sides.turn ≡ Free) × (queue sides side ≡ None)
+
 abbrev pub with_queue : Sides → Side → Option ℕ → Sides
 with_queue sides side held =
     record sides {

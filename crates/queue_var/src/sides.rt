@@ -2,7 +2,7 @@
 ghost use Rattle.std.specs.Prelude.{◌≡◌, ◌↔◌, ◌⊎◌, ℕ, Option, IsTrue};
 ghost use Rattle.queue_var.specs.declared.turn.Turn.TheVariants.{Free, Handed};
 ghost use Rattle.queue_var.specs.Turn.{handed};
-ghost use Rattle.queue_var.specs.Sides.{nobody, queue, entered, delayed, continued, stopped, stopped_by};
+ghost use Rattle.queue_var.specs.Sides.{MayEnter, MayStop, nobody, queue, entered, delayed, continued, stopped, stopped_by};
 
 use crate::{QueueVar, Stops, Turn};
 use solo_base::{ProcNo, Side};
@@ -62,6 +62,37 @@ impl Sides {
         }
     }
 
+    /// The process that waits on a side.
+    pub fn waiting(&self, side: Side) -> Option<ProcNo>
+        ensures { result ≡ queue self.now side }
+    {
+        match side {
+            Side::Sender => self.sender.cont(),
+            Side::Receiver => self.receiver.cont(),
+        }
+    }
+
+    /// Whether a process may enter by a side: the turn is free and nobody of the side waits, or the turn is
+    /// handed to it.
+    pub fn may_enter(&self, side: Side, p: ProcNo) -> bool
+        ensures { IsTrue result ↔ MayEnter self.now side p }
+    {
+        match self.turn {
+            Turn::Free => self.waiting(side).is_none(),
+            Turn::Handed(handed) => handed == side && self.waiting(side) == Some(p),
+        }
+    }
+
+    /// Whether a side may stop: the turn is free and nobody of the side waits.
+    pub fn may_stop(&self, side: Side) -> bool
+        ensures { IsTrue result ↔ MayStop self.now side }
+    {
+        match self.turn {
+            Turn::Free => self.waiting(side).is_none(),
+            Turn::Handed(_) => false,
+        }
+    }
+
     /// The first side that stopped.
     pub fn stopped_by(&self) -> Option<Side>
         ensures { result ≡ stopped_by self.now }
@@ -99,11 +130,7 @@ impl Sides {
     pub fn cont(&mut self, side: Side)
         ensures { self.new ≡ continued self.old side }
     {
-        let waits = match side {
-            Side::Sender => self.sender.cont(),
-            Side::Receiver => self.receiver.cont(),
-        };
-        self.turn = match waits {
+        self.turn = match self.waiting(side) {
             Some(_) => Turn::Handed(side),
             None => Turn::Free,
         };

@@ -4,7 +4,7 @@ ghost use Rattle.solo_base.specs.declared.outcome.Side.{Side};
 ghost use Rattle.solo_base.specs.declared.outcome.Side.TheVariants.{Sender, Receiver};
 ghost use Rattle.queue_var.specs.declared.turn.Turn.TheVariants.{Free};
 ghost use Rattle.queue_var.specs.Turn.{handed};
-ghost use Rattle.queue_var.specs.Sides.{MayEnter, queue, nobody, stopped_by, has_stopped};
+ghost use Rattle.queue_var.specs.Sides.{MayEnter, MayStop, queue, nobody, stopped_by, has_stopped};
 ghost use Rattle.slot_buffer.specs.Slot.{StandsFor, put_answer, after_put, sent_with, take_answer, after_take, taken_with, after_stop};
 
 use crate::{Put, Take};
@@ -48,6 +48,20 @@ impl<T: Send> SlotBuffer<T> {
         ensures { IsTrue result ↔ (self.now.sides.turn ≡ Free) ⊎ (handed self.now.sides.turn (queue self.now.sides) ≡ Some p) }
     {
         self.sides.admits(p)
+    }
+
+    /// Whether a process may make its call by a side, a put or a take.
+    pub fn may_enter(&self, side: Side, p: ProcNo) -> bool
+        ensures { IsTrue result ↔ MayEnter self.now.sides side p }
+    {
+        self.sides.may_enter(side, p)
+    }
+
+    /// Whether a side may stop.
+    pub fn may_stop(&self, side: Side) -> bool
+        ensures { IsTrue result ↔ MayStop self.now.sides side }
+    {
+        self.sides.may_stop(side)
     }
 
     /// The process to which the turn is handed.

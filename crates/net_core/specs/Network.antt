@@ -1,0 +1,61 @@
+-- Which states of the core a network stands for.
+use Rattle.std.specs.Prelude.{◌≡◌, ℕ, List, [], ◌∷◌, Option, Some}
+use Rattle.solo_base.specs.declared.item.Item.{Item}
+use Rattle.solo_base.specs.declared.outcome.Outcome.{Outcome}
+use Rattle.solo_devices.specs.CardUnit.{Held, items_ahead}
+use Rattle.solo_devices.specs.PrinterUnit.{Printing}
+use Rattle.slot_buffer.specs.Slot.{Slot}
+use Rattle.net_core.specs.Page.{Page}
+use Rattle.net_core.specs.Input as input
+use Rattle.net_core.specs.Job as job
+use Rattle.net_core.specs.Output as output
+use Rattle.net_core.specs.InputProcess as input_process
+use Rattle.net_core.specs.JobProcess as job_process
+use Rattle.net_core.specs.OutputProcess as output_process
+use Rattle.net_core.specs.declared.input_process.InputProcess.{InputProcess}
+use Rattle.net_core.specs.declared.job_process.JobProcess.{JobProcess}
+use Rattle.net_core.specs.declared.output_process.OutputProcess.{OutputProcess}
+use Rattle.net_core.specs.Core.{State, Event, opening, run, AreEnabled}
+
+-- A network: the devices, the processes with what they keep, and the buffers.
+pub record Network (S K : Type 0) : Type 0 where
+  pub deck : Held S
+  pub paper : Printing K
+  pub input : InputProcess
+  pub job : JobProcess
+  pub output : OutputProcess
+  pub first : Slot Page
+  pub second : Slot Page
+
+-- It stands for a state where each process does, with its device and its buffers.
+pub record Stands {S K : Type 0} (left : S → Option (List ℕ)) (given : K → Option (List ℕ)) (net : Network S K) (s : State) : Type 0 where
+  pub input_stands : input_process.Stands net.input (items_ahead (left net.deck.source) net.deck.pending) net.deck.live net.first s
+  pub job_stands : job_process.Stands net.job net.first net.second s
+  pub output_stands : output_process.Stands net.output (given net.paper.sink) net.paper.live net.second s
+
+-- The state can be reached: from some opening state, by events that are each enabled in their turn.
+pub record Reached (s : State) : Type 0 where
+  pub deck : Option (List Item)
+  pub paper : Option (List ℕ)
+  pub events : List Event
+  pub are_enabled : AreEnabled (opening deck paper) events
+  pub state_is : run (opening deck paper) events ≡ s
+
+-- a network always stands for some state that can be reached
+pub record StandsForReached {S K : Type 0} (left : S → Option (List ℕ)) (given : K → Option (List ℕ)) (net : Network S K) : Type 0 where
+  pub state : State
+  pub reached : Reached state
+  pub stands : Stands left given net state
+
+-- all processes have ended, and how, in order of their numbers
+pub record EndedWith (s : State) (outcomes : List Outcome) : Type 0 where
+  pub input_how : Outcome
+  pub job_how : Outcome
+  pub output_how : Outcome
+  pub input_ended : input.ended s.input ≡ Some input_how
+  pub job_ended : job.ended s.job ≡ Some job_how
+  pub output_ended : output.ended s.output ≡ Some output_how
+  pub outcomes_are : outcomes ≡ input_how ∷ job_how ∷ output_how ∷ []
+
+abbrev pub HasEnded : State → Type 0
+HasEnded s = (outcomes : List Outcome) × EndedWith s outcomes
