@@ -1,19 +1,20 @@
 -- Each action of the input process is an enabled event of every state that it stands for.
-use Rattle.std.proofs.Common.{◌≡◌, ◌≢◌, ℕ, Bool, true, List, [], ◌∷◌, ◌++◌, Option, Some, None, refl, sym, ◌∙◌, ap, drop, length}
+use Rattle.std.proofs.Common.{◌≡◌, ◌≢◌, ℕ, ◌<◌, Bool, true, List, [], ◌∷◌, ◌++◌, Option, Some, None, refl, sym, ◌∙◌, ap, drop, length}
 use Rattle.std.proofs.Math.Seq.{drop-append_seam}
 use Rattle.solo_base.specs.declared.item.Item.{Item}
 use Rattle.solo_base.specs.declared.outcome.Outcome.{Outcome}
 use Rattle.solo_base.specs.declared.outcome.Side.TheVariants.{Sender}
 use Rattle.solo_devices.specs.declared.card_read.CardRead.{CardRead}
 use Rattle.solo_devices.specs.declared.card_read.CardRead.TheVariants as read
-use Rattle.solo_devices.specs.CardUnit.{GivesNext, item_of}
+use Rattle.solo_devices.specs.Count.{Rose}
+use Rattle.solo_devices.specs.CardUnit.{GivesNext, item_of, byte_limit}
 use Rattle.queue_var.specs.Sides.{MayEnter, MayStop}
 use Rattle.slot_buffer.specs.Slot.{Slot, put_answer, after_stop}
 use Rattle.net_core.specs.Page.{Page}
 use Rattle.net_core.specs.Input as input
 use Rattle.net_core.specs.Facts.{InputWorks}
 use Rattle.net_core.specs.Core.{State, Input, Gives, deck_after, input_number}
-use Rattle.net_core.specs.Steps.{Steps}
+use Rattle.net_core.specs.Steps.{ReadCause, Steps}
 use Rattle.net_core.specs.InputProcess.{IsAt, IsAtPhase, Reading, Putting, Stopping, Puts, MayAct, Stands}
 use Rattle.net_core.specs.declared.stepped.Stepped.{Stepped}
 use Rattle.net_core.specs.declared.stepped.Stepped.TheVariants.{Acted, Ended}
@@ -60,16 +61,24 @@ still-live read.End acts live is works = is (λ e. cc) (λ e. cc)
 still-live read.Failed acts live is works = absurd works
 still-live read.Limit acts live is works = absurd works
 
-pub reads : (old new : InputProcess) (deck deck_then : Option (List Item)) (live live_then : Bool) (first : Slot Page) (answer : CardRead) (s : State) → old.phase ≡ phase.Read →
+read-cause : (answer : CardRead) (before after taken : ℕ) → (answer ≡ read.Failed → Rose before after) → (answer ≡ read.Limit → byte_limit < taken) → ReadCause before after taken (Input (input.Reads answer))
+read-cause (read.Card line) before after taken counted limited = tt
+read-cause read.Spoiled before after taken counted limited = tt
+read-cause read.End before after taken counted limited = tt
+read-cause read.Failed before after taken counted limited = counted refl
+read-cause read.Limit before after taken counted limited = limited refl
+
+pub reads : (old new : InputProcess) (deck deck_then : Option (List Item)) (live live_then : Bool) (first : Slot Page) (answer : CardRead) (before after taken : ℕ) (s : State) → old.phase ≡ phase.Read →
     ((acts : List input.Act) → IsAt old acts → IsAt new (input.Reads answer ∷ acts)) → GivesNext deck deck_then answer → (answer ≢ read.Failed → answer ≢ read.Limit → live_then ≡ true) →
-    Stands old deck live first s → Steps s input_number Acted (Stands new deck_then live_then first)
-reads old new deck deck_then live live_then first answer s at_read takes gives is_live st =
+    (answer ≡ read.Failed → Rose before after) → (answer ≡ read.Limit → byte_limit < taken) → Stands old deck live first s → Steps s input_number Acted (ReadCause before after taken) (Stands new deck_then live_then first)
+reads old new deck deck_then live live_then first answer before after taken s at_read takes gives is_live counted limited st =
     let r = at-read old s.input at_read st.at in
     record {
       event = Input (input.Reads answer);
       its_own = refl;
       enabled = rw (r.next_is, st.deck_is) (deck-gives deck deck_then answer gives);
       step_is = refl;
+      cause = read-cause answer before after taken counted limited;
       after = record {
         at = takes s.input st.at;
         deck_is = ap (λ d. deck_after d answer) st.deck_is ∙ deck-then deck deck_then answer gives;
@@ -79,15 +88,16 @@ reads old new deck deck_then live live_then first answer s at_read takes gives i
     }
 
 -- ---- a page is put
-pub puts : (old new : InputProcess) (deck : Option (List Item)) (live : Bool) (first first_then : Slot Page) (step : Stepped) (s : State) → old.phase ≡ phase.Put → MayEnter first.sides Sender input_number →
-    Puts old new first first_then (put_answer first old.page) step → Stands old deck live first s → Steps s input_number step (Stands new deck live first_then)
-puts old new deck live first first_then step s at_put may p st =
+pub puts : (old new : InputProcess) (deck : Option (List Item)) (live : Bool) (first first_then : Slot Page) (step : Stepped) (before after taken : ℕ) (s : State) → old.phase ≡ phase.Put → MayEnter first.sides Sender input_number →
+    Puts old new first first_then (put_answer first old.page) step → Stands old deck live first s → Steps s input_number step (ReadCause before after taken) (Stands new deck live first_then)
+puts old new deck live first first_then step before after taken s at_put may p st =
     let r = at-put old s.input at_put st.at in
     record {
       event = Input (input.Puts old.page (put_answer first old.page));
       its_own = refl;
       enabled = rw (r.next_is, st.first_is) (refl, refl, may);
       step_is = rw st.first_is p.step_is;
+      cause = tt;
       after = record {
         at = p.process s.input st.at;
         deck_is = st.deck_is;
@@ -97,15 +107,16 @@ puts old new deck live first first_then step s at_put may p st =
     }
 
 -- ---- a stop, and the end
-pub stops : (old new : InputProcess) (how : Outcome) (deck : Option (List Item)) (live : Bool) (first first_then : Slot Page) (s : State) → old.phase ≡ phase.Stop how → MayStop first.sides Sender →
-    ((acts : List input.Act) → IsAt old acts → IsAt new (input.Stops ∷ acts)) → first_then ≡ after_stop first Sender → Stands old deck live first s → Steps s input_number Acted (Stands new deck live first_then)
-stops old new how deck live first first_then s at_stop may process buffer st =
+pub stops : (old new : InputProcess) (how : Outcome) (deck : Option (List Item)) (live : Bool) (first first_then : Slot Page) (before after taken : ℕ) (s : State) → old.phase ≡ phase.Stop how → MayStop first.sides Sender →
+    ((acts : List input.Act) → IsAt old acts → IsAt new (input.Stops ∷ acts)) → first_then ≡ after_stop first Sender → Stands old deck live first s → Steps s input_number Acted (ReadCause before after taken) (Stands new deck live first_then)
+stops old new how deck live first first_then before after taken s at_stop may process buffer st =
     let r = at-stop old how s.input at_stop st.at in
     record {
       event = Input input.Stops;
       its_own = refl;
       enabled = rw (r.next_is, st.first_is) may;
       step_is = refl;
+      cause = tt;
       after = record {
         at = process s.input st.at;
         deck_is = st.deck_is;
@@ -114,14 +125,15 @@ stops old new how deck live first first_then s at_stop may process buffer st =
       };
     }
 
-pub ends : (old new : InputProcess) (how : Outcome) (deck : Option (List Item)) (live : Bool) (first : Slot Page) (s : State) → old.phase ≡ phase.End how →
-    ((acts : List input.Act) → IsAt old acts → IsAt new (input.Ends how ∷ acts)) → Stands old deck live first s → Steps s input_number Ended (Stands new deck live first)
-ends old new how deck live first s at_end process st =
+pub ends : (old new : InputProcess) (how : Outcome) (deck : Option (List Item)) (live : Bool) (first : Slot Page) (before after taken : ℕ) (s : State) → old.phase ≡ phase.End how →
+    ((acts : List input.Act) → IsAt old acts → IsAt new (input.Ends how ∷ acts)) → Stands old deck live first s → Steps s input_number Ended (ReadCause before after taken) (Stands new deck live first)
+ends old new how deck live first before after taken s at_end process st =
     record {
       event = Input (input.Ends how);
       its_own = refl;
       enabled = rw (at-end old how s.input at_end st.at) refl;
       step_is = refl;
+      cause = tt;
       after = record {
         at = process s.input st.at;
         deck_is = st.deck_is;

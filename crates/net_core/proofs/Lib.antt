@@ -14,6 +14,8 @@ mod JobSteps
 mod InputActs
 mod JobActs
 mod OutputActs
+mod NetSteps
+mod NetLifts
 mod Printing
 mod Taking
 mod Pages

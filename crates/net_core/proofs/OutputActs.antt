@@ -4,6 +4,7 @@ use Rattle.std.proofs.lemmas.List.{append-nil}
 use Rattle.solo_base.specs.Text.{line_text}
 use Rattle.solo_base.specs.declared.outcome.Outcome.{Outcome}
 use Rattle.solo_base.specs.declared.outcome.Side.TheVariants.{Receiver}
+use Rattle.solo_devices.specs.Count.{Rose}
 use Rattle.solo_devices.specs.PrinterUnit.{Gains}
 use Rattle.solo_devices.specs.declared.printer_unit.PrintFault.{PrintFault}
 use Rattle.solo_devices.specs.declared.printer_unit.PrintFault.TheVariants.{Failed, NoMemory}
@@ -13,7 +14,7 @@ use Rattle.net_core.specs.Page.{Page}
 use Rattle.net_core.specs.Output as output
 use Rattle.net_core.specs.Facts.{OutputWorks}
 use Rattle.net_core.specs.Core.{State, Output, IsPart, PrintMay, paper_after, output_number}
-use Rattle.net_core.specs.Steps.{Steps}
+use Rattle.net_core.specs.Steps.{PrintCause, Steps}
 use Rattle.net_core.specs.OutputProcess.{IsAt, IsAtPhase, Printing, Stopping, Takes, MayAct, Stands, printed_as}
 use Rattle.net_core.proofs.OutputKeeps.{stops-undone}
 use Rattle.net_core.specs.declared.stepped.Stepped.{Stepped}
@@ -42,15 +43,16 @@ pub may-at : (at to : OutputPhase) (second : Slot Page) → at ≡ to → MayAct
 may-at at to second e may = rw (← e) may
 
 -- ---- a page is taken
-pub takes : (old new : OutputProcess) (paper : Option (List ℕ)) (live : Bool) (second second_then : Slot Page) (step : Stepped) (s : State) → old.phase ≡ phase.Take → MayEnter second.sides Receiver output_number →
-    Takes old new second second_then (take_answer second) step → Stands old paper live second s → Steps s output_number step (Stands new paper live second_then)
-takes old new paper live second second_then step s at may t st =
+pub takes : (old new : OutputProcess) (paper : Option (List ℕ)) (live : Bool) (second second_then : Slot Page) (step : Stepped) (before after : ℕ) (s : State) → old.phase ≡ phase.Take → MayEnter second.sides Receiver output_number →
+    Takes old new second second_then (take_answer second) step → Stands old paper live second s → Steps s output_number step (PrintCause before after) (Stands new paper live second_then)
+takes old new paper live second second_then step before after s at may t st =
     let next = at-take old s.output at st.at in
     record {
       event = Output (output.Takes (take_answer second));
       its_own = refl;
       enabled = rw (next, st.second_is) (refl, may);
       step_is = rw st.second_is t.step_is;
+      cause = tt;
       after = record {
         at = t.process s.output st.at;
         paper_is = st.paper_is;
@@ -78,16 +80,17 @@ gained-all (Some given) now whole all is g =
     let t = g.told given refl in
     ap (λ bytes. Some (given ++ bytes)) (sym (t.all_is is)) ∙ sym t.now_is
 
-pub prints : (old new : OutputProcess) (line : List ℕ) (paper paper_then : Option (List ℕ)) (live live_then : Bool) (second : Slot Page) (all : Type 0) (s : State) → old.phase ≡ phase.Print line →
+pub prints : (old new : OutputProcess) (line : List ℕ) (paper paper_then : Option (List ℕ)) (live live_then : Bool) (second : Slot Page) (all : Type 0) (before after : ℕ) (s : State) → old.phase ≡ phase.Print line →
     ((line : List ℕ) (acts : List output.Act) → old.phase ≡ phase.Print line → IsAt old acts → IsAt new (output.Prints line output.Whole ∷ acts)) →
-    all → Gains paper paper_then (line_text line) all → live_then ≡ true → Stands old paper live second s → Steps s output_number Acted (Stands new paper_then live_then second)
-prints old new line paper paper_then live live_then second all s at process is gains is_live st =
+    all → Gains paper paper_then (line_text line) all → live_then ≡ true → Stands old paper live second s → Steps s output_number Acted (PrintCause before after) (Stands new paper_then live_then second)
+prints old new line paper paper_then live live_then second all before after s at process is gains is_live st =
     let p = at-print old line s.output at st.at in
     record {
       event = Output (output.Prints line output.Whole);
       its_own = refl;
       enabled = rw p.next_is (refl, tt);
       step_is = refl;
+      cause = tt;
       after = record {
         at = process line s.output at st.at;
         paper_is = ap (λ given. paper_after given (line_text line)) st.paper_is ∙ gained-all paper paper_then (line_text line) all is gains;
@@ -109,16 +112,21 @@ works-no_more : (fault : PrintFault) (line part : List ℕ) (acts : List output.
 works-no_more Failed line part acts works = works
 works-no_more NoMemory line part acts works = works
 
-refused-by : (old new : OutputProcess) (line : List ℕ) (fault : PrintFault) (paper paper_then : Option (List ℕ)) (live live_then : Bool) (second : Slot Page) (s : State) → old.phase ≡ phase.Print line →
-    ((line part : List ℕ) (acts : List output.Act) → old.phase ≡ phase.Print line → IsAt old acts → IsAt new (output.Prints line (printed_as fault part) ∷ acts)) →
-    Gained paper paper_then (line_text line) → Stands old paper live second s → Steps s output_number Acted (Stands new paper_then live_then second)
-refused-by old new line fault paper paper_then live live_then second s at process g st =
+print-cause : (fault : PrintFault) (line part : List ℕ) (before after : ℕ) → (fault ≡ Failed → Rose before after) → PrintCause before after (Output (output.Prints line (printed_as fault part)))
+print-cause Failed line part before after counted = counted refl
+print-cause NoMemory line part before after counted = tt
+
+refused-by : (old new : OutputProcess) (line : List ℕ) (fault : PrintFault) (paper paper_then : Option (List ℕ)) (live live_then : Bool) (second : Slot Page) (before after : ℕ) (s : State) → old.phase ≡ phase.Print line →
+    ((line part : List ℕ) (acts : List output.Act) → old.phase ≡ phase.Print line → IsAt old acts → IsAt new (output.Prints line (printed_as fault part) ∷ acts)) → (fault ≡ Failed → Rose before after) →
+    Gained paper paper_then (line_text line) → Stands old paper live second s → Steps s output_number Acted (PrintCause before after) (Stands new paper_then live_then second)
+refused-by old new line fault paper paper_then live live_then second before after s at process counted g st =
     let p = at-print old line s.output at st.at in
     record {
       event = Output (output.Prints line (printed_as fault g.part));
       its_own = refl;
       enabled = rw p.next_is (refl, may-refuse fault line g.part g.is_part);
       step_is = refl;
+      cause = print-cause fault line g.part before after counted;
       after = record {
         at = process line g.part s.output at st.at;
         paper_is = ap (λ given. paper_after given (output.bytes_of line (printed_as fault g.part))) st.paper_is ∙ ap (paper_after paper) (part-gained fault line g.part) ∙ g.now_is;
@@ -127,22 +135,23 @@ refused-by old new line fault paper paper_then live live_then second s at proces
       };
     }
 
-pub refused : (old new : OutputProcess) (line : List ℕ) (fault : PrintFault) (paper paper_then : Option (List ℕ)) (live live_then : Bool) (second : Slot Page) (all : Type 0) (s : State) → old.phase ≡ phase.Print line →
-    ((line part : List ℕ) (acts : List output.Act) → old.phase ≡ phase.Print line → IsAt old acts → IsAt new (output.Prints line (printed_as fault part) ∷ acts)) →
-    Gains paper paper_then (line_text line) all → Stands old paper live second s → Steps s output_number Acted (Stands new paper_then live_then second)
-refused old new line fault paper paper_then live live_then second all s at process gains st =
-    refused-by old new line fault paper paper_then live live_then second s at process (gained paper paper_then (line_text line) all gains) st
+pub refused : (old new : OutputProcess) (line : List ℕ) (fault : PrintFault) (paper paper_then : Option (List ℕ)) (live live_then : Bool) (second : Slot Page) (all : Type 0) (before after : ℕ) (s : State) → old.phase ≡ phase.Print line →
+    ((line part : List ℕ) (acts : List output.Act) → old.phase ≡ phase.Print line → IsAt old acts → IsAt new (output.Prints line (printed_as fault part) ∷ acts)) → (fault ≡ Failed → Rose before after) →
+    Gains paper paper_then (line_text line) all → Stands old paper live second s → Steps s output_number Acted (PrintCause before after) (Stands new paper_then live_then second)
+refused old new line fault paper paper_then live live_then second all before after s at process counted gains st =
+    refused-by old new line fault paper paper_then live live_then second before after s at process counted (gained paper paper_then (line_text line) all gains) st
 
 -- ---- a stop, and the end
-pub stops : (old new : OutputProcess) (how : Outcome) (paper : Option (List ℕ)) (live : Bool) (second second_then : Slot Page) (s : State) → old.phase ≡ phase.Stop how → MayStop second.sides Receiver →
-    ((acts : List output.Act) → IsAt old acts → IsAt new (output.Stops ∷ acts)) → second_then ≡ after_stop second Receiver → Stands old paper live second s → Steps s output_number Acted (Stands new paper live second_then)
-stops old new how paper live second second_then s at may process buffer st =
+pub stops : (old new : OutputProcess) (how : Outcome) (paper : Option (List ℕ)) (live : Bool) (second second_then : Slot Page) (before after : ℕ) (s : State) → old.phase ≡ phase.Stop how → MayStop second.sides Receiver →
+    ((acts : List output.Act) → IsAt old acts → IsAt new (output.Stops ∷ acts)) → second_then ≡ after_stop second Receiver → Stands old paper live second s → Steps s output_number Acted (PrintCause before after) (Stands new paper live second_then)
+stops old new how paper live second second_then before after s at may process buffer st =
     let r = at-stop old how s.output at st.at in
     record {
       event = Output output.Stops;
       its_own = refl;
       enabled = rw (r.next_is, st.second_is) may;
       step_is = refl;
+      cause = tt;
       after = record {
         at = process s.output st.at;
         paper_is = st.paper_is;
@@ -151,14 +160,15 @@ stops old new how paper live second second_then s at may process buffer st =
       };
     }
 
-pub ends : (old new : OutputProcess) (how : Outcome) (paper : Option (List ℕ)) (live : Bool) (second : Slot Page) (s : State) → old.phase ≡ phase.End how →
-    ((acts : List output.Act) → IsAt old acts → IsAt new (output.Ends how ∷ acts)) → Stands old paper live second s → Steps s output_number Ended (Stands new paper live second)
-ends old new how paper live second s at process st =
+pub ends : (old new : OutputProcess) (how : Outcome) (paper : Option (List ℕ)) (live : Bool) (second : Slot Page) (before after : ℕ) (s : State) → old.phase ≡ phase.End how →
+    ((acts : List output.Act) → IsAt old acts → IsAt new (output.Ends how ∷ acts)) → Stands old paper live second s → Steps s output_number Ended (PrintCause before after) (Stands new paper live second)
+ends old new how paper live second before after s at process st =
     record {
       event = Output (output.Ends how);
       its_own = refl;
       enabled = rw (at-end old how s.output at st.at) refl;
       step_is = refl;
+      cause = tt;
       after = record {
         at = process s.output st.at;
         paper_is = st.paper_is;

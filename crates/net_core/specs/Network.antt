@@ -15,6 +15,7 @@ use Rattle.net_core.specs.OutputProcess as output_process
 use Rattle.net_core.specs.declared.input_process.InputProcess.{InputProcess}
 use Rattle.net_core.specs.declared.job_process.JobProcess.{JobProcess}
 use Rattle.net_core.specs.declared.output_process.OutputProcess.{OutputProcess}
+use Rattle.net_core.specs.Steps.{ReadCause, PrintCause}
 use Rattle.net_core.specs.Core.{State, Event, opening, run, AreEnabled}
 
 -- A network: the devices, the processes with what they keep, and the buffers.
@@ -32,6 +33,12 @@ pub record Stands {S K : Type 0} (left : S → Option (List ℕ)) (given : K →
   pub input_stands : input_process.Stands net.input (items_ahead (left net.deck.source) net.deck.pending) net.deck.live net.first s
   pub job_stands : job_process.Stands net.job net.first net.second s
   pub output_stands : output_process.Stands net.output (given net.paper.sink) net.paper.live net.second s
+
+-- the causes of an event, by the counts of the devices before and after it
+abbrev pub HasCause : {S K : Type 0} → (S → ℕ) → (S → ℕ) → (K → ℕ) → Network S K → Network S K → Event → Type 0
+HasCause read_faults taken print_faults old new event =
+    ReadCause (read_faults old.deck.source) (read_faults new.deck.source) (taken new.deck.source) event
+    × PrintCause (print_faults old.paper.sink) (print_faults new.paper.sink) event
 
 -- The state can be reached: from some opening state, by events that are each enabled in their turn.
 pub record Reached (s : State) : Type 0 where

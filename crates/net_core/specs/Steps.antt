@@ -1,6 +1,9 @@
 -- The step of a process: the event that it is, and of what kind.
-use Rattle.std.specs.Prelude.{◌≡◌, ℕ}
+use Rattle.std.specs.Prelude.{◌≡◌, ◌<◌, ℕ}
 use Rattle.solo_base.specs.declared.outcome.Side.{Side}
+use Rattle.solo_devices.specs.Count.{Rose}
+use Rattle.solo_devices.specs.CardUnit.{byte_limit}
+use Rattle.solo_devices.specs.declared.card_read.CardRead.TheVariants as read
 use Rattle.queue_var.specs.declared.turn.Turn.{Turn}
 use Rattle.queue_var.specs.declared.turn.Turn.TheVariants.{Free, Handed}
 use Rattle.slot_buffer.specs.declared.answers.Put.{Put}
@@ -52,14 +55,32 @@ kind s (Output (output.Prints line answer)) = Acted
 kind s (Output output.Stops) = Acted
 kind s (Output (output.Ends how)) = Ended
 
+-- ---- what the counts of the devices tell of an event
+-- a failed read was counted, and the limit comes with the byte behind it
+abbrev pub ReadCause : ℕ → ℕ → ℕ → Event → Type 0
+ReadCause before after taken (Input (input.Reads read.Failed)) = Rose before after
+ReadCause before after taken (Input (input.Reads read.Limit)) = byte_limit < taken
+ReadCause before after taken event = Unit {0}
+
+-- a failed print was counted
+abbrev pub PrintCause : ℕ → ℕ → Event → Type 0
+PrintCause before after (Output (output.Prints line (output.Failed part))) = Rose before after
+PrintCause before after event = Unit {0}
+
+-- nothing has to be told
+abbrev pub NoCause : Event → Type 0
+NoCause event = Unit {0}
+
 -- some event of this process may happen
 abbrev pub MayStep : State → ℕ → Type 0
 MayStep s p = (event : Event) × (number_of event ≡ p) × IsEnabled s event
 
--- From this state a process made a step of this kind: an enabled event of its own, after which this holds of the state.
-pub record Steps (s : State) (p : ℕ) (step : Stepped) (Then : State → Type 0) : Type 0 where
+-- From this state a process made a step of this kind: an enabled event of its own, with its cause, after
+-- which this holds of the state.
+pub record Steps (s : State) (p : ℕ) (step : Stepped) (Cause : Event → Type 0) (Then : State → Type 0) : Type 0 where
   pub event : Event
   pub its_own : number_of event ≡ p
   pub enabled : IsEnabled s event
   pub step_is : step ≡ kind s event
+  pub cause : Cause event
   pub after : Then (happens s event)

@@ -1,11 +1,11 @@
-ghost use Rattle.std.specs.Prelude.{◌≡◌, ◌<◌, ◌==◌, ◌↔◌, List, [], ◌∷◌, ◌++◌, length, false, if◌then◌else◌, None, IsTrue};
+ghost use Rattle.std.specs.Prelude.{◌≡◌, ◌<◌, ◌≤◌, ◌==◌, ◌↔◌, List, [], ◌∷◌, ◌++◌, length, false, if◌then◌else◌, None, IsTrue};
 ghost use Rattle.solo_base.specs.declared.outcome.Side.TheVariants.{Sender};
 ghost use Rattle.queue_var.specs.declared.turn.Turn.TheVariants.{Free};
 ghost use Rattle.queue_var.specs.Sides.{MayEnter, has_stopped, queue};
 ghost use Rattle.slot_buffer.specs.Slot.{put_answer, after_stop};
 ghost use Rattle.solo_devices.specs.CardUnit.{items_ahead};
 ghost use Rattle.net_core.specs.Core.{State, input_number};
-ghost use Rattle.net_core.specs.Steps.{Steps};
+ghost use Rattle.net_core.specs.Steps.{ReadCause, Steps};
 ghost use Rattle.net_core.specs.Input as input;
 ghost use Rattle.net_core.specs.InputProcess.{IsAt, IsReady, MayAct, Puts, Stands};
 ghost use Rattle.net_core.specs.declared.input_process.InputPhase.TheVariants as phase;
@@ -59,6 +59,16 @@ impl InputProcess {
         }
     }
 
+    /// How it ended, where it has.
+    pub fn outcome(&self) -> Option<Outcome>
+        ensures { (acts : List input.Act) → IsAt self.now acts → input.ended acts ≡ result }
+    {
+        match self.phase {
+            InputPhase::Ended(how) => Some(how),
+            _ => None,
+        }
+    }
+
     /// Takes its next action.
     pub fn step<S: Source>(
         &mut self,
@@ -68,7 +78,8 @@ impl InputProcess {
         requires may { MayAct self.old.phase first.old }
         requires ready { IsReady self.old deck.old.live first.old }
         ensures steps { (s : State) → Stands self.old (items_ahead (S.left deck.old.source) deck.old.pending) deck.old.live first.old s →
-            Steps s input_number result (Stands self.new (items_ahead (S.left deck.new.source) deck.new.pending) deck.new.live first.new) }
+            Steps s input_number result (ReadCause (S.faults deck.old.source) (S.faults deck.new.source) (S.taken deck.new.source)) (Stands self.new (items_ahead (S.left deck.new.source) deck.new.pending) deck.new.live first.new) }
+        ensures counts { S.faults deck.old.source ≤ S.faults deck.new.source }
     {
         match self.phase {
             InputPhase::Read => {

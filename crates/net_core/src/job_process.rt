@@ -4,7 +4,7 @@ ghost use Rattle.queue_var.specs.declared.turn.Turn.TheVariants.{Free};
 ghost use Rattle.queue_var.specs.Sides.{MayEnter, has_stopped, queue};
 ghost use Rattle.slot_buffer.specs.Slot.{put_answer, take_answer, after_stop};
 ghost use Rattle.net_core.specs.Core.{State, job_number};
-ghost use Rattle.net_core.specs.Steps.{Steps};
+ghost use Rattle.net_core.specs.Steps.{NoCause, Steps};
 ghost use Rattle.net_core.specs.Job as job;
 ghost use Rattle.net_core.specs.JobStream.{IsSpent};
 ghost use Rattle.net_core.specs.LinePacker.{page_of};
@@ -76,6 +76,16 @@ impl JobProcess {
         }
     }
 
+    /// How it ended, where it has.
+    pub fn outcome(&self) -> Option<Outcome>
+        ensures { (acts : List job.Act) → IsAt self.now acts → job.ended acts ≡ result }
+    {
+        match self.phase {
+            JobPhase::Ended(how) => Some(how),
+            _ => None,
+        }
+    }
+
     /// Takes its next action.
     pub fn step(
         &mut self,
@@ -85,7 +95,7 @@ impl JobProcess {
     ) -> Stepped
         requires may { MayAct self.old.phase first.old second.old }
         requires ready { IsReady self.old first.old second.old }
-        ensures steps { (s : State) → Stands self.old first.old second.old s → Steps s job_number result (Stands self.new first.new second.new) }
+        ensures steps { (s : State) → Stands self.old first.old second.old s → Steps s job_number result NoCause (Stands self.new first.new second.new) }
     {
         match self.phase {
             JobPhase::Take => self.take(first),

@@ -9,6 +9,7 @@ mod job_stream;
 mod job_turn;
 mod line_packer;
 mod listing;
+mod net;
 mod output_process;
 mod output_turn;
 mod plain_page;
@@ -16,5 +17,6 @@ mod stepped;
 
 pub use interleavings::every_interleaving;
 pub use listing::{Listed, run_lists};
+pub use net::{Net, Ran, Units};
 pub use plain_page::{PAGE_ITEMS, PlainPage};
 pub use stepped::Stepped;

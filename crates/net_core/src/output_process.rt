@@ -5,7 +5,7 @@ ghost use Rattle.queue_var.specs.Sides.{MayEnter, has_stopped, queue};
 ghost use Rattle.slot_buffer.specs.Slot.{take_answer, after_stop};
 ghost use Rattle.net_core.specs.Page.{lines_in};
 ghost use Rattle.net_core.specs.Core.{State, output_number};
-ghost use Rattle.net_core.specs.Steps.{Steps};
+ghost use Rattle.net_core.specs.Steps.{PrintCause, Steps};
 ghost use Rattle.net_core.specs.Output as output;
 ghost use Rattle.net_core.specs.OutputProcess.{IsAt, IsReady, MayAct, Stands, Takes, GoesOn, printed_as};
 ghost use Rattle.net_core.specs.declared.output_process.OutputPhase.TheVariants as phase;
@@ -61,6 +61,16 @@ impl OutputProcess {
         }
     }
 
+    /// How it ended, where it has.
+    pub fn outcome(&self) -> Option<Outcome>
+        ensures { (acts : List output.Act) → IsAt self.now acts → output.ended acts ≡ result }
+    {
+        match self.phase {
+            OutputPhase::Ended(how) => Some(how),
+            _ => None,
+        }
+    }
+
     /// Takes its next action.
     pub fn step<K: Sink>(
         &mut self,
@@ -70,7 +80,8 @@ impl OutputProcess {
         requires may { MayAct self.old.phase second.old }
         requires ready { IsReady self.old paper.old.live second.old }
         ensures steps { (s : State) → Stands self.old (K.given paper.old.sink) paper.old.live second.old s →
-            Steps s output_number result (Stands self.new (K.given paper.new.sink) paper.new.live second.new) }
+            Steps s output_number result (PrintCause (K.faults paper.old.sink) (K.faults paper.new.sink)) (Stands self.new (K.given paper.new.sink) paper.new.live second.new) }
+        ensures counts { K.faults paper.old.sink ≤ K.faults paper.new.sink }
     {
         match &self.phase {
             OutputPhase::Take => self.take(second),
