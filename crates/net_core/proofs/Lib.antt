@@ -16,6 +16,7 @@ mod JobActs
 mod OutputActs
 mod NetSteps
 mod NetLifts
+mod NetEnds
 mod Printing
 mod Taking
 mod Pages

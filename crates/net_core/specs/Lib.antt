@@ -17,7 +17,7 @@ pub mod JobStream
 pub mod LinePacker
 pub mod JobProcess
 pub mod OutputProcess
-pub mod Network
 pub mod EveryInterleaving
+pub mod Network
 pub mod Prints
 pub mod Turns

@@ -1,7 +1,9 @@
 -- Which states of the core a network stands for.
-use Rattle.std.specs.Prelude.{◌≡◌, ℕ, List, [], ◌∷◌, Option, Some}
+use Rattle.std.specs.Prelude.{◌≡◌, ℕ, List, [], ◌∷◌, ◌++◌, map, Option, Some}
 use Rattle.solo_base.specs.declared.item.Item.{Item}
 use Rattle.solo_base.specs.declared.outcome.Outcome.{Outcome}
+use Rattle.solo_base.specs.declared.outcome.Outcome.TheVariants as outcome
+use Rattle.solo_base.specs.Text.{text}
 use Rattle.solo_devices.specs.CardUnit.{Held, items_ahead}
 use Rattle.solo_devices.specs.PrinterUnit.{Printing}
 use Rattle.slot_buffer.specs.Slot.{Slot}
@@ -15,7 +17,8 @@ use Rattle.net_core.specs.OutputProcess as output_process
 use Rattle.net_core.specs.declared.input_process.InputProcess.{InputProcess}
 use Rattle.net_core.specs.declared.job_process.JobProcess.{JobProcess}
 use Rattle.net_core.specs.declared.output_process.OutputProcess.{OutputProcess}
-use Rattle.net_core.specs.Steps.{ReadCause, PrintCause}
+use Rattle.net_core.specs.Steps.{ReadCause, PrintCause, number_of}
+use Rattle.net_core.specs.EveryInterleaving.{IsPrefixOf, one_thread_lines}
 use Rattle.net_core.specs.Core.{State, Event, opening, run, AreEnabled}
 
 -- A network: the devices, the processes with what they keep, and the buffers.
@@ -66,3 +69,25 @@ pub record EndedWith (s : State) (outcomes : List Outcome) : Type 0 where
 
 abbrev pub HasEnded : State → Type 0
 HasEnded s = (outcomes : List Outcome) × EndedWith s outcomes
+
+-- the three processes stand for the histories of a state
+pub record AreAt (inputs : InputProcess) (jobs : JobProcess) (outputs : OutputProcess) (s : State) : Type 0 where
+  pub input_at : input_process.IsAt inputs s.input
+  pub job_at : job_process.IsAt jobs s.job
+  pub output_at : output_process.IsAt outputs s.output
+
+-- These processes took these steps in turn from a state: events that are each enabled in their turn, after
+-- which this holds of the state.
+pub record Runs (s : State) (numbers : List ℕ) (Then : State → Type 0) : Type 0 where
+  pub events : List Event
+  pub numbers_are : map number_of events ≡ numbers
+  pub are_enabled : AreEnabled s events
+  pub after : Then (run s events)
+
+-- What the paper gained since the opening, where the deck and the paper told their content then: a part of
+-- the one-thread output of the deck, and all of it where all processes did their work. Then the deck has nothing left.
+pub record Printed (opening_deck deck : Option (List Item)) (opening_paper paper : Option (List ℕ)) (outcomes : List Outcome) : Type 0 where
+  pub prefix : (items : List Item) (given : List ℕ) → opening_deck ≡ Some items → opening_paper ≡ Some given →
+    (gained : List ℕ) × (paper ≡ Some (given ++ gained)) × IsPrefixOf gained (text (one_thread_lines items))
+  pub whole : (items : List Item) (given : List ℕ) → opening_deck ≡ Some items → opening_paper ≡ Some given → outcomes ≡ outcome.Done ∷ outcome.Done ∷ outcome.Done ∷ [] →
+    (paper ≡ Some (given ++ text (one_thread_lines items))) × (deck ≡ Some [])

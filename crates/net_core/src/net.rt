@@ -1,10 +1,11 @@
-ghost use Rattle.std.specs.Prelude.{◌≡◌, ◌≤◌, ◌↔◌, ◌++◌, ℕ, List, [], ◌∷◌, length, IsTrue};
+ghost use Rattle.std.specs.Prelude.{◌≡◌, ◌≤◌, ◌↔◌, ℕ, List, [], ◌∷◌, Option, Some, length, take, slice_get, IsTrue, IfSome, IfNone};
+ghost use Rattle.solo_base.specs.declared.item.Item.{Item};
 ghost use Rattle.solo_devices.specs.CardUnit.{fresh_unit, items_ahead};
 ghost use Rattle.solo_devices.specs.PrinterUnit.{fresh_printer};
 ghost use Rattle.queue_var.specs.Sides.{stopped_by};
-ghost use Rattle.net_core.specs.Core.{State, opening};
+ghost use Rattle.net_core.specs.Core.{AreEnabled, Event, State, opening, run};
 ghost use Rattle.net_core.specs.Steps.{MayStep, Steps};
-ghost use Rattle.net_core.specs.Network.{EndedWith, HasCause, HasEnded, Stands};
+ghost use Rattle.net_core.specs.Network.{AreAt, EndedWith, HasCause, HasEnded, Printed, Runs, Stands};
 
 use crate::input_process::{INPUT, InputProcess};
 use crate::job_process::{JOB, JobProcess};
@@ -108,10 +109,74 @@ impl<S: Source, K: Sink> Net<S, K> {
         }
     }
 
+    /// Lets the processes of a schedule step in turn, up to the first that isn't enabled. Answers how many
+    /// did.
+    pub fn run(&mut self, schedule: &[ProcNo]) -> usize
+        ensures runs { (s : State) → Stands S.left K.given self.old s → Runs s (take result schedule.now) (Stands S.left K.given self.new) }
+        ensures within { result ≤ length schedule.now }
+        ensures stops { (p : ℕ) → slice_get schedule.now result ≡ Some p → (s : State) → Stands S.left K.given self.new s → MayStep s p → ⊥ }
+        ensures counts { (S.faults self.old.deck.source ≤ S.faults self.new.deck.source) × (K.faults self.old.paper.sink ≤ K.faults self.new.paper.sink) }
+    {
+        let mut count = 0;
+        'running: while count < schedule.len() {
+            let p = schedule[count];
+            if !self.enabled(p) {
+                break;
+            }
+            self.step(p);
+            count += 1;
+        }
+        count
+    }
+
     /// Whether all processes have ended.
     pub fn ended(&self) -> bool
         ensures { (s : State) → Stands S.left K.given self.now s → (IsTrue result ↔ HasEnded s) }
     {
-        self.input.outcome().is_some() && self.job.outcome().is_some() && self.output.outcome().is_some()
+        outcomes(&self.input, &self.job, &self.output).is_some()
     }
+
+    /// How the network ended, once all processes have.
+    pub fn finish(self) -> Ran<S, K>
+        requires ended { (s : State) → Stands S.left K.given self s → HasEnded s }
+        ensures outcomes { (s : State) → Stands S.left K.given self s → EndedWith s result.outcomes }
+        ensures stopped_by { result.stopped_by ≡ stopped_by self.first.sides ∷ stopped_by self.second.sides ∷ [] }
+        ensures devices { (result.units.deck ≡ self.deck) × (result.units.paper ≡ self.paper) }
+
+        // Whatever the events, the paper gained the one-thread output of the deck or a part of it.
+        ensures output { (deck : Option (List Item)) (paper : Option (List ℕ)) (events : List Event) →
+            AreEnabled (opening deck paper) events → Stands S.left K.given self (run (opening deck paper) events) →
+            Printed deck (items_ahead (S.left result.units.deck.source) result.units.deck.pending) paper (K.given result.units.paper.sink) result.outcomes }
+    {
+        let Net {
+            alloc: _,
+            deck,
+            paper,
+            input,
+            job,
+            output,
+            first,
+            second,
+        } = self;
+        let Some(outcomes) = outcomes(&input, &job, &output) else {
+            unreachable!()
+        };
+        Ran {
+            outcomes,
+            stopped_by: [first.stopped_by(), second.stopped_by()],
+            units: Units { deck, paper },
+        }
+    }
+}
+
+/// How the processes ended, where all have.
+fn outcomes(
+    input: &InputProcess,
+    job: &JobProcess,
+    output: &OutputProcess,
+) -> Option<[Outcome; 3]>
+    ensures all { IfSome result (λ outcomes. (s : State) → AreAt input.now job.now output.now s → EndedWith s outcomes) }
+    ensures some { IfNone result ((s : State) → AreAt input.now job.now output.now s → HasEnded s → ⊥) }
+{
+    Some([input.outcome()?, job.outcome()?, output.outcome()?])
 }
