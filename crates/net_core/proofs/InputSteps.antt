@@ -1,11 +1,9 @@
 -- Where the input process stands after one action more.
-use Rattle.std.proofs.Common.{◌≡◌, ◌≢◌, ℕ, ◌+◌, ◌≤◌, ◌<◌, Bool, true, false, List, [], ◌∷◌, ◌++◌, refl, sym, ◌∙◌, ap, arith, length, length-append, if◌then◌else◌, ◌==◌}
-use Rattle.std.proofs.lemmas.List.{append-nil}
+use Rattle.std.proofs.Common.{◌≡◌, ℕ, ◌+◌, ◌<◌, Bool, true, false, List, [], ◌∷◌, ◌++◌, refl, sym, ◌∙◌, ap, arith, length, length-append, if◌then◌else◌, ◌==◌}
 use Rattle.std.proofs.lemmas.Bool.Decides.{eqb_tells}
-use Rattle.std.proofs.Common.{⊎_elim, inl, inr}
+use Rattle.std.proofs.Common.{inl, inr}
 use Rattle.solo_base.specs.declared.item.Item.{Item}
 use Rattle.solo_base.specs.declared.item.Item.TheVariants as item
-use Rattle.solo_devices.specs.declared.card_read.CardRead.{CardRead}
 use Rattle.solo_devices.specs.declared.card_read.CardRead.TheVariants as read
 use Rattle.net_core.specs.Page.{Page}
 use Rattle.net_core.specs.Input as input
@@ -26,8 +24,8 @@ item-read-by page new it acts before true e r n next held =
     let full : (length (page.items ++ it ∷ []) == 6) ≡ true = ap (λ p. length p.items == 6) (sym n) ∙ e in
     record {
       next_is = next
-        ∙ ap (λ b. if b then input.PutPage record { items = page.items ++ it ∷ []; last = false } else input.ReadCard) full
-        ∙ ap input.PutPage (page-with page new (page.items ++ it ∷ []) n r.not_last);
+          ∙ ap (λ b. if b then input.PutPage record { items = page.items ++ it ∷ []; last = false } else input.ReadCard) full
+          ∙ ap input.PutPage (page-with page new (page.items ++ it ∷ []) n r.not_last);
     }
 item-read-by page new it acts before false e r n next held =
     let full : (length (page.items ++ it ∷ []) == 6) ≡ false = ap (λ p. length p.items == 6) (sym n) ∙ e in
@@ -37,11 +35,11 @@ item-read-by page new it acts before false e r n next held =
       held_is = held ∙ sym items;
       not_last = ap (λ p. p.last) n ∙ r.not_last;
       room = (let longer : length new.items ≡ length page.items + 1 = ap length items ∙ length-append page.items (it ∷ []) in
-        let room = r.room in
-        elim (eqb_tells (length new.items) 6) as (λ _. length new.items < 6) [
-          inl same ↦ (let yes_six = same.0 in cc)
-        | inr differs ↦ (let not_six = differs.1 in omega arith)
-        ]);
+          let room = r.room in
+          elim (eqb_tells (length new.items) 6) as (λ _. length new.items < 6) [
+            | inl same ↦ (let yes_six = same.0 in cc)
+            | inr differs ↦ (let not_six = differs.1 in omega arith)
+          ]);
     }
 
 pub item-read : (page new : Page) (it : Item) (acts before : List input.Act) (to : InputPhase) → Reading page before → new ≡ record page { items = page.items ++ it ∷ [] } → to ≡ (if length new.items == 6 then phase.Put else phase.Read) → input.next acts ≡ input.read_or_put (page.items ++ it ∷ []) → input.held acts ≡ page.items ++ it ∷ [] → IsAtPhase to new acts

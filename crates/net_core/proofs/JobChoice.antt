@@ -1,5 +1,5 @@
 -- What the job process does next, by what it keeps.
-use Rattle.std.proofs.Common.{◌≡◌, ◌≢◌, ℕ, ◌+◌, ◌≤◌, ◌<◌, Bool, true, false, List, [], ◌∷◌, ◌++◌, Option, Some, None, refl, sym, ◌∙◌, ap, append_assoc, arith, take, drop, length, length-append, nat_le, nat_lt, if◌then◌else◌, inl, inr, ◌⊎◌}
+use Rattle.std.proofs.Common.{◌≡◌, ◌≢◌, ℕ, ◌≤◌, ◌<◌, Bool, true, false, List, [], ◌∷◌, ◌++◌, Option, Some, None, refl, sym, ◌∙◌, ap, append_assoc, arith, take, drop, length, length-append, nat_le, nat_lt, inl, inr}
 use Rattle.std.proofs.lemmas.List.{append-nil}
 use Rattle.std.proofs.Math.Seq.{take-append_seam}
 use Rattle.std.proofs.lemmas.Bool.Decides.{nat_tests}
@@ -9,7 +9,6 @@ use Rattle.deck_format.specs.declared.place.Place.{Place}
 use Rattle.deck_format.specs.JobReader.{given}
 use Rattle.deck_format.specs.Jobs.{jobs}
 use Rattle.net_core.specs.Page.{items_in, is_ended, as_items}
-use Rattle.net_core.specs.Completed.{completed}
 use Rattle.net_core.proofs.Completed.{given-is_completed, completed-more, completed-jobs}
 use Rattle.net_core.specs.Job as job
 use Rattle.net_core.specs.JobStream.{JobStream, Gave, StandsAt, IsSpent, jobs_by}
@@ -136,9 +135,9 @@ chose-full process acts r next full =
     let front : take 6 (waiting process.lines) ≡ process.lines.held = ap (λ n. take n (waiting process.lines)) (sym full) ∙ take-append_seam process.lines.held process.lines.rest in
     record {
       next_is = next ∙ chosen-is process acts r.works
-        ∙ choose-full (waiting process.lines) (job.worked acts) (length (job.jobs_of (job.taken acts))) process.cards.last (omega arith)
-        ∙ ap (λ lines. job.PutPage record { items = as_items lines; last = false }) front
-        ∙ ap (λ last. job.PutPage record { items = as_items process.lines.held; last = last }) (sym r.not_last);
+          ∙ choose-full (waiting process.lines) (job.worked acts) (length (job.jobs_of (job.taken acts))) process.cards.last (omega arith)
+          ∙ ap (λ lines. job.PutPage record { items = as_items lines; last = false }) front
+          ∙ ap (λ last. job.PutPage record { items = as_items process.lines.held; last = last }) (sym r.not_last);
       works = r.works;
       looked_ahead = r.looked_ahead;
     }
@@ -148,7 +147,7 @@ chose-work process acts j r next filled within not_full in_hand =
     let none = none-behind process.lines filled not_full in
     record {
       next_is = next ∙ chosen-is process acts r.works
-        ∙ choose-work (waiting process.lines) (job.worked acts) (length (job.jobs_of (job.taken acts))) process.cards.last (few-wait process.lines none within not_full) (job-left process acts j in_hand r.works);
+          ∙ choose-work (waiting process.lines) (job.worked acts) (length (job.jobs_of (job.taken acts))) process.cards.last (few-wait process.lines none within not_full) (job-left process acts j in_hand r.works);
       works = r.works;
       a_job = λ e. cc;
       none_behind = none;
@@ -161,8 +160,8 @@ chose-take process acts r next filled within not_full no_job goes_on =
     let spent = r.looked_ahead no_job in
     record {
       next_is = next ∙ chosen-is process acts r.works
-        ∙ ap (job.choose (waiting process.lines) (job.worked acts) (length (job.jobs_of (job.taken acts)))) goes_on
-        ∙ choose-take (waiting process.lines) (job.worked acts) (length (job.jobs_of (job.taken acts))) (few-wait process.lines none within not_full) (no-job-left process acts no_job r.works spent);
+          ∙ ap (job.choose (waiting process.lines) (job.worked acts) (length (job.jobs_of (job.taken acts)))) goes_on
+          ∙ choose-take (waiting process.lines) (job.worked acts) (length (job.jobs_of (job.taken acts))) (few-wait process.lines none within not_full) (no-job-left process acts no_job r.works spent);
       works = r.works;
       not_ended = goes_on;
       no_job = no_job;
@@ -179,11 +178,11 @@ chose-last process marked acts r next filled within not_full no_job ended cards 
     let spent = r.looked_ahead no_job in
     record {
       next_is = next ∙ chosen-is process acts r.works
-        ∙ ap (job.choose (waiting process.lines) (job.worked acts) (length (job.jobs_of (job.taken acts)))) ended
-        ∙ choose-last (waiting process.lines) (job.worked acts) (length (job.jobs_of (job.taken acts))) (few-wait process.lines none within not_full) (no-job-left process acts no_job r.works spent)
-        ∙ ap (λ rest. job.PutPage record { items = as_items (process.lines.held ++ rest); last = true }) none
-        ∙ ap (λ front. job.PutPage record { items = as_items front; last = true }) (append-nil process.lines.held)
-        ∙ ap (λ packer. job.PutPage (page_of packer)) (sym lines);
+          ∙ ap (job.choose (waiting process.lines) (job.worked acts) (length (job.jobs_of (job.taken acts)))) ended
+          ∙ choose-last (waiting process.lines) (job.worked acts) (length (job.jobs_of (job.taken acts))) (few-wait process.lines none within not_full) (no-job-left process acts no_job r.works spent)
+          ∙ ap (λ rest. job.PutPage record { items = as_items (process.lines.held ++ rest); last = true }) none
+          ∙ ap (λ front. job.PutPage record { items = as_items front; last = true }) (append-nil process.lines.held)
+          ∙ ap (λ packer. job.PutPage (page_of packer)) (sym lines);
       works = same-work process marked acts cards held (ap waiting lines) r.works;
       looked_ahead = λ e. rw cards spent;
     }

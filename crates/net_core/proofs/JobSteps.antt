@@ -1,13 +1,11 @@
 -- Where the job process stands after one action more.
-use Rattle.std.proofs.Common.{◌≡◌, ◌≢◌, ℕ, ◌+◌, ◌≤◌, Bool, true, false, List, [], ◌∷◌, ◌++◌, Option, Some, None, is_some, refl, sym, ◌∙◌, ap, append_assoc, drop, length, length-append, length-drop, arith}
+use Rattle.std.proofs.Common.{◌≡◌, ℕ, ◌+◌, ◌≤◌, true, false, List, [], ◌∷◌, ◌++◌, Option, Some, None, is_some, refl, sym, ◌∙◌, ap, drop, length, length-append, length-drop, arith}
 use Rattle.std.proofs.lemmas.List.{append-nil, drop-drop, drop-append-le}
 use Rattle.std.proofs.Math.Seq.{drop-append_seam}
-use Rattle.solo_base.specs.declared.outcome.Outcome.{Outcome}
 use Rattle.solo_base.specs.declared.outcome.Outcome.TheVariants as outcome
 use Rattle.solo_base.specs.declared.outcome.Cause.TheVariants.{NoMemory}
 use Rattle.solo_base.specs.declared.outcome.Side.{Side}
 use Rattle.solo_base.specs.declared.outcome.Side.TheVariants.{Sender, Receiver}
-use Rattle.slot_buffer.specs.declared.answers.Put.{Put}
 use Rattle.slot_buffer.specs.declared.answers.Put.TheVariants as put
 use Rattle.slot_buffer.specs.declared.answers.Take.TheVariants as takes
 use Rattle.slot_buffer.specs.Slot.{put_by}
@@ -15,13 +13,12 @@ use Rattle.batch_job.specs.Report.{report}
 use Rattle.deck_format.specs.declared.job.Job.{Job}
 use Rattle.deck_format.specs.JobReader.{given}
 use Rattle.solo_base.specs.declared.item.Item.{Item}
-use Rattle.net_core.specs.Page.{Page, items_in, is_ended, as_items}
+use Rattle.net_core.specs.Page.{Page, items_in, as_items}
 use Rattle.net_core.specs.Job as job
-use Rattle.net_core.specs.JobStream.{JobStream, StandsAt, IsSpent}
-use Rattle.net_core.specs.LinePacker.{LinePacker, waiting, page_of}
+use Rattle.net_core.specs.JobStream.{StandsAt, IsSpent}
+use Rattle.net_core.specs.LinePacker.{waiting, page_of}
 use Rattle.net_core.specs.JobProcess.{Working, Ready, Taking, Busy, Putting, IsAt, IsAtPhase, LooksAhead}
 use Rattle.net_core.specs.declared.job_process.JobProcess.{JobProcess}
-use Rattle.net_core.specs.declared.job_process.JobPhase.{JobPhase}
 use Rattle.net_core.specs.declared.job_process.JobPhase.TheVariants as phase
 use Rattle.net_core.proofs.Streams.{items_in-more, is_ended-more, length-as_items}
 use Rattle.net_core.proofs.JobKeeps.{reports-append}
@@ -94,9 +91,9 @@ job-done old mid acts j b in_hand cards none lines =
       ended_is = w.ended_is ∙ ap (λ s. s.last) (sym cards);
       within = omega arith;
       lines = ap (λ made. drop (length (items_in (job.sent acts))) made) (report-more w.done j)
-        ∙ drop-append-le (length (items_in (job.sent acts))) (job.reports w.done) (report j) w.within
-        ∙ ap (λ front. front ++ report j) (w.lines ∙ ap (λ rest. old.lines.held ++ rest) b.none_behind ∙ append-nil old.lines.held)
-        ∙ ap waiting (sym lines);
+          ∙ drop-append-le (length (items_in (job.sent acts))) (job.reports w.done) (report j) w.within
+          ∙ ap (λ front. front ++ report j) (w.lines ∙ ap (λ rest. old.lines.held ++ rest) b.none_behind ∙ append-nil old.lines.held)
+          ∙ ap waiting (sym lines);
     }
 
 done-by : (old mid new : JobProcess) (acts : List job.Act) (m : job.Memory) → Busy old acts → mid.lines.last ≡ old.lines.last → Working mid (job.Works job.Enough ∷ acts) →
@@ -132,11 +129,12 @@ lines-left : (sent : List Page) (page : Page) (held rest all : List (List ℕ)) 
     (length (items_in (sent ++ page ∷ [])) ≤ length all) × (drop (length (items_in (sent ++ page ∷ []))) all ≡ rest)
 lines-left sent page held rest all items within left =
     let more : length (items_in (sent ++ page ∷ [])) ≡ length (items_in sent) + length held =
-      ap length (items_in-more sent page ∙ ap (λ front. items_in sent ++ front) items) ∙ length-append (items_in sent) (as_items held) ∙ ap (λ n. length (items_in sent) + n) (length-as_items held) in
+    ap length (items_in-more sent page ∙ ap (λ front. items_in sent ++ front) items) ∙ length-append (items_in sent) (as_items held) ∙ ap (λ n. length (items_in sent) + n) (length-as_items held) in
     let long = ap length left ∙ length-append held rest in
-    let behind = length-drop (length (items_in sent)) all in
-    ( omega arith,
-      ap (λ n. drop n all) more ∙ sym (drop-drop (length held) (length (items_in sent)) all) ∙ ap (λ lines. drop (length held) lines) left ∙ drop-append_seam held rest )
+    let behind = length-drop (length (items_in sent)) all in (
+      omega arith,
+      ap (λ n. drop n all) more ∙ sym (drop-drop (length held) (length (items_in sent)) all) ∙ ap (λ lines. drop (length held) lines) left ∙ drop-append_seam held rest,
+    )
 
 pub page-put : (old mid : JobProcess) (acts : List job.Act) → Putting old acts → mid.cards ≡ old.cards → mid.job ≡ old.job → mid.lines ≡ record { held = []; last = false; rest = old.lines.rest } → Ready mid (job.Puts (page_of old.lines) put.Done ∷ acts)
 page-put old mid acts p cards held lines =

@@ -1,9 +1,6 @@
 -- A step of one process is a step of the whole network: what the others and their devices stand for stays.
-use Rattle.std.proofs.Common.{◌≡◌, ℕ, Bool, List, [], ◌∷◌, Option, Some, None, refl, sym, ◌∙◌, ap}
-use Rattle.solo_devices.specs.CardUnit.{Held, items_ahead}
-use Rattle.solo_devices.specs.PrinterUnit.{Printing}
-use Rattle.slot_buffer.specs.Slot.{Slot}
-use Rattle.net_core.specs.Page.{Page}
+use Rattle.std.proofs.Common.{◌≡◌, ℕ, List, Option, refl, sym, ◌∙◌, ap}
+use Rattle.solo_devices.specs.CardUnit.{items_ahead}
 use Rattle.net_core.specs.Input as input
 use Rattle.net_core.specs.Job as job
 use Rattle.net_core.specs.Output as output

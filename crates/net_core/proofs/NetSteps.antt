@@ -1,16 +1,15 @@
 -- A network and the states that it stands for: what may happen, what happens, and that each state was reached.
-use Rattle.std.proofs.Common.{◌≡◌, ℕ, Bool, true, false, List, [], ◌∷◌, ◌++◌, Option, Some, None, refl, sym, ◌∙◌, ap}
+use Rattle.std.proofs.Common.{◌≡◌, ℕ, Bool, List, [], ◌∷◌, ◌++◌, Option, refl, sym, ◌∙◌, ap}
 use Rattle.solo_base.specs.declared.item.Item.{Item}
 use Rattle.solo_base.specs.declared.outcome.Side.TheVariants.{Sender, Receiver}
 use Rattle.solo_devices.specs.declared.card_read.CardRead.TheVariants as read
-use Rattle.queue_var.specs.Sides.{MayEnter, MayStop, has_stopped}
-use Rattle.queue_var.specs.HandsOver.{is_one_of}
+use Rattle.queue_var.specs.Sides.{MayEnter, MayStop}
 use Rattle.slot_buffer.specs.Slot.{Slot, put_answer, take_answer}
 use Rattle.net_core.specs.Page.{Page}
 use Rattle.net_core.specs.Input as input
 use Rattle.net_core.specs.Job as job
 use Rattle.net_core.specs.Output as output
-use Rattle.net_core.specs.Core.{State, Event, Input, Job, Output, IsEnabled, InputMay, JobMay, OutputMay, Gives, happens, after_input, after_job, after_output, input_number, job_number, output_number, run, AreEnabled, opening}
+use Rattle.net_core.specs.Core.{State, Event, Input, Job, Output, IsEnabled, InputMay, JobMay, OutputMay, Gives, happens, input_number, job_number, output_number, run, AreEnabled, opening}
 use Rattle.net_core.specs.Facts.{Facts}
 use Rattle.net_core.specs.Steps.{MayStep, number_of}
 use Rattle.net_core.specs.LinePacker.{page_of}
@@ -178,9 +177,9 @@ input-ready process deck live first s opening_deck opening_paper f st = record {
   room = λ e. (let r = reads.at-read process s.input e st.at in r.room);
   live_is = λ e. (let r = reads.at-read process s.input e st.at in st.live_is (rw r.next_is tt));
   not_stopped = λ e. (let r = reads.at-put process s.input e st.at in
-    let i = f.input_process in
-    let works = i.works (rw r.next_is tt) in
-    rw (← st.first_is) (f.first_buffer.stopped_first.each Sender ∙ i.mark ∙ works.1));
+      let i = f.input_process in
+      let works = i.works (rw r.next_is tt) in
+      rw (← st.first_is) (f.first_buffer.stopped_first.each Sender ∙ i.mark ∙ works.1));
 }
 
 pub job-ready : (process : JobProcess) (first second : Slot Page) (s : State) (opening_deck : Option (List Item)) (opening_paper : Option (List ℕ)) → Facts opening_deck opening_paper s →
@@ -191,13 +190,13 @@ job-ready process first second s opening_deck opening_paper f st = record {
   no_job = λ e. (let r = steps.at-take process s.job e st.at in r.no_job);
   none_behind = λ e. (let r = steps.at-work process s.job e st.at in r.none_behind);
   first_not_stopped = λ e. (let r = steps.at-take process s.job e st.at in
-    let j = f.job_process in
-    let works = j.works (rw r.next_is tt) in
-    rw (← st.first_is) (f.first_buffer.stopped_first.each Receiver ∙ j.first_mark ∙ works.1));
+      let j = f.job_process in
+      let works = j.works (rw r.next_is tt) in
+      rw (← st.first_is) (f.first_buffer.stopped_first.each Receiver ∙ j.first_mark ∙ works.1));
   second_not_stopped = λ e. (let r = steps.at-put process s.job e st.at in
-    let j = f.job_process in
-    let works = j.works (rw r.next_is tt) in
-    rw (← st.second_is) (f.second_buffer.stopped_first.each Sender ∙ j.second_mark ∙ works.2));
+      let j = f.job_process in
+      let works = j.works (rw r.next_is tt) in
+      rw (← st.second_is) (f.second_buffer.stopped_first.each Sender ∙ j.second_mark ∙ works.2));
 }
 
 pub output-ready : (process : OutputProcess) (paper : Option (List ℕ)) (live : Bool) (second : Slot Page) (s : State) (opening_deck : Option (List Item)) (opening_paper : Option (List ℕ)) → Facts opening_deck opening_paper s →
@@ -206,9 +205,9 @@ output-ready process paper live second s opening_deck opening_paper f st = recor
   live_is = λ line e. (let p = prints.at-print process line s.output e st.at in st.live_is (rw p.next_is tt));
   within = λ line e. (let p = prints.at-print process line s.output e st.at in p.within);
   not_stopped = λ e. (let next = prints.at-take process s.output e st.at in
-    let o = f.output_process in
-    let works = o.works (rw next tt) in
-    rw (← st.second_is) (f.second_buffer.stopped_first.each Receiver ∙ o.mark ∙ works.1));
+      let o = f.output_process in
+      let works = o.works (rw next tt) in
+      rw (← st.second_is) (f.second_buffer.stopped_first.each Receiver ∙ o.mark ∙ works.1));
 }
 
 -- ---- reached states

@@ -1,5 +1,5 @@
 -- What a stream of pages gives as its items are pushed.
-use Rattle.std.proofs.Common.{◌≡◌, ◌≢◌, ℕ, drop, length, Bool, true, false, List, [], ◌∷◌, ◌++◌, Option, Some, None, is_some, refl, sym, ◌∙◌, ap, append_assoc}
+use Rattle.std.proofs.Common.{◌≡◌, ℕ, drop, length, true, false, List, [], ◌∷◌, ◌++◌, Option, Some, None, is_some, refl, sym, ◌∙◌, ap, append_assoc}
 use Rattle.std.proofs.lemmas.List.{append-nil}
 use Rattle.std.proofs.Math.Seq.{drop-length}
 use Rattle.solo_base.specs.declared.item.Item.{Item}
@@ -7,9 +7,7 @@ use Rattle.deck_format.specs.declared.job.Job.{Job}
 use Rattle.deck_format.specs.declared.place.Place.{Place}
 use Rattle.deck_format.specs.JobReader.{StandsFor, given}
 use Rattle.deck_format.specs.Jobs.{jobs}
-use Rattle.net_core.specs.Completed.{completed}
-use Rattle.net_core.proofs.Completed.{given-is_completed, completed-more, completed-jobs}
-use Rattle.net_core.specs.JobStream.{JobStream, Gave, StandsAt, Pushes, IsSpent, jobs_by}
+use Rattle.net_core.specs.JobStream.{JobStream, Gave, StandsAt, Pushes}
 
 pub pushes-nothing : (place : Place) (ahead : List Item) → Pushes place place ahead ahead []
 pushes-nothing place ahead = record {

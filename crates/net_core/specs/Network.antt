@@ -88,6 +88,6 @@ pub record Runs (s : State) (numbers : List ℕ) (Then : State → Type 0) : Typ
 -- the one-thread output of the deck, and all of it where all processes did their work. Then the deck has nothing left.
 pub record Printed (opening_deck deck : Option (List Item)) (opening_paper paper : Option (List ℕ)) (outcomes : List Outcome) : Type 0 where
   pub prefix : (items : List Item) (given : List ℕ) → opening_deck ≡ Some items → opening_paper ≡ Some given →
-    (gained : List ℕ) × (paper ≡ Some (given ++ gained)) × IsPrefixOf gained (text (one_thread_lines items))
+      (gained : List ℕ) × (paper ≡ Some (given ++ gained)) × IsPrefixOf gained (text (one_thread_lines items))
   pub whole : (items : List Item) (given : List ℕ) → opening_deck ≡ Some items → opening_paper ≡ Some given → outcomes ≡ outcome.Done ∷ outcome.Done ∷ outcome.Done ∷ [] →
-    (paper ≡ Some (given ++ text (one_thread_lines items))) × (deck ≡ Some [])
+      (paper ≡ Some (given ++ text (one_thread_lines items))) × (deck ≡ Some [])

@@ -143,7 +143,11 @@ impl InputProcess {
         let last = page.is_last();
         match first.put(INPUT, page) {
             Put::Done => {
-                self.phase = if last { InputPhase::End(Outcome::Done) } else { InputPhase::Read };
+                self.phase = if last {
+                    InputPhase::End(Outcome::Done)
+                } else {
+                    InputPhase::Read
+                };
                 Stepped::entered(resumed)
             }
             Put::Delayed(page) => {

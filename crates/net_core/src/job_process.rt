@@ -59,11 +59,7 @@ impl JobProcess {
     }
 
     /// Whether its next action is enabled.
-    pub fn may_act(
-        &self,
-        first: &SlotBuffer<PlainPage>,
-        second: &SlotBuffer<PlainPage>,
-    ) -> bool
+    pub fn may_act(&self, first: &SlotBuffer<PlainPage>, second: &SlotBuffer<PlainPage>) -> bool
         ensures { IsTrue result ↔ MayAct self.now.phase first.now second.now }
     {
         match self.phase {

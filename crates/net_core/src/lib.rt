@@ -14,6 +14,8 @@ mod output_process;
 mod output_turn;
 mod plain_page;
 mod stepped;
+#[cfg(test)]
+mod tests;
 
 pub use interleavings::every_interleaving;
 pub use listing::{Listed, run_lists};

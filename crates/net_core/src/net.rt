@@ -170,11 +170,7 @@ impl<S: Source, K: Sink> Net<S, K> {
 }
 
 /// How the processes ended, where all have.
-fn outcomes(
-    input: &InputProcess,
-    job: &JobProcess,
-    output: &OutputProcess,
-) -> Option<[Outcome; 3]>
+fn outcomes(input: &InputProcess, job: &JobProcess, output: &OutputProcess) -> Option<[Outcome; 3]>
     ensures all { IfSome result (λ outcomes. (s : State) → AreAt input.now job.now output.now s → EndedWith s outcomes) }
     ensures some { IfNone result ((s : State) → AreAt input.now job.now output.now s → HasEnded s → ⊥) }
 {

@@ -17,6 +17,10 @@ impl Stepped {
     pub fn entered(resumed: bool) -> Stepped
         ensures { result ≡ (if resumed then Stepped.Resumed else Stepped.Acted) }
     {
-        if resumed { Stepped::Resumed } else { Stepped::Acted }
+        if resumed {
+            Stepped::Resumed
+        } else {
+            Stepped::Acted
+        }
     }
 }

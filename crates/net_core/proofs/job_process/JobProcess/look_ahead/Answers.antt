@@ -1,4 +1,4 @@
-use Rattle.std.proofs.Common.{refl, sym, ap, ◌∙◌}
+use Rattle.std.proofs.Common.{refl, ap}
 use Rattle.net_core.specs.Job as job
 use Rattle.net_core.proofs.JobSteps.{looked-ahead}
 use Rattle.net_core.proofs.job_process.JobProcess.look_ahead.Goals as goal

@@ -2,7 +2,7 @@ use Rattle.std.proofs.Common.{rules, refl, sym, ap, ◌∙◌}
 use Rattle.slot_buffer.specs.declared.answers.Put.TheVariants as put
 use Rattle.slot_buffer.specs.Slot.{put_answer, after_put}
 use Rattle.queue_var.specs.Sides.{stopped_by}
-use Rattle.net_core.specs.Page.{as_items, lines_in}
+use Rattle.net_core.specs.Page.{as_items}
 use Rattle.net_core.specs.LinePacker.{page_of}
 use Rattle.net_core.specs.Core.{job_number}
 use Rattle.net_core.specs.declared.job_process.JobPhase.TheVariants as phase
@@ -25,7 +25,7 @@ returns-after-last c = rw (← (c.in-Done.ensures.answer ∙ ap (put_answer c.ar
         let going = at-put c.args.self.now acts c.requires.puts at in
         w.choose.ensures _ (page-put c.args.self.now (record c.args.self.now { lines = c.hand_out.new.self }) acts going refl refl c.hand_out.ensures.new_page)
         (next-behind (page_of c.args.self.now.lines) acts (sym c.is_last-last.ensures ∙ w.if-last.false)))
-    ];
+  ];
   buffer = c.in-Done.ensures.after ∙ ap (λ page. after_put c.args.second.now job_number page put.Done) c.hand_out.ensures.page;
   step_is = search rules;
 }

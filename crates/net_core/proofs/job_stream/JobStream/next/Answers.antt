@@ -1,4 +1,4 @@
-use Rattle.std.proofs.Common.{refl, sym, ap, ◌∙◌, ◌++◌, [], drop}
+use Rattle.std.proofs.Common.{refl, sym, ap, ◌∙◌, ◌++◌, []}
 use Rattle.deck_format.specs.JobReader.{given}
 use Rattle.net_core.specs.JobStream.{Gave}
 use Rattle.net_core.proofs.StreamSteps.{stands-on, stands-used_up, none-behind}

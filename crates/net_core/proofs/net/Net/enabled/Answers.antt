@@ -3,18 +3,18 @@ use Rattle.net_core.proofs.net.Net.enabled.Goals as goal
 
 pub returns-in-1 : goal.returns-in-1
 returns-in-1 g c = rw (c.in-1.is, ← c.self.view_is) (λ s st. (
-      (λ yes. input-enabled _ _ _ _ s st.input_stands (c.may_act.ensures.0 yes)),
-      (λ may. c.may_act.ensures.1 (input-may _ _ _ _ s st.input_stands may)),
-    ))
+  (λ yes. input-enabled _ _ _ _ s st.input_stands (c.may_act.ensures.0 yes)),
+  (λ may. c.may_act.ensures.1 (input-may _ _ _ _ s st.input_stands may)),
+))
 
 pub returns-in-2 : goal.returns-in-2
 returns-in-2 g c = rw (c.in-2.is, ← c.self.view_is) (λ s st. (
-      (λ yes. job-enabled _ _ _ s st.job_stands (c.may_act-in-2.ensures.0 yes)),
-      (λ may. c.may_act-in-2.ensures.1 (job-may _ _ _ s st.job_stands may)),
-    ))
+  (λ yes. job-enabled _ _ _ s st.job_stands (c.may_act-in-2.ensures.0 yes)),
+  (λ may. c.may_act-in-2.ensures.1 (job-may _ _ _ s st.job_stands may)),
+))
 
 pub returns-in-3 : goal.returns-in-3
 returns-in-3 g c = rw (c.in-3.is, ← c.self.view_is) (λ s st. (
-      (λ yes. output-enabled _ _ _ _ s st.output_stands (c.may_act-in-3.ensures.0 yes)),
-      (λ may. c.may_act-in-3.ensures.1 (output-may _ _ _ _ s st.output_stands may)),
-    ))
+  (λ yes. output-enabled _ _ _ _ s st.output_stands (c.may_act-in-3.ensures.0 yes)),
+  (λ may. c.may_act-in-3.ensures.1 (output-may _ _ _ _ s st.output_stands may)),
+))

@@ -1,4 +1,4 @@
-use Rattle.std.proofs.Common.{refl, sym, ap, [], ◌∙◌}
+use Rattle.std.proofs.Common.{refl, sym, ap, []}
 use Rattle.solo_devices.specs.CardUnit.{items_ahead}
 use Rattle.net_core.specs.Core.{opening}
 use Rattle.net_core.proofs.net.Net.make.Goals as goal

@@ -1,7 +1,6 @@
 use Rattle.std.proofs.Common.{◌∙◌, ap, arith, add-one, take}
 use Rattle.std.proofs.Math.Seq.{take-suc}
 use Rattle.std.proofs.lemmas.Option.{slice_get_within, get_or_from_slice_get}
-use Rattle.net_core.specs.Steps.{MayStep}
 use Rattle.net_core.proofs.NetEnds.{runs-on}
 use Rattle.net_core.proofs.net.Net.run.Goals as goal
 

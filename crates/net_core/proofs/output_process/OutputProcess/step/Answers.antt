@@ -1,5 +1,4 @@
 use Rattle.std.proofs.Common.{refl, ap, arith, Err}
-use Rattle.solo_devices.specs.declared.printer_unit.PrintFault.TheVariants.{Failed}
 use Rattle.net_core.specs.declared.output_process.OutputPhase.TheVariants as phase
 use Rattle.net_core.proofs.OutputActs.{may-at, takes, prints, refused, stops, ends}
 use Rattle.net_core.proofs.output_process.OutputProcess.step.Goals as goal
