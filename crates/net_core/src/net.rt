@@ -5,7 +5,7 @@ ghost use Rattle.solo_devices.specs.PrinterUnit.{fresh_printer};
 ghost use Rattle.queue_var.specs.Sides.{stopped_by};
 ghost use Rattle.net_core.specs.Core.{AreEnabled, Event, State, opening, run};
 ghost use Rattle.net_core.specs.Steps.{MayStep, Steps};
-ghost use Rattle.net_core.specs.Network.{AreAt, EndedWith, HasCause, HasEnded, Printed, Runs, Stands};
+ghost use Rattle.net_core.specs.Network.{AreAt, EndedWith, HasCause, HasEnded, Printed, Runs, Stands, StandsForReached};
 
 use crate::input_process::{INPUT, InputProcess};
 use crate::job_process::{JOB, JobProcess};
@@ -84,7 +84,10 @@ impl<S: Source, K: Sink> Net<S, K> {
 
     /// Whether an event of this process may happen.
     pub fn enabled(&self, p: ProcNo) -> bool
-        ensures { (s : State) → Stands S.left K.given self.now s → (IsTrue result ↔ MayStep s p) }
+        ensures exact { (s : State) → Stands S.left K.given self.now s → (IsTrue result ↔ MayStep s p) }
+
+        // The network always stands for some state that can be reached.
+        ensures reached { StandsForReached S.left K.given self.now }
     {
         match p {
             INPUT => self.input.may_act(&self.first),

@@ -22,6 +22,6 @@ returns-after-running-clause-stops g c = λ p there s st may.
 pub returns-then-not-enabled-clause-stops : goal.returns-then-not-enabled-clause-stops
 returns-then-not-enabled-clause-stops g c = λ p there s st may.
     let same = get_or_from_slice_get c.args.schedule.now c.running.count p 0 there in
-    let enabled = (c.enabled.ensures s st).1 (rw same may) in
+    let enabled = (c.enabled.ensures.exact s st).1 (rw same may) in
     let not_enabled = c.if-not-enabled.true in
     absurd cc
