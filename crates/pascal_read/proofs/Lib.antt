@@ -4,5 +4,28 @@ pub mod Comments
 pub mod Digits
 pub mod Fronts
 pub mod Longest
+mod ParseComplete
+mod ParseCompleteProgram
+mod ParseCompleteStatement
+pub mod ParseDeclarationLists
+pub mod ParseDeclarationRows
+mod ParseEnds
+pub mod ParseLists
+mod ParseOnePlace
+pub mod ParsePlace
+pub mod ParseRows
+mod ParseSpells
+mod ParseSpellsBack
+mod ParseSpellsCases
+mod ParseSpellsDeclaration
+mod ParseSpellsExpression
+mod ParseSpellsOffer
+mod ParseSpellsStatement
+pub mod ParseStatementLists
+pub mod ParseStatementParts
+pub mod ParseStatementRows
+mod ParseStuck
+pub mod ParseTokens
+pub mod ParseWhole
 pub mod Program
 pub mod Steps

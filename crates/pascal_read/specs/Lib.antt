@@ -1,5 +1,9 @@
 pub mod Card
+pub mod ErrorPlace
 pub mod Found
+pub mod ParseFirst
+pub mod ParseRange
+pub mod ParseWants
 pub mod Piece
 pub mod Scan
 pub use Rattle.solo_base.specs.Text

@@ -1,0 +1,13 @@
+use Rattle.std.proofs.Common.{◌∷◌, ◌∙◌, List, rules}
+use Rattle.pascal_tree.specs.declared.token.Symbol.TheVariants as symbol
+use Rattle.pascal_read.specs.ParseWants.{Want, mark}
+use Rattle.pascal_read.specs.ParseWants as want
+use Rattle.pascal_read.proofs.parse_program.procedure.Goals as goal
+
+pub returns-in_err-end-clause-fault : goal.returns-in_err-end-clause-fault
+returns-in_err-end-clause-fault c =
+    λ line e y rest.
+    let semicolon : Want = mark symbol.Semicolon in
+    let behind : List Want = want.vars ∷ want.body ∷ semicolon ∷ y ∷ rest in
+    c.in_ok-name.ensures.goes want.parameters (semicolon ∷ want.consts ∷ behind) ∙ c.in_ok-parameters.ensures.goes semicolon (want.consts ∷ behind) ∙ c.in_ok-semicolon.ensures.goes want.consts behind
+    ∙ c.in_ok-block.ensures.goes semicolon (y ∷ rest) ∙ c.in_err-end.ensures.fault line (search rules) y rest

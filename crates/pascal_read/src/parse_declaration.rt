@@ -1,0 +1,280 @@
+// Declarations, read by descent.
+#![tactic(auto, using(crate::proofs::ParseDeclarationRows::declaration_rows))]
+
+ghost use Rattle.std.specs.Prelude.{◌≡◌, ℕ, ◌∷◌, [], ◌++◌, Err, IfOk, OnOk, option_map, map};
+ghost use Rattle.pascal_tree.specs.SeenProgram.{seen_names, seen_consts, seen_group, seen_vars, seen_parameter_group, seen_parameters};
+ghost use Rattle.pascal_tree.specs.SpellExpression.{name_at, reserved_at};
+ghost use Rattle.pascal_tree.specs.SpellProgram.{spelled_heading, spelled_constant, spelled_definition, spelled_definitions, spelled_consts, spelled_more_names, spelled_kind, spelled_group, spelled_groups, spelled_vars, spelled_parameter_group, spelled_parameter_groups, spelled_parameters};
+ghost use Rattle.pascal_read.specs.ParseWants.{definition_rest, array_rest, group_rest, GoesOn, IsStuck, AllGoesOn, AllIsStuck};
+ghost use Rattle.pascal_read.specs.ParseWants as want;
+
+use crate::parse_expect::{expect_name, expect_number, expect_reserved, expect_symbol};
+use crate::parse_fault::ParseFault;
+use crate::parse_reader::Reader;
+use pascal_tree::declaration::{
+    Constant, Consts, Definition, Group, Heading, Kind, Names, ParameterGroup, Parameters, Vars,
+};
+use pascal_tree::leaf::Name;
+use pascal_tree::{Reserved, Symbol};
+use std::alloc::Global;
+
+/// The heading of a program, where there is one.
+pub fn heading(reader: &mut Reader<'_>) -> Result<Option<Heading>, ParseFault>
+    ensures words { IfOk result (λ x. reader.old ≡ spelled_heading x ++ reader.new) }
+    ensures goes { OnOk result (GoesOn want.heading reader.old reader.new) }
+    ensures fault { (line : ℕ) → result ≡ Err (ParseFault.Syntax line)
+        → IsStuck want.heading reader.old line }
+{
+    let Some(line) = reader.take_reserved(Reserved::Program) else {
+        return Ok(None);
+    };
+    let name = expect_name(reader)?;
+    let semicolon = expect_symbol(reader, Symbol::Semicolon)?;
+    Ok(Some(Heading {
+        line,
+        name,
+        semicolon,
+    }))
+}
+
+fn constant(reader: &mut Reader<'_>) -> Result<Constant, ParseFault>
+    ensures words { IfOk result (λ x. reader.old ≡ spelled_constant x ++ reader.new) }
+    ensures goes { OnOk result (GoesOn want.constant reader.old reader.new) }
+    ensures fault { (line : ℕ) → result ≡ Err (ParseFault.Syntax line)
+        → IsStuck want.constant reader.old line }
+{
+    if let Some(name) = reader.take_name() {
+        return Ok(Constant::Name(name));
+    }
+    if let Some(number) = reader.take_number() {
+        return Ok(Constant::Number(number));
+    }
+    if let Some(line) = reader.take_symbol(Symbol::Minus) {
+        let number = expect_number(reader)?;
+        return Ok(Constant::Negative(line, number));
+    }
+    match reader.take_character() {
+        Some(character) => Ok(Constant::Character(character)),
+        None => Err(ParseFault::Syntax {
+            line: reader.line(),
+        }),
+    }
+}
+
+// A definition whose name is read.
+fn definition(reader: &mut Reader<'_>, name: Name) -> Result<Definition, ParseFault>
+    ensures words { IfOk result
+        (λ x. name_at name ∷ reader.old ≡ spelled_definition x ++ reader.new) }
+    ensures goes { OnOk result (AllGoesOn (definition_rest []) reader.old reader.new) }
+    ensures fault { (line : ℕ) → result ≡ Err (ParseFault.Syntax line)
+        → AllIsStuck (definition_rest []) reader.old line }
+{
+    let equal = expect_symbol(reader, Symbol::Equal)?;
+    let value = constant(reader)?;
+    let semicolon = expect_symbol(reader, Symbol::Semicolon)?;
+    Ok(Definition {
+        name,
+        equal,
+        value,
+        semicolon,
+    })
+}
+
+/// The constants of a program or of a routine, where there are some.
+pub fn consts(reader: &mut Reader<'_>, alloc: Global) -> Result<Option<Consts>, ParseFault>
+    ensures words { IfOk result
+        (λ x. reader.old ≡ spelled_consts (option_map seen_consts x) ++ reader.new) }
+    ensures goes { OnOk result (GoesOn want.consts reader.old reader.new) }
+    ensures fault { (line : ℕ) → result ≡ Err (ParseFault.Syntax line)
+        → IsStuck want.consts reader.old line }
+{
+    let Some(line) = reader.take_reserved(Reserved::Const) else {
+        return Ok(None);
+    };
+    let name = expect_name(reader)?;
+    let first = definition(reader, name)?;
+    let rest = more_definitions(reader, alloc)?;
+    Ok(Some(Consts { line, first, rest }))
+}
+
+fn more_definitions(reader: &mut Reader<'_>, alloc: Global) -> Result<Vec<Definition>, ParseFault>
+    ensures words { IfOk result (λ x. reader.old ≡ spelled_definitions x.items ++ reader.new) }
+    ensures goes { OnOk result (GoesOn want.more_definitions reader.old reader.new) }
+    ensures fault { (line : ℕ) → result ≡ Err (ParseFault.Syntax line)
+        → IsStuck want.more_definitions reader.old line }
+{
+    let mut rest = Vec::new(alloc);
+    while let Some(name) = reader.take_name() {
+        let definition = definition(reader, name)?;
+        rest.push(definition)?;
+    }
+    Ok(rest)
+}
+
+// Names of which the first is read.
+fn names(reader: &mut Reader<'_>, alloc: Global, first: Name) -> Result<Names, ParseFault>
+    ensures words { IfOk result
+        (λ x. (x.first ≡ first) × (reader.old ≡ spelled_more_names x.rest.items ++ reader.new)) }
+    ensures goes { OnOk result (GoesOn want.more_names reader.old reader.new) }
+    ensures fault { (line : ℕ) → result ≡ Err (ParseFault.Syntax line)
+        → IsStuck want.more_names reader.old line }
+{
+    let mut rest = Vec::new(alloc);
+    while let Some(line) = reader.take_symbol(Symbol::Comma) {
+        let name = expect_name(reader)?;
+        rest.push((line, name))?;
+    }
+    Ok(Names { first, rest })
+}
+
+fn kind(reader: &mut Reader<'_>) -> Result<Kind, ParseFault>
+    ensures words { IfOk result (λ x. reader.old ≡ spelled_kind x ++ reader.new) }
+    ensures goes { OnOk result (GoesOn want.kind reader.old reader.new) }
+    ensures fault { (line : ℕ) → result ≡ Err (ParseFault.Syntax line)
+        → IsStuck want.kind reader.old line }
+{
+    if let Some(name) = reader.take_name() {
+        return Ok(Kind::Name(name));
+    }
+    match reader.take_reserved(Reserved::Array) {
+        Some(line) => array(reader, line),
+        None => Err(ParseFault::Syntax {
+            line: reader.line(),
+        }),
+    }
+}
+
+// An array type whose ARRAY is read.
+fn array(reader: &mut Reader<'_>, line: u32) -> Result<Kind, ParseFault>
+    ensures words { IfOk result
+        (λ x. reserved_at Reserved.Array line ∷ reader.old ≡ spelled_kind x ++ reader.new) }
+    ensures goes { OnOk result (AllGoesOn array_rest reader.old reader.new) }
+    ensures fault { (line : ℕ) → result ≡ Err (ParseFault.Syntax line)
+        → AllIsStuck array_rest reader.old line }
+{
+    let opening = expect_symbol(reader, Symbol::OpenIndex)?;
+    let low = constant(reader)?;
+    let up_to = expect_symbol(reader, Symbol::UpTo)?;
+    let high = constant(reader)?;
+    let closing = expect_symbol(reader, Symbol::CloseIndex)?;
+    let of = expect_reserved(reader, Reserved::Of)?;
+    let element = expect_name(reader)?;
+    Ok(Kind::Array {
+        line,
+        opening,
+        low,
+        up_to,
+        high,
+        closing,
+        of,
+        element,
+    })
+}
+
+// A group of variables whose first name is read, with its semicolon.
+fn group(reader: &mut Reader<'_>, alloc: Global, name: Name) -> Result<Group, ParseFault>
+    ensures words { IfOk result
+        (λ x. name_at name ∷ reader.old ≡ spelled_group (seen_group x) ++ reader.new) }
+    ensures goes { OnOk result (AllGoesOn (group_rest []) reader.old reader.new) }
+    ensures fault { (line : ℕ) → result ≡ Err (ParseFault.Syntax line)
+        → AllIsStuck (group_rest []) reader.old line }
+{
+    let names = names(reader, alloc, name)?;
+    let colon = expect_symbol(reader, Symbol::Colon)?;
+    let kind = kind(reader)?;
+    let semicolon = expect_symbol(reader, Symbol::Semicolon)?;
+    Ok(Group {
+        names,
+        colon,
+        kind,
+        semicolon,
+    })
+}
+
+/// The variables of a program or of a routine, where there are some.
+pub fn vars(reader: &mut Reader<'_>, alloc: Global) -> Result<Option<Vars>, ParseFault>
+    ensures words { IfOk result
+        (λ x. reader.old ≡ spelled_vars (option_map seen_vars x) ++ reader.new) }
+    ensures goes { OnOk result (GoesOn want.vars reader.old reader.new) }
+    ensures fault { (line : ℕ) → result ≡ Err (ParseFault.Syntax line)
+        → IsStuck want.vars reader.old line }
+{
+    let Some(line) = reader.take_reserved(Reserved::Var) else {
+        return Ok(None);
+    };
+    let name = expect_name(reader)?;
+    let first = group(reader, alloc, name)?;
+    let rest = more_groups(reader, alloc)?;
+    Ok(Some(Vars { line, first, rest }))
+}
+
+fn more_groups(reader: &mut Reader<'_>, alloc: Global) -> Result<Vec<Group>, ParseFault>
+    ensures words { IfOk result
+        (λ x. reader.old ≡ spelled_groups (map seen_group x.items) ++ reader.new) }
+    ensures goes { OnOk result (GoesOn want.more_groups reader.old reader.new) }
+    ensures fault { (line : ℕ) → result ≡ Err (ParseFault.Syntax line)
+        → IsStuck want.more_groups reader.old line }
+{
+    let mut rest = Vec::new(alloc);
+    while let Some(name) = reader.take_name() {
+        let group = group(reader, alloc, name)?;
+        rest.push(group)?;
+    }
+    Ok(rest)
+}
+
+fn parameter_group(reader: &mut Reader<'_>, alloc: Global) -> Result<ParameterGroup, ParseFault>
+    ensures words { IfOk result
+        (λ x. reader.old ≡ spelled_parameter_group (seen_parameter_group x) ++ reader.new) }
+    ensures goes { OnOk result (GoesOn want.parameter_group reader.old reader.new) }
+    ensures fault { (line : ℕ) → result ≡ Err (ParseFault.Syntax line)
+        → IsStuck want.parameter_group reader.old line }
+{
+    let name = expect_name(reader)?;
+    let names = names(reader, alloc, name)?;
+    let colon = expect_symbol(reader, Symbol::Colon)?;
+    let kind = expect_name(reader)?;
+    Ok(ParameterGroup { names, colon, kind })
+}
+
+/// The parameters of a routine, where there are some.
+pub fn parameters(reader: &mut Reader<'_>, alloc: Global) -> Result<Option<Parameters>, ParseFault>
+    ensures words { IfOk result
+        (λ x. reader.old ≡ spelled_parameters (option_map seen_parameters x) ++ reader.new) }
+    ensures goes { OnOk result (GoesOn want.parameters reader.old reader.new) }
+    ensures fault { (line : ℕ) → result ≡ Err (ParseFault.Syntax line)
+        → IsStuck want.parameters reader.old line }
+{
+    let Some(opening) = reader.take_symbol(Symbol::Open) else {
+        return Ok(None);
+    };
+    let first = parameter_group(reader, alloc)?;
+    let rest = more_parameters(reader, alloc)?;
+    let closing = expect_symbol(reader, Symbol::Close)?;
+    Ok(Some(Parameters {
+        opening,
+        first,
+        rest,
+        closing,
+    }))
+}
+
+fn more_parameters(
+    reader: &mut Reader<'_>,
+    alloc: Global,
+) -> Result<Vec<(u32, ParameterGroup)>, ParseFault>
+    ensures words { IfOk result
+        (λ x. reader.old
+        ≡ spelled_parameter_groups (map (λ g. (g.0, seen_parameter_group g.1)) x.items)
+        ++ reader.new) }
+    ensures goes { OnOk result (GoesOn want.more_parameters reader.old reader.new) }
+    ensures fault { (line : ℕ) → result ≡ Err (ParseFault.Syntax line)
+        → IsStuck want.more_parameters reader.old line }
+{
+    let mut rest = Vec::new(alloc);
+    while let Some(line) = reader.take_symbol(Symbol::Semicolon) {
+        let group = parameter_group(reader, alloc)?;
+        rest.push((line, group))?;
+    }
+    Ok(rest)
+}
