@@ -20,6 +20,7 @@ use Rattle.pascal_tree.specs.declared.expression.Adding.TheVariants as addings
 use Rattle.pascal_tree.specs.declared.expression.Multiplying.{Multiplying}
 use Rattle.pascal_tree.specs.declared.expression.Multiplying.TheVariants as multiplyings
 
+-- whether a word is this reserved word or this symbol, or a word of this kind
 abbrev pub is_reserved : Word → Reserved → Bool
 is_reserved (word.Reserved found) r = sameb reserved_type.the_type found r
 is_reserved other r = false
@@ -44,6 +45,7 @@ abbrev pub is_end : Word → Bool
 is_end word.End = true
 is_end other = false
 
+-- the relation, the sign or the operator that a word is, if it is one
 abbrev pub relation_of : Word → Option Relation
 relation_of w =
     if is_symbol w symbol.Equal then Some relations.Equal else
@@ -120,6 +122,7 @@ abbrev pub or_else : {A : Type 0} → Option A → Option A → Option A
 or_else None q = q
 or_else (Some x) q = Some x
 
+-- one step where there is something, and the other where there is nothing
 abbrev pub if_some : {A : Type 0} → Option A → Step → Step → Step
 if_some None p q = q
 if_some (Some x) p q = p
@@ -128,6 +131,7 @@ if_some (Some x) p q = p
 abbrev pub deeper : ℕ → (ℕ → List Want) → Step
 deeper n f = if nat_le 2 n then took (f (n - 1)) else no
 
+-- takes the word exactly where it passes a test
 abbrev pub exactly : Bool → Step
 exactly b = if b then took [] else no
 
@@ -136,6 +140,7 @@ abbrev pub begun : Option (List Want) → Step
 begun None = no
 begun (Some more) = took more
 
+-- the same with more behind the part
 abbrev pub extended : Option (List Want) → List Want → Option (List Want)
 extended None rest = None
 extended (Some more) rest = Some (more ++ rest)
@@ -144,6 +149,7 @@ extended (Some more) rest = Some (more ++ rest)
 abbrev pub inner : ℕ → (ℕ → List Want) → Option (List Want)
 inner n f = if nat_le 2 n then Some (f (n - 1)) else None
 
+-- what each word leaves of a factor, of a term, of a simple expression and of an expression that it begins
 abbrev pub factor_begins : ℕ → Word → Option (List Want)
 factor_begins n w =
     if is_number w then Some [] else
@@ -162,17 +168,20 @@ simple_begins n w =
 abbrev pub expr_begins : ℕ → Word → Option (List Want)
 expr_begins n w = extended (simple_begins n w) (relation n ∷ [])
 
+-- behind a name in an expression stands an index, an argument list or nothing
 abbrev pub behind_name_step : ℕ → Word → Step
 behind_name_step n w =
     if is_symbol w symbol.OpenIndex then deeper n (λ m. expr m ∷ (mark symbol.CloseIndex ∷ [])) else
     if is_symbol w symbol.Open then deeper n (λ m. expr m ∷ (more_exprs m ∷ (mark symbol.Close ∷ []))) else skip
 
+-- behind the name that begins a statement stand an assignment, an argument list or nothing
 abbrev pub behind_first_name_step : Word → Step
 behind_first_name_step w =
     if is_symbol w symbol.Becomes then took (expr 64 ∷ []) else
     if is_symbol w symbol.OpenIndex then took (expr 64 ∷ (mark symbol.CloseIndex ∷ (mark symbol.Becomes ∷ (expr 64 ∷ [])))) else
     if is_symbol w symbol.Open then took (expr 64 ∷ (more_exprs 64 ∷ (mark symbol.Close ∷ []))) else skip
 
+-- what each word makes of a statement: a word that begins none leaves an empty one
 abbrev pub statement_step : ℕ → Word → Step
 statement_step n w =
     if is_name w then took (behind_first_name ∷ []) else
@@ -262,6 +271,7 @@ want_step routines w =
     if is_reserved w reserved.Procedure then took (name ∷ (parameters ∷ (mark symbol.Semicolon ∷ block_rest))) else
     if is_reserved w reserved.Function then took (name ∷ (parameters ∷ (mark symbol.Colon ∷ (name ∷ (mark symbol.Semicolon ∷ block_rest))))) else skip
 
+-- the wants after a step: those that it leaves, or what the later wants make of the word
 abbrev pub settle : Step → List Want → Option (List Want) → Option (List Want)
 settle (took more) rest later = Some (more ++ rest)
 settle skip rest later = later
@@ -277,10 +287,12 @@ pub data Outcome : Type 0 where
   done : Outcome
   stuck : List Spot → Outcome
 
+-- goes on with the wants that there are, or is stuck here
 abbrev pub resume : Option (List Want) → (List Want → Outcome) → List Spot → Outcome
 resume None go here = stuck here
 resume (Some wants) go here = go wants
 
+-- what comes of reading words with these wants
 unfoldable pub run : List Spot → List Want → Outcome
 run [] [] = done
 run [] (x ∷ rest) = stuck []

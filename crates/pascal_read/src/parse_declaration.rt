@@ -1,11 +1,11 @@
 // Declarations, read by descent.
 #![tactic(auto, using(crate::proofs::ParseDeclarationRows::declaration_rows))]
 
-ghost use Rattle.std.specs.Prelude.{◌≡◌, ℕ, ◌∷◌, [], ◌++◌, Err, IfOk, OnOk, option_map, map};
+ghost use Rattle.std.specs.Prelude.{◌≡◌, ℕ, List, ◌∷◌, [], ◌++◌, Err, IfOk, OnOk, MatchOption, Some, option_map, map};
 ghost use Rattle.pascal_tree.specs.SeenProgram.{seen_names, seen_consts, seen_group, seen_vars, seen_parameter_group, seen_parameters};
-ghost use Rattle.pascal_tree.specs.SpellExpression.{name_at, reserved_at};
+ghost use Rattle.pascal_tree.specs.SpellExpression.{name_at, symbol_at, reserved_at};
 ghost use Rattle.pascal_tree.specs.SpellProgram.{spelled_heading, spelled_constant, spelled_definition, spelled_definitions, spelled_consts, spelled_more_names, spelled_kind, spelled_group, spelled_groups, spelled_vars, spelled_parameter_group, spelled_parameter_groups, spelled_parameters};
-ghost use Rattle.pascal_read.specs.ParseWants.{definition_rest, array_rest, group_rest, GoesOn, IsStuck, AllGoesOn, AllIsStuck};
+ghost use Rattle.pascal_read.specs.ParseWants.{mark, definition_rest, array_rest, group_rest, Want, report, GoesOn, IsStuck, Skips, AllGoesOn, AllIsStuck};
 ghost use Rattle.pascal_read.specs.ParseWants as want;
 
 use crate::parse_expect::{expect_name, expect_number, expect_reserved, expect_symbol};
@@ -37,6 +37,7 @@ pub fn heading(reader: &mut Reader<'_>) -> Result<Option<Heading>, ParseFault>
     }))
 }
 
+// A name, a number with a minus or without, or a character.
 fn constant(reader: &mut Reader<'_>) -> Result<Constant, ParseFault>
     ensures words { IfOk result (λ x. reader.old ≡ spelled_constant x ++ reader.new) }
     ensures goes { OnOk result (GoesOn want.constant reader.old reader.new) }
@@ -97,6 +98,7 @@ pub fn consts(reader: &mut Reader<'_>, alloc: Global) -> Result<Option<Consts>, 
     Ok(Some(Consts { line, first, rest }))
 }
 
+// The later definitions.
 fn more_definitions(reader: &mut Reader<'_>, alloc: Global) -> Result<Vec<Definition>, ParseFault>
     ensures words { IfOk result (λ x. reader.old ≡ spelled_definitions x.items ++ reader.new) }
     ensures goes { OnOk result (GoesOn want.more_definitions reader.old reader.new) }
@@ -120,13 +122,30 @@ fn names(reader: &mut Reader<'_>, alloc: Global, first: Name) -> Result<Names, P
         → IsStuck want.more_names reader.old line }
 {
     let mut rest = Vec::new(alloc);
-    while let Some(line) = reader.take_symbol(Symbol::Comma) {
-        let name = expect_name(reader)?;
-        rest.push((line, name))?;
+    while let Some(name) = next_name(reader)? {
+        rest.push(name)?;
     }
     Ok(Names { first, rest })
 }
 
+// A comma and the name behind it, where a comma stands here.
+fn next_name(reader: &mut Reader<'_>) -> Result<Option<(u32, Name)>, ParseFault>
+    ensures words { IfOk result (λ found. MatchOption found (reader.old ≡ reader.new)
+        (λ x. reader.old ≡ symbol_at Symbol.Comma x.0 ∷ name_at x.1 ∷ reader.new)) }
+    ensures goes { IfOk result (λ found. MatchOption found (Skips want.more_names reader.old)
+        (λ _. (rest : List Want) → report reader.old (want.more_names ∷ rest)
+        ≡ report reader.new (want.more_names ∷ rest))) }
+    ensures fault { (line : ℕ) → result ≡ Err (ParseFault.Syntax line)
+        → IsStuck want.more_names reader.old line }
+{
+    let Some(line) = reader.take_symbol(Symbol::Comma) else {
+        return Ok(None);
+    };
+    let later = expect_name(reader)?;
+    Ok(Some((line, later)))
+}
+
+// A type.
 fn kind(reader: &mut Reader<'_>) -> Result<Kind, ParseFault>
     ensures words { IfOk result (λ x. reader.old ≡ spelled_kind x ++ reader.new) }
     ensures goes { OnOk result (GoesOn want.kind reader.old reader.new) }
@@ -208,6 +227,7 @@ pub fn vars(reader: &mut Reader<'_>, alloc: Global) -> Result<Option<Vars>, Pars
     Ok(Some(Vars { line, first, rest }))
 }
 
+// The later groups of variables.
 fn more_groups(reader: &mut Reader<'_>, alloc: Global) -> Result<Vec<Group>, ParseFault>
     ensures words { IfOk result
         (λ x. reader.old ≡ spelled_groups (map seen_group x.items) ++ reader.new) }
@@ -223,6 +243,7 @@ fn more_groups(reader: &mut Reader<'_>, alloc: Global) -> Result<Vec<Group>, Par
     Ok(rest)
 }
 
+// Parameters of one type.
 fn parameter_group(reader: &mut Reader<'_>, alloc: Global) -> Result<ParameterGroup, ParseFault>
     ensures words { IfOk result
         (λ x. reader.old ≡ spelled_parameter_group (seen_parameter_group x) ++ reader.new) }
@@ -248,17 +269,36 @@ pub fn parameters(reader: &mut Reader<'_>, alloc: Global) -> Result<Option<Param
     let Some(opening) = reader.take_symbol(Symbol::Open) else {
         return Ok(None);
     };
+    let parameters = opened_parameters(reader, alloc, opening)?;
+    Ok(Some(parameters))
+}
+
+// Parameters whose opening parenthesis is read.
+fn opened_parameters(
+    reader: &mut Reader<'_>,
+    alloc: Global,
+    opening: u32,
+) -> Result<Parameters, ParseFault>
+    ensures words { IfOk result (λ x. symbol_at Symbol.Open opening ∷ reader.old
+        ≡ spelled_parameters (Some (seen_parameters x)) ++ reader.new) }
+    ensures goes { OnOk result (AllGoesOn
+        (want.parameter_group ∷ want.more_parameters ∷ mark Symbol.Close ∷ [])
+        reader.old reader.new) }
+    ensures fault { (line : ℕ) → result ≡ Err (ParseFault.Syntax line) → AllIsStuck
+        (want.parameter_group ∷ want.more_parameters ∷ mark Symbol.Close ∷ []) reader.old line }
+{
     let first = parameter_group(reader, alloc)?;
     let rest = more_parameters(reader, alloc)?;
     let closing = expect_symbol(reader, Symbol::Close)?;
-    Ok(Some(Parameters {
+    Ok(Parameters {
         opening,
         first,
         rest,
         closing,
-    }))
+    })
 }
 
+// The later groups of parameters, each behind its semicolon.
 fn more_parameters(
     reader: &mut Reader<'_>,
     alloc: Global,

@@ -19,7 +19,7 @@ use pascal_tree::leaf::Name;
 use pascal_tree::{Reserved, Symbol};
 use std::alloc::Global;
 
-/// An expression.
+/// An expression whose factors have at most so many levels.
 #[cycle(expression)]
 pub fn expr(reader: &mut Reader<'_>, alloc: Global, levels: usize) -> Result<Expr, ParseFault>
     requires { 1 ≤ levels }
@@ -41,6 +41,7 @@ pub fn expr(reader: &mut Reader<'_>, alloc: Global, levels: usize) -> Result<Exp
     })
 }
 
+// Takes a relation, where one stands here.
 fn take_relation(reader: &mut Reader<'_>) -> Option<(Relation, u32)>
     ensures taken { IfSome result
         (λ r. reader.old ≡ symbol_at (relation_symbol r.0) r.1 ∷ reader.new) }
@@ -66,6 +67,7 @@ fn take_relation(reader: &mut Reader<'_>) -> Option<(Relation, u32)>
     Some((Relation::GreaterOrEqual, line))
 }
 
+// Terms, with a sign before the first or none.
 #[cycle(expression)]
 fn simple(reader: &mut Reader<'_>, alloc: Global, levels: usize) -> Result<Simple, ParseFault>
     requires { 1 ≤ levels }
@@ -82,6 +84,7 @@ fn simple(reader: &mut Reader<'_>, alloc: Global, levels: usize) -> Result<Simpl
     Ok(Simple { sign, first, rest })
 }
 
+// Takes a sign, where one stands here.
 fn take_sign(reader: &mut Reader<'_>) -> Option<(Sign, u32)>
     ensures words { reader.old ≡ spelled_sign result ++ reader.new }
     ensures goes { (n : ℕ) (rest : List Want) → report reader.old (want.simple n ∷ rest)
@@ -94,6 +97,7 @@ fn take_sign(reader: &mut Reader<'_>) -> Option<(Sign, u32)>
     Some((Sign::Minus, line))
 }
 
+// The later terms, each behind its operator.
 #[cycle(expression)]
 fn addends(
     reader: &mut Reader<'_>,
@@ -116,6 +120,7 @@ fn addends(
     Ok(rest)
 }
 
+// Takes an operator between terms, where one stands here.
 fn take_adding(reader: &mut Reader<'_>) -> Option<(Adding, u32)>
     ensures taken { IfSome result
         (λ a. reader.old ≡ word_at (adding_word a.0) a.1 ∷ reader.new) }
@@ -132,6 +137,7 @@ fn take_adding(reader: &mut Reader<'_>) -> Option<(Adding, u32)>
     Some((Adding::Or, line))
 }
 
+// A factor and those behind it.
 #[cycle(expression)]
 fn term(reader: &mut Reader<'_>, alloc: Global, levels: usize) -> Result<Term, ParseFault>
     requires { 1 ≤ levels }
@@ -147,6 +153,7 @@ fn term(reader: &mut Reader<'_>, alloc: Global, levels: usize) -> Result<Term, P
     Ok(Term { first, rest })
 }
 
+// The later factors, each behind its operator.
 #[cycle(expression)]
 fn multipliers(
     reader: &mut Reader<'_>,
@@ -169,6 +176,7 @@ fn multipliers(
     Ok(rest)
 }
 
+// Takes an operator between factors, where one stands here.
 fn take_multiplying(reader: &mut Reader<'_>) -> Option<(Multiplying, u32)>
     ensures taken { IfSome result
         (λ m. reader.old ≡ word_at (multiplying_word m.0) m.1 ∷ reader.new) }
@@ -188,6 +196,7 @@ fn take_multiplying(reader: &mut Reader<'_>) -> Option<(Multiplying, u32)>
     Some((Multiplying::And, line))
 }
 
+// A factor: what stands inside it has one level less.
 #[cycle(expression)]
 fn factor(reader: &mut Reader<'_>, alloc: Global, levels: usize) -> Result<Factor, ParseFault>
     requires { 1 ≤ levels }
@@ -311,6 +320,7 @@ pub fn arguments(
     })
 }
 
+// The later expressions of a list, each behind its comma.
 #[cycle(expression)]
 fn more_exprs(
     reader: &mut Reader<'_>,

@@ -49,6 +49,7 @@ pub fn program(reader: &mut Reader<'_>, alloc: Global) -> Result<Program, ParseF
     })
 }
 
+// All routines that stand here.
 fn routines(reader: &mut Reader<'_>, alloc: Global) -> Result<Vec<Routine>, ParseFault>
     ensures words { IfOk result
         (λ x. reader.old ≡ spelled_routines (map seen_routine x.items) ++ reader.new) }
@@ -136,6 +137,7 @@ fn function(reader: &mut Reader<'_>, alloc: Global, line: u32) -> Result<Routine
     })
 }
 
+// The constants, the variables and the statements of a routine.
 fn block(reader: &mut Reader<'_>, alloc: Global) -> Result<Block, ParseFault>
     ensures words { IfOk result (λ x. reader.old ≡ spelled_block (seen_block x) ++ reader.new) }
     ensures fits { IfOk result (λ x. BodyFits (seen_block x).body) }

@@ -1,4 +1,4 @@
-// What stands between FOR and its statement, and other parts that no statement stands in.
+// What stands in a statement before the statement inside it.
 #![tactic(auto, using(crate::proofs::ParseStatementRows::statement_rows))]
 
 ghost use Rattle.std.specs.Prelude.{◌≡◌, ℕ, ◌∷◌, [], ◌++◌, Err, IfOk, OnOk};

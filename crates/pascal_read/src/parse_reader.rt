@@ -25,6 +25,7 @@ impl<'a> Model for Reader<'a> {
 }
 
 impl<'a> Reader<'a> {
+    /// All tokens are left.
     pub fn new(tokens: &'a [Token]) -> Reader<'a>
         ensures { result ≡ tokens.now }
     {

@@ -38,6 +38,7 @@ pub fn body(reader: &mut Reader<'_>, alloc: Global) -> Result<Body, ParseFault>
     compound(reader, alloc, LEVELS, begin)
 }
 
+// A statement: what stands inside it has one level less. Where no other begins, it is an empty one.
 #[cycle(statement)]
 fn statement(reader: &mut Reader<'_>, alloc: Global, levels: usize) -> Result<Statement, ParseFault>
     requires { 1 ≤ levels }
@@ -120,6 +121,7 @@ fn sequence(reader: &mut Reader<'_>, alloc: Global, levels: usize) -> Result<Sta
     Ok(Statements { first, rest })
 }
 
+// The later statements, each behind its semicolon.
 #[cycle(statement)]
 fn more_statements(
     reader: &mut Reader<'_>,

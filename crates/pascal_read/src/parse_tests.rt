@@ -24,8 +24,8 @@ fn error_card(alloc: Global, cards: &[&str]) -> Result<Option<u32>, Fail> {
     error_line(alloc, &program)
 }
 
-/// The number from 1 of the word at which a program has its first error, or nothing where it is read.
-/// Each text stands there so many times, and each word of it on a card of its own.
+/// The number from 1 of the word at which a program has its first error, or nothing where it is
+/// read. Each text stands there so many times, and each word of it on a card of its own.
 fn error_word(alloc: Global, texts: &[(&str, usize)]) -> Result<Option<u32>, Fail> {
     let mut program = LineList::new(alloc);
     for (text, times) in texts {
@@ -62,7 +62,8 @@ fn programs_are_read(rt: HostRuntime) -> Result<(), Fail> {
         "BEGIN ; ; END .",
         "PROGRAM P ; CONST A = 1 ; B = - 2 ; C = 'X' ; D = A ; BEGIN END .",
         "VAR X , Y : INTEGER ; Z : ARRAY (. 1 .. A .) OF CHAR ; BEGIN END .",
-        "PROCEDURE P ( X , Y : INTEGER ; Z : CHAR ) ; CONST A = 1 ; VAR B : CHAR ; BEGIN END ; BEGIN P ( 1 , 2 , 'A' ) END .",
+        "PROCEDURE P ( X , Y : CHAR ; Z : T ) ; CONST A = 1 ; VAR B : T ; BEGIN END ; BEGIN END .",
+        "BEGIN P ; P ( 1 ) ; P ( 1 , X , 'A' ) END .",
         "FUNCTION F : INTEGER ; BEGIN F := 1 END ; PROCEDURE P ; BEGIN END ; BEGIN P END .",
         "BEGIN X (. I + 1 .) := - A * B DIV 2 + F ( X , Y ) MOD 3 - ( C OR NOT D & E ) END .",
         "BEGIN X := A (. I .) <= B ; Y := + 1 <> 2 ; Z := 'A' = 'B' END .",

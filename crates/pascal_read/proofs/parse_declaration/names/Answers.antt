@@ -1,17 +1,12 @@
-use Rattle.std.proofs.Common.{◌≡◌, ◌∷◌, ap, ◌∙◌, rules}
-use Rattle.pascal_tree.specs.SpellExpression.{symbol_at}
-use Rattle.pascal_tree.specs.declared.token.Symbol.TheVariants as symbol
-use Rattle.pascal_read.specs.ParseWants.{Want, mark, report}
-use Rattle.pascal_read.specs.ParseWants as want
-use Rattle.pascal_read.proofs.ParseDeclarationRows.{more_names_goes}
+use Rattle.std.proofs.Common.{◌∷◌, ◌∙◌}
 use Rattle.pascal_read.proofs.ParseDeclarationLists.{one_more-more_names}
 use Rattle.pascal_read.proofs.parse_declaration.names.Goals as goal
 
-pub loop-line-preserved : goal.loop-line-preserved
-loop-line-preserved c =
-    let l = c.loop-line in
-    let inside = c.take_symbol.new.self in
-    let taken : l.reader ≡ symbol_at symbol.Comma c.in-Some.line ∷ inside = search rules in (
-      rw c.in_ok-push.ensures.items (one_more-more_names l.rest.items (c.in-Some.line, c.in_ok-name.name) _ _ _ l.invariant.0 (taken ∙ ap (λ s. symbol_at symbol.Comma c.in-Some.line ∷ s) c.in_ok-name.ensures.taken)),
-      λ y more. l.invariant.1 y more ∙ ap (λ ts. report ts (want.more_names ∷ (y ∷ more))) taken ∙ more_names_goes c.in-Some.line inside (y ∷ more) ∙ c.in_ok-name.ensures.goes want.more_names (y ∷ more),
+pub loop-rest-preserved : goal.loop-rest-preserved
+loop-rest-preserved c =
+    let l = c.loop-rest in
+    let words = rw c.in-Some.is at c.in_ok-name.ensures.words in
+    let goes = rw c.in-Some.is at c.in_ok-name.ensures.goes in (
+      rw c.in_ok-push.ensures.items (one_more-more_names l.rest.items c.in-Some.name _ _ _ l.invariant.0 words),
+      λ y more. l.invariant.1 y more ∙ goes (y ∷ more),
     )
