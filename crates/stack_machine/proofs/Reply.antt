@@ -1,0 +1,101 @@
+-- A reply that fits has room where the program asked, and leaves less to run.
+use Rattle.std.proofs.Common.{◌≡◌, ℕ, ◌+◌, ◌-◌, ◌*◌, ◌<◌, ◌≤◌, ◌^◌, Option, Some, None, List, ◌++◌, length, drop, refl, sym, ◌∙◌, ap, arith, subst, ◌⊎◌, inl, inr}
+use Rattle.std.proofs.Math.Nat.{mul-le-mul_right}
+use Rattle.std.proofs.lemmas.Option.{none-some}
+use Rattle.solo_base.specs.declared.outcome.ProgResult.TheVariants as result
+use Rattle.solo_base.specs.declared.system_call.SysCall.{SysCall}
+use Rattle.solo_base.specs.declared.system_call.SysReply.{SysReply}
+use Rattle.solo_base.specs.declared.system_call.SysReply.TheVariants as replies
+use Rattle.std.proofs.lemmas.Bool.{leb-true, and_parts, cases_lt}
+use Rattle.std.proofs.lemmas.List.{get_or_past}
+use Rattle.stack_code.specs.declared.instr.RoutineInfo.{RoutineInfo}
+use Rattle.stack_code.specs.CodeLists.{CodeLists, routine_at, instr_at, no_routine}
+use Rattle.stack_code.specs.Rules.{IsGood, pops}
+use Rattle.stack_machine.specs.declared.state.State.{State}
+use Rattle.stack_machine.specs.declared.state.Finish.{Finish}
+use Rattle.stack_machine.specs.State.{Next, Goes, Asks, Stops, Lacks, words_of, with_words, advance}
+use Rattle.stack_machine.specs.Calls.{results_in, array_in, ticks_in}
+use Rattle.stack_machine.specs.Machine.{next, next_of, next_by, answered, reply_at, fail_call, set_array, uses_program, array_start}
+use Rattle.stack_machine.specs.Fits.{Fits}
+use Rattle.stack_machine.specs.Room.{TakesReply, HasRoom, HasRoomFor}
+use Rattle.stack_machine.specs.Safe.{IsSound, IsSafe, IsRunning}
+use Rattle.stack_machine.specs.Standing.{Standing, StandsWell, Awaits}
+use Rattle.stack_machine.proofs.Weights.{left_to_run, price, weight, weights, next_is_lighter}
+use Rattle.stack_machine.proofs.Goes.{written}
+use Rattle.stack_machine.proofs.Measure.{IsNoTick, asks_here}
+use Rattle.stack_machine.proofs.Standing.{HasPlaceFor}
+use Rattle.stack_machine.proofs.Safety.{reply_finds_place, answered_is_sound}
+
+height_of_good : (c : CodeLists) (k : ℕ) → IsGood c → (k < length c.routines) ⊎ (length c.routines ≤ k) → (routine_at c k).height ≤ 1536
+height_of_good c k good (inl inside) = leb-true (routine_at c k).height 1536 (and_parts _ _ (good.routines k inside)).1
+height_of_good c k good (inr past) = omega (arith, ap (λ (r : RoutineInfo). r.height) (get_or_past c.routines k no_routine past))
+
+height_is_small : (c : CodeLists) (k : ℕ) → IsGood c → (routine_at c k).height ≤ 1536
+height_is_small c k good = height_of_good c k good (cases_lt k (length c.routines))
+
+-- a program that asks hasn't ended
+ended_stops : (c : CodeLists) (limit : ℕ) (s : State) (finish : Finish) (call : SysCall) (t : State) → s.ended ≡ Some finish → next c limit s ≡ Asks call t → ⊥
+unfolding next
+ended_stops c limit s finish call t ended asks =
+    let stops : next c limit s ≡ Stops finish.result finish.line finish.ticks = ap (next_of c limit s) ended in
+    cc
+
+not_ended : (c : CodeLists) (limit : ℕ) (s : State) (ended : Option Finish) (call : SysCall) (t : State) → s.ended ≡ ended → next c limit s ≡ Asks call t → s.ended ≡ None
+not_ended c limit s None call t is asks = is
+not_ended c limit s (Some finish) call t is asks = absurd (ended_stops c limit s finish call t is asks)
+
+pub asks_running : (c : CodeLists) (limit : ℕ) (s : State) (call : SysCall) (t : State) → next c limit s ≡ Asks call t → s.ended ≡ None
+asks_running c limit s call t asks = not_ended c limit s s.ended call t refl asks
+
+takes_fitting : (c : CodeLists) (limit : ℕ) (s : State) (reply : SysReply) → IsSound c limit s → s.ended ≡ None → limit < 2 ^ 32 → HasPlaceFor c limit s (instr_at c s.current.place) reply → TakesReply c s reply
+takes_fitting c limit s reply sound runs few place =
+    let low = height_is_small c s.current.routine sound.good in
+    record {
+      inside = (sound.safe runs).current.inside;
+      pops_values = place.pops;
+      room = record {
+        values = place.values;
+        array = place.array;
+        results = omega (arith, place.results, low);
+        ticks = omega (arith, place.ticks, few);
+      };
+    }
+
+has_room : (c : CodeLists) (s : State) (reply : SysReply) → ((reply ≡ replies.CallError → ⊥) → TakesReply c s reply) → HasRoomFor c s reply
+has_room c s replies.CallError takes = tt
+has_room c s replies.Done takes = takes (λ e. cc)
+has_room c s (replies.Char byte) takes = takes (λ e. cc)
+has_room c s (replies.Opened found) takes = takes (λ e. cc)
+has_room c s (replies.Page page) takes = takes (λ e. cc)
+has_room c s (replies.Length pages) takes = takes (λ e. cc)
+has_room c s (replies.Found kind found) takes = takes (λ e. cc)
+has_room c s (replies.Argument tag number name) takes = takes (λ e. cc)
+has_room c s (replies.Ran line number ticks) takes = takes (λ e. cc)
+
+-- the room that answer needs
+pub room_for_fitting : (c : CodeLists) (limit : ℕ) (s : State) (call : SysCall) (reply : SysReply) → IsSound c limit s → limit < 2 ^ 32 → next c limit s ≡ Asks call s → Fits call reply → HasRoomFor c s reply
+room_for_fitting c limit s call reply sound few asks fits =
+    let runs = asks_running c limit s call s asks in
+    has_room c s reply (λ other. takes_fitting c limit s reply sound runs few (reply_finds_place c limit s call reply s sound.good runs (sound.safe runs) asks fits other))
+
+-- ---- What is left to run
+
+replied_less : (c : CodeLists) (limit : ℕ) (s : State) (reply : SysReply) → IsNoTick c s.current.place → left_to_run c limit (reply_at c s (instr_at c s.current.place) reply) < left_to_run c limit s
+replied_less c limit s reply here =
+    let i = instr_at c s.current.place in
+    let program = uses_program i.op in
+    let words = set_array (words_of program s) (array_start i.op i.b) (array_in reply) in
+    let operands = results_in reply ++ drop (pops c i.op i.a) s.current.operands in
+    let same = written c program s words operands in
+    let less = next_is_lighter c s.current.place here.inside here.no_tick in
+    let fewer : (limit - (s.ticks + ticks_in reply)) * price c ≤ (limit - s.ticks) * price c = mul-le-mul_right (price c) (omega arith) in
+    rw (same.waiting, same.place) (omega (arith, fewer, less))
+
+-- ---- A machine that awaits a reply
+
+pub room_in : (m : Standing) (reply : SysReply) → StandsWell m → m.limit < 2 ^ 32 → Awaits m reply → HasRoomFor m.code m.state reply
+room_in m reply well few (call, asks, fits) = room_for_fitting m.code m.limit m.state call reply well few asks fits
+
+pub stands_on : (m : Standing) (reply : SysReply) (t : State) → StandsWell m → Awaits m reply → t ≡ answered m.code m.state reply → IsSound m.code m.limit t
+stands_on m reply t well (call, asks, fits) same =
+    subst (IsSound m.code m.limit) (sym same) (answered_is_sound m.code m.limit m.state call reply m.state (asks_running m.code m.limit m.state call m.state asks) well asks fits)

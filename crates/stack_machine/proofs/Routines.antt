@@ -1,0 +1,93 @@
+-- Where the routines of good code start: their places belong to them, and nothing is on the stack there.
+use Rattle.std.proofs.Common.{◌≡◌, ℕ, zero, suc, ◌+◌, ◌<◌, ◌≤◌, true, cond, leb, List, [], ◌∷◌, length, get_or, refl, sym, ◌∙◌, ap, arith, add-one}
+use Rattle.std.specs.List.{count_by}
+use Rattle.std.proofs.lemmas.Bool.{cond-true, cond-false, ltb-true, leb-true, eqb-true, le-leb, lt-leb, and_parts}
+use Rattle.std.proofs.lemmas.List.Sums.{sum_by-cons}
+use Rattle.stack_code.specs.declared.instr.RoutineInfo.{RoutineInfo}
+use Rattle.stack_code.specs.CodeFile.{mark}
+use Rattle.stack_code.specs.CodeLists.{CodeLists, routine_at, no_routine}
+use Rattle.stack_code.specs.Rules.{IsGood, routine_of, height_at, starts_well}
+use Rattle.stack_code.proofs.StraightLine.{height_begins, height_at_start}
+
+-- ---- A list of starts that rise
+
+pub record Rises (rs : List RoutineInfo) : Type 0 where
+  pub next : (k : ℕ) → suc k < length rs → (get_or rs k no_routine).start < (get_or rs (suc k) no_routine).start
+
+others_rise : (r : RoutineInfo) (rs : List RoutineInfo) → Rises (r ∷ rs) → Rises rs
+others_rise r rs rises = record { next = λ k below. rises.next (suc k) (omega arith) }
+
+abbrev begun : ℕ → List RoutineInfo → ℕ
+begun place rs = count_by (λ r. leb r.start place) rs
+
+begun_here : (place : ℕ) (r : RoutineInfo) (rs : List RoutineInfo) → r.start ≤ place → begun place (r ∷ rs) ≡ 1 + begun place rs
+begun_here place r rs low = sum_by-cons (λ (x : RoutineInfo). cond (leb x.start place) 1 0) r rs ∙ ap (λ n. n + begun place rs) (cond-true (leb r.start place) 1 0 (le-leb _ _ low))
+
+begun_later : (place : ℕ) (r : RoutineInfo) (rs : List RoutineInfo) → place < r.start → begun place (r ∷ rs) ≡ begun place rs
+begun_later place r rs high =
+    let rest : 0 + begun place rs ≡ begun place rs = omega arith in
+    sum_by-cons (λ (x : RoutineInfo). cond (leb x.start place) 1 0) r rs ∙ ap (λ n. n + begun place rs) (cond-false (leb r.start place) 1 0 (lt-leb _ _ high)) ∙ rest
+
+-- none has begun where the first hasn't
+none_begun : (place : ℕ) (rs : List RoutineInfo) → Rises rs → (0 < length rs → place < (get_or rs 0 no_routine).start) → begun place rs ≡ 0
+none_begun place [] rises later = refl
+none_begun place (r ∷ rs) rises later =
+    begun_later place r rs (later (omega arith)) ∙ none_begun place rs (others_rise r rs rises) (λ some. omega (arith, later (omega arith), rises.next 0 (omega arith)))
+
+-- those up to the last one that has begun
+begun_to : (place : ℕ) (rs : List RoutineInfo) (k : ℕ) → Rises rs → k < length rs → (get_or rs k no_routine).start ≤ place → (suc k < length rs → place < (get_or rs (suc k) no_routine).start) → (begun place rs ≡ suc k) × ((get_or rs 0 no_routine).start ≤ place)
+begun_to place [] k rises inside low high = absurd (omega arith)
+begun_to place (r ∷ rs) zero rises inside low high =
+    (begun_here place r rs low ∙ omega (arith, none_begun place rs (others_rise r rs rises) (λ some. high (omega arith))), low)
+begun_to place (r ∷ rs) (suc k) rises inside low high =
+    let others = begun_to place rs k (others_rise r rs rises) (omega arith) low (λ below. high (omega arith)) in
+    let first : r.start ≤ place = omega (arith, others.1, rises.next 0 (omega arith)) in
+    (begun_here place r rs first ∙ omega (arith, others.0), first)
+
+-- ---- The routines of good code
+
+-- the rule on a routine, as facts
+pub record IsRoutine (c : CodeLists) (k : ℕ) : Type 0 where
+  pub starts : starts_well c k ≡ true
+  pub inside : (routine_at c k).start < length c.instrs
+  pub words : (routine_at c k).params + mark (routine_at c k).function ≤ (routine_at c k).words
+
+pub is_routine : (c : CodeLists) → IsGood c → (k : ℕ) → k < length c.routines → IsRoutine c k
+is_routine c good k below =
+    let height = and_parts _ _ (good.routines k below) in
+    let most = and_parts _ _ height.0 in
+    let words = and_parts _ _ most.0 in
+    let params = and_parts _ _ words.0 in
+    let starts = and_parts _ _ params.0 in
+    record { starts = starts.0; inside = ltb-true _ _ starts.1; words = leb-true _ _ words.1 }
+
+rises : (c : CodeLists) → IsGood c → Rises c.routines
+rises c good = record { next = λ k below. ltb-true _ _ (is_routine c good (suc k) below).starts }
+
+-- the program starts at the first place
+pub program_start : (c : CodeLists) → IsGood c → 0 < length c.routines → (routine_at c 0).start ≡ 0
+program_start c good some =
+    let function = and_parts _ _ (is_routine c good 0 some).starts in
+    let params = and_parts _ _ function.0 in
+    eqb-true _ _ params.0
+
+-- the places from a routine's start up to the next one's are its own
+pub place_is_own : (c : CodeLists) → IsGood c → (k place : ℕ) → k < length c.routines → (routine_at c k).start ≤ place → (suc k < length c.routines → place < (routine_at c (suc k)).start) → routine_of c place ≡ k
+place_is_own c good k place below low high =
+    let all = begun_to place c.routines k (rises c good) below low high in
+    omega (arith, all.0)
+
+pub start_is_own : (c : CodeLists) → IsGood c → (k : ℕ) → k < length c.routines → routine_of c (routine_at c k).start ≡ k
+start_is_own c good k below = place_is_own c good k (routine_at c k).start below (omega arith) (λ more. (rises c good).next k more)
+
+-- nothing is on the stack at a routine's start
+starts_empty : (c : CodeLists) → IsGood c → (k start : ℕ) → k < length c.routines → (routine_at c k).start ≡ start → height_at c start ≡ 0
+starts_empty c good k zero below e = sym (height_at_start c)
+starts_empty c good zero (suc place) below e = absurd (omega (arith, program_start c good below))
+starts_empty c good (suc k) (suc place) below e =
+    let before = place_is_own c good k place (omega arith) (omega (arith, (rises c good).next k below)) (λ more. omega arith) in
+    let here = ap (routine_of c) (sym e) ∙ start_is_own c good (suc k) below in
+    rw (← add-one) (height_begins c place (λ same. omega (arith, before, here, rw add-one at same)))
+
+pub start_is_empty : (c : CodeLists) → IsGood c → (k : ℕ) → k < length c.routines → height_at c (routine_at c k).start ≡ 0
+start_is_empty c good k below = starts_empty c good k (routine_at c k).start below refl

@@ -1,0 +1,10 @@
+use Rattle.std.proofs.Common.{◌∙◌, ap, arith}
+use Rattle.stack_machine.specs.Effects.{fit}
+use Rattle.stack_machine.proofs.Numbers.{wide_quotient}
+use Rattle.stack_machine.proofs.arithmetic.quotient.Goals as goal
+
+pub returns : goal.returns
+returns c =
+    let same = wide_quotient c.args.left c.args.right c.from.result c.from-2.result c.ranges.left c.ranges.right c.from.ensures c.from-2.ensures in
+    let whole = c.fit.ensures ∙ ap fit same in
+    grind (arith, whole)

@@ -1,0 +1,11 @@
+pub mod Activations
+pub mod State
+pub mod Effects
+pub mod Operators
+pub mod Calls
+pub mod Machine
+pub mod Run
+pub mod Safe
+pub mod Fits
+pub mod Room
+pub mod Standing

@@ -1,0 +1,25 @@
+//! The stack machine: it runs verified code, one row of the table for each instruction.
+#![tactic(auto)]
+
+mod activation;
+mod arithmetic;
+mod control;
+mod frame;
+mod machine;
+mod memory;
+mod operands;
+mod replies;
+mod requests;
+mod running;
+mod state;
+mod step;
+mod waiting;
+mod words;
+
+pub use activation::Activation;
+pub use frame::Frame;
+pub use machine::Machine;
+pub use operands::Operands;
+pub use running::Pause;
+pub use state::{Finish, State, Step};
+pub use waiting::Waiting;

@@ -1,0 +1,82 @@
+ghost use Rattle.std.specs.Prelude.{◌≡◌, ◌≤◌, IfOk};
+ghost use Rattle.stack_machine.specs.declared.running.Pause.TheVariants.{Finished};
+ghost use Rattle.stack_machine.specs.declared.state.Finish.{Finish};
+ghost use Rattle.stack_machine.specs.Machine.{start_state, answered};
+ghost use Rattle.stack_machine.specs.Run.{Pauses};
+
+use crate::activation::Activation;
+use crate::running::Pause;
+use crate::state::State;
+use crate::waiting::Waiting;
+use crate::words::routine_at;
+use crate::{Frame, Operands};
+use solo_base::{NoMemory, SysReply};
+use stack_code::Verified;
+use std::alloc::Global;
+use std::marker::Model;
+
+/// The stack machine: a program that runs under a limit of ticks. Its whole store is taken when it
+/// is made.
+#[derive(Debug, Drop)]
+pub struct Machine {
+    code: Verified,
+    limit: u32,
+    state: State,
+}
+
+impl Model for Machine {
+    ghost use Rattle.stack_machine.specs.Standing.{Standing, StandsWell};
+
+    ghost Value = { Standing };
+
+    ghost view = { λ machine. record { code = machine.code; limit = machine.limit; state = machine.state } };
+
+    ghost invariant = { λ machine. StandsWell (record { code = machine.code; limit = machine.limit; state = machine.state }) };
+}
+
+impl Machine {
+    ghost use Rattle.stack_machine.specs.Standing.{Standing, StandsWell, Awaits};
+
+    /// The machine at the program's first instruction. A refusal drops the code.
+    pub fn make(alloc: Global, code: Verified, limit: u32) -> Result<Machine, NoMemory>
+        ensures { IfOk result (λ machine. machine ≡ record { code = code; limit = limit; state = start_state code }) }
+    {
+        let mut words = Frame::new(alloc)?;
+        words.begin(&[], routine_at(&code, 0).words as usize);
+        let current = Activation {
+            routine: 0,
+            place: 0,
+            line: 0,
+            words,
+            operands: Operands::new(alloc)?,
+        };
+        let state = State {
+            below: Waiting::new(alloc)?,
+            current,
+            ticks: 0,
+            ended: None,
+        };
+        Ok(Machine { code, limit, state })
+    }
+
+    /// Runs on until the program asks for a call or ends. A program that asked asks again, and one
+    /// that ended stays so.
+    pub fn go(&mut self) -> Pause
+        ensures pauses { Pauses self.old.code self.old.limit self.old.state result self.new.state }
+        ensures code { self.new.code ≡ self.old.code }
+        ensures limit { self.new.limit ≡ self.old.limit }
+        ensures ticks { (finish : Finish) → result ≡ Finished finish → finish.ticks ≤ self.new.limit }
+        ensures well { StandsWell self.new }
+    {
+        self.state.go(&self.code, self.limit)
+    }
+
+    /// Gives the reply to the call at which the program paused.
+    pub fn answer(&mut self, reply: SysReply)
+        requires { Awaits self.old reply }
+        ensures answered { self.new ≡ record self.old { state = answered self.old.code self.old.state reply } }
+        ensures well { StandsWell self.new }
+    {
+        self.state.answer(&self.code, reply);
+    }
+}

@@ -1,0 +1,127 @@
+ghost use Rattle.std.specs.Prelude.{◌≡◌, ◌<◌, ◌≤◌, ◌+◌, ◌++◌, ◌∷◌, ◌^◌, length, map, pos};
+ghost use Rattle.stack_code.specs.CodeLists.{CodeLists};
+ghost use Rattle.stack_code.specs.Interface.{values_of};
+ghost use Rattle.stack_code.specs.Rules.{pops};
+ghost use Rattle.stack_machine.specs.State.{words_of, with_words};
+ghost use Rattle.stack_machine.specs.Calls.{results_in, array_in, ticks_in};
+ghost use Rattle.stack_machine.specs.Machine.{answered, fail_call, reply_at, set_array, uses_program, array_start};
+ghost use Rattle.stack_machine.specs.Room.{HasRoom, HasRoomFor};
+
+use crate::operands::Operands;
+use crate::state::State;
+use solo_base::{ProgResult, SysReply};
+use stack_code::{Instr, Op, Procedure, Verified};
+
+impl State {
+    /// Completes the instruction whose call got this reply, or ends the program.
+    #[tactic(auto, unfolding(crate::specs::Machine::answered))]
+    pub(crate) fn answer(&mut self, code: &Verified, reply: SysReply)
+        requires { HasRoomFor code.now self.old reply }
+        ensures { self.new ≡ answered code.now self.old reply }
+    {
+        if let SysReply::CallError = reply {
+            self.end(ProgResult::CallError, self.current.line);
+            return;
+        }
+        let instr = code.code().instrs()[self.current.place as usize];
+        self.complete(instr, &reply);
+    }
+
+    // Pops the values of the call, sets its array and pushes its results.
+    fn complete(&mut self, instr: Instr, reply: &SysReply)
+        requires place { self.old.current.place < 8192 }
+        requires room { HasRoom self.old instr reply.now }
+        ensures { (c : CodeLists) → pops c instr.op instr.a ≡ values_of instr.a → self.new ≡ reply_at c self.old instr reply.now }
+    {
+        let program = matches!(instr.op, Op::SysG);
+        self.set_array(program, array_start(instr), reply);
+        self.current.operands.drop_top(values_of(instr.a));
+        push_results(&mut self.current.operands, reply);
+        self.ticks += ticks_in(reply);
+        self.current.place += 1;
+    }
+
+    // Sets the array that the reply gives.
+    fn set_array(&mut self, program: bool, start: usize, reply: &SysReply)
+        requires low { start < 2 ^ 16 }
+        requires inside { start + length (array_in reply.now) ≤ length (words_of program self.old) }
+        ensures { self.new ≡ with_words program self.old (set_array (words_of program self.old) start (array_in reply.now)) }
+    {
+        match reply {
+            SysReply::Page(page) => self.set_bytes(program, start, &page.0),
+            SysReply::Argument { name, .. } => self.set_bytes(program, start, name),
+            _ => {}
+        }
+    }
+
+    // Sets the words of a frame from a place on to these bytes.
+    fn set_bytes(&mut self, program: bool, start: usize, bytes: &[u8])
+        requires low { start < 2 ^ 16 }
+        requires inside { start + length bytes.now ≤ length (words_of program self.old) }
+        ensures { self.new ≡ with_words program self.old (set_array (words_of program self.old) start (map pos bytes.now)) }
+    {
+        for place in 0..bytes.len() {
+            self.set_word(program, start + place, i16::from(bytes[place]));
+        }
+    }
+}
+
+// Where the array of the instruction begins in its frame.
+fn array_start(instr: Instr) -> usize
+    ensures start { result ≡ array_start instr.op instr.b }
+    ensures low { result < 2 ^ 16 }
+{
+    if instr.op == Op::Sys {
+        0
+    } else {
+        instr.b as usize
+    }
+}
+
+// How many values the call of a row of the interface pops.
+fn values_of(row: u16) -> usize
+    ensures { result ≡ values_of row }
+{
+    match Procedure::at(row) {
+        Some(procedure) => procedure.row().values as usize,
+        None => 0,
+    }
+}
+
+// Pushes the words that the reply gives.
+fn push_results(operands: &mut Operands, reply: &SysReply)
+    requires { length operands.old + length (results_in reply.now) ≤ 1536 }
+    ensures { operands.new ≡ results_in reply.now ++ operands.old }
+{
+    match reply {
+        SysReply::Char(byte) => operands.push(i16::from(*byte)),
+        SysReply::Opened(found) => operands.push(i16::from(*found)),
+        SysReply::Length(pages) => operands.push(*pages),
+        SysReply::Found { kind, found } => push_two(operands, *kind, i16::from(*found)),
+        SysReply::Argument { tag, number, .. } => push_two(operands, *tag, *number),
+        SysReply::Ran {
+            line,
+            result: number,
+            ..
+        } => push_two(operands, *line, *number),
+        _ => {}
+    }
+}
+
+fn push_two(operands: &mut Operands, lower: i16, upper: i16)
+    requires { length operands.old + 2 ≤ 1536 }
+    ensures { operands.new ≡ upper ∷ lower ∷ operands.old }
+{
+    operands.push(lower);
+    operands.push(upper);
+}
+
+// The ticks that the reply says were taken.
+fn ticks_in(reply: &SysReply) -> u32
+    ensures { result ≡ ticks_in reply.now }
+{
+    match reply {
+        SysReply::Ran { ticks, .. } => *ticks,
+        _ => 0,
+    }
+}

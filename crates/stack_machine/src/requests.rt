@@ -1,0 +1,134 @@
+ghost use Rattle.std.specs.Prelude.{◌≡◌, ◌<◌, ◌≤◌, ◌+◌, ◌^◌, ℕ, length, take, drop, map, pos, IfSome, IfNone, unsigned_abs, true, false, slice_index_or};
+ghost use Rattle.stack_code.specs.Interface.{call_row_of};
+ghost use Rattle.stack_machine.specs.State.{outcome, words_of};
+ghost use Rattle.stack_machine.specs.Calls.{sys, ask, made, request, byte_of, are_bytes};
+
+use crate::state::{State, Step};
+use crate::words::routine_at;
+use solo_base::{PAGE_LENGTH, Page, ProgResult, SysCall};
+use stack_code::{Procedure, Verified};
+
+/// How many words a name in a frame has.
+pub(crate) const NAME_LENGTH: usize = 12;
+
+impl State {
+    /// SYS, SYSG, SYSL: the call of a row of the interface, with the array from word b. The program
+    /// stays at the instruction until the call is answered.
+    pub(crate) fn sys(&self, code: &Verified, limit: u32, program: bool, a: u16, b: u16) -> Step
+        ensures { outcome result self.now ≡ sys code.now limit self.now program a b }
+    {
+        let Some(procedure) = Procedure::at(a) else {
+            return Step::Stuck;
+        };
+        let row = procedure.row();
+        let height = self.current.operands.len();
+        let highest = routine_at(code, self.current.routine).height as usize;
+        if height < row.values as usize
+            || b as usize + row.array as usize > self.words_len(program)
+            || height - row.values as usize + row.results as usize > highest
+        {
+            return Step::Stuck;
+        }
+        self.request(
+            procedure,
+            program,
+            b as usize,
+            limit.saturating_sub(self.ticks),
+        )
+    }
+
+    // What a procedure asks for, whose values are there and whose array lies in the frame.
+    fn request(&self, procedure: Procedure, program: bool, b: usize, left: u32) -> Step
+        requires low { b < 2 ^ 16 }
+        requires values { (call_row_of procedure).values ≤ length self.now.current.operands }
+        requires array { b + (call_row_of procedure).array ≤ length (words_of program self.now) }
+        ensures { outcome result self.now ≡ made self.now (request procedure self.now.current.operands (take (call_row_of procedure).array (drop b (words_of program self.now))) left) }
+    {
+        let top = self.operand(0);
+        let second = self.operand(1);
+        match procedure {
+            Procedure::Read => Step::Asked(SysCall::Read),
+            Procedure::Write => match u8::try_from(top) {
+                Ok(byte) => Step::Asked(SysCall::Write(byte)),
+                Err(_) => self.stop(ProgResult::RangeError),
+            },
+            Procedure::WriteInt => Step::Asked(SysCall::WriteInt(top)),
+            Procedure::Accept => Step::Asked(SysCall::Accept),
+            Procedure::Display => match u8::try_from(top) {
+                Ok(byte) => Step::Asked(SysCall::Display(byte)),
+                Err(_) => self.stop(ProgResult::RangeError),
+            },
+            Procedure::Open => Step::Asked(SysCall::Open {
+                f: top,
+                name: self.name_at(program, b),
+            }),
+            Procedure::Close => Step::Asked(SysCall::Close(top)),
+            Procedure::Get => Step::Asked(SysCall::Get { f: second, p: top }),
+            Procedure::Put => match self.page_at(program, b) {
+                Some(page) => Step::Asked(SysCall::Put {
+                    f: second,
+                    p: top,
+                    page,
+                }),
+                None => self.stop(ProgResult::RangeError),
+            },
+            Procedure::Length => Step::Asked(SysCall::Length(top)),
+            Procedure::Lookup => Step::Asked(SysCall::Lookup(self.name_at(program, b))),
+            Procedure::ReadArg => Step::Asked(SysCall::ReadArg),
+            Procedure::WriteArg => Step::Asked(SysCall::WriteArg {
+                tag: second,
+                number: top,
+                name: self.name_at(program, b),
+            }),
+            Procedure::Run => Step::Asked(SysCall::Run {
+                name: self.name_at(program, b),
+                left,
+            }),
+        }
+    }
+
+    // The operand at a depth, the topmost at 0, or 0 where there is none.
+    fn operand(&self, depth: usize) -> i16
+        ensures { result ≡ slice_index_or self.now.current.operands depth (pos 0) }
+    {
+        self.current.operands.get(depth).unwrap_or(0)
+    }
+
+    // The name in twelve words of a frame.
+    fn name_at(&self, program: bool, start: usize) -> [i16; 12]
+        requires low { start < 2 ^ 16 }
+        requires inside { start + 12 ≤ length (words_of program self.now) }
+        ensures { result ≡ take 12 (drop start (words_of program self.now)) }
+    {
+        let mut name = [0; NAME_LENGTH];
+        for k in 0..NAME_LENGTH {
+            name[k] = self.word(program, start + k).unwrap_or(0);
+        }
+        name
+    }
+
+    // The page in 512 words of a frame, if each is a byte.
+    fn page_at(&self, program: bool, start: usize) -> Option<Page>
+        requires low { start < 2 ^ 16 }
+        requires inside { start + 512 ≤ length (words_of program self.now) }
+        ensures bytes { IfSome result (λ page. (are_bytes (take 512 (drop start (words_of program self.now))) ≡ true) × (page.0 ≡ map unsigned_abs (take 512 (drop start (words_of program self.now))))) }
+        ensures other { IfNone result (are_bytes (take 512 (drop start (words_of program self.now))) ≡ false) }
+    {
+        let mut bytes = [0; PAGE_LENGTH];
+        for k in 0..PAGE_LENGTH {
+            let word = self.word(program, start + k).unwrap_or(0);
+            let Some(byte) = byte_of(word) else {
+                return None;
+            };
+            bytes[k] = byte;
+        }
+        Some(Page(bytes))
+    }
+}
+
+// The word as a byte, if it is one.
+fn byte_of(word: i16) -> Option<u8>
+    ensures { result ≡ byte_of word }
+{
+    u8::try_from(word).ok()
+}

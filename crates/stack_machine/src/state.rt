@@ -1,0 +1,31 @@
+use crate::activation::Activation;
+use crate::waiting::Waiting;
+use solo_base::{ProgResult, SysCall};
+
+/// How a program ended: its result, the line that gave it, and the ticks that it took.
+#[derive(Clone, Copy, Debug, PartialEq, Eq)]
+pub struct Finish {
+    pub result: ProgResult,
+    pub line: u32,
+    pub ticks: u32,
+}
+
+/// Where a program stands: the activations that wait for a call to return, by their numbers (the
+/// program's is 0), the current one, the ticks that were taken, and how the program ended.
+#[derive(Debug, Drop)]
+pub struct State {
+    pub(crate) below: Waiting,
+    pub(crate) current: Activation,
+    pub(crate) ticks: u32,
+    pub(crate) ended: Option<Finish>,
+}
+
+/// What an instruction does: it leads to the next one, it asks for a call, or it ends the program
+/// with a result in a line. `Stuck` is the answer where something is missing that verified code has.
+#[derive(Clone, Copy, Debug)]
+pub enum Step {
+    Moved,
+    Asked(SysCall),
+    Stopped(ProgResult, u32),
+    Stuck,
+}
