@@ -19,3 +19,4 @@ pub mod Measure
 pub mod Onward
 pub mod Answered
 pub mod Reply
+pub mod Rounds

@@ -33,19 +33,23 @@ height_of_good c k good (inr past) = omega (arith, ap (λ (r : RoutineInfo). r.h
 height_is_small : (c : CodeLists) (k : ℕ) → IsGood c → (routine_at c k).height ≤ 1536
 height_is_small c k good = height_of_good c k good (cases_lt k (length c.routines))
 
--- a program that asks hasn't ended
-ended_stops : (c : CodeLists) (limit : ℕ) (s : State) (finish : Finish) (call : SysCall) (t : State) → s.ended ≡ Some finish → next c limit s ≡ Asks call t → ⊥
-unfolding next
-ended_stops c limit s finish call t ended asks =
-    let stops : next c limit s ≡ Stops finish.result finish.line finish.ticks = ap (next_of c limit s) ended in
-    cc
+-- ---- A program that asks or goes on hasn't ended
 
-not_ended : (c : CodeLists) (limit : ℕ) (s : State) (ended : Option Finish) (call : SysCall) (t : State) → s.ended ≡ ended → next c limit s ≡ Asks call t → s.ended ≡ None
-not_ended c limit s None call t is asks = is
-not_ended c limit s (Some finish) call t is asks = absurd (ended_stops c limit s finish call t is asks)
+-- an end is no call and no further step
+abbrev IsEnd : Next → Type 0
+IsEnd (Stops result line ticks) = Unit {0}
+IsEnd other = ⊥
+
+end_is_told : (c : CodeLists) (limit : ℕ) (s : State) (ended : Option Finish) → s.ended ≡ ended → (s.ended ≡ None) ⊎ IsEnd (next c limit s)
+unfolding next
+end_is_told c limit s None is = inl is
+end_is_told c limit s (Some finish) is = inr (subst (λ o. IsEnd (next_of c limit s o)) (sym is) tt)
+
+pub goes_running : (c : CodeLists) (limit : ℕ) (s t : State) → next c limit s ≡ Goes t → s.ended ≡ None
+goes_running c limit s t goes = elim (end_is_told c limit s s.ended refl) [ inl runs ↦ runs | inr end ↦ absurd (subst IsEnd goes end) ]
 
 pub asks_running : (c : CodeLists) (limit : ℕ) (s : State) (call : SysCall) (t : State) → next c limit s ≡ Asks call t → s.ended ≡ None
-asks_running c limit s call t asks = not_ended c limit s s.ended call t refl asks
+asks_running c limit s call t asks = elim (end_is_told c limit s s.ended refl) [ inl runs ↦ runs | inr end ↦ absurd (subst IsEnd asks end) ]
 
 takes_fitting : (c : CodeLists) (limit : ℕ) (s : State) (reply : SysReply) → IsSound c limit s → s.ended ≡ None → limit < 2 ^ 32 → HasPlaceFor c limit s (instr_at c s.current.place) reply → TakesReply c s reply
 takes_fitting c limit s reply sound runs few place =
@@ -90,6 +94,27 @@ replied_less c limit s reply here =
     let less = next_is_lighter c s.current.place here.inside here.no_tick in
     let fewer : (limit - (s.ticks + ticks_in reply)) * price c ≤ (limit - s.ticks) * price c = mul-le-mul_right (price c) (omega arith) in
     rw (same.waiting, same.place) (omega (arith, fewer, less))
+
+-- up to the end: nothing for a program that ended
+abbrev pub left_by : Option Finish → ℕ → ℕ
+left_by (Some finish) left = 0
+left_by None left = left + 1
+
+abbrev pub left_until_end : CodeLists → ℕ → State → ℕ
+left_until_end c limit s = left_by s.ended (left_to_run c limit s)
+
+by_any_less : (o : Option Finish) (less more : ℕ) → less < more → left_by o less < more + 1
+by_any_less (Some finish) less more below = omega arith
+by_any_less None less more below = omega (arith, below)
+
+-- a reply leaves less to run, or ends the program
+replied_any : (c : CodeLists) (limit : ℕ) (s : State) (reply : SysReply) → IsNoTick c s.current.place → left_until_end c limit (answered c s reply) < left_to_run c limit s + 1
+unfolding answered
+replied_any c limit s replies.CallError here = omega arith
+replied_any c limit s other here = by_any_less _ _ _ (replied_less c limit s other here)
+
+pub answered_less : (c : CodeLists) (limit : ℕ) (s : State) (call : SysCall) (reply : SysReply) → IsGood c → next c limit s ≡ Asks call s → left_until_end c limit (answered c s reply) < left_to_run c limit s + 1
+answered_less c limit s call reply good asks = replied_any c limit s reply (asks_here c limit s s call good (asks_running c limit s call s asks) asks).1
 
 -- ---- A machine that awaits a reply
 

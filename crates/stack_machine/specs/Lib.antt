@@ -9,3 +9,4 @@ pub mod Safe
 pub mod Fits
 pub mod Room
 pub mod Standing
+pub mod World

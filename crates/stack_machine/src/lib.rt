@@ -15,6 +15,7 @@ mod state;
 mod step;
 mod waiting;
 mod words;
+mod world;
 
 pub use activation::Activation;
 pub use frame::Frame;
@@ -23,3 +24,4 @@ pub use operands::Operands;
 pub use running::Pause;
 pub use state::{Finish, State, Step};
 pub use waiting::Waiting;
+pub use world::World;

@@ -1,14 +1,16 @@
-ghost use Rattle.std.specs.Prelude.{◌≡◌, ◌≤◌, IfOk};
+ghost use Rattle.std.specs.Prelude.{◌≡◌, ◌≤◌, IfOk, IfErr};
 ghost use Rattle.stack_machine.specs.declared.running.Pause.TheVariants.{Finished};
 ghost use Rattle.stack_machine.specs.declared.state.Finish.{Finish};
 ghost use Rattle.stack_machine.specs.Machine.{start_state, answered};
 ghost use Rattle.stack_machine.specs.Run.{Pauses};
+ghost use Rattle.stack_machine.specs.World.{RanToEnd, BrokeOff};
 
 use crate::activation::Activation;
 use crate::running::Pause;
-use crate::state::State;
+use crate::state::{Finish, State};
 use crate::waiting::Waiting;
 use crate::words::routine_at;
+use crate::world::World;
 use crate::{Frame, Operands};
 use solo_base::{NoMemory, SysReply};
 use stack_code::Verified;
@@ -78,5 +80,17 @@ impl Machine {
         ensures well { StandsWell self.new }
     {
         self.state.answer(&self.code, reply);
+    }
+
+    /// Runs to the end, with a world that answers the calls. Where the world can't answer one, the
+    /// program still asks for it.
+    pub fn run<W: World>(&mut self, world: &mut W) -> Result<Finish, W::Fault>
+        ensures ends { IfOk result (λ finish. RanToEnd W.answers self.old.code self.old.limit self.old.state world.old finish self.new.state world.new) }
+        ensures broke_off { IfErr result (λ fault. BrokeOff W.answers self.old.code self.old.limit self.old.state world.old fault self.new.state world.new) }
+        ensures code { self.new.code ≡ self.old.code }
+        ensures limit { self.new.limit ≡ self.old.limit }
+        ensures well { StandsWell self.new }
+    {
+        self.state.run(&self.code, self.limit, world)
     }
 }

@@ -1,0 +1,23 @@
+use Rattle.std.proofs.Common.{sym, subst, ◌<◌}
+use Rattle.stack_machine.proofs.Rounds.{so_far_begins, room_in_round, so_far_more, round_less, ran_to_end, broke_off}
+use Rattle.stack_machine.proofs.Reply.{left_until_end}
+use Rattle.stack_machine.proofs.state.State.run.Goals as goal
+
+pub loop-finish-init : goal.loop-finish-init
+loop-finish-init g c = so_far_begins g.W.World.answers c.args.code.now c.args.limit c.args.self.now c.args.world.now c.requires.sound
+
+pub returns-in-Finished-clause-ends : goal.returns-in-Finished-clause-ends
+returns-in-Finished-clause-ends g c =
+    ran_to_end g.W.World.answers c.args.code.now c.args.limit c.args.self.now c.args.world.now c.loop-finish.self c.go.new.self c.loop-finish.world c.in-Finished.finish c.loop-finish.invariant c.in-Finished.ensures.pauses.0 c.in-Finished.ensures.pauses.1 c.in-Finished.ensures.sound
+
+pub answer-requires : goal.answer-requires
+answer-requires g c = room_in_round c.args.code.now c.args.limit c.loop-finish.self c.go.new.self c.in-Call.call c.in-Ok.reply c.in-Call.ensures.pauses c.in-Call.ensures.sound c.ranges.limit.fits c.in-Ok.ensures.fits
+
+pub loop-finish-smaller : goal.loop-finish-smaller
+loop-finish-smaller g c =
+    subst (λ t. left_until_end c.args.code.now c.args.limit t < left_until_end c.args.code.now c.args.limit c.loop-finish.self) (sym c.answer.ensures)
+    (round_less c.args.code.now c.args.limit c.loop-finish.self c.go.new.self c.in-Call.call c.in-Ok.reply c.in-Call.ensures.sound.good c.in-Call.ensures.pauses)
+
+pub loop-finish-preserved : goal.loop-finish-preserved
+loop-finish-preserved g c =
+    so_far_more g.W.World.answers c.args.code.now c.args.limit c.args.self.now c.args.world.now c.loop-finish.self c.go.new.self c.answer.new.self c.loop-finish.world c.call.new.self c.in-Call.call c.in-Ok.reply c.loop-finish.invariant c.in-Call.ensures.pauses c.in-Call.ensures.sound c.in-Ok.ensures.answers c.in-Ok.ensures.fits c.answer.ensures
