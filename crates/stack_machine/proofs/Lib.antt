@@ -20,3 +20,5 @@ pub mod Onward
 pub mod Answered
 pub mod Reply
 pub mod Rounds
+pub mod Pauses
+pub mod Outcomes

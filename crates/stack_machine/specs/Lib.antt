@@ -10,3 +10,4 @@ pub mod Fits
 pub mod Room
 pub mod Standing
 pub mod World
+pub mod Laws

@@ -9,6 +9,7 @@ use Rattle.stack_machine.specs.declared.running.Pause.{Pause}
 use Rattle.stack_machine.specs.declared.running.Pause.TheVariants as pause
 use Rattle.stack_machine.specs.State.{Next, Goes, Asks, Stops, Lacks}
 use Rattle.stack_machine.specs.Machine.{next, start_state, answered}
+use Rattle.stack_machine.specs.Fits.{Fits}
 
 -- A run ends with a result in a line after so many ticks, or it makes one call more than there are replies. The calls are all that were made, in order.
 pub data Outcome : Type 0 where
@@ -57,3 +58,8 @@ RunsFrom c limit s replies (Waits calls) =
 -- the run of a code
 abbrev pub Runs : CodeLists → ℕ → List SysReply → Outcome → Type 0
 Runs c limit replies outcome = RunsFrom c limit (start_state c) replies outcome
+
+-- each of these replies fits the call to which it is given
+abbrev pub AreFitting : CodeLists → ℕ → State → List SysReply → Type 0
+AreFitting c limit s [] = Unit {0}
+AreFitting c limit s (reply ∷ replies) = (call : SysCall) (t : State) → LeadsToCall c limit s call t → Fits call reply × AreFitting c limit (answered c t reply) replies

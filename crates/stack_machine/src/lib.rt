@@ -5,6 +5,7 @@ mod activation;
 mod arithmetic;
 mod control;
 mod frame;
+mod laws;
 mod machine;
 mod memory;
 mod operands;
@@ -19,6 +20,7 @@ mod world;
 
 pub use activation::Activation;
 pub use frame::Frame;
+pub use laws::runs_are_determined;
 pub use machine::Machine;
 pub use operands::Operands;
 pub use running::Pause;
