@@ -1,0 +1,90 @@
+use crate::test_code::{HALT, PROGRAM, TICK, Written, push, run_code, sys};
+use solo_base::ProgResult;
+use stack_code::Op;
+use std::alloc::Global;
+use std::test::*;
+
+// What two operands give, or Overflow.
+fn two_give(alloc: Global, left: i16, right: i16, op: Op) -> Result<Option<i16>, Fail> {
+    let instrs = [TICK, push(left), push(right), (op, 0, 0), sys(2), HALT];
+    let (finish, numbers) = run_code(alloc, PROGRAM, &instrs, 10)?;
+    Ok(if finish.result == ProgResult::Overflow {
+        None
+    } else {
+        numbers.first().copied()
+    })
+}
+
+// What one operand gives, or Overflow.
+fn one_gives(alloc: Global, value: i16, op: Op) -> Result<Option<i16>, Fail> {
+    let instrs = [TICK, push(value), (op, 0, 0), sys(2), HALT];
+    let (finish, numbers) = run_code(alloc, PROGRAM, &instrs, 10)?;
+    Ok(if finish.result == ProgResult::Overflow {
+        None
+    } else {
+        numbers.first().copied()
+    })
+}
+
+#[test]
+fn two_operands_at_the_edges(rt: HostRuntime) -> Result<(), Fail> {
+    let cases = [
+        (32767, 1, Op::Add, None),
+        (32766, 1, Op::Add, Some(32767)),
+        (-32768, 1, Op::Sub, None),
+        (-32767, 1, Op::Sub, Some(-32768)),
+        (181, 181, Op::Mul, Some(32761)),
+        (182, 182, Op::Mul, None),
+        (-32768, -1, Op::Mul, None),
+        (-32768, -1, Op::Div, None),
+        (-7, 2, Op::Div, Some(-3)),
+        (7, 0, Op::Div, None),
+        (-7, 2, Op::Mod, Some(-1)),
+        (7, -2, Op::Mod, Some(1)),
+        (-32768, -1, Op::Mod, Some(0)),
+        (7, 0, Op::Mod, None),
+        (2, 0, Op::And, Some(0)),
+        (2, 4, Op::And, Some(1)),
+        (0, 0, Op::Or, Some(0)),
+        (0, 5, Op::Or, Some(1)),
+        (3, 3, Op::Eq, Some(1)),
+        (3, 3, Op::Ne, Some(0)),
+        (-1, 1, Op::Lt, Some(1)),
+        (-1, 1, Op::Gt, Some(0)),
+        (1, 1, Op::Le, Some(1)),
+        (0, 1, Op::Ge, Some(0)),
+    ];
+    for (left, right, op, given) in &cases {
+        assert_eq!(rt;
+            two_give(rt.alloc(), *left, *right, *op)?,
+            *given,
+            "{left} {op:?} {right}"
+        );
+    }
+    Ok(())
+}
+
+#[test]
+fn one_operand_at_the_edges(rt: HostRuntime) -> Result<(), Fail> {
+    let cases = [
+        (-32768, Op::Neg, None),
+        (32767, Op::Neg, Some(-32767)),
+        (-32768, Op::Abs, None),
+        (-32767, Op::Abs, Some(32767)),
+        (0, Op::Not, Some(1)),
+        (-5, Op::Not, Some(0)),
+        (32767, Op::Succ, None),
+        (32766, Op::Succ, Some(32767)),
+        (-32768, Op::Pred, None),
+        (-32767, Op::Pred, Some(-32768)),
+        (127, Op::Chr, Some(127)),
+    ];
+    for (value, op, given) in &cases {
+        assert_eq!(rt;
+            one_gives(rt.alloc(), *value, *op)?,
+            *given,
+            "{op:?} {value}"
+        );
+    }
+    Ok(())
+}
