@@ -22,3 +22,4 @@ pub mod Reply
 pub mod Rounds
 pub mod Pauses
 pub mod Outcomes
+pub mod CallEffect

@@ -1,7 +1,8 @@
 -- A program that goes on by itself.
 use Rattle.std.proofs.Common.{◌≡◌, ℕ, zero, suc, ◌+◌, ◌<◌, ◌≤◌, Option, Some, None, List, [], ℤ, pos, refl, sym, ◌∙◌, ap, arith, subst}
 use Rattle.std.proofs.lemmas.Option.{none-some, same_Some}
-use Rattle.std.specs.Prelude.{replicate}
+use Rattle.std.specs.Prelude.{replicate, slice_get}
+use Rattle.stack_code.specs.declared.instr.Instr.{Instr}
 use Rattle.solo_base.specs.declared.outcome.ProgResult.{ProgResult}
 use Rattle.solo_base.specs.declared.system_call.SysCall.{SysCall}
 use Rattle.stack_code.specs.CodeLists.{CodeLists, IsCode, routine_at}
@@ -10,7 +11,7 @@ use Rattle.stack_machine.specs.declared.activation.Activation.{Activation}
 use Rattle.stack_machine.specs.declared.state.State.{State}
 use Rattle.stack_machine.specs.declared.state.Finish.{Finish}
 use Rattle.stack_machine.specs.State.{Next, Goes, Asks, Stops, Lacks}
-use Rattle.stack_machine.specs.Machine.{next, next_of}
+use Rattle.stack_machine.specs.Machine.{effect, next, next_by, next_of}
 use Rattle.stack_machine.specs.Run.{Moves, LeadsToCall, LeadsToEnd}
 use Rattle.stack_machine.specs.Safe.{IsSound, IsSafe, IsRunning}
 use Rattle.stack_machine.proofs.Weights.{left_to_run}
@@ -29,6 +30,11 @@ pub record IsUnderWay (c : CodeLists) (limit : ℕ) (s t : State) : Type 0 where
   pub moves : Moves c limit steps s t
   pub runs : t.ended ≡ None
   pub here : IsRunning c limit t
+
+-- what the instruction does that the code has at the program's place
+pub next_here : (c : CodeLists) (limit : ℕ) (s t : State) (i : Instr) → IsUnderWay c limit s t → slice_get c.instrs t.current.place ≡ Some i → next c limit t ≡ effect c limit t i.op i.a i.b
+unfolding next
+next_here c limit s t i way found = ap (next_of c limit t) way.runs ∙ ap (next_by c limit t) found
 
 pub sets_out : (c : CodeLists) (limit : ℕ) (s : State) → IsSound c limit s → s.ended ≡ None → IsUnderWay c limit s s
 sets_out c limit s sound runs = record { good = sound.good; steps = 0; moves = refl; runs = runs; here = sound.safe runs }
@@ -55,18 +61,16 @@ asks_there c limit s t u call way asks =
     )
 
 -- it ends, and stays so
-pub ends_there : (c : CodeLists) (limit : ℕ) (s t u : State) (result : ProgResult) (line ticks : ℕ) → IsUnderWay c limit s t → next c limit t ≡ Stops result line ticks
-    → u.ended ≡ Some (record { result = result; line = line; ticks = ticks })
-    → LeadsToEnd c limit s result line ticks × IsSound c limit u
-ends_there c limit s t u result line ticks way stops ended =
-    let within = stops_within_limit c limit t result line ticks way.good way.runs way.here stops in (
-      record { last = t; steps = way.steps; moves = way.moves; stops = stops },
-      record {
-        good = way.good;
-        safe = λ runs. absurd (none-some _ (sym runs ∙ ended));
-        ended = λ finish is. omega (arith, within, ap (λ (f : Finish). f.ticks) (same_Some _ _ (sym is ∙ ended)));
-      },
-    )
+pub ends_there : (c : CodeLists) (limit : ℕ) (s t u : State) (finish : Finish) → IsUnderWay c limit s t → next c limit t ≡ Stops finish.result finish.line finish.ticks → u.ended ≡ Some finish
+    → (LeadsToEnd c limit s finish.result finish.line finish.ticks × (u.ended ≡ Some finish)) × IsSound c limit u
+ends_there c limit s t u finish way stops ended =
+    let within = stops_within_limit c limit t finish.result finish.line finish.ticks way.good way.runs way.here stops in
+    ((record { last = t; steps = way.steps; moves = way.moves; stops = stops }, ended),
+     record {
+       good = way.good;
+       safe = λ runs. absurd (none-some _ (sym runs ∙ ended));
+       ended = λ other is. omega (arith, within, ap (λ (f : Finish). f.ticks) (same_Some _ _ (sym is ∙ ended)));
+     })
 
 -- a program that ended does nothing more
 pub has_ended : (c : CodeLists) (limit : ℕ) (s : State) (finish : Finish) → s.ended ≡ Some finish → LeadsToEnd c limit s finish.result finish.line finish.ticks

@@ -87,6 +87,13 @@ start_state c = record {
   ended = None;
 }
 
+-- the instructions with a call
+abbrev pub calls : Op → Bool
+calls op.Sys = true
+calls op.SysG = true
+calls op.SysL = true
+calls other = false
+
 -- whether an instruction's array is in the program's frame, where it begins, and how many values it pops
 abbrev pub uses_program : Op → Bool
 uses_program op.SysG = true

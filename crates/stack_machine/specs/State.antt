@@ -7,6 +7,8 @@ use Rattle.stack_machine.specs.declared.activation.Activation.{Activation}
 use Rattle.stack_machine.specs.declared.state.State.{State}
 use Rattle.stack_machine.specs.declared.state.Step.{Step}
 use Rattle.stack_machine.specs.declared.state.Step.TheVariants as step
+use Rattle.stack_machine.specs.declared.state.Ask.{Ask}
+use Rattle.stack_machine.specs.declared.state.Ask.TheVariants as ask
 
 -- What an instruction does: it goes on in a new state, it asks for a call in this state, or it stops
 -- with a result, a line and the ticks taken. Lacks: an instruction, an operand, a word or room is missing.
@@ -19,9 +21,14 @@ pub data Next : Type 0 where
 -- what the code's step says, with the state that it leaves
 abbrev pub outcome : Step → State → Next
 outcome step.Moved new = Goes new
-outcome (step.Asked call) new = Asks call new
 outcome (step.Stopped result line) new = Stops result line new.ticks
 outcome step.Stuck new = Lacks
+
+-- the same of an instruction with a call, which changes nothing
+abbrev pub asked : Ask → State → Next
+asked (ask.Call call) s = Asks call s
+asked (ask.Stopped result line) s = Stops result line s.ticks
+asked ask.Stuck s = Lacks
 
 -- stops in the line of the activation
 abbrev pub stop : State → ProgResult → Next

@@ -24,7 +24,7 @@ pub use laws::runs_are_determined;
 pub use machine::Machine;
 pub use operands::Operands;
 pub use running::Pause;
-pub use state::{Finish, State, Step};
+pub use state::{Ask, Finish, State, Step};
 pub use waiting::Waiting;
 pub use world::World;
 

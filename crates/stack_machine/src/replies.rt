@@ -9,8 +9,9 @@ ghost use Rattle.stack_machine.specs.Room.{HasRoom, HasRoomFor};
 
 use crate::operands::Operands;
 use crate::state::State;
+use crate::step::{array_start, uses_program};
 use solo_base::{ProgResult, SysReply};
-use stack_code::{Instr, Op, Procedure, Verified};
+use stack_code::{Instr, Procedure, Verified};
 
 impl State {
     /// Completes the instruction whose call got this reply, or ends the program.
@@ -33,8 +34,8 @@ impl State {
         requires room { HasRoom self.old instr reply.now }
         ensures { (c : CodeLists) → pops c instr.op instr.a ≡ values_of instr.a → self.new ≡ reply_at c self.old instr reply.now }
     {
-        let program = matches!(instr.op, Op::SysG);
-        self.set_array(program, array_start(instr), reply);
+        let program = uses_program(instr.op);
+        self.set_array(program, array_start(instr) as usize, reply);
         self.current.operands.drop_top(values_of(instr.a));
         push_results(&mut self.current.operands, reply);
         self.ticks += ticks_in(reply);
@@ -63,18 +64,6 @@ impl State {
         for place in 0..bytes.len() {
             self.set_word(program, start + place, i16::from(bytes[place]));
         }
-    }
-}
-
-// Where the array of the instruction begins in its frame.
-fn array_start(instr: Instr) -> usize
-    ensures start { result ≡ array_start instr.op instr.b }
-    ensures low { result < 2 ^ 16 }
-{
-    if instr.op == Op::Sys {
-        0
-    } else {
-        instr.b as usize
     }
 }
 

@@ -1,9 +1,10 @@
 ghost use Rattle.std.specs.Prelude.{◌≡◌, ◌<◌, ◌≤◌, ◌+◌, ◌^◌, ℕ, length, take, drop, map, pos, IfSome, IfNone, unsigned_abs, true, false, slice_index_or};
+ghost use Rattle.solo_base.specs.declared.outcome.ProgResult.TheVariants.{RangeError};
 ghost use Rattle.stack_code.specs.Interface.{call_row_of};
-ghost use Rattle.stack_machine.specs.State.{outcome, words_of};
+ghost use Rattle.stack_machine.specs.State.{asked, stop, words_of};
 ghost use Rattle.stack_machine.specs.Calls.{sys, ask, made, request, byte_of, are_bytes};
 
-use crate::state::{State, Step};
+use crate::state::{Ask, State};
 use crate::words::routine_at;
 use solo_base::{PAGE_LENGTH, Page, ProgResult, SysCall};
 use stack_code::{Procedure, Verified};
@@ -14,11 +15,11 @@ pub(crate) const NAME_LENGTH: usize = 12;
 impl State {
     /// SYS, SYSG, SYSL: the call of a row of the interface, with the array from word b. The program
     /// stays at the instruction until the call is answered.
-    pub(crate) fn sys(&self, code: &Verified, limit: u32, program: bool, a: u16, b: u16) -> Step
-        ensures { outcome result self.now ≡ sys code.now limit self.now program a b }
+    pub(crate) fn sys(&self, code: &Verified, limit: u32, program: bool, a: u16, b: u16) -> Ask
+        ensures { asked result self.now ≡ sys code.now limit self.now program a b }
     {
         let Some(procedure) = Procedure::at(a) else {
-            return Step::Stuck;
+            return Ask::Stuck;
         };
         let row = procedure.row();
         let height = self.current.operands.len();
@@ -27,7 +28,7 @@ impl State {
             || b as usize + row.array as usize > self.words_len(program)
             || height - row.values as usize + row.results as usize > highest
         {
-            return Step::Stuck;
+            return Ask::Stuck;
         }
         self.request(
             procedure,
@@ -38,53 +39,60 @@ impl State {
     }
 
     // What a procedure asks for, whose values are there and whose array lies in the frame.
-    fn request(&self, procedure: Procedure, program: bool, b: usize, left: u32) -> Step
+    fn request(&self, procedure: Procedure, program: bool, b: usize, left: u32) -> Ask
         requires low { b < 2 ^ 16 }
         requires values { (call_row_of procedure).values ≤ length self.now.current.operands }
         requires array { b + (call_row_of procedure).array ≤ length (words_of program self.now) }
-        ensures { outcome result self.now ≡ made self.now (request procedure self.now.current.operands (take (call_row_of procedure).array (drop b (words_of program self.now))) left) }
+        ensures { asked result self.now ≡ made self.now (request procedure self.now.current.operands (take (call_row_of procedure).array (drop b (words_of program self.now))) left) }
     {
         let top = self.operand(0);
         let second = self.operand(1);
         match procedure {
-            Procedure::Read => Step::Asked(SysCall::Read),
+            Procedure::Read => Ask::Call(SysCall::Read),
             Procedure::Write => match u8::try_from(top) {
-                Ok(byte) => Step::Asked(SysCall::Write(byte)),
-                Err(_) => self.stop(ProgResult::RangeError),
+                Ok(byte) => Ask::Call(SysCall::Write(byte)),
+                Err(_) => self.out_of_range(),
             },
-            Procedure::WriteInt => Step::Asked(SysCall::WriteInt(top)),
-            Procedure::Accept => Step::Asked(SysCall::Accept),
+            Procedure::WriteInt => Ask::Call(SysCall::WriteInt(top)),
+            Procedure::Accept => Ask::Call(SysCall::Accept),
             Procedure::Display => match u8::try_from(top) {
-                Ok(byte) => Step::Asked(SysCall::Display(byte)),
-                Err(_) => self.stop(ProgResult::RangeError),
+                Ok(byte) => Ask::Call(SysCall::Display(byte)),
+                Err(_) => self.out_of_range(),
             },
-            Procedure::Open => Step::Asked(SysCall::Open {
+            Procedure::Open => Ask::Call(SysCall::Open {
                 f: top,
                 name: self.name_at(program, b),
             }),
-            Procedure::Close => Step::Asked(SysCall::Close(top)),
-            Procedure::Get => Step::Asked(SysCall::Get { f: second, p: top }),
+            Procedure::Close => Ask::Call(SysCall::Close(top)),
+            Procedure::Get => Ask::Call(SysCall::Get { f: second, p: top }),
             Procedure::Put => match self.page_at(program, b) {
-                Some(page) => Step::Asked(SysCall::Put {
+                Some(page) => Ask::Call(SysCall::Put {
                     f: second,
                     p: top,
                     page,
                 }),
-                None => self.stop(ProgResult::RangeError),
+                None => self.out_of_range(),
             },
-            Procedure::Length => Step::Asked(SysCall::Length(top)),
-            Procedure::Lookup => Step::Asked(SysCall::Lookup(self.name_at(program, b))),
-            Procedure::ReadArg => Step::Asked(SysCall::ReadArg),
-            Procedure::WriteArg => Step::Asked(SysCall::WriteArg {
+            Procedure::Length => Ask::Call(SysCall::Length(top)),
+            Procedure::Lookup => Ask::Call(SysCall::Lookup(self.name_at(program, b))),
+            Procedure::ReadArg => Ask::Call(SysCall::ReadArg),
+            Procedure::WriteArg => Ask::Call(SysCall::WriteArg {
                 tag: second,
                 number: top,
                 name: self.name_at(program, b),
             }),
-            Procedure::Run => Step::Asked(SysCall::Run {
+            Procedure::Run => Ask::Call(SysCall::Run {
                 name: self.name_at(program, b),
                 left,
             }),
         }
+    }
+
+    // Ends the program in the activation's line.
+    fn out_of_range(&self) -> Ask
+        ensures { asked result self.now ≡ stop self.now RangeError }
+    {
+        Ask::Stopped(ProgResult::RangeError, self.current.line)
     }
 
     // The operand at a depth, the topmost at 0, or 0 where there is none.

@@ -2,7 +2,8 @@ ghost use Rattle.std.specs.Prelude.{◌≡◌, Some};
 ghost use Rattle.stack_machine.specs.Safe.{IsSound};
 ghost use Rattle.stack_machine.specs.Run.{Pauses};
 
-use crate::state::{Finish, State, Step};
+use crate::state::{Ask, Finish, State, Step};
+use crate::step::calls;
 use solo_base::{ProgResult, SysCall};
 use stack_code::Verified;
 
@@ -26,9 +27,16 @@ impl State {
             return Pause::Finished(finish);
         }
         loop {
-            match self.step(code, limit) {
+            let instr = self.instr(code);
+            if calls(instr.op) {
+                return match self.ask(code, limit, instr) {
+                    Ask::Call(call) => Pause::Call(call),
+                    Ask::Stopped(result_of, line) => Pause::Finished(self.end(result_of, line)),
+                    Ask::Stuck => unreachable!(),
+                };
+            }
+            match self.perform(code, limit, instr) {
                 Step::Moved => {}
-                Step::Asked(call) => return Pause::Call(call),
                 Step::Stopped(result_of, line) => return Pause::Finished(self.end(result_of, line)),
                 Step::Stuck => unreachable!(),
             }

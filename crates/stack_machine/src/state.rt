@@ -20,12 +20,19 @@ pub struct State {
     pub(crate) ended: Option<Finish>,
 }
 
-/// What an instruction does: it leads to the next one, it asks for a call, or it ends the program
-/// with a result in a line. `Stuck` is the answer where something is missing that verified code has.
+/// What an instruction does that makes no call: it leads to the next one, or it ends the program with
+/// a result in a line. `Stuck` is the answer where something is missing that verified code has.
 #[derive(Clone, Copy, Debug)]
 pub enum Step {
     Moved,
-    Asked(SysCall),
+    Stopped(ProgResult, u32),
+    Stuck,
+}
+
+/// What an instruction with a call does: it makes the call, or it ends the program.
+#[derive(Clone, Copy, Debug)]
+pub enum Ask {
+    Call(SysCall),
     Stopped(ProgResult, u32),
     Stuck,
 }

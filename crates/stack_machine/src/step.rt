@@ -1,27 +1,34 @@
-ghost use Rattle.std.specs.Prelude.{◌≡◌, ◌<◌, None};
-ghost use Rattle.stack_machine.specs.State.{outcome};
-ghost use Rattle.stack_machine.specs.Machine.{effect, next};
+ghost use Rattle.std.specs.Prelude.{◌≡◌, ◌<◌, true, false, length, slice_get, Some};
+ghost use Rattle.stack_machine.specs.State.{outcome, asked};
+ghost use Rattle.stack_machine.specs.Machine.{effect, calls, uses_program, array_start};
 
-use crate::state::{State, Step};
+use crate::state::{Ask, State, Step};
 use solo_base::ProgResult;
 use stack_code::{Instr, Op, Verified};
 
 impl State {
-    /// The next instruction.
-    #[tactic(auto, unfolding(crate::specs::Machine::next))]
-    pub(crate) fn step(&mut self, code: &Verified, limit: u32) -> Step
-        requires { self.old.ended ≡ None }
-        ensures { outcome result self.new ≡ next code.now limit self.old }
+    /// The instruction at which the program stands.
+    pub(crate) fn instr(&self, code: &Verified) -> Instr
+        requires { self.now.current.place < length code.now.instrs }
+        ensures found { slice_get code.now.instrs self.now.current.place ≡ Some result }
+        ensures place { self.now.current.place < 8192 }
     {
-        match code.code().instrs().get(self.current.place as usize) {
-            Some(instr) => self.perform(code, limit, *instr),
-            None => Step::Stuck,
-        }
+        code.code().instrs()[self.current.place as usize]
     }
 
+    /// The call of an instruction that makes one.
+    pub(crate) fn ask(&self, code: &Verified, limit: u32, instr: Instr) -> Ask
+        requires { calls instr.op ≡ true }
+        ensures { asked result self.now ≡ effect code.now limit self.now instr.op instr.a instr.b }
+    {
+        self.sys(code, limit, uses_program(instr.op), instr.a, array_start(instr))
+    }
+
+    /// An instruction that makes no call.
     #[tactic(auto, unfolding(crate::specs::Machine::effect))]
-    fn perform(&mut self, code: &Verified, limit: u32, instr: Instr) -> Step
-        requires { self.old.current.place < 8192 }
+    pub(crate) fn perform(&mut self, code: &Verified, limit: u32, instr: Instr) -> Step
+        requires place { self.old.current.place < 8192 }
+        requires plain { calls instr.op ≡ false }
         ensures { outcome result self.new ≡ effect code.now limit self.old instr.op instr.a instr.b }
     {
         let Instr { op, a, b } = instr;
@@ -58,12 +65,31 @@ impl State {
             Op::Tick => self.tick(limit, a, b),
             Op::Call => self.call(code, a),
             Op::Return => self.leave(code),
-            Op::Sys => self.sys(code, limit, false, a, 0),
-            Op::SysG => self.sys(code, limit, true, a, b),
-            Op::SysL => self.sys(code, limit, false, a, b),
+            Op::Sys | Op::SysG | Op::SysL => unreachable!(),
             Op::Halt => self.stop(ProgResult::Terminated),
             Op::Succ => self.unary(Op::Succ),
             Op::Pred => self.unary(Op::Pred),
         }
     }
+}
+
+/// Whether an instruction makes a call.
+pub(crate) fn calls(op: Op) -> bool
+    ensures { result ≡ calls op }
+{
+    matches!(op, Op::Sys | Op::SysG | Op::SysL)
+}
+
+/// Whether the array of an instruction's call is in the program's frame.
+pub(crate) fn uses_program(op: Op) -> bool
+    ensures { result ≡ uses_program op }
+{
+    matches!(op, Op::SysG)
+}
+
+/// Where the array of an instruction's call begins in its frame.
+pub(crate) fn array_start(instr: Instr) -> u16
+    ensures { result ≡ array_start instr.op instr.b }
+{
+    if instr.op == Op::Sys { 0 } else { instr.b }
 }

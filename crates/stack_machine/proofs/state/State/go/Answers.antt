@@ -1,24 +1,37 @@
-use Rattle.std.proofs.Common.{sym, rules}
-use Rattle.stack_machine.proofs.Onward.{sets_out, goes_further, comes_nearer, asks_there, ends_there, never_stuck, has_ended}
+use Rattle.std.proofs.Common.{sym, ◌∙◌, ap}
+use Rattle.stack_machine.specs.declared.state.State.{State}
+use Rattle.stack_machine.proofs.Onward.{next_here, goes_further, comes_nearer, asks_there, ends_there, never_stuck, has_ended}
 use Rattle.stack_machine.proofs.state.State.go.Goals as goal
 
 pub returns-in-Some-clause-pauses : goal.returns-in-Some-clause-pauses
 returns-in-Some-clause-pauses c = (has_ended c.args.code.now c.args.limit c.args.self.now c.in-Some.finish c.in-Some.is, c.in-Some.is)
 
-pub loop-call-smaller : goal.loop-call-smaller
-loop-call-smaller c = comes_nearer c.args.code.now c.args.limit c.args.self.now c.loop-call.self c.step.new.self c.loop-call.invariant (sym c.in-Moved.ensures)
-
-pub loop-call-preserved : goal.loop-call-preserved
-loop-call-preserved c = goes_further c.args.code.now c.args.limit c.args.self.now c.loop-call.self c.step.new.self c.loop-call.invariant (sym c.in-Moved.ensures)
-
-pub returns-in-Asked-clause-pauses : goal.returns-in-Asked-clause-pauses
-returns-in-Asked-clause-pauses c = (asks_there c.args.code.now c.args.limit c.args.self.now c.loop-call.self c.step.new.self c.in-Asked.call c.loop-call.invariant (sym c.in-Asked.ensures)).0
-
-pub returns-in-Asked-clause-sound : goal.returns-in-Asked-clause-sound
-returns-in-Asked-clause-sound c = (asks_there c.args.code.now c.args.limit c.args.self.now c.loop-call.self c.step.new.self c.in-Asked.call c.loop-call.invariant (sym c.in-Asked.ensures)).1
-
-pub returns-in-Stopped-clause-sound : goal.returns-in-Stopped-clause-sound
-returns-in-Stopped-clause-sound c = (ends_there c.args.code.now c.args.limit c.args.self.now c.loop-call.self c.end.new.self c.in-Stopped.result_of c.in-Stopped.line c.step.new.self.ticks c.loop-call.invariant (sym c.in-Stopped.ensures) (search rules)).1
-
 pub unreachable-requires : goal.unreachable-requires
-unreachable-requires c = never_stuck c.args.code.now c.args.limit c.args.self.now c.loop-call.self c.loop-call.invariant (sym c.in-Stuck.ensures)
+unreachable-requires c = never_stuck c.args.code.now c.args.limit c.args.self.now c.loop-self.self c.loop-self.invariant (next_here c.args.code.now c.args.limit c.args.self.now c.loop-self.self c.instr-instr.result c.loop-self.invariant c.instr-instr.ensures.found ∙ sym c.in-Stuck.ensures)
+
+pub returns-in-Call-clause-pauses : goal.returns-in-Call-clause-pauses
+returns-in-Call-clause-pauses c = (asks_there c.args.code.now c.args.limit c.args.self.now c.loop-self.self c.loop-self.self c.in-Call.call c.loop-self.invariant (next_here c.args.code.now c.args.limit c.args.self.now c.loop-self.self c.instr-instr.result c.loop-self.invariant c.instr-instr.ensures.found ∙ sym c.in-Call.ensures)).0
+
+pub returns-in-Stopped-clause-pauses : goal.returns-in-Stopped-clause-pauses
+returns-in-Stopped-clause-pauses c =
+    let there = ends_there c.args.code.now c.args.limit c.args.self.now c.loop-self.self c.end.new.self (record { result = c.in-Stopped.result_of; line = c.in-Stopped.line; ticks = c.loop-self.self.ticks }) c.loop-self.invariant (next_here c.args.code.now c.args.limit c.args.self.now c.loop-self.self c.instr-instr.result c.loop-self.invariant c.instr-instr.ensures.found ∙ sym c.in-Stopped.ensures) (ap (λ (v : State). v.ended) c.end.ensures.ended) in
+    rw c.end.ensures.finish there.0
+
+pub loop-self-smaller : goal.loop-self-smaller
+loop-self-smaller c = comes_nearer c.args.code.now c.args.limit c.args.self.now c.loop-self.self c.perform.new.self c.loop-self.invariant (next_here c.args.code.now c.args.limit c.args.self.now c.loop-self.self c.instr-instr.result c.loop-self.invariant c.instr-instr.ensures.found ∙ sym c.in-Moved.ensures)
+
+pub loop-self-preserved : goal.loop-self-preserved
+loop-self-preserved c = goes_further c.args.code.now c.args.limit c.args.self.now c.loop-self.self c.perform.new.self c.loop-self.invariant (next_here c.args.code.now c.args.limit c.args.self.now c.loop-self.self c.instr-instr.result c.loop-self.invariant c.instr-instr.ensures.found ∙ sym c.in-Moved.ensures)
+
+pub returns-in-Stopped-perform-clause-pauses : goal.returns-in-Stopped-perform-clause-pauses
+returns-in-Stopped-perform-clause-pauses c =
+    let there = ends_there c.args.code.now c.args.limit c.args.self.now c.loop-self.self c.end-in-Stopped-perform.new.self (record { result = c.in-Stopped-perform.result_of; line = c.in-Stopped-perform.line; ticks = c.perform.new.self.ticks }) c.loop-self.invariant (next_here c.args.code.now c.args.limit c.args.self.now c.loop-self.self c.instr-instr.result c.loop-self.invariant c.instr-instr.ensures.found ∙ sym c.in-Stopped-perform.ensures) (ap (λ (v : State). v.ended) c.end-in-Stopped-perform.ensures.ended) in
+    rw c.end-in-Stopped-perform.ensures.finish there.0
+
+pub returns-in-Stopped-perform-clause-sound : goal.returns-in-Stopped-perform-clause-sound
+returns-in-Stopped-perform-clause-sound c =
+    let there = ends_there c.args.code.now c.args.limit c.args.self.now c.loop-self.self c.end-in-Stopped-perform.new.self (record { result = c.in-Stopped-perform.result_of; line = c.in-Stopped-perform.line; ticks = c.perform.new.self.ticks }) c.loop-self.invariant (next_here c.args.code.now c.args.limit c.args.self.now c.loop-self.self c.instr-instr.result c.loop-self.invariant c.instr-instr.ensures.found ∙ sym c.in-Stopped-perform.ensures) (ap (λ (v : State). v.ended) c.end-in-Stopped-perform.ensures.ended) in
+    there.1
+
+pub unreachable-requires-in-Stuck-perform : goal.unreachable-requires-in-Stuck-perform
+unreachable-requires-in-Stuck-perform c = never_stuck c.args.code.now c.args.limit c.args.self.now c.loop-self.self c.loop-self.invariant (next_here c.args.code.now c.args.limit c.args.self.now c.loop-self.self c.instr-instr.result c.loop-self.invariant c.instr-instr.ensures.found ∙ sym c.in-Stuck-perform.ensures)
