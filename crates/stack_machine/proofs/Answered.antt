@@ -1,5 +1,5 @@
 -- What a reply makes of a state.
-use Rattle.std.proofs.Common.{◌≡◌, ℕ, zero, suc, ◌+◌, ◌-◌, ◌<◌, ◌≤◌, Bool, true, false, List, [], ◌∷◌, ◌++◌, length, take, drop, set, get_or, map, ℤ, pos, refl, sym, ◌∙◌, ap, arith, add-zero, subst, Fits}
+use Rattle.std.proofs.Common.{◌≡◌, ℕ, ◌+◌, ◌<◌, ◌≤◌, Bool, true, false, List, [], ◌∷◌, ◌++◌, length, take, drop, set, get_or, map, ℤ, pos, refl, sym, ◌∙◌, ap, arith, add-zero, subst, Fits}
 use Rattle.std.specs.Prelude.{unsigned_abs}
 use Rattle.std.specs.Int.{w8, w16}
 use Rattle.std.proofs.Math.Seq.{set-append_seam}

@@ -1,5 +1,5 @@
 -- Fronts and tops of lists of words.
-use Rattle.std.proofs.Common.{◌≡◌, ℕ, suc, ◌+◌, ◌-◌, ◌<◌, ◌≤◌, List, [], ◌∷◌, ◌++◌, length, get_or, take, drop, set, ℤ, pos, refl, sym, ◌∙◌, ap, arith, inl, inr}
+use Rattle.std.proofs.Common.{◌≡◌, ℕ, ◌+◌, ◌-◌, ◌<◌, ◌≤◌, List, ◌++◌, length, get_or, take, drop, set, ℤ, pos, sym, ◌∙◌, ap, arith}
 use Rattle.std.specs.Prelude.{reverse, replicate}
 use Rattle.std.specs.Int.{w16}
 use Rattle.std.specs.Prelude.{FitsSigned}

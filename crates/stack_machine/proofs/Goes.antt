@@ -1,17 +1,16 @@
 -- What may come of a row of the table.
-use Rattle.std.proofs.Common.{◌≡◌, ℕ, ◌+◌, ◌<◌, Bool, true, false, cond, Option, Some, None, List, [], ◌∷◌, length, ltb, leb, ℤ, pos, negsuc, refl, sym, ◌∙◌, ap, arith}
+use Rattle.std.proofs.Common.{◌≡◌, ℕ, ◌+◌, Bool, true, false, cond, Option, Some, None, List, [], ◌∷◌, length, ltb, leb, ℤ, pos, refl, sym, ap}
 use Rattle.std.specs.Prelude.{slice_get, slice_set, ◌-◌, ◌&&◌, take, drop, int_le}
 use Rattle.std.specs.Int.{w16, cast_signed}
-use Rattle.solo_base.specs.declared.outcome.ProgResult.{ProgResult}
 use Rattle.solo_base.specs.declared.outcome.ProgResult.TheVariants as result
 use Rattle.stack_code.specs.declared.interface.Procedure.{Procedure}
 use Rattle.stack_code.specs.Interface.{procedure_at, call_row_of}
 use Rattle.stack_code.specs.CodeLists.{CodeLists, routine_at}
 use Rattle.stack_machine.specs.declared.activation.Activation.{Activation}
 use Rattle.stack_machine.specs.declared.state.State.{State}
-use Rattle.stack_machine.specs.State.{Next, Goes, Asks, Stops, Lacks, push, has_room, words_of, with_words, with_program_words, advance, stop}
+use Rattle.stack_machine.specs.State.{Next, Goes, Asks, Lacks, push, has_room, words_of, with_words, with_program_words, advance, stop}
 use Rattle.stack_machine.specs.Effects.{replace, unary, binary, store, load, load_at, store_at, load_element, store_element, replace_found, push_found, index_in, index, difference, chr}
-use Rattle.stack_machine.specs.Calls.{Request, Makes, OutOfRange, LacksValue, made, ask, ask_row, sys, request}
+use Rattle.stack_machine.specs.Calls.{Request, Makes, OutOfRange, LacksValue, made, ask_row, sys, request}
 use Rattle.stack_machine.proofs.Weights.{weights}
 
 -- the next place, with the same ticks and the same places of the waiting activations

@@ -1,19 +1,18 @@
 -- A program that goes on by itself.
-use Rattle.std.proofs.Common.{◌≡◌, ℕ, zero, suc, ◌+◌, ◌<◌, ◌≤◌, Option, Some, None, List, [], ℤ, pos, refl, sym, ◌∙◌, ap, arith, subst}
+use Rattle.std.proofs.Common.{◌≡◌, ℕ, zero, suc, ◌<◌, Some, None, List, [], ℤ, pos, refl, sym, ◌∙◌, ap, arith, subst}
 use Rattle.std.proofs.lemmas.Option.{none-some, same_Some}
 use Rattle.std.specs.Prelude.{replicate, slice_get}
 use Rattle.stack_code.specs.declared.instr.Instr.{Instr}
-use Rattle.solo_base.specs.declared.outcome.ProgResult.{ProgResult}
 use Rattle.solo_base.specs.declared.system_call.SysCall.{SysCall}
 use Rattle.stack_code.specs.CodeLists.{CodeLists, IsCode, routine_at}
 use Rattle.stack_code.specs.Rules.{IsGood}
 use Rattle.stack_machine.specs.declared.activation.Activation.{Activation}
 use Rattle.stack_machine.specs.declared.state.State.{State}
 use Rattle.stack_machine.specs.declared.state.Finish.{Finish}
-use Rattle.stack_machine.specs.State.{Next, Goes, Asks, Stops, Lacks}
+use Rattle.stack_machine.specs.State.{Goes, Asks, Stops, Lacks}
 use Rattle.stack_machine.specs.Machine.{effect, next, next_by, next_of}
 use Rattle.stack_machine.specs.Run.{Moves, LeadsToCall, LeadsToEnd}
-use Rattle.stack_machine.specs.Safe.{IsSound, IsSafe, IsRunning}
+use Rattle.stack_machine.specs.Safe.{IsSound, IsRunning}
 use Rattle.stack_machine.proofs.Weights.{left_to_run}
 use Rattle.stack_machine.proofs.Measure.{goes_less, asks_here}
 use Rattle.stack_machine.proofs.Safety.{never_lacks, stays_running, stops_within_limit, begins_sound}
@@ -64,13 +63,14 @@ asks_there c limit s t u call way asks =
 pub ends_there : (c : CodeLists) (limit : ℕ) (s t u : State) (finish : Finish) → IsUnderWay c limit s t → next c limit t ≡ Stops finish.result finish.line finish.ticks → u.ended ≡ Some finish
     → (LeadsToEnd c limit s finish.result finish.line finish.ticks × (u.ended ≡ Some finish)) × IsSound c limit u
 ends_there c limit s t u finish way stops ended =
-    let within = stops_within_limit c limit t finish.result finish.line finish.ticks way.good way.runs way.here stops in
-    ((record { last = t; steps = way.steps; moves = way.moves; stops = stops }, ended),
-     record {
-       good = way.good;
-       safe = λ runs. absurd (none-some _ (sym runs ∙ ended));
-       ended = λ other is. omega (arith, within, ap (λ (f : Finish). f.ticks) (same_Some _ _ (sym is ∙ ended)));
-     })
+    let within = stops_within_limit c limit t finish.result finish.line finish.ticks way.good way.runs way.here stops in (
+      (record { last = t; steps = way.steps; moves = way.moves; stops = stops }, ended),
+      record {
+        good = way.good;
+        safe = λ runs. absurd (none-some _ (sym runs ∙ ended));
+        ended = λ other is. omega (arith, within, ap (λ (f : Finish). f.ticks) (same_Some _ _ (sym is ∙ ended)));
+      },
+    )
 
 -- a program that ended does nothing more
 pub has_ended : (c : CodeLists) (limit : ℕ) (s : State) (finish : Finish) → s.ended ≡ Some finish → LeadsToEnd c limit s finish.result finish.line finish.ticks

@@ -1,16 +1,15 @@
 -- A run has one outcome.
-use Rattle.std.proofs.Common.{◌≡◌, ℕ, Option, Some, None, ◌⊎◌, inl, inr, List, [], ◌∷◌, ◌++◌, refl, sym, ◌∙◌, ap, subst}
+use Rattle.std.proofs.Common.{◌≡◌, ℕ, ◌⊎◌, inl, inr, List, [], ◌∷◌, ◌++◌, refl, sym, ◌∙◌, ap, subst}
 use Rattle.solo_base.specs.declared.outcome.ProgResult.{ProgResult}
 use Rattle.solo_base.specs.declared.system_call.SysCall.{SysCall}
 use Rattle.solo_base.specs.declared.system_call.SysReply.{SysReply}
-use Rattle.stack_code.specs.CodeLists.{CodeLists, IsCode}
-use Rattle.stack_code.specs.Rules.{IsGood}
+use Rattle.stack_code.specs.CodeLists.{CodeLists}
 use Rattle.stack_machine.specs.declared.state.State.{State}
 use Rattle.stack_machine.specs.Machine.{start_state, answered}
 use Rattle.stack_machine.specs.Safe.{IsSound}
-use Rattle.stack_machine.specs.Run.{Outcome, Ends, Waits, LeadsToCall, LeadsToEnd, Replied, RunsFrom, Runs, AreFitting}
+use Rattle.stack_machine.specs.Run.{Outcome, Ends, Waits, LeadsToCall, LeadsToEnd, Replied, RunsFrom, AreFitting}
 use Rattle.stack_machine.specs.Laws.{SomeRun, OneRun}
-use Rattle.stack_machine.proofs.Pauses.{one_call, one_end, no_call_at_end, IsCall, IsEnd, pauses}
+use Rattle.stack_machine.proofs.Pauses.{one_call, one_end, no_call_at_end, IsEnd, pauses}
 use Rattle.stack_machine.proofs.Reply.{asks_running}
 use Rattle.stack_machine.proofs.Safety.{answered_is_sound, begins_sound}
 

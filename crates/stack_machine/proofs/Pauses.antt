@@ -1,5 +1,5 @@
 -- A program pauses, and in one way.
-use Rattle.std.proofs.Common.{◌≡◌, ℕ, zero, suc, ◌+◌, ◌<◌, ◌≤◌, Option, Some, None, ◌⊎◌, inl, inr, refl, sym, ◌∙◌, ap, arith, subst}
+use Rattle.std.proofs.Common.{◌≡◌, ℕ, zero, suc, ◌+◌, ◌<◌, Option, Some, None, ◌⊎◌, inl, inr, refl, sym, ◌∙◌, ap, arith, subst}
 use Rattle.solo_base.specs.declared.outcome.ProgResult.{ProgResult}
 use Rattle.solo_base.specs.declared.system_call.SysCall.{SysCall}
 use Rattle.stack_code.specs.CodeLists.{CodeLists}

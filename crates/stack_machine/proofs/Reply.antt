@@ -1,8 +1,6 @@
 -- A reply that fits has room where the program asked, and leaves less to run.
-use Rattle.std.proofs.Common.{◌≡◌, ℕ, ◌+◌, ◌-◌, ◌*◌, ◌<◌, ◌≤◌, ◌^◌, Option, Some, None, List, ◌++◌, length, drop, refl, sym, ◌∙◌, ap, arith, subst, ◌⊎◌, inl, inr}
+use Rattle.std.proofs.Common.{◌≡◌, ℕ, ◌+◌, ◌-◌, ◌*◌, ◌<◌, ◌≤◌, ◌^◌, Option, Some, None, ◌++◌, length, drop, refl, sym, ap, arith, subst, ◌⊎◌, inl, inr}
 use Rattle.std.proofs.Math.Nat.{mul-le-mul_right}
-use Rattle.std.proofs.lemmas.Option.{none-some}
-use Rattle.solo_base.specs.declared.outcome.ProgResult.TheVariants as result
 use Rattle.solo_base.specs.declared.system_call.SysCall.{SysCall}
 use Rattle.solo_base.specs.declared.system_call.SysReply.{SysReply}
 use Rattle.solo_base.specs.declared.system_call.SysReply.TheVariants as replies
@@ -13,14 +11,14 @@ use Rattle.stack_code.specs.CodeLists.{CodeLists, routine_at, instr_at, no_routi
 use Rattle.stack_code.specs.Rules.{IsGood, pops}
 use Rattle.stack_machine.specs.declared.state.State.{State}
 use Rattle.stack_machine.specs.declared.state.Finish.{Finish}
-use Rattle.stack_machine.specs.State.{Next, Goes, Asks, Stops, Lacks, words_of, with_words, advance}
+use Rattle.stack_machine.specs.State.{Next, Goes, Asks, Stops, words_of}
 use Rattle.stack_machine.specs.Calls.{results_in, array_in, ticks_in}
-use Rattle.stack_machine.specs.Machine.{next, next_of, next_by, answered, reply_at, fail_call, set_array, uses_program, array_start}
+use Rattle.stack_machine.specs.Machine.{next, next_of, answered, reply_at, set_array, uses_program, array_start}
 use Rattle.stack_machine.specs.Fits.{Fits}
-use Rattle.stack_machine.specs.Room.{TakesReply, HasRoom, HasRoomFor}
-use Rattle.stack_machine.specs.Safe.{IsSound, IsSafe, IsRunning}
+use Rattle.stack_machine.specs.Room.{TakesReply, HasRoomFor}
+use Rattle.stack_machine.specs.Safe.{IsSound}
 use Rattle.stack_machine.specs.Standing.{Standing, StandsWell, Awaits}
-use Rattle.stack_machine.proofs.Weights.{left_to_run, price, weight, weights, next_is_lighter}
+use Rattle.stack_machine.proofs.Weights.{left_to_run, price, next_is_lighter}
 use Rattle.stack_machine.proofs.Goes.{written}
 use Rattle.stack_machine.proofs.Measure.{IsNoTick, asks_here}
 use Rattle.stack_machine.proofs.Standing.{HasPlaceFor}

@@ -1,5 +1,5 @@
 -- A program that runs in a world: from call to call.
-use Rattle.std.proofs.Common.{◌≡◌, ℕ, zero, suc, ◌+◌, ◌<◌, ◌≤◌, ◌^◌, Option, Some, None, Result, Ok, Err, List, [], ◌∷◌, ◌++◌, refl, sym, ◌∙◌, ap, arith, subst}
+use Rattle.std.proofs.Common.{◌≡◌, ℕ, zero, suc, ◌+◌, ◌<◌, ◌≤◌, ◌^◌, Some, None, Result, Ok, Err, List, [], ◌∷◌, ◌++◌, refl, sym, ◌∙◌, ap, arith, subst}
 use Rattle.std.proofs.lemmas.List.{append-nil}
 use Rattle.solo_base.specs.declared.system_call.SysCall.{SysCall}
 use Rattle.solo_base.specs.declared.system_call.SysReply.{SysReply}
@@ -7,8 +7,7 @@ use Rattle.stack_code.specs.CodeLists.{CodeLists}
 use Rattle.stack_code.specs.Rules.{IsGood}
 use Rattle.stack_machine.specs.declared.state.Finish.{Finish}
 use Rattle.stack_machine.specs.declared.state.State.{State}
-use Rattle.stack_machine.specs.State.{Next, Goes, Asks, Stops}
-use Rattle.stack_machine.specs.Machine.{next, answered}
+use Rattle.stack_machine.specs.Machine.{answered}
 use Rattle.stack_machine.specs.Fits.{Fits}
 use Rattle.stack_machine.specs.Room.{HasRoomFor}
 use Rattle.stack_machine.specs.Safe.{IsSound}

@@ -1,10 +1,10 @@
 -- A routine's start stands behind no tick: it belongs to another routine than the place before it.
-use Rattle.std.proofs.Common.{◌≡◌, ℕ, zero, suc, ◌+◌, ◌-◌, ◌<◌, ◌≤◌, Bool, true, false, not, ◌&&◌, ◌||◌, eqb, leb, ltb, cond, List, [], ◌∷◌, length, get_or, refl, sym, ◌∙◌, ap, arith, inl, inr, add-one}
+use Rattle.std.proofs.Common.{◌≡◌, ℕ, zero, suc, ◌+◌, ◌-◌, ◌<◌, ◌≤◌, Bool, true, false, not, ◌&&◌, ◌||◌, eqb, leb, cond, List, [], ◌∷◌, length, get_or, refl, sym, ◌∙◌, ap, arith}
 use Rattle.std.proofs.lemmas.List.Recursion.{is_count_by}
 use Rattle.std.proofs.lemmas.Bool.{false≢true, le-leb, lt-leb, leb-true, ltb-true, eqb-true, ne_eqb, and_parts, and_left, and_right}
 use Rattle.stack_code.specs.declared.instr.RoutineInfo.{RoutineInfo}
 use Rattle.stack_code.specs.CodeLists.{CodeLists, routine_at, no_routine, instr_at}
-use Rattle.stack_code.specs.Rules.{IsGood, routine_of, routine_is_good, starts_well, is_target, is_tick, is_jump, is_behind_tick}
+use Rattle.stack_code.specs.Rules.{IsGood, routine_of, starts_well, is_target, is_tick, is_jump, is_behind_tick}
 use Rattle.stack_code.proofs.StraightLine.{is_behind_tick_next}
 
 -- how many of these routines start at a place or before

@@ -1,11 +1,9 @@
 -- What the instructions that are still to come weigh, and how the weight falls from one to the next.
-use Rattle.std.proofs.Common.{◌≡◌, ℕ, zero, suc, ◌+◌, ◌-◌, ◌*◌, ◌<◌, ◌≤◌, Bool, true, false, not, ◌⊎◌, ◌&&◌, ◌||◌, eqb, List, [], ◌∷◌, length, get_or, refl, sym, ◌∙◌, ap, arith, inl, inr, add-one}
+use Rattle.std.proofs.Common.{◌≡◌, ℕ, zero, suc, ◌+◌, ◌-◌, ◌*◌, ◌<◌, ◌≤◌, Bool, true, false, not, ◌⊎◌, ◌&&◌, ◌||◌, eqb, List, [], ◌∷◌, length, refl, sym, ◌∙◌, ap, arith, inl, inr, add-one}
 use Rattle.std.proofs.lemmas.Bool.{false≢true}
 use Rattle.std.proofs.Math.Nat.{suc-mul, mul-le-mul_right, le-mul_of_pos_right}
-use Rattle.std.proofs.lemmas.Bool.{eq-eqb, ltb-true, eqb-true, and_parts, cases_Bool}
-use Rattle.std.proofs.lemmas.List.Folds.{list_any_at}
-use Rattle.stack_code.specs.declared.table.Op.{Op}
-use Rattle.stack_code.specs.CodeLists.{CodeLists, instr_at, no_instr}
+use Rattle.std.proofs.lemmas.Bool.{and_parts}
+use Rattle.stack_code.specs.CodeLists.{CodeLists, instr_at}
 use Rattle.stack_code.specs.Rules.{routine_of, is_target, is_tick, is_jump, is_behind_tick}
 use Rattle.stack_code.proofs.StraightLine.{is_behind_tick_next, is_behind_tick_start}
 use Rattle.stack_machine.specs.declared.activation.Activation.{Activation}

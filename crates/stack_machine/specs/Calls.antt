@@ -1,5 +1,5 @@
 -- The calls of a program, and what a reply makes of it.
-use Rattle.std.specs.Prelude.{ℕ, ◌+◌, ◌-◌, Bool, true, false, ◌&&◌, nat_lt, nat_le, if◌then◌else◌, List, [], ◌∷◌, ◌++◌, length, take, drop, map, Option, Some, None, ℤ, pos, int_le, unsigned_abs, ◌≡◌, ◌==◌}
+use Rattle.std.specs.Prelude.{ℕ, ◌+◌, ◌-◌, Bool, ◌&&◌, nat_le, if◌then◌else◌, List, [], ◌∷◌, length, take, drop, map, Option, Some, None, ℤ, pos, int_le, unsigned_abs}
 use Rattle.std.specs.List.{list_all}
 use Rattle.solo_base.specs.declared.outcome.ProgResult.TheVariants as result
 use Rattle.solo_base.specs.declared.system_call.SysCall.{SysCall}
@@ -11,7 +11,7 @@ use Rattle.stack_code.specs.declared.interface.Procedure.TheVariants as row
 use Rattle.stack_code.specs.Interface.{procedure_at, call_row_of}
 use Rattle.stack_code.specs.CodeLists.{CodeLists, routine_at}
 use Rattle.stack_machine.specs.declared.state.State.{State}
-use Rattle.stack_machine.specs.State.{Next, Goes, Asks, Stops, Lacks, stop, advance, words_of, with_words}
+use Rattle.stack_machine.specs.State.{Next, Asks, Lacks, stop, words_of}
 
 -- a word that is a byte
 abbrev pub is_byte : ℤ → Bool

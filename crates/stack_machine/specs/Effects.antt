@@ -1,5 +1,5 @@
 -- The rows of the table: what each instruction does.
-use Rattle.std.specs.Prelude.{ℕ, zero, suc, ◌+◌, ◌-◌, ◌*◌, Bool, true, false, not, ◌&&◌, ◌||◌, nat_lt, nat_le, if◌then◌else◌, List, [], ◌∷◌, ◌++◌, length, take, drop, reverse, replicate, slice_get, slice_set, Option, Some, None, ℤ, pos, negsuc, ◌+ℤ◌, ◌-ℤ◌, ◌*ℤ◌, neg_ℤ, unsigned_abs, int_le, int_lt, int_div, int_rem}
+use Rattle.std.specs.Prelude.{ℕ, ◌+◌, ◌-◌, ◌*◌, Bool, not, ◌&&◌, nat_lt, nat_le, if◌then◌else◌, List, [], ◌∷◌, ◌++◌, length, take, slice_get, slice_set, Option, Some, None, ℤ, pos, negsuc, ◌+ℤ◌, ◌-ℤ◌, ◌*ℤ◌, int_le, int_div, int_rem}
 use Rattle.std.specs.Ordering.{int_eq}
 use Rattle.std.specs.Int.{w16, cast_signed}
 use Rattle.solo_base.specs.declared.outcome.ProgResult.TheVariants as result
@@ -8,7 +8,7 @@ use Rattle.stack_code.specs.CodeLists.{CodeLists, routine_at}
 use Rattle.stack_machine.specs.declared.activation.Activation.{Activation}
 use Rattle.stack_machine.specs.declared.state.State.{State}
 use Rattle.stack_machine.specs.Activations.{opened, waiting_caller}
-use Rattle.stack_machine.specs.State.{Next, Goes, Asks, Stops, Lacks, stop, advance, jump_to, has_room, push, words_of, with_words}
+use Rattle.stack_machine.specs.State.{Next, Goes, Stops, Lacks, stop, advance, jump_to, has_room, push, words_of, with_words}
 
 -- ---- Words to and from frames
 

@@ -1,23 +1,18 @@
 -- The machine: its table, its first state, and what becomes of it by a reply.
-use Rattle.std.specs.Prelude.{◌≡◌, ℕ, zero, suc, ◌+◌, ◌-◌, Bool, true, false, not, ◌&&◌, ◌||◌, List, [], ◌∷◌, ◌++◌, length, take, drop, replicate, slice_get, Option, Some, None, ℤ, pos, negsuc, ◌+ℤ◌, neg_ℤ, unsigned_abs, int_le, int_lt}
-use Rattle.std.specs.Ordering.{int_eq}
+use Rattle.std.specs.Prelude.{ℕ, ◌+◌, Bool, true, false, List, [], ◌++◌, length, take, drop, replicate, slice_get, Option, Some, None, ℤ, pos}
 use Rattle.std.specs.Int.{w16, cast_signed}
 use Rattle.solo_base.specs.declared.outcome.ProgResult.TheVariants as result
-use Rattle.solo_base.specs.declared.system_call.SysCall.{SysCall}
 use Rattle.solo_base.specs.declared.system_call.SysReply.{SysReply}
 use Rattle.solo_base.specs.declared.system_call.SysReply.TheVariants as replies
 use Rattle.stack_code.specs.declared.table.Op.{Op}
 use Rattle.stack_code.specs.declared.table.Op.TheVariants as op
 use Rattle.stack_code.specs.declared.instr.Instr.{Instr}
-use Rattle.stack_code.specs.declared.interface.Procedure.{Procedure}
-use Rattle.stack_code.specs.Interface.{procedure_at, call_row_of}
 use Rattle.stack_code.specs.CodeLists.{CodeLists, routine_at, instr_at}
 use Rattle.stack_code.specs.Rules.{pops}
-use Rattle.stack_machine.specs.declared.activation.Activation.{Activation}
 use Rattle.stack_machine.specs.declared.state.Finish.{Finish}
 use Rattle.stack_machine.specs.declared.state.State.{State}
-use Rattle.stack_machine.specs.State.{Next, Goes, Asks, Stops, Lacks, stop, advance, jump_to, push, words_of, with_words}
-use Rattle.stack_machine.specs.Effects.{load, store, load_at, store_at, fit, sum, difference, product, quotient, remainder, truth, holds, unary, binary, index, chr, jump_false, tick, call, leave}
+use Rattle.stack_machine.specs.State.{Next, Goes, Stops, Lacks, stop, advance, jump_to, push, words_of, with_words}
+use Rattle.stack_machine.specs.Effects.{load, store, load_at, store_at, unary, binary, index, chr, jump_false, tick, call, leave}
 use Rattle.stack_machine.specs.Operators.{unary_of, binary_of}
 use Rattle.stack_machine.specs.Calls.{sys, results_in, array_in, ticks_in}
 

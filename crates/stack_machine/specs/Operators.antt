@@ -1,5 +1,5 @@
 -- What each operator of one or two operands gives.
-use Rattle.std.specs.Prelude.{Bool, not, ◌&&◌, ◌||◌, Option, Some, None, ℤ, pos, negsuc, ◌+ℤ◌, neg_ℤ, unsigned_abs, int_le, int_lt}
+use Rattle.std.specs.Prelude.{not, ◌&&◌, ◌||◌, Option, Some, None, ℤ, pos, negsuc, ◌+ℤ◌, neg_ℤ, unsigned_abs, int_le, int_lt}
 use Rattle.std.specs.Ordering.{int_eq}
 use Rattle.stack_code.specs.declared.table.Op.{Op}
 use Rattle.stack_code.specs.declared.table.Op.TheVariants as op

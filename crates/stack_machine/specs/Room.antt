@@ -1,5 +1,5 @@
 -- Room for what a reply gives.
-use Rattle.std.specs.Prelude.{◌≡◌, ℕ, ◌+◌, ◌-◌, ◌<◌, ◌≤◌, ◌^◌, length}
+use Rattle.std.specs.Prelude.{◌≡◌, ◌+◌, ◌-◌, ◌<◌, ◌≤◌, ◌^◌, length}
 use Rattle.solo_base.specs.declared.system_call.SysReply.{SysReply}
 use Rattle.solo_base.specs.declared.system_call.SysReply.TheVariants as replies
 use Rattle.stack_code.specs.declared.instr.Instr.{Instr}

@@ -1,5 +1,5 @@
 -- A whole run: the calls that a program makes, and how it ends.
-use Rattle.std.specs.Prelude.{◌≡◌, ℕ, zero, suc, List, [], ◌∷◌, ◌++◌, Option, Some, None}
+use Rattle.std.specs.Prelude.{◌≡◌, ℕ, zero, suc, List, [], ◌∷◌, ◌++◌, Some}
 use Rattle.solo_base.specs.declared.outcome.ProgResult.{ProgResult}
 use Rattle.solo_base.specs.declared.system_call.SysCall.{SysCall}
 use Rattle.solo_base.specs.declared.system_call.SysReply.{SysReply}
@@ -7,7 +7,7 @@ use Rattle.stack_code.specs.CodeLists.{CodeLists}
 use Rattle.stack_machine.specs.declared.state.State.{State}
 use Rattle.stack_machine.specs.declared.running.Pause.{Pause}
 use Rattle.stack_machine.specs.declared.running.Pause.TheVariants as pause
-use Rattle.stack_machine.specs.State.{Next, Goes, Asks, Stops, Lacks}
+use Rattle.stack_machine.specs.State.{Goes, Asks, Stops}
 use Rattle.stack_machine.specs.Machine.{next, start_state, answered}
 use Rattle.stack_machine.specs.Fits.{Fits}
 

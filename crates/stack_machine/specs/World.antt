@@ -1,11 +1,11 @@
 -- A program in a world that answers its calls.
-use Rattle.std.specs.Prelude.{◌≡◌, ℕ, ◌≤◌, List, [], ◌∷◌, ◌++◌, Result, Ok, Err, Option, Some}
+use Rattle.std.specs.Prelude.{◌≡◌, ℕ, ◌≤◌, List, [], ◌∷◌, ◌++◌, Result, Ok, Err, Some}
 use Rattle.solo_base.specs.declared.system_call.SysCall.{SysCall}
 use Rattle.solo_base.specs.declared.system_call.SysReply.{SysReply}
 use Rattle.stack_code.specs.CodeLists.{CodeLists}
 use Rattle.stack_machine.specs.declared.state.Finish.{Finish}
 use Rattle.stack_machine.specs.declared.state.State.{State}
-use Rattle.stack_machine.specs.State.{Next, Asks}
+use Rattle.stack_machine.specs.State.{Asks}
 use Rattle.stack_machine.specs.Machine.{next}
 use Rattle.stack_machine.specs.Fits.{Fits}
 use Rattle.stack_machine.specs.Run.{Ends, Waits, RunsFrom}

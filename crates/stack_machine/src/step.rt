@@ -21,7 +21,13 @@ impl State {
         requires { calls instr.op ≡ true }
         ensures { asked result self.now ≡ effect code.now limit self.now instr.op instr.a instr.b }
     {
-        self.sys(code, limit, uses_program(instr.op), instr.a, array_start(instr))
+        self.sys(
+            code,
+            limit,
+            uses_program(instr.op),
+            instr.a,
+            array_start(instr),
+        )
     }
 
     /// An instruction that makes no call.

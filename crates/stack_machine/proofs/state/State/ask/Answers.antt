@@ -1,4 +1,4 @@
-use Rattle.std.proofs.Common.{◌∙◌, rules}
+use Rattle.std.proofs.Common.{◌∙◌}
 use Rattle.stack_machine.proofs.CallEffect.{call_effect}
 use Rattle.stack_machine.proofs.state.State.ask.Goals as goal
 

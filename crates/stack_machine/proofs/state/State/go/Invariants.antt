@@ -1,7 +1,4 @@
 -- The instructions so far lead from the beginning to now, and the program goes on.
-use Rattle.std.proofs.Common.{◌≡◌, None, ℕ}
-use Rattle.stack_machine.specs.Safe.{IsSound, IsRunning}
-use Rattle.stack_machine.specs.Run.{Moves}
 use Rattle.stack_machine.proofs.Weights.{left_to_run}
 use Rattle.stack_machine.proofs.Onward.{IsUnderWay}
 use Rattle.stack_machine.proofs.state.State.go.Given as goal

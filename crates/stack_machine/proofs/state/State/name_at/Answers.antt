@@ -1,4 +1,4 @@
-use Rattle.std.proofs.Common.{◌+◌, ◌∙◌, pos}
+use Rattle.std.proofs.Common.{◌+◌, ◌∙◌}
 use Rattle.std.proofs.lemmas.List.{length-set}
 use Rattle.stack_machine.specs.State.{words_of}
 use Rattle.stack_machine.proofs.Parts.{read_word, copied, whole_part}

@@ -1,4 +1,4 @@
-use Rattle.std.proofs.Common.{◌+◌, ◌∙◌, pos, sym}
+use Rattle.std.proofs.Common.{◌+◌, ◌∙◌, sym}
 use Rattle.std.proofs.lemmas.List.{length-set}
 use Rattle.stack_machine.specs.State.{words_of}
 use Rattle.stack_machine.proofs.Parts.{read_word}
