@@ -21,3 +21,7 @@ mod Printing
 mod Taking
 mod Pages
 mod Underway
+mod Concludes
+mod Waits
+mod Idle
+mod NeverStuck

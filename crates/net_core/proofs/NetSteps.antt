@@ -32,7 +32,7 @@ use Rattle.net_core.proofs.JobSteps as steps
 use Rattle.net_core.proofs.OutputActs as prints
 
 -- ---- the input process: its next action is enabled exactly where an event of its own is
-failure-given : (deck : Option (List Item)) → Gives deck read.Failed
+pub failure-given : (deck : Option (List Item)) → Gives deck read.Failed
 failure-given deck = record { item = λ items told. (items, refl); end = λ items told e. absurd cc }
 
 input-event : (to : InputPhase) (page : Page) (s : State) → input_process.IsAtPhase to page s.input → input_process.MayAct to s.first.slot → MayStep s input_number

@@ -21,3 +21,5 @@ pub mod EveryInterleaving
 pub mod Network
 pub mod Prints
 pub mod Turns
+pub mod Stuck
+pub mod Waiting

@@ -17,7 +17,7 @@ mod stepped;
 #[cfg(test)]
 mod tests;
 
-pub use interleavings::every_interleaving;
+pub use interleavings::{every_interleaving, no_state_is_stuck};
 pub use listing::{Listed, run_lists};
 pub use net::{Net, Ran, Units};
 pub use plain_page::{PAGE_ITEMS, PlainPage};
