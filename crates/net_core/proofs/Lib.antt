@@ -25,3 +25,4 @@ mod Concludes
 mod Waits
 mod Idle
 mod NeverStuck
+mod NetFirst

@@ -1,4 +1,4 @@
-ghost use Rattle.std.specs.Prelude.{◌≡◌, ◌≤◌, ◌↔◌, ℕ, List, [], ◌∷◌, Option, Some, length, take, slice_get, IsTrue, IfSome, IfNone};
+ghost use Rattle.std.specs.Prelude.{◌≡◌, ◌≤◌, ◌<◌, ◌↔◌, ℕ, List, [], ◌∷◌, Option, Some, length, take, slice_get, IsTrue, IsNone, IfSome, IfNone};
 ghost use Rattle.solo_base.specs.declared.item.Item.{Item};
 ghost use Rattle.solo_devices.specs.CardUnit.{fresh_unit, items_ahead};
 ghost use Rattle.solo_devices.specs.PrinterUnit.{fresh_printer};
@@ -97,6 +97,25 @@ impl<S: Source, K: Sink> Net<S, K> {
         }
     }
 
+    /// The process with the least number of which an event may happen. Until all processes have ended there
+    /// is one: a network is never stuck.
+    pub fn first_enabled(&self) -> Option<ProcNo>
+        ensures enabled { IfSome result (λ p. (s : State) → Stands S.left K.given self.now s → MayStep s p) }
+        ensures least { IfSome result (λ p. (s : State) → Stands S.left K.given self.now s → (before : ℕ) → before < p → MayStep s before → ⊥) }
+        ensures ended { (s : State) → Stands S.left K.given self.now s → (IsNone result ↔ HasEnded s) }
+    {
+        if self.ended() {
+            return None;
+        }
+        'asking: for p in INPUT..=OUTPUT {
+            if self.enabled(p) {
+                return Some(p);
+            }
+        }
+        // no state that can be reached is stuck
+        unreachable!()
+    }
+
     /// Lets an event of this process happen.
     pub fn step(&mut self, p: ProcNo) -> Stepped
         requires enabled { (s : State) → Stands S.left K.given self.old s → MayStep s p }
@@ -134,7 +153,8 @@ impl<S: Source, K: Sink> Net<S, K> {
 
     /// Whether all processes have ended.
     pub fn ended(&self) -> bool
-        ensures { (s : State) → Stands S.left K.given self.now s → (IsTrue result ↔ HasEnded s) }
+        ensures exact { (s : State) → Stands S.left K.given self.now s → (IsTrue result ↔ HasEnded s) }
+        ensures reached { StandsForReached S.left K.given self.now }
     {
         outcomes(&self.input, &self.job, &self.output).is_some()
     }
