@@ -23,3 +23,4 @@ pub mod Rounds
 pub mod Pauses
 pub mod Outcomes
 pub mod CallEffect
+pub mod Histories

@@ -11,3 +11,4 @@ pub mod Room
 pub mod Standing
 pub mod World
 pub mod Laws
+pub mod History

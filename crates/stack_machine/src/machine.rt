@@ -1,8 +1,11 @@
-ghost use Rattle.std.specs.Prelude.{◌≡◌, ◌≤◌, IfOk, IfErr};
+ghost use Rattle.std.specs.Prelude.{◌≡◌, ◌≤◌, List, [], ◌∷◌, ◌++◌, IfOk, IfErr};
+ghost use Rattle.solo_base.specs.declared.system_call.SysCall.{SysCall};
+ghost use Rattle.solo_base.specs.declared.system_call.SysReply.{SysReply};
 ghost use Rattle.stack_machine.specs.declared.running.Pause.TheVariants.{Finished};
 ghost use Rattle.stack_machine.specs.declared.state.Finish.{Finish};
-ghost use Rattle.stack_machine.specs.Machine.{start_state, answered};
-ghost use Rattle.stack_machine.specs.Run.{Pauses};
+ghost use Rattle.stack_machine.specs.State.{Asks};
+ghost use Rattle.stack_machine.specs.Machine.{next, start_state, answered};
+ghost use Rattle.stack_machine.specs.Run.{Pauses, Runs};
 ghost use Rattle.stack_machine.specs.World.{RanToEnd, BrokeOff};
 
 use crate::activation::Activation;
@@ -38,10 +41,12 @@ impl Model for Machine {
 
 impl Machine {
     ghost use Rattle.stack_machine.specs.Standing.{Standing, StandsWell, Awaits};
+    ghost use Rattle.stack_machine.specs.History.{StandsFor, outcome_at};
 
     /// The machine at the program's first instruction. A refusal drops the code.
     pub fn make(alloc: Global, code: Verified, limit: u32) -> Result<Machine, NoMemory>
-        ensures { IfOk result (λ machine. machine ≡ record { code = code; limit = limit; state = start_state code }) }
+        ensures state { IfOk result (λ machine. machine ≡ record { code = code; limit = limit; state = start_state code }) }
+        ensures history { IfOk result (λ machine. StandsFor machine [] []) }
     {
         let mut words = Frame::new(alloc)?;
         words.begin(&[], routine_at(&code, 0).words as usize);
@@ -65,6 +70,8 @@ impl Machine {
     /// that ended stays so.
     pub fn go(&mut self) -> Pause
         ensures pauses { Pauses self.old.code self.old.limit self.old.state result self.new.state }
+        ensures runs { (replies : List SysReply) (calls : List SysCall) → StandsFor self.old replies calls → Runs self.old.code self.old.limit replies (outcome_at result calls) }
+        ensures history { (replies : List SysReply) (calls : List SysCall) → StandsFor self.old replies calls → StandsFor self.new replies calls }
         ensures code { self.new.code ≡ self.old.code }
         ensures limit { self.new.limit ≡ self.old.limit }
         ensures ticks { (finish : Finish) → result ≡ Finished finish → finish.ticks ≤ self.new.limit }
@@ -77,6 +84,7 @@ impl Machine {
     pub fn answer(&mut self, reply: SysReply)
         requires { Awaits self.old reply }
         ensures answered { self.new ≡ record self.old { state = answered self.old.code self.old.state reply } }
+        ensures history { (replies : List SysReply) (calls : List SysCall) (call : SysCall) → next self.old.code self.old.limit self.old.state ≡ Asks call self.old.state → StandsFor self.old replies calls → StandsFor self.new (replies ++ reply ∷ []) (calls ++ call ∷ []) }
         ensures well { StandsWell self.new }
     {
         self.state.answer(&self.code, reply);

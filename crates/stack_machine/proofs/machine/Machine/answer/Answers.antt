@@ -1,5 +1,10 @@
-use Rattle.std.proofs.Common.{sym, subst}
-use Rattle.stack_machine.specs.Standing.{Awaits}
+use Rattle.std.proofs.Common.{◌≡◌, sym, subst, [], ◌∷◌, ◌++◌}
+use Rattle.stack_machine.specs.declared.state.State.{State}
+use Rattle.stack_machine.specs.State.{Asks}
+use Rattle.stack_machine.specs.Machine.{next}
+use Rattle.stack_machine.specs.Standing.{Standing, Awaits}
+use Rattle.stack_machine.specs.History.{StandsFor}
+use Rattle.stack_machine.proofs.Histories.{stands_answered}
 use Rattle.stack_machine.proofs.Reply.{room_in, stands_on}
 use Rattle.stack_machine.proofs.machine.Machine.answer.Goals as goal
 
@@ -11,3 +16,11 @@ invariant_of-self c = stands_on _ c.args.reply c.answer.new.self c.self.invarian
 
 pub returns-clause-well : goal.returns-clause-well
 returns-clause-well c = stands_on _ c.args.reply c.answer.new.self c.self.invariant (subst (λ m. Awaits m c.args.reply) (sym c.self.view_is) c.requires) c.answer.ensures
+
+pub returns-clause-history : goal.returns-clause-history
+returns-clause-history c =
+    λ replies calls call asks stands.
+    let before : Standing = record { code = c.self.inside.code; limit = c.self.inside.limit; state = c.self.inside.state } in
+    let there = subst (λ (m : Standing). next m.code m.limit m.state ≡ Asks call m.state) (sym c.self.view_is) asks in
+    subst (λ (t : State). StandsFor (record before { state = t }) (replies ++ c.args.reply ∷ []) (calls ++ call ∷ [])) (sym c.answer.ensures)
+    (stands_answered before call c.args.reply replies calls there (subst (λ m. StandsFor m replies calls) (sym c.self.view_is) stands))
