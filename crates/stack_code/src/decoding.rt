@@ -13,9 +13,10 @@ pub fn decode(alloc: Global, bytes: &[u8]) -> Result<Code, CodeFault>
     ensures read { IfOk result (λ code. bytes.now ≡ code_bytes code) }
     // What is written so is read, unless memory runs out.
     ensures only { (c : CodeLists) → IsCode c → FitsItsFields c → bytes.now ≡ code_bytes c → MatchResult result (λ code. code ≡ c) (λ fault. fault ≡ NoMemory) }
-    // A fault is at the least wrong byte, and there is none where code is read.
+    // A fault is at the least wrong byte, and there is none where code is read. Want of memory hides none.
     ensures right { IfOk result (λ _. wrong_byte bytes.now ≡ None) }
     ensures wrong { (at : ℕ) → result ≡ Err (BadCode at) → wrong_byte bytes.now ≡ Some at }
+    ensures told { (at : ℕ) → wrong_byte bytes.now ≡ Some at → result ≡ Err (BadCode at) }
 {
     if let Some(at) = wrong_byte(bytes) {
         return Err(CodeFault::BadCode { at });
