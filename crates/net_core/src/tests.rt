@@ -77,15 +77,13 @@ impl Schedule {
     }
 }
 
-/// Runs a deck under a schedule until no process is enabled, where the listed reads of the deck and writes
-/// of the paper fail, and gives how the network ended and its steps.
-fn run(
+/// A network with this deck, where the listed reads of the deck and writes of the paper fail.
+fn network(
     alloc: Global,
     deck: &str,
-    schedule: Schedule,
     failing_reads: &[u64],
     failing_writes: &[u64],
-) -> Result<(Ended, Vec<Stepped>), Fail> {
+) -> Result<Network, Fail> {
     let source = MemSource::new(
         deck.as_bytes().to_vec(alloc)?,
         7,
@@ -96,7 +94,19 @@ fn run(
         deck: CardUnit::new(source),
         paper: PrinterUnit::new(sink),
     };
-    let mut net = Net::make(alloc, units);
+    Ok(Net::make(alloc, units))
+}
+
+/// Runs a deck under a schedule until no process is enabled, where the listed reads of the deck and writes
+/// of the paper fail, and gives how the network ended and its steps.
+fn run(
+    alloc: Global,
+    deck: &str,
+    schedule: Schedule,
+    failing_reads: &[u64],
+    failing_writes: &[u64],
+) -> Result<(Ended, Vec<Stepped>), Fail> {
+    let mut net = network(alloc, deck, failing_reads, failing_writes)?;
     let steps = run_to_end(alloc, &mut net, schedule)?;
     if !net.ended() {
         return Err("a process has not ended".into());
@@ -276,5 +286,48 @@ fn a_run_stops_at_the_first_that_is_not_enabled(rt: HostRuntime) -> Result<(), F
     assert_eq!(rt; net.run(&[2, 1, 2, 1]), 2);
     assert_eq!(rt; net.run(&[1, 2, 2, 1, 2, 3, 3]), 7);
     assert!(rt; net.ended());
+    Ok(())
+}
+
+/// Lets always the first enabled process step until there is none, and gives how many steps these were.
+fn step_first(net: &mut Network) -> usize {
+    for count in 0..1000usize {
+        let Some(p) = net.first_enabled() else {
+            return count;
+        };
+        net.step(p);
+    }
+    1000
+}
+
+#[test]
+fn the_first_enabled_process_leads_to_the_end(rt: HostRuntime) -> Result<(), Fail> {
+    let alloc = rt.alloc();
+    for (deck, events) in [(LISTING.0, 15), (MIXED.0, 94), (FOUR.0, 48)] {
+        let mut net = network(alloc, deck, &[], &[])?;
+        assert_eq!(rt; net.first_enabled(), Some(1));
+        assert_eq!(rt; step_first(&mut net), events);
+        assert!(rt; net.ended());
+    }
+    for call in 1..30u64 {
+        let mut reads = network(alloc, LONG.0, &[call], &[])?;
+        step_first(&mut reads);
+        assert!(rt; reads.ended(), "{call}");
+        let mut writes = network(alloc, LONG.0, &[], &[call])?;
+        step_first(&mut writes);
+        assert!(rt; writes.ended(), "{call}");
+    }
+    Ok(())
+}
+
+#[test]
+fn who_waits_is_not_the_first(rt: HostRuntime) -> Result<(), Fail> {
+    let mut net = network(rt.alloc(), LONG.0, &[], &[])?;
+    // the input process puts a page of six cards, and waits with the next
+    assert_eq!(rt; net.run(&[1; 15]), 14);
+    assert_eq!(rt; net.first_enabled(), Some(2));
+    // once the page is taken, it goes on
+    assert_eq!(rt; net.run(&[2]), 1);
+    assert_eq!(rt; net.first_enabled(), Some(1));
     Ok(())
 }
