@@ -25,7 +25,8 @@ without_return (code ∷ next ∷ rest) = code ∷ without_return (next ∷ rest
 
 -- at most 80 columns that print are a card, without the blanks at its end; anything else is spoiled
 abbrev pub judged : List ℕ → Item
-judged columns = if nat_le (length columns) 80 && list_all is_printable columns then Line (trimmed columns) else Spoiled
+judged columns =
+    if nat_le (length columns) 80 && list_all is_printable columns then Line (trimmed columns) else Spoiled
 
 -- what one line of the text gives
 abbrev pub card_of : List ℕ → Item

@@ -33,7 +33,8 @@ padded name = name ++ replicate (12 - length name) 32
 
 -- the identifier that these bytes spell: `sum` gives `SUM` and nine blanks, `2X` gives none
 abbrev pub identifier : List ℕ → Option (List ℕ)
-identifier bytes = if nat_le (length bytes) 12 && is_name bytes then Some (padded (map capital bytes)) else None
+identifier bytes =
+    if nat_le (length bytes) 12 && is_name bytes then Some (padded (map capital bytes)) else None
 
 -- what each identifier keeps: it is the identifier of itself without its blanks
 abbrev pub IsIdent : List ℕ → Type 0

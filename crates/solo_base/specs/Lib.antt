@@ -4,3 +4,9 @@ pub mod Text
 pub mod Blanks
 pub mod Ident
 pub mod Card
+pub mod PageBytes
+pub mod Arithmetic
+pub mod Interface
+pub mod Replies
+pub mod Fits
+pub mod RunOutcome

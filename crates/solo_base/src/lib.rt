@@ -1,9 +1,10 @@
 //! The words in which the parts of Solo and of the Job Stream System speak to each other: lines,
-//! cards, identifiers, pages, calls of a program, and how a process ends.
+//! cards, identifiers, pages, calls of a program and what they take and give, and how a process ends.
 #![tactic(auto)]
 
 mod blanks;
 mod ident;
+mod interface;
 mod item;
 mod line;
 mod line_list;
@@ -14,12 +15,13 @@ mod system_call;
 
 pub use blanks::trim_end;
 pub use ident::{IDENT_LENGTH, Ident, capital, is_letter, is_letter_or_digit};
+pub use interface::{CallRow, Procedure, call_row};
 pub use item::{CARD_LENGTH, Feed, Item};
 pub use line::{LINE_LENGTH, Line, NUMBER_LENGTH, all_printable, is_printable};
 pub use line_list::LineList;
 pub use no_memory::NoMemory;
 pub use outcome::{BufferNo, Cause, Outcome, ProcNo, ProgResult, Side};
-pub use page::{PAGE_LENGTH, Page};
+pub use page::{PAGE_LENGTH, Page, number_at};
 pub use system_call::{Arg, SysCall, SysReply};
 
 #[cfg(test)]
