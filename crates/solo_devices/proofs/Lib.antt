@@ -3,3 +3,4 @@ mod Cutting
 mod Reading
 mod Giving
 mod Spoiling
+mod Harming

@@ -1,7 +1,9 @@
 -- What reading and writing a page of an area does. An area may tell its pages, or tell nothing.
 use Rattle.std.specs.Prelude.{◌≡◌, ◌≢◌, ℕ, ◌≤◌, List, length, slice_get, slice_set, Option, Some, None}
+use Rattle.std.specs.List.{All}
 use Rattle.solo_base.specs.declared.page.Page.{Page}
-use Rattle.solo_devices.specs.Count.{Rose}
+use Rattle.solo_base.specs.declared.page.TheConstants.{PAGE_LENGTH}
+use Rattle.solo_devices.specs.Count.{Rose, last_count}
 use Rattle.solo_devices.specs.declared.area.Moved.{Moved}
 use Rattle.solo_devices.specs.declared.area.Moved.TheVariants.{Done, Failed}
 
@@ -29,14 +31,22 @@ pub record Writes (before now : Option (List (List ℕ))) (n : ℕ) (answer : Mo
   pub told : (pages : List (List ℕ)) → before ≡ Some pages → WritesTo pages now n answer page
   pub untold : before ≡ None → now ≡ None
 
--- a failure is counted
+-- a failure is counted, and the count stands still at its last value
 pub record CountsFaults (before now : ℕ) (answer : Moved) : Type 0 where
   pub later : before ≤ now
+  pub stays : before ≤ last_count → now ≤ last_count
   pub failed : answer ≡ Failed → Rose before now
 
--- an area that tells its pages tells as many as its size
+-- each of these pages has as many bytes as a page
+abbrev pub AreWhole : List (List ℕ) → Type 0
+AreWhole pages = All (λ page. length page ≡ PAGE_LENGTH) pages
+
+-- an area that tells its pages tells as many as its size, and whole ones
 abbrev pub HasSize : Option (List (List ℕ)) → ℕ → Type 0
 HasSize pages size = (told : List (List ℕ)) → pages ≡ Some told → length told ≡ size
+
+abbrev pub HasWholePages : Option (List (List ℕ)) → Type 0
+HasWholePages pages = (told : List (List ℕ)) → pages ≡ Some told → AreWhole told
 
 -- the bytes of a page
 abbrev pub page_bytes : Page → List ℕ

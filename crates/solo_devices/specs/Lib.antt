@@ -1,9 +1,12 @@
 pub use Rattle.solo_base.specs.Text
 pub use Rattle.solo_base.specs.Card
 pub mod Count
+pub mod FailingCalls
+pub mod InMemory
 pub mod Source
 pub mod Sink
 pub mod Area
 pub mod CardUnit
 pub mod Reader
 pub mod PrinterUnit
+pub mod HurtArea

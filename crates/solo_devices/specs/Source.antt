@@ -1,6 +1,6 @@
 -- What a take from a source does. A source may tell the bytes that it has left, or tell nothing.
 use Rattle.std.specs.Prelude.{◌≡◌, ℕ, ◌≤◌, ◌<◌, List, [], length, take, drop, Option, Some, None}
-use Rattle.solo_devices.specs.Count.{Rose}
+use Rattle.solo_devices.specs.Count.{Rose, last_count}
 use Rattle.solo_devices.specs.declared.source.Took.{Took}
 use Rattle.solo_devices.specs.declared.source.Took.TheVariants.{Bytes, Failed}
 
@@ -32,7 +32,8 @@ abbrev pub bytes_taken : Took → ℕ
 bytes_taken (Bytes n) = n
 bytes_taken Failed = 0
 
--- a failure is counted
+-- a failure is counted, and the count stands still at its last value
 pub record CountsFaults (before now : ℕ) (answer : Took) : Type 0 where
   pub later : before ≤ now
+  pub stays : before ≤ last_count → now ≤ last_count
   pub failed : answer ≡ Failed → Rose before now

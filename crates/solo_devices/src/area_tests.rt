@@ -1,4 +1,4 @@
-use crate::{Area, BlankArea, MemArea, Moved};
+use crate::{Area, BlankArea, HurtArea, MemArea, Moved, SureArea};
 use solo_base::Page;
 use std::test::Fail;
 
@@ -32,4 +32,22 @@ fn a_blank_area_reads_zero_pages(rt: HostRuntime) {
     assert_eq!(rt; area.write(0, &page), Moved::Done);
     assert_eq!(rt; area.read(0, &mut page), Moved::Done);
     assert!(rt; page.0.iter().all(|byte| *byte == 0));
+}
+
+#[test]
+fn one_read_of_a_hurt_area_gives_a_wrong_byte(rt: HostRuntime) {
+    let area = SureArea::new(rt.alloc(), 2)
+        .ok()
+        .expect(&rt, "ample memory");
+    let mut area = HurtArea::new(area, 2, 511, 9);
+    let mut page = Page([7; 512]);
+    assert_eq!(rt; area.size(), 2);
+    assert_eq!(rt; area.write(1, &page), Moved::Done);
+    assert_eq!(rt; area.read(1, &mut page), Moved::Done);
+    assert!(rt; page.0.iter().all(|byte| *byte == 7));
+    assert_eq!(rt; area.read(1, &mut page), Moved::Done);
+    assert_eq!(rt; page.0[510], 7);
+    assert_eq!(rt; page.0[511], 9);
+    assert_eq!(rt; area.read(1, &mut page), Moved::Done);
+    assert_eq!(rt; page.0[511], 7);
 }

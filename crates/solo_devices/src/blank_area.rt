@@ -1,6 +1,6 @@
-ghost use Rattle.std.specs.Prelude.{◌≡◌, None, replicate};
+ghost use Rattle.std.specs.Prelude.{◌≡◌, None};
+ghost use Rattle.solo_base.specs.PageBytes.{zero_page};
 
-use crate::sure_area::zero_page;
 use crate::{Area, Moved};
 use solo_base::Page;
 
@@ -33,10 +33,10 @@ impl Area for BlankArea {
 
     fn read(&mut self, _n: u16, page: &mut Page) -> Moved
         ensures done { result ≡ Moved.Done }
-        ensures zeros { page.new.0 ≡ replicate 512 0 }
+        ensures zeros { page.new.0 ≡ zero_page }
         ensures same { self.new ≡ self.old }
     {
-        *page = zero_page();
+        *page = Page::zeros();
         Moved::Done
     }
 

@@ -1,6 +1,10 @@
-ghost use Rattle.std.specs.Prelude.{◌≡◌, Some, replicate, IfOk};
+ghost use Rattle.std.specs.Prelude.{◌≡◌, ◌↔◌, ◌<◌, Some, replicate, IfOk};
+ghost use Rattle.solo_base.specs.PageBytes.{zero_page};
+ghost use Rattle.solo_devices.specs.Area.{ReadsFrom, Writes, CountsFaults, HasWholePages};
+ghost use Rattle.solo_devices.specs.FailingCalls.{FailsNext, fresh_calls, one_more};
+ghost use Rattle.solo_devices.specs.InMemory.{reads, writes};
 
-use crate::sure_area::zero_page;
+use crate::failing_calls::FailingCalls;
 use crate::{Area, Moved, SureArea};
 use solo_base::{NoMemory, Page};
 use std::alloc::Global;
@@ -10,10 +14,8 @@ use std::alloc::Global;
 #[derive(Debug, Drop)]
 pub struct MemArea {
     area: SureArea,
-    failing_reads: Vec<u64>,
-    failing_writes: Vec<u64>,
-    reads: u64,
-    writes: u64,
+    reads: FailingCalls,
+    writes: FailingCalls,
     faults: u64,
 }
 
@@ -25,16 +27,16 @@ impl MemArea {
         failing_reads: Vec<u64>,
         failing_writes: Vec<u64>,
     ) -> Result<MemArea, NoMemory>
-        ensures pages { IfOk result (λ area. ⟦<MemArea as Area>⟧.pages area ≡ Some (replicate pages (replicate 512 0))) }
+        ensures pages { IfOk result (λ area. ⟦<MemArea as Area>⟧.pages area ≡ Some (replicate pages zero_page)) }
         ensures size { IfOk result (λ area. ⟦<MemArea as Area>⟧.size area ≡ pages) }
         ensures faults { IfOk result (λ area. ⟦<MemArea as Area>⟧.faults area ≡ 0) }
+        ensures reads { IfOk result (λ area. reads area ≡ fresh_calls failing_reads.items) }
+        ensures writes { IfOk result (λ area. writes area ≡ fresh_calls failing_writes.items) }
     {
         Ok(MemArea {
             area: SureArea::new(alloc, pages)?,
-            failing_reads,
-            failing_writes,
-            reads: 0,
-            writes: 0,
+            reads: FailingCalls::new(failing_reads),
+            writes: FailingCalls::new(failing_writes),
             faults: 0,
         })
     }
@@ -58,21 +60,41 @@ impl Area for MemArea {
         self.area.size()
     }
 
-    fn read(&mut self, n: u16, page: &mut Page) -> Moved {
-        self.reads = self.reads.saturating_add(1);
-        if self.failing_reads.contains(&self.reads) {
+    fn read(&mut self, n: u16, page: &mut Page) -> Moved
+        requires { n < ⟦<MemArea as Area>⟧.size self.old }
+        // A read whose number is listed fails, and no other.
+        ensures fails { (result ≡ Moved.Failed) ↔ FailsNext (reads self.old) }
+        ensures counted { reads self.new ≡ one_more (reads self.old) }
+        ensures apart { writes self.new ≡ writes self.old }
+        // As the trait says.
+        ensures page { ReadsFrom (⟦<MemArea as Area>⟧.pages self.old) (⟦<MemArea as Area>⟧.pages self.new) n result page.new.0 }
+        ensures size { ⟦<MemArea as Area>⟧.size self.new ≡ ⟦<MemArea as Area>⟧.size self.old }
+        ensures whole { HasWholePages (⟦<MemArea as Area>⟧.pages self.new) }
+        ensures cause { CountsFaults (⟦<MemArea as Area>⟧.faults self.old) (⟦<MemArea as Area>⟧.faults self.new) result }
+    {
+        if self.reads.fails() {
             self.faults = self.faults.saturating_add(1);
-            *page = zero_page();
+            *page = Page::zeros();
             return Moved::Failed;
         }
         self.area.read(n, page)
     }
 
-    fn write(&mut self, n: u16, page: &Page) -> Moved {
-        self.writes = self.writes.saturating_add(1);
-        if self.failing_writes.contains(&self.writes) {
+    fn write(&mut self, n: u16, page: &Page) -> Moved
+        requires { n < ⟦<MemArea as Area>⟧.size self.old }
+        // A write whose number is listed fails, and no other.
+        ensures fails { (result ≡ Moved.Failed) ↔ FailsNext (writes self.old) }
+        ensures counted { writes self.new ≡ one_more (writes self.old) }
+        ensures apart { reads self.new ≡ reads self.old }
+        // As the trait says.
+        ensures page { Writes (⟦<MemArea as Area>⟧.pages self.old) (⟦<MemArea as Area>⟧.pages self.new) n result page.now.0 }
+        ensures size { ⟦<MemArea as Area>⟧.size self.new ≡ ⟦<MemArea as Area>⟧.size self.old }
+        ensures whole { HasWholePages (⟦<MemArea as Area>⟧.pages self.new) }
+        ensures cause { CountsFaults (⟦<MemArea as Area>⟧.faults self.old) (⟦<MemArea as Area>⟧.faults self.new) result }
+    {
+        if self.writes.fails() {
             self.faults = self.faults.saturating_add(1);
-            let _ = self.area.write(n, &zero_page());
+            let _ = self.area.write(n, &Page::zeros());
             return Moved::Failed;
         }
         self.area.write(n, page)

@@ -1,5 +1,9 @@
-ghost use Rattle.std.specs.Prelude.{◌≡◌, Some, []};
+ghost use Rattle.std.specs.Prelude.{◌≡◌, ◌↔◌, Some, []};
+ghost use Rattle.solo_devices.specs.FailingCalls.{FailsNext, fresh_calls, one_more};
+ghost use Rattle.solo_devices.specs.InMemory.{gives};
+ghost use Rattle.solo_devices.specs.Sink.{GivesTo, FitsPiece, CountsFaults};
 
+use crate::failing_calls::FailingCalls;
 use crate::{Gave, Sink, SureSink};
 use std::alloc::Global;
 
@@ -7,8 +11,7 @@ use std::alloc::Global;
 #[derive(Debug, Drop)]
 pub struct MemSink {
     sink: SureSink,
-    failing: Vec<u64>,
-    calls: u64,
+    gives: FailingCalls,
     faults: u64,
 }
 
@@ -17,11 +20,11 @@ impl MemSink {
     pub fn new(alloc: Global, failing: Vec<u64>) -> MemSink
         ensures given { ⟦<MemSink as Sink>⟧.given result ≡ Some [] }
         ensures faults { ⟦<MemSink as Sink>⟧.faults result ≡ 0 }
+        ensures calls { gives result ≡ fresh_calls failing.items }
     {
         MemSink {
             sink: SureSink::new(alloc),
-            failing,
-            calls: 0,
+            gives: FailingCalls::new(failing),
             faults: 0,
         }
     }
@@ -46,9 +49,16 @@ impl Sink for MemSink {
 
     ghost faults = { λ sink. sink.faults };
 
-    fn give(&mut self, piece: &[u8]) -> Gave {
-        self.calls = self.calls.saturating_add(1);
-        if self.failing.contains(&self.calls) {
+    fn give(&mut self, piece: &[u8]) -> Gave
+        // A call whose number is listed fails, and no other.
+        ensures fails { (result ≡ Gave.Failed) ↔ FailsNext (gives self.old) }
+        ensures counted { gives self.new ≡ one_more (gives self.old) }
+        // As the trait says.
+        ensures fits { FitsPiece result piece.now }
+        ensures bytes { GivesTo (⟦<MemSink as Sink>⟧.given self.old) (⟦<MemSink as Sink>⟧.given self.new) result piece.now }
+        ensures cause { CountsFaults (⟦<MemSink as Sink>⟧.faults self.old) (⟦<MemSink as Sink>⟧.faults self.new) result piece.now }
+    {
+        if self.gives.fails() {
             self.faults = self.faults.saturating_add(1);
             return Gave::Failed;
         }

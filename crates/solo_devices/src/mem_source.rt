@@ -1,13 +1,17 @@
-ghost use Rattle.std.specs.Prelude.{◌≡◌, ◌<◌, Some};
+ghost use Rattle.std.specs.Prelude.{◌≡◌, ◌↔◌, ◌<◌, Some};
+ghost use Rattle.solo_devices.specs.Count.{raised};
+ghost use Rattle.solo_devices.specs.FailingCalls.{FailsNext, fresh_calls, one_more};
+ghost use Rattle.solo_devices.specs.InMemory.{takes};
+ghost use Rattle.solo_devices.specs.Source.{TakesFrom, FitsPiece, CountsFaults, bytes_taken};
 
+use crate::failing_calls::FailingCalls;
 use crate::{Source, SureSource, Took};
 
 /// A source in memory whose calls with the listed numbers, counted from 1, fail.
 #[derive(Debug, Drop)]
 pub struct MemSource {
     source: SureSource,
-    failing: Vec<u64>,
-    calls: u64,
+    takes: FailingCalls,
     faults: u64,
 }
 
@@ -18,11 +22,11 @@ impl MemSource {
         ensures left { ⟦<MemSource as Source>⟧.left result ≡ Some bytes.items }
         ensures taken { ⟦<MemSource as Source>⟧.taken result ≡ 0 }
         ensures faults { ⟦<MemSource as Source>⟧.faults result ≡ 0 }
+        ensures calls { takes result ≡ fresh_calls failing.items }
     {
         MemSource {
             source: SureSource::new(bytes, piece),
-            failing,
-            calls: 0,
+            takes: FailingCalls::new(failing),
             faults: 0,
         }
     }
@@ -42,9 +46,17 @@ impl Source for MemSource {
 
     ghost faults = { λ source. source.faults };
 
-    fn take(&mut self, piece: &mut [u8]) -> Took {
-        self.calls = self.calls.saturating_add(1);
-        if self.failing.contains(&self.calls) {
+    fn take(&mut self, piece: &mut [u8]) -> Took
+        // A call whose number is listed fails, and no other.
+        ensures fails { (result ≡ Took.Failed) ↔ FailsNext (takes self.old) }
+        ensures counted { takes self.new ≡ one_more (takes self.old) }
+        // As the trait says.
+        ensures fits { FitsPiece result piece.new }
+        ensures bytes { TakesFrom (⟦<MemSource as Source>⟧.left self.old) (⟦<MemSource as Source>⟧.left self.new) result piece.new }
+        ensures taken { ⟦<MemSource as Source>⟧.taken self.new ≡ raised (⟦<MemSource as Source>⟧.taken self.old) (bytes_taken result) }
+        ensures cause { CountsFaults (⟦<MemSource as Source>⟧.faults self.old) (⟦<MemSource as Source>⟧.faults self.new) result }
+    {
+        if self.takes.fails() {
             self.faults = self.faults.saturating_add(1);
             return Took::Failed;
         }

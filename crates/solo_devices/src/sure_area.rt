@@ -1,8 +1,9 @@
 ghost use Rattle.std.specs.Prelude.{◌≡◌, ◌^◌, ◌<◌, Some, ℕ, List, map, replicate, length, IfOk};
-ghost use Rattle.solo_devices.specs.Area.{page_bytes};
+ghost use Rattle.solo_base.specs.PageBytes.{zero_page};
+ghost use Rattle.solo_devices.specs.Area.{page_bytes, AreWhole};
 
 use crate::{Area, Moved};
-use solo_base::{NoMemory, PAGE_LENGTH, Page};
+use solo_base::{NoMemory, Page};
 use std::alloc::Global;
 
 /// An area in memory that never fails.
@@ -10,17 +11,18 @@ use std::alloc::Global;
 pub struct SureArea {
     pages: Vec<Page>,
     ghost few: { length pages.items < 2 ^ 16 },
+    ghost whole: { AreWhole (map page_bytes pages.items) },
 }
 
 impl SureArea {
     /// An area of so many zero pages.
     pub fn new(alloc: Global, pages: u16) -> Result<SureArea, NoMemory>
-        ensures pages { IfOk result (λ area. ⟦<SureArea as Area>⟧.pages area ≡ Some (replicate pages (replicate 512 0))) }
+        ensures pages { IfOk result (λ area. ⟦<SureArea as Area>⟧.pages area ≡ Some (replicate pages zero_page)) }
         ensures size { IfOk result (λ area. ⟦<SureArea as Area>⟧.size area ≡ pages) }
     {
         let mut zeros = Vec::with_capacity(alloc, pages as usize)?;
         for _ in 0..pages {
-            zeros.push(zero_page())?;
+            zeros.push(Page::zeros())?;
         }
         Ok(SureArea { pages: zeros })
     }
@@ -50,13 +52,7 @@ impl Area for SureArea {
     }
 
     fn write(&mut self, n: u16, page: &Page) -> Moved {
-        self.pages[n as usize] = *page;
+        self.pages[n as usize] = Page(*page.bytes());
         Moved::Done
     }
-}
-
-pub(crate) fn zero_page() -> Page
-    ensures { result.0 ≡ replicate 512 0 }
-{
-    Page([0; PAGE_LENGTH])
 }
