@@ -1,0 +1,97 @@
+ghost use Rattle.std.specs.Prelude.{◌≡◌, ◌<◌, ◌^◌, None};
+ghost use Rattle.solo_devices.specs.Area.{CountsFaults};
+
+use solo_base::{PAGE_LENGTH, Page};
+use solo_devices::{Area, Moved};
+use std::io::{self, Read, Seek, SeekFrom, Write};
+
+/// A range of pages of a drive, which is a file or anything else that is read and written at positions.
+/// A drive that couldn't be opened is none: each call fails then. So does a read where the drive ends
+/// before the end of its page. What failed is counted.
+#[derive(Drop)]
+pub struct DriveArea<D> {
+    drive: Option<D>,
+    first: u16,
+    pages: u16,
+    faults: u64,
+}
+
+impl<D: Read + Write + Seek> DriveArea<D> {
+    /// The area of so many pages of the drive, from page `first` on.
+    pub fn new(drive: Option<D>, first: u16, pages: u16) -> DriveArea<D>
+        ensures untold { ⟦<DriveArea<D> as Area>⟧.pages result ≡ None }
+        ensures size { ⟦<DriveArea<D> as Area>⟧.size result ≡ pages }
+    {
+        DriveArea {
+            drive,
+            first,
+            pages,
+            faults: 0,
+        }
+    }
+
+    /// How often a call failed so far.
+    pub fn faults(&self) -> u64
+        ensures { result ≡ ⟦<DriveArea<D> as Area>⟧.faults self.now }
+    {
+        self.faults
+    }
+}
+
+impl<D: Read + Write + Seek> Area for DriveArea<D> {
+    ghost pages = { λ _. None };
+
+    ghost size = { λ area. area.pages };
+
+    ghost faults = { λ area. area.faults };
+
+    fn size(&self) -> u16 {
+        self.pages
+    }
+
+    fn read(&mut self, n: u16, page: &mut Page) -> Moved {
+        let address = u64::from(self.first) + u64::from(n);
+        let is_done = match &mut self.drive {
+            Some(drive) => read_page(drive, address, page).is_ok(),
+            None => false,
+        };
+        counted(&mut self.faults, is_done)
+    }
+
+    fn write(&mut self, n: u16, page: &Page) -> Moved {
+        let address = u64::from(self.first) + u64::from(n);
+        let is_done = match &mut self.drive {
+            Some(drive) => write_page(drive, address, page).is_ok(),
+            None => false,
+        };
+        counted(&mut self.faults, is_done)
+    }
+}
+
+/// Whether the call was done; one that failed is counted.
+fn counted(faults: &mut u64, is_done: bool) -> Moved
+    ensures { CountsFaults faults.old faults.new result }
+{
+    if is_done {
+        Moved::Done
+    } else {
+        *faults = faults.saturating_add(1);
+        Moved::Failed
+    }
+}
+
+/// Reads the page at this address of the drive.
+fn read_page<D: Read + Seek>(drive: &mut D, address: u64, page: &mut Page) -> io::Result<()>
+    requires { address < 2 ^ 17 }
+{
+    drive.seek(SeekFrom::Start(address * PAGE_LENGTH as u64))?;
+    drive.read_exact(&mut page.0)
+}
+
+/// Writes the page at this address of the drive.
+fn write_page<D: Write + Seek>(drive: &mut D, address: u64, page: &Page) -> io::Result<()>
+    requires { address < 2 ^ 17 }
+{
+    drive.seek(SeekFrom::Start(address * PAGE_LENGTH as u64))?;
+    drive.write_all(&page.0)
+}

@@ -1,0 +1,15 @@
+//! The devices of the real world: a source over a reader, a sink over a writer, an area over a part of a
+//! drive. They tell nothing of what they hold; what failed is counted.
+#![tactic(auto)]
+
+mod drive_area;
+mod reader_source;
+mod retried;
+mod writer_sink;
+
+pub use drive_area::DriveArea;
+pub use reader_source::ReaderSource;
+pub use writer_sink::WriterSink;
+
+#[cfg(test)]
+mod tests;
