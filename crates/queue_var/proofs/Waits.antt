@@ -1,5 +1,5 @@
 -- Who waits keeps a cause to, whatever an entry of a buffer does.
-use Rattle.std.proofs.Common.{◌≡◌, ◌⊎◌, inl, inr, ℕ, Option, None, Some, List, [], ◌∷◌, ◌++◌, refl, ap, sym, ◌∙◌, ◌||◌, arith}
+use Rattle.std.proofs.Common.{◌≡◌, ◌⊎◌, inl, inr, ℕ, Option, None, Some, false, List, [], ◌∷◌, ◌++◌, refl, ap, sym, ◌∙◌, ◌||◌, arith}
 use Rattle.solo_base.specs.declared.outcome.Side.{Side}
 use Rattle.solo_base.specs.declared.outcome.Side.TheVariants.{Sender, Receiver}
 use Rattle.queue_var.specs.declared.turn.Turn.TheVariants.{Handed}
@@ -79,7 +79,7 @@ pub waits-continued : (lacks : Side → Type 0) (sides : Sides) (side : Side) �
 waits-continued lacks sides side none = record { cause = continued-cause lacks sides side none; named = continued-named sides (other side) }
 
 -- ---- who stopped
-among-with : (marks : Stops) (side s : Side) → is_among s (with_stop marks side) ≡ (is_among s marks || same_side s side)
+pub among-with : (marks : Stops) (side s : Side) → is_among s (with_stop marks side) ≡ (is_among s marks || same_side s side)
 among-with Neither side s = refl
 among-with (One Sender) Sender Sender = refl
 among-with (One Sender) Sender Receiver = refl
@@ -95,7 +95,7 @@ pub one_of-more : (stops : List Side) (side s : Side) → is_one_of s (stops ++ 
 one_of-more [] side s = grind arith
 one_of-more (first ∷ later) side s = let rest = one_of-more later side s in grind arith
 
-first-with : (marks : Stops) (side first : Side) → first_of marks ≡ Some first → first_of (with_stop marks side) ≡ Some first
+pub first-with : (marks : Stops) (side first : Side) → first_of marks ≡ Some first → first_of (with_stop marks side) ≡ Some first
 first-with Neither side first h = cc
 first-with (One Sender) Sender first h = h
 first-with (One Sender) Receiver first h = h
@@ -103,7 +103,7 @@ first-with (One Receiver) Sender first h = h
 first-with (One Receiver) Receiver first h = h
 first-with (Both by) side first h = h
 
-first-alone : (marks : Stops) (side : Side) → first_of marks ≡ None → first_of (with_stop marks side) ≡ Some side
+pub first-alone : (marks : Stops) (side : Side) → first_of marks ≡ None → first_of (with_stop marks side) ≡ Some side
 first-alone Neither side h = refl
 first-alone (One by) side h = cc
 first-alone (Both by) side h = cc
@@ -111,6 +111,15 @@ first-alone (Both by) side h = cc
 first-more : (stops : List Side) (marks : Stops) (side : Side) → first_of marks ≡ earliest stops → first_of (with_stop marks side) ≡ earliest (stops ++ side ∷ [])
 first-more [] marks side h = first-alone marks side h
 first-more (first ∷ later) marks side h = first-with marks side first h
+
+-- who hasn't stopped was not the first to stop
+pub not_first : (stops : Stops) (side : Side) → is_among side stops ≡ false → first_of stops ≡ Some side → ⊥
+not_first Neither side n f = cc
+not_first (One Sender) Sender n f = cc
+not_first (One Sender) Receiver n f = cc
+not_first (One Receiver) Sender n f = cc
+not_first (One Receiver) Receiver n f = cc
+not_first (Both first) side n f = cc
 
 -- a stop more
 pub stops-more : (stops : List Side) (marks : Stops) (side : Side) → StoppedFirst stops marks → StoppedFirst (stops ++ side ∷ []) (with_stop marks side)
