@@ -1,1 +1,5 @@
 pub mod Slot
+pub mod History
+pub mod Calls
+pub mod Laws
+pub mod Ends

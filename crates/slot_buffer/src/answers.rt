@@ -19,3 +19,11 @@ pub enum Take<T> {
     /// The sender stopped first, and nothing is left inside.
     Stopped,
 }
+
+/// The answer to a put at a running buffer whose receiver stopped first: the item comes back.
+#[derive(Debug, Drop, PartialEq, Eq)]
+pub struct Stopped<T>(pub T);
+
+/// The answer to a take at a running buffer whose sender stopped first and in which nothing is left.
+#[derive(Clone, Copy, Debug, PartialEq, Eq)]
+pub struct Ended;

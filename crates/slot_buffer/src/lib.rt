@@ -2,9 +2,19 @@
 #![tactic(auto)]
 
 mod answers;
+mod call;
+mod gate;
+mod kind;
+mod recv_end;
+mod send_end;
 mod slot_buffer;
 
-pub use answers::{Put, Take};
+pub use answers::{Ended, Put, Stopped, Take};
+pub use call::SlotCall;
+pub use gate::{Met, SlotGate, meet};
+pub use kind::SlotKind;
+pub use recv_end::RecvEnd;
+pub use send_end::SendEnd;
 pub use slot_buffer::SlotBuffer;
 use solo_base::{Arg, Feed, Page};
 
@@ -16,3 +26,6 @@ pub type PageBuffer = SlotBuffer<Page>;
 
 /// An argument buffer.
 pub type ArgBuffer = SlotBuffer<Arg>;
+
+#[cfg(test)]
+mod tests;

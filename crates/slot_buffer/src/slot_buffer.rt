@@ -1,10 +1,13 @@
 // A monitor with one slot.
-ghost use Rattle.std.specs.Prelude.{◌≡◌, ◌↔◌, ◌⊎◌, ℕ, ◌++◌, List, [], ◌∷◌, Bool, false, IsTrue};
+ghost use Rattle.std.specs.Prelude.{◌≡◌, ◌↔◌, ◌⊎◌, ℕ, ◌++◌, List, [], ◌∷◌, Bool, false, IsTrue, Some, option_to_list};
 ghost use Rattle.solo_base.specs.declared.outcome.Side.{Side};
 ghost use Rattle.solo_base.specs.declared.outcome.Side.TheVariants.{Sender, Receiver};
 ghost use Rattle.queue_var.specs.declared.turn.Turn.TheVariants.{Free};
 ghost use Rattle.queue_var.specs.Turn.{handed};
 ghost use Rattle.queue_var.specs.Sides.{MayEnter, MayStop, queue, nobody, stopped_by, has_stopped};
+ghost use Rattle.queue_var.specs.HandsOver.{earliest};
+ghost use Rattle.slot_buffer.specs.declared.answers.Put.{Put};
+ghost use Rattle.slot_buffer.specs.declared.answers.Take.{Take};
 ghost use Rattle.slot_buffer.specs.Slot.{StandsFor, put_answer, after_put, sent_with, take_answer, after_take, taken_with, after_stop};
 
 use crate::{Put, Take};
@@ -17,13 +20,16 @@ use std::marker::Model;
 /// What was taken, and then what is inside, is what was put, in order. A sender waits only while the
 /// buffer is full, a receiver only while it is empty, and neither once a side has stopped.
 #[derive(Debug, Drop)]
-pub struct SlotBuffer<T: Send> {
+pub struct SlotBuffer<T> {
     slot: Option<T>,
     sides: Sides,
 }
 
-impl<T: Send> Model for SlotBuffer<T> {
+impl<T> Model for SlotBuffer<T> {
     ghost use Rattle.std.specs.Prelude.{option_to_list};
+    ghost use Rattle.queue_var.specs.HandsOver.{earliest};
+    ghost use Rattle.slot_buffer.specs.declared.answers.Put.{Put};
+    ghost use Rattle.slot_buffer.specs.declared.answers.Take.{Take};
     ghost use Rattle.slot_buffer.specs.Slot.{Slot};
 
     ghost Value = { Slot T };
@@ -31,7 +37,7 @@ impl<T: Send> Model for SlotBuffer<T> {
     ghost view = { λ b. record { inside = option_to_list b.slot; sides = b.sides } };
 }
 
-impl<T: Send> SlotBuffer<T> {
+impl<T> SlotBuffer<T> {
     /// An empty buffer at which nobody waits and which nobody has stopped.
     pub fn new() -> Self
         ensures empty { result ≡ record { inside = []; sides = nobody } }
@@ -74,7 +80,8 @@ impl<T: Send> SlotBuffer<T> {
 
     /// The first side that stopped.
     pub fn stopped_by(&self) -> Option<Side>
-        ensures { result ≡ stopped_by self.now.sides }
+        ensures marked { result ≡ stopped_by self.now.sides }
+        ensures history { (sent taken : List T) (stops : List Side) → StandsFor sent taken stops self.now → result ≡ earliest stops }
     {
         self.sides.stopped_by()
     }
@@ -84,6 +91,7 @@ impl<T: Send> SlotBuffer<T> {
         requires may_enter { MayEnter self.old.sides Sender p }
         requires not_stopped { has_stopped self.old.sides Sender ≡ false }
         ensures answer { result ≡ put_answer self.old item }
+        ensures stopped { (back : T) → result ≡ Put.Stopped back → stopped_by self.old.sides ≡ Some Receiver }
         ensures after { self.new ≡ after_put self.old p item result }
         ensures history { (sent taken : List T) (stops : List Side) → StandsFor sent taken stops self.old → StandsFor (sent_with sent item result) taken stops self.new }
     {
@@ -105,6 +113,7 @@ impl<T: Send> SlotBuffer<T> {
         requires may_enter { MayEnter self.old.sides Receiver p }
         requires not_stopped { has_stopped self.old.sides Receiver ≡ false }
         ensures answer { result ≡ take_answer self.old }
+        ensures stopped { result ≡ Take.Stopped → (stopped_by self.old.sides ≡ Some Sender) × (self.old.inside ≡ []) }
         ensures after { self.new ≡ after_take self.old p result }
         ensures history { (sent taken : List T) (stops : List Side) → StandsFor sent taken stops self.old → StandsFor sent (taken_with taken result) stops self.new }
     {
@@ -132,6 +141,14 @@ impl<T: Send> SlotBuffer<T> {
             Side::Sender => Side::Receiver,
             Side::Receiver => Side::Sender,
         });
+    }
+
+    /// The item that is inside, at the end of the buffer.
+    pub fn into_rest(self) -> Option<T>
+        ensures { self.inside ≡ option_to_list result }
+    {
+        let SlotBuffer { slot, sides: _ } = self;
+        slot
     }
 }
 

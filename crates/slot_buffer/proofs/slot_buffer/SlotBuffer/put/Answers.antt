@@ -1,6 +1,6 @@
 use Rattle.std.proofs.Common.{rules}
 use Rattle.slot_buffer.specs.declared.answers.Put.TheVariants as Put
-use Rattle.slot_buffer.proofs.History.{put-stands}
+use Rattle.slot_buffer.specs.History.{put-stands}
 use Rattle.slot_buffer.proofs.slot_buffer.SlotBuffer.put.Goals as goal
 
 pub returns-then-eq-clause-history : goal.returns-then-eq-clause-history

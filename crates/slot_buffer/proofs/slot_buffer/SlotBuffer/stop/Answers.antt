@@ -1,5 +1,5 @@
 use Rattle.std.proofs.Common.{rules}
-use Rattle.slot_buffer.proofs.History.{stop-stands}
+use Rattle.slot_buffer.specs.History.{stop-stands}
 use Rattle.slot_buffer.proofs.slot_buffer.SlotBuffer.stop.Goals as goal
 
 pub returns-clause-history : goal.returns-clause-history

@@ -1,6 +1,6 @@
 use Rattle.std.proofs.Common.{rules}
 use Rattle.slot_buffer.specs.declared.answers.Take.TheVariants as Take
-use Rattle.slot_buffer.proofs.History.{take-stands}
+use Rattle.slot_buffer.specs.History.{take-stands}
 use Rattle.slot_buffer.proofs.slot_buffer.SlotBuffer.take.Goals as goal
 
 pub returns-in-Some-clause-history : goal.returns-in-Some-clause-history

@@ -2,23 +2,12 @@
 use Rattle.std.proofs.Common.{◌≡◌, ℕ, Option, None, Some, false, List, [], ◌∷◌, ◌++◌, refl, sym, ◌∙◌, ap, append_assoc, append-nil, lit≤, arith}
 use Rattle.solo_base.specs.declared.outcome.Side.{Side}
 use Rattle.solo_base.specs.declared.outcome.Side.TheVariants.{Sender, Receiver}
-use Rattle.queue_var.specs.declared.stops.Stops.{Stops}
-use Rattle.queue_var.specs.declared.stops.Stops.TheVariants.{Neither, One, Both}
-use Rattle.queue_var.specs.Sides.{Sides, MayEnter, queue, stopped_by, has_stopped, is_among, first_of, entered, stopped}
+use Rattle.queue_var.specs.Sides.{Sides, MayEnter, queue, stopped_by, has_stopped, entered, stopped}
 use Rattle.queue_var.specs.HandsOver.{HandsOver, StoppedFirst, Lacks}
-use Rattle.queue_var.proofs.Waits.{waits-turned_away, waits-delayed, waits-continued, stops-more}
+use Rattle.queue_var.proofs.Waits.{waits-turned_away, waits-delayed, waits-continued, stops-more, not_first}
 use Rattle.slot_buffer.specs.declared.answers.Put.{Put}
 use Rattle.slot_buffer.specs.declared.answers.Take.{Take}
 use Rattle.slot_buffer.specs.Slot.{Slot, StandsFor, put_by, put_answer, after_put, sent_with, take_by, take_answer, after_take, taken_with, after_stop}
-
--- who hasn't stopped was not the first to stop
-not_first : (stops : Stops) (side : Side) → is_among side stops ≡ false → first_of stops ≡ Some side → ⊥
-not_first Neither side n f = cc
-not_first (One Sender) Sender n f = cc
-not_first (One Sender) Receiver n f = cc
-not_first (One Receiver) Sender n f = cc
-not_first (One Receiver) Receiver n f = cc
-not_first (Both first) side n f = cc
 
 put_into : {T : Type 0} (sent taken : List T) (stops : List Side) (inside : List T) (sides : Sides) (by : Option Side) (p : ℕ) (item : T) → stopped_by sides ≡ by → MayEnter sides Sender p → has_stopped sides Sender ≡ false → HandsOver 1 sent taken inside sides → StoppedFirst stops sides.stops → StandsFor (sent_with sent item (put_by by inside item)) taken stops (after_put record { inside = inside; sides = sides } p item (put_by by inside item))
 put_into sent taken stops inside sides (Some Receiver) p item is may not_yet h s =

@@ -1,0 +1,115 @@
+// The receiver's end of a running buffer.
+ghost use Rattle.std.specs.Prelude.{◌≡◌, false, [], Some};
+ghost use Rattle.solo_base.specs.declared.outcome.Side.TheVariants.{Receiver};
+ghost use Rattle.slot_buffer.specs.declared.call.SlotCall.TheVariants as call;
+ghost use Rattle.slot_buffer.specs.Slot.{Slot, take_answer};
+ghost use Rattle.slot_buffer.specs.Calls.{has_stop, value};
+ghost use Rattle.monitor_gate.specs.declared.view.Stage.TheVariants.{Outside};
+ghost use Rattle.monitor_gate.specs.Calls.{IsEndOf, HasCalled, after_call, calls_in};
+ghost use Rattle.slot_buffer.specs.Ends.{Finds, empty_slot, take_call, take_given};
+
+use crate::gate::{SlotGate, SlotPass};
+use crate::send_end::stop;
+use crate::{Ended, SlotCall, SlotKind, Take};
+use monitor_gate::Gate;
+use solo_base::Side;
+use std::marker::Model;
+use std::snapshot::Snapshot;
+use std::sync::Wait;
+use std::thread::Threads;
+
+/// The right of one process to take items out of a running buffer. Contracts see its gate and its calls.
+pub struct RecvEnd<T> {
+    pub(crate) pass: SlotPass<T>,
+}
+
+impl<T> Model for RecvEnd<T> {
+    ghost use Rattle.std.specs.Prelude.{◌≡◌, [], Some};
+    ghost use Rattle.monitor_gate.specs.declared.view.Stage.TheVariants.{Outside};
+    ghost use Rattle.monitor_gate.specs.Ends.{TableId};
+    ghost use Rattle.monitor_gate.specs.Calls.{End, calls_in};
+    ghost use Rattle.slot_buffer.specs.declared.call.SlotCall.{SlotCall};
+    ghost use Rattle.slot_buffer.specs.Calls.{value};
+    ghost use Rattle.slot_buffer.specs.Ends.{empty_slot};
+
+    ghost Value = { End TableId (SlotCall T) };
+
+    ghost view = { λ e. record { gate = e.pass.gate; calls = calls_in value e.pass } };
+
+    ghost invariant = { λ e. (e.pass.view.opening ≡ Some empty_slot) × (e.pass.view.stage ≡ Outside) × (e.pass.view.joined ≡ []) × (e.pass.view.number ≡ 2) };
+}
+
+impl<T: Send> RecvEnd<T> {
+    /// Takes the item out, and waits until there is one. An `Err`: the sender stopped first, and none is left.
+    pub fn take<R: Threads + Wait + Sync>(&mut self, gate: &SlotGate<T>, rt: &R) -> Result<T, Ended>
+        requires gate { self.old.gate ≡ gate.now }
+        requires not_stopped { has_stop self.old.calls ≡ false }
+        ensures call { self.new ≡ after_call self.old (take_call result) }
+        ensures not_stopped { has_stop self.new.calls ≡ false }
+        ensures answer { (state : Slot T) × Finds Receiver self.old.calls state × (take_given result ≡ take_answer state) }
+    {
+        take(&gate.gate, &mut self.pass, rt)
+    }
+
+    /// Stops for good. A sender that waits is let know.
+    pub fn stop<R: Threads + Wait + Sync>(&mut self, gate: &SlotGate<T>, rt: &R)
+        requires { self.old.gate ≡ gate.now }
+        ensures { self.new ≡ after_call self.old (call.Stop Receiver) }
+    {
+        stop(&gate.gate, &mut self.pass, Side::Receiver, rt);
+    }
+}
+
+fn take<T: Send, R: Threads + Wait + Sync>(
+    gate: &Gate<SlotKind<T>>,
+    pass: &mut SlotPass<T>,
+    rt: &R,
+) -> Result<T, Ended>
+    requires pass { IsEndOf gate.now 2 pass.old }
+    requires not_stopped { has_stop (calls_in value pass.old) ≡ false }
+    ensures call { HasCalled value pass.old pass.new (take_call result) }
+    ensures answer { (state : Slot T) × Finds Receiver (calls_in value pass.old) state × (take_given result ≡ take_answer state) }
+{
+    let mut inside = gate.enter(pass, rt);
+    match inside.state().take(2) {
+        Take::Item(item) => {
+            inside.leave(SlotCall::Take(Snapshot::of(&item)));
+            Ok(item)
+        }
+        Take::Stopped => {
+            inside.leave(SlotCall::TakeRefused);
+            Err(Ended)
+        }
+        Take::Delayed => {
+            let mut inside = inside.delay(rt);
+            match inside.state().take(2) {
+                Take::Item(item) => {
+                    inside.leave(SlotCall::Take(Snapshot::of(&item)));
+                    Ok(item)
+                }
+                Take::Stopped => {
+                    inside.leave(SlotCall::TakeRefused);
+                    Err(Ended)
+                }
+                Take::Delayed => unreachable!(),
+            }
+        }
+    }
+}
+
+impl<T> RecvEnd<T> {
+    pub(crate) fn into_pass(self) -> SlotPass<T>
+        ensures gate { (result.gate ≡ self.gate) × (calls_in value result ≡ self.calls) }
+        ensures number { result.view.number ≡ 2 }
+        ensures outside { (result.view.opening ≡ Some empty_slot) × (result.view.stage ≡ Outside) × (result.view.joined ≡ []) }
+    {
+        let RecvEnd { pass } = self;
+        pass
+    }
+}
+
+impl<T> Drop for RecvEnd<T> {
+    fn drop(self) {
+        let Self { pass: _ } = self;
+    }
+}

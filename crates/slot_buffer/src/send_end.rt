@@ -1,0 +1,139 @@
+// The sender's end of a running buffer.
+ghost use Rattle.std.specs.Prelude.{◌≡◌, false, [], Some, IfErr};
+ghost use Rattle.solo_base.specs.declared.outcome.Side.TheVariants.{Sender};
+ghost use Rattle.slot_buffer.specs.declared.call.SlotCall.TheVariants as call;
+ghost use Rattle.slot_buffer.specs.Slot.{Slot, put_answer};
+ghost use Rattle.slot_buffer.specs.Calls.{has_stop, value};
+ghost use Rattle.queue_var.specs.BetweenTwo.{process_at};
+ghost use Rattle.monitor_gate.specs.declared.view.Stage.TheVariants.{Outside};
+ghost use Rattle.monitor_gate.specs.Calls.{IsEndOf, HasCalled, after_call, calls_in};
+ghost use Rattle.slot_buffer.specs.Ends.{Finds, empty_slot, put_call, put_given};
+
+use crate::gate::{SlotGate, SlotPass};
+use crate::{Put, SlotCall, SlotKind, Stopped};
+use monitor_gate::Gate;
+use solo_base::Side;
+use std::marker::Model;
+use std::snapshot::Snapshot;
+use std::sync::Wait;
+use std::thread::Threads;
+
+/// The right of one process to put items into a running buffer. Contracts see its gate and its calls.
+pub struct SendEnd<T> {
+    pub(crate) pass: SlotPass<T>,
+}
+
+impl<T> Model for SendEnd<T> {
+    ghost use Rattle.std.specs.Prelude.{◌≡◌, [], Some};
+    ghost use Rattle.monitor_gate.specs.declared.view.Stage.TheVariants.{Outside};
+    ghost use Rattle.monitor_gate.specs.Ends.{TableId};
+    ghost use Rattle.monitor_gate.specs.Calls.{End, calls_in};
+    ghost use Rattle.slot_buffer.specs.declared.call.SlotCall.{SlotCall};
+    ghost use Rattle.slot_buffer.specs.Calls.{value};
+    ghost use Rattle.slot_buffer.specs.Ends.{empty_slot};
+
+    ghost Value = { End TableId (SlotCall T) };
+
+    ghost view = { λ e. record { gate = e.pass.gate; calls = calls_in value e.pass } };
+
+    ghost invariant = { λ e. (e.pass.view.opening ≡ Some empty_slot) × (e.pass.view.stage ≡ Outside) × (e.pass.view.joined ≡ []) × (e.pass.view.number ≡ 1) };
+}
+
+impl<T: Send> SendEnd<T> {
+    /// Puts an item in, and waits until there is room. An `Err` hands the item back: the receiver stopped first.
+    pub fn put<R: Threads + Wait + Sync>(
+        &mut self,
+        gate: &SlotGate<T>,
+        item: T,
+        rt: &R,
+    ) -> Result<(), Stopped<T>>
+        requires gate { self.old.gate ≡ gate.now }
+        requires not_stopped { has_stop self.old.calls ≡ false }
+        ensures call { self.new ≡ after_call self.old (put_call item result) }
+        ensures not_stopped { has_stop self.new.calls ≡ false }
+        ensures handed_back { IfErr result (λ stopped. stopped.0 ≡ item) }
+        ensures answer { (state : Slot T) × Finds Sender self.old.calls state × (put_given item result ≡ put_answer state item) }
+    {
+        put(&gate.gate, &mut self.pass, item, rt)
+    }
+
+    /// Stops for good. A receiver that waits is let know.
+    pub fn stop<R: Threads + Wait + Sync>(&mut self, gate: &SlotGate<T>, rt: &R)
+        requires { self.old.gate ≡ gate.now }
+        ensures { self.new ≡ after_call self.old (call.Stop Sender) }
+    {
+        stop(&gate.gate, &mut self.pass, Side::Sender, rt);
+    }
+}
+
+fn put<T: Send, R: Threads + Wait + Sync>(
+    gate: &Gate<SlotKind<T>>,
+    pass: &mut SlotPass<T>,
+    item: T,
+    rt: &R,
+) -> Result<(), Stopped<T>>
+    requires pass { IsEndOf gate.now 1 pass.old }
+    requires not_stopped { has_stop (calls_in value pass.old) ≡ false }
+    ensures call { HasCalled value pass.old pass.new (put_call item result) }
+    ensures handed_back { IfErr result (λ stopped. stopped.0 ≡ item) }
+    ensures answer { (state : Slot T) × Finds Sender (calls_in value pass.old) state × (put_given item result ≡ put_answer state item) }
+{
+    let seen = Snapshot::of(&item);
+    let mut inside = gate.enter(pass, rt);
+    match inside.state().put(1, item) {
+        Put::Done => {
+            inside.leave(SlotCall::Put(seen));
+            Ok(())
+        }
+        Put::Stopped(item) => {
+            inside.leave(SlotCall::PutRefused(seen));
+            Err(Stopped(item))
+        }
+        Put::Delayed(item) => {
+            let mut inside = inside.delay(rt);
+            match inside.state().put(1, item) {
+                Put::Done => {
+                    inside.leave(SlotCall::Put(seen));
+                    Ok(())
+                }
+                Put::Stopped(item) => {
+                    inside.leave(SlotCall::PutRefused(seen));
+                    Err(Stopped(item))
+                }
+                Put::Delayed(_) => unreachable!(),
+            }
+        }
+    }
+}
+
+// A stop of either side.
+pub(crate) fn stop<T: Send, R: Threads + Wait + Sync>(
+    gate: &Gate<SlotKind<T>>,
+    pass: &mut SlotPass<T>,
+    side: Side,
+    rt: &R,
+)
+    requires { IsEndOf gate.now (process_at side) pass.old }
+    ensures { HasCalled value pass.old pass.new (call.Stop side) }
+{
+    let mut inside = gate.enter(pass, rt);
+    inside.state().stop(side);
+    inside.leave(SlotCall::Stop(side));
+}
+
+impl<T> SendEnd<T> {
+    pub(crate) fn into_pass(self) -> SlotPass<T>
+        ensures gate { (result.gate ≡ self.gate) × (calls_in value result ≡ self.calls) }
+        ensures number { result.view.number ≡ 1 }
+        ensures outside { (result.view.opening ≡ Some empty_slot) × (result.view.stage ≡ Outside) × (result.view.joined ≡ []) }
+    {
+        let SendEnd { pass } = self;
+        pass
+    }
+}
+
+impl<T> Drop for SendEnd<T> {
+    fn drop(self) {
+        let Self { pass: _ } = self;
+    }
+}
