@@ -1,2 +1,4 @@
-pub mod History
 pub mod Queues
+pub mod Room
+pub mod Desk
+pub mod Dealt

@@ -7,7 +7,7 @@ use Rattle.queue_var.specs.declared.turn.Turn.{Turn}
 use Rattle.queue_var.specs.declared.turn.Turn.TheVariants.{Free, Handed}
 use Rattle.queue_var.specs.Turn.{handed}
 use Rattle.resource_mon.specs.Claims.{IsNoneOf}
-use Rattle.resource_mon.specs.Queued.{Queued, in_queue, processes_at}
+use Rattle.resource_mon.specs.Queued.{Queued, StandsIn, in_queue, processes_at}
 
 -- a position that isn't contained is none of them
 pub none_of : (positions : List ℕ) (k : ℕ) → (Contains positions k → ⊥) → IsNoneOf positions k
@@ -132,3 +132,42 @@ length-processes N queues (k ∷ ks) all =
 pub handed-delayed : (queues : List (Option ℕ)) (turn : Turn ℕ) (k : ℕ) (held : Option ℕ) → ((j : ℕ) → turn ≢ Handed j) → handed turn (in_queue (slice_set queues k held)) ≡ handed turn (in_queue queues)
 handed-delayed queues Free k held free = refl
 handed-delayed queues (Handed j) k held free = absurd (free j refl)
+
+-- ---- a process that neither has the resource nor waits for it
+none-held : (held : Option ℕ) (others : List ℕ) (p : ℕ) → IsNoneOf (option_to_list held ++ others) p → held ≡ Some p → ⊥
+none-held None others p none is = cc
+none-held (Some q) others p none is = none.0 cc
+
+none-others : (held : Option ℕ) (others : List ℕ) (p : ℕ) → IsNoneOf (option_to_list held ++ others) p → IsNoneOf others p
+none-others None others p none = none
+none-others (Some q) others p none = none.1
+
+pub none-both : (held : Option ℕ) (others : List ℕ) (p : ℕ) → held ≢ Some p → IsNoneOf others p → IsNoneOf (option_to_list held ++ others) p
+none-both None others p apart none = none
+none-both (Some q) others p apart none = ((λ e. apart (ap Some e)), none)
+
+-- A process that stands at none of these positions isn't in a queue at one of them.
+apart : (queues : List (Option ℕ)) (positions : List ℕ) (k p : ℕ) → in_queue queues k ≡ Some p → IsNoneOf (processes_at queues positions) p → IsNoneOf positions k
+apart queues [] k p held none = tt
+apart queues (j ∷ js) k p held none = (
+  (λ same. none-held (in_queue queues j) (processes_at queues js) p none (ap (in_queue queues) same ∙ held)),
+  apart queues js k p held (none-others (in_queue queues j) (processes_at queues js) p none),
+)
+
+nowhere : (N : ℕ) (queues : List (Option ℕ)) (positions : List ℕ) (p : ℕ) → length queues ≡ N → AllByRecursion (λ k. (k < N) × ((q : ℕ) × (in_queue queues k ≡ Some q))) positions
+    → (StandsIn queues p → ⊥) → IsNoneOf (processes_at queues positions) p
+nowhere N queues [] p long all none = tt
+nowhere N queues (k ∷ ks) p long all none =
+    let below = all.0.0 in
+    none-both (in_queue queues k) (processes_at queues ks) p (λ held. none (k, omega arith, held)) (nowhere N queues ks p long all.1 none)
+
+module _ (N : ℕ) (queues : List (Option ℕ)) (positions : List ℕ) (turn : Turn ℕ) (holder : Option ℕ) (p : ℕ) (q : Queued N queues positions turn holder) (long : length queues ≡ N) where
+  pub no_claim : holder ≢ Some p → (StandsIn queues p → ⊥) → IsNoneOf (option_to_list holder ++ processes_at queues positions) p
+  no_claim differs none = none-both holder (processes_at queues positions) p differs (nowhere N queues positions p long q.in_use none)
+
+  pub in_no_queue : handed turn (in_queue queues) ≡ None → IsNoneOf (option_to_list holder ++ processes_at queues positions) p → StandsIn queues p → ⊥
+  in_no_queue free none stands =
+      let below : stands.0 < N = let inside = stands.1 in omega arith in
+      let empty = q.unused stands.0 below (apart queues positions stands.0 p stands.2 (none-others holder (processes_at queues positions) p none)) (turn_is_free N queues positions turn holder q free stands.0) in
+      let held = stands.2 in
+      cc

@@ -1,5 +1,5 @@
 -- Who has a resource, and who waits for it.
-use Rattle.std.specs.Prelude.{◌≡◌, ◌≢◌, ℕ, Option, None, Some, List, [], ◌∷◌, ◌++◌, option_to_list}
+use Rattle.std.specs.Prelude.{◌≡◌, ◌≢◌, ◌⊎◌, ℕ, Option, None, Some, List, [], ◌∷◌, ◌++◌, option_to_list}
 use Rattle.std.specs.List.{AllByRecursion}
 use Rattle.resource_mon.specs.declared.grant.Grant.{Grant}
 use Rattle.resource_mon.specs.declared.grant.Grant.TheVariants.{Got, Wait}
@@ -21,6 +21,11 @@ claimants claims = option_to_list claims.holder ++ claims.waiting
 -- a process that is none of these
 abbrev pub IsNoneOf : List ℕ → ℕ → Type 0
 IsNoneOf processes p = AllByRecursion (λ q. q ≢ p) processes
+
+-- A process may make its request where the turn is free, and it neither has the resource nor waits for it;
+-- one that the turn is handed to resumes.
+abbrev pub MayRequest : Claims → ℕ → Type 0
+MayRequest claims p = ((claims.handed ≡ None) × IsNoneOf (claimants claims) p) ⊎ (claims.handed ≡ Some p)
 
 -- no process stands twice
 abbrev pub EachOnce : List ℕ → Type 0

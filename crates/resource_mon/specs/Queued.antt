@@ -1,5 +1,5 @@
 -- How the claims stand in queues: who waits is in the queue at its position.
-use Rattle.std.specs.Prelude.{◌≡◌, ◌≢◌, ℕ, ◌<◌, Option, None, Some, List, [], ◌∷◌, ◌++◌, option_to_list, slice_index_or}
+use Rattle.std.specs.Prelude.{◌≡◌, ◌≢◌, ℕ, ◌<◌, Option, None, Some, List, [], ◌∷◌, ◌++◌, length, option_to_list, slice_index_or}
 use Rattle.std.specs.List.{AllByRecursion}
 use Rattle.resource_mon.specs.Claims.{IsNoneOf}
 use Rattle.queue_var.specs.declared.turn.Turn.{Turn}
@@ -7,6 +7,10 @@ use Rattle.queue_var.specs.declared.turn.Turn.TheVariants.{Handed}
 
 abbrev pub in_queue : List (Option ℕ) → ℕ → Option ℕ
 in_queue queues k = slice_index_or queues k None
+
+-- one of the queues holds the process
+abbrev pub StandsIn : List (Option ℕ) → ℕ → Type 0
+StandsIn queues p = (k : ℕ) × (k < length queues) × (in_queue queues k ≡ Some p)
 
 -- the processes at these positions, in their order
 abbrev pub processes_at : List (Option ℕ) → List ℕ → List ℕ

@@ -1,7 +1,7 @@
 // A monitor that grants one resource.
-ghost use Rattle.std.specs.Prelude.{◌≡◌, ◌↔◌, ◌⊎◌, ℕ, ◌<◌, ◌++◌, List, [], ◌∷◌, length, IsTrue, IsSome, option_to_list, slice_set};
-ghost use Rattle.resource_mon.specs.Queued.{in_queue};
-ghost use Rattle.resource_mon.specs.Claims.{HasOneHolder, IsNoneOf, unclaimed, claimants, grant_by, after_request, granted_with, first_of, after_release, after_resumed};
+ghost use Rattle.std.specs.Prelude.{◌≡◌, ◌↔◌, ◌⊎◌, ℕ, ◌<◌, ◌++◌, List, [], ◌∷◌, length, IsTrue, IsSome, Some, option_to_list, slice_set};
+ghost use Rattle.resource_mon.specs.Queued.{in_queue, StandsIn};
+ghost use Rattle.resource_mon.specs.Claims.{HasOneHolder, IsNoneOf, MayRequest, unclaimed, claimants, grant_by, after_request, granted_with, first_of, after_release, after_resumed};
 
 use crate::Grant;
 use queue_var::{Fifo, QueueVar, Turn};
@@ -67,6 +67,24 @@ impl<const N: usize> Resource<N> {
         }
     }
 
+    /// The process that has the resource.
+    pub fn holder(&self) -> Option<ProcNo>
+        ensures { result ≡ self.now.holder }
+    {
+        let Resource { holder, .. } = self;
+        *holder
+    }
+
+    /// Whether a process may make its request, or resumes in it.
+    pub fn may_request(&self, p: ProcNo) -> bool
+        ensures { IsTrue result ↔ MayRequest self.now p }
+    {
+        match self.handed() {
+            None => self.holder != Some(p) && !stands_in(&self.queues, p),
+            Some(process) => process == p,
+        }
+    }
+
     /// Asks for the resource. A process that waits has it when the turn is handed to it.
     pub fn request(&mut self, p: ProcNo) -> Grant
         requires admitted { (self.old.handed ≡ None) ⊎ (self.old.handed ≡ Some p) }
@@ -123,6 +141,13 @@ fn process_in(queues: &[QueueVar], position: usize) -> Option<ProcNo>
     ensures { result ≡ in_queue queues.now position }
 {
     queues[position].cont()
+}
+
+/// Whether a process is in one of the queues.
+fn stands_in(queues: &[QueueVar], p: ProcNo) -> bool
+    ensures { IsTrue result ↔ StandsIn queues.now p }
+{
+    queues.iter().any(|queue| queue.cont() == Some(p))
 }
 
 /// Puts a process into the queue at a position.

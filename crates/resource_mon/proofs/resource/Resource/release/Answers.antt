@@ -1,6 +1,6 @@
 use Rattle.std.proofs.Common.{rules, None}
 use Rattle.resource_mon.proofs.Queues.{none_of, turn_is_free, queued-departed, first_at, processes-departed}
-use Rattle.resource_mon.proofs.History.{release-history}
+use Rattle.resource_mon.specs.History.{release-history}
 use Rattle.resource_mon.proofs.resource.Resource.release.Goals as goal
 
 pub returns-then-empty-clause-history : goal.returns-then-empty-clause-history

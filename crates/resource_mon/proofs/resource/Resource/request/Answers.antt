@@ -2,7 +2,7 @@
 use Rattle.std.proofs.Common.{rules, ◌<◌, length, Some, lit<}
 use Rattle.resource_mon.specs.declared.grant.Grant.TheVariants.{Got, Wait}
 use Rattle.resource_mon.proofs.Queues.{none_of, free_turn, empty_at, queued-delayed, processes-delayed, length-processes, handed-delayed}
-use Rattle.resource_mon.proofs.History.{request-history}
+use Rattle.resource_mon.specs.History.{request-history}
 use Rattle.resource_mon.proofs.resource.Resource.request.Goals as goal
 
 pub returns-then-is_none-clause-history : goal.returns-then-is_none-clause-history

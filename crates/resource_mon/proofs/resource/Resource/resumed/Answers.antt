@@ -1,5 +1,5 @@
 use Rattle.resource_mon.proofs.Queues.{queued-resumed, processes-resumed}
-use Rattle.resource_mon.proofs.History.{resumed-history}
+use Rattle.resource_mon.specs.History.{resumed-history}
 use Rattle.resource_mon.proofs.resource.Resource.resumed.Goals as goal
 
 pub invariant_of-self : goal.invariant_of-self
