@@ -4,3 +4,4 @@ pub mod Moves
 pub mod Deals
 pub mod Closes
 pub mod Held
+pub mod Pairs

@@ -5,3 +5,4 @@ pub mod Rule
 pub mod Steps
 pub mod Ends
 pub mod Inside
+pub mod Calls

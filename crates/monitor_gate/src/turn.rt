@@ -9,6 +9,7 @@ use crate::rule::{Delay, Enter, Gains, GateRule, Leave, Resume, Tell};
 use crate::view::{Opening, View};
 use atomic_table::{Seat, Shared};
 use solo_base::ProcNo;
+use std::hint::spin_loop;
 use std::sync::Wait;
 
 /// The word of a gate that is free. It is `INSIDE` while a process is inside, and `HANDED + p` once it is handed to process `p`.
@@ -32,6 +33,24 @@ pub(crate) type Word<M> = Shared<
     Opening<<M as MonitorKind>::State>,
     GateRule<M>,
 >;
+
+// How often a process looks at the word before it sleeps on it. A process that is inside, or is to hand the gate on, is
+// mostly done within less than the time of a sleep.
+const LOOKS: u32 = 200;
+
+// Looks at the word until it shows this turn, so many times at most, and gives what it showed last.
+fn look<M: MonitorKind>(word: &Word<M>, turn: u64) -> u64
+    requires { word.now.table_id.words ≡ 1 }
+{
+    for _ in 0..LOOKS {
+        let found = word.peek(0);
+        if found % ASLEEP == turn {
+            return found;
+        }
+        spin_loop();
+    }
+    word.peek(0)
+}
 
 // Sleeps on the word that was found, until it changes.
 fn sleep<M: MonitorKind, R: Wait>(rt: &R, word: &Word<M>, seat: &mut Place<M>, found: u64)
@@ -58,7 +77,7 @@ pub(crate) fn take_free<M: MonitorKind, R: Wait>(
     ensures free { (M.handed_to result ≡ None) × (M.waits seat.old.me.0.number result ≡ false) }
 {
     for _ in rt.forever() {
-        let found = word.peek(0);
+        let found = look::<M>(word, FREE);
         if found % ASLEEP != FREE {
             sleep::<M, R>(rt, word, seat, found);
         } else if word.compare_exchange::<Enter<M>>(seat, 0, found, found + INSIDE) == found {
@@ -149,7 +168,7 @@ pub(crate) fn take_handed<M: MonitorKind, R: Wait>(
 {
     let number = u64::from(number);
     for _ in rt.forever() {
-        let found = word.peek(0);
+        let found = look::<M>(word, HANDED + number);
         if found % ASLEEP != HANDED + number {
             sleep::<M, R>(rt, word, seat, found);
         } else if word.compare_exchange::<Resume<M>>(seat, 0, found, found - number - INSIDE)
