@@ -6,6 +6,7 @@ use Rattle.std.proofs.lemmas.Nat.Bits.{bit_at-zero, bit_at-lt, same_from_bits_be
 use Rattle.std.proofs.lemmas.Bool.{cases_eq, cases_lt, lt-ltb, le-ltb, eq-eqb, eqb-true}
 use Rattle.std.proofs.lemmas.Grind.{same_number_lists}
 use Rattle.solo_base.specs.declared.page.Page.{Page}
+use Rattle.solo_base.specs.PageBytes.{zero_page}
 use Rattle.disk_pages.specs.Bits.{has_bit, is_marked, EndsInZeros, Marks}
 use Rattle.disk_pages.specs.Pages.{Pages, marked_pages, IsReadFrom, IsBitMap, IsPage, IsKept}
 use Rattle.disk_pages.proofs.MarkedPages.{insert_is, one_passes, none_passes, contains-marked_page, contains-marked_pages, marked_pages_are, len_first_marked}
@@ -15,18 +16,18 @@ get_or_zeros zero k = refl
 get_or_zeros (suc n) zero = refl
 get_or_zeros (suc n) (suc k) = get_or_zeros n k
 
-bit_of_zeros : (bytes : List ℕ) (q : ℕ) → bytes ≡ replicate 512 0 → has_bit bytes q ≡ false
+bit_of_zeros : (bytes : List ℕ) (q : ℕ) → bytes ≡ zero_page → has_bit bytes q ≡ false
 bit_of_zeros bytes q zeros =
     ap (λ b. bit_at b (q % 8) == 1) (ap (λ bs. get_or bs (q / 8) 0) zeros ∙ get_or_zeros 512 (q / 8)) ∙ ap (λ b. b == 1) (bit_at-zero (q % 8))
 
 -- pages of zeros mark no page
-pub none_marked : (low high : Page) → low.0 ≡ replicate 512 0 → high.0 ≡ replicate 512 0 → (q : ℕ) → is_marked low high q ≡ nat_lt q 0
+pub none_marked : (low high : Page) → low.0 ≡ zero_page → high.0 ≡ zero_page → (q : ℕ) → is_marked low high q ≡ nat_lt q 0
 none_marked low high low_zeros high_zeros q = elim (nat_lt q 4096) as (λ b. cond b (has_bit low.0 q) (has_bit high.0 (q - 4096)) ≡ nat_lt q 0) [
   | true ↦ bit_of_zeros low.0 q low_zeros ∙ sym (le-ltb q 0 (omega arith))
   | false ↦ bit_of_zeros high.0 (q - 4096) high_zeros ∙ sym (le-ltb q 0 (omega arith))
 ]
 
-pub zeros_end : (high : Page) → high.0 ≡ replicate 512 0 → EndsInZeros high
+pub zeros_end : (high : Page) → high.0 ≡ zero_page → EndsInZeros high
 zeros_end high zeros k behind = ap (λ bs. get_or bs k 0) zeros ∙ get_or_zeros 512 k
 
 -- one more page of the first ones is marked

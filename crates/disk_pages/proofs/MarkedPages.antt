@@ -15,7 +15,7 @@ use Rattle.disk_pages.specs.Pages.{Pages, passing_below, marked_pages}
 pub insert_is : (s : Pages) (k q : ℕ) → set.contains (set.insert s k) q ≡ ((q == k) || set.contains s q)
 insert_is s k q = contains-insert nat_cmp_total s k q ∙ ap (λ b. b || set.contains s q) (unsigned_tied q k)
 
-remove_is : (s : Pages) (k q : ℕ) → set.contains (set.remove s k) q ≡ (not (q == k) && set.contains s q)
+pub remove_is : (s : Pages) (k q : ℕ) → set.contains (set.remove s k) q ≡ (not (q == k) && set.contains s q)
 remove_is s k q = contains-remove nat_cmp_total s k q ∙ ap (λ b. not b && set.contains s q) (unsigned_tied q k)
 
 -- a number below n + 1 is n or below n
@@ -56,7 +56,7 @@ module _ (test : ℕ → Bool) where
   next_is_new : (n : ℕ) → set.contains (passing_below test n) n ≡ false
   next_is_new n = contains-passing_below n n ∙ ap (λ b. b && test n) (le-ltb n n (omega arith))
 
-  len_more : (n : ℕ) → set.len (passing_below test (suc n)) ≡ set.len (passing_below test n) + cond (test n) 1 0
+  pub len_more : (n : ℕ) → set.len (passing_below test (suc n)) ≡ set.len (passing_below test n) + cond (test n) 1 0
   unfolding passing_below
   len_more n =
       elim (test n) as (λ b. set.len (cond b (set.insert (passing_below test n) n) (passing_below test n)) ≡ set.len (passing_below test n) + cond b 1 0) [
@@ -64,7 +64,7 @@ module _ (test : ℕ → Bool) where
         | false ↦ omega arith
       ]
 
-  len_none : set.len (passing_below test 0) ≡ 0
+  pub len_none : set.len (passing_below test 0) ≡ 0
   unfolding passing_below
   len_none = len-empty nat_cmp
 
@@ -95,6 +95,10 @@ module _ (test : ℕ → Bool) where
     | inl below ↦ let one = ap {B = ℕ} (λ b. cond b 1 0) (first n ∙ lt-ltb n k below) in omega (arith, len_more n, one, len_first k n first)
     | inr past ↦ let none = ap {B = ℕ} (λ b. cond b 1 0) (first n ∙ le-ltb n k past) in omega (arith, len_more n, none, len_first k n first)
   ]
+
+-- the set of the numbers below a bound that pass is the only one that contains just these
+pub passing_below_are : (test : ℕ → Bool) (n : ℕ) (s : Pages) → ((q : ℕ) → set.contains s q ≡ (nat_lt q n && test q)) → s ≡ passing_below test n
+passing_below_are test n s same = same_set nat_cmp_total nat_cmp-IsAntisymmetric s (passing_below test n) (λ q. same q ∙ sym (contains-passing_below test n q))
 
 -- what the set of the marked pages contains
 pub contains-marked_pages : (low high : Page) (q : ℕ) → set.contains (marked_pages low high) q ≡ (nat_lt q 4288 && is_marked low high q)

@@ -3,6 +3,7 @@ use Rattle.std.specs.Prelude.{◌≡◌, ℕ, suc, zero, ◌+◌, ◌<◌, ◌�
 use Rattle.std.specs.Ordering.{nat_cmp}
 use Rattle.std.specs.FinSet as set
 use Rattle.solo_base.specs.declared.page.Page.{Page}
+use Rattle.solo_base.specs.declared.page.TheConstants.{PAGE_LENGTH}
 use Rattle.disk_pages.specs.Bits.{is_marked, EndsInZeros}
 
 -- a set of pages, by their numbers
@@ -33,9 +34,9 @@ pub record IsBitMap (low high : Page) : Type 0 where
   pub system : (n : ℕ) → n < 18 → is_marked low high n ≡ true
   pub zeros : EndsInZeros high
 
--- 512 bytes
+-- as many bytes as a page has
 pub record IsPage (page : Page) : Type 0 where
-  pub length : length page.0 ≡ 512
+  pub length : length page.0 ≡ PAGE_LENGTH
   pub bytes : (k : ℕ) → slice_index page.0 k < 256
 
 -- what a map keeps: no page below `least` is free, and this many pages are free

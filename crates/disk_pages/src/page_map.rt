@@ -1,4 +1,4 @@
-ghost use Rattle.std.specs.Prelude.{◌≡◌, ◌+◌, ◌<◌, ◌≤◌, ◌↔◌, ℕ, true, false, nat_lt, length, replicate, IsSome, IfSome, IfNone, OnSome};
+ghost use Rattle.std.specs.Prelude.{◌≡◌, ◌+◌, ◌<◌, ◌≤◌, ◌↔◌, ℕ, true, false, nat_lt, length, IsSome, IfSome, IfNone, OnSome};
 ghost use Rattle.std.specs.FinSet as set;
 ghost use Rattle.disk_pages.specs.Bits.{is_marked, EndsInZeros};
 ghost use Rattle.disk_pages.specs.Pages.{Pages, IsLeastFree, IsReadFrom, IsBitMap, IsPage};
@@ -41,8 +41,8 @@ impl PageMap {
     pub fn fresh() -> PageMap
         ensures { (n : ℕ) → set.contains result n ≡ nat_lt n FIRST_FILE_PAGE }
     {
-        let mut low = blank_page();
-        let mut high = blank_page();
+        let mut low = Page::zeros();
+        let mut high = Page::zeros();
         for n in 0..FIRST_FILE_PAGE {
             mark(&mut low, &mut high, n, true);
         }
@@ -146,15 +146,9 @@ fn page_of(bytes: &[u8]) -> Page
     ensures bytes { result.0 ≡ bytes.now }
     ensures page { IsPage result }
 {
-    let mut page = blank_page();
+    let mut page = Page::zeros();
     page.0.copy_from_slice(bytes);
     page
-}
-
-fn blank_page() -> Page
-    ensures { result.0 ≡ replicate PAGE_LENGTH 0 }
-{
-    Page([0; PAGE_LENGTH])
 }
 
 // The least page from this one on whose bit is 0.

@@ -4,7 +4,8 @@ use Rattle.std.proofs.lemmas.Bool.{cases_Bool, cases_order, and_parts, and_cases
 use Rattle.std.proofs.lemmas.List.{length-append, length-drop, length-take, get_or-drop, get_or-replicate}
 use Rattle.page_codec.specs.Items.{items_bytes}
 use Rattle.page_codec.specs.Form.{mark}
-use Rattle.page_codec.specs.Places.{number_at, content_length, content_of, IsBadItem, IsWrong, IsLeastWrong, other_number, other_mark, not_zero, too_long, not_full, bad_item, not_blank}
+use Rattle.solo_base.specs.PageBytes.{number_at}
+use Rattle.page_codec.specs.Places.{content_length, content_of, IsBadItem, IsWrong, IsLeastWrong, other_number, other_mark, not_zero, too_long, not_full, bad_item, not_blank}
 use Rattle.page_codec.specs.Reading.{bad_item_after, first_other_than_zero, or_else, has_length, bad_body, bad_place}
 use Rattle.page_codec.proofs.Scan.{stops_at, bad_item_after-items, bad_item_after-bad}
 
@@ -89,7 +90,7 @@ some_or_none (Some at) = inr (at, refl)
 -- ---- what isn't wrong below a place
 
 record IsFine (expected : ℕ) (last : Bool) (bytes : List ℕ) (limit : ℕ) : Type 0 where
-  number : 0 < limit → number_at 0 bytes ≡ expected
+  number : 0 < limit → number_at bytes 0 ≡ expected
   mark-is : 2 < limit → get_or bytes 2 0 ≡ mark last
   zero-is : 3 < limit → get_or bytes 3 0 ≡ 0
   fits : 4 < limit → content_length bytes ≤ 506
@@ -133,7 +134,7 @@ found_bad_item content at found =
 
 -- what each test told
 pub record IsGood (expected : ℕ) (last : Bool) (bytes : List ℕ) : Type 0 where
-  pub number : number_at 0 bytes ≡ expected
+  pub number : number_at bytes 0 ≡ expected
   pub mark-is : get_or bytes 2 0 ≡ mark last
   pub zero-is : get_or bytes 3 0 ≡ 0
   pub fits : content_length bytes ≤ 506
@@ -147,7 +148,7 @@ full_from false length test e = leb-true _ _ test
 
 pub good_page : (expected : ℕ) (last : Bool) (bytes : List ℕ) → bad_place expected last bytes ≡ None → IsGood expected last bytes
 good_page expected last bytes none =
-    let number = passed (eqb (number_at 0 bytes) expected) 0 _ none in
+    let number = passed (eqb (number_at bytes 0) expected) 0 _ none in
     let second = passed (eqb (get_or bytes 2 0) (mark last)) 2 _ number.1 in
     let third = passed (eqb (get_or bytes 3 0) 0) 3 _ second.1 in
     let fourth = passed (has_length last (content_length bytes)) 4 _ third.1 in
@@ -175,7 +176,7 @@ pub good_is_none : (expected : ℕ) (last : Bool) (bytes : List ℕ) → IsGood 
 good_is_none expected last bytes good =
     let items-are = good.items in
     let blank-is = good.blank in
-    pass (eqb (number_at 0 bytes) expected) 0 _ (eq-eqb _ _ good.number)
+    pass (eqb (number_at bytes 0) expected) 0 _ (eq-eqb _ _ good.number)
     (pass (eqb (get_or bytes 2 0) (mark last)) 2 _ (eq-eqb _ _ good.mark-is)
     (pass (eqb (get_or bytes 3 0) 0) 3 _ (eq-eqb _ _ good.zero-is)
     (pass (has_length last (content_length bytes)) 4 _ (and_from _ _ (le-leb _ _ good.fits) (full_to last (content_length bytes) good.full))
@@ -210,11 +211,11 @@ least_at expected last bytes at wrong fine =
 before_items : (content : List ℕ) (at : ℕ) → at < 6 → IsBadItem content at → ⊥
 before_items content at lt bad = absurd (omega (arith, bad.place))
 
-wrong_number : (expected : ℕ) (last : Bool) (bytes : List ℕ) → number_at 0 bytes ≢ expected → IsLeastWrong expected last bytes 0
+wrong_number : (expected : ℕ) (last : Bool) (bytes : List ℕ) → number_at bytes 0 ≢ expected → IsLeastWrong expected last bytes 0
 wrong_number expected last bytes other =
     record { wrong = other_number refl other; least = λ before lt. absurd (omega arith) }
 
-wrong_mark : (expected : ℕ) (last : Bool) (bytes : List ℕ) → number_at 0 bytes ≡ expected → get_or bytes 2 0 ≢ mark last → IsLeastWrong expected last bytes 2
+wrong_mark : (expected : ℕ) (last : Bool) (bytes : List ℕ) → number_at bytes 0 ≡ expected → get_or bytes 2 0 ≢ mark last → IsLeastWrong expected last bytes 2
 wrong_mark expected last bytes number other =
     least_at expected last bytes 2 (other_mark refl other)
     (record {
@@ -227,7 +228,7 @@ wrong_mark expected last bytes number other =
       blank = λ at lt behind. absurd (omega arith);
     })
 
-wrong_zero : (expected : ℕ) (last : Bool) (bytes : List ℕ) → number_at 0 bytes ≡ expected → get_or bytes 2 0 ≡ mark last → get_or bytes 3 0 ≢ 0 → IsLeastWrong expected last bytes 3
+wrong_zero : (expected : ℕ) (last : Bool) (bytes : List ℕ) → number_at bytes 0 ≡ expected → get_or bytes 2 0 ≡ mark last → get_or bytes 3 0 ≢ 0 → IsLeastWrong expected last bytes 3
 wrong_zero expected last bytes number mark-is other =
     least_at expected last bytes 3 (not_zero refl other)
     (record {
@@ -252,7 +253,7 @@ bad_length expected false bytes mark-is test =
       | inr few ↦ not_full refl mark-is (leb-false _ _ few)
     ]
 
-wrong_length : (expected : ℕ) (last : Bool) (bytes : List ℕ) → number_at 0 bytes ≡ expected → get_or bytes 2 0 ≡ mark last → get_or bytes 3 0 ≡ 0 → has_length last (content_length bytes) ≡ false → IsLeastWrong expected last bytes 4
+wrong_length : (expected : ℕ) (last : Bool) (bytes : List ℕ) → number_at bytes 0 ≡ expected → get_or bytes 2 0 ≡ mark last → get_or bytes 3 0 ≡ 0 → has_length last (content_length bytes) ≡ false → IsLeastWrong expected last bytes 4
 wrong_length expected last bytes number mark-is zero-is test =
     least_at expected last bytes 4 (bad_length expected last bytes mark-is test)
     (record {
@@ -267,7 +268,7 @@ wrong_length expected last bytes number mark-is zero-is test =
 
 -- the header is right
 record IsHeader (expected : ℕ) (last : Bool) (bytes : List ℕ) : Type 0 where
-  number : number_at 0 bytes ≡ expected
+  number : number_at bytes 0 ≡ expected
   mark-is : get_or bytes 2 0 ≡ mark last
   zero-is : get_or bytes 3 0 ≡ 0
   fits : content_length bytes ≤ 506
@@ -319,7 +320,7 @@ wrong_blank expected last bytes place header none found =
       blank = λ at lt behind within. before_other bytes from at place f lt behind;
     })
 
-wrong_body : (expected : ℕ) (last : Bool) (bytes : List ℕ) (at : ℕ) → number_at 0 bytes ≡ expected → get_or bytes 2 0 ≡ mark last → get_or bytes 3 0 ≡ 0 → has_length last (content_length bytes) ≡ true
+wrong_body : (expected : ℕ) (last : Bool) (bytes : List ℕ) (at : ℕ) → number_at bytes 0 ≡ expected → get_or bytes 2 0 ≡ mark last → get_or bytes 3 0 ≡ 0 → has_length last (content_length bytes) ≡ true
     → bad_body (content_length bytes) bytes ≡ Some at → IsLeastWrong expected last bytes at
 wrong_body expected last bytes at number mark-is zero-is test found =
     let lengths = and_parts _ _ test in
@@ -332,10 +333,10 @@ wrong_body expected last bytes at number mark-is zero-is test found =
 
 pub least_wrong : (expected : ℕ) (last : Bool) (bytes : List ℕ) (at : ℕ) → bad_place expected last bytes ≡ Some at → IsLeastWrong expected last bytes at
 least_wrong expected last bytes at found =
-    elim (stopped (eqb (number_at 0 bytes) expected) 0 at _ found) [
+    elim (stopped (eqb (number_at bytes 0) expected) 0 at _ found) [
       | inl number ↦ rw number.1 (wrong_number expected last bytes (eqb-false _ _ number.0))
       | inr number ↦
-          let number-is : number_at 0 bytes ≡ expected = eqb-true _ _ number.0 in
+          let number-is : number_at bytes 0 ≡ expected = eqb-true _ _ number.0 in
           elim (stopped (eqb (get_or bytes 2 0) (mark last)) 2 at _ number.1) [
             | inl second ↦ rw second.1 (wrong_mark expected last bytes number-is (eqb-false _ _ second.0))
             | inr second ↦

@@ -6,7 +6,8 @@ use Rattle.solo_base.specs.declared.page.Page.{Page}
 use Rattle.page_codec.specs.declared.judge.BadPage.{BadPage}
 use Rattle.page_codec.specs.Items.{items_bytes}
 use Rattle.page_codec.specs.Form.{mark, IsPage}
-use Rattle.page_codec.specs.Places.{number_at, content_of, IsLeastWrong}
+use Rattle.solo_base.specs.PageBytes.{number_at}
+use Rattle.page_codec.specs.Places.{content_of, IsLeastWrong}
 use Rattle.page_codec.specs.Reading.{items_after, bad_place, PageContent, content_or_bad, page_read}
 use Rattle.page_codec.specs.Stream.{IsStream, Awaited, ContinuesFrom, HasTaken}
 use Rattle.page_codec.specs.Laws.{is_empty, TheNextIsTaken, AllIsGiven}
@@ -33,7 +34,7 @@ place_in (Err bad) = bad.at
 pub read_taken : (expected : ℕ) (last : Bool) (page : Page) → bad_place expected last page.0 ≡ None → page_read expected last page ≡ good (items_after 0 (content_of page.0)) last
 read_taken expected last page none = ap (λ (o : Option ℕ). content_or_bad expected last page.0 o) none
 
-pub read_refused : (expected : ℕ) (last : Bool) (page : Page) (at : ℕ) → bad_place expected last page.0 ≡ Some at → page_read expected last page ≡ bad expected (number_at 0 page.0) at
+pub read_refused : (expected : ℕ) (last : Bool) (page : Page) (at : ℕ) → bad_place expected last page.0 ≡ Some at → page_read expected last page ≡ bad expected (number_at page.0 0) at
 read_refused expected last page at found = ap (λ (o : Option ℕ). content_or_bad expected last page.0 o) found
 
 -- ---- a page is taken exactly where it is in the form
@@ -50,7 +51,7 @@ form_from_taken expected last items page long fits taken =
           let items-are : items_after 0 (content_of page.0) ≡ items = ap items_in (sym (read_taken expected last page none) ∙ taken) in
           subst (λ (l : List Item). IsPage expected last l page) items-are (is_page expected last page long fits none)
       | inr found ↦
-          let e : bad expected (number_at 0 page.0) found.0 ≡ good items last = sym (read_refused expected last page found.0 found.1) ∙ taken in
+          let e : bad expected (number_at page.0 0) found.0 ≡ good items last = sym (read_refused expected last page found.0 found.1) ∙ taken in
           absurd cc
     ]
 
@@ -61,12 +62,12 @@ form_exact expected last page result small long fits read items =
 
 -- ---- and refused at its least wrong place
 
-wrong_from_refused : (expected : ℕ) (last : Bool) (page : Page) (at : ℕ) → page_read expected last page ≡ bad expected (number_at 0 page.0) at → IsLeastWrong expected last page.0 at
+wrong_from_refused : (expected : ℕ) (last : Bool) (page : Page) (at : ℕ) → page_read expected last page ≡ bad expected (number_at page.0 0) at → IsLeastWrong expected last page.0 at
 unfolding place_in
 wrong_from_refused expected last page at refused =
     elim (some_or_none (bad_place expected last page.0)) [
       | inl none ↦
-          let e : good (items_after 0 (content_of page.0)) last ≡ bad expected (number_at 0 page.0) at = sym (read_taken expected last page none) ∙ refused in
+          let e : good (items_after 0 (content_of page.0)) last ≡ bad expected (number_at page.0 0) at = sym (read_taken expected last page none) ∙ refused in
           absurd cc
       | inr found ↦
           let at-is : found.0 ≡ at = ap place_in (sym (read_refused expected last page found.0 found.1) ∙ refused) in
@@ -74,7 +75,7 @@ wrong_from_refused expected last page at refused =
     ]
 
 pub wrong_exact : (expected : ℕ) (last : Bool) (page : Page) (result : Result PageContent BadPage) → result ≡ page_read expected last page
-    → (at : ℕ) → (IsLeastWrong expected last page.0 at → result ≡ bad expected (number_at 0 page.0) at) × (result ≡ bad expected (number_at 0 page.0) at → IsLeastWrong expected last page.0 at)
+    → (at : ℕ) → (IsLeastWrong expected last page.0 at → result ≡ bad expected (number_at page.0 0) at) × (result ≡ bad expected (number_at page.0 0) at → IsLeastWrong expected last page.0 at)
 wrong_exact expected last page result read at =
     (λ least. read ∙ read_refused expected last page at (least_found expected last page.0 at least), λ refused. wrong_from_refused expected last page at (sym read ∙ refused))
 

@@ -1,8 +1,8 @@
 -- The form of a spool page.
 use Rattle.std.specs.Prelude.{◌≡◌, ℕ, ◌-◌, ◌≤◌, Bool, true, false, List, ◌∷◌, ◌++◌, length, replicate}
-use Rattle.std.specs.Int.{w16, to_be_bytes}
 use Rattle.solo_base.specs.declared.item.Item.{Item}
 use Rattle.solo_base.specs.declared.page.Page.{Page}
+use Rattle.solo_base.specs.PageBytes.{number_bytes}
 use Rattle.page_codec.specs.declared.form.TheConstants.{CONTENT_ROOM, LEAST_FULL}
 use Rattle.page_codec.specs.Items.{items_bytes, AreItems}
 
@@ -14,7 +14,7 @@ mark false = 0
 -- its place in the stream modulo 65,536, its mark, 0, the length of its content, the content, zeros
 abbrev pub page_bytes : ℕ → Bool → List ℕ → List ℕ
 page_bytes place last content =
-    to_be_bytes w16 place ++ mark last ∷ 0 ∷ to_be_bytes w16 (length content)
+    number_bytes place ++ mark last ∷ 0 ∷ number_bytes (length content)
     ++ content ++ replicate (CONTENT_ROOM - length content) 0
 
 abbrev pub page_of : ℕ → Bool → List ℕ → Page

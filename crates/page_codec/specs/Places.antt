@@ -1,17 +1,14 @@
 -- What can be wrong with a page, and where: the places are those of its bytes.
-use Rattle.std.specs.Prelude.{◌≡◌, ◌≢◌, ℕ, ◌+◌, ◌*◌, ◌≤◌, ◌<◌, Bool, List, [], ◌++◌, length, take, drop, slice_index}
+use Rattle.std.specs.Prelude.{◌≡◌, ◌≢◌, ℕ, ◌+◌, ◌≤◌, ◌<◌, Bool, List, [], ◌++◌, length, take, drop, slice_index}
 use Rattle.solo_base.specs.declared.item.Item.{Item}
+use Rattle.solo_base.specs.PageBytes.{number_at}
 use Rattle.page_codec.specs.declared.form.TheConstants.{HEADER_LENGTH, CONTENT_ROOM, LEAST_FULL}
 use Rattle.page_codec.specs.Items.{item_bytes, items_bytes, IsItem, AreItems}
 use Rattle.page_codec.specs.Form.{mark}
 
--- the number in the bytes at this place and the next
-abbrev pub number_at : ℕ → List ℕ → ℕ
-number_at at bytes = slice_index bytes at * 256 + slice_index bytes (at + 1)
-
 -- the length of the content, as bytes 4 and 5 give it
 abbrev pub content_length : List ℕ → ℕ
-content_length bytes = number_at 4 bytes
+content_length bytes = number_at bytes 4
 
 abbrev pub content_of : List ℕ → List ℕ
 content_of bytes = take (content_length bytes) (drop HEADER_LENGTH bytes)
@@ -29,7 +26,7 @@ pub record IsBadItem (content : List ℕ) (at : ℕ) : Type 0 where
 
 -- this place is wrong, where the page with this number and this mark is expected
 pub data IsWrong (expected : ℕ) (last : Bool) (bytes : List ℕ) (at : ℕ) : Type 0 where
-  other_number : at ≡ 0 → number_at 0 bytes ≢ expected → IsWrong expected last bytes at
+  other_number : at ≡ 0 → number_at bytes 0 ≢ expected → IsWrong expected last bytes at
   other_mark : at ≡ 2 → slice_index bytes 2 ≢ mark last → IsWrong expected last bytes at
   not_zero : at ≡ 3 → slice_index bytes 3 ≢ 0 → IsWrong expected last bytes at
   too_long : at ≡ 4 → CONTENT_ROOM < content_length bytes → IsWrong expected last bytes at

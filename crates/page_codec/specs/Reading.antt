@@ -8,7 +8,8 @@ use Rattle.solo_base.specs.declared.page.Page.{Page}
 use Rattle.page_codec.specs.declared.form.TheConstants.{HEADER_LENGTH, CONTENT_ROOM, LEAST_FULL}
 use Rattle.page_codec.specs.declared.judge.BadPage.{BadPage}
 use Rattle.page_codec.specs.Form.{mark}
-use Rattle.page_codec.specs.Places.{number_at, content_length, content_of}
+use Rattle.solo_base.specs.PageBytes.{number_at}
+use Rattle.page_codec.specs.Places.{content_length, content_of}
 
 -- the first byte of an item, with what follows it, begins a whole item
 abbrev pub begins_item : ℕ → List ℕ → Bool
@@ -56,7 +57,7 @@ bad_body length bytes =
 -- the first place that is wrong
 abbrev pub bad_place : ℕ → Bool → List ℕ → Option ℕ
 bad_place expected last bytes =
-    if not (number_at 0 bytes == expected) then Some 0
+    if not (number_at bytes 0 == expected) then Some 0
     else if not (slice_index bytes 2 == mark last) then Some 2
     else if not (slice_index bytes 3 == 0) then Some 3
     else if not (has_length last (content_length bytes)) then Some 4
@@ -69,7 +70,7 @@ pub record PageContent : Type 0 where
 
 abbrev pub content_or_bad : ℕ → Bool → List ℕ → Option ℕ → Result PageContent BadPage
 content_or_bad expected last bytes None = Ok (record { items = items_after 0 (content_of bytes); last = last })
-content_or_bad expected last bytes (Some at) = Err (record { expected = expected; found = number_at 0 bytes; at = at })
+content_or_bad expected last bytes (Some at) = Err (record { expected = expected; found = number_at bytes 0; at = at })
 
 -- what a page gives where one with this number and this mark is expected
 abbrev pub page_read : ℕ → Bool → Page → Result PageContent BadPage

@@ -1,9 +1,8 @@
 ghost use Rattle.std.specs.Prelude.{◌≡◌, ◌+◌, ◌≤◌, ◌<◌, ℕ, length, slice_index};
-ghost use Rattle.page_codec.specs.Places.{number_at};
 ghost use Rattle.page_codec.specs.Reading.{begins_item, characters, bad_item_after, first_other_than_zero, has_length, bad_body, bad_place};
 
 use crate::form::{CONTENT_ROOM, HEADER_LENGTH, LEAST_FULL, SPOILED, mark};
-use solo_base::{LINE_LENGTH, PAGE_LENGTH, all_printable};
+use solo_base::{LINE_LENGTH, PAGE_LENGTH, all_printable, number_at};
 
 /// What shows that a page isn't the one that was expected: the place in the stream that was expected,
 /// the one that the page has, and its least byte that is wrong.
@@ -12,14 +11,6 @@ pub struct BadPage {
     pub expected: u16,
     pub found: u16,
     pub at: u16,
-}
-
-/// The number in the bytes at a place and the next.
-pub fn number_at(bytes: &[u8], at: usize) -> u16
-    requires { at + 1 < length bytes.now }
-    ensures { result ≡ number_at at bytes.now }
-{
-    u16::from_be_bytes([bytes[at], bytes[at + 1]])
 }
 
 /// How many bytes of an item follow its first.

@@ -3,8 +3,8 @@ ghost use Rattle.page_codec.specs.Places.{content_length, content_of};
 ghost use Rattle.page_codec.specs.Reading.{begins_item, item_at, items_after, bad_item_after};
 
 use crate::form::{CONTENT_ROOM, HEADER_LENGTH, SPOILED};
-use crate::judge::{characters, number_at};
-use solo_base::{Item, Line, Page};
+use crate::judge::characters;
+use solo_base::{Item, Line, Page, number_at};
 use std::marker::Model;
 
 /// The items of a page that are still to be given, in order, and whether the page is the last.

@@ -2,13 +2,14 @@ ghost use Rattle.std.specs.Prelude.{◌≡◌, ℕ, false, List, [], ◌∷◌, 
 ghost use Rattle.solo_base.specs.declared.item.Item.{Item};
 ghost use Rattle.solo_base.specs.declared.page.Page.{Page};
 ghost use Rattle.page_codec.specs.Form.{IsPage};
-ghost use Rattle.page_codec.specs.Places.{number_at, IsLeastWrong};
+ghost use Rattle.solo_base.specs.PageBytes.{number_at};
+ghost use Rattle.page_codec.specs.Places.{IsLeastWrong};
 ghost use Rattle.page_codec.specs.Reading.{page_read};
 ghost use Rattle.page_codec.specs.Stream.{at_the_first, awaited_after, HasTaken};
 
-use crate::judge::{BadPage, bad_place, number_at};
+use crate::judge::{BadPage, bad_place};
 use crate::page_items::PageItems;
-use solo_base::Page;
+use solo_base::{Page, number_at};
 use std::marker::Model;
 
 /// Takes the pages of a stream in order and gives their items. Places of pages count modulo 65,536.
@@ -51,7 +52,7 @@ impl Unpacker {
         ensures form { (items : List Item) → IsPage self.old.place last items page.now
             ↔ (result ≡ Ok (record { items = items; last = last })) }
         ensures wrong { (at : ℕ) → IsLeastWrong self.old.place last page.now.0 at
-            ↔ (result ≡ Err (record { expected = self.old.place; found = number_at 0 page.now.0; at = at })) }
+            ↔ (result ≡ Err (record { expected = self.old.place; found = number_at page.now.0 0; at = at })) }
 
         ensures history { (pages : List Page) (items : List Item) → HasTaken self.old pages items
             → IfOk result (λ given. HasTaken self.new (pages ++ page.now ∷ []) (items ++ given.items)) }

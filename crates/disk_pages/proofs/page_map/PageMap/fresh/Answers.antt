@@ -4,8 +4,8 @@ use Rattle.disk_pages.proofs.page_map.PageMap.fresh.Goals as goal
 
 pub loop-n-init : goal.loop-n-init
 loop-n-init c = record {
-  first = none_marked _ _ c.blank_page-low.ensures c.blank_page-high.ensures;
-  zeros = zeros_end _ c.blank_page-high.ensures;
+  first = none_marked _ _ c.zeros-low.ensures c.zeros-high.ensures;
+  zeros = zeros_end _ c.zeros-high.ensures;
 }
 
 pub loop-n-preserved : goal.loop-n-preserved

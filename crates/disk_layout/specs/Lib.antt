@@ -1,0 +1,10 @@
+pub use Rattle.disk_pages.specs.Pages
+pub use Rattle.disk_pages.specs.Field
+pub mod Disk
+pub mod Format
+pub mod Files
+pub mod Format1
+pub mod Layout
+pub mod Appending
+pub mod Writing
+pub mod Judging

@@ -1,0 +1,21 @@
+ghost use Rattle.std.specs.Prelude.{◌≡◌, ◌↔◌, IsTrue};
+ghost use Rattle.disk_layout.specs.Format.{label};
+
+use disk_pages::set_name_bytes;
+use solo_base::Page;
+
+/// The first page of a Solo disk: `SOLODISK`, the numbers 2 and 4,288, zeros.
+pub fn label() -> Page
+    ensures { result.0 ≡ label }
+{
+    let mut page = Page::zeros();
+    set_name_bytes(&mut page, 0, *b"SOLODISK\x00\x02\x10\xc0");
+    Page(*page.bytes())
+}
+
+/// Whether this page is the first of a Solo disk.
+pub fn is_label(page: &Page) -> bool
+    ensures { IsTrue result ↔ (page.now.0 ≡ label) }
+{
+    page.0 == label().0
+}
