@@ -1,3 +1,3 @@
-pub mod Places
 pub mod RingSteps
-pub mod History
+pub mod Running
+pub mod Meeting

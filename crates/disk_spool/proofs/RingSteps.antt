@@ -4,7 +4,7 @@ use Rattle.std.proofs.lemmas.List.{nil_from_length}
 use Rattle.std.proofs.lemmas.Bool.{cases_eq}
 use Rattle.queue_var.specs.Fifo.{place, places}
 use Rattle.disk_spool.specs.Ring.{Ring, at_places, with_page, without_first}
-use Rattle.disk_spool.proofs.Places.{length_at_places, put_behind, earliest_apart}
+use Rattle.disk_spool.specs.Places.{length_at_places, put_behind, earliest_apart}
 
 -- the ring of these fields
 abbrev pub ring_of : ℕ → ℕ → ℕ → List Bool → Ring

@@ -6,3 +6,8 @@ pub use Rattle.solo_devices.specs.Area
 pub use Rattle.solo_devices.specs.Count
 pub mod Ring
 pub mod Spool
+pub mod Places
+pub mod History
+pub mod Calls
+pub mod Laws
+pub mod Ends

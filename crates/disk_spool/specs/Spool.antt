@@ -1,10 +1,11 @@
 -- What a spool answers, how it stands afterwards, and the history that it stands for.
-use Rattle.std.specs.Prelude.{◌≡◌, ℕ, Bool, true, false, not, ◌==◌, Option, Some, List, [], ◌∷◌, ◌++◌, length, drop, map, slice_index}
+use Rattle.std.specs.Prelude.{◌≡◌, ◌<◌, ℕ, Bool, true, false, not, ◌==◌, Option, Some, List, [], ◌∷◌, ◌++◌, length, drop, map, slice_index}
 use Rattle.solo_base.specs.declared.outcome.Side.{Side}
 use Rattle.solo_base.specs.declared.outcome.Side.TheVariants.{Sender, Receiver}
 use Rattle.queue_var.specs.Fifo.{places}
 use Rattle.queue_var.specs.Sides.{Sides, nobody, stopped_by, entered, delayed, continued, stopped, other}
 use Rattle.queue_var.specs.HandsOver.{HandsOver, StoppedFirst}
+use Rattle.solo_devices.specs.Area.{HasSize}
 use Rattle.solo_devices.specs.declared.area.Moved.{Moved}
 use Rattle.disk_spool.specs.Ring.{Ring, empty_ring, with_page, without_first, at_places}
 use Rattle.disk_spool.specs.declared.answers.Await.{Await}
@@ -46,6 +47,9 @@ pub record StandsFor {A : Type 0} (told_by : A → Option (List (List ℕ))) (se
   pub marks : HandsOver spool.ring.capacity (map mark sent) (map received_mark taken) spool.ring.marks spool.sides
   pub pages : (told : List (List ℕ)) → told_by spool.area ≡ Some told → map received_page taken ++ pages_inside told spool.ring ≡ sent
   pub stopped_first : StoppedFirst stops spool.sides.stops
+  -- the earliest page lies on the area, which tells as many pages as the ring has places
+  pub first_below : spool.ring.first < spool.ring.capacity
+  pub size : HasSize (told_by spool.area) spool.ring.capacity
 
 -- by who stopped first, and by whether the ring is full
 abbrev pub room_by : Option Side → Bool → Await

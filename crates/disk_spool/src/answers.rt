@@ -18,3 +18,7 @@ pub enum Fetched {
     Done { last: bool },
     Failed,
 }
+
+/// The answer of a running spool to an await: the other side stopped first, and nothing more comes of it.
+#[derive(Clone, Copy, Debug, PartialEq, Eq)]
+pub struct Ended;

@@ -35,7 +35,7 @@ impl Model for Ring {
     ghost invariant = { λ r. (r.first < r.capacity) × (r.held ≤ r.capacity) × (r.capacity ≤ 256) };
 }
 
-#[tactic(auto, using(crate::proofs::Places::length_at_places))]
+#[tactic(auto, using(crate::specs::Places::length_at_places))]
 impl Ring {
     /// A ring of so many places, all free.
     pub fn new(capacity: u16) -> Ring
@@ -62,6 +62,13 @@ impl Ring {
         ensures { IsTrue result ↔ (self.now.marks ≡ []) }
     {
         self.held == 0
+    }
+
+    /// How many pages it holds.
+    pub fn held(&self) -> u16
+        ensures { result ≡ length self.now.marks }
+    {
+        self.held
     }
 
     /// The place of the earliest page.

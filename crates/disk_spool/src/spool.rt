@@ -1,10 +1,11 @@
 // A monitor with a ring of pages on a disk.
-ghost use Rattle.std.specs.Prelude.{◌≡◌, ◌≢◌, ◌↔◌, ◌⊎◌, ◌<◌, ◌≤◌, ℕ, List, [], ◌∷◌, ◌++◌, length, false, IsTrue};
+ghost use Rattle.std.specs.Prelude.{◌≡◌, ◌≢◌, ◌↔◌, ◌⊎◌, ◌<◌, ◌≤◌, ℕ, List, [], ◌∷◌, ◌++◌, length, false, IsTrue, Some};
 ghost use Rattle.solo_base.specs.declared.outcome.Side.{Side};
 ghost use Rattle.solo_base.specs.declared.outcome.Side.TheVariants.{Sender, Receiver};
 ghost use Rattle.queue_var.specs.declared.turn.Turn.TheVariants.{Free};
 ghost use Rattle.queue_var.specs.Turn.{handed};
-ghost use Rattle.queue_var.specs.Sides.{MayEnter, queue, stopped_by, has_stopped};
+ghost use Rattle.queue_var.specs.Sides.{MayEnter, MayStop, queue, stopped_by, has_stopped};
+ghost use Rattle.queue_var.specs.HandsOver.{earliest};
 ghost use Rattle.solo_devices.specs.Area.{ReadsFrom, Writes, CountsFaults};
 ghost use Rattle.disk_spool.specs.Ring.{next_place};
 ghost use Rattle.disk_spool.specs.Spool.{Received, StandsFor, empty_spool, mark, room_answer, item_answer, after_await, after_put, sent_with, after_take, taken_with, moved, AnswersFirst, after_stop};
@@ -64,6 +65,20 @@ impl<A: Area> Spool<A> {
         self.sides.admits(p)
     }
 
+    /// Whether a process may enter by a side, to await room or an item.
+    pub fn may_enter(&self, side: Side, p: ProcNo) -> bool
+        ensures { IsTrue result ↔ MayEnter self.now.sides side p }
+    {
+        self.sides.may_enter(side, p)
+    }
+
+    /// Whether a side may stop.
+    pub fn may_stop(&self, side: Side) -> bool
+        ensures { IsTrue result ↔ MayStop self.now.sides side }
+    {
+        self.sides.may_stop(side)
+    }
+
     /// The process to which the turn is handed.
     pub fn handed(&self) -> Option<ProcNo>
         ensures process { result ≡ handed self.now.sides.turn (queue self.now.sides) }
@@ -74,7 +89,9 @@ impl<A: Area> Spool<A> {
 
     /// The first side that stopped.
     pub fn stopped_by(&self) -> Option<Side>
-        ensures { result ≡ stopped_by self.now.sides }
+        ensures marked { result ≡ stopped_by self.now.sides }
+        ensures history { (sent : List (List ℕ)) (taken : List Received) (stops : List Side)
+            → StandsFor A.pages sent taken stops self.now → result ≡ earliest stops }
     {
         self.sides.stopped_by()
     }
@@ -84,6 +101,7 @@ impl<A: Area> Spool<A> {
         requires may_enter { MayEnter self.old.sides Sender p }
         requires not_stopped { has_stopped self.old.sides Sender ≡ false }
         ensures answer { result ≡ room_answer self.old }
+        ensures stopped { result ≡ Await.Stopped → stopped_by self.old.sides ≡ Some Receiver }
         ensures room { result ≡ Await.Ready → length self.new.ring.marks < self.new.ring.capacity }
         ensures after { self.new ≡ after_await self.old Sender p result }
         ensures history { (sent : List (List ℕ)) (taken : List Received) (stops : List Side)
@@ -130,6 +148,7 @@ impl<A: Area> Spool<A> {
         requires may_enter { MayEnter self.old.sides Receiver p }
         requires not_stopped { has_stopped self.old.sides Receiver ≡ false }
         ensures answer { result ≡ item_answer self.old }
+        ensures stopped { result ≡ Await.Stopped → (stopped_by self.old.sides ≡ Some Sender) × (self.old.ring.marks ≡ []) }
         ensures item { result ≡ Await.Ready → self.new.ring.marks ≢ [] }
         ensures after { self.new ≡ after_await self.old Receiver p result }
         ensures history { (sent : List (List ℕ)) (taken : List Received) (stops : List Side)
@@ -186,6 +205,13 @@ impl<A: Area> Spool<A> {
             Side::Sender => Side::Receiver,
             Side::Receiver => Side::Sender,
         });
+    }
+
+    /// How many pages were put and not taken.
+    pub fn left(&self) -> u16
+        ensures { result ≡ length self.now.ring.marks }
+    {
+        self.ring.held()
     }
 
     /// Gives the area back.

@@ -1,6 +1,6 @@
 use Rattle.std.proofs.Common.{rules}
 use Rattle.disk_spool.specs.declared.answers.Await.TheVariants as Await
-use Rattle.disk_spool.proofs.History.{item-stands}
+use Rattle.disk_spool.specs.History.{item-stands}
 use Rattle.disk_spool.proofs.spool.Spool.await_item.Goals as goal
 
 pub returns-then-not-is_empty-clause-history : goal.returns-then-not-is_empty-clause-history

@@ -1,6 +1,6 @@
 use Rattle.std.proofs.Common.{rules}
 use Rattle.disk_spool.specs.declared.answers.Await.TheVariants as Await
-use Rattle.disk_spool.proofs.History.{room-stands}
+use Rattle.disk_spool.specs.History.{room-stands}
 use Rattle.disk_spool.proofs.spool.Spool.await_room.Goals as goal
 
 pub returns-then-eq-clause-history : goal.returns-then-eq-clause-history

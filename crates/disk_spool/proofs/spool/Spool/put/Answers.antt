@@ -1,7 +1,7 @@
 use Rattle.std.proofs.Common.{rules, sym, ap, ◌∙◌}
 use Rattle.solo_devices.specs.declared.area.Moved.TheVariants as Moved
 use Rattle.disk_spool.specs.Ring.{Ring}
-use Rattle.disk_spool.proofs.History.{put-stands, size_kept}
+use Rattle.disk_spool.specs.History.{put-stands, size_kept}
 use Rattle.disk_spool.proofs.spool.Spool.put.Goals as goal
 
 pub invariant_of-self : goal.invariant_of-self
@@ -21,9 +21,9 @@ invariant_of-self-2 g c =
 pub returns-then-eq-clause-history : goal.returns-then-eq-clause-history
 returns-then-eq-clause-history g c = λ sent taken stops h.
     put-stands g.A.Area.pages c.args.self.now _ sent taken stops h c.write.new.self c.args.page.now.0 Moved.Failed c.requires.nobody_waits c.requires.room
-    (rw (← c.self.view_is) c.next_place-place.ensures.inside) (rw (← c.self.view_is, c.self.invariant.0) c.self.invariant.1) (search rules) (search rules)
+    (search rules) (search rules)
 
 pub returns-clause-history : goal.returns-clause-history
 returns-clause-history g c = λ sent taken stops h.
     put-stands g.A.Area.pages c.args.self.now _ sent taken stops h c.write.new.self c.args.page.now.0 Moved.Done c.requires.nobody_waits c.requires.room
-    (rw (← c.self.view_is) c.next_place-place.ensures.inside) (rw (← c.self.view_is, c.self.invariant.0) c.self.invariant.1) (search rules) (search rules)
+    (search rules) (search rules)

@@ -1,5 +1,5 @@
 use Rattle.std.proofs.Common.{rules}
-use Rattle.disk_spool.proofs.History.{stop-stands}
+use Rattle.disk_spool.specs.History.{stop-stands}
 use Rattle.disk_spool.proofs.spool.Spool.stop.Goals as goal
 
 pub returns-clause-history : goal.returns-clause-history

@@ -6,12 +6,10 @@ use Rattle.std.proofs.lemmas.Option.{unwrap_or-slice_get, get_or_from_slice_get}
 use Rattle.std.proofs.lemmas.Bool.{eqb-true}
 use Rattle.solo_base.specs.declared.outcome.Side.{Side}
 use Rattle.solo_base.specs.declared.outcome.Side.TheVariants.{Sender, Receiver}
-use Rattle.queue_var.specs.declared.stops.Stops.{Stops}
-use Rattle.queue_var.specs.declared.stops.Stops.TheVariants.{Neither, One, Both}
 use Rattle.queue_var.specs.Fifo.{places}
-use Rattle.queue_var.specs.Sides.{Sides, MayEnter, queue, stopped_by, has_stopped, is_among, first_of, continued, stopped}
+use Rattle.queue_var.specs.Sides.{Sides, MayEnter, queue, stopped_by, has_stopped, continued, stopped}
 use Rattle.queue_var.specs.HandsOver.{WaitsWithCause, HandsOver, StoppedFirst, Lacks}
-use Rattle.queue_var.proofs.Waits.{waits-entered, waits-turned_away, waits-delayed, waits-continued, stops-more}
+use Rattle.queue_var.proofs.Waits.{waits-entered, waits-turned_away, waits-delayed, waits-continued, stops-more, not_first}
 use Rattle.solo_devices.specs.Area.{ReadsFrom, Writes, HasSize, IsSameBut}
 use Rattle.solo_devices.specs.declared.area.Moved.{Moved}
 use Rattle.disk_spool.specs.Ring.{Ring, next_place, with_page, without_first, at_places}
@@ -19,16 +17,7 @@ use Rattle.disk_spool.specs.Spool.{Spool, Received, StandsFor, received_page, re
 use Rattle.disk_spool.specs.declared.answers.Await.{Await}
 use Rattle.disk_spool.specs.declared.answers.Await.TheVariants.{Ready, Delayed, Stopped}
 use Rattle.disk_spool.specs.declared.answers.Fetched.{Fetched}
-use Rattle.disk_spool.proofs.Places.{kept_behind, put_behind, earliest_apart}
-
--- who hasn't stopped was not the first to stop
-not_first : (stops : Stops) (side : Side) → is_among side stops ≡ false → first_of stops ≡ Some side → ⊥
-not_first Neither side n f = cc
-not_first (One Sender) Sender n f = cc
-not_first (One Sender) Receiver n f = cc
-not_first (One Receiver) Sender n f = cc
-not_first (One Receiver) Receiver n f = cc
-not_first (Both first) side n f = cc
+use Rattle.disk_spool.specs.Places.{place_below, kept_behind, put_behind, earliest_apart}
 
 -- ---- the awaits
 room_waits : {T : Type 0} (capacity : ℕ) (marks : List T) (sides : Sides) (by : Option Side) (full : Bool) (p : ℕ) → stopped_by sides ≡ by → (length marks == capacity) ≡ full
@@ -60,6 +49,8 @@ module _ {A : Type 0} (told_by : A → Option (List (List ℕ))) (spool new : Sp
         marks = record { in_order = h.marks.in_order; within = h.marks.within; waits = waits };
         pages = h.pages;
         stopped_first = subst (StoppedFirst stops) (sym (stops_stay spool.sides side p answer)) h.stopped_first;
+        first_below = h.first_below;
+        size = h.size;
       }
 
   pub room-stands : (p : ℕ) (answer : Await) → MayEnter spool.sides Sender p → has_stopped spool.sides Sender ≡ false → answer ≡ room_answer spool
@@ -79,9 +70,22 @@ module _ {A : Type 0} (told_by : A → Option (List (List ℕ))) (spool new : Sp
         marks = record { in_order = h.marks.in_order; within = h.marks.within; waits = waits-continued (Lacks spool.ring.capacity spool.ring.marks) (stopped spool.sides side) side none };
         pages = h.pages;
         stopped_first = stops-more stops spool.sides.stops side h.stopped_first;
+        first_below = h.first_below;
+        size = h.size;
       }
 
 -- ---- the pages on the area
+-- a write keeps how many pages the area has
+pub size_kept : (before now : Option (List (List ℕ))) (n size : ℕ) (answer : Moved) (page : List ℕ) → Writes before now n answer page → HasSize before size → HasSize now size
+size_kept None now n size answer page w h told is = let none = w.untold refl in cc
+size_kept (Some all) now n size Moved.Done page w h told is =
+    let same : told ≡ slice_set all n page = (let wrote = w.told all refl in cc) in
+    ap length same ∙ length-set all n page ∙ h all refl
+size_kept (Some all) now n size Moved.Failed page w h told is =
+    let wrote = w.told all refl in
+    let same : told ≡ wrote.0 = (let is_after = wrote.1 in cc) in
+    ap length same ∙ wrote.2.as_many ∙ h all refl
+
 -- a write that failed leaves the pages at the places of the ring
 spoiled_apart : (n : ℕ) (told after : List (List ℕ)) → IsSameBut n told after → (j : ℕ) → j ≢ n → get_or after j [] ≡ get_or told j []
 spoiled_apart n told after same j apart = sym (unwrap_or-slice_get after j []) ∙ ap (λ found. unwrap_or found []) (same.others j apart) ∙ unwrap_or-slice_get told j []
@@ -134,6 +138,14 @@ after_put_ring : {A : Type 0} (spool : Spool A) (area : A) (m : Bool) (answer : 
 after_put_ring spool area m Moved.Done = refl
 after_put_ring spool area m Moved.Failed = refl
 
+after_put_first : {A : Type 0} (spool : Spool A) (area : A) (m : Bool) (answer : Moved) → spool.ring.first < spool.ring.capacity → (after_put spool area m answer).ring.first < (after_put spool area m answer).ring.capacity
+after_put_first spool area m Moved.Done below = below
+after_put_first spool area m Moved.Failed below = below
+
+after_put_capacity : {A : Type 0} (spool : Spool A) (area : A) (m : Bool) (answer : Moved) → (after_put spool area m answer).ring.capacity ≡ spool.ring.capacity
+after_put_capacity spool area m Moved.Done = refl
+after_put_capacity spool area m Moved.Failed = refl
+
 after_put_area : {A : Type 0} (spool : Spool A) (area : A) (m : Bool) (answer : Moved) → (after_put spool area m answer).area ≡ area
 after_put_area spool area m Moved.Done = refl
 after_put_area spool area m Moved.Failed = refl
@@ -143,18 +155,26 @@ after_put_stops spool area m Moved.Done = refl
 after_put_stops spool area m Moved.Failed = refl
 
 module _ {A : Type 0} (told_by : A → Option (List (List ℕ))) (spool new : Spool A) (sent : List (List ℕ)) (taken : List Received) (stops : List Side) (h : StandsFor told_by sent taken stops spool) where
-  pub put-stands : (area : A) (page : List ℕ) (answer : Moved) → queue spool.sides Sender ≡ None → length spool.ring.marks < spool.ring.capacity → spool.ring.first < spool.ring.capacity
-      → HasSize (told_by spool.area) spool.ring.capacity → Writes (told_by spool.area) (told_by area) (next_place spool.ring) answer page
+  put_size : (area : A) (m : Bool) (page : List ℕ) (answer : Moved) → Writes (told_by spool.area) (told_by area) (next_place spool.ring) answer page
+      → HasSize (told_by (after_put spool area m answer).area) (after_put spool area m answer).ring.capacity
+  put_size area m page answer w told is =
+      size_kept (told_by spool.area) (told_by area) (next_place spool.ring) spool.ring.capacity answer page w h.size told (ap told_by (sym (after_put_area spool area m answer)) ∙ is)
+      ∙ sym (after_put_capacity spool area m answer)
+
+  pub put-stands : (area : A) (page : List ℕ) (answer : Moved) → queue spool.sides Sender ≡ None → length spool.ring.marks < spool.ring.capacity
+      → Writes (told_by spool.area) (told_by area) (next_place spool.ring) answer page
       → new ≡ after_put spool area (mark page) answer → StandsFor told_by (sent_with sent page answer) taken stops new
-  put-stands area page answer none room inside size w n =
+  put-stands area page answer none room w n =
       rw n
       record {
         marks = after_put_marks spool area answer sent (map received_mark taken) page room none h.marks;
         pages = λ told is.
             ap (λ ring. map received_page taken ++ pages_inside told ring) (after_put_ring spool area (mark page) answer)
-            ∙ put_pages (told_by spool.area) (told_by area) spool.ring (mark page) answer page sent taken w size inside room h.pages told
+            ∙ put_pages (told_by spool.area) (told_by area) spool.ring (mark page) answer page sent taken w h.size h.first_below room h.pages told
             (ap told_by (sym (after_put_area spool area (mark page) answer)) ∙ is);
         stopped_first = subst (StoppedFirst stops) (sym (after_put_stops spool area (mark page) answer)) h.stopped_first;
+        first_below = after_put_first spool area (mark page) answer h.first_below;
+        size = put_size area (mark page) page answer w;
       }
 
 -- the earliest page, and then the others
@@ -178,37 +198,30 @@ marks_removed capacity sent taken marks page last sides first none h = record {
 }
 
 after_take_stands : {A : Type 0} (told_by : A → Option (List (List ℕ))) (spool : Spool A) (sent : List (List ℕ)) (taken : List Received) (stops : List Side) (area : A) (page : List ℕ) (answer : Fetched)
-    → StandsFor told_by sent taken stops spool → queue spool.sides Receiver ≡ None → spool.ring.first < spool.ring.capacity → AnswersFirst spool.ring.marks answer
+    → StandsFor told_by sent taken stops spool → queue spool.sides Receiver ≡ None → AnswersFirst spool.ring.marks answer
     → ReadsFrom (told_by spool.area) (told_by area) spool.ring.first (moved answer) page → StandsFor told_by sent (taken_with taken page answer) stops (after_take spool area answer)
-after_take_stands told_by spool sent taken stops area page (Fetched.Done last) h none inside first r = record {
+after_take_stands told_by spool sent taken stops area page (Fetched.Done last) h none first r = record {
   marks = marks_removed spool.ring.capacity sent taken spool.ring.marks page last spool.sides first none h.marks;
   pages = λ told is.
       let was : told_by spool.area ≡ Some told = sym r.left ∙ is in
       ap (λ all. all ++ pages_inside told (without_first spool.ring)) (map_push received_page taken (record { page = page; last = last }))
       ∙ append_assoc (map received_page taken) (page ∷ []) (pages_inside told (without_first spool.ring))
-      ∙ ap (λ inside. map received_page taken ++ inside) (sym (first_page told spool.ring page last inside h.marks.within first (r.told told was)))
+      ∙ ap (λ inside. map received_page taken ++ inside) (sym (first_page told spool.ring page last h.first_below h.marks.within first (r.told told was)))
       ∙ h.pages told was;
   stopped_first = h.stopped_first;
+  first_below = let below = h.first_below in place_below spool.ring.capacity spool.ring.first 1 below (omega arith);
+  size = λ told is. h.size told (sym r.left ∙ is);
 }
-after_take_stands told_by spool sent taken stops area page Fetched.Failed h none inside first r = record {
+after_take_stands told_by spool sent taken stops area page Fetched.Failed h none first r = record {
   marks = h.marks;
   pages = λ told is. h.pages told (sym r.left ∙ is);
   stopped_first = h.stopped_first;
+  first_below = h.first_below;
+  size = λ told is. h.size told (sym r.left ∙ is);
 }
 
 pub take-stands : {A : Type 0} (told_by : A → Option (List (List ℕ))) (spool new : Spool A) (sent : List (List ℕ)) (taken : List Received) (stops : List Side) (area : A) (page : List ℕ) (answer : Fetched)
-    → StandsFor told_by sent taken stops spool → queue spool.sides Receiver ≡ None → spool.ring.first < spool.ring.capacity → AnswersFirst spool.ring.marks answer
+    → StandsFor told_by sent taken stops spool → queue spool.sides Receiver ≡ None → AnswersFirst spool.ring.marks answer
     → ReadsFrom (told_by spool.area) (told_by area) spool.ring.first (moved answer) page → new ≡ after_take spool area answer → StandsFor told_by sent (taken_with taken page answer) stops new
-take-stands told_by spool new sent taken stops area page answer h none inside first r n =
-    rw n (after_take_stands told_by spool sent taken stops area page answer h none inside first r)
-
--- a write keeps how many pages the area has
-pub size_kept : (before now : Option (List (List ℕ))) (n size : ℕ) (answer : Moved) (page : List ℕ) → Writes before now n answer page → HasSize before size → HasSize now size
-size_kept None now n size answer page w h told is = let none = w.untold refl in cc
-size_kept (Some all) now n size Moved.Done page w h told is =
-    let same : told ≡ slice_set all n page = (let wrote = w.told all refl in cc) in
-    ap length same ∙ length-set all n page ∙ h all refl
-size_kept (Some all) now n size Moved.Failed page w h told is =
-    let wrote = w.told all refl in
-    let same : told ≡ wrote.0 = (let is_after = wrote.1 in cc) in
-    ap length same ∙ wrote.2.as_many ∙ h all refl
+take-stands told_by spool new sent taken stops area page answer h none first r n =
+    rw n (after_take_stands told_by spool sent taken stops area page answer h none first r)
