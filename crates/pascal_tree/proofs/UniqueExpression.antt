@@ -1,8 +1,8 @@
 -- No two expressions have one spelling, whatever follows that doesn't continue them.
 use Rattle.std.proofs.Common.{◌≡◌, ◌≢◌, ℕ, ◌<◌, List, [], ◌∷◌, ◌++◌, Some, None, refl, sym, ap, ap₂, ◌∙◌, append_assoc, arith}
 use Rattle.pascal_tree.specs.Word.{Spot, NameAt, NumberAt, CharacterAt}
-use Rattle.pascal_tree.specs.Expression.{Expr, alone, compared, Simple, simple, Addends, no_addend, addend, Term, term, Multipliers, no_multiplier, multiplier, Factor, number, character, named, element, called, group, negated, Exprs, no_expr, next_expr}
-use Rattle.pascal_tree.specs.SpellExpression.{spelled_expr, spelled_simple, spelled_addends, spelled_term, spelled_multipliers, spelled_factor, spelled_exprs, symbol_at, name_at, number_at, character_at, relation_symbol, sign_symbol, adding_word, multiplying_word}
+use Rattle.pascal_tree.specs.Expression.{Expr, alone, compared, Simple, simple, Addends, no_addend, addend, Term, term, Multipliers, no_multiplier, multiplier, Factor, number, character, named, element, called, group, negated, Index, index, Arguments, arguments, Exprs, no_expr, next_expr}
+use Rattle.pascal_tree.specs.SpellExpression.{spelled_expr, spelled_simple, spelled_addends, spelled_term, spelled_multipliers, spelled_factor, spelled_index, spelled_arguments, spelled_exprs, symbol_at, name_at, number_at, character_at, relation_symbol, sign_symbol, adding_word, multiplying_word}
 use Rattle.pascal_tree.specs.declared.token.Word.{Word}
 use Rattle.pascal_tree.specs.declared.token.Word.TheVariants as word
 use Rattle.pascal_tree.specs.declared.token.Reserved.TheVariants as reserved
@@ -150,8 +150,8 @@ no_sign_factor : (f : Factor) (r : List Spot) → first_strength (spelled_factor
 no_sign_factor (number n) r h = absurd (omega arith)
 no_sign_factor (character n) r h = absurd (omega arith)
 no_sign_factor (named n) r h = absurd (omega arith)
-no_sign_factor (element n o e c) r h = absurd (omega arith)
-no_sign_factor (called n o e more c) r h = absurd (omega arith)
+no_sign_factor (element n i) r h = absurd (omega arith)
+no_sign_factor (called n a) r h = absurd (omega arith)
 no_sign_factor (group o e c) r h = absurd (omega arith)
 no_sign_factor (negated l f) r h = absurd (omega arith)
 
@@ -172,37 +172,26 @@ mutual
   unique_factor (number x) (number y) r s p q e = (ap number (same_number x y (first_of e)), rest_of e)
   unique_factor (character x) (character y) r s p q e = (ap character (same_character x y (first_of e)), rest_of e)
   unique_factor (named x) (named y) r s p q e = (ap named (same_name x y (first_of e)), rest_of e)
-  unique_factor (named x) (element y o f c) r s p q e =
+  unique_factor (named x) (element y (index o f c)) r s p q e =
       let h : first_strength r ≡ 4 = ap first_strength (rest_of e) in absurd (omega arith)
-  unique_factor (named x) (called y o f more c) r s p q e =
+  unique_factor (named x) (called y (arguments o f more c)) r s p q e =
       let h : first_strength r ≡ 4 = ap first_strength (rest_of e) in absurd (omega arith)
-  unique_factor (element x o f c) (named y) r s p q e =
+  unique_factor (element x (index o f c)) (named y) r s p q e =
       let h : 4 ≡ first_strength s = ap first_strength (rest_of e) in absurd (omega arith)
-  unique_factor (called x o f more c) (named y) r s p q e =
+  unique_factor (called x (arguments o f more c)) (named y) r s p q e =
       let h : 4 ≡ first_strength s = ap first_strength (rest_of e) in absurd (omega arith)
-  unique_factor (element x o f c) (called y p g more d) r s p' q e = absurd (differ _ _ _ _ (rest_of e) (λ h. cc))
-  unique_factor (called x o f more c) (element y p g d) r s p' q e = absurd (differ _ _ _ _ (rest_of e) (λ h. cc))
-  unique_factor (element x o f c) (element y u g d) r s p q e =
+  unique_factor (element x (index o f c)) (called y (arguments u g more d)) r s p q e = absurd (differ _ _ _ _ (rest_of e) (λ h. cc))
+  unique_factor (called x (arguments o f more c)) (element y (index u g d)) r s p q e = absurd (differ _ _ _ _ (rest_of e) (λ h. cc))
+  unique_factor (element x i) (element y j) r s p q e =
       let m = same_name x y (first_of e) in
-      let k = line_of _ _ _ _ (first_of (rest_of e)) in
-      let t : spelled_expr f ++ (symbol_at symbol.CloseIndex c ∷ r) ≡ spelled_expr g ++ (symbol_at symbol.CloseIndex d ∷ s) =
-      regroup (spelled_expr f) (symbol_at symbol.CloseIndex c ∷ []) r (spelled_expr g) (symbol_at symbol.CloseIndex d ∷ []) s (rest_of (rest_of e)) in
-      let b = unique_expr f g (symbol_at symbol.CloseIndex c ∷ r) (symbol_at symbol.CloseIndex d ∷ s) (omega arith) (omega arith) t in
-      let l : c ≡ d = line_of _ _ _ _ (first_of b.1) in
-      let z : r ≡ s = rest_of b.1 in
-      let w : f ≡ g = b.0 in
-      (cc, z)
-  unique_factor (called x o f es c) (called y u g fs d) r s p q e =
+      let b = unique_index i j r s (rest_of e) in
+      let w : i ≡ j = b.0 in
+      (cc, b.1)
+  unique_factor (called x a) (called y c) r s p q e =
       let m = same_name x y (first_of e) in
-      let k = line_of _ _ _ _ (first_of (rest_of e)) in
-      let t : spelled_expr f ++ (spelled_exprs es ++ (symbol_at symbol.Close c ∷ r)) ≡ spelled_expr g ++ (spelled_exprs fs ++ (symbol_at symbol.Close d ∷ s)) =
-      regroup3 (spelled_expr f) (spelled_exprs es) (symbol_at symbol.Close c ∷ []) r (spelled_expr g) (spelled_exprs fs) (symbol_at symbol.Close d ∷ []) s (rest_of (rest_of e)) in
-      let b = unique_expr f g _ _ (rw below_exprs (omega arith)) (rw below_exprs (omega arith)) t in
-      let w : f ≡ g = b.0 in
-      let a = unique_exprs es fs c d r s b.1 in
-      let v : es ≡ fs = a.0 in
-      let l : c ≡ d = a.1 in
-      (cc, a.2)
+      let b = unique_arguments a c r s (rest_of e) in
+      let w : a ≡ c = b.0 in
+      (cc, b.1)
   unique_factor (group o f c) (group u g d) r s p q e =
       let k = line_of _ _ _ _ (first_of e) in
       let t : spelled_expr f ++ (symbol_at symbol.Close c ∷ r) ≡ spelled_expr g ++ (symbol_at symbol.Close d ∷ s) =
@@ -217,6 +206,28 @@ mutual
       let w : f ≡ g = b.0 in
       (cc, b.1)
   unique_factor x y r s p q e = absurd (differ _ _ _ _ e (λ h. cc))
+
+  pub unique_index : (x y : Index) (r s : List Spot) → spelled_index x ++ r ≡ spelled_index y ++ s → (x ≡ y) × (r ≡ s)
+  unique_index (index o f c) (index u g d) r s e =
+      let k = line_of _ _ _ _ (first_of e) in
+      let t : spelled_expr f ++ (symbol_at symbol.CloseIndex c ∷ r) ≡ spelled_expr g ++ (symbol_at symbol.CloseIndex d ∷ s) =
+      regroup (spelled_expr f) (symbol_at symbol.CloseIndex c ∷ []) r (spelled_expr g) (symbol_at symbol.CloseIndex d ∷ []) s (rest_of e) in
+      let b = unique_expr f g (symbol_at symbol.CloseIndex c ∷ r) (symbol_at symbol.CloseIndex d ∷ s) (omega arith) (omega arith) t in
+      let l : c ≡ d = line_of _ _ _ _ (first_of b.1) in
+      let w : f ≡ g = b.0 in
+      (cc, rest_of b.1)
+
+  pub unique_arguments : (x y : Arguments) (r s : List Spot) → spelled_arguments x ++ r ≡ spelled_arguments y ++ s → (x ≡ y) × (r ≡ s)
+  unique_arguments (arguments o f es c) (arguments u g fs d) r s e =
+      let k = line_of _ _ _ _ (first_of e) in
+      let t : spelled_expr f ++ (spelled_exprs es ++ (symbol_at symbol.Close c ∷ r)) ≡ spelled_expr g ++ (spelled_exprs fs ++ (symbol_at symbol.Close d ∷ s)) =
+      regroup3 (spelled_expr f) (spelled_exprs es) (symbol_at symbol.Close c ∷ []) r (spelled_expr g) (spelled_exprs fs) (symbol_at symbol.Close d ∷ []) s (rest_of e) in
+      let b = unique_expr f g _ _ (rw below_exprs (omega arith)) (rw below_exprs (omega arith)) t in
+      let w : f ≡ g = b.0 in
+      let a = unique_exprs es fs c d r s b.1 in
+      let v : es ≡ fs = a.0 in
+      let l : c ≡ d = a.1 in
+      (cc, a.2)
 
   pub unique_exprs : (x y : Exprs) (c d : ℕ) (r s : List Spot) →
       spelled_exprs x ++ (symbol_at symbol.Close c ∷ r) ≡ spelled_exprs y ++ (symbol_at symbol.Close d ∷ s) → (x ≡ y) × (c ≡ d) × (r ≡ s)

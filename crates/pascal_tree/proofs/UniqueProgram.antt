@@ -1,19 +1,20 @@
 -- No two programs have one spelling.
 use Rattle.std.proofs.Common.{◌≡◌, ℕ, ◌≤◌, List, [], ◌∷◌, ◌++◌, Option, Some, None, refl, ap, arith}
 use Rattle.pascal_tree.specs.Word.{Spot, NameAt}
+use Rattle.pascal_tree.specs.Statement.{Body, body}
 use Rattle.pascal_tree.specs.Program.{Names, Consts, Group, Vars, ParameterGroup, Parameters, Block, Routine, procedure, function, Program}
 use Rattle.pascal_tree.specs.SpellExpression.{reserved_at, symbol_at, name_at}
+use Rattle.pascal_tree.specs.SpellConstant.{spelled_constant}
 use Rattle.pascal_tree.specs.SpellStatement.{spelled_body}
-use Rattle.pascal_tree.specs.SpellProgram.{spelled, spelled_heading, spelled_constant, spelled_definition, spelled_definitions, spelled_consts, spelled_more_names, spelled_kind, spelled_group, spelled_groups, spelled_vars, spelled_parameter_group, spelled_parameter_groups, spelled_parameters, spelled_block, spelled_routine, spelled_routines}
-use Rattle.pascal_tree.specs.Limits.{BodyFits, RoutineFits, RoutinesFit, IsTree}
-use Rattle.pascal_tree.proofs.UniqueExpression.{first_strength, first_of, rest_of, differ, same_name, same_number, same_character, line_of, regroup, regroup3}
+use Rattle.pascal_tree.specs.SpellProgram.{spelled, spelled_heading, spelled_definition, spelled_definitions, spelled_consts, spelled_more_names, spelled_kind, spelled_group, spelled_groups, spelled_vars, spelled_var, spelled_parameter_group, spelled_parameter_groups, spelled_parameters, spelled_block, spelled_routine, spelled_routines}
+use Rattle.pascal_tree.specs.Limits.{most_levels, BodyFits, RoutineFits, RoutinesFit, IsTree}
+use Rattle.pascal_tree.proofs.UniqueExpression.{first_strength, first_of, rest_of, differ, same_name, line_of, regroup, regroup3}
+use Rattle.pascal_tree.proofs.UniqueConstant.{unique_constant}
 use Rattle.pascal_tree.proofs.UniqueStatement.{unique_body}
 use Rattle.pascal_tree.specs.declared.token.Word.{Word}
 use Rattle.pascal_tree.specs.declared.token.Word.TheVariants as word
 use Rattle.pascal_tree.specs.declared.token.Reserved.TheVariants as reserved
 use Rattle.pascal_tree.specs.declared.token.Symbol.TheVariants as symbol
-use Rattle.pascal_tree.specs.declared.declaration.Constant.{Constant}
-use Rattle.pascal_tree.specs.declared.declaration.Constant.TheVariants as constant
 use Rattle.pascal_tree.specs.declared.declaration.Definition.{Definition}
 use Rattle.pascal_tree.specs.declared.declaration.Kind.{Kind}
 use Rattle.pascal_tree.specs.declared.declaration.Kind.TheVariants as kind
@@ -32,6 +33,10 @@ stage other = 0
 abbrev pub first_stage : List Spot → ℕ
 first_stage [] = 0
 first_stage (t ∷ more) = stage t.word
+
+-- a body begins with BEGIN
+pub stage_body : (b : Body) (r : List Spot) → first_stage (spelled_body b ++ r) ≡ 5
+stage_body (body b s e) r = refl
 
 same_definition : (x y : Definition) → x.name ≡ y.name → x.equal ≡ y.equal → x.value ≡ y.value → x.semicolon ≡ y.semicolon → x ≡ y
 same_definition x y a b c d =
@@ -55,9 +60,10 @@ same_vars : (x y : Vars) → x.line ≡ y.line → x.first ≡ y.first → x.res
 same_vars x y a b c =
     let e : (let v : Vars = record { line = x.line; first = x.first; rest = x.rest } in v) ≡ (let w : Vars = record { line = y.line; first = y.first; rest = y.rest } in w) = cc in e
 
-same_parameter_group : (x y : ParameterGroup) → x.names ≡ y.names → x.colon ≡ y.colon → x.kind ≡ y.kind → x ≡ y
-same_parameter_group x y a b c =
-    let e : (let v : ParameterGroup = record { names = x.names; colon = x.colon; kind = x.kind } in v) ≡ (let w : ParameterGroup = record { names = y.names; colon = y.colon; kind = y.kind } in w) = cc in e
+same_parameter_group : (x y : ParameterGroup) → x.var ≡ y.var → x.names ≡ y.names → x.colon ≡ y.colon → x.kind ≡ y.kind → x ≡ y
+same_parameter_group x y a b c d =
+    let e : (let v : ParameterGroup = record { var = x.var; names = x.names; colon = x.colon; kind = x.kind } in v)
+    ≡ (let w : ParameterGroup = record { var = y.var; names = y.names; colon = y.colon; kind = y.kind } in w) = cc in e
 
 same_parameters : (x y : Parameters) → x.opening ≡ y.opening → x.first ≡ y.first → x.rest ≡ y.rest → x.closing ≡ y.closing → x ≡ y
 same_parameters x y a b c d =
@@ -77,16 +83,6 @@ same_program : (x y : Program) → x.heading ≡ y.heading → x.consts ≡ y.co
 same_program x y a b c d f g h =
     let e : (let v : Program = record { heading = x.heading; consts = x.consts; vars = x.vars; routines = x.routines; body = x.body; period = x.period; end = x.end } in v)
     ≡ (let w : Program = record { heading = y.heading; consts = y.consts; vars = y.vars; routines = y.routines; body = y.body; period = y.period; end = y.end } in w) = cc in e
-
-unique_constant : (x y : Constant) (r s : List Spot) → spelled_constant x ++ r ≡ spelled_constant y ++ s → (x ≡ y) × (r ≡ s)
-unique_constant (constant.Name x) (constant.Name y) r s e = (ap constant.Name (same_name x y (first_of e)), rest_of e)
-unique_constant (constant.Number x) (constant.Number y) r s e = (ap constant.Number (same_number x y (first_of e)), rest_of e)
-unique_constant (constant.Character x) (constant.Character y) r s e = (ap constant.Character (same_character x y (first_of e)), rest_of e)
-unique_constant (constant.Negative l x) (constant.Negative m y) r s e =
-    let lm = line_of _ _ _ _ (first_of e) in
-    let xy = same_number x y (first_of (rest_of e)) in
-    (cc, rest_of (rest_of e))
-unique_constant x y r s e = absurd (differ _ _ _ _ e (λ h. cc))
 
 unique_definition : (x y : Definition) (r s : List Spot) → spelled_definition x ++ r ≡ spelled_definition y ++ s → (x ≡ y) × (r ≡ s)
 unique_definition x y r s e =
@@ -181,14 +177,26 @@ unique_vars (Some x) (Some y) r s p q e =
     let b = unique_groups x.rest y.rest r s (omega arith) (omega arith) a.1 in
     (ap Some (same_vars x y (line_of _ _ _ _ (first_of e)) a.0 b.0), b.1)
 
+unique_var : (x y : Option ℕ) (a b : NameAt) (r s : List Spot) →
+    spelled_var x ++ (name_at a ∷ r) ≡ spelled_var y ++ (name_at b ∷ s) → (x ≡ y) × (a ≡ b) × (r ≡ s)
+unique_var None None a b r s e = (refl, same_name a b (first_of e), rest_of e)
+unique_var None (Some y) a b r s e = absurd (differ _ _ _ _ e (λ h. cc))
+unique_var (Some x) None a b r s e = absurd (differ _ _ _ _ e (λ h. cc))
+unique_var (Some x) (Some y) a b r s e = (ap Some (line_of _ _ _ _ (first_of e)), same_name a b (first_of (rest_of e)), rest_of (rest_of e))
+
+-- what stands behind the first name of a parameter group
+abbrev behind_first : ParameterGroup → List Spot
+behind_first g = spelled_more_names (g.names).rest ++ (symbol_at symbol.Colon g.colon ∷ (name_at g.kind ∷ []))
+
 unique_parameter_group : (x y : ParameterGroup) (r s : List Spot) → spelled_parameter_group x ++ r ≡ spelled_parameter_group y ++ s → (x ≡ y) × (r ≡ s)
 unique_parameter_group x y r s e =
-    let n = same_name (x.names).first (y.names).first (first_of e) in
+    let h = regroup (spelled_var x.var) (name_at (x.names).first ∷ behind_first x) r (spelled_var y.var) (name_at (y.names).first ∷ behind_first y) s e in
+    let u = unique_var x.var y.var (x.names).first (y.names).first (behind_first x ++ r) (behind_first y ++ s) h in
     let t = regroup (spelled_more_names (x.names).rest) (symbol_at symbol.Colon x.colon ∷ (name_at x.kind ∷ [])) r
-    (spelled_more_names (y.names).rest) (symbol_at symbol.Colon y.colon ∷ (name_at y.kind ∷ [])) s (rest_of e) in
+    (spelled_more_names (y.names).rest) (symbol_at symbol.Colon y.colon ∷ (name_at y.kind ∷ [])) s u.2 in
     let a = unique_more_names (x.names).rest (y.names).rest x.colon y.colon _ _ t in
     let k = same_name x.kind y.kind (first_of a.2) in
-    (same_parameter_group x y (same_names x.names y.names n a.0) a.1 k, rest_of a.2)
+    (same_parameter_group x y u.0 (same_names x.names y.names u.1 a.0) a.1 k, rest_of a.2)
 
 unique_parameter_groups : (xs ys : List (ℕ × ParameterGroup)) (c d : ℕ) (r s : List Spot) →
     spelled_parameter_groups xs ++ (symbol_at symbol.Close c ∷ r) ≡ spelled_parameter_groups ys ++ (symbol_at symbol.Close d ∷ s) → (xs ≡ ys) × (c ≡ d) × (r ≡ s)
@@ -230,12 +238,14 @@ stage_routines [] r p = omega arith
 stage_routines (procedure l n p s b e ∷ rs) r q = omega arith
 stage_routines (function l n p c a s b e ∷ rs) r q = omega arith
 
-unique_block : (x y : Block) (r s : List Spot) → BodyFits x.body → BodyFits y.body → spelled_block x ++ r ≡ spelled_block y ++ s → (x ≡ y) × (r ≡ s)
+unique_block : (x y : Block) (r s : List Spot) → BodyFits x.body most_levels → BodyFits y.body most_levels → spelled_block x ++ r ≡ spelled_block y ++ s → (x ≡ y) × (r ≡ s)
 unique_block x y r s f g e =
     let t = regroup3 (spelled_consts x.consts) (spelled_vars x.vars) (spelled_body x.body) r (spelled_consts y.consts) (spelled_vars y.vars) (spelled_body y.body) s e in
+    let m = stage_body x.body r in
+    let n = stage_body y.body s in
     let a = unique_consts x.consts y.consts (spelled_vars x.vars ++ (spelled_body x.body ++ r)) (spelled_vars y.vars ++ (spelled_body y.body ++ s)) (stage_vars x.vars _ (omega arith)) (stage_vars y.vars _ (omega arith)) t in
     let b = unique_vars x.vars y.vars (spelled_body x.body ++ r) (spelled_body y.body ++ s) (omega arith) (omega arith) a.1 in
-    let c = unique_body x.body y.body r s f g b.1 in
+    let c = unique_body x.body y.body _ _ r s f g b.1 in
     (same_block x y a.0 b.0 c.0, c.1)
 
 unique_routine : (x y : Routine) (r s : List Spot) → RoutineFits x → RoutineFits y → spelled_routine x ++ r ≡ spelled_routine y ++ s → (x ≡ y) × (r ≡ s)
@@ -304,11 +314,13 @@ unique_program x y f g e =
     let ry = spelled_routines y.routines ++ by in
     let vx = spelled_vars x.vars ++ rx in
     let vy = spelled_vars y.vars ++ ry in
-    let sx = stage_vars x.vars rx (stage_routines x.routines bx refl) in
-    let sy = stage_vars y.vars ry (stage_routines y.routines by refl) in
+    let mx = stage_body x.body (tail_of x) in
+    let my = stage_body y.body (tail_of y) in
+    let sx = stage_vars x.vars rx (stage_routines x.routines bx mx) in
+    let sy = stage_vars y.vars ry (stage_routines y.routines by my) in
     let h = unique_heading x.heading y.heading (spelled_consts x.consts ++ vx) (spelled_consts y.consts ++ vy) (stage_consts x.consts vx sx) (stage_consts y.consts vy sy) e in
     let c = unique_consts x.consts y.consts vx vy sx sy h.1 in
-    let v = unique_vars x.vars y.vars rx ry (stage_routines x.routines bx refl) (stage_routines y.routines by refl) c.1 in
-    let r = unique_routines x.routines y.routines bx by f.routines g.routines refl refl v.1 in
-    let b = unique_body x.body y.body (tail_of x) (tail_of y) f.body g.body r.1 in
+    let v = unique_vars x.vars y.vars rx ry (stage_routines x.routines bx mx) (stage_routines y.routines by my) c.1 in
+    let r = unique_routines x.routines y.routines bx by f.routines g.routines mx my v.1 in
+    let b = unique_body x.body y.body _ _ (tail_of x) (tail_of y) f.body g.body r.1 in
     same_program x y h.0 c.0 v.0 r.0 b.0 (line_of _ _ _ _ (first_of b.1)) (line_of _ _ _ _ (first_of (rest_of b.1)))

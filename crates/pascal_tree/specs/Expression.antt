@@ -32,25 +32,26 @@ mutual
     number : NumberAt → Factor
     character : CharacterAt → Factor
     named : NameAt → Factor
-    element : NameAt → (opening : ℕ) → Expr → (closing : ℕ) → Factor
-    called : NameAt → (opening : ℕ) → Expr → Exprs → (closing : ℕ) → Factor
+    element : NameAt → Index → Factor
+    called : NameAt → Arguments → Factor
     group : (opening : ℕ) → Expr → (closing : ℕ) → Factor
     negated : ℕ → Factor → Factor
+
+  -- an expression between `(.` and `.)`
+  pub data Index : Type 0 where
+    index : (opening : ℕ) → Expr → (closing : ℕ) → Index
+
+  -- expressions between `(` and `)`
+  pub data Arguments : Type 0 where
+    arguments : (opening : ℕ) → Expr → Exprs → (closing : ℕ) → Arguments
 
   -- the later arguments of a call, each after its comma
   pub data Exprs : Type 0 where
     no_expr : Exprs
     next_expr : ℕ → Expr → Exprs → Exprs
 
--- an expression between `(.` and `.)`
-pub record Index : Type 0 where
-  pub opening : ℕ
-  pub place : Expr
-  pub closing : ℕ
-
--- expressions between `(` and `)`
-pub record Arguments : Type 0 where
-  pub opening : ℕ
-  pub first : Expr
-  pub rest : Exprs
-  pub closing : ℕ
+-- a relation and the simple expression behind it
+pub record Right : Type 0 where
+  pub relation : Relation
+  pub line : ℕ
+  pub simple : Simple

@@ -4,8 +4,14 @@ pub mod SeenExpression
 pub mod SpellExpression
 pub mod Statement
 pub mod SeenStatement
+pub mod SpellConstant
 pub mod SpellStatement
 pub mod Program
 pub mod SeenProgram
 pub mod SpellProgram
 pub mod Limits
+pub mod Lines
+pub mod Scopes
+pub mod ExpressionRules
+pub mod StatementRules
+pub mod DeclarationRules

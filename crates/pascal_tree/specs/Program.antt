@@ -30,8 +30,9 @@ pub record Vars : Type 0 where
   pub first : Group
   pub rest : List Group
 
--- parameters of one type
+-- parameters of one type, with the line of their VAR where they are variables
 pub record ParameterGroup : Type 0 where
+  pub var : Option ℕ
   pub names : Names
   pub colon : ℕ
   pub kind : NameAt

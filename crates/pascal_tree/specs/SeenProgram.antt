@@ -26,7 +26,7 @@ abbrev pub seen_vars : vars.Vars → Vars
 seen_vars v = record { line = v.line; first = seen_group v.first; rest = map seen_group (v.rest).items }
 
 abbrev pub seen_parameter_group : parameter_groups.ParameterGroup → ParameterGroup
-seen_parameter_group g = record { names = seen_names g.names; colon = g.colon; kind = g.kind }
+seen_parameter_group g = record { var = g.var; names = seen_names g.names; colon = g.colon; kind = g.kind }
 
 abbrev pub seen_parameters : parameters.Parameters → Parameters
 seen_parameters p =

@@ -1,7 +1,7 @@
 -- The words of an expression, production by production.
 use Rattle.std.specs.Prelude.{ℕ, List, [], ◌∷◌, ◌++◌, Option, Some, None}
 use Rattle.pascal_tree.specs.Word.{Spot, NameAt, NumberAt, CharacterAt}
-use Rattle.pascal_tree.specs.Expression.{Expr, alone, compared, Simple, simple, Addends, no_addend, addend, Term, term, Multipliers, no_multiplier, multiplier, Factor, number, character, named, element, called, group, negated, Exprs, no_expr, next_expr, Index, Arguments}
+use Rattle.pascal_tree.specs.Expression.{Right, Expr, alone, compared, Simple, simple, Addends, no_addend, addend, Term, term, Multipliers, no_multiplier, multiplier, Factor, number, character, named, element, called, group, negated, Index, index, Arguments, arguments, Exprs, no_expr, next_expr}
 use Rattle.pascal_tree.specs.declared.token.Word.{Word}
 use Rattle.pascal_tree.specs.declared.token.Word.TheVariants as word
 use Rattle.pascal_tree.specs.declared.token.Reserved.{Reserved}
@@ -76,7 +76,8 @@ abbrev mutual
 
   pub spelled_addends : Addends → List Spot
   spelled_addends no_addend = []
-  spelled_addends (addend a l t more) = record { word = adding_word a; line = l } ∷ (spelled_term t ++ spelled_addends more)
+  spelled_addends (addend a l t more) =
+      record { word = adding_word a; line = l } ∷ (spelled_term t ++ spelled_addends more)
 
   -- term = factor { multiplying factor }
   pub spelled_term : Term → List Spot
@@ -87,29 +88,32 @@ abbrev mutual
   spelled_multipliers (multiplier m l f more) =
       record { word = multiplying_word m; line = l } ∷ (spelled_factor f ++ spelled_multipliers more)
 
-  -- factor = number | character | name [ "(." expr ".)" ] | name "(" expr { "," expr } ")" | "(" expr ")" | NOT factor
+  -- factor = number | character | name [ "(." expr ".)" ] | name "(" expr { "," expr } ")"
+  --        | "(" expr ")" | NOT factor
   pub spelled_factor : Factor → List Spot
   spelled_factor (number n) = number_at n ∷ []
   spelled_factor (character c) = character_at c ∷ []
   spelled_factor (named n) = name_at n ∷ []
-  spelled_factor (element n o e c) =
-      name_at n ∷ (symbol_at symbol.OpenIndex o ∷ (spelled_expr e ++ symbol_at symbol.CloseIndex c ∷ []))
-  spelled_factor (called n o e more c) =
-      name_at n ∷ (symbol_at symbol.Open o ∷ (spelled_expr e ++ (spelled_exprs more ++ symbol_at symbol.Close c ∷ [])))
+  spelled_factor (element n i) = name_at n ∷ spelled_index i
+  spelled_factor (called n a) = name_at n ∷ spelled_arguments a
   spelled_factor (group o e c) = symbol_at symbol.Open o ∷ (spelled_expr e ++ symbol_at symbol.Close c ∷ [])
   spelled_factor (negated l f) = reserved_at reserved.Not l ∷ spelled_factor f
+
+  -- "(." expr ".)"
+  pub spelled_index : Index → List Spot
+  spelled_index (index o e c) =
+      symbol_at symbol.OpenIndex o ∷ (spelled_expr e ++ symbol_at symbol.CloseIndex c ∷ [])
+
+  -- "(" expr { "," expr } ")"
+  pub spelled_arguments : Arguments → List Spot
+  spelled_arguments (arguments o e more c) =
+      symbol_at symbol.Open o ∷ (spelled_expr e ++ (spelled_exprs more ++ symbol_at symbol.Close c ∷ []))
 
   -- { "," expr }
   pub spelled_exprs : Exprs → List Spot
   spelled_exprs no_expr = []
   spelled_exprs (next_expr l e more) = symbol_at symbol.Comma l ∷ (spelled_expr e ++ spelled_exprs more)
 
--- "(." expr ".)"
-abbrev pub spelled_index : Index → List Spot
-spelled_index i =
-    symbol_at symbol.OpenIndex i.opening ∷ (spelled_expr i.place ++ symbol_at symbol.CloseIndex i.closing ∷ [])
-
--- "(" expr { "," expr } ")"
-abbrev pub spelled_arguments : Arguments → List Spot
-spelled_arguments a =
-    symbol_at symbol.Open a.opening ∷ (spelled_expr a.first ++ (spelled_exprs a.rest ++ symbol_at symbol.Close a.closing ∷ []))
+-- relation simple
+abbrev pub spelled_right : Right → List Spot
+spelled_right r = symbol_at (relation_symbol r.relation) r.line ∷ spelled_simple r.simple

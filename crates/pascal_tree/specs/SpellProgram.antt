@@ -2,24 +2,16 @@
 use Rattle.std.specs.Prelude.{ℕ, List, [], ◌∷◌, ◌++◌, Option, Some, None}
 use Rattle.pascal_tree.specs.Word.{Spot, NameAt}
 use Rattle.pascal_tree.specs.Program.{Consts, Group, Vars, ParameterGroup, Parameters, Block, Routine, procedure, function, Program}
-use Rattle.pascal_tree.specs.SpellExpression.{reserved_at, symbol_at, name_at, number_at, character_at}
+use Rattle.pascal_tree.specs.SpellExpression.{reserved_at, symbol_at, name_at}
+use Rattle.pascal_tree.specs.SpellConstant.{spelled_constant}
 use Rattle.pascal_tree.specs.SpellStatement.{spelled_body}
 use Rattle.pascal_tree.specs.declared.token.Word.TheVariants as word
 use Rattle.pascal_tree.specs.declared.token.Reserved.TheVariants as reserved
 use Rattle.pascal_tree.specs.declared.token.Symbol.TheVariants as symbol
-use Rattle.pascal_tree.specs.declared.declaration.Constant.{Constant}
-use Rattle.pascal_tree.specs.declared.declaration.Constant.TheVariants as constant
 use Rattle.pascal_tree.specs.declared.declaration.Definition.{Definition}
 use Rattle.pascal_tree.specs.declared.declaration.Kind.{Kind}
 use Rattle.pascal_tree.specs.declared.declaration.Kind.TheVariants as kind
 use Rattle.pascal_tree.specs.declared.declaration.Heading.{Heading}
-
--- constant = name | number | "-" number | character
-abbrev pub spelled_constant : Constant → List Spot
-spelled_constant (constant.Name n) = name_at n ∷ []
-spelled_constant (constant.Number n) = number_at n ∷ []
-spelled_constant (constant.Negative l n) = symbol_at symbol.Minus l ∷ (number_at n ∷ [])
-spelled_constant (constant.Character c) = character_at c ∷ []
 
 -- constdef = name "=" constant ";"
 abbrev pub spelled_definition : Definition → List Spot
@@ -61,10 +53,16 @@ abbrev pub spelled_vars : Option Vars → List Spot
 spelled_vars None = []
 spelled_vars (Some v) = reserved_at reserved.Var v.line ∷ (spelled_group v.first ++ spelled_groups v.rest)
 
--- pgroup = name { "," name } ":" name
+-- [ VAR ]
+abbrev pub spelled_var : Option ℕ → List Spot
+spelled_var None = []
+spelled_var (Some line) = reserved_at reserved.Var line ∷ []
+
+-- pgroup = [ VAR ] name { "," name } ":" name
 abbrev pub spelled_parameter_group : ParameterGroup → List Spot
 spelled_parameter_group g =
-    name_at (g.names).first ∷ (spelled_more_names (g.names).rest ++ (symbol_at symbol.Colon g.colon ∷ (name_at g.kind ∷ [])))
+    spelled_var g.var ++ (name_at (g.names).first ∷ (spelled_more_names (g.names).rest
+    ++ (symbol_at symbol.Colon g.colon ∷ (name_at g.kind ∷ []))))
 
 -- { ";" pgroup }
 abbrev pub spelled_parameter_groups : List (ℕ × ParameterGroup) → List Spot

@@ -1,6 +1,7 @@
 // Declarations and the whole program, by the productions of the grammar.
 
-use crate::leaf::{Character, Name, Number};
+use crate::constant::Constant;
+use crate::leaf::Name;
 use crate::statement::Body;
 
 /// Names, each later one with the line of the comma before it.
@@ -8,15 +9,6 @@ use crate::statement::Body;
 pub struct Names {
     pub first: Name,
     pub rest: Vec<(u32, Name)>,
-}
-
-/// A constant. A number with a minus sign has the sign's line first.
-#[derive(Drop)]
-pub enum Constant {
-    Name(Name),
-    Number(Number),
-    Negative(u32, Number),
-    Character(Character),
 }
 
 /// `name = constant ;`
@@ -69,9 +61,10 @@ pub struct Vars {
     pub rest: Vec<Group>,
 }
 
-/// Parameters of one type.
+/// Parameters of one type, with the line of the VAR before them where they are variables.
 #[derive(Drop)]
 pub struct ParameterGroup {
+    pub var: Option<u32>,
     pub names: Names,
     pub colon: u32,
     pub kind: Name,

@@ -37,12 +37,21 @@ pub enum Multiplying {
     And,
 }
 
-/// A simple expression, or two of them with a relation and its line between them.
+/// A simple expression, alone or compared with another.
 #[cycle(expression)]
 #[derive(Drop)]
 pub struct Expr {
     pub left: Simple,
-    pub right: Option<(Relation, u32, Simple)>,
+    pub right: Option<Box<Comparison>>,
+}
+
+/// A relation, its line, and what stands behind it.
+#[cycle(expression)]
+#[derive(Drop)]
+pub struct Comparison {
+    pub relation: Relation,
+    pub line: u32,
+    pub right: Simple,
 }
 
 /// Terms, each later one with the operator before it and its line.
@@ -70,8 +79,8 @@ pub enum Factor {
     Number(Number),
     Character(Character),
     Name(Name),
-    Element(Name, Index),
-    Call(Name, Arguments),
+    Element(Name, Box<Index>),
+    Call(Name, Box<Arguments>),
     Group {
         opening: u32,
         inner: Box<Expr>,
@@ -88,7 +97,7 @@ pub enum Factor {
 #[derive(Drop)]
 pub struct Index {
     pub opening: u32,
-    pub place: Box<Expr>,
+    pub place: Expr,
     pub closing: u32,
 }
 
@@ -97,7 +106,7 @@ pub struct Index {
 #[derive(Drop)]
 pub struct Arguments {
     pub opening: u32,
-    pub first: Box<Expr>,
+    pub first: Expr,
     pub rest: Vec<(u32, Expr)>,
     pub closing: u32,
 }

@@ -1,12 +1,12 @@
 // The words of a tree that carry more than their kind, each with its line.
 
-use solo_base::Line;
+use crate::letters::Letters;
 use std::marker::Model;
 
 /// A name in capitals.
 #[derive(Drop)]
 pub struct Name {
-    pub letters: Line,
+    pub letters: Letters,
     pub line: u32,
 }
 

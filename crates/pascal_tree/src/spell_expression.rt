@@ -2,11 +2,11 @@
 
 ghost use Rattle.std.specs.Prelude.{◌≡◌, [], ◌∷◌, ◌++◌, OnOk};
 ghost use Rattle.pascal_tree.specs.Word.{Spot};
-ghost use Rattle.pascal_tree.specs.SeenExpression.{seen_expr, seen_simple, seen_term, seen_factor, seen_index, seen_arguments, seen_addends, seen_multipliers, seen_exprs};
-ghost use Rattle.pascal_tree.specs.SpellExpression.{spelled_sign, spelled_expr, spelled_simple, spelled_addends, spelled_term, spelled_multipliers, spelled_factor, spelled_exprs, spelled_index, spelled_arguments, symbol_at, reserved_at, name_at, number_at, character_at, adding_word, multiplying_word, relation_symbol};
+ghost use Rattle.pascal_tree.specs.SeenExpression.{seen_expr, seen_comparison, seen_simple, seen_term, seen_factor, seen_index, seen_arguments, seen_addends, seen_multipliers, seen_exprs};
+ghost use Rattle.pascal_tree.specs.SpellExpression.{spelled_sign, spelled_expr, spelled_right, spelled_simple, spelled_addends, spelled_term, spelled_multipliers, spelled_factor, spelled_exprs, spelled_index, spelled_arguments, symbol_at, reserved_at, name_at, number_at, character_at, adding_word, multiplying_word, relation_symbol};
 
 use crate::expression::{
-    Adding, Arguments, Expr, Factor, Index, Multiplying, Relation, Sign, Simple, Term,
+    Adding, Arguments, Comparison, Expr, Factor, Index, Multiplying, Relation, Sign, Simple, Term,
 };
 use crate::leaf::{Character, Name, Number};
 use crate::token::{Reserved, Symbol, Token, Word};
@@ -86,7 +86,7 @@ pub fn push_name(out: &mut Vec<Token>, name: &Name) -> Result<(), NoMemory>
     ensures { OnOk result (out.new.items ≡ out.old.items ++ name_at name.now ∷ []) }
 {
     out.push(Token {
-        word: Word::Name(name.letters.copy()),
+        word: Word::Name(name.letters.copy()?),
         line: name.line,
     })?;
     Ok(())
@@ -119,11 +119,17 @@ pub fn spell_expr(out: &mut Vec<Token>, expr: &Expr) -> Result<(), NoMemory>
     spell_simple(out, &expr.left)?;
     match &expr.right {
         None => Ok(()),
-        Some((relation, line, right)) => {
-            push_symbol(out, symbol_of(*relation), *line)?;
-            spell_simple(out, right)
-        }
+        Some(comparison) => spell_comparison(out, comparison),
     }
+}
+
+#[cycle(spell_expression)]
+fn spell_comparison(out: &mut Vec<Token>, comparison: &Comparison) -> Result<(), NoMemory>
+    ensures { OnOk result (out.new.items
+        ≡ out.old.items ++ spelled_right (seen_comparison comparison.now)) }
+{
+    push_symbol(out, symbol_of(comparison.relation), comparison.line)?;
+    spell_simple(out, &comparison.right)
 }
 
 #[cycle(spell_expression)]

@@ -3,14 +3,15 @@
 ghost use Rattle.std.specs.Prelude.{◌≡◌, [], ◌∷◌, ◌++◌, IfOk, OnOk, map, option_map};
 ghost use Rattle.pascal_tree.specs.SeenStatement.{seen_body};
 ghost use Rattle.pascal_tree.specs.SeenProgram.{seen_names, seen_consts, seen_group, seen_vars, seen_parameter_group, seen_parameters, seen_block, seen_routine, seen_program};
-ghost use Rattle.pascal_tree.specs.SpellProgram.{spelled, spelled_heading, spelled_constant, spelled_definition, spelled_definitions, spelled_consts, spelled_more_names, spelled_kind, spelled_group, spelled_groups, spelled_vars, spelled_parameter_group, spelled_parameter_groups, spelled_parameters, spelled_block, spelled_routine, spelled_routines};
+ghost use Rattle.pascal_tree.specs.SpellProgram.{spelled, spelled_heading, spelled_definition, spelled_definitions, spelled_consts, spelled_more_names, spelled_kind, spelled_group, spelled_groups, spelled_vars, spelled_var, spelled_parameter_group, spelled_parameter_groups, spelled_parameters, spelled_block, spelled_routine, spelled_routines};
 
 use crate::declaration::{
-    Block, Constant, Consts, Definition, Group, Heading, Kind, ParameterGroup, Parameters, Program,
-    Routine, Vars,
+    Block, Consts, Definition, Group, Heading, Kind, ParameterGroup, Parameters, Program, Routine,
+    Vars,
 };
 use crate::leaf::Name;
-use crate::spell_expression::{push_character, push_name, push_number, push_reserved, push_symbol};
+use crate::spell_constant::spell_constant;
+use crate::spell_expression::{push_name, push_reserved, push_symbol};
 use crate::spell_statement::spell_body;
 use crate::token::{Reserved, Symbol, Token, Word};
 use crate::tree::Tree;
@@ -51,21 +52,6 @@ fn spell_heading(out: &mut Vec<Token>, heading: &Option<Heading>) -> Result<(), 
     push_name(out, &heading.name)?;
     push_symbol(out, Symbol::Semicolon, heading.semicolon)?;
     Ok(())
-}
-
-fn spell_constant(out: &mut Vec<Token>, constant: &Constant) -> Result<(), NoMemory>
-    ensures { OnOk result (out.new.items ≡ out.old.items ++ spelled_constant constant.now) }
-{
-    match constant {
-        Constant::Name(name) => push_name(out, name),
-        Constant::Number(number) => push_number(out, number),
-        Constant::Negative(line, number) => {
-            push_symbol(out, Symbol::Minus, *line)?;
-            push_number(out, number)?;
-            Ok(())
-        }
-        Constant::Character(character) => push_character(out, character),
-    }
 }
 
 fn spell_definition(out: &mut Vec<Token>, definition: &Definition) -> Result<(), NoMemory>
@@ -175,10 +161,20 @@ fn spell_vars(out: &mut Vec<Token>, vars: &Option<Vars>) -> Result<(), NoMemory>
     Ok(())
 }
 
+fn spell_var(out: &mut Vec<Token>, var: &Option<u32>) -> Result<(), NoMemory>
+    ensures { OnOk result (out.new.items ≡ out.old.items ++ spelled_var var.now) }
+{
+    match var {
+        None => Ok(()),
+        Some(line) => push_reserved(out, Reserved::Var, *line),
+    }
+}
+
 fn spell_parameter_group(out: &mut Vec<Token>, group: &ParameterGroup) -> Result<(), NoMemory>
     ensures { OnOk result (out.new.items
         ≡ out.old.items ++ spelled_parameter_group (seen_parameter_group group.now)) }
 {
+    spell_var(out, &group.var)?;
     push_name(out, &group.names.first)?;
     spell_more_names(out, &group.names.rest)?;
     push_symbol(out, Symbol::Colon, group.colon)?;

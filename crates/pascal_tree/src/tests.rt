@@ -1,17 +1,15 @@
 use crate::declaration::Program;
 use crate::expression::{Expr, Factor, Simple, Term};
 use crate::leaf::{Name, Number};
-use crate::statement::{Body, Statement, Statements};
-use crate::{Symbol, Token, Tree, Word, spell};
-use solo_base::{Line, NoMemory};
+use crate::statement::{Assign, Body, Statement, Statements};
+use crate::{Letters, Symbol, Token, Tree, Word, spell};
+use solo_base::NoMemory;
 use std::alloc::Global;
 use std::test::Fail;
 
 // `BEGIN X := 1 END.` on one card, where the assignment stands on the second.
-fn assignment(alloc: Global) -> Result<Option<Tree>, NoMemory> {
-    let Some(letters) = Line::of(b"X") else {
-        return Ok(None);
-    };
+fn assignment(alloc: Global) -> Result<Tree, NoMemory> {
+    let letters = Letters::of(alloc, b"X")?;
     let one = Factor::Number(Number { value: 1, line: 2 });
     let value = Expr {
         left: Simple {
@@ -24,17 +22,17 @@ fn assignment(alloc: Global) -> Result<Option<Tree>, NoMemory> {
         },
         right: None,
     };
-    let statement = Statement::Assign {
+    let assign = Assign {
         target: Name { letters, line: 2 },
         index: None,
         becomes: 2,
         value,
     };
     let statements = Statements {
-        first: Box::new(alloc, statement)?,
+        first: Statement::Assign(Box::new(alloc, assign)?),
         rest: Vec::new(alloc),
     };
-    Ok(Some(Tree {
+    Ok(Tree {
         program: Program {
             heading: None,
             consts: None,
@@ -48,7 +46,7 @@ fn assignment(alloc: Global) -> Result<Option<Tree>, NoMemory> {
             period: 3,
             end: 4,
         },
-    }))
+    })
 }
 
 fn is_symbol(token: &Token, symbol: Symbol) -> bool {
@@ -60,7 +58,7 @@ fn is_symbol(token: &Token, symbol: Symbol) -> bool {
 
 #[test]
 fn an_assignment_is_spelled_with_its_lines(rt: HostRuntime) -> Result<(), Fail> {
-    let tree = assignment(rt.alloc())?.ok_or("a name")?;
+    let tree = assignment(rt.alloc())?;
     let tokens = spell(&tree)?;
     assert_eq!(rt; tokens.len(), 7);
     let mut lines = Vec::new(rt.alloc());

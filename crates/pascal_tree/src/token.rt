@@ -1,9 +1,9 @@
 // The words of a program, and the lines on which they stand.
 
-use solo_base::Line;
+use crate::letters::Letters;
 use std::marker::Model;
 
-/// A reserved word of Sequential Pascal. CASE starts nothing yet.
+/// A reserved word of Sequential Pascal.
 #[derive(Clone, Copy, Debug, PartialEq, Eq)]
 pub enum Reserved {
     Array,
@@ -81,7 +81,7 @@ pub enum Symbol {
 #[derive(Drop)]
 pub enum Word {
     /// Its letters are capitals.
-    Name(Line),
+    Name(Letters),
     Reserved(Reserved),
     /// At most 32767.
     Number(u16),
