@@ -25,13 +25,19 @@ AreCapitalsAndDigits-map (code ∷ others) each = (
   AreCapitalsAndDigits-map others (second_so _ _ each),
 )
 
--- what begins with a letter is a name
+-- what begins with a letter is a name, where its letters and digits are not too many
+pub IsName-front : (code : ℕ) (others : List ℕ) → is_letter code ≡ true → length (take_while is_letter_or_digit (code ∷ others)) ≤ 132 → IsName (map capital (take_while is_letter_or_digit (code ∷ others)))
+IsName-front code others letter short =
+    let front = take_while is_letter_or_digit others in
+    let all = take_while-passes is_letter_or_digit code others (letter_passes code letter) in
+    let few : length (code ∷ front) ≤ 132 = rw all at short in
+    rw all (
+      IsCapital-letter code letter,
+      AreCapitalsAndDigits-map front (list_all-take_while is_letter_or_digit others),
+      omega (arith, length-map front capital),
+    )
+
 pub IsName-capitals : (text : List ℕ) → 0 < length text → is_letter (slice_index text 0) ≡ true → length text ≤ 132 → IsName (map capital (take_while is_letter_or_digit text))
 IsName-capitals [] begun letter short = absurd (omega arith)
 IsName-capitals (code ∷ others) begun letter short =
-    let front = take_while is_letter_or_digit others in
-    rw (take_while-passes is_letter_or_digit code others (letter_passes code letter)) (
-      IsCapital-letter code letter,
-      AreCapitalsAndDigits-map front (list_all-take_while is_letter_or_digit others),
-      omega (arith, length-map front capital, length-take_while is_letter_or_digit others),
-    )
+    IsName-front code others letter (omega (arith, length-take_while is_letter_or_digit (code ∷ others)))

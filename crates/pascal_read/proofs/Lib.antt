@@ -5,17 +5,18 @@ pub mod Digits
 pub mod Fronts
 pub mod Longest
 mod ParseComplete
+mod ParseCompleteConstant
 mod ParseCompleteProgram
 mod ParseCompleteStatement
 pub mod ParseDeclarationLists
 pub mod ParseDeclarationRows
 mod ParseEnds
 pub mod ParseLists
-mod ParseOnePlace
+pub mod ParseOnePlace
 pub mod ParsePlace
 pub mod ParseRows
-mod ParseSpells
-mod ParseSpellsBack
+pub mod ParseSpells
+pub mod ParseSpellsBack
 mod ParseSpellsCases
 mod ParseSpellsDeclaration
 mod ParseSpellsExpression
@@ -29,3 +30,4 @@ pub mod ParseTokens
 pub mod ParseWhole
 pub mod Program
 pub mod Steps
+pub mod WordsKeep

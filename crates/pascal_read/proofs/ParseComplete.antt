@@ -1,7 +1,7 @@
 -- Each tree's spelling is read to its end: what is wanted for a part is read over the part's words.
 use Rattle.std.proofs.Common.{◌≡◌, ℕ, ◌-◌, ◌≤◌, ◌<◌, false, List, [], ◌∷◌, ◌++◌, Some, None, refl, ap, ◌∙◌, append_assoc, arith}
 use Rattle.pascal_tree.specs.Word.{Spot}
-use Rattle.pascal_tree.specs.Expression.{Expr, alone, compared, Simple, simple, Addends, no_addend, addend, Term, term, Multipliers, no_multiplier, multiplier, Factor, number, character, named, element, called, group, negated, Exprs, no_expr, next_expr}
+use Rattle.pascal_tree.specs.Expression.{Expr, alone, compared, Simple, simple, Addends, no_addend, addend, Term, term, Multipliers, no_multiplier, multiplier, Factor, number, character, named, element, called, group, negated, index, arguments, Exprs, no_expr, next_expr}
 use Rattle.pascal_tree.specs.SpellExpression.{spelled_expr, spelled_simple, spelled_addends, spelled_term, spelled_multipliers, spelled_factor, spelled_exprs, symbol_at, relation_symbol}
 use Rattle.pascal_tree.specs.Limits.{ExprFits, SimpleFits, AddendsFit, TermFits, MultipliersFit, FactorFits, ExprsFit}
 use Rattle.pascal_tree.proofs.UniqueExpression.{strength, first_strength, below_multipliers, below_addends, below_relation, no_sign_term, below_exprs}
@@ -173,8 +173,8 @@ deep_factor : (x : Factor) (n : ℕ) → FactorFits x (n - 1) → 2 ≤ n
 deep_factor (number x) n f = omega arith
 deep_factor (character x) n f = omega arith
 deep_factor (named x) n f = omega arith
-deep_factor (element x o e c) n f = omega arith
-deep_factor (called x o e es c) n f = omega arith
+deep_factor (element x i) n f = omega arith
+deep_factor (called x a) n f = omega arith
 deep_factor (group o e c) n f = omega arith
 deep_factor (negated l x) n f = omega arith
 
@@ -212,21 +212,21 @@ mutual
   read_factor (number x) n r y rest f h = factor_number x r n (y ∷ rest)
   read_factor (character x) n r y rest f h = factor_character x r n (y ∷ rest)
   read_factor (named x) n r y rest f h = factor_name x r n (y ∷ rest) ∙ behind_none r n y rest h
-  read_factor (element x o e c) n r y rest f h =
+  read_factor (element x (index o e c)) n r y rest f h =
       let two : 2 ≤ n = deep_expr e n f.1 in
       factor_name x ((symbol_at symbol.OpenIndex o ∷ (spelled_expr e ++ symbol_at symbol.CloseIndex c ∷ [])) ++ r) n (y ∷ rest)
       ∙ behind_index o ((spelled_expr e ++ symbol_at symbol.CloseIndex c ∷ []) ++ r) n (y ∷ rest) two
       ∙ at_wants (want.expr (n - 1) ∷ (mark symbol.CloseIndex ∷ (y ∷ rest))) (append_assoc (spelled_expr e) (symbol_at symbol.CloseIndex c ∷ []) r)
       ∙ read_expr e (n - 1) (symbol_at symbol.CloseIndex c ∷ r) (mark symbol.CloseIndex) (y ∷ rest) f.1 (omega arith)
       ∙ mark_goes symbol.CloseIndex c r (y ∷ rest)
-  read_factor (called x o e es c) n r y rest f h =
-      let two : 2 ≤ n = deep_expr e n f.1 in
+  read_factor (called x (arguments o e es c)) n r y rest f h =
+      let two : 2 ≤ n = deep_expr e n f.1.0 in
       let tail : List Spot = spelled_exprs es ++ (symbol_at symbol.Close c ∷ r) in
       factor_name x ((symbol_at symbol.Open o ∷ (spelled_expr e ++ (spelled_exprs es ++ symbol_at symbol.Close c ∷ []))) ++ r) n (y ∷ rest)
       ∙ behind_open o ((spelled_expr e ++ (spelled_exprs es ++ symbol_at symbol.Close c ∷ [])) ++ r) n (y ∷ rest) two
       ∙ at_wants (want.expr (n - 1) ∷ (want.more_exprs (n - 1) ∷ (mark symbol.Close ∷ (y ∷ rest)))) (append_assoc (spelled_expr e) (spelled_exprs es ++ symbol_at symbol.Close c ∷ []) r ∙ ap (λ s. spelled_expr e ++ s) (append_assoc (spelled_exprs es) (symbol_at symbol.Close c ∷ []) r))
-      ∙ read_expr e (n - 1) tail (want.more_exprs (n - 1)) (mark symbol.Close ∷ (y ∷ rest)) f.1 (rw below_exprs (omega arith))
-      ∙ read_exprs es (n - 1) c r (mark symbol.Close) (y ∷ rest) f.2
+      ∙ read_expr e (n - 1) tail (want.more_exprs (n - 1)) (mark symbol.Close ∷ (y ∷ rest)) f.1.0 (rw below_exprs (omega arith))
+      ∙ read_exprs es (n - 1) c r (mark symbol.Close) (y ∷ rest) f.1.1
       ∙ mark_goes symbol.Close c r (y ∷ rest)
   read_factor (group o e c) n r y rest f h =
       let two : 2 ≤ n = deep_expr e n f.1 in

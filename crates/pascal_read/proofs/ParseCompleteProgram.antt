@@ -2,28 +2,28 @@
 use Rattle.std.proofs.Common.{◌≡◌, ℕ, ◌≤◌, false, List, [], ◌∷◌, ◌++◌, Option, Some, None, refl, ap, ◌∙◌, append_assoc, arith}
 use Rattle.pascal_tree.specs.Word.{Spot, NameAt}
 use Rattle.pascal_tree.specs.Program.{Consts, Group, Vars, ParameterGroup, Parameters, Block, Routine, procedure, function, Program}
-use Rattle.pascal_tree.specs.SpellExpression.{reserved_at, symbol_at, name_at, number_at}
+use Rattle.pascal_tree.specs.SpellExpression.{reserved_at, symbol_at, name_at}
+use Rattle.pascal_tree.specs.SpellConstant.{spelled_constant}
 use Rattle.pascal_tree.specs.SpellStatement.{spelled_body}
-use Rattle.pascal_tree.specs.SpellProgram.{spelled, spelled_heading, spelled_constant, spelled_definition, spelled_definitions, spelled_consts, spelled_more_names, spelled_kind, spelled_group, spelled_groups, spelled_vars, spelled_parameter_group, spelled_parameter_groups, spelled_parameters, spelled_block, spelled_routine, spelled_routines}
+use Rattle.pascal_tree.specs.SpellProgram.{spelled, spelled_heading, spelled_definition, spelled_definitions, spelled_consts, spelled_more_names, spelled_kind, spelled_group, spelled_groups, spelled_vars, spelled_var, spelled_parameter_group, spelled_parameter_groups, spelled_parameters, spelled_block, spelled_routine, spelled_routines}
 use Rattle.pascal_tree.specs.Limits.{BodyFits, RoutineFits, RoutinesFit, IsTree}
-use Rattle.pascal_tree.proofs.UniqueProgram.{stage, first_stage, stage_vars, stage_consts, stage_routines}
+use Rattle.pascal_tree.proofs.UniqueProgram.{stage, first_stage, stage_body, stage_vars, stage_consts, stage_routines}
 use Rattle.pascal_tree.specs.declared.token.Word.{Word}
 use Rattle.pascal_tree.specs.declared.token.Word.TheVariants as word
 use Rattle.pascal_tree.specs.declared.token.Reserved.TheVariants as reserved
 use Rattle.pascal_tree.specs.declared.token.Symbol.TheVariants as symbol
-use Rattle.pascal_tree.specs.declared.declaration.Constant.{Constant}
-use Rattle.pascal_tree.specs.declared.declaration.Constant.TheVariants as constants
 use Rattle.pascal_tree.specs.declared.declaration.Definition.{Definition}
 use Rattle.pascal_tree.specs.declared.declaration.Kind.{Kind}
 use Rattle.pascal_tree.specs.declared.declaration.Kind.TheVariants as kinds
 use Rattle.pascal_tree.specs.declared.declaration.Heading.{Heading}
 use Rattle.pascal_read.specs.ParseFirst.{first_is, end_at}
-use Rattle.pascal_read.specs.ParseWants.{Want, report, run, reserved_word, mark, is_reserved, is_symbol, is_name, program_wants}
+use Rattle.pascal_read.specs.ParseWants.{Want, report, run, reserved_word, mark, is_reserved, is_symbol, is_name, parameter_group_rest, program_wants}
 use Rattle.pascal_read.specs.ParseWants as want
 use Rattle.pascal_read.proofs.ParseRows.{mark_goes, reserved_goes}
 use Rattle.pascal_read.proofs.ParseStatementRows.{name_goes}
-use Rattle.pascal_read.proofs.ParseDeclarationRows.{heading_goes, heading_skip, constant_name, constant_number, constant_character, constant_minus, number_goes, consts_goes, consts_skip, definition_is, more_definitions_goes, more_definitions_skip, kind_name, kind_array, vars_goes, vars_skip, group_is, more_groups_goes, more_groups_skip, more_names_goes, more_names_skip, parameters_goes, parameters_skip, parameter_group_is, more_parameters_goes, more_parameters_skip, end_goes, procedure_goes, function_goes, routines_skip}
+use Rattle.pascal_read.proofs.ParseDeclarationRows.{heading_goes, heading_skip, consts_goes, consts_skip, definition_is, more_definitions_goes, more_definitions_skip, kind_name, kind_array, vars_goes, vars_skip, group_is, more_groups_goes, more_groups_skip, more_names_goes, more_names_skip, parameters_goes, parameters_skip, parameter_group_var, parameter_group_is, more_parameters_goes, more_parameters_skip, end_goes, procedure_goes, function_goes, routines_skip}
 use Rattle.pascal_read.proofs.ParseComplete.{at_wants}
+use Rattle.pascal_read.proofs.ParseCompleteConstant.{read_constant}
 use Rattle.pascal_read.proofs.ParseCompleteStatement.{read_body}
 
 -- a part that begins later is no part that begins earlier
@@ -86,12 +86,6 @@ read_heading (Some x) r y rest h =
     heading_goes x.line (name_at x.name ∷ (symbol_at symbol.Semicolon x.semicolon ∷ r)) (y ∷ rest)
     ∙ name_goes x.name (symbol_at symbol.Semicolon x.semicolon ∷ r) (mark symbol.Semicolon ∷ (y ∷ rest))
     ∙ mark_goes symbol.Semicolon x.semicolon r (y ∷ rest)
-
-read_constant : (x : Constant) (r : List Spot) (rest : List Want) → report (spelled_constant x ++ r) (want.constant ∷ rest) ≡ report r rest
-read_constant (constants.Name x) r rest = constant_name x r rest
-read_constant (constants.Number x) r rest = constant_number x r rest
-read_constant (constants.Negative l x) r rest = constant_minus l (number_at x ∷ r) rest ∙ number_goes x r rest
-read_constant (constants.Character x) r rest = constant_character x r rest
 
 -- a definition behind its name
 read_definition : (x : Definition) (r : List Spot) (rest : List Want) →
@@ -186,13 +180,19 @@ read_vars (Some x) r y rest h =
     ∙ read_group g tail k
     ∙ read_groups x.rest r y rest (omega arith)
 
+-- VAR, where it stands there, and the first name
+read_var : (x : Option ℕ) (n : NameAt) (r : List Spot) (rest : List Want) →
+    report (spelled_var x ++ (name_at n ∷ r)) (want.parameter_group ∷ rest) ≡ report r (parameter_group_rest ++ rest)
+read_var None n r rest = parameter_group_is (name_at n ∷ r) rest refl ∙ name_goes n r (parameter_group_rest ++ rest)
+read_var (Some l) n r rest = parameter_group_var l (name_at n ∷ r) rest ∙ name_goes n r (parameter_group_rest ++ rest)
+
 read_parameter_group : (x : ParameterGroup) (r : List Spot) (rest : List Want) → report (spelled_parameter_group x ++ r) (want.parameter_group ∷ rest) ≡ report r rest
 read_parameter_group x r rest =
     let t : List Spot = symbol_at symbol.Colon x.colon ∷ (name_at x.kind ∷ []) in
-    let inside : List Spot = (spelled_more_names (x.names).rest ++ t) ++ r in
+    let inside : List Spot = spelled_more_names (x.names).rest ++ t in
     let k : List Want = want.more_names ∷ (mark symbol.Colon ∷ (want.name ∷ rest)) in
-    parameter_group_is (name_at (x.names).first ∷ inside) rest
-    ∙ name_goes (x.names).first inside k
+    at_wants (want.parameter_group ∷ rest) (append_assoc (spelled_var x.var) (name_at (x.names).first ∷ inside) r)
+    ∙ read_var x.var (x.names).first (inside ++ r) rest
     ∙ at_wants k (append_assoc (spelled_more_names (x.names).rest) t r)
     ∙ read_names (x.names).rest x.colon (name_at x.kind ∷ r) (want.name ∷ rest)
     ∙ name_goes x.kind r rest
@@ -218,13 +218,14 @@ read_parameters (Some x) r y rest h =
     ∙ read_parameter_group x.first (spelled_parameter_groups x.rest ++ (symbol_at symbol.Close x.closing ∷ r)) k
     ∙ read_parameter_groups x.rest x.closing r (y ∷ rest)
 
-read_block : (x : Block) (z : ℕ) (r : List Spot) (rest : List Want) → BodyFits x.body →
+read_block : (x : Block) (z : ℕ) (r : List Spot) (rest : List Want) → BodyFits x.body 64 →
     report ((spelled_block x ++ symbol_at symbol.Semicolon z ∷ []) ++ r) (want.consts ∷ (want.vars ∷ (want.body ∷ (mark symbol.Semicolon ∷ rest)))) ≡ report r rest
 read_block x z r rest f =
     let s : List Spot = symbol_at symbol.Semicolon z ∷ r in
     let b : List Spot = spelled_body x.body ++ s in
     let v : List Spot = spelled_vars x.vars ++ b in
     let k : List Want = want.consts ∷ (want.vars ∷ (want.body ∷ (mark symbol.Semicolon ∷ rest))) in
+    let fifth : first_stage b ≡ 5 = stage_body x.body s in
     at_wants k (append_assoc (spelled_block x) (symbol_at symbol.Semicolon z ∷ []) r)
     ∙ at_wants k (append_assoc (spelled_consts x.consts) (spelled_vars x.vars ++ spelled_body x.body) s ∙ ap (λ u. spelled_consts x.consts ++ u) (append_assoc (spelled_vars x.vars) (spelled_body x.body) s))
     ∙ read_consts x.consts v want.vars (want.body ∷ (mark symbol.Semicolon ∷ rest)) (stage_vars x.vars b (omega arith))
@@ -273,7 +274,8 @@ read_program x f =
     let r : List Spot = spelled_routines x.routines ++ b in
     let v : List Spot = spelled_vars x.vars ++ r in
     let c : List Spot = spelled_consts x.consts ++ v in
-    let fourth : 4 ≤ first_stage r = stage_routines x.routines b refl in
+    let fifth : first_stage b ≡ 5 = stage_body x.body e in
+    let fourth : 4 ≤ first_stage r = stage_routines x.routines b fifth in
     let third : 3 ≤ first_stage v = stage_vars x.vars r fourth in
     let last : List Want = mark symbol.Period ∷ (want.end ∷ []) in
     read_heading x.heading c want.consts (want.vars ∷ (want.routines ∷ (want.body ∷ last))) (stage_consts x.consts v third)

@@ -1,13 +1,15 @@
 -- Each statement's spelling is read to its end.
 use Rattle.std.proofs.Common.{◌≡◌, ℕ, ◌-◌, ◌≤◌, false, List, [], ◌∷◌, ◌++◌, Option, Some, None, refl, ap, ◌∙◌, append_assoc, arith}
 use Rattle.pascal_tree.specs.Word.{Spot}
-use Rattle.pascal_tree.specs.Expression.{Expr, Index, Arguments}
-use Rattle.pascal_tree.specs.Statement.{Statement, empty, assign, call, compound, if_then, if_else, while_do, repeat_until, for_do, Statements, no_statement, next_statement, Body}
+use Rattle.pascal_tree.specs.Expression.{Expr, Index, index, Arguments, arguments}
+use Rattle.pascal_tree.specs.Statement.{Statement, empty, assign, call, compound, if_then, if_else, while_do, repeat_until, for_do, case_of, Body, body, Sequence, sequence, Statements, no_statement, next_statement, Branch, branch, Branches, no_branch, next_branch}
 use Rattle.pascal_tree.specs.SpellExpression.{spelled_expr, spelled_exprs, symbol_at, reserved_at, name_at}
-use Rattle.pascal_tree.specs.SpellStatement.{direction_word, spelled_place, spelled_call, spelled_statement, spelled_statements, spelled_body}
-use Rattle.pascal_tree.specs.Limits.{PlaceFits, CallFits, StatementFits, StatementsFit, BodyFits}
+use Rattle.pascal_tree.specs.SpellStatement.{direction_word, spelled_place, spelled_call, spelled_statement, spelled_body, spelled_sequence, spelled_statements, spelled_branch, spelled_branches}
+use Rattle.pascal_tree.specs.SpellConstant.{spelled_labels}
+use Rattle.pascal_tree.specs.Limits.{PlaceFits, CallFits, StatementFits, BodyFits, SequenceFits, StatementsFit, BranchFits, BranchesFit}
 use Rattle.pascal_tree.proofs.UniqueExpression.{below_exprs}
-use Rattle.pascal_tree.proofs.UniqueStatement.{Ender, ender_word, semicolon, end, until, else, Closes, Follows, begins, first_begins, marks, first_marks, Closer, by_end, by_until, closer_word, follows_strength, follows_begins, follows_marks, follows_then, follows_else, follows_while, follows_for, else_follows, follows_list, direction_strength}
+use Rattle.pascal_tree.proofs.Following.{Ender, ender_word, semicolon, end, until, else, Closes, Follows, begins, first_begins, marks, first_marks, Closer, by_end, by_until, closer_word, follows_strength, follows_begins, follows_marks, follows_then, follows_else, follows_while, follows_for, else_follows, follows_list, follows_branches}
+use Rattle.pascal_tree.proofs.UniqueStatement.{direction_strength}
 use Rattle.pascal_tree.specs.declared.statement.Direction.{Direction}
 use Rattle.pascal_tree.specs.declared.statement.Direction.TheVariants as directions
 use Rattle.pascal_tree.specs.declared.token.Word.{Word}
@@ -15,11 +17,12 @@ use Rattle.pascal_tree.specs.declared.token.Word.TheVariants as word
 use Rattle.pascal_tree.specs.declared.token.Reserved.TheVariants as reserved
 use Rattle.pascal_tree.specs.declared.token.Symbol.TheVariants as symbol
 use Rattle.pascal_read.specs.ParseFirst.{first_is}
-use Rattle.pascal_read.specs.ParseWants.{Want, report, reserved_word, mark, is_symbol, is_reserved, is_name}
+use Rattle.pascal_read.specs.ParseWants.{Want, report, reserved_word, mark, is_symbol, is_reserved, is_name, case_wants}
 use Rattle.pascal_read.specs.ParseWants as want
 use Rattle.pascal_read.proofs.ParseRows.{mark_goes, reserved_goes}
-use Rattle.pascal_read.proofs.ParseStatementRows.{statement_name, statement_begin, statement_if, statement_while, statement_repeat, statement_for, statement_skip, first_becomes, first_index, first_open, first_skip, else_goes, else_skip, semicolon_goes, semicolon_skip, direction_to, direction_downto, name_goes, body_goes}
+use Rattle.pascal_read.proofs.ParseStatementRows.{statement_name, statement_begin, statement_if, statement_while, statement_repeat, statement_for, statement_case, statement_skip, first_becomes, first_index, first_open, first_skip, else_goes, else_skip, semicolon_goes, semicolon_skip, branch_goes, branch_skip, direction_to, direction_downto, name_goes, body_goes}
 use Rattle.pascal_read.proofs.ParseComplete.{read_expr, read_exprs, at_wants}
+use Rattle.pascal_read.proofs.ParseCompleteConstant.{read_labels}
 
 no_begin-name : (w : Word) → begins w ≡ 0 → is_name w ≡ false
 no_begin-name (word.Name letters) h = absurd (omega arith)
@@ -74,6 +77,15 @@ not-For : (r : List Spot) → first_begins r ≡ 0 → first_is (λ w. is_reserv
 not-For [] h = refl
 not-For (t ∷ r) h = no_begin-For t.word h
 
+no_begin-Case : (w : Word) → begins w ≡ 0 → is_reserved w reserved.Case ≡ false
+no_begin-Case (word.Reserved reserved.Case) h = absurd (omega arith)
+no_begin-Case (word.Reserved other) h = refl
+no_begin-Case other h = refl
+
+not-Case : (r : List Spot) → first_begins r ≡ 0 → first_is (λ w. is_reserved w reserved.Case) r ≡ false
+not-Case [] h = refl
+not-Case (t ∷ r) h = no_begin-Case t.word h
+
 no_mark-Becomes : (w : Word) → marks w ≡ 0 → is_symbol w symbol.Becomes ≡ false
 no_mark-Becomes (word.Symbol symbol.Becomes) h = absurd (omega arith)
 no_mark-Becomes (word.Symbol other) h = refl
@@ -117,12 +129,19 @@ deep_statement : (x : Statement) (n : ℕ) → StatementFits x (n - 1) → 2 ≤
 deep_statement empty n f = omega arith
 deep_statement (assign x i b e) n f = omega arith
 deep_statement (call x a) n f = omega arith
-deep_statement (compound b s more e) n f = omega arith
+deep_statement (compound b) n f = omega arith
 deep_statement (if_then l e t s) n f = omega arith
 deep_statement (if_else l e t s o u) n f = omega arith
 deep_statement (while_do l e d s) n f = omega arith
-deep_statement (repeat_until l s more u e) n f = omega arith
+deep_statement (repeat_until l s u e) n f = omega arith
 deep_statement (for_do l x b e w t f d s) n g = omega arith
+deep_statement (case_of l e o b more c) n f = omega arith
+
+deep_sequence : (x : Sequence) (n : ℕ) → SequenceFits x (n - 1) → 2 ≤ n
+deep_sequence (sequence x xs) n f = deep_statement x n f.0
+
+deep_branch : (x : Branch) (n : ℕ) → BranchFits x (n - 1) → 2 ≤ n
+deep_branch (branch l c x) n f = deep_statement x n f
 
 read_direction : (w : Direction) (l : ℕ) (r : List Spot) (rest : List Want) → report (reserved_at (direction_word w) l ∷ r) (want.direction ∷ rest) ≡ report r rest
 read_direction directions.To l r rest = direction_to l r rest
@@ -131,23 +150,23 @@ read_direction directions.Downto l r rest = direction_downto l r rest
 read_assignment : (i : Option Index) (b : ℕ) (e : Expr) (r : List Spot) (y : Want) (rest : List Want) → PlaceFits i →
     report (spelled_place i ++ (symbol_at symbol.Becomes b ∷ (spelled_expr e ++ r))) (want.behind_first_name ∷ (y ∷ rest)) ≡ report (spelled_expr e ++ r) (want.expr 64 ∷ (y ∷ rest))
 read_assignment None b e r y rest f = first_becomes b (spelled_expr e ++ r) (y ∷ rest)
-read_assignment (Some i) b e r y rest f =
+read_assignment (Some (index o p c)) b e r y rest f =
     let tail : List Spot = symbol_at symbol.Becomes b ∷ (spelled_expr e ++ r) in
-    first_index i.opening ((spelled_expr i.place ++ symbol_at symbol.CloseIndex i.closing ∷ []) ++ tail) (y ∷ rest)
-    ∙ at_wants (want.expr 64 ∷ (mark symbol.CloseIndex ∷ (mark symbol.Becomes ∷ (want.expr 64 ∷ (y ∷ rest))))) (append_assoc (spelled_expr i.place) (symbol_at symbol.CloseIndex i.closing ∷ []) tail)
-    ∙ read_expr i.place 64 (symbol_at symbol.CloseIndex i.closing ∷ tail) (mark symbol.CloseIndex) (mark symbol.Becomes ∷ (want.expr 64 ∷ (y ∷ rest))) f (omega arith)
-    ∙ mark_goes symbol.CloseIndex i.closing tail (mark symbol.Becomes ∷ (want.expr 64 ∷ (y ∷ rest)))
+    first_index o ((spelled_expr p ++ symbol_at symbol.CloseIndex c ∷ []) ++ tail) (y ∷ rest)
+    ∙ at_wants (want.expr 64 ∷ (mark symbol.CloseIndex ∷ (mark symbol.Becomes ∷ (want.expr 64 ∷ (y ∷ rest))))) (append_assoc (spelled_expr p) (symbol_at symbol.CloseIndex c ∷ []) tail)
+    ∙ read_expr p 64 (symbol_at symbol.CloseIndex c ∷ tail) (mark symbol.CloseIndex) (mark symbol.Becomes ∷ (want.expr 64 ∷ (y ∷ rest))) f (omega arith)
+    ∙ mark_goes symbol.CloseIndex c tail (mark symbol.Becomes ∷ (want.expr 64 ∷ (y ∷ rest)))
     ∙ mark_goes symbol.Becomes b (spelled_expr e ++ r) (want.expr 64 ∷ (y ∷ rest))
 
 read_call : (a : Option Arguments) (r : List Spot) (y : Want) (rest : List Want) → CallFits a → first_marks r ≡ 0 → report (spelled_call a ++ r) (want.behind_first_name ∷ (y ∷ rest)) ≡ report r (y ∷ rest)
 read_call None r y rest f h = first_skip r y rest (not-Becomes r h) (not_mark-OpenIndex r h) (not_mark-Open r h)
-read_call (Some a) r y rest f h =
-    let tail : List Spot = spelled_exprs a.rest ++ (symbol_at symbol.Close a.closing ∷ r) in
-    first_open a.opening ((spelled_expr a.first ++ (spelled_exprs a.rest ++ symbol_at symbol.Close a.closing ∷ [])) ++ r) (y ∷ rest)
-    ∙ at_wants (want.expr 64 ∷ (want.more_exprs 64 ∷ (mark symbol.Close ∷ (y ∷ rest)))) (append_assoc (spelled_expr a.first) (spelled_exprs a.rest ++ symbol_at symbol.Close a.closing ∷ []) r ∙ ap (λ s. spelled_expr a.first ++ s) (append_assoc (spelled_exprs a.rest) (symbol_at symbol.Close a.closing ∷ []) r))
-    ∙ read_expr a.first 64 tail (want.more_exprs 64) (mark symbol.Close ∷ (y ∷ rest)) f.0 (rw below_exprs (omega arith))
-    ∙ read_exprs a.rest 64 a.closing r (mark symbol.Close) (y ∷ rest) f.1
-    ∙ mark_goes symbol.Close a.closing r (y ∷ rest)
+read_call (Some (arguments o e es c)) r y rest f h =
+    let tail : List Spot = spelled_exprs es ++ (symbol_at symbol.Close c ∷ r) in
+    first_open o ((spelled_expr e ++ (spelled_exprs es ++ symbol_at symbol.Close c ∷ [])) ++ r) (y ∷ rest)
+    ∙ at_wants (want.expr 64 ∷ (want.more_exprs 64 ∷ (mark symbol.Close ∷ (y ∷ rest)))) (append_assoc (spelled_expr e) (spelled_exprs es ++ symbol_at symbol.Close c ∷ []) r ∙ ap (λ s. spelled_expr e ++ s) (append_assoc (spelled_exprs es) (symbol_at symbol.Close c ∷ []) r))
+    ∙ read_expr e 64 tail (want.more_exprs 64) (mark symbol.Close ∷ (y ∷ rest)) f.0 (rw below_exprs (omega arith))
+    ∙ read_exprs es 64 c r (mark symbol.Close) (y ∷ rest) f.1
+    ∙ mark_goes symbol.Close c r (y ∷ rest)
 
 closer_skip : (k : Closer) (c : ℕ) (r : List Spot) (n : ℕ) (y : Want) (rest : List Want) → report (reserved_at (closer_word k) c ∷ r) (want.more_statements n ∷ (y ∷ rest)) ≡ report (reserved_at (closer_word k) c ∷ r) (y ∷ rest)
 closer_skip k c r n y rest = semicolon_skip (reserved_at (closer_word k) c ∷ r) n y rest refl
@@ -157,7 +176,7 @@ mutual
       report (spelled_statement x ++ r) (want.statement n ∷ (y ∷ rest)) ≡ report r (y ∷ rest)
   read_statement empty n r y rest f h =
       let b = follows_begins empty r h in
-      statement_skip r n y rest (not-name r b) (not-Begin r b) (not-If r b) (not-While r b) (not-Repeat r b) (not-For r b)
+      statement_skip r n y rest (not-name r b) (not-Begin r b) (not-If r b) (not-While r b) (not-Repeat r b) (not-For r b) (not-Case r b)
   read_statement (assign x i b e) n r y rest f h =
       let s = follows_strength _ r h in
       statement_name x ((spelled_place i ++ (symbol_at symbol.Becomes b ∷ spelled_expr e)) ++ r) n (y ∷ rest)
@@ -166,12 +185,10 @@ mutual
       ∙ read_expr e 64 r y rest f.2 (omega arith)
   read_statement (call x a) n r y rest f h =
       statement_name x (spelled_call a ++ r) n (y ∷ rest) ∙ read_call a r y rest f.1 (follows_marks _ r h)
-  read_statement (compound b x xs c) n r y rest f h =
-      let tail : List Spot = spelled_statements xs ++ (reserved_at reserved.End c ∷ r) in
-      statement_begin b ((spelled_statement x ++ (spelled_statements xs ++ reserved_at reserved.End c ∷ [])) ++ r) n (y ∷ rest) (deep_statement x n f.1)
-      ∙ at_wants (want.statement (n - 1) ∷ (want.more_statements (n - 1) ∷ (reserved_word reserved.End ∷ (y ∷ rest)))) (append_assoc (spelled_statement x) (spelled_statements xs ++ reserved_at reserved.End c ∷ []) r ∙ ap (λ s. spelled_statement x ++ s) (append_assoc (spelled_statements xs) (reserved_at reserved.End c ∷ []) r))
-      ∙ read_statement x (n - 1) tail (want.more_statements (n - 1)) (reserved_word reserved.End ∷ (y ∷ rest)) f.1 (follows_list xs by_end c r x)
-      ∙ read_statements xs (n - 1) by_end c r (reserved_word reserved.End) (y ∷ rest) f.2
+  read_statement (compound (body b x c)) n r y rest f h =
+      statement_begin b ((spelled_sequence x ++ reserved_at reserved.End c ∷ []) ++ r) n (y ∷ rest) (deep_sequence x n f.1)
+      ∙ at_wants (want.statement (n - 1) ∷ (want.more_statements (n - 1) ∷ (reserved_word reserved.End ∷ (y ∷ rest)))) (append_assoc (spelled_sequence x) (reserved_at reserved.End c ∷ []) r)
+      ∙ read_sequence x (n - 1) by_end c r (reserved_word reserved.End) (y ∷ rest) f.1
       ∙ reserved_goes reserved.End c r (y ∷ rest)
   read_statement (if_then l e t x) n r y rest f h =
       statement_if l ((spelled_expr e ++ (reserved_at reserved.Then t ∷ spelled_statement x)) ++ r) n (y ∷ rest) (deep_statement x n f.2)
@@ -196,15 +213,14 @@ mutual
       ∙ read_expr e 64 (reserved_at reserved.Do d ∷ (spelled_statement x ++ r)) (reserved_word reserved.Do) (want.statement (n - 1) ∷ (y ∷ rest)) f.1 (omega arith)
       ∙ reserved_goes reserved.Do d (spelled_statement x ++ r) (want.statement (n - 1) ∷ (y ∷ rest))
       ∙ read_statement x (n - 1) r y rest f.2 (follows_while l e d x r h)
-  read_statement (repeat_until l x xs u e) n r y rest f h =
+  read_statement (repeat_until l x u e) n r y rest f h =
       let s = follows_strength _ r h in
-      let tail : List Spot = spelled_statements xs ++ (reserved_at reserved.Until u ∷ (spelled_expr e ++ r)) in
-      statement_repeat l ((spelled_statement x ++ (spelled_statements xs ++ (reserved_at reserved.Until u ∷ spelled_expr e))) ++ r) n (y ∷ rest) (deep_statement x n f.1)
-      ∙ at_wants (want.statement (n - 1) ∷ (want.more_statements (n - 1) ∷ (reserved_word reserved.Until ∷ (want.expr 64 ∷ (y ∷ rest))))) (append_assoc (spelled_statement x) (spelled_statements xs ++ (reserved_at reserved.Until u ∷ spelled_expr e)) r ∙ ap (λ s. spelled_statement x ++ s) (append_assoc (spelled_statements xs) (reserved_at reserved.Until u ∷ spelled_expr e) r))
-      ∙ read_statement x (n - 1) tail (want.more_statements (n - 1)) (reserved_word reserved.Until ∷ (want.expr 64 ∷ (y ∷ rest))) f.1 (follows_list xs by_until u (spelled_expr e ++ r) x)
-      ∙ read_statements xs (n - 1) by_until u (spelled_expr e ++ r) (reserved_word reserved.Until) (want.expr 64 ∷ (y ∷ rest)) f.2
+      let k : List Want = reserved_word reserved.Until ∷ (want.expr 64 ∷ (y ∷ rest)) in
+      statement_repeat l ((spelled_sequence x ++ (reserved_at reserved.Until u ∷ spelled_expr e)) ++ r) n (y ∷ rest) (deep_sequence x n f.1)
+      ∙ at_wants (want.statement (n - 1) ∷ (want.more_statements (n - 1) ∷ k)) (append_assoc (spelled_sequence x) (reserved_at reserved.Until u ∷ spelled_expr e) r)
+      ∙ read_sequence x (n - 1) by_until u (spelled_expr e ++ r) (reserved_word reserved.Until) (want.expr 64 ∷ (y ∷ rest)) f.1
       ∙ reserved_goes reserved.Until u (spelled_expr e ++ r) (want.expr 64 ∷ (y ∷ rest))
-      ∙ read_expr e 64 r y rest f.3 (omega arith)
+      ∙ read_expr e 64 r y rest f.2 (omega arith)
   read_statement (for_do l x b e w t v d z) n r y rest f h =
       let t1 : List Spot = reserved_at reserved.Do d ∷ spelled_statement z in
       let t2 : List Spot = reserved_at (direction_word w) t ∷ (spelled_expr v ++ t1) in
@@ -220,6 +236,28 @@ mutual
       ∙ read_expr v 64 (t1 ++ r) (reserved_word reserved.Do) (want.statement (n - 1) ∷ (y ∷ rest)) f.2 (omega arith)
       ∙ reserved_goes reserved.Do d (spelled_statement z ++ r) (want.statement (n - 1) ∷ (y ∷ rest))
       ∙ read_statement z (n - 1) r y rest f.3 (follows_for l x b e w t v d z r h)
+  read_statement (case_of l e o b bs c) n r y rest f h =
+      let m : ℕ = n - 1 in
+      let tail : List Spot = spelled_branches bs ++ (reserved_at reserved.End c ∷ r) in
+      let inside : List Spot = spelled_branch b ++ (spelled_branches bs ++ reserved_at reserved.End c ∷ []) in
+      let k : List Want = want.more_branches m ∷ (reserved_word reserved.End ∷ (y ∷ rest)) in
+      let j : List Want = want.constant ∷ (want.more_labels ∷ (mark symbol.Colon ∷ (want.statement m ∷ k))) in
+      statement_case l ((spelled_expr e ++ (reserved_at reserved.Of o ∷ inside)) ++ r) n (y ∷ rest) (deep_branch b n f.2)
+      ∙ at_wants (want.expr 64 ∷ (reserved_word reserved.Of ∷ j)) (append_assoc (spelled_expr e) (reserved_at reserved.Of o ∷ inside) r)
+      ∙ read_expr e 64 (reserved_at reserved.Of o ∷ (inside ++ r)) (reserved_word reserved.Of) j f.1 (omega arith)
+      ∙ reserved_goes reserved.Of o (inside ++ r) j
+      ∙ at_wants j (append_assoc (spelled_branch b) (spelled_branches bs ++ reserved_at reserved.End c ∷ []) r ∙ ap (λ s. spelled_branch b ++ s) (append_assoc (spelled_branches bs) (reserved_at reserved.End c ∷ []) r))
+      ∙ read_branch b m tail (want.more_branches m) (reserved_word reserved.End ∷ (y ∷ rest)) f.2 (follows_branches bs c r)
+      ∙ read_branches bs m c r (y ∷ rest) f.3
+      ∙ reserved_goes reserved.End c r (y ∷ rest)
+
+  pub read_sequence : (x : Sequence) (n : ℕ) (k : Closer) (c : ℕ) (r : List Spot) (y : Want) (rest : List Want) → SequenceFits x n →
+      report (spelled_sequence x ++ (reserved_at (closer_word k) c ∷ r)) (want.statement n ∷ (want.more_statements n ∷ (y ∷ rest))) ≡ report (reserved_at (closer_word k) c ∷ r) (y ∷ rest)
+  read_sequence (sequence x xs) n k c r y rest f =
+      let tail : List Spot = reserved_at (closer_word k) c ∷ r in
+      at_wants (want.statement n ∷ (want.more_statements n ∷ (y ∷ rest))) (append_assoc (spelled_statement x) (spelled_statements xs) tail)
+      ∙ read_statement x n (spelled_statements xs ++ tail) (want.more_statements n) (y ∷ rest) f.0 (follows_list xs k c r x)
+      ∙ read_statements xs n k c r y rest f.1
 
   pub read_statements : (x : Statements) (n : ℕ) (k : Closer) (c : ℕ) (r : List Spot) (y : Want) (rest : List Want) → StatementsFit x n →
       report (spelled_statements x ++ (reserved_at (closer_word k) c ∷ r)) (want.more_statements n ∷ (y ∷ rest)) ≡ report (reserved_at (closer_word k) c ∷ r) (y ∷ rest)
@@ -231,11 +269,29 @@ mutual
       ∙ read_statement x n (spelled_statements xs ++ tail) (want.more_statements n) (y ∷ rest) f.0 (follows_list xs k c r x)
       ∙ read_statements xs n k c r y rest f.1
 
-pub read_body : (x : Body) (r : List Spot) (y : Want) (rest : List Want) → BodyFits x → report (spelled_body x ++ r) (want.body ∷ (y ∷ rest)) ≡ report r (y ∷ rest)
-read_body x r y rest f =
-    let tail : List Spot = spelled_statements x.rest ++ (reserved_at reserved.End x.end ∷ r) in
-    body_goes x.begin ((spelled_statement x.first ++ (spelled_statements x.rest ++ reserved_at reserved.End x.end ∷ [])) ++ r) (y ∷ rest)
-    ∙ at_wants (want.statement 64 ∷ (want.more_statements 64 ∷ (reserved_word reserved.End ∷ (y ∷ rest)))) (append_assoc (spelled_statement x.first) (spelled_statements x.rest ++ reserved_at reserved.End x.end ∷ []) r ∙ ap (λ s. spelled_statement x.first ++ s) (append_assoc (spelled_statements x.rest) (reserved_at reserved.End x.end ∷ []) r))
-    ∙ read_statement x.first 64 tail (want.more_statements 64) (reserved_word reserved.End ∷ (y ∷ rest)) f.0 (follows_list x.rest by_end x.end r x.first)
-    ∙ read_statements x.rest 64 by_end x.end r (reserved_word reserved.End) (y ∷ rest) f.1
-    ∙ reserved_goes reserved.End x.end r (y ∷ rest)
+  pub read_branch : (x : Branch) (n : ℕ) (r : List Spot) (y : Want) (more : List Want) → BranchFits x n → ((z : Statement) → Follows z r) →
+      report (spelled_branch x ++ r) (want.constant ∷ (want.more_labels ∷ (mark symbol.Colon ∷ (want.statement n ∷ (y ∷ more))))) ≡ report r (y ∷ more)
+  read_branch (branch l c x) n r y more f h =
+      let k : List Want = want.statement n ∷ (y ∷ more) in
+      at_wants (want.constant ∷ (want.more_labels ∷ (mark symbol.Colon ∷ k))) (append_assoc (spelled_labels l) (symbol_at symbol.Colon c ∷ spelled_statement x) r)
+      ∙ read_labels l c (spelled_statement x ++ r) k
+      ∙ read_statement x n r y more f (h x)
+
+  pub read_branches : (x : Branches) (n : ℕ) (c : ℕ) (r : List Spot) (rest : List Want) → BranchesFit x n →
+      report (spelled_branches x ++ (reserved_at reserved.End c ∷ r)) (want.more_branches n ∷ (reserved_word reserved.End ∷ rest)) ≡ report (reserved_at reserved.End c ∷ r) (reserved_word reserved.End ∷ rest)
+  read_branches no_branch n c r rest f = branch_skip (reserved_at reserved.End c ∷ r) n (reserved_word reserved.End) rest refl
+  read_branches (next_branch l x xs) n c r rest f =
+      let tail : List Spot = reserved_at reserved.End c ∷ r in
+      let k : List Want = want.more_branches n ∷ (reserved_word reserved.End ∷ rest) in
+      let j : List Want = want.constant ∷ (want.more_labels ∷ (mark symbol.Colon ∷ (want.statement n ∷ k))) in
+      branch_goes l ((spelled_branch x ++ spelled_branches xs) ++ tail) n (reserved_word reserved.End ∷ rest)
+      ∙ at_wants j (append_assoc (spelled_branch x) (spelled_branches xs) tail)
+      ∙ read_branch x n (spelled_branches xs ++ tail) (want.more_branches n) (reserved_word reserved.End ∷ rest) f.0 (follows_branches xs c r)
+      ∙ read_branches xs n c r rest f.1
+
+pub read_body : (x : Body) (r : List Spot) (y : Want) (rest : List Want) → BodyFits x 64 → report (spelled_body x ++ r) (want.body ∷ (y ∷ rest)) ≡ report r (y ∷ rest)
+read_body (body b x c) r y rest f =
+    body_goes b ((spelled_sequence x ++ reserved_at reserved.End c ∷ []) ++ r) (y ∷ rest)
+    ∙ at_wants (want.statement 64 ∷ (want.more_statements 64 ∷ (reserved_word reserved.End ∷ (y ∷ rest)))) (append_assoc (spelled_sequence x) (reserved_at reserved.End c ∷ []) r)
+    ∙ read_sequence x 64 by_end c r (reserved_word reserved.End) (y ∷ rest) f
+    ∙ reserved_goes reserved.End c r (y ∷ rest)

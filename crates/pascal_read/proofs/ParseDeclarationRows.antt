@@ -1,11 +1,11 @@
 -- What one word makes of a declaration that is wanted, a lemma for each way to go on.
-use Rattle.std.proofs.Common.{◌≡◌, ℕ, Bool, true, false, List, [], ◌∷◌, Some, refl, sym, ◌∙◌}
+use Rattle.std.proofs.Common.{◌≡◌, ℕ, Bool, true, false, List, [], ◌∷◌, ◌++◌, Some, refl, sym, ◌∙◌}
 use Rattle.pascal_tree.specs.Word.{Spot, NameAt, NumberAt, CharacterAt}
 use Rattle.pascal_tree.specs.SpellExpression.{reserved_at, symbol_at, name_at, number_at, character_at}
 use Rattle.pascal_tree.specs.declared.token.Reserved.TheVariants as reserved
 use Rattle.pascal_tree.specs.declared.token.Symbol.TheVariants as symbol
 use Rattle.pascal_read.specs.ParseFirst.{first_line, first_is, end_at}
-use Rattle.pascal_read.specs.ParseWants.{Want, report, reserved_word, mark, is_reserved, is_symbol, is_name, is_number, is_character, is_end}
+use Rattle.pascal_read.specs.ParseWants.{Want, report, reserved_word, mark, is_reserved, is_symbol, is_name, is_number, is_character, is_end, parameter_group_rest}
 use Rattle.pascal_read.specs.ParseWants as want
 use Rattle.pascal_read.proofs.ParseRows.{taken, skipped, refused, at_end, mark_goes, mark_stuck, reserved_goes, reserved_stuck}
 use Rattle.pascal_read.proofs.ParseStatementRows.{name_goes, name_stuck, body_goes, body_stuck}
@@ -115,13 +115,16 @@ pub parameters_skip : (before : List Spot) (y : Want) (rest : List Want) → fir
 parameters_skip [] y rest a = at_end want.parameters (y ∷ rest) ∙ sym (at_end y rest)
 parameters_skip (t ∷ ts) y rest a = skipped t ts want.parameters y rest (rw (a))
 
-parameter_group_is-word : (b : Bool) (t : Spot) (ts : List Spot) (rest : List Want) → is_name t.word ≡ b → report (t ∷ ts) (want.parameter_group ∷ rest) ≡ report (t ∷ ts) (want.name ∷ (want.more_names ∷ (mark symbol.Colon ∷ (want.name ∷ rest))))
-parameter_group_is-word true t ts rest e = taken t ts want.parameter_group (want.more_names ∷ (mark symbol.Colon ∷ (want.name ∷ []))) rest (rw e) ∙ sym (taken t ts want.name [] (want.more_names ∷ (mark symbol.Colon ∷ (want.name ∷ rest))) (rw e))
-parameter_group_is-word false t ts rest e = refused t ts want.parameter_group rest (rw e) ∙ sym (refused t ts want.name (want.more_names ∷ (mark symbol.Colon ∷ (want.name ∷ rest))) (rw e))
+pub parameter_group_var : (l : ℕ) (ts : List Spot) (rest : List Want) → report (reserved_at reserved.Var l ∷ ts) (want.parameter_group ∷ rest) ≡ report ts (want.name ∷ (parameter_group_rest ++ rest))
+parameter_group_var l ts rest = taken (reserved_at reserved.Var l) ts want.parameter_group (want.name ∷ parameter_group_rest) rest refl
 
-pub parameter_group_is : (before : List Spot) (rest : List Want) → report before (want.parameter_group ∷ rest) ≡ report before (want.name ∷ (want.more_names ∷ (mark symbol.Colon ∷ (want.name ∷ rest))))
-parameter_group_is [] rest = at_end want.parameter_group rest ∙ sym (at_end want.name (want.more_names ∷ (mark symbol.Colon ∷ (want.name ∷ rest))))
-parameter_group_is (t ∷ ts) rest = parameter_group_is-word (is_name t.word) t ts rest refl
+parameter_group_is-word : (b : Bool) (t : Spot) (ts : List Spot) (rest : List Want) → is_name t.word ≡ b → is_reserved t.word reserved.Var ≡ false → report (t ∷ ts) (want.parameter_group ∷ rest) ≡ report (t ∷ ts) (want.name ∷ (parameter_group_rest ++ rest))
+parameter_group_is-word true t ts rest e f = taken t ts want.parameter_group parameter_group_rest rest (rw e) ∙ sym (taken t ts want.name [] (parameter_group_rest ++ rest) (rw e))
+parameter_group_is-word false t ts rest e f = refused t ts want.parameter_group rest (rw (e, f)) ∙ sym (refused t ts want.name (parameter_group_rest ++ rest) (rw e))
+
+pub parameter_group_is : (before : List Spot) (rest : List Want) → first_is (λ w. is_reserved w reserved.Var) before ≡ false → report before (want.parameter_group ∷ rest) ≡ report before (want.name ∷ (parameter_group_rest ++ rest))
+parameter_group_is [] rest f = at_end want.parameter_group rest ∙ sym (at_end want.name (parameter_group_rest ++ rest))
+parameter_group_is (t ∷ ts) rest f = parameter_group_is-word (is_name t.word) t ts rest refl f
 
 pub more_parameters_goes : (l : ℕ) (ts : List Spot) (rest : List Want) → report (symbol_at symbol.Semicolon l ∷ ts) (want.more_parameters ∷ rest) ≡ report ts (want.parameter_group ∷ (want.more_parameters ∷ rest))
 more_parameters_goes l ts rest = taken (symbol_at symbol.Semicolon l) ts want.more_parameters (want.parameter_group ∷ (want.more_parameters ∷ [])) rest refl
@@ -140,4 +143,4 @@ pub routines_skip : (before : List Spot) (y : Want) (rest : List Want) → first
 routines_skip [] y rest a b = at_end want.routines (y ∷ rest) ∙ sym (at_end y rest)
 routines_skip (t ∷ ts) y rest a b = skipped t ts want.routines y rest (rw (a, b))
 
-pub ruleset declaration_rows = (mark_goes, mark_stuck, reserved_goes, reserved_stuck, name_goes, name_stuck, body_goes, body_stuck, heading_goes, heading_skip, constant_name, constant_number, constant_character, constant_minus, constant_stuck, number_goes, end_goes, number_stuck, end_stuck, consts_goes, consts_skip, definition_is, more_definitions_goes, more_definitions_skip, kind_name, kind_array, kind_stuck, vars_goes, vars_skip, group_is, more_groups_goes, more_groups_skip, more_names_goes, more_names_skip, parameters_goes, parameters_skip, parameter_group_is, more_parameters_goes, more_parameters_skip, procedure_goes, function_goes, routines_skip)
+pub ruleset declaration_rows = (mark_goes, mark_stuck, reserved_goes, reserved_stuck, name_goes, name_stuck, body_goes, body_stuck, heading_goes, heading_skip, constant_name, constant_number, constant_character, constant_minus, constant_stuck, number_goes, end_goes, number_stuck, end_stuck, consts_goes, consts_skip, definition_is, more_definitions_goes, more_definitions_skip, kind_name, kind_array, kind_stuck, vars_goes, vars_skip, group_is, more_groups_goes, more_groups_skip, more_names_goes, more_names_skip, parameters_goes, parameters_skip, parameter_group_var, parameter_group_is, more_parameters_goes, more_parameters_skip, procedure_goes, function_goes, routines_skip)

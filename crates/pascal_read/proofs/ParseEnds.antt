@@ -2,10 +2,10 @@
 use Rattle.std.proofs.Common.{List, [], ◌∷◌, None, inr, refl, arith}
 use Rattle.pascal_tree.specs.Word.{Spot, NameAt, NumberAt, AreWords}
 use Rattle.pascal_tree.specs.Expression.{alone, Simple, simple, Term, term, no_addend, no_multiplier, number, named, no_expr}
-use Rattle.pascal_tree.specs.Statement.{empty, call, no_statement}
+use Rattle.pascal_tree.specs.Statement.{empty, call, body, sequence, no_statement, no_branch}
 use Rattle.pascal_tree.specs.SpellExpression.{reserved_at, symbol_at, name_at, number_at}
 use Rattle.pascal_tree.specs.declared.statement.Direction.TheVariants as directions
-use Rattle.pascal_tree.specs.declared.declaration.Constant.TheVariants as constants
+use Rattle.pascal_tree.specs.declared.constant.Constant.TheVariants as constants
 use Rattle.pascal_tree.specs.declared.declaration.Kind.TheVariants as kinds
 use Rattle.pascal_tree.specs.declared.token.Reserved.TheVariants as reserved
 use Rattle.pascal_tree.specs.declared.token.Symbol.TheVariants as symbol
@@ -71,10 +71,12 @@ ending (want.statement n) after h = nothing after (record { part = empty; keeps 
 ending want.behind_first_name after h = nothing after (λ x n one. record { part = call x None; keeps = ((one, tt), λ e. tt); is = refl })
 ending (want.otherwise n) after h = record { before = reserved_at reserved.Else 0 ∷ after; reads = inr (record { part = (0, empty); keeps = (h, λ e. tt); is = refl }); words = λ w. (tt, w) }
 ending (want.more_statements n) after h = nothing after (record { part = no_statement; keeps = tt; is = refl })
+ending (want.more_branches n) after h = nothing after (record { part = no_branch; keeps = tt; is = refl })
+ending want.more_labels after h = nothing after (record { part = []; keeps = tt; is = refl })
 ending want.direction after h = record { before = reserved_at reserved.To 0 ∷ after; reads = record { part = (directions.To, 0); keeps = tt; is = refl }; words = λ w. (tt, w) }
 ending want.body after h = record {
   before = reserved_at reserved.Begin 0 ∷ (reserved_at reserved.End 0 ∷ after);
-  reads = record { part = record { begin = 0; first = empty; rest = no_statement; end = 0 }; keeps = (omega arith, tt); is = refl };
+  reads = record { part = body 0 (sequence empty no_statement) 0; keeps = (omega arith, tt); is = refl };
   words = λ w. (tt, (tt, w));
 }
 ending want.heading after h = nothing after (record { part = None; keeps = tt; is = refl })
@@ -98,7 +100,7 @@ ending want.more_names after h = nothing after (record { part = []; keeps = tt; 
 ending want.parameters after h = nothing after (record { part = None; keeps = tt; is = refl })
 ending want.parameter_group after h = record {
   before = name_at some_name ∷ (symbol_at symbol.Colon 0 ∷ (name_at some_name ∷ after));
-  reads = record { part = record { names = record { first = some_name; rest = [] }; colon = 0; kind = some_name }; keeps = tt; is = refl };
+  reads = record { part = record { var = None; names = record { first = some_name; rest = [] }; colon = 0; kind = some_name }; keeps = tt; is = refl };
   words = is_group after;
 }
 ending want.more_parameters after h = nothing after (record { part = []; keeps = tt; is = refl })

@@ -2,6 +2,7 @@
 use Rattle.std.proofs.Common.{◌≡◌, ℕ, List, [], ◌∷◌, ◌++◌, Some, None, inl, inr, refl, sym, ap, subst, ◌∙◌, append_assoc}
 use Rattle.pascal_tree.specs.Word.{Spot, AreWords}
 use Rattle.pascal_tree.specs.Program.{Program}
+use Rattle.pascal_tree.specs.Limits.{IsTree}
 use Rattle.pascal_tree.specs.SpellProgram.{spelled}
 use Rattle.pascal_read.specs.ErrorPlace.{ErrorPlace, SpellATree, EndAtTheEnd, BeginATree}
 use Rattle.pascal_read.specs.ParseWants.{Outcome, done, stuck, run, report, stuck_line, program_wants}
@@ -11,16 +12,16 @@ use Rattle.pascal_read.proofs.ParseSpells.{AllRead}
 use Rattle.pascal_read.proofs.ParseSpellsOffer.{IsSound}
 use Rattle.pascal_read.proofs.ParseSpellsBack.{back_from, all_end, read_whole, not_behind_the_end}
 
-program_sound : IsSound program_wants
+pub program_sound : IsSound program_wants
 program_sound = inr (inr (tt, inr (tt, inr (tt, inr (tt, inr (tt, inr (tt, inl (refl, refl))))))))
 
--- the parts of a whole program make its tree
-spells : (words : List Spot) → AreWords words → AllRead program_wants words [] → SpellATree words
-spells words w r =
+-- the tree that the parts of a whole program make
+abbrev pub tree_of : (words : List Spot) → AllRead program_wants words [] → Program
+tree_of words r =
     let vars = r.2.2 in
     let body = vars.2.2 in
     let end = body.2.2 in
-    let tree : Program = record {
+    record {
       heading = r.1.part;
       consts = r.2.1.part;
       vars = vars.1.part;
@@ -28,13 +29,21 @@ spells words w r =
       body = body.1.part;
       period = body.2.1.part;
       end = end.1.part;
-    } in
-    let is : spelled tree ≡ words = sym (simp (r.1.is, r.2.1.is, vars.1.is, vars.2.1.is, body.1.is, body.2.1.is, end.1.is, end.2) refl) in
-    record {
-      tree = tree;
-      is_tree = record { routines = vars.2.1.keeps; body = body.1.keeps; words = subst AreWords (sym is) w };
-      is = is;
     }
+
+pub tree_spells : (words : List Spot) (r : AllRead program_wants words []) → spelled (tree_of words r) ≡ words
+tree_spells words r =
+    let vars = r.2.2 in
+    let body = vars.2.2 in
+    let end = body.2.2 in
+    sym (simp (r.1.is, r.2.1.is, vars.1.is, vars.2.1.is, body.1.is, body.2.1.is, end.1.is, end.2) refl)
+
+pub tree_keeps : (words : List Spot) (r : AllRead program_wants words []) → AreWords words → IsTree (tree_of words r)
+tree_keeps words r w = record { routines = r.2.2.2.1.keeps; body = r.2.2.2.2.1.keeps; words = subst AreWords (sym (tree_spells words r)) w }
+
+-- the parts of a whole program make its tree
+spells : (words : List Spot) → AreWords words → AllRead program_wants words [] → SpellATree words
+spells words w r = record { tree = tree_of words r; is_tree = tree_keeps words r w; is = tree_spells words r }
 
 -- words of two lists, and of the first of them
 are_words : (xs ys : List Spot) → AreWords xs → AreWords ys → AreWords (xs ++ ys)

@@ -4,9 +4,10 @@ use Rattle.pascal_tree.specs.Word.{Spot, NameAt}
 use Rattle.pascal_tree.specs.Expression.{Simple}
 use Rattle.pascal_tree.specs.Statement.{Statement}
 use Rattle.pascal_tree.specs.SpellExpression.{reserved_at, symbol_at, name_at, number_at, spelled_expr, spelled_simple, spelled_addends, spelled_term, spelled_multipliers, spelled_factor, spelled_exprs}
-use Rattle.pascal_tree.specs.SpellStatement.{direction_word, spelled_statement, spelled_statements, spelled_body}
-use Rattle.pascal_tree.specs.SpellProgram.{spelled_heading, spelled_constant, spelled_consts, spelled_definition, spelled_definitions, spelled_kind, spelled_vars, spelled_group, spelled_groups, spelled_more_names, spelled_parameters, spelled_parameter_group, spelled_parameter_groups, spelled_routines}
-use Rattle.pascal_tree.specs.Limits.{ExprFits, SimpleFits, AddendsFit, TermFits, MultipliersFit, FactorFits, ExprsFit, StatementFits, StatementsFit, EndsClosed, BodyFits, RoutinesFit}
+use Rattle.pascal_tree.specs.SpellStatement.{direction_word, spelled_statement, spelled_statements, spelled_body, spelled_branches}
+use Rattle.pascal_tree.specs.SpellConstant.{spelled_constant, spelled_more_labels}
+use Rattle.pascal_tree.specs.SpellProgram.{spelled_heading, spelled_consts, spelled_definition, spelled_definitions, spelled_kind, spelled_vars, spelled_group, spelled_groups, spelled_more_names, spelled_parameters, spelled_parameter_group, spelled_parameter_groups, spelled_routines}
+use Rattle.pascal_tree.specs.Limits.{ExprFits, SimpleFits, AddendsFit, TermFits, MultipliersFit, FactorFits, ExprsFit, StatementFits, StatementsFit, BranchesFit, EndsClosed, BodyFits, RoutinesFit}
 use Rattle.pascal_tree.specs.declared.statement.Direction.{Direction}
 use Rattle.pascal_tree.specs.declared.token.Reserved.TheVariants as reserved
 use Rattle.pascal_read.specs.ParseFirst.{first_is, end_at}
@@ -64,8 +65,10 @@ Reads (want.statement n) before after = StatementPart n before after
 Reads want.behind_first_name before after = (x : NameAt) (n : ℕ) → 1 ≤ n → StatementPart n (name_at x ∷ before) after
 Reads (want.otherwise n) before after = ((before ≡ after) × (begins_else after ≡ false)) ⊎ ElsePart n before after
 Reads (want.more_statements n) before after = Part (λ s. StatementsFit s n) spelled_statements before after
+Reads (want.more_branches n) before after = Part (λ b. BranchesFit b n) spelled_branches before after
+Reads want.more_labels before after = AnyPart spelled_more_labels before after
 Reads want.direction before after = OneWord {A = Direction × ℕ} (λ d. reserved_at (direction_word d.0) d.1) before after
-Reads want.body before after = Part BodyFits spelled_body before after
+Reads want.body before after = Part (λ b. BodyFits b 64) spelled_body before after
 Reads want.heading before after = AnyPart spelled_heading before after
 Reads want.constant before after = AnyPart spelled_constant before after
 Reads want.consts before after = AnyPart spelled_consts before after
@@ -100,6 +103,7 @@ HasLevel (want.more_exprs n) = 1 ≤ n
 HasLevel (want.statement n) = 1 ≤ n
 HasLevel (want.otherwise n) = 1 ≤ n
 HasLevel (want.more_statements n) = 1 ≤ n
+HasLevel (want.more_branches n) = 1 ≤ n
 HasLevel other = Unit {0}
 
 -- a want within a program: it has a level, and isn't the end token

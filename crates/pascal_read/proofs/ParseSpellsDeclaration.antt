@@ -2,7 +2,7 @@
 use Rattle.std.proofs.Common.{[], ◌∷◌, Some, None, refl, append_assoc}
 use Rattle.pascal_tree.specs.Word.{Spot}
 use Rattle.pascal_tree.specs.Program.{procedure, function}
-use Rattle.pascal_tree.specs.declared.declaration.Constant.TheVariants as constants
+use Rattle.pascal_tree.specs.declared.constant.Constant.TheVariants as constants
 use Rattle.pascal_tree.specs.declared.declaration.Kind.TheVariants as kinds
 use Rattle.pascal_tree.specs.declared.token.Reserved.TheVariants as reserved
 use Rattle.pascal_tree.specs.declared.token.Symbol.TheVariants as symbol
@@ -172,12 +172,23 @@ parameter_group_right t =
     (λ x. record {
       inner = (tt, (tt, (tt, tt)));
       joins = λ middle after r. record {
-        part = record { names = record { first = x; rest = r.1.part }; colon = r.2.1.part; kind = r.2.2.1.part };
+        part = record { var = None; names = record { first = x; rest = r.1.part }; colon = r.2.1.part; kind = r.2.2.1.part };
         keeps = tt;
         is = simp (r.1.is, r.2.1.is, r.2.2.1.is, r.2.2.2, append_assoc) refl;
       };
     })
-    tt
+    (if_reserved (λ u p. IsRight want.parameter_group u p) t reserved.Var _ _
+    (λ line. record {
+      inner = (tt, (tt, (tt, (tt, tt))));
+      joins = λ middle after r.
+          let g = r.2 in
+          record {
+            part = record { var = Some line; names = record { first = r.1.part; rest = g.1.part }; colon = g.2.1.part; kind = g.2.2.1.part };
+            keeps = tt;
+            is = simp (r.1.is, g.1.is, g.2.1.is, g.2.2.1.is, g.2.2.2, append_assoc) refl;
+          };
+    })
+    (λ o. tt))
 
 pub more_parameters_right : (t : Spot) → IsRight want.more_parameters t (want_step want.more_parameters t.word)
 more_parameters_right t =

@@ -1,7 +1,7 @@
 -- One word at a want of an expression: the parts that are wanted after it make, with it, what was wanted.
 use Rattle.std.proofs.Common.{ℕ, ◌-◌, ◌≤◌, List, [], ◌∷◌, ◌++◌, Option, Some, None, option_map, refl, ap, ◌∙◌, append_assoc, arith}
 use Rattle.pascal_tree.specs.Word.{Spot}
-use Rattle.pascal_tree.specs.Expression.{alone, compared, simple, no_addend, addend, term, no_multiplier, multiplier, number, character, named, element, called, group, negated, no_expr, next_expr}
+use Rattle.pascal_tree.specs.Expression.{alone, compared, simple, no_addend, addend, term, no_multiplier, multiplier, number, character, named, element, called, group, negated, index, arguments, no_expr, next_expr}
 use Rattle.pascal_tree.specs.SpellExpression.{reserved_at, symbol_at, number_at, character_at, sign_symbol, spelled_expr, spelled_factor}
 use Rattle.pascal_tree.specs.declared.token.Reserved.TheVariants as reserved
 use Rattle.pascal_tree.specs.declared.token.Symbol.TheVariants as symbol
@@ -155,7 +155,7 @@ element_right : (n line : ℕ) → 2 ≤ n → Makes (want.behind_name n) (symbo
 element_right n line h = record {
   inner = (omega arith, (tt, tt));
   joins = λ middle after r x. record {
-    part = element x line r.1.part r.2.1.part;
+    part = element x (index line r.1.part r.2.1.part);
     keeps = (omega arith, r.1.keeps);
     is = simp (r.1.is, r.2.1.is, r.2.2, append_assoc) refl;
   };
@@ -165,8 +165,8 @@ called_right : (n line : ℕ) → 2 ≤ n → Makes (want.behind_name n) (symbol
 called_right n line h = record {
   inner = (omega arith, (omega arith, (tt, tt)));
   joins = λ middle after r x. record {
-    part = called x line r.1.part r.2.1.part r.2.2.1.part;
-    keeps = (omega arith, r.1.keeps, r.2.1.keeps);
+    part = called x (arguments line r.1.part r.2.1.part r.2.2.1.part);
+    keeps = (omega arith, (r.1.keeps, r.2.1.keeps));
     is = simp (r.1.is, r.2.1.is, r.2.2.1.is, r.2.2.2, append_assoc) refl;
   };
 }

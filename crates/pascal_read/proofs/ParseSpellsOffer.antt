@@ -7,7 +7,7 @@ use Rattle.pascal_read.specs.ParseWants as want
 use Rattle.pascal_read.proofs.ParseSpells.{AllRead, HasLevel, IsInner, AreInner, split_read, IsRight}
 use Rattle.pascal_read.proofs.ParseSpellsCases.{if_end}
 use Rattle.pascal_read.proofs.ParseSpellsExpression.{right_begun, expr_right, simple_right, term_right, factor_right, relation_right, addends_right, multipliers_right, behind_name_right, more_exprs_right}
-use Rattle.pascal_read.proofs.ParseSpellsStatement.{statement_right, behind_first_name_right, otherwise_right, more_statements_right, direction_right, body_right, reserved_word_right, mark_right, name_right}
+use Rattle.pascal_read.proofs.ParseSpellsStatement.{statement_right, behind_first_name_right, otherwise_right, more_statements_right, more_branches_right, more_labels_right, direction_right, body_right, reserved_word_right, mark_right, name_right}
 use Rattle.pascal_read.proofs.ParseSpellsDeclaration.{number_right, end_right, heading_right, constant_right, consts_right, definition_right, more_definitions_right, kind_right, vars_right, group_right, more_groups_right, more_names_right, parameters_right, parameter_group_right, more_parameters_right, routines_right}
 
 -- what each want makes of a word is right
@@ -30,6 +30,8 @@ want_right (want.statement n) t h = statement_right n t h
 want_right want.behind_first_name t h = behind_first_name_right t
 want_right (want.otherwise n) t h = otherwise_right n t h
 want_right (want.more_statements n) t h = more_statements_right n t h
+want_right (want.more_branches n) t h = more_branches_right n t h
+want_right want.more_labels t h = more_labels_right t
 want_right want.direction t h = direction_right t
 want_right want.body t h = body_right t
 want_right want.heading t h = heading_right t
@@ -74,6 +76,7 @@ inner_level (want.more_exprs n) i = i
 inner_level (want.statement n) i = i
 inner_level (want.otherwise n) i = i
 inner_level (want.more_statements n) i = i
+inner_level (want.more_branches n) i = i
 inner_level other i = tt
 
 -- What is wanted after a word makes, with the word, what was wanted.

@@ -1,14 +1,15 @@
 -- One word at a want of a statement: the parts that are wanted after it make, with it, what was wanted.
 use Rattle.std.proofs.Common.{◌≡◌, ℕ, ◌-◌, ◌≤◌, false, List, [], ◌∷◌, Some, None, inl, inr, refl, sym, ap, subst, ◌∙◌, append_assoc, arith}
 use Rattle.pascal_tree.specs.Word.{Spot}
-use Rattle.pascal_tree.specs.Statement.{empty, assign, call, compound, if_then, if_else, while_do, repeat_until, for_do, no_statement, next_statement}
+use Rattle.pascal_tree.specs.Statement.{empty, assign, call, compound, if_then, if_else, while_do, repeat_until, for_do, case_of, body, sequence, no_statement, next_statement, branch, no_branch, next_branch}
+use Rattle.pascal_tree.specs.Expression.{index, arguments}
 use Rattle.pascal_tree.specs.SpellExpression.{reserved_at, name_at}
 use Rattle.pascal_tree.specs.declared.statement.Direction.TheVariants as directions
 use Rattle.pascal_tree.specs.declared.token.Reserved.{Reserved}
 use Rattle.pascal_tree.specs.declared.token.Reserved.TheVariants as reserved
 use Rattle.pascal_tree.specs.declared.token.Symbol.{Symbol}
 use Rattle.pascal_tree.specs.declared.token.Symbol.TheVariants as symbol
-use Rattle.pascal_read.specs.ParseWants.{Want, Step, took, skip, no, statement_step, behind_first_name_step, want_step, body_rest}
+use Rattle.pascal_read.specs.ParseWants.{Want, Step, took, skip, no, statement_step, behind_first_name_step, want_step, body_rest, case_wants}
 use Rattle.pascal_read.specs.ParseWants as want
 use Rattle.pascal_read.proofs.ParseSpells.{AllRead, StatementPart, begins_else, Makes, IsRight}
 use Rattle.pascal_read.proofs.ParseSpellsCases.{if_symbol, if_reserved, if_name, if_two}
@@ -33,8 +34,8 @@ begin_makes : (n line : ℕ) → 2 ≤ n → Makes (want.statement n) (reserved_
 begin_makes n line h = record {
   inner = (omega arith, (omega arith, (tt, tt)));
   joins = λ middle after r. record {
-    part = compound line r.1.part r.2.1.part r.2.2.1.part;
-    keeps = ((omega arith, r.1.keeps.0, r.2.1.keeps), λ e. tt);
+    part = compound (body line (sequence r.1.part r.2.1.part) r.2.2.1.part);
+    keeps = ((omega arith, (r.1.keeps.0, r.2.1.keeps)), λ e. tt);
     is = simp (r.1.is, r.2.1.is, r.2.2.1.is, r.2.2.2, append_assoc) refl;
   };
 }
@@ -77,8 +78,8 @@ repeat_makes : (n line : ℕ) → 2 ≤ n → Makes (want.statement n) (reserved
 repeat_makes n line h = record {
   inner = (omega arith, (omega arith, (tt, (omega arith, tt))));
   joins = λ middle after r. record {
-    part = repeat_until line r.1.part r.2.1.part r.2.2.1.part r.2.2.2.1.part;
-    keeps = ((omega arith, r.1.keeps.0, r.2.1.keeps, r.2.2.2.1.keeps), λ e. tt);
+    part = repeat_until line (sequence r.1.part r.2.1.part) r.2.2.1.part r.2.2.2.1.part;
+    keeps = ((omega arith, (r.1.keeps.0, r.2.1.keeps), r.2.2.2.1.keeps), λ e. tt);
     is = simp (r.1.is, r.2.1.is, r.2.2.1.is, r.2.2.2.1.is, r.2.2.2.2, append_assoc) refl;
   };
 }
@@ -96,6 +97,20 @@ for_makes n line h = record {
       };
 }
 
+case_makes : (n line : ℕ) → 2 ≤ n → Makes (want.statement n) (reserved_at reserved.Case line) (case_wants (n - 1))
+case_makes n line h = record {
+  inner = (omega arith, (tt, (tt, (tt, (tt, (omega arith, (omega arith, (tt, tt))))))));
+  joins = λ middle after r.
+      let l = r.2.2 in
+      let s = l.2.2.2 in
+      let m = s.2 in
+      record {
+        part = case_of line r.1.part r.2.1.part (branch (record { first = l.1.part; rest = l.2.1.part }) l.2.2.1.part s.1.part) m.1.part m.2.1.part;
+        keeps = ((omega arith, r.1.keeps, s.1.keeps.0, m.1.keeps), λ e. tt);
+        is = simp (r.1.is, r.2.1.is, l.1.is, l.2.1.is, l.2.2.1.is, s.1.is, m.1.is, m.2.1.is, m.2.2, append_assoc) refl;
+      };
+}
+
 pub statement_right : (n : ℕ) (t : Spot) → 1 ≤ n → IsRight (want.statement n) t (statement_step n t.word)
 statement_right n t h =
     let P : Spot → Step → Type 0 = λ u s. IsRight (want.statement n) u s in
@@ -105,7 +120,8 @@ statement_right n t h =
     if_reserved P t reserved.While _ _ (λ line. if_two (λ s. P (reserved_at reserved.While line) s) n _ _ (while_makes n line) tt) (λ o.
     if_reserved P t reserved.Repeat _ _ (λ line. if_two (λ s. P (reserved_at reserved.Repeat line) s) n _ _ (repeat_makes n line) tt) (λ o.
     if_reserved P t reserved.For _ _ (λ line. if_two (λ s. P (reserved_at reserved.For line) s) n _ _ (for_makes n line) tt) (λ o.
-    λ after. record { part = empty; keeps = (h, λ e. tt); is = refl }))))))
+    if_reserved P t reserved.Case _ _ (λ line. if_two (λ s. P (reserved_at reserved.Case line) s) n _ _ (case_makes n line) tt) (λ o.
+    λ after. record { part = empty; keeps = (h, λ e. tt); is = refl })))))))
 
 pub behind_first_name_right : (t : Spot) → IsRight want.behind_first_name t (behind_first_name_step t.word)
 behind_first_name_right t =
@@ -123,7 +139,7 @@ behind_first_name_right t =
     (λ line. record {
       inner = (omega arith, (tt, (tt, (omega arith, tt))));
       joins = λ middle after r x n h. record {
-        part = assign x (Some (record { opening = line; place = r.1.part; closing = r.2.1.part })) r.2.2.1.part r.2.2.2.1.part;
+        part = assign x (Some (index line r.1.part r.2.1.part)) r.2.2.1.part r.2.2.2.1.part;
         keeps = ((h, r.1.keeps, r.2.2.2.1.keeps), λ e. tt);
         is = simp (r.1.is, r.2.1.is, r.2.2.1.is, r.2.2.2.1.is, r.2.2.2.2, append_assoc) refl;
       };
@@ -132,7 +148,7 @@ behind_first_name_right t =
     (λ line. record {
       inner = (omega arith, (omega arith, (tt, tt)));
       joins = λ middle after r x n h. record {
-        part = call x (Some (record { opening = line; first = r.1.part; rest = r.2.1.part; closing = r.2.2.1.part }));
+        part = call x (Some (arguments line r.1.part r.2.1.part r.2.2.1.part));
         keeps = ((h, (r.1.keeps, r.2.1.keeps)), λ e. tt);
         is = simp (r.1.is, r.2.1.is, r.2.2.1.is, r.2.2.2, append_assoc) refl;
       };
@@ -167,6 +183,35 @@ more_statements_right n t h =
     })
     (λ after. record { part = no_statement; keeps = tt; is = refl })
 
+pub more_branches_right : (n : ℕ) (t : Spot) → 1 ≤ n → IsRight (want.more_branches n) t (want_step (want.more_branches n) t.word)
+more_branches_right n t h =
+    let P : Spot → Step → Type 0 = λ u s. IsRight (want.more_branches n) u s in
+    if_symbol P t symbol.Semicolon _ _
+    (λ line. record {
+      inner = (tt, (tt, (tt, (h, (h, tt)))));
+      joins = λ middle after r.
+          let s = r.2.2.2 in
+          record {
+            part = next_branch line (branch (record { first = r.1.part; rest = r.2.1.part }) r.2.2.1.part s.1.part) s.2.1.part;
+            keeps = (s.1.keeps.0, s.2.1.keeps);
+            is = simp (r.1.is, r.2.1.is, r.2.2.1.is, s.1.is, s.2.1.is, s.2.2, append_assoc) refl;
+          };
+    })
+    (λ after. record { part = no_branch; keeps = tt; is = refl })
+
+pub more_labels_right : (t : Spot) → IsRight want.more_labels t (want_step want.more_labels t.word)
+more_labels_right t =
+    if_symbol (λ u p. IsRight want.more_labels u p) t symbol.Comma _ _
+    (λ line. record {
+      inner = (tt, (tt, tt));
+      joins = λ middle after r. record {
+        part = (line, r.1.part) ∷ r.2.1.part;
+        keeps = tt;
+        is = simp (r.1.is, r.2.1.is, r.2.2, append_assoc) refl;
+      };
+    })
+    (λ after. record { part = []; keeps = tt; is = refl })
+
 pub direction_right : (t : Spot) → IsRight want.direction t (want_step want.direction t.word)
 direction_right t =
     let P : Spot → Step → Type 0 = λ u s. IsRight want.direction u s in
@@ -180,7 +225,7 @@ body_right t =
     (λ line. record {
       inner = (omega arith, (omega arith, (tt, tt)));
       joins = λ middle after r. record {
-        part = record { begin = line; first = r.1.part; rest = r.2.1.part; end = r.2.2.1.part };
+        part = body line (sequence r.1.part r.2.1.part) r.2.2.1.part;
         keeps = (r.1.keeps.0, r.2.1.keeps);
         is = simp (r.1.is, r.2.1.is, r.2.2.1.is, r.2.2.2, append_assoc) refl;
       };

@@ -1,11 +1,11 @@
 -- What one word makes of a statement that is wanted, a lemma for each way to go on.
-use Rattle.std.proofs.Common.{◌≡◌, ℕ, ◌-◌, ◌≤◌, ◌<◌, false, List, [], ◌∷◌, Some, refl, sym, ◌∙◌}
+use Rattle.std.proofs.Common.{◌≡◌, ℕ, ◌-◌, ◌≤◌, ◌<◌, false, List, [], ◌∷◌, ◌++◌, Some, refl, sym, ◌∙◌}
 use Rattle.pascal_tree.specs.Word.{Spot, NameAt}
 use Rattle.pascal_tree.specs.SpellExpression.{reserved_at, symbol_at, name_at}
 use Rattle.pascal_tree.specs.declared.token.Reserved.TheVariants as reserved
 use Rattle.pascal_tree.specs.declared.token.Symbol.TheVariants as symbol
 use Rattle.pascal_read.specs.ParseFirst.{first_line, first_is}
-use Rattle.pascal_read.specs.ParseWants.{Want, report, reserved_word, mark, is_reserved, is_symbol, is_name}
+use Rattle.pascal_read.specs.ParseWants.{Want, report, reserved_word, mark, is_reserved, is_symbol, is_name, branch_wants, case_wants}
 use Rattle.pascal_read.specs.ParseWants as want
 use Rattle.pascal_read.proofs.ParseRows.{taken, skipped, refused, at_end, two, not_two, mark_goes, mark_stuck, reserved_goes, reserved_stuck}
 
@@ -42,11 +42,17 @@ statement_for l ts n rest h = taken (reserved_at reserved.For l) ts (want.statem
 pub statement_for_no : (l : ℕ) (ts : List Spot) (n : ℕ) (rest : List Want) → n < 2 → report (reserved_at reserved.For l ∷ ts) (want.statement n ∷ rest) ≡ Some l
 statement_for_no l ts n rest h = refused (reserved_at reserved.For l) ts (want.statement n) rest (rw (not_two n h))
 
+pub statement_case : (l : ℕ) (ts : List Spot) (n : ℕ) (rest : List Want) → 2 ≤ n → report (reserved_at reserved.Case l ∷ ts) (want.statement n ∷ rest) ≡ report ts (case_wants (n - 1) ++ rest)
+statement_case l ts n rest h = taken (reserved_at reserved.Case l) ts (want.statement n) (case_wants (n - 1)) rest (rw (two n h))
+
+pub statement_case_no : (l : ℕ) (ts : List Spot) (n : ℕ) (rest : List Want) → n < 2 → report (reserved_at reserved.Case l ∷ ts) (want.statement n ∷ rest) ≡ Some l
+statement_case_no l ts n rest h = refused (reserved_at reserved.Case l) ts (want.statement n) rest (rw (not_two n h))
+
 pub statement_skip : (before : List Spot) (n : ℕ) (y : Want) (rest : List Want) → first_is is_name before ≡ false → first_is (λ w. is_reserved w reserved.Begin) before ≡ false →
     first_is (λ w. is_reserved w reserved.If) before ≡ false → first_is (λ w. is_reserved w reserved.While) before ≡ false → first_is (λ w. is_reserved w reserved.Repeat) before ≡ false →
-    first_is (λ w. is_reserved w reserved.For) before ≡ false → report before (want.statement n ∷ (y ∷ rest)) ≡ report before (y ∷ rest)
-statement_skip [] n y rest a b c d e f = at_end (want.statement n) (y ∷ rest) ∙ sym (at_end y rest)
-statement_skip (t ∷ ts) n y rest a b c d e f = skipped t ts (want.statement n) y rest (rw (a, b, c, d, e, f))
+    first_is (λ w. is_reserved w reserved.For) before ≡ false → first_is (λ w. is_reserved w reserved.Case) before ≡ false → report before (want.statement n ∷ (y ∷ rest)) ≡ report before (y ∷ rest)
+statement_skip [] n y rest a b c d e f g = at_end (want.statement n) (y ∷ rest) ∙ sym (at_end y rest)
+statement_skip (t ∷ ts) n y rest a b c d e f g = skipped t ts (want.statement n) y rest (rw (a, b, c, d, e, f, g))
 
 pub first_becomes : (l : ℕ) (ts : List Spot) (rest : List Want) → report (symbol_at symbol.Becomes l ∷ ts) (want.behind_first_name ∷ rest) ≡ report ts (want.expr 64 ∷ rest)
 first_becomes l ts rest = taken (symbol_at symbol.Becomes l) ts want.behind_first_name (want.expr 64 ∷ []) rest refl
@@ -76,6 +82,20 @@ pub semicolon_skip : (before : List Spot) (n : ℕ) (y : Want) (rest : List Want
 semicolon_skip [] n y rest a = at_end (want.more_statements n) (y ∷ rest) ∙ sym (at_end y rest)
 semicolon_skip (t ∷ ts) n y rest a = skipped t ts (want.more_statements n) y rest (rw a)
 
+pub branch_goes : (l : ℕ) (ts : List Spot) (n : ℕ) (rest : List Want) → report (symbol_at symbol.Semicolon l ∷ ts) (want.more_branches n ∷ rest) ≡ report ts (branch_wants n ++ (want.more_branches n ∷ rest))
+branch_goes l ts n rest = taken (symbol_at symbol.Semicolon l) ts (want.more_branches n) (branch_wants n ++ want.more_branches n ∷ []) rest refl
+
+pub branch_skip : (before : List Spot) (n : ℕ) (y : Want) (rest : List Want) → first_is (λ w. is_symbol w symbol.Semicolon) before ≡ false → report before (want.more_branches n ∷ (y ∷ rest)) ≡ report before (y ∷ rest)
+branch_skip [] n y rest a = at_end (want.more_branches n) (y ∷ rest) ∙ sym (at_end y rest)
+branch_skip (t ∷ ts) n y rest a = skipped t ts (want.more_branches n) y rest (rw a)
+
+pub label_goes : (l : ℕ) (ts : List Spot) (rest : List Want) → report (symbol_at symbol.Comma l ∷ ts) (want.more_labels ∷ rest) ≡ report ts (want.constant ∷ (want.more_labels ∷ rest))
+label_goes l ts rest = taken (symbol_at symbol.Comma l) ts want.more_labels (want.constant ∷ want.more_labels ∷ []) rest refl
+
+pub label_skip : (before : List Spot) (y : Want) (rest : List Want) → first_is (λ w. is_symbol w symbol.Comma) before ≡ false → report before (want.more_labels ∷ (y ∷ rest)) ≡ report before (y ∷ rest)
+label_skip [] y rest a = at_end want.more_labels (y ∷ rest) ∙ sym (at_end y rest)
+label_skip (t ∷ ts) y rest a = skipped t ts want.more_labels y rest (rw a)
+
 pub direction_to : (l : ℕ) (ts : List Spot) (rest : List Want) → report (reserved_at reserved.To l ∷ ts) (want.direction ∷ rest) ≡ report ts rest
 direction_to l ts rest = taken (reserved_at reserved.To l) ts want.direction [] rest refl
 
@@ -101,4 +121,6 @@ pub body_stuck : (before : List Spot) (rest : List Want) → first_is (λ w. is_
 body_stuck [] rest a = at_end want.body rest
 body_stuck (t ∷ ts) rest a = refused t ts want.body rest (rw a)
 
-pub ruleset statement_rows = (mark_goes, mark_stuck, reserved_goes, reserved_stuck, statement_name, statement_begin, statement_begin_no, statement_if, statement_if_no, statement_while, statement_while_no, statement_repeat, statement_repeat_no, statement_for, statement_for_no, statement_skip, first_becomes, first_index, first_open, first_skip, else_goes, else_skip, semicolon_goes, semicolon_skip, direction_to, direction_downto, direction_stuck, name_goes, name_stuck, body_goes, body_stuck)
+pub ruleset statement_rows = (mark_goes, mark_stuck, reserved_goes, reserved_stuck, statement_name, statement_begin, statement_begin_no, statement_if, statement_if_no, statement_while, statement_while_no, statement_repeat, statement_repeat_no, statement_for, statement_for_no, statement_case, statement_case_no, statement_skip, first_becomes, first_index, first_open, first_skip, else_goes, else_skip, semicolon_goes, semicolon_skip, branch_goes, branch_skip, label_goes, label_skip, direction_to, direction_downto, direction_stuck, name_goes, name_stuck, body_goes, body_stuck)
+
+pub ruleset label_rows = (label_goes, label_skip)

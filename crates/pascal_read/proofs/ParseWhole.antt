@@ -31,5 +31,5 @@ pub all_spelled : (tree : Program) (words left : List Spot) → words ≡ spelle
 all_spelled tree words left e h = e ∙ ap (λ ts. spelled tree ++ ts) h ∙ append-nil (spelled tree)
 
 -- words that are read within the limits are those of a tree
-pub is_tree : (tree : Program) (words : List Spot) → words ≡ spelled tree → AreWords words → RoutinesFit tree.routines → BodyFits tree.body → IsTree tree
+pub is_tree : (tree : Program) (words : List Spot) → words ≡ spelled tree → AreWords words → RoutinesFit tree.routines → BodyFits tree.body 64 → IsTree tree
 is_tree tree words e h f g = record { routines = f; body = g; words = subst AreWords e h }

@@ -2,6 +2,7 @@ pub mod Card
 pub mod ErrorPlace
 pub mod Found
 pub mod ParseFirst
+pub mod ParseParts
 pub mod ParseRange
 pub mod ParseWants
 pub mod Piece

@@ -94,6 +94,8 @@ pub data Want : Type 0 where
   behind_first_name : Want
   otherwise : ℕ → Want
   more_statements : ℕ → Want
+  more_branches : ℕ → Want
+  more_labels : Want
   direction : Want
   body : Want
   heading : Want
@@ -181,6 +183,14 @@ behind_first_name_step w =
     if is_symbol w symbol.OpenIndex then took (expr 64 ∷ (mark symbol.CloseIndex ∷ (mark symbol.Becomes ∷ (expr 64 ∷ [])))) else
     if is_symbol w symbol.Open then took (expr 64 ∷ (more_exprs 64 ∷ (mark symbol.Close ∷ []))) else skip
 
+-- a branch of a CASE, and what stands behind CASE
+abbrev pub branch_wants : ℕ → List Want
+branch_wants n = constant ∷ more_labels ∷ mark symbol.Colon ∷ statement n ∷ []
+
+abbrev pub case_wants : ℕ → List Want
+case_wants n =
+    expr 64 ∷ reserved_word reserved.Of ∷ (branch_wants n ++ (more_branches n ∷ reserved_word reserved.End ∷ []))
+
 -- what each word makes of a statement: a word that begins none leaves an empty one
 abbrev pub statement_step : ℕ → Word → Step
 statement_step n w =
@@ -189,7 +199,8 @@ statement_step n w =
     if is_reserved w reserved.If then deeper n (λ m. expr 64 ∷ (reserved_word reserved.Then ∷ (statement m ∷ (otherwise m ∷ [])))) else
     if is_reserved w reserved.While then deeper n (λ m. expr 64 ∷ (reserved_word reserved.Do ∷ (statement m ∷ []))) else
     if is_reserved w reserved.Repeat then deeper n (λ m. statement m ∷ (more_statements m ∷ (reserved_word reserved.Until ∷ (expr 64 ∷ [])))) else
-    if is_reserved w reserved.For then deeper n (λ m. name ∷ (mark symbol.Becomes ∷ (expr 64 ∷ (direction ∷ (expr 64 ∷ (reserved_word reserved.Do ∷ (statement m ∷ []))))))) else skip
+    if is_reserved w reserved.For then deeper n (λ m. name ∷ (mark symbol.Becomes ∷ (expr 64 ∷ (direction ∷ (expr 64 ∷ (reserved_word reserved.Do ∷ (statement m ∷ []))))))) else
+    if is_reserved w reserved.Case then deeper n case_wants else skip
 
 -- what is wanted behind the word that begins a body, a definition, a group, a parameter group or a block
 abbrev pub body_rest : List Want
@@ -247,6 +258,8 @@ want_step (statement n) w = statement_step n w
 want_step behind_first_name w = behind_first_name_step w
 want_step (otherwise n) w = if is_reserved w reserved.Else then took (statement n ∷ []) else skip
 want_step (more_statements n) w = if is_symbol w symbol.Semicolon then took (statement n ∷ (more_statements n ∷ [])) else skip
+want_step (more_branches n) w = if is_symbol w symbol.Semicolon then took (branch_wants n ++ more_branches n ∷ []) else skip
+want_step more_labels w = if is_symbol w symbol.Comma then took (constant ∷ more_labels ∷ []) else skip
 want_step direction w = if is_reserved w reserved.To then took [] else exactly (is_reserved w reserved.Downto)
 want_step body w = if is_reserved w reserved.Begin then took body_rest else no
 want_step heading w = if is_reserved w reserved.Program then took (name ∷ (mark symbol.Semicolon ∷ [])) else skip
@@ -265,7 +278,9 @@ want_step group w = if is_name w then took (group_rest []) else no
 want_step more_groups w = if is_name w then took (group_rest (more_groups ∷ [])) else skip
 want_step more_names w = if is_symbol w symbol.Comma then took (name ∷ (more_names ∷ [])) else skip
 want_step parameters w = if is_symbol w symbol.Open then took (parameter_group ∷ (more_parameters ∷ (mark symbol.Close ∷ []))) else skip
-want_step parameter_group w = if is_name w then took parameter_group_rest else no
+want_step parameter_group w =
+    if is_name w then took parameter_group_rest else
+    if is_reserved w reserved.Var then took (name ∷ parameter_group_rest) else no
 want_step more_parameters w = if is_symbol w symbol.Semicolon then took (parameter_group ∷ (more_parameters ∷ [])) else skip
 want_step routines w =
     if is_reserved w reserved.Procedure then took (name ∷ (parameters ∷ (mark symbol.Semicolon ∷ block_rest))) else

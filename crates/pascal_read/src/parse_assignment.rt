@@ -2,7 +2,7 @@
 #![tactic(auto, using(crate::proofs::ParseStatementRows::statement_rows))]
 
 ghost use Rattle.std.specs.Prelude.{◌≡◌, ℕ, ◌≤◌, ◌∷◌, [], ◌++◌, true, Err, IfOk, OnOk};
-ghost use Rattle.pascal_tree.specs.SeenStatement.{seen_statement};
+ghost use Rattle.pascal_tree.specs.SeenStatement.{seen_assign, seen_statement};
 ghost use Rattle.pascal_tree.specs.SpellExpression.{name_at, symbol_at};
 ghost use Rattle.pascal_tree.specs.SpellStatement.{spelled_statement};
 ghost use Rattle.pascal_tree.specs.Limits.{StatementFits, EndsClosed};
@@ -15,12 +15,12 @@ use crate::parse_fault::ParseFault;
 use crate::parse_reader::Reader;
 use pascal_tree::Symbol;
 use pascal_tree::leaf::Name;
-use pascal_tree::statement::Statement;
+use pascal_tree::statement::{Assign, Call, Statement};
 use std::alloc::Global;
 
 /// An assignment or a call whose name is read.
 pub fn begun_by_name(
-    reader: &mut Reader<'_>,
+    reader: &mut Reader,
     alloc: Global,
     name: Name,
 ) -> Result<Statement, ParseFault>
@@ -34,40 +34,36 @@ pub fn begun_by_name(
 {
     if let Some(becomes) = reader.take_symbol(Symbol::Becomes) {
         let value = expr(reader, alloc, LEVELS)?;
-        return Ok(Statement::Assign {
+        let assign = Assign {
             target: name,
             index: None,
             becomes,
             value,
-        });
+        };
+        return Ok(Statement::Assign(Box::new(alloc, assign)?));
     }
     if let Some(opening) = reader.take_symbol(Symbol::OpenIndex) {
-        return indexed_assignment(reader, alloc, name, opening);
+        let assign = indexed_assignment(reader, alloc, name, opening)?;
+        return Ok(Statement::Assign(Box::new(alloc, assign)?));
     }
-    if let Some(opening) = reader.take_symbol(Symbol::Open) {
-        let arguments = arguments(reader, alloc, LEVELS, opening)?;
-        return Ok(Statement::Call {
-            name,
-            arguments: Some(arguments),
-        });
-    }
-    Ok(Statement::Call {
-        name,
-        arguments: None,
-    })
+    let arguments = match reader.take_symbol(Symbol::Open) {
+        Some(opening) => Some(Box::new(alloc, arguments(reader, alloc, LEVELS, opening)?)?),
+        None => None,
+    };
+    Ok(Statement::Call(Box::new(alloc, Call { name, arguments })?))
 }
 
 // An assignment to an element, whose name and opening bracket are read.
 fn indexed_assignment(
-    reader: &mut Reader<'_>,
+    reader: &mut Reader,
     alloc: Global,
     name: Name,
     opening: u32,
-) -> Result<Statement, ParseFault>
+) -> Result<Assign, ParseFault>
     ensures words { IfOk result (λ x. name_at name ∷ symbol_at Symbol.OpenIndex opening ∷ reader.old
-        ≡ spelled_statement (seen_statement x) ++ reader.new) }
-    ensures fits { IfOk result (λ x. (n : ℕ) → 1 ≤ n → StatementFits (seen_statement x) n) }
-    ensures closed { IfOk result (λ x. EndsClosed (seen_statement x)) }
+        ≡ spelled_statement (seen_assign x) ++ reader.new) }
+    ensures fits { IfOk result (λ x. (n : ℕ) → 1 ≤ n → StatementFits (seen_assign x) n) }
+    ensures closed { IfOk result (λ x. EndsClosed (seen_assign x)) }
     ensures goes { OnOk result (AllGoesOn
         (want.expr 64 ∷ mark Symbol.CloseIndex ∷ mark Symbol.Becomes ∷ want.expr 64 ∷ [])
         reader.old reader.new) }
@@ -78,9 +74,9 @@ fn indexed_assignment(
     let index = index(reader, alloc, LEVELS, opening)?;
     let becomes = expect_symbol(reader, Symbol::Becomes)?;
     let value = expr(reader, alloc, LEVELS)?;
-    Ok(Statement::Assign {
+    Ok(Assign {
         target: name,
-        index: Some(index),
+        index: Some(Box::new(alloc, index)?),
         becomes,
         value,
     })

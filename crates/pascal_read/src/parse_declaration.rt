@@ -4,22 +4,23 @@
 ghost use Rattle.std.specs.Prelude.{◌≡◌, ℕ, List, ◌∷◌, [], ◌++◌, Err, IfOk, OnOk, MatchOption, Some, option_map, map};
 ghost use Rattle.pascal_tree.specs.SeenProgram.{seen_names, seen_consts, seen_group, seen_vars, seen_parameter_group, seen_parameters};
 ghost use Rattle.pascal_tree.specs.SpellExpression.{name_at, symbol_at, reserved_at};
-ghost use Rattle.pascal_tree.specs.SpellProgram.{spelled_heading, spelled_constant, spelled_definition, spelled_definitions, spelled_consts, spelled_more_names, spelled_kind, spelled_group, spelled_groups, spelled_vars, spelled_parameter_group, spelled_parameter_groups, spelled_parameters};
-ghost use Rattle.pascal_read.specs.ParseWants.{mark, definition_rest, array_rest, group_rest, Want, report, GoesOn, IsStuck, Skips, AllGoesOn, AllIsStuck};
+ghost use Rattle.pascal_tree.specs.SpellProgram.{spelled_heading, spelled_definition, spelled_definitions, spelled_consts, spelled_more_names, spelled_kind, spelled_group, spelled_groups, spelled_vars, spelled_var, spelled_parameter_group, spelled_parameter_groups, spelled_parameters};
+ghost use Rattle.pascal_read.specs.ParseWants.{mark, definition_rest, array_rest, group_rest, parameter_group_rest, Want, report, GoesOn, IsStuck, Skips, AllGoesOn, AllIsStuck};
 ghost use Rattle.pascal_read.specs.ParseWants as want;
 
-use crate::parse_expect::{expect_name, expect_number, expect_reserved, expect_symbol};
+use crate::parse_constant::constant;
+use crate::parse_expect::{expect_name, expect_reserved, expect_symbol};
 use crate::parse_fault::ParseFault;
 use crate::parse_reader::Reader;
 use pascal_tree::declaration::{
-    Constant, Consts, Definition, Group, Heading, Kind, Names, ParameterGroup, Parameters, Vars,
+    Consts, Definition, Group, Heading, Kind, Names, ParameterGroup, Parameters, Vars,
 };
 use pascal_tree::leaf::Name;
 use pascal_tree::{Reserved, Symbol};
 use std::alloc::Global;
 
 /// The heading of a program, where there is one.
-pub fn heading(reader: &mut Reader<'_>) -> Result<Option<Heading>, ParseFault>
+pub fn heading(reader: &mut Reader) -> Result<Option<Heading>, ParseFault>
     ensures words { IfOk result (λ x. reader.old ≡ spelled_heading x ++ reader.new) }
     ensures goes { OnOk result (GoesOn want.heading reader.old reader.new) }
     ensures fault { (line : ℕ) → result ≡ Err (ParseFault.Syntax line)
@@ -37,33 +38,8 @@ pub fn heading(reader: &mut Reader<'_>) -> Result<Option<Heading>, ParseFault>
     }))
 }
 
-// A name, a number with a minus or without, or a character.
-fn constant(reader: &mut Reader<'_>) -> Result<Constant, ParseFault>
-    ensures words { IfOk result (λ x. reader.old ≡ spelled_constant x ++ reader.new) }
-    ensures goes { OnOk result (GoesOn want.constant reader.old reader.new) }
-    ensures fault { (line : ℕ) → result ≡ Err (ParseFault.Syntax line)
-        → IsStuck want.constant reader.old line }
-{
-    if let Some(name) = reader.take_name() {
-        return Ok(Constant::Name(name));
-    }
-    if let Some(number) = reader.take_number() {
-        return Ok(Constant::Number(number));
-    }
-    if let Some(line) = reader.take_symbol(Symbol::Minus) {
-        let number = expect_number(reader)?;
-        return Ok(Constant::Negative(line, number));
-    }
-    match reader.take_character() {
-        Some(character) => Ok(Constant::Character(character)),
-        None => Err(ParseFault::Syntax {
-            line: reader.line(),
-        }),
-    }
-}
-
 // A definition whose name is read.
-fn definition(reader: &mut Reader<'_>, name: Name) -> Result<Definition, ParseFault>
+fn definition(reader: &mut Reader, name: Name) -> Result<Definition, ParseFault>
     ensures words { IfOk result
         (λ x. name_at name ∷ reader.old ≡ spelled_definition x ++ reader.new) }
     ensures goes { OnOk result (AllGoesOn (definition_rest []) reader.old reader.new) }
@@ -82,7 +58,7 @@ fn definition(reader: &mut Reader<'_>, name: Name) -> Result<Definition, ParseFa
 }
 
 /// The constants of a program or of a routine, where there are some.
-pub fn consts(reader: &mut Reader<'_>, alloc: Global) -> Result<Option<Consts>, ParseFault>
+pub fn consts(reader: &mut Reader, alloc: Global) -> Result<Option<Consts>, ParseFault>
     ensures words { IfOk result
         (λ x. reader.old ≡ spelled_consts (option_map seen_consts x) ++ reader.new) }
     ensures goes { OnOk result (GoesOn want.consts reader.old reader.new) }
@@ -99,7 +75,7 @@ pub fn consts(reader: &mut Reader<'_>, alloc: Global) -> Result<Option<Consts>, 
 }
 
 // The later definitions.
-fn more_definitions(reader: &mut Reader<'_>, alloc: Global) -> Result<Vec<Definition>, ParseFault>
+fn more_definitions(reader: &mut Reader, alloc: Global) -> Result<Vec<Definition>, ParseFault>
     ensures words { IfOk result (λ x. reader.old ≡ spelled_definitions x.items ++ reader.new) }
     ensures goes { OnOk result (GoesOn want.more_definitions reader.old reader.new) }
     ensures fault { (line : ℕ) → result ≡ Err (ParseFault.Syntax line)
@@ -114,7 +90,7 @@ fn more_definitions(reader: &mut Reader<'_>, alloc: Global) -> Result<Vec<Defini
 }
 
 // Names of which the first is read.
-fn names(reader: &mut Reader<'_>, alloc: Global, first: Name) -> Result<Names, ParseFault>
+fn names(reader: &mut Reader, alloc: Global, first: Name) -> Result<Names, ParseFault>
     ensures words { IfOk result
         (λ x. (x.first ≡ first) × (reader.old ≡ spelled_more_names x.rest.items ++ reader.new)) }
     ensures goes { OnOk result (GoesOn want.more_names reader.old reader.new) }
@@ -129,7 +105,7 @@ fn names(reader: &mut Reader<'_>, alloc: Global, first: Name) -> Result<Names, P
 }
 
 // A comma and the name behind it, where a comma stands here.
-fn next_name(reader: &mut Reader<'_>) -> Result<Option<(u32, Name)>, ParseFault>
+fn next_name(reader: &mut Reader) -> Result<Option<(u32, Name)>, ParseFault>
     ensures words { IfOk result (λ found. MatchOption found (reader.old ≡ reader.new)
         (λ x. reader.old ≡ symbol_at Symbol.Comma x.0 ∷ name_at x.1 ∷ reader.new)) }
     ensures goes { IfOk result (λ found. MatchOption found (Skips want.more_names reader.old)
@@ -146,7 +122,7 @@ fn next_name(reader: &mut Reader<'_>) -> Result<Option<(u32, Name)>, ParseFault>
 }
 
 // A type.
-fn kind(reader: &mut Reader<'_>) -> Result<Kind, ParseFault>
+fn kind(reader: &mut Reader) -> Result<Kind, ParseFault>
     ensures words { IfOk result (λ x. reader.old ≡ spelled_kind x ++ reader.new) }
     ensures goes { OnOk result (GoesOn want.kind reader.old reader.new) }
     ensures fault { (line : ℕ) → result ≡ Err (ParseFault.Syntax line)
@@ -164,7 +140,7 @@ fn kind(reader: &mut Reader<'_>) -> Result<Kind, ParseFault>
 }
 
 // An array type whose ARRAY is read.
-fn array(reader: &mut Reader<'_>, line: u32) -> Result<Kind, ParseFault>
+fn array(reader: &mut Reader, line: u32) -> Result<Kind, ParseFault>
     ensures words { IfOk result
         (λ x. reserved_at Reserved.Array line ∷ reader.old ≡ spelled_kind x ++ reader.new) }
     ensures goes { OnOk result (AllGoesOn array_rest reader.old reader.new) }
@@ -191,7 +167,7 @@ fn array(reader: &mut Reader<'_>, line: u32) -> Result<Kind, ParseFault>
 }
 
 // A group of variables whose first name is read, with its semicolon.
-fn group(reader: &mut Reader<'_>, alloc: Global, name: Name) -> Result<Group, ParseFault>
+fn group(reader: &mut Reader, alloc: Global, name: Name) -> Result<Group, ParseFault>
     ensures words { IfOk result
         (λ x. name_at name ∷ reader.old ≡ spelled_group (seen_group x) ++ reader.new) }
     ensures goes { OnOk result (AllGoesOn (group_rest []) reader.old reader.new) }
@@ -211,7 +187,7 @@ fn group(reader: &mut Reader<'_>, alloc: Global, name: Name) -> Result<Group, Pa
 }
 
 /// The variables of a program or of a routine, where there are some.
-pub fn vars(reader: &mut Reader<'_>, alloc: Global) -> Result<Option<Vars>, ParseFault>
+pub fn vars(reader: &mut Reader, alloc: Global) -> Result<Option<Vars>, ParseFault>
     ensures words { IfOk result
         (λ x. reader.old ≡ spelled_vars (option_map seen_vars x) ++ reader.new) }
     ensures goes { OnOk result (GoesOn want.vars reader.old reader.new) }
@@ -228,7 +204,7 @@ pub fn vars(reader: &mut Reader<'_>, alloc: Global) -> Result<Option<Vars>, Pars
 }
 
 // The later groups of variables.
-fn more_groups(reader: &mut Reader<'_>, alloc: Global) -> Result<Vec<Group>, ParseFault>
+fn more_groups(reader: &mut Reader, alloc: Global) -> Result<Vec<Group>, ParseFault>
     ensures words { IfOk result
         (λ x. reader.old ≡ spelled_groups (map seen_group x.items) ++ reader.new) }
     ensures goes { OnOk result (GoesOn want.more_groups reader.old reader.new) }
@@ -244,22 +220,38 @@ fn more_groups(reader: &mut Reader<'_>, alloc: Global) -> Result<Vec<Group>, Par
 }
 
 // Parameters of one type.
-fn parameter_group(reader: &mut Reader<'_>, alloc: Global) -> Result<ParameterGroup, ParseFault>
+fn parameter_group(reader: &mut Reader, alloc: Global) -> Result<ParameterGroup, ParseFault>
     ensures words { IfOk result
         (λ x. reader.old ≡ spelled_parameter_group (seen_parameter_group x) ++ reader.new) }
     ensures goes { OnOk result (GoesOn want.parameter_group reader.old reader.new) }
     ensures fault { (line : ℕ) → result ≡ Err (ParseFault.Syntax line)
         → IsStuck want.parameter_group reader.old line }
 {
+    let var = take_var(reader);
     let name = expect_name(reader)?;
     let names = names(reader, alloc, name)?;
     let colon = expect_symbol(reader, Symbol::Colon)?;
     let kind = expect_name(reader)?;
-    Ok(ParameterGroup { names, colon, kind })
+    Ok(ParameterGroup {
+        var,
+        names,
+        colon,
+        kind,
+    })
+}
+
+// Takes VAR before the names of parameters, where it stands here, and gives its line.
+fn take_var(reader: &mut Reader) -> Option<u32>
+    ensures words { reader.old ≡ spelled_var result ++ reader.new }
+    ensures goes { (rest : List Want) → report reader.old (want.parameter_group ∷ rest)
+        ≡ report reader.new (want.name ∷ (parameter_group_rest ++ rest)) }
+{
+    let line = reader.take_reserved(Reserved::Var)?;
+    Some(line)
 }
 
 /// The parameters of a routine, where there are some.
-pub fn parameters(reader: &mut Reader<'_>, alloc: Global) -> Result<Option<Parameters>, ParseFault>
+pub fn parameters(reader: &mut Reader, alloc: Global) -> Result<Option<Parameters>, ParseFault>
     ensures words { IfOk result
         (λ x. reader.old ≡ spelled_parameters (option_map seen_parameters x) ++ reader.new) }
     ensures goes { OnOk result (GoesOn want.parameters reader.old reader.new) }
@@ -275,7 +267,7 @@ pub fn parameters(reader: &mut Reader<'_>, alloc: Global) -> Result<Option<Param
 
 // Parameters whose opening parenthesis is read.
 fn opened_parameters(
-    reader: &mut Reader<'_>,
+    reader: &mut Reader,
     alloc: Global,
     opening: u32,
 ) -> Result<Parameters, ParseFault>
@@ -300,7 +292,7 @@ fn opened_parameters(
 
 // The later groups of parameters, each behind its semicolon.
 fn more_parameters(
-    reader: &mut Reader<'_>,
+    reader: &mut Reader,
     alloc: Global,
 ) -> Result<Vec<(u32, ParameterGroup)>, ParseFault>
     ensures words { IfOk result

@@ -27,7 +27,7 @@ pub fn within(levels: usize, line: u32) -> Result<usize, ParseFault>
 }
 
 /// Takes a symbol that has to stand here, and gives its line.
-pub fn expect_symbol(reader: &mut Reader<'_>, symbol: Symbol) -> Result<u32, ParseFault>
+pub fn expect_symbol(reader: &mut Reader, symbol: Symbol) -> Result<u32, ParseFault>
     ensures taken { IfOk result (λ line. reader.old ≡ symbol_at symbol line ∷ reader.new) }
     ensures goes { OnOk result (GoesOn (mark symbol) reader.old reader.new) }
     ensures fault { (line : ℕ) → result ≡ Err (ParseFault.Syntax line)
@@ -42,7 +42,7 @@ pub fn expect_symbol(reader: &mut Reader<'_>, symbol: Symbol) -> Result<u32, Par
 }
 
 /// Takes a reserved word that has to stand here, and gives its line.
-pub fn expect_reserved(reader: &mut Reader<'_>, reserved: Reserved) -> Result<u32, ParseFault>
+pub fn expect_reserved(reader: &mut Reader, reserved: Reserved) -> Result<u32, ParseFault>
     ensures taken { IfOk result (λ line. reader.old ≡ reserved_at reserved line ∷ reader.new) }
     ensures goes { OnOk result (GoesOn (reserved_word reserved) reader.old reader.new) }
     ensures fault { (line : ℕ) → result ≡ Err (ParseFault.Syntax line)
@@ -57,7 +57,7 @@ pub fn expect_reserved(reader: &mut Reader<'_>, reserved: Reserved) -> Result<u3
 }
 
 /// Takes a name that has to stand here.
-pub fn expect_name(reader: &mut Reader<'_>) -> Result<Name, ParseFault>
+pub fn expect_name(reader: &mut Reader) -> Result<Name, ParseFault>
     ensures taken { IfOk result (λ name. reader.old ≡ name_at name ∷ reader.new) }
     ensures goes { OnOk result (GoesOn want.name reader.old reader.new) }
     ensures fault { (line : ℕ) → result ≡ Err (ParseFault.Syntax line)
@@ -72,7 +72,7 @@ pub fn expect_name(reader: &mut Reader<'_>) -> Result<Name, ParseFault>
 }
 
 /// Takes a number that has to stand here.
-pub fn expect_number(reader: &mut Reader<'_>) -> Result<Number, ParseFault>
+pub fn expect_number(reader: &mut Reader) -> Result<Number, ParseFault>
     ensures taken { IfOk result (λ number. reader.old ≡ number_at number ∷ reader.new) }
     ensures goes { OnOk result (GoesOn want.number reader.old reader.new) }
     ensures fault { (line : ℕ) → result ≡ Err (ParseFault.Syntax line)

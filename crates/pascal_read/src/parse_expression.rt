@@ -4,7 +4,7 @@
 ghost use Rattle.std.specs.Prelude.{◌≡◌, ℕ, ◌≤◌, ◌∷◌, [], ◌++◌, List, Some, Err, IfOk, OnOk, IfSome, IfNone};
 ghost use Rattle.pascal_tree.specs.SeenExpression.{seen_expr, seen_simple, seen_term, seen_factor, seen_index, seen_arguments, seen_addends, seen_multipliers, seen_exprs};
 ghost use Rattle.pascal_tree.specs.SpellExpression.{spelled_expr, spelled_simple, spelled_addends, spelled_term, spelled_multipliers, spelled_factor, spelled_exprs, spelled_sign, spelled_index, spelled_arguments, name_at, symbol_at, reserved_at, adding_word, multiplying_word, relation_symbol};
-ghost use Rattle.pascal_tree.specs.Limits.{ExprFits, SimpleFits, AddendsFit, TermFits, MultipliersFit, FactorFits, ExprsFit};
+ghost use Rattle.pascal_tree.specs.Limits.{ExprFits, SimpleFits, AddendsFit, TermFits, MultipliersFit, FactorFits, IndexFits, ArgumentsFit, ExprsFit};
 ghost use Rattle.pascal_read.specs.ParseFirst.{word_at};
 ghost use Rattle.pascal_read.specs.ParseWants.{Want, mark, GoesOn, IsStuck, Skips, AllGoesOn, AllIsStuck, report};
 ghost use Rattle.pascal_read.specs.ParseWants as want;
@@ -13,7 +13,7 @@ use crate::parse_expect::{expect_symbol, within};
 use crate::parse_fault::ParseFault;
 use crate::parse_reader::Reader;
 use pascal_tree::expression::{
-    Adding, Arguments, Expr, Factor, Index, Multiplying, Relation, Sign, Simple, Term,
+    Adding, Arguments, Comparison, Expr, Factor, Index, Multiplying, Relation, Sign, Simple, Term,
 };
 use pascal_tree::leaf::Name;
 use pascal_tree::{Reserved, Symbol};
@@ -21,7 +21,7 @@ use std::alloc::Global;
 
 /// An expression whose factors have at most so many levels.
 #[cycle(expression)]
-pub fn expr(reader: &mut Reader<'_>, alloc: Global, levels: usize) -> Result<Expr, ParseFault>
+pub fn expr(reader: &mut Reader, alloc: Global, levels: usize) -> Result<Expr, ParseFault>
     requires { 1 ≤ levels }
     ensures words { IfOk result
         (λ x. reader.old ≡ spelled_expr (seen_expr x) ++ reader.new) }
@@ -35,14 +35,19 @@ pub fn expr(reader: &mut Reader<'_>, alloc: Global, levels: usize) -> Result<Exp
         return Ok(Expr { left, right: None });
     };
     let right = simple(reader, alloc, levels)?;
+    let comparison = Comparison {
+        relation,
+        line,
+        right,
+    };
     Ok(Expr {
         left,
-        right: Some((relation, line, right)),
+        right: Some(Box::new(alloc, comparison)?),
     })
 }
 
 // Takes a relation, where one stands here.
-fn take_relation(reader: &mut Reader<'_>) -> Option<(Relation, u32)>
+fn take_relation(reader: &mut Reader) -> Option<(Relation, u32)>
     ensures taken { IfSome result
         (λ r. reader.old ≡ symbol_at (relation_symbol r.0) r.1 ∷ reader.new) }
     ensures none { IfNone result (reader.new ≡ reader.old) }
@@ -69,7 +74,7 @@ fn take_relation(reader: &mut Reader<'_>) -> Option<(Relation, u32)>
 
 // Terms, with a sign before the first or none.
 #[cycle(expression)]
-fn simple(reader: &mut Reader<'_>, alloc: Global, levels: usize) -> Result<Simple, ParseFault>
+fn simple(reader: &mut Reader, alloc: Global, levels: usize) -> Result<Simple, ParseFault>
     requires { 1 ≤ levels }
     ensures words { IfOk result
         (λ x. reader.old ≡ spelled_simple (seen_simple x) ++ reader.new) }
@@ -85,7 +90,7 @@ fn simple(reader: &mut Reader<'_>, alloc: Global, levels: usize) -> Result<Simpl
 }
 
 // Takes a sign, where one stands here.
-fn take_sign(reader: &mut Reader<'_>) -> Option<(Sign, u32)>
+fn take_sign(reader: &mut Reader) -> Option<(Sign, u32)>
     ensures words { reader.old ≡ spelled_sign result ++ reader.new }
     ensures goes { (n : ℕ) (rest : List Want) → report reader.old (want.simple n ∷ rest)
         ≡ report reader.new (want.term n ∷ (want.addends n ∷ rest)) }
@@ -100,7 +105,7 @@ fn take_sign(reader: &mut Reader<'_>) -> Option<(Sign, u32)>
 // The later terms, each behind its operator.
 #[cycle(expression)]
 fn addends(
-    reader: &mut Reader<'_>,
+    reader: &mut Reader,
     alloc: Global,
     levels: usize,
 ) -> Result<Vec<(Adding, u32, Term)>, ParseFault>
@@ -121,7 +126,7 @@ fn addends(
 }
 
 // Takes an operator between terms, where one stands here.
-fn take_adding(reader: &mut Reader<'_>) -> Option<(Adding, u32)>
+fn take_adding(reader: &mut Reader) -> Option<(Adding, u32)>
     ensures taken { IfSome result
         (λ a. reader.old ≡ word_at (adding_word a.0) a.1 ∷ reader.new) }
     ensures none { IfNone result (reader.new ≡ reader.old) }
@@ -139,7 +144,7 @@ fn take_adding(reader: &mut Reader<'_>) -> Option<(Adding, u32)>
 
 // A factor and those behind it.
 #[cycle(expression)]
-fn term(reader: &mut Reader<'_>, alloc: Global, levels: usize) -> Result<Term, ParseFault>
+fn term(reader: &mut Reader, alloc: Global, levels: usize) -> Result<Term, ParseFault>
     requires { 1 ≤ levels }
     ensures words { IfOk result
         (λ x. reader.old ≡ spelled_term (seen_term x) ++ reader.new) }
@@ -156,7 +161,7 @@ fn term(reader: &mut Reader<'_>, alloc: Global, levels: usize) -> Result<Term, P
 // The later factors, each behind its operator.
 #[cycle(expression)]
 fn multipliers(
-    reader: &mut Reader<'_>,
+    reader: &mut Reader,
     alloc: Global,
     levels: usize,
 ) -> Result<Vec<(Multiplying, u32, Factor)>, ParseFault>
@@ -177,7 +182,7 @@ fn multipliers(
 }
 
 // Takes an operator between factors, where one stands here.
-fn take_multiplying(reader: &mut Reader<'_>) -> Option<(Multiplying, u32)>
+fn take_multiplying(reader: &mut Reader) -> Option<(Multiplying, u32)>
     ensures taken { IfSome result
         (λ m. reader.old ≡ word_at (multiplying_word m.0) m.1 ∷ reader.new) }
     ensures none { IfNone result (reader.new ≡ reader.old) }
@@ -198,7 +203,7 @@ fn take_multiplying(reader: &mut Reader<'_>) -> Option<(Multiplying, u32)>
 
 // A factor: what stands inside it has one level less.
 #[cycle(expression)]
-fn factor(reader: &mut Reader<'_>, alloc: Global, levels: usize) -> Result<Factor, ParseFault>
+fn factor(reader: &mut Reader, alloc: Global, levels: usize) -> Result<Factor, ParseFault>
     requires { 1 ≤ levels }
     ensures words { IfOk result
         (λ x. reader.old ≡ spelled_factor (seen_factor x) ++ reader.new) }
@@ -240,7 +245,7 @@ fn factor(reader: &mut Reader<'_>, alloc: Global, levels: usize) -> Result<Facto
 // A factor whose name is read.
 #[cycle(expression)]
 fn named(
-    reader: &mut Reader<'_>,
+    reader: &mut Reader,
     alloc: Global,
     levels: usize,
     name: Name,
@@ -255,11 +260,11 @@ fn named(
 {
     if let Some(opening) = reader.take_symbol(Symbol::OpenIndex) {
         let index = index(reader, alloc, within(levels, opening)?, opening)?;
-        return Ok(Factor::Element(name, index));
+        return Ok(Factor::Element(name, Box::new(alloc, index)?));
     }
     if let Some(opening) = reader.take_symbol(Symbol::Open) {
         let arguments = arguments(reader, alloc, within(levels, opening)?, opening)?;
-        return Ok(Factor::Call(name, arguments));
+        return Ok(Factor::Call(name, Box::new(alloc, arguments)?));
     }
     Ok(Factor::Name(name))
 }
@@ -267,7 +272,7 @@ fn named(
 /// An index whose opening bracket is read.
 #[cycle(expression)]
 pub fn index(
-    reader: &mut Reader<'_>,
+    reader: &mut Reader,
     alloc: Global,
     levels: usize,
     opening: u32,
@@ -275,7 +280,7 @@ pub fn index(
     requires { 1 ≤ levels }
     ensures words { IfOk result (λ x. symbol_at Symbol.OpenIndex opening ∷ reader.old
         ≡ spelled_index (seen_index x) ++ reader.new) }
-    ensures fits { IfOk result (λ x. ExprFits (seen_index x).place levels) }
+    ensures fits { IfOk result (λ x. IndexFits (seen_index x) levels) }
     ensures goes { OnOk result (AllGoesOn (want.expr levels ∷ mark Symbol.CloseIndex ∷ [])
         reader.old reader.new) }
     ensures fault { (line : ℕ) → result ≡ Err (ParseFault.Syntax line)
@@ -285,7 +290,7 @@ pub fn index(
     let closing = expect_symbol(reader, Symbol::CloseIndex)?;
     Ok(Index {
         opening,
-        place: Box::new(alloc, place)?,
+        place,
         closing,
     })
 }
@@ -293,7 +298,7 @@ pub fn index(
 /// Arguments whose opening parenthesis is read.
 #[cycle(expression)]
 pub fn arguments(
-    reader: &mut Reader<'_>,
+    reader: &mut Reader,
     alloc: Global,
     levels: usize,
     opening: u32,
@@ -301,15 +306,14 @@ pub fn arguments(
     requires { 1 ≤ levels }
     ensures words { IfOk result (λ x. symbol_at Symbol.Open opening ∷ reader.old
         ≡ spelled_arguments (seen_arguments x) ++ reader.new) }
-    ensures fits { IfOk result (λ x. ExprFits (seen_arguments x).first levels
-        × ExprsFit (seen_arguments x).rest levels) }
+    ensures fits { IfOk result (λ x. ArgumentsFit (seen_arguments x) levels) }
     ensures goes { OnOk result (AllGoesOn
         (want.expr levels ∷ want.more_exprs levels ∷ mark Symbol.Close ∷ [])
         reader.old reader.new) }
     ensures fault { (line : ℕ) → result ≡ Err (ParseFault.Syntax line) → AllIsStuck
         (want.expr levels ∷ want.more_exprs levels ∷ mark Symbol.Close ∷ []) reader.old line }
 {
-    let first = Box::new(alloc, expr(reader, alloc, levels)?)?;
+    let first = expr(reader, alloc, levels)?;
     let rest = more_exprs(reader, alloc, levels)?;
     let closing = expect_symbol(reader, Symbol::Close)?;
     Ok(Arguments {
@@ -323,7 +327,7 @@ pub fn arguments(
 // The later expressions of a list, each behind its comma.
 #[cycle(expression)]
 fn more_exprs(
-    reader: &mut Reader<'_>,
+    reader: &mut Reader,
     alloc: Global,
     levels: usize,
 ) -> Result<Vec<(u32, Expr)>, ParseFault>

@@ -19,10 +19,10 @@ use pascal_tree::{Reserved, Symbol};
 use std::alloc::Global;
 
 /// A whole program, with its end token.
-pub fn program(reader: &mut Reader<'_>, alloc: Global) -> Result<Program, ParseFault>
+pub fn program(reader: &mut Reader, alloc: Global) -> Result<Program, ParseFault>
     ensures words { IfOk result (λ x. reader.old ≡ spelled (seen_program x) ++ reader.new) }
     ensures routines { IfOk result (λ x. RoutinesFit (seen_program x).routines) }
-    ensures body { IfOk result (λ x. BodyFits (seen_program x).body) }
+    ensures body { IfOk result (λ x. BodyFits (seen_program x).body 64) }
     ensures goes { OnOk result (report reader.old program_wants ≡ report reader.new []) }
     ensures fault { (line : ℕ) → result ≡ Err (ParseFault.Syntax line)
         → report reader.old program_wants ≡ Some line }
@@ -50,7 +50,7 @@ pub fn program(reader: &mut Reader<'_>, alloc: Global) -> Result<Program, ParseF
 }
 
 // All routines that stand here.
-fn routines(reader: &mut Reader<'_>, alloc: Global) -> Result<Vec<Routine>, ParseFault>
+fn routines(reader: &mut Reader, alloc: Global) -> Result<Vec<Routine>, ParseFault>
     ensures words { IfOk result
         (λ x. reader.old ≡ spelled_routines (map seen_routine x.items) ++ reader.new) }
     ensures fits { IfOk result (λ x. RoutinesFit (map seen_routine x.items)) }
@@ -66,7 +66,7 @@ fn routines(reader: &mut Reader<'_>, alloc: Global) -> Result<Vec<Routine>, Pars
 }
 
 // A routine, where one begins here.
-fn next_routine(reader: &mut Reader<'_>, alloc: Global) -> Result<Option<Routine>, ParseFault>
+fn next_routine(reader: &mut Reader, alloc: Global) -> Result<Option<Routine>, ParseFault>
     ensures words { IfOk result (λ found. MatchOption found (reader.old ≡ reader.new)
         (λ x. reader.old ≡ spelled_routine (seen_routine x) ++ reader.new)) }
     ensures fits { IfOk result (λ found. IfSome found (λ x. RoutineFits (seen_routine x))) }
@@ -86,7 +86,7 @@ fn next_routine(reader: &mut Reader<'_>, alloc: Global) -> Result<Option<Routine
 }
 
 // A procedure whose PROCEDURE is read.
-fn procedure(reader: &mut Reader<'_>, alloc: Global, line: u32) -> Result<Routine, ParseFault>
+fn procedure(reader: &mut Reader, alloc: Global, line: u32) -> Result<Routine, ParseFault>
     ensures words { IfOk result (λ x. reserved_at Reserved.Procedure line ∷ reader.old
         ≡ spelled_routine (seen_routine x) ++ reader.new) }
     ensures fits { IfOk result (λ x. RoutineFits (seen_routine x)) }
@@ -110,7 +110,7 @@ fn procedure(reader: &mut Reader<'_>, alloc: Global, line: u32) -> Result<Routin
 }
 
 // A function whose FUNCTION is read.
-fn function(reader: &mut Reader<'_>, alloc: Global, line: u32) -> Result<Routine, ParseFault>
+fn function(reader: &mut Reader, alloc: Global, line: u32) -> Result<Routine, ParseFault>
     ensures words { IfOk result (λ x. reserved_at Reserved.Function line ∷ reader.old
         ≡ spelled_routine (seen_routine x) ++ reader.new) }
     ensures fits { IfOk result (λ x. RoutineFits (seen_routine x)) }
@@ -138,9 +138,9 @@ fn function(reader: &mut Reader<'_>, alloc: Global, line: u32) -> Result<Routine
 }
 
 // The constants, the variables and the statements of a routine.
-fn block(reader: &mut Reader<'_>, alloc: Global) -> Result<Block, ParseFault>
+fn block(reader: &mut Reader, alloc: Global) -> Result<Block, ParseFault>
     ensures words { IfOk result (λ x. reader.old ≡ spelled_block (seen_block x) ++ reader.new) }
-    ensures fits { IfOk result (λ x. BodyFits (seen_block x).body) }
+    ensures fits { IfOk result (λ x. BodyFits (seen_block x).body 64) }
     ensures goes { OnOk result (AllGoesOn block_wants reader.old reader.new) }
     ensures fault { (line : ℕ) → result ≡ Err (ParseFault.Syntax line)
         → AllIsStuck block_wants reader.old line }

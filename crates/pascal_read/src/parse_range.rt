@@ -33,7 +33,7 @@ pub struct Range {
 }
 
 /// Reads what stands between FOR and its statement.
-pub fn read_range(reader: &mut Reader<'_>, alloc: Global) -> Result<Range, ParseFault>
+pub fn read_range(reader: &mut Reader, alloc: Global) -> Result<Range, ParseFault>
     ensures words { IfOk result (λ x. reader.old ≡ spelled_range x ++ reader.new) }
     ensures fits { IfOk result
         (λ x. ExprFits (seen_expr x.from) 64 × ExprFits (seen_expr x.to) 64) }
@@ -56,7 +56,7 @@ pub fn read_range(reader: &mut Reader<'_>, alloc: Global) -> Result<Range, Parse
 }
 
 // The control name of a FOR and its first value.
-fn start(reader: &mut Reader<'_>, alloc: Global) -> Result<(Name, u32, Expr), ParseFault>
+fn start(reader: &mut Reader, alloc: Global) -> Result<(Name, u32, Expr), ParseFault>
     ensures words { IfOk result (λ x. reader.old
         ≡ (name_at x.0 ∷ symbol_at Symbol.Becomes x.1 ∷ spelled_expr (seen_expr x.2))
         ++ reader.new) }
@@ -74,7 +74,7 @@ fn start(reader: &mut Reader<'_>, alloc: Global) -> Result<(Name, u32, Expr), Pa
 
 /// An expression and the reserved word behind it, with its line.
 pub fn condition(
-    reader: &mut Reader<'_>,
+    reader: &mut Reader,
     alloc: Global,
     closing: Reserved,
 ) -> Result<(Expr, u32), ParseFault>
@@ -92,7 +92,7 @@ pub fn condition(
 }
 
 // Takes TO or DOWNTO, and gives its line.
-fn expect_direction(reader: &mut Reader<'_>) -> Result<(Direction, u32), ParseFault>
+fn expect_direction(reader: &mut Reader) -> Result<(Direction, u32), ParseFault>
     ensures taken { IfOk result
         (λ d. reader.old ≡ reserved_at (direction_word d.0) d.1 ∷ reader.new) }
     ensures goes { OnOk result (GoesOn want.direction reader.old reader.new) }

@@ -1,52 +1,79 @@
 // The words of a program that are still to be read.
 
-ghost use Rattle.std.specs.Prelude.{◌≡◌, ◌↔◌, [], ◌∷◌, false, IsTrue, IfSome, IfNone};
+ghost use Rattle.std.specs.Prelude.{◌≡◌, ◌↔◌, List, [], ◌∷◌, false, Bool, IsTrue, IfSome, IfNone, MatchOption};
+ghost use Rattle.pascal_tree.specs.Word.{Spot};
 ghost use Rattle.pascal_tree.specs.SpellExpression.{reserved_at, symbol_at, name_at, number_at, character_at};
 ghost use Rattle.pascal_read.specs.ParseFirst.{first_line, first_is, end_at};
 ghost use Rattle.pascal_read.specs.ParseWants.{is_reserved, is_symbol, is_name, is_number, is_character, is_end};
 
 use pascal_tree::leaf::{Character, Name, Number};
 use pascal_tree::{Reserved, Symbol, Token, Word};
+use std::collections::VecDeque;
 use std::marker::Model;
 
 /// A reader over tokens. Contracts see the tokens that are left.
 #[derive(Drop)]
-pub struct Reader<'a> {
-    rest: &'a [Token],
+pub struct Reader {
+    rest: VecDeque<Token>,
 }
 
-impl<'a> Model for Reader<'a> {
+impl Model for Reader {
     ghost use Rattle.std.specs.Prelude.{List};
     ghost use Rattle.pascal_tree.specs.Word.{Spot};
 
     ghost Value = { List Spot };
 
-    ghost view = { λ r. r.rest.now };
+    ghost view = { λ r. r.rest.items };
 }
 
-impl<'a> Reader<'a> {
+impl Reader {
     /// All tokens are left.
-    pub fn new(tokens: &'a [Token]) -> Reader<'a>
-        ensures { result ≡ tokens.now }
+    pub fn new(tokens: Vec<Token>) -> Reader
+        ensures { result ≡ tokens.items }
     {
-        Reader { rest: tokens }
+        Reader {
+            rest: VecDeque::from(tokens),
+        }
     }
 
     /// Whether no token is left.
     pub fn is_at_end(&self) -> bool
         ensures { IsTrue result ↔ (self.now ≡ []) }
     {
-        self.rest.is_empty()
+        self.first().is_none()
     }
 
     /// The line of the first token that is left.
     pub fn line(&self) -> u32
         ensures { result ≡ first_line self.now }
     {
-        match self.rest {
-            [token, ..] => token.line,
-            [] => 0,
+        match self.first() {
+            Some(token) => token.line,
+            None => 0,
         }
+    }
+
+    // The first token that is left.
+    fn first(&self) -> Option<&Token>
+        ensures { MatchOption result (self.now ≡ [])
+            (λ token. (behind : List Spot) × (self.now ≡ token.now ∷ behind)) }
+    {
+        self.rest.front()
+    }
+
+    // Takes the first token.
+    fn take(&mut self) -> Option<Token>
+        ensures { MatchOption result (self.old ≡ []) (λ token. self.old ≡ token ∷ self.new) }
+    {
+        self.rest.pop_front()
+    }
+
+    // Lets the first token go.
+    fn advance(&mut self)
+        ensures { (token : Spot) (behind : List Spot) → self.old ≡ token ∷ behind
+            → self.new ≡ behind }
+    {
+        let _ = self.take();
     }
 
     /// Takes this reserved word, where it is the first, and gives its line.
@@ -55,9 +82,7 @@ impl<'a> Reader<'a> {
         ensures none { IfNone result (self.new ≡ self.old) }
         ensures other { IfNone result (first_is (λ w. is_reserved w reserved) self.old ≡ false) }
     {
-        let [token, rest @ ..] = self.rest else {
-            return None;
-        };
+        let token = self.first()?;
         let Word::Reserved(found) = &token.word else {
             return None;
         };
@@ -65,7 +90,7 @@ impl<'a> Reader<'a> {
             return None;
         }
         let line = token.line;
-        self.rest = rest;
+        self.advance();
         Some(line)
     }
 
@@ -75,9 +100,7 @@ impl<'a> Reader<'a> {
         ensures none { IfNone result (self.new ≡ self.old) }
         ensures other { IfNone result (first_is (λ w. is_symbol w symbol) self.old ≡ false) }
     {
-        let [token, rest @ ..] = self.rest else {
-            return None;
-        };
+        let token = self.first()?;
         let Word::Symbol(found) = &token.word else {
             return None;
         };
@@ -85,7 +108,7 @@ impl<'a> Reader<'a> {
             return None;
         }
         let line = token.line;
-        self.rest = rest;
+        self.advance();
         Some(line)
     }
 
@@ -95,18 +118,23 @@ impl<'a> Reader<'a> {
         ensures none { IfNone result (self.new ≡ self.old) }
         ensures other { IfNone result (first_is is_name self.old ≡ false) }
     {
-        let [token, rest @ ..] = self.rest else {
+        if !self.is_at_name() {
             return None;
-        };
-        let Word::Name(letters) = &token.word else {
-            return None;
-        };
-        let name = Name {
-            letters: letters.copy(),
-            line: token.line,
-        };
-        self.rest = rest;
-        Some(name)
+        }
+        match self.take() {
+            Some(token) => Some(name_of(token)),
+            None => None,
+        }
+    }
+
+    // Whether a name is the first token.
+    fn is_at_name(&self) -> bool
+        ensures { result ≡ first_is is_name self.now }
+    {
+        match self.first() {
+            Some(token) => matches!(&token.word, Word::Name(_)),
+            None => false,
+        }
     }
 
     /// Takes a number, where one is the first.
@@ -115,9 +143,7 @@ impl<'a> Reader<'a> {
         ensures none { IfNone result (self.new ≡ self.old) }
         ensures other { IfNone result (first_is is_number self.old ≡ false) }
     {
-        let [token, rest @ ..] = self.rest else {
-            return None;
-        };
+        let token = self.first()?;
         let Word::Number(value) = &token.word else {
             return None;
         };
@@ -125,7 +151,7 @@ impl<'a> Reader<'a> {
             value: *value,
             line: token.line,
         };
-        self.rest = rest;
+        self.advance();
         Some(number)
     }
 
@@ -135,9 +161,7 @@ impl<'a> Reader<'a> {
         ensures none { IfNone result (self.new ≡ self.old) }
         ensures other { IfNone result (first_is is_character self.old ≡ false) }
     {
-        let [token, rest @ ..] = self.rest else {
-            return None;
-        };
+        let token = self.first()?;
         let Word::Character(code) = &token.word else {
             return None;
         };
@@ -145,7 +169,7 @@ impl<'a> Reader<'a> {
             code: *code,
             line: token.line,
         };
-        self.rest = rest;
+        self.advance();
         Some(character)
     }
 
@@ -155,14 +179,24 @@ impl<'a> Reader<'a> {
         ensures none { IfNone result (self.new ≡ self.old) }
         ensures other { IfNone result (first_is is_end self.old ≡ false) }
     {
-        let [token, rest @ ..] = self.rest else {
-            return None;
-        };
+        let token = self.first()?;
         let Word::End = &token.word else {
             return None;
         };
         let line = token.line;
-        self.rest = rest;
+        self.advance();
         Some(line)
+    }
+}
+
+// The name that a token is.
+fn name_of(token: Token) -> Name
+    requires { IsTrue (is_name token.word) }
+    ensures { name_at result ≡ token }
+{
+    let line = token.line;
+    match token.word {
+        Word::Name(letters) => Name { letters, line },
+        _ => unreachable!(),
     }
 }

@@ -26,7 +26,7 @@ fn error_card(alloc: Global, cards: &[&str]) -> Result<Option<u32>, Fail> {
 
 /// The number from 1 of the word at which a program has its first error, or nothing where it is
 /// read. Each text stands there so many times, and each word of it on a card of its own.
-fn error_word(alloc: Global, texts: &[(&str, usize)]) -> Result<Option<u32>, Fail> {
+pub fn error_word(alloc: Global, texts: &[(&str, usize)]) -> Result<Option<u32>, Fail> {
     let mut program = LineList::new(alloc);
     for (text, times) in texts {
         for _ in 0..*times {
@@ -120,7 +120,7 @@ fn declarations_have_their_first_error_at_a_word(rt: HostRuntime) -> Result<(), 
 fn statements_have_their_first_error_at_a_word(rt: HostRuntime) -> Result<(), Fail> {
     let table = [
         ("BEGIN 1 := X END .", 2),
-        ("BEGIN CASE END .", 2),
+        ("BEGIN OF END .", 2),
         ("BEGIN ELSE END .", 2),
         ("BEGIN X Y END .", 3),
         ("BEGIN P ( ) END .", 4),
@@ -157,7 +157,7 @@ fn statements_have_their_first_error_at_a_word(rt: HostRuntime) -> Result<(), Fa
 #[test]
 fn statements_have_64_levels(rt: HostRuntime) -> Result<(), Fail> {
     // an empty statement stands inside so many others; the first that has no room is the error
-    let table: [(&str, &str, usize, Option<u32>); 13] = [
+    let table: [(&str, &str, usize, Option<u32>); 15] = [
         ("BEGIN", "END", 63, None),
         ("BEGIN", "END", 64, Some(65)),
         ("BEGIN", "END", 10_000, Some(65)),
@@ -171,6 +171,8 @@ fn statements_have_64_levels(rt: HostRuntime) -> Result<(), Fail> {
         ("WHILE A DO", "", 64, Some(191)),
         ("FOR I := 1 TO 2 DO", "", 63, None),
         ("FOR I := 1 TO 2 DO", "", 64, Some(443)),
+        ("CASE A OF 1 :", "END", 63, None),
+        ("CASE A OF 1 :", "END", 64, Some(317)),
     ];
     for (opening, closing, times, word) in table {
         let texts = [

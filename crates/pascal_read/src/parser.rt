@@ -27,17 +27,17 @@ pub fn parse(alloc: Global, tokens: Vec<Token>) -> Result<Tree, ParseFault>
         → ErrorPlace tokens.items line }
 {
     each_is_a_word(&tokens);
-    let program = read_whole(alloc, &tokens)?;
+    let program = read_whole(alloc, tokens)?;
     Ok(Tree { program })
 }
 
 // Reads a program with its end token, behind which nothing may stand.
-fn read_whole(alloc: Global, tokens: &[Token]) -> Result<Program, ParseFault>
-    ensures words { IfOk result (λ x. tokens.now ≡ spelled (seen_program x)) }
+fn read_whole(alloc: Global, tokens: Vec<Token>) -> Result<Program, ParseFault>
+    ensures words { IfOk result (λ x. tokens.items ≡ spelled (seen_program x)) }
     ensures routines { IfOk result (λ x. RoutinesFit (seen_program x).routines) }
-    ensures body { IfOk result (λ x. BodyFits (seen_program x).body) }
+    ensures body { IfOk result (λ x. BodyFits (seen_program x).body 64) }
     ensures fault { (line : ℕ) → result ≡ Err (ParseFault.Syntax line)
-        → report tokens.now program_wants ≡ Some line }
+        → report tokens.items program_wants ≡ Some line }
 {
     let mut reader = Reader::new(tokens);
     let program = program(&mut reader, alloc)?;

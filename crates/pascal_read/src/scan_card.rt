@@ -44,7 +44,8 @@ fn read_words(tokens: &mut Vec<Token>, card: &[u8], line: u32) -> Result<Option<
                 None => return Ok(Some(line)),
             },
             _ => {
-                let Some(found) = word_at(rest) else {
+                let alloc = *tokens.allocator();
+                let Some(found) = word_at(alloc, rest)? else {
                     return Err(ScanFault::BadWord { line });
                 };
                 rest = &rest[found.length..];

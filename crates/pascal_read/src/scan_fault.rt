@@ -19,3 +19,11 @@ impl<T: Drop> From<AllocFailed<T>> for ScanFault {
         ScanFault::NoMemory
     }
 }
+
+impl From<solo_base::NoMemory> for ScanFault {
+    ghost from_gives = { λ _ fault. fault ≡ NoMemory };
+
+    fn from(_: solo_base::NoMemory) -> ScanFault {
+        ScanFault::NoMemory
+    }
+}

@@ -1,4 +1,4 @@
-ghost use Rattle.std.specs.Prelude.{◌≡◌, ◌≤◌, ◌<◌, length, map, take_while, slice_index, IsTrue};
+ghost use Rattle.std.specs.Prelude.{◌≡◌, ◌≤◌, ◌<◌, length, map, take_while, slice_index, IsTrue, IfOk};
 ghost use Rattle.std.specs.List.{list_all};
 ghost use Rattle.solo_base.specs.Line.{IsLine};
 ghost use Rattle.solo_base.specs.Ident.{is_letter, is_letter_or_digit, capital};
@@ -7,8 +7,9 @@ ghost use Rattle.pascal_read.specs.Piece.{Spells, look_up, reserved_words, word_
 ghost use Rattle.pascal_read.specs.Found.{in_table};
 
 use crate::found::Found;
-use pascal_tree::{Reserved, Symbol, Word};
-use solo_base::Line;
+use pascal_tree::{Letters, Reserved, Symbol, Word};
+use solo_base::{Line, NoMemory};
+use std::alloc::Global;
 
 /// The reserved words and their spelling.
 const RESERVED_WORDS: [(&[u8], Reserved); 24] = [
@@ -39,20 +40,21 @@ const RESERVED_WORDS: [(&[u8], Reserved); 24] = [
 ];
 
 /// The name or reserved word that begins with the letter at the front of `rest`.
-pub fn name_at(rest: &[u8]) -> Found
+pub fn name_at(alloc: Global, rest: &[u8]) -> Result<Found, NoMemory>
     requires line { IsLine rest.now }
     requires begun { 0 < length rest.now }
     requires letter { IsTrue (is_letter (slice_index rest.now 0)) }
-    ensures piece { Spells result.word result.length ≡ name_at rest.now }
-    ensures begun { 0 < result.length }
-    ensures inside { result.length ≤ length rest.now }
-    ensures kept { IsWord result.word }
+    ensures piece { IfOk result (λ found. Spells found.word found.length ≡ name_at rest.now) }
+    ensures begun { IfOk result (λ found. 0 < found.length) }
+    ensures inside { IfOk result (λ found. found.length ≤ length rest.now) }
+    ensures kept { IfOk result (λ found. IsWord found.word) }
 {
     let letters = front_letters(rest);
-    Found {
-        word: word_named(in_capitals(letters)),
+    let word = word_named(alloc, in_capitals(letters))?;
+    Ok(Found {
+        word,
         length: letters.len(),
-    }
+    })
 }
 
 /// The letters and digits with which the bytes begin.
@@ -81,17 +83,17 @@ fn in_capitals(letters: &[u8]) -> Line
 }
 
 /// The word that a name in capitals is.
-fn word_named(name: Line) -> Word
+fn word_named(alloc: Global, name: Line) -> Result<Word, NoMemory>
     requires { IsName name }
-    ensures word { result ≡ word_named name }
-    ensures kept { IsWord result }
+    ensures word { IfOk result (λ word. word ≡ word_named name) }
+    ensures kept { IfOk result (λ word. IsWord word) }
 {
     if name.bytes() == b"AND".as_slice() {
-        return Word::Symbol(Symbol::And);
+        return Ok(Word::Symbol(Symbol::And));
     }
     match reserved(name.bytes()) {
-        Some(found) => Word::Reserved(found),
-        None => Word::Name(name),
+        Some(found) => Ok(Word::Reserved(found)),
+        None => Ok(Word::Name(Letters::of(alloc, name.bytes())?)),
     }
 }
 

@@ -1,4 +1,4 @@
-ghost use Rattle.std.specs.Prelude.{◌≡◌, ◌≢◌, ◌≤◌, ◌<◌, ◌+◌, ℕ, List, ◌∷◌, ◌++◌, length, slice_index, IsTrue, IfSome};
+ghost use Rattle.std.specs.Prelude.{◌≡◌, ◌≢◌, ◌≤◌, ◌<◌, ◌+◌, ℕ, List, ◌∷◌, ◌++◌, length, slice_index, IsTrue, IfOk, IfSome};
 ghost use Rattle.std.specs.List.{list_all};
 ghost use Rattle.solo_base.specs.Line.{IsLine, is_printable};
 ghost use Rattle.pascal_tree.specs.Word.{IsWord};
@@ -10,6 +10,8 @@ use crate::scan_digits::{front_digits, value_within};
 use crate::scan_name::name_at;
 use crate::scan_symbol::symbol_at;
 use pascal_tree::Word;
+use solo_base::NoMemory;
+use std::alloc::Global;
 
 /// The greatest number that a program may write.
 const GREATEST_NUMBER: u16 = 32767;
@@ -19,25 +21,28 @@ const GREATEST_CODE: u16 = 127;
 
 /// The word at the front of what is left of a card, which is no blank and no comment. `None` where
 /// no word stands there.
-pub fn word_at(rest: &[u8]) -> Option<Found>
+pub fn word_at(alloc: Global, rest: &[u8]) -> Result<Option<Found>, NoMemory>
     requires line { IsLine rest.now }
     requires begun { 0 < length rest.now }
     requires no_blank { slice_index rest.now 0 ≢ 32 }
     requires no_comment { slice_index rest.now 0 ≢ 34 }
-    ensures piece { (later : List ℕ) → piece_of result ≡ piece_at (rest.now ++ 10 ∷ later) }
-    ensures begun { IfSome result (λ found. 0 < found.length) }
-    ensures inside { IfSome result (λ found. found.length ≤ length rest.now) }
-    ensures kept { IfSome result (λ found. IsWord found.word) }
+    ensures piece { IfOk result (λ answer. (later : List ℕ)
+        → piece_of answer ≡ piece_at (rest.now ++ 10 ∷ later)) }
+    ensures begun { IfOk result (λ answer. IfSome answer (λ found. 0 < found.length)) }
+    ensures inside { IfOk result
+        (λ answer. IfSome answer (λ found. found.length ≤ length rest.now)) }
+    ensures kept { IfOk result (λ answer. IfSome answer (λ found. IsWord found.word)) }
 {
     let first = rest[0];
     if first.is_ascii_alphabetic() {
-        Some(name_at(rest))
+        let found = name_at(alloc, rest)?;
+        Ok(Some(found))
     } else if first.is_ascii_digit() {
-        number_at(rest)
+        Ok(number_at(rest))
     } else if first == b'\'' {
-        character_at(&rest[1..])
+        Ok(character_at(&rest[1..]))
     } else {
-        symbol_at(rest)
+        Ok(symbol_at(rest))
     }
 }
 

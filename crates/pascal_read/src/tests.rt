@@ -5,7 +5,7 @@ use std::alloc::Global;
 use std::test::Fail;
 
 /// The cards of a program.
-fn program(alloc: Global, cards: &[&str]) -> Result<LineList, Fail> {
+pub fn program(alloc: Global, cards: &[&str]) -> Result<LineList, Fail> {
     let mut program = LineList::new(alloc);
     for card in cards {
         let line = Line::of(card.as_bytes()).ok_or("no card")?;
@@ -32,24 +32,27 @@ fn add_word(text: &mut String, word: &Word) -> Result<(), Fail> {
     Ok(())
 }
 
-/// The words of the cards, each behind its line: `1 X, 2 .` is the name X on line 1, and the end.
-fn read(alloc: Global, cards: &[&str]) -> Result<String, Fail> {
+/// Words, each behind its line: `1 X, 2 .` is the name X on line 1, and the end.
+pub fn text_of(alloc: Global, tokens: &[Token]) -> Result<String, Fail> {
     let mut text = String::new(alloc);
-    match scan(alloc, &program(alloc, cards)?) {
-        Ok(tokens) => {
-            for token in &tokens {
-                if !text.is_empty() {
-                    text.push_str(", ")?;
-                }
-                let line = token.line;
-                write!(text, "{line} ")?;
-                add_word(&mut text, &token.word)?;
-            }
+    for token in tokens {
+        if !text.is_empty() {
+            text.push_str(", ")?;
         }
-        Err(ScanFault::BadWord { line }) => write!(text, "bad word in line {line}")?,
-        Err(ScanFault::NoMemory) => text.push_str("no memory")?,
+        let line = token.line;
+        write!(text, "{line} ")?;
+        add_word(&mut text, &token.word)?;
     }
     Ok(text)
+}
+
+/// The words of the cards.
+fn read(alloc: Global, cards: &[&str]) -> Result<String, Fail> {
+    match scan(alloc, &program(alloc, cards)?) {
+        Ok(tokens) => text_of(alloc, &tokens),
+        Err(ScanFault::BadWord { line }) => Ok(format!(in alloc; "bad word in line {line}")?),
+        Err(ScanFault::NoMemory) => Err("no memory".into()),
+    }
 }
 
 #[test]

@@ -6,7 +6,7 @@ use Rattle.pascal_read.proofs.parser.read_whole.Goals as goal
 pub returns-then-not-is_at_end-clause-fault : goal.returns-then-not-is_at_end-clause-fault
 returns-then-not-is_at_end-clause-fault c =
     λ line h.
-    let words : c.new-reader.result ≡ c.args.tokens.now = search rules in
+    let words : c.new-reader.result ≡ c.args.tokens.items = search rules in
     let left = λ (e : c.program.new.reader ≡ []).
     let at_end : c.is_at_end.result ≡ true = c.is_at_end.ensures.1 e in
     let none : ⊥ = cc in

@@ -1,7 +1,6 @@
 use Rattle.std.proofs.Common.{◌≡◌, ◌∙◌, ◌++◌, ◌∷◌, Some, None, ap, sym, subst, is_ok, arith, rules, drop, length-drop}
 use Rattle.std.proofs.ResultArms.{chosen}
 use Rattle.std.proofs.lemmas.List.{take_rest}
-use Rattle.std.proofs.lemmas.Result.{err_from_is_err_and}
 use Rattle.solo_base.specs.Line.{IsLine}
 use Rattle.pascal_read.specs.Card.{before_all, behind_quote}
 use Rattle.pascal_read.specs.Scan.{words_from}
@@ -42,31 +41,29 @@ returns-in-None-clause-read c =
           ∙ ap (before_all c.loop-rest.tokens.items) (comment_on_card line rest later c.loop-rest.invariant.line (omega arith) (search rules) ∙ ap (λ behind. words_behind_quote line line behind later) (none_behind c));
     }
 
-pub returns-in_default-word_at-clause-bad : goal.returns-in_default-word_at-clause-bad
-returns-in_default-word_at-clause-bad c later =
+pub returns-in_default-2-clause-bad : goal.returns-in_default-2-clause-bad
+returns-in_default-2-clause-bad c later =
+    let piece = rw c.in_default-2.is at c.in_ok-found-in_default.ensures.piece in
     before_all-from_Err c.args.tokens.now.items (words_from c.args.line 0 (c.args.card.now ++ 10 ∷ later)) c.args.line
     (c.loop-rest.invariant.words later
-    ∙ ap (before_all c.loop-rest.tokens.items) (bad_step c.args.line c.loop-rest.rest.now later (omega arith) (sym (c.in_default-word_at.ensures.piece later)))
+    ∙ ap (before_all c.loop-rest.tokens.items) (bad_step c.args.line c.loop-rest.rest.now later (omega arith) (sym (piece later)))
     ∙ before_all-Err c.loop-rest.tokens.items c.args.line)
 
 pub loop-rest-preserved : goal.loop-rest-preserved
 loop-rest-preserved c =
     let rest = c.loop-rest.rest.now in
-    let found = c.in-Some-word_at.found in
+    let found = c.in-Some-2.found in
     let line = c.loop-rest.invariant.line in
     let left = take_rest rest found.length in
     let pushed = chosen _ _ _ _ c.push.ensures.items (ap is_ok c.in_ok-push-in_default.was) in
-    let word = c.in-Some-word_at.ensures in
+    let piece = rw c.in-Some-2.is at c.in_ok-found-in_default.ensures.piece in
+    let begun = rw c.in-Some-2.is at c.in_ok-found-in_default.ensures.begun in
+    let inside = rw c.in-Some-2.is at c.in_ok-found-in_default.ensures.inside in
     record {
       line = subst IsLine (sym left) (line_drop found.length rest line);
       words = λ later.
           c.loop-rest.invariant.words later
-          ∙ ap (before_all c.loop-rest.tokens.items) (word_step c.args.line rest later found.word found.length line.printable word.begun word.inside (sym (word.piece later)))
+          ∙ ap (before_all c.loop-rest.tokens.items) (word_step c.args.line rest later found.word found.length line.printable begun inside (sym (piece later)))
           ∙ sym (before_all-push c.loop-rest.tokens.items _ _)
           ∙ (λ i. before_all (sym pushed i) (words_from c.args.line 0 (sym left i ++ 10 ∷ later)));
     }
-
-pub returns-in_err-push-in_default-clause-bad : goal.returns-in_err-push-in_default-clause-bad
-returns-in_err-push-in_default-clause-bad c =
-    let fault = err_from_is_err_and c.from_residual.result c.from_residual.ensures.1 in
-    rw (fault.1, fault.2) (λ later. tt)

@@ -4,10 +4,9 @@ use Rattle.pascal_read.specs.Piece.{character_at}
 use Rattle.pascal_read.proofs.CardEnd.{name_stands, number_stands, character_stands}
 use Rattle.pascal_read.proofs.scan_word.word_at.Goals as goal
 
-pub returns-then-is_ascii_alphabetic-clause-piece :
-    goal.returns-then-is_ascii_alphabetic-clause-piece
-returns-then-is_ascii_alphabetic-clause-piece c later =
-    c.name_at.ensures.piece ∙ name_stands c.args.rest.now later c.requires.begun (search rules)
+pub returns-in_ok-found-clause-piece : goal.returns-in_ok-found-clause-piece
+returns-in_ok-found-clause-piece c later =
+    c.in_ok-found.ensures.piece ∙ name_stands c.args.rest.now later c.requires.begun (search rules)
 
 pub returns-then-is_ascii_digit-clause-piece : goal.returns-then-is_ascii_digit-clause-piece
 returns-then-is_ascii_digit-clause-piece c later =
