@@ -1,0 +1,14 @@
+mod Trees
+mod WorkedPrograms
+mod Sentences
+mod Order
+mod Edges
+mod Rows
+mod InBatch
+mod Steady
+mod SteadyCalls
+mod SteadyExpressions
+mod SteadyStatements
+mod Answering
+mod BatchReplies
+mod CardsRead

@@ -1,0 +1,13 @@
+pub mod Means
+pub mod Scope
+pub mod Predeclared
+pub mod Declarations
+pub mod Situation
+pub mod Variables
+pub mod Values
+pub mod Calls
+pub mod Expressions
+pub mod Statements
+pub mod Meaning
+pub mod MoreReplies
+pub mod Batch
