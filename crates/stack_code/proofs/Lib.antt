@@ -8,3 +8,4 @@ pub mod Pushed
 pub mod StraightLine
 pub mod Good
 pub mod Short
+pub mod BehindTick

@@ -5,7 +5,8 @@ use Rattle.std.specs.List.{flat_map}
 use Rattle.std.proofs.lemmas.Bool.{cases_lt}
 use Rattle.std.proofs.lemmas.List.{length-append, length-replicate, get_or_append_left, get_or-append_right, get_or-replicate, get_or_past}
 use Rattle.stack_code.specs.CodeLists.{CodeLists, IsCode, no_routine, no_instr, routine_at, instr_at}
-use Rattle.stack_code.specs.CodeFile.{routine_bytes, instr_bytes, head_bytes, text_bytes, padding, code_bytes, count_at, routines_end, instrs_end, file_end}
+use Rattle.solo_base.specs.PageBytes.{number_at}
+use Rattle.stack_code.specs.CodeFile.{routine_bytes, instr_bytes, head_bytes, text_bytes, padding, code_bytes, routines_end, instrs_end, file_end}
 
 pub pieces_length : {X : Type 0} (f : X → List ℕ) (n : ℕ) → ((x : X) → length (f x) ≡ n) → (xs : List X) → length (flat_map f xs) ≡ n * length xs
 pieces_length f n each [] = omega arith
@@ -97,13 +98,13 @@ byte_in_padding c p past =
 two_bytes : (n : ℕ) → n < 65536 → n / 256 % 256 * 256 + n % 256 ≡ n
 two_bytes n below = omega arith
 
-pub routine_count : (c : CodeLists) → IsCode c → count_at (code_bytes c) 8 ≡ length c.routines
+pub routine_count : (c : CodeLists) → IsCode c → number_at (code_bytes c) 8 ≡ length c.routines
 routine_count c good =
     let high = byte_in_head c 8 (omega arith) in
     let low = byte_in_head c 9 (omega arith) in
     rw (high, low) (two_bytes (length c.routines) (omega (arith, good.few_routines)))
 
-pub instr_count : (c : CodeLists) → IsCode c → count_at (code_bytes c) 10 ≡ length c.instrs
+pub instr_count : (c : CodeLists) → IsCode c → number_at (code_bytes c) 10 ≡ length c.instrs
 instr_count c good =
     let high = byte_in_head c 10 (omega arith) in
     let low = byte_in_head c 11 (omega arith) in

@@ -1,14 +1,15 @@
 -- What is read from bytes that are right is written as these bytes.
 use Rattle.std.proofs.Common.{◌≡◌, ℕ, zero, suc, ◌+◌, ◌-◌, ◌*◌, ◌/◌, ◌%◌, ◌<◌, ◌≤◌, true, false, cond, eqb, leb, ◌||◌, ◌&&◌, List, ◌++◌, length, get_or, None, refl, sym, ◌∙◌, ap, arith, inl, inr}
-use Rattle.std.specs.Prelude.{codes}
+use Rattle.std.specs.Prelude.{codes, is_some}
 use Rattle.std.specs.Int.{w16, to_be_bytes}
-use Rattle.std.proofs.lemmas.Bool.{cases_lt, eqb-true, leb-true, ltb-true, or_cases, and_parts}
+use Rattle.std.proofs.lemmas.Bool.{cases_lt, eqb-true, leb-true, or_cases, and_parts}
 use Rattle.std.proofs.lemmas.List.{ext_get_or, get_or_append_left}
 use Rattle.stack_code.specs.declared.instr.Instr.{Instr}
 use Rattle.stack_code.specs.declared.instr.RoutineInfo.{RoutineInfo}
-use Rattle.stack_code.specs.Table.{row}
+use Rattle.stack_code.specs.Table.{row, op_at}
 use Rattle.stack_code.specs.CodeLists.{CodeLists, IsCode, routine_at, instr_at}
-use Rattle.stack_code.specs.CodeFile.{routine_bytes, instr_bytes, head_bytes, text_bytes, code_bytes, count_at, routines_end, instrs_end, file_end, uses_a, uses_b, is_wrong, wrong_byte, IsRoutineAt, IsInstrAt}
+use Rattle.solo_base.specs.PageBytes.{number_at}
+use Rattle.stack_code.specs.CodeFile.{routine_bytes, instr_bytes, head_bytes, text_bytes, code_bytes, routines_end, instrs_end, file_end, uses_a, uses_b, is_wrong, wrong_byte, IsRoutineAt, IsInstrAt}
 use Rattle.stack_code.proofs.Least.{fails_below}
 use Rattle.stack_code.proofs.Rows.{number-op_at}
 use Rattle.stack_code.proofs.Positions.{text_length, code_length, byte_in_head, byte_in_routine, byte_in_instr, byte_in_padding}
@@ -23,9 +24,9 @@ right_of bytes none = right_from bytes (fails_below (is_wrong bytes) 0 (file_end
 
 -- the code that was read from the bytes
 pub record IsReadFrom (bytes : List ℕ) (c : CodeLists) : Type 0 where
-  pub routine_count : length c.routines ≡ count_at bytes 8
+  pub routine_count : length c.routines ≡ number_at bytes 8
   pub routines : (k : ℕ) → k < length c.routines → IsRoutineAt bytes (12 + 8 * k) (routine_at c k)
-  pub instr_count : length c.instrs ≡ count_at bytes 10
+  pub instr_count : length c.instrs ≡ number_at bytes 10
   pub instrs : (i : ℕ) → i < length c.instrs → IsInstrAt bytes (routines_end bytes + 5 * i) (instr_at c i)
 
 high_of : (a b n : ℕ) → a < 256 → b < 256 → n ≡ a * 256 + b → n / 256 % 256 ≡ a
@@ -69,11 +70,11 @@ count_byte_is bytes c fits from (suc (suc zero)) below = high_of _ _ (length c.i
 count_byte_is bytes c fits from (suc (suc (suc zero))) below = low_of (get_or bytes 10 0) _ (length c.instrs) (fits 11) from.instr_count
 count_byte_is bytes c fits from (suc (suc (suc (suc j)))) below = absurd (omega arith)
 
-pub number_fits : (bytes : List ℕ) → IsRight bytes → (i : ℕ) → i < count_at bytes 10 → get_or bytes (routines_end bytes + 5 * i) 0 < 38
+pub number_fits : (bytes : List ℕ) → IsRight bytes → (i : ℕ) → i < number_at bytes 10 → is_some (op_at (get_or bytes (routines_end bytes + 5 * i) 0)) ≡ true
 number_fits bytes right i below =
     let place = routines_end bytes + 5 * i in
-    let first = ltb-true _ _ (sym (in_instr bytes i 0 below (omega arith)) ∙ right.stand (place + 0) (omega arith)) in
-    omega (arith, first, at_place bytes (place + 0) place (omega arith))
+    ap (λ byte. is_some (op_at byte)) (at_place bytes place (place + 0) (omega arith))
+    ∙ sym (in_instr bytes i 0 below (omega arith)) ∙ right.stand (place + 0) (omega arith)
 
 module _ (bytes : List ℕ) (c : CodeLists) (fits : IsBytes bytes) (right : IsRight bytes) (from : IsReadFrom bytes c) where
   front : length (text_bytes c) ≡ instrs_end bytes
@@ -90,15 +91,15 @@ module _ (bytes : List ℕ) (c : CodeLists) (fits : IsBytes bytes) (right : IsRi
   count_same : (j : ℕ) → j < 4 → get_or bytes (8 + j) 0 ≡ get_or (code_bytes c) (8 + j) 0
   count_same j below = sym (byte_in_head c (8 + j) (omega arith) ∙ count_byte_is bytes c fits from j below)
 
-  marked : (k : ℕ) → k < count_at bytes 8 → get_or bytes (12 + 8 * k + 3) 0 ≤ 1
+  marked : (k : ℕ) → k < number_at bytes 8 → get_or bytes (12 + 8 * k + 3) 0 ≤ 1
   marked k below = leb-true _ _ (sym (in_routine bytes k 3 below (omega arith)) ∙ right.stand (12 + 8 * k + 3) (omega arith))
 
-  routine_same : (k j : ℕ) → k < count_at bytes 8 → j < 8 → get_or bytes (12 + 8 * k + j) 0 ≡ get_or (code_bytes c) (12 + 8 * k + j) 0
+  routine_same : (k j : ℕ) → k < number_at bytes 8 → j < 8 → get_or bytes (12 + 8 * k + j) 0 ≡ get_or (code_bytes c) (12 + 8 * k + j) 0
   routine_same k j below inside =
       let there : k < length c.routines = omega (arith, from.routine_count) in
       sym (byte_in_routine c k j there inside ∙ routine_byte_is bytes (12 + 8 * k) (routine_at c k) fits (from.routines k there) (marked k below) j inside)
 
-  instr_same : (i j : ℕ) → i < count_at bytes 10 → j < 5 → get_or bytes (routines_end bytes + 5 * i + j) 0 ≡ get_or (code_bytes c) (routines_end bytes + 5 * i + j) 0
+  instr_same : (i j : ℕ) → i < number_at bytes 10 → j < 5 → get_or bytes (routines_end bytes + 5 * i + j) 0 ≡ get_or (code_bytes c) (routines_end bytes + 5 * i + j) 0
   instr_same i j below inside =
       let there : i < length c.instrs = omega (arith, from.instr_count) in
       let place : 12 + 8 * length c.routines + 5 * i + j ≡ routines_end bytes + 5 * i + j = omega (arith, from.routine_count) in
@@ -140,11 +141,11 @@ module _ (bytes : List ℕ) (c : CodeLists) (fits : IsBytes bytes) (right : IsRi
 
   -- ---- What is read is code.
 
-  count_fits : (place limit : ℕ) → (leb (length bytes) (place + 1) || (leb 1 (count_at bytes place) && leb (count_at bytes place) limit)) ≡ true → place + 1 < length bytes → (1 ≤ count_at bytes place) × (count_at bytes place ≤ limit)
+  count_fits : (place limit : ℕ) → (leb (length bytes) (place + 1) || (leb 1 (number_at bytes place) && leb (number_at bytes place) limit)) ≡ true → place + 1 < length bytes → (1 ≤ number_at bytes place) × (number_at bytes place ≤ limit)
   count_fits place limit stands there =
-      elim (or_cases (leb (length bytes) (place + 1)) (leb 1 (count_at bytes place) && leb (count_at bytes place) limit) stands) [
+      elim (or_cases (leb (length bytes) (place + 1)) (leb 1 (number_at bytes place) && leb (number_at bytes place) limit) stands) [
         | inl short ↦ absurd (omega (arith, leb-true (length bytes) (place + 1) short))
-        | inr both ↦ let parts = and_parts (leb 1 (count_at bytes place)) (leb (count_at bytes place) limit) both in (leb-true 1 (count_at bytes place) parts.0, leb-true (count_at bytes place) limit parts.1)
+        | inr both ↦ let parts = and_parts (leb 1 (number_at bytes place)) (leb (number_at bytes place) limit) both in (leb-true 1 (number_at bytes place) parts.0, leb-true (number_at bytes place) limit parts.1)
       ]
 
   long : 12 ≤ length bytes
@@ -163,7 +164,7 @@ module _ (bytes : List ℕ) (c : CodeLists) (fits : IsBytes bytes) (right : IsRi
   unused_a : (i : ℕ) → i < length c.instrs → (row (instr_at c i).op).uses_a ≡ false → (instr_at c i).a ≡ 0
   unused_a i there unused =
       let at = from.instrs i there in
-      let below : i < count_at bytes 10 = omega (arith, from.instr_count) in
+      let below : i < number_at bytes 10 = omega (arith, from.instr_count) in
       let place = routines_end bytes + 5 * i in
       let no : uses_a (get_or bytes place 0) ≡ false = rw at.number unused in
       let zero_byte : (j : ℕ) → (uses_a (get_or bytes place 0) || eqb (get_or bytes (place + j) 0) 0) ≡ true → get_or bytes (place + j) 0 ≡ 0 =
@@ -175,7 +176,7 @@ module _ (bytes : List ℕ) (c : CodeLists) (fits : IsBytes bytes) (right : IsRi
   unused_b : (i : ℕ) → i < length c.instrs → (row (instr_at c i).op).uses_b ≡ false → (instr_at c i).b ≡ 0
   unused_b i there unused =
       let at = from.instrs i there in
-      let below : i < count_at bytes 10 = omega (arith, from.instr_count) in
+      let below : i < number_at bytes 10 = omega (arith, from.instr_count) in
       let place = routines_end bytes + 5 * i in
       let no : uses_b (get_or bytes place 0) ≡ false = rw at.number unused in
       let zero_byte : (j : ℕ) → (uses_b (get_or bytes place 0) || eqb (get_or bytes (place + j) 0) 0) ≡ true → get_or bytes (place + j) 0 ≡ 0 =

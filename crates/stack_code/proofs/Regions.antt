@@ -2,7 +2,8 @@
 use Rattle.std.proofs.Common.{◌≡◌, ℕ, ◌+◌, ◌-◌, ◌*◌, ◌%◌, ◌<◌, ◌≤◌, Bool, true, false, not, ◌&&◌, cond, eqb, ltb, List, length, get_or, sym, ◌∙◌, ap, arith, inl, inr}
 use Rattle.std.specs.Prelude.{codes}
 use Rattle.std.proofs.lemmas.Bool.{cases_lt, cond-true, cond-false, lt-ltb, le-ltb, ne_eqb, ltb-true, ltb-false, not-false, and_parts, and_from}
-use Rattle.stack_code.specs.CodeFile.{count_at, routines_end, instrs_end, file_end, count_may_stand, routine_byte_may_stand, instr_byte_may_stand, may_stand, is_wrong}
+use Rattle.solo_base.specs.PageBytes.{number_at}
+use Rattle.stack_code.specs.CodeFile.{routines_end, instrs_end, file_end, count_may_stand, routine_byte_may_stand, instr_byte_may_stand, may_stand, is_wrong}
 
 -- each byte of the file is there and may stand there, and no byte is behind it
 pub record IsRight (bytes : List ℕ) : Type 0 where
@@ -68,12 +69,12 @@ in_padding bytes p past =
     ∙ cond-false (ltb p (instrs_end bytes)) _ _ (le-ltb _ _ past)
 
 -- byte j of routine k, and of instruction i
-pub in_routine : (bytes : List ℕ) (k j : ℕ) → k < count_at bytes 8 → j < 8 → may_stand bytes (12 + 8 * k + j) ≡ routine_byte_may_stand j (get_or bytes (12 + 8 * k + j) 0)
+pub in_routine : (bytes : List ℕ) (k j : ℕ) → k < number_at bytes 8 → j < 8 → may_stand bytes (12 + 8 * k + j) ≡ routine_byte_may_stand j (get_or bytes (12 + 8 * k + j) 0)
 in_routine bytes k j below inside =
     let at : (12 + 8 * k + j - 12) % 8 ≡ j = omega arith in
     in_routines bytes (12 + 8 * k + j) (omega arith) (omega arith) ∙ ap (λ a. routine_byte_may_stand a (get_or bytes (12 + 8 * k + j) 0)) at
 
-pub in_instr : (bytes : List ℕ) (i j : ℕ) → i < count_at bytes 10 → j < 5 → may_stand bytes (routines_end bytes + 5 * i + j) ≡ instr_byte_may_stand (get_or bytes (routines_end bytes + 5 * i) 0) j (get_or bytes (routines_end bytes + 5 * i + j) 0)
+pub in_instr : (bytes : List ℕ) (i j : ℕ) → i < number_at bytes 10 → j < 5 → may_stand bytes (routines_end bytes + 5 * i + j) ≡ instr_byte_may_stand (get_or bytes (routines_end bytes + 5 * i) 0) j (get_or bytes (routines_end bytes + 5 * i + j) 0)
 in_instr bytes i j below inside =
     let p = routines_end bytes + 5 * i + j in
     let at : (routines_end bytes + 5 * i + j - routines_end bytes) % 5 ≡ j = omega arith in

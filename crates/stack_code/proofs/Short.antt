@@ -9,43 +9,7 @@ use Rattle.stack_code.specs.Table.{name_of}
 
 name_is_short : (o : Op) → length (name_of o) ≤ 7
 name_is_short op.Push = lit≤ tt
-name_is_short op.LoadG = lit≤ tt
-name_is_short op.LoadL = lit≤ tt
-name_is_short op.StoreG = lit≤ tt
-name_is_short op.StoreL = lit≤ tt
-name_is_short op.LoadGX = lit≤ tt
-name_is_short op.LoadLX = lit≤ tt
-name_is_short op.StoreGX = lit≤ tt
-name_is_short op.StoreLX = lit≤ tt
-name_is_short op.Index = lit≤ tt
-name_is_short op.Add = lit≤ tt
-name_is_short op.Sub = lit≤ tt
-name_is_short op.Mul = lit≤ tt
-name_is_short op.Div = lit≤ tt
-name_is_short op.Mod = lit≤ tt
-name_is_short op.Neg = lit≤ tt
-name_is_short op.Abs = lit≤ tt
-name_is_short op.Not = lit≤ tt
-name_is_short op.And = lit≤ tt
-name_is_short op.Or = lit≤ tt
-name_is_short op.Eq = lit≤ tt
-name_is_short op.Ne = lit≤ tt
-name_is_short op.Lt = lit≤ tt
-name_is_short op.Gt = lit≤ tt
-name_is_short op.Le = lit≤ tt
-name_is_short op.Ge = lit≤ tt
-name_is_short op.Chr = lit≤ tt
-name_is_short op.Jump = lit≤ tt
-name_is_short op.JumpF = lit≤ tt
-name_is_short op.Tick = lit≤ tt
-name_is_short op.Call = lit≤ tt
-name_is_short op.Return = lit≤ tt
-name_is_short op.Sys = lit≤ tt
-name_is_short op.SysG = lit≤ tt
-name_is_short op.SysL = lit≤ tt
-name_is_short op.Halt = lit≤ tt
-name_is_short op.Succ = lit≤ tt
-name_is_short op.Pred = lit≤ tt
+name_is_short other = lit≤ tt
 
 -- the name, a blank and a number
 pub begun_is_short : (o : Op) (empty name first second third : List ℕ) (n : ℕ) → empty ≡ [] → name ≡ name_of o → first ≡ empty ++ name → second ≡ first ++ 32 ∷ [] → n < 2 ^ 32 → third ≡ second ++ decimal n → length third ≤ 18

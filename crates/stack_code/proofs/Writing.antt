@@ -1,16 +1,17 @@
 -- What is written is right, and is read again.
 use Rattle.std.proofs.Common.{◌≡◌, ℕ, zero, suc, ◌+◌, ◌-◌, ◌*◌, ◌/◌, ◌%◌, ◌<◌, ◌≤◌, Bool, true, false, eqb, leb, not, ◌||◌, ◌&&◌, List, ◌++◌, length, get_or, Some, None, refl, sym, ◌∙◌, ap, arith, inl, inr}
-use Rattle.std.specs.Prelude.{codes}
+use Rattle.std.specs.Prelude.{codes, is_some}
 use Rattle.std.specs.Int.{w16, to_be_bytes}
-use Rattle.std.proofs.lemmas.Bool.{cases_lt, cases_eq, eq-eqb, le-leb, lt-ltb, or_left, or_right, and_from, ne_eqb}
+use Rattle.std.proofs.lemmas.Bool.{cases_lt, cases_eq, eq-eqb, le-leb, or_left, or_right, and_from, ne_eqb}
 use Rattle.std.proofs.lemmas.List.{ext_get_or, get_or_append_left}
 use Rattle.stack_code.specs.declared.instr.Instr.{Instr}
 use Rattle.stack_code.specs.declared.instr.RoutineInfo.{RoutineInfo}
 use Rattle.stack_code.specs.Table.{row, op_at}
 use Rattle.stack_code.specs.CodeLists.{CodeLists, IsCode, UsesItsOperands, FitsItsFields, no_routine, no_instr, routine_at, instr_at}
-use Rattle.stack_code.specs.CodeFile.{mark, routine_bytes, instr_bytes, code_bytes, count_at, routines_end, instrs_end, file_end, may_stand, is_wrong, wrong_byte, routine_byte_may_stand, instr_byte_may_stand, IsRoutineAt, IsInstrAt}
+use Rattle.solo_base.specs.PageBytes.{number_at}
+use Rattle.stack_code.specs.CodeFile.{mark, routine_bytes, instr_bytes, code_bytes, routines_end, instrs_end, file_end, may_stand, is_wrong, wrong_byte, routine_byte_may_stand, instr_byte_may_stand, IsRoutineAt, IsInstrAt}
 use Rattle.stack_code.proofs.Least.{none_passes}
-use Rattle.stack_code.proofs.Rows.{number_below, op_at-number, some_is}
+use Rattle.stack_code.proofs.Rows.{op_at-number, some_is}
 use Rattle.stack_code.proofs.Positions.{byte_in_head, byte_in_routine, byte_in_instr, byte_in_padding, routine_count, instr_count, routines_end_is, instrs_end_is, file_end_is}
 use Rattle.stack_code.proofs.Regions.{IsRight, none_from, letter, in_routine, in_instr, in_padding}
 use Rattle.stack_code.proofs.Reading.{IsReadFrom, at_place}
@@ -36,7 +37,7 @@ operand_stands true operand byte unused zeros = refl
 operand_stands false operand byte unused zeros = eq-eqb _ _ (zeros (unused refl))
 
 instr_byte_stands : (i : Instr) → UsesItsOperands i → (j : ℕ) → j < 5 → instr_byte_may_stand (row i.op).number j (get_or (instr_bytes i) j 0) ≡ true
-instr_byte_stands i unused zero below = lt-ltb _ _ (number_below i.op)
+instr_byte_stands i unused zero below = ap is_some (op_at-number i.op)
 instr_byte_stands i unused (suc zero) below = rw (op_at-number i.op) (operand_stands (row i.op).uses_a i.a _ unused.a (λ e. omega (arith, e)))
 instr_byte_stands i unused (suc (suc zero)) below = rw (op_at-number i.op) (operand_stands (row i.op).uses_a i.a _ unused.a (λ e. omega (arith, e)))
 instr_byte_stands i unused (suc (suc (suc zero))) below = rw (op_at-number i.op) (operand_stands (row i.op).uses_b i.b _ unused.b (λ e. omega (arith, e)))
@@ -50,9 +51,9 @@ module _ (c : CodeLists) (good : IsCode c) where
       ∙ eq-eqb _ _ (byte_in_head c p (omega arith) ∙ get_or_append_left (codes "SEQCODE1" ++ to_be_bytes w16 (length c.routines)) (to_be_bytes w16 (length c.instrs)) 0 p (omega arith) ∙ get_or_append_left (codes "SEQCODE1") (to_be_bytes w16 (length c.routines)) 0 p below)
 
   counts_stand : (j : ℕ) → j < 4 → may_stand (code_bytes c) (8 + j) ≡ true
-  counts_stand zero below = count_stands (leb (length (code_bytes c)) 9) (count_at (code_bytes c) 8) 255 (omega (arith, routine_count c good, good.some_routine)) (omega (arith, routine_count c good, good.few_routines))
+  counts_stand zero below = count_stands (leb (length (code_bytes c)) 9) (number_at (code_bytes c) 8) 255 (omega (arith, routine_count c good, good.some_routine)) (omega (arith, routine_count c good, good.few_routines))
   counts_stand (suc zero) below = refl
-  counts_stand (suc (suc zero)) below = count_stands (leb (length (code_bytes c)) 11) (count_at (code_bytes c) 10) 8192 (omega (arith, instr_count c good, good.some_instr)) (omega (arith, instr_count c good, good.few_instrs))
+  counts_stand (suc (suc zero)) below = count_stands (leb (length (code_bytes c)) 11) (number_at (code_bytes c) 10) 8192 (omega (arith, instr_count c good, good.some_instr)) (omega (arith, instr_count c good, good.few_instrs))
   counts_stand (suc (suc (suc zero))) below = refl
   counts_stand (suc (suc (suc (suc j)))) below = absurd (omega arith)
 

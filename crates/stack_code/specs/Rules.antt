@@ -1,12 +1,12 @@
 -- What makes code safe to run: the rules on its records, and the first record that breaks one.
-use Rattle.std.specs.Prelude.{◌≡◌, ℕ, zero, suc, ◌+◌, ◌-◌, ◌*◌, ◌<◌, Bool, true, false, not, ◌&&◌, ◌||◌, ◌==◌, nat_lt, nat_le, if◌then◌else◌, length, Option, Some, None, pos, ◌-ℤ◌, int_le}
+use Rattle.std.specs.Prelude.{◌≡◌, ℕ, zero, suc, ◌+◌, ◌-◌, ◌*◌, ◌<◌, Bool, true, false, not, ◌&&◌, ◌||◌, ◌==◌, nat_lt, nat_le, if◌then◌else◌, length, Option, Some, None, is_some, is_none, pos, ◌-ℤ◌, int_le}
 use Rattle.std.specs.List.{list_any, count_by}
 use Rattle.std.specs.Option.{option_map_or, option_map}
 use Rattle.std.specs.Int.{w16, cast_signed}
 use Rattle.stack_code.specs.declared.table.Op.{Op}
 use Rattle.stack_code.specs.declared.table.Op.TheVariants as op
 use Rattle.stack_code.specs.Table.{row}
-use Rattle.stack_code.specs.Interface.{call_row, values_of, results_of}
+use Rattle.solo_base.specs.Interface.{call_row, values_of, results_of}
 use Rattle.stack_code.specs.CodeLists.{CodeLists, routine_at, instr_at}
 use Rattle.stack_code.specs.CodeFile.{mark, least}
 
@@ -31,7 +31,8 @@ goes_on c place = nat_lt (place + 1) (length c.instrs) && routine_of c (place + 
 
 -- the program has neither parameters nor a result and starts the code; the others start behind one another
 abbrev pub starts_well : CodeLists → ℕ → Bool
-starts_well c zero = (routine_at c 0).start == 0 && (routine_at c 0).params == 0 && not (routine_at c 0).function
+starts_well c zero =
+    (routine_at c 0).start == 0 && (routine_at c 0).params == 0 && not (routine_at c 0).function
 starts_well c (suc k) = nat_lt (routine_at c k).start (routine_at c (suc k)).start
 
 abbrev pub routine_is_good : CodeLists → ℕ → Bool
@@ -88,26 +89,38 @@ pushes c other a = (row other).pushes
 abbrev pub word_fits : ℕ → ℕ → Bool
 word_fits words a = nat_lt a words
 
+-- the two words of a reference
+abbrev pub reference_fits : ℕ → ℕ → Bool
+reference_fits words a = nat_lt (a + 1) words
+
 abbrev pub array_fits : ℕ → ℕ → ℕ → Bool
 array_fits words a b = nat_le 1 b && nat_le b 4096 && nat_le (a + b) words
 
 abbrev pub call_array_fits : ℕ → ℕ → ℕ → Bool
-call_array_fits words a b = option_map_or (λ r. nat_le 1 r.array && nat_le (b + r.array) words) (call_row a) false
+call_array_fits words a b =
+    option_map_or (λ r. nat_le 1 r.array && nat_le (b + r.array) words) (call_row a) false
 
 -- the bounds of an array, signed
 abbrev pub bounds_fit : ℕ → ℕ → Bool
-bounds_fit a b = int_le (cast_signed w16 a) (cast_signed w16 b) && int_le (cast_signed w16 b -ℤ cast_signed w16 a) (pos 4095)
+bounds_fit a b =
+    int_le (cast_signed w16 a) (cast_signed w16 b)
+    && int_le (cast_signed w16 b -ℤ cast_signed w16 a) (pos 4095)
 
 -- a jump stays in its routine, and one that doesn't lead forward leads to a TICK
 abbrev pub jump_fits : CodeLists → ℕ → ℕ → Bool
 jump_fits c place a =
-    nat_lt a (length c.instrs) && routine_of c a == routine_of c place && (nat_lt place a || is_tick (instr_at c a).op)
+    nat_lt a (length c.instrs) && routine_of c a == routine_of c place
+    && (nat_lt place a || is_tick (instr_at c a).op)
 
 abbrev pub operands_fit : CodeLists → ℕ → Op → ℕ → ℕ → Bool
 operands_fit c place op.LoadG a b = word_fits (program_words c) a
 operands_fit c place op.StoreG a b = word_fits (program_words c) a
 operands_fit c place op.LoadL a b = word_fits (own_words c place) a
 operands_fit c place op.StoreL a b = word_fits (own_words c place) a
+operands_fit c place op.RefG a b = word_fits (program_words c) a
+operands_fit c place op.RefL a b = word_fits (own_words c place) a
+operands_fit c place op.LoadR a b = reference_fits (own_words c place) a
+operands_fit c place op.StoreR a b = reference_fits (own_words c place) a
 operands_fit c place op.LoadGX a b = array_fits (program_words c) a b
 operands_fit c place op.StoreGX a b = array_fits (program_words c) a b
 operands_fit c place op.LoadLX a b = array_fits (own_words c place) a b
@@ -137,14 +150,20 @@ height_at c (suc place) =
 abbrev pub is_target : CodeLists → ℕ → Bool
 is_target c place = list_any (λ i. is_jump i.op && i.a == place) c.instrs
 
--- A place stands behind a TICK of its routine if it is no jump's target, and the instruction before it is a TICK, or is no jump and itself stands behind one.
-unfoldable pub is_behind_tick : CodeLists → ℕ → Bool
-is_behind_tick c zero = false
-is_behind_tick c (suc place) =
-    not (is_target c (suc place)) && routine_of c (suc place) == routine_of c place
-    && (is_tick (instr_at c place).op || (not (is_jump (instr_at c place).op) && is_behind_tick c place))
+-- A TICK leads straight to a later place of its routine: no jump stands between the two, and no place behind
+-- the TICK up to the later one, which counts, is a jump's target.
+abbrev pub leads_straight : CodeLists → ℕ → ℕ → Bool
+leads_straight c tick place =
+    is_tick (instr_at c tick).op && routine_of c tick == routine_of c place
+    && is_none (least (λ k. is_jump (instr_at c k).op) (tick + 1) (place - (tick + 1)))
+    && is_none (least (is_target c) (tick + 1) (place - tick))
 
--- no more is popped than is there, the routine's height isn't passed, and nothing is left where nothing may be
+-- some TICK leads straight to the place
+unfoldable pub is_behind_tick : CodeLists → ℕ → Bool
+is_behind_tick c place = is_some (least (λ tick. leads_straight c tick place) 0 place)
+
+-- no more is popped than is there, the routine's height isn't passed, and nothing is left where nothing may
+-- be
 abbrev pub height_fits : CodeLists → ℕ → Op → ℕ → ℕ → Bool
 height_fits c place o a height =
     nat_le (pops c o a) height
@@ -186,7 +205,8 @@ first_of None later = later
 
 -- the place of the first broken record, routines before instructions
 unfoldable pub broken_record : CodeLists → Option ℕ
-broken_record c = first_of (option_map routine_record (broken_routine c)) (option_map (instr_record c) (broken_instr c))
+broken_record c =
+    first_of (option_map routine_record (broken_routine c)) (option_map (instr_record c) (broken_instr c))
 
 -- code is good where no record breaks a rule
 pub record IsGood (c : CodeLists) : Type 0 where

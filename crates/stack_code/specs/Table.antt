@@ -6,15 +6,19 @@ use Rattle.stack_code.specs.declared.table.Row.{Row}
 
 -- a row: its number, how many words it pops, and how many it pushes
 abbrev pub no_operand : ℕ → ℕ → ℕ → Row
-no_operand number pops pushes = record { number = number; uses_a = false; uses_b = false; pops = pops; pushes = pushes }
+no_operand number pops pushes =
+    record { number = number; uses_a = false; uses_b = false; pops = pops; pushes = pushes }
 
 abbrev pub operand_a : ℕ → ℕ → ℕ → Row
-operand_a number pops pushes = record { number = number; uses_a = true; uses_b = false; pops = pops; pushes = pushes }
+operand_a number pops pushes =
+    record { number = number; uses_a = true; uses_b = false; pops = pops; pushes = pushes }
 
 abbrev pub both_operands : ℕ → ℕ → ℕ → Row
-both_operands number pops pushes = record { number = number; uses_a = true; uses_b = true; pops = pops; pushes = pushes }
+both_operands number pops pushes =
+    record { number = number; uses_a = true; uses_b = true; pops = pops; pushes = pushes }
 
--- PUSH uses its operand a, has number 0, pops nothing and pushes one word. CALL and SYS pop and push by the routine and by the row of the interface that they name.
+-- PUSH uses its operand a, has number 0, pops nothing and pushes one word. CALL and SYS pop and push by the
+-- routine and by the row of the interface that they name.
 abbrev pub row : Op → Row
 row op.Push = operand_a 0 0 1
 row op.LoadG = operand_a 1 0 1
@@ -54,10 +58,57 @@ row op.SysL = both_operands 34 0 0
 row op.Halt = no_operand 35 0 0
 row op.Succ = no_operand 36 1 1
 row op.Pred = no_operand 37 1 1
+row op.RefG = operand_a 38 0 2
+row op.RefL = operand_a 39 0 2
+row op.LoadR = operand_a 40 0 1
+row op.StoreR = operand_a 41 1 0
 
 -- the operations in the order of their numbers
 abbrev pub ops : List Op
-ops = op.Push ∷ op.LoadG ∷ op.LoadL ∷ op.StoreG ∷ op.StoreL ∷ op.LoadGX ∷ op.LoadLX ∷ op.StoreGX ∷ op.StoreLX ∷ op.Index ∷ op.Add ∷ op.Sub ∷ op.Mul ∷ op.Div ∷ op.Mod ∷ op.Neg ∷ op.Abs ∷ op.Not ∷ op.And ∷ op.Or ∷ op.Eq ∷ op.Ne ∷ op.Lt ∷ op.Gt ∷ op.Le ∷ op.Ge ∷ op.Chr ∷ op.Jump ∷ op.JumpF ∷ op.Tick ∷ op.Call ∷ op.Return ∷ op.Sys ∷ op.SysG ∷ op.SysL ∷ op.Halt ∷ op.Succ ∷ op.Pred ∷ []
+ops =
+    op.Push ∷
+    op.LoadG ∷
+    op.LoadL ∷
+    op.StoreG ∷
+    op.StoreL ∷
+    op.LoadGX ∷
+    op.LoadLX ∷
+    op.StoreGX ∷
+    op.StoreLX ∷
+    op.Index ∷
+    op.Add ∷
+    op.Sub ∷
+    op.Mul ∷
+    op.Div ∷
+    op.Mod ∷
+    op.Neg ∷
+    op.Abs ∷
+    op.Not ∷
+    op.And ∷
+    op.Or ∷
+    op.Eq ∷
+    op.Ne ∷
+    op.Lt ∷
+    op.Gt ∷
+    op.Le ∷
+    op.Ge ∷
+    op.Chr ∷
+    op.Jump ∷
+    op.JumpF ∷
+    op.Tick ∷
+    op.Call ∷
+    op.Return ∷
+    op.Sys ∷
+    op.SysG ∷
+    op.SysL ∷
+    op.Halt ∷
+    op.Succ ∷
+    op.Pred ∷
+    op.RefG ∷
+    op.RefL ∷
+    op.LoadR ∷
+    op.StoreR ∷
+    []
 
 abbrev pub op_at : ℕ → Option Op
 op_at number = slice_get ops number
@@ -102,3 +153,7 @@ name_of op.SysL = codes "SYSL"
 name_of op.Halt = codes "HALT"
 name_of op.Succ = codes "SUCC"
 name_of op.Pred = codes "PRED"
+name_of op.RefG = codes "REFG"
+name_of op.RefL = codes "REFL"
+name_of op.LoadR = codes "LOADR"
+name_of op.StoreR = codes "STORER"

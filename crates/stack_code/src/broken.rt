@@ -83,7 +83,7 @@ fn height_behind(code: &Code, place: usize, height: usize) -> usize
 }
 
 // Whether the next instruction stands behind a TICK of its routine, with no way in between.
-#[tactic(auto, using(crate::proofs::StraightLine::is_behind_tick_next))]
+#[tactic(auto, using(crate::proofs::BehindTick::is_behind_tick_next))]
 fn is_behind_tick(code: &Code, place: usize, behind_tick: bool) -> bool
     requires place { place < 2 ^ 32 }
     requires tick { behind_tick ≡ is_behind_tick code.now place }

@@ -1,7 +1,9 @@
-ghost use Rattle.std.specs.Prelude.{◌≡◌, ◌<◌, ◌≤◌, ◌+◌, ◌*◌, ◌^◌, ℕ, length, slice_index, slice_index_or, None, Some, Err, IfOk, MatchResult};
+ghost use Rattle.std.specs.Prelude.{◌≡◌, ◌<◌, ◌≤◌, ◌+◌, ◌*◌, ◌^◌, ℕ, length, slice_index, slice_index_or, None, Some, Err, IsSome, IfOk, MatchResult};
 ghost use Rattle.stack_code.specs.declared.fault.CodeFault.TheVariants.{NoMemory, BadCode};
 ghost use Rattle.stack_code.specs.CodeLists.{CodeLists, IsCode, FitsItsFields, no_routine, no_instr};
-ghost use Rattle.stack_code.specs.CodeFile.{code_bytes, wrong_byte, count_at, routines_end, uses_a, IsRoutineAt, IsInstrAt};
+ghost use Rattle.stack_code.specs.Table.{op_at};
+ghost use Rattle.solo_base.specs.PageBytes.{number_at};
+ghost use Rattle.stack_code.specs.CodeFile.{code_bytes, wrong_byte, routines_end, uses_a, IsRoutineAt, IsInstrAt};
 
 use crate::file::{byte_at, count_at, routines_end, wrong_byte};
 use crate::{Code, CodeFault, Instr, Op, RoutineInfo};
@@ -12,7 +14,8 @@ pub fn decode(alloc: Global, bytes: &[u8]) -> Result<Code, CodeFault>
     // What is read is written so.
     ensures read { IfOk result (λ code. bytes.now ≡ code_bytes code) }
     // What is written so is read, unless memory runs out.
-    ensures only { (c : CodeLists) → IsCode c → FitsItsFields c → bytes.now ≡ code_bytes c → MatchResult result (λ code. code ≡ c) (λ fault. fault ≡ NoMemory) }
+    ensures only { (c : CodeLists) → IsCode c → FitsItsFields c → bytes.now ≡ code_bytes c
+        → MatchResult result (λ code. code ≡ c) (λ fault. fault ≡ NoMemory) }
     // A fault is at the least wrong byte, and there is none where code is read. Want of memory hides none.
     ensures right { IfOk result (λ _. wrong_byte bytes.now ≡ None) }
     ensures wrong { (at : ℕ) → result ≡ Err (BadCode at) → wrong_byte bytes.now ≡ Some at }
@@ -27,8 +30,9 @@ pub fn decode(alloc: Global, bytes: &[u8]) -> Result<Code, CodeFault>
 }
 
 fn routines_of(alloc: Global, bytes: &[u8]) -> Result<Vec<RoutineInfo>, AllocError>
-    ensures count { IfOk result (λ v. length v.items ≡ count_at bytes.now 8) }
-    ensures each { IfOk result (λ v. (k : ℕ) → k < length v.items → IsRoutineAt bytes.now (12 + 8 * k) (slice_index_or v.items k no_routine)) }
+    ensures count { IfOk result (λ v. length v.items ≡ number_at bytes.now 8) }
+    ensures each { IfOk result (λ v. (k : ℕ) → k < length v.items
+        → IsRoutineAt bytes.now (12 + 8 * k) (slice_index_or v.items k no_routine)) }
 {
     let mut routines = Vec::new(alloc);
     for k in 0..count_at(bytes, 8) {
@@ -51,9 +55,11 @@ fn routine_at(bytes: &[u8], place: usize) -> RoutineInfo
 }
 
 fn instrs_of(alloc: Global, bytes: &[u8]) -> Result<Vec<Instr>, AllocError>
-    requires { (i : ℕ) → i < count_at bytes.now 10 → slice_index bytes.now (routines_end bytes.now + 5 * i) < 38 }
-    ensures count { IfOk result (λ v. length v.items ≡ count_at bytes.now 10) }
-    ensures each { IfOk result (λ v. (i : ℕ) → i < length v.items → IsInstrAt bytes.now (routines_end bytes.now + 5 * i) (slice_index_or v.items i no_instr)) }
+    requires { (i : ℕ) → i < number_at bytes.now 10
+        → IsSome (op_at (slice_index bytes.now (routines_end bytes.now + 5 * i))) }
+    ensures count { IfOk result (λ v. length v.items ≡ number_at bytes.now 10) }
+    ensures each { IfOk result (λ v. (i : ℕ) → i < length v.items
+        → IsInstrAt bytes.now (routines_end bytes.now + 5 * i) (slice_index_or v.items i no_instr)) }
 {
     let start = routines_end(bytes);
     let mut instrs = Vec::new(alloc);
@@ -65,7 +71,7 @@ fn instrs_of(alloc: Global, bytes: &[u8]) -> Result<Vec<Instr>, AllocError>
 
 fn instr_at(bytes: &[u8], place: usize) -> Instr
     requires place { place < 2 ^ 20 }
-    requires number { slice_index bytes.now place < 38 }
+    requires number { IsSome (op_at (slice_index bytes.now place)) }
     ensures { IsInstrAt bytes.now place result }
 {
     match Op::at(byte_at(bytes, place)) {

@@ -1,10 +1,9 @@
 ghost use Rattle.std.specs.Prelude.{◌≡◌, ◌<◌, ◌≤◌, ◌+◌, ◌^◌, slice_index};
-ghost use Rattle.stack_code.specs.CodeFile.{count_at, routines_end, instrs_end, file_end, count_may_stand, routine_byte_may_stand, instr_byte_may_stand, may_stand, is_wrong, wrong_byte, padding, uses_a, uses_b};
+ghost use Rattle.solo_base.specs.PageBytes.{number_at};
+ghost use Rattle.stack_code.specs.CodeFile.{routines_end, instrs_end, file_end, count_may_stand, routine_byte_may_stand, instr_byte_may_stand, may_stand, is_wrong, wrong_byte, padding, uses_a, uses_b};
 
 use crate::Op;
-
-/// How many bytes a page of a code file has.
-pub(crate) const PAGE_LENGTH: usize = 512;
+use solo_base::PAGE_LENGTH;
 
 /// The letters at the front of a code file.
 pub(crate) const LETTERS: &[u8; 8] = b"SEQCODE1";
@@ -72,7 +71,7 @@ fn instr_byte_may_stand(number: u8, at: usize, byte: u8) -> bool
     ensures { result ≡ instr_byte_may_stand number at byte }
 {
     match at {
-        0 => byte < 38,
+        0 => Op::at(byte).is_some(),
         1 | 2 => uses_a(number) || byte == 0,
         _ => uses_b(number) || byte == 0,
     }
@@ -114,10 +113,10 @@ fn file_end(bytes: &[u8]) -> usize
     end + (PAGE_LENGTH - end % PAGE_LENGTH) % PAGE_LENGTH
 }
 
-/// The number in two bytes.
+/// The number in the bytes at a place and the next, as far as they are there.
 pub(crate) fn count_at(bytes: &[u8], place: usize) -> usize
     requires { place < 2 ^ 21 }
-    ensures count { result ≡ count_at bytes.now place }
+    ensures count { result ≡ number_at bytes.now place }
     ensures bound { result < 2 ^ 16 }
 {
     byte_at(bytes, place) as usize * 256 + byte_at(bytes, place + 1) as usize

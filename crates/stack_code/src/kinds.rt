@@ -1,10 +1,10 @@
 ghost use Rattle.std.specs.Prelude.{◌≡◌, ◌<◌, ◌≤◌};
 ghost use Rattle.stack_code.specs.Rules.{is_jump, is_tick, is_call, may_be_last, leaves_nothing, pops, pushes};
-ghost use Rattle.stack_code.specs.Interface.{values_of, results_of};
+ghost use Rattle.solo_base.specs.Interface.{values_of, results_of};
 
-use crate::interface::call_row;
 use crate::places::routine_at;
 use crate::{Code, Op};
+use solo_base::call_row;
 
 pub(crate) fn is_jump(op: Op) -> bool
     ensures { result ≡ is_jump op }

@@ -1,11 +1,11 @@
 ghost use Rattle.std.specs.Prelude.{◌≡◌, ◌<◌, ◌≤◌, ◌^◌, length};
 ghost use Rattle.stack_code.specs.CodeLists.{IsCode};
-ghost use Rattle.stack_code.specs.Rules.{starts_well, routine_is_good, word_fits, array_fits, call_array_fits, bounds_fit, jump_fits, operands_fit, is_target, height_fits};
+ghost use Rattle.stack_code.specs.Rules.{starts_well, routine_is_good, word_fits, reference_fits, array_fits, call_array_fits, bounds_fit, jump_fits, operands_fit, is_target, height_fits};
 
-use crate::interface::call_row;
 use crate::kinds::{is_jump, is_tick, leaves_nothing, pops, pushes};
 use crate::places::{instr_at, own_words, program_words, routine_at, routine_of};
 use crate::{Code, Instr, Op};
+use solo_base::call_row;
 
 /// Whether no rule on a routine is broken.
 pub(crate) fn routine_is_good(code: &Code, k: usize) -> bool
@@ -37,8 +37,9 @@ pub(crate) fn operands_fit(code: &Code, place: usize, instr: Instr) -> bool
 {
     let Instr { op, a, b } = instr;
     match op {
-        Op::LoadG | Op::StoreG => a < program_words(code),
-        Op::LoadL | Op::StoreL => a < own_words(code, place),
+        Op::LoadG | Op::StoreG | Op::RefG => a < program_words(code),
+        Op::LoadL | Op::StoreL | Op::RefL => a < own_words(code, place),
+        Op::LoadR | Op::StoreR => reference_fits(own_words(code, place), a),
         Op::LoadGX | Op::StoreGX => array_fits(program_words(code), a, b),
         Op::LoadLX | Op::StoreLX => array_fits(own_words(code, place), a, b),
         Op::Index => bounds_fit(a, b),
@@ -51,6 +52,12 @@ pub(crate) fn operands_fit(code: &Code, place: usize, instr: Instr) -> bool
         Op::Halt => routine_of(code, place) == 0,
         _ => true,
     }
+}
+
+fn reference_fits(words: u16, a: u16) -> bool
+    ensures { result ≡ reference_fits words a }
+{
+    u32::from(a) + 1 < u32::from(words)
 }
 
 fn array_fits(words: u16, a: u16, b: u16) -> bool

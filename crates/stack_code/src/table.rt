@@ -42,6 +42,10 @@ pub enum Op {
     Halt,
     Succ,
     Pred,
+    RefG,
+    RefL,
+    LoadR,
+    StoreR,
 }
 
 /// What the table says of an operation.
@@ -97,6 +101,10 @@ macro_rules! table {
             35 Halt "HALT" () 0 0;
             36 Succ "SUCC" () 1 1;
             37 Pred "PRED" () 1 1;
+            38 RefG "REFG" (a) 0 2;
+            39 RefL "REFL" (a) 0 2;
+            40 LoadR "LOADR" (a) 0 1;
+            41 StoreR "STORER" (a) 1 0;
         }
     };
 }
@@ -153,7 +161,7 @@ impl Op {
         table!(name_of self)
     }
 
-    /// The operation with this number, or `None` from 38 on.
+    /// The operation with this number, or `None` behind the last.
     pub fn at(number: u8) -> Option<Op>
         ensures { result ≡ op_at number }
     {

@@ -88,6 +88,27 @@ fn the_code_of_a_write_has_its_bytes_and_its_listing(rt: HostRuntime) -> Result<
 }
 
 #[test]
+fn a_reference_has_its_bytes_and_its_listing(rt: HostRuntime) -> Result<(), Fail> {
+    let instrs = [
+        [29, 0, 1],
+        [0, 5, 0],
+        [3, 0, 0],
+        [40, 0, 0],
+        [3, 1, 0],
+        [35, 0, 0],
+    ];
+    let bytes = code_file(rt.alloc(), &[[0, 0, 0, 2, 1]], &instrs)?;
+    let code = decode(rt.alloc(), &bytes).ok().ok_or("the bytes are code")?;
+    let again = encode(rt.alloc(), &code).ok().ok_or("there is memory")?;
+    assert_eq!(rt; again.as_slice(), bytes.as_slice());
+    assert!(rt; front(&again, 40).ends_with(&[0x28, 0, 0, 0, 0]));
+    let lines = listing(rt.alloc(), &code).ok().ok_or("there is memory")?;
+    assert_eq!(rt; lines.len(), 6);
+    assert_eq!(rt; lines.get(3).bytes(), b"LOADR 0 0".as_slice());
+    Ok(())
+}
+
+#[test]
 fn a_file_is_refused_at_its_least_wrong_byte(rt: HostRuntime) -> Result<(), Fail> {
     // BEGIN END.
     let mut bytes = code_file(rt.alloc(), &[[0, 0, 0, 0, 0]], &[[35, 0, 0]])?;
@@ -103,7 +124,7 @@ fn a_file_is_refused_at_its_least_wrong_byte(rt: HostRuntime) -> Result<(), Fail
         (10, 0x20, 10), // 8,193 instructions
         (11, 0x00, 10), // no instruction
         (15, 0x02, 15), // a function's mark of 2
-        (20, 0x26, 20), // operation 38
+        (20, 0x2A, 20), // operation 42
         (22, 0x01, 22), // an unused operand
         (24, 0x01, 24),
         (25, 0x01, 25), // the first byte of the padding
@@ -187,6 +208,51 @@ fn code_is_refused_at_its_first_broken_record(rt: HostRuntime) -> Result<(), Fai
             one,
             &[[29, 0, 1], [0, 1, 0], [29, 0, 2], [3, 0, 0], [27, 2, 0]],
             Some(30),
+        ),
+        // a reference to the program's last word and behind it, one to an own word and behind it
+        (one, &[[38, 1, 0], [3, 0, 0], [3, 0, 0], [35, 0, 0]], None),
+        (one, &[[38, 2, 0], [35, 0, 0]], Some(20)),
+        (
+            &[[0, 0, 0, 1, 2], [1, 0, 0, 2, 2]],
+            &[[35, 0, 0], [39, 1, 0], [4, 0, 0], [4, 0, 0], [31, 0, 0]],
+            None,
+        ),
+        (
+            &[[0, 0, 0, 3, 2], [1, 0, 0, 2, 2]],
+            &[[35, 0, 0], [39, 2, 0], [4, 0, 0], [4, 0, 0], [31, 0, 0]],
+            Some(33),
+        ),
+        // the second word of a reference lies behind the frame, and there is room for one word where two are
+        // pushed
+        (
+            &[[0, 0, 0, 2, 1]],
+            &[
+                [29, 0, 1],
+                [0, 5, 0],
+                [3, 0, 0],
+                [40, 0, 0],
+                [3, 1, 0],
+                [35, 0, 0],
+            ],
+            None,
+        ),
+        (
+            &[[0, 0, 0, 1, 1]],
+            &[
+                [29, 0, 1],
+                [0, 5, 0],
+                [3, 0, 0],
+                [40, 0, 0],
+                [3, 0, 0],
+                [35, 0, 0],
+            ],
+            Some(35),
+        ),
+        (one, &[[0, 1, 0], [41, 1, 0], [35, 0, 0]], Some(25)),
+        (
+            &[[0, 0, 0, 2, 1]],
+            &[[38, 0, 0], [3, 0, 0], [3, 0, 0], [35, 0, 0]],
+            Some(20),
         ),
         // an interface row with an array by SYS, one without by SYSG
         (one, &[[32, 10, 0], [35, 0, 0]], Some(20)),

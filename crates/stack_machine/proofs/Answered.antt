@@ -9,44 +9,30 @@ use mir.Val.{to_z, of_z}
 use Rattle.solo_base.specs.declared.system_call.SysReply.{SysReply}
 use Rattle.solo_base.specs.declared.system_call.SysReply.TheVariants as replies
 use Rattle.stack_code.specs.declared.instr.Instr.{Instr}
-use Rattle.stack_code.specs.Interface.{values_of}
+use Rattle.solo_base.specs.Interface.{values_of}
 use Rattle.stack_code.specs.Rules.{pops}
 use Rattle.stack_code.specs.CodeLists.{CodeLists, instr_at, no_instr}
-use Rattle.stack_machine.specs.declared.activation.Activation.{Activation}
 use Rattle.stack_machine.specs.declared.state.State.{State}
-use Rattle.stack_machine.specs.State.{words_of, with_words, program_words_of, with_program_words}
+use Rattle.stack_machine.specs.State.{words_of, with_words}
 use Rattle.stack_machine.specs.Machine.{set_array, reply_at, answered}
 use Rattle.stack_machine.specs.Room.{TakesReply, HasRoomFor}
+use Rattle.stack_machine.proofs.Frames.{again_at, back_at, same_at}
 
 -- ---- Words written again
 
-again_program : (s : State) (below : List Activation) (first second : List ℤ) → s.below ≡ below
-    → with_program_words (with_program_words s below first) (with_program_words s below first).below second ≡ with_program_words s below second
-again_program s [] first second same = ap (λ (b : List Activation). with_program_words (record s { current = record s.current { words = first } }) b second) same
-again_program s (program ∷ others) first second same = refl
-
 -- a second write stands alone
 pub written_again : (program : Bool) (s : State) (first second : List ℤ) → with_words program (with_words program s first) second ≡ with_words program s second
-written_again true s first second = again_program s s.below first second refl
+written_again true s first second = again_at s 0 first second
 written_again false s first second = refl
-
-program_words_back : (s : State) (below : List Activation) (words : List ℤ) → s.below ≡ below
-    → program_words_of (with_program_words s below words).below (with_program_words s below words).current ≡ words
-program_words_back s [] words same = ap (λ (b : List Activation). program_words_of b (record s.current { words = words })) same
-program_words_back s (program ∷ others) words same = refl
 
 -- what was written is read
 pub words_back : (program : Bool) (s : State) (words : List ℤ) → words_of program (with_words program s words) ≡ words
-words_back true s words = program_words_back s s.below words refl
+words_back true s words = back_at s 0 words (omega arith)
 words_back false s words = refl
-
-program_words_same : (s : State) (below : List Activation) → s.below ≡ below → with_program_words s below (program_words_of below s.current) ≡ s
-program_words_same s [] same = refl
-program_words_same s (program ∷ others) same = ap (λ (b : List Activation). record s { below = b }) (sym same)
 
 -- the same words change nothing
 pub words_same : (program : Bool) (s : State) → with_words program s (words_of program s) ≡ s
-words_same true s = program_words_same s s.below refl
+words_same true s = same_at s 0
 words_same false s = refl
 
 -- ---- An array that is set

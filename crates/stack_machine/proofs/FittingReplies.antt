@@ -6,12 +6,14 @@ use Rattle.solo_base.specs.declared.system_call.SysCall.{SysCall}
 use Rattle.solo_base.specs.declared.system_call.SysCall.TheVariants as calls
 use Rattle.solo_base.specs.declared.system_call.SysReply.{SysReply}
 use Rattle.solo_base.specs.declared.system_call.SysReply.TheVariants as replies
-use Rattle.stack_code.specs.declared.interface.Procedure.{Procedure}
-use Rattle.stack_code.specs.declared.interface.Procedure.TheVariants as row
-use Rattle.stack_code.specs.declared.interface.CallRow.{CallRow}
-use Rattle.stack_code.specs.Interface.{call_row_of}
-use Rattle.stack_machine.specs.Calls.{Request, Makes, OutOfRange, LacksValue, byte_of, write_of, are_bytes, request, results_in, array_in, ticks_in}
-use Rattle.stack_machine.specs.Fits.{Fits}
+use Rattle.solo_base.specs.declared.interface.Procedure.{Procedure}
+use Rattle.solo_base.specs.declared.interface.Procedure.TheVariants as row
+use Rattle.solo_base.specs.declared.interface.CallRow.{CallRow}
+use Rattle.solo_base.specs.Interface.{call_row_of}
+use Rattle.solo_base.specs.Arithmetic.{byte_of, are_bytes}
+use Rattle.solo_base.specs.Replies.{results_in, array_in, ticks_in}
+use Rattle.stack_machine.specs.Calls.{Request, Makes, OutOfRange, LacksValue, write_of, request}
+use Rattle.solo_base.specs.Fits.{Fits}
 
 -- ---- Replies that fit
 
@@ -59,11 +61,11 @@ completes (calls.Close f) replies.Done fits = record { results = refl; array = o
 completes (calls.Put f p page) replies.Done fits = record { results = refl; array = omega arith; ticks = omega arith }
 completes (calls.WriteArg tag number name) replies.Done fits = record { results = refl; array = omega arith; ticks = omega arith }
 completes (calls.Open f name) (replies.Opened found) fits = record { results = refl; array = omega arith; ticks = omega arith }
-completes (calls.Get f p) (replies.Page page) fits = record { results = refl; array = omega (arith, length-map {A = ℕ} {B = ℤ}, fits.0); ticks = omega arith }
+completes (calls.Get f p) (replies.Page page) fits = record { results = refl; array = omega (arith, length-map {A = ℕ} {B = ℤ}, fits.as_many); ticks = omega arith }
 completes (calls.Length f) (replies.Length pages) fits = record { results = refl; array = omega arith; ticks = omega arith }
 completes (calls.Lookup name) (replies.Found kind found) fits = record { results = refl; array = omega arith; ticks = omega arith }
-completes calls.ReadArg (replies.Argument tag number name) fits = record { results = refl; array = omega (arith, length-map {A = ℕ} {B = ℤ}, fits.0); ticks = omega arith }
-completes (calls.Run name left) (replies.Ran line number ticks) fits = record { results = refl; array = omega arith; ticks = omega (arith, fits) }
+completes calls.ReadArg (replies.Argument tag number name) fits = record { results = refl; array = omega (arith, length-map {A = ℕ} {B = ℤ}, fits.0.as_many); ticks = omega arith }
+completes (calls.Run name left) (replies.Ran line number ticks) fits = record { results = refl; array = omega arith; ticks = omega (arith, fits.0) }
 completes call other fits = absurd fits
 
 -- ---- Requests

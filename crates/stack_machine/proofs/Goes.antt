@@ -1,17 +1,19 @@
 -- What may come of a row of the table.
-use Rattle.std.proofs.Common.{◌≡◌, ℕ, ◌+◌, Bool, true, false, cond, Option, Some, None, List, [], ◌∷◌, length, ltb, leb, ℤ, pos, refl, sym, ap}
+use Rattle.std.proofs.Common.{◌≡◌, ℕ, zero, suc, ◌+◌, Bool, true, false, cond, Option, Some, None, List, [], ◌∷◌, length, ltb, leb, ℤ, pos, negsuc, refl, ap}
 use Rattle.std.specs.Prelude.{slice_get, slice_set, ◌-◌, ◌&&◌, take, drop, int_le}
 use Rattle.std.specs.Int.{w16, cast_signed}
 use Rattle.solo_base.specs.declared.outcome.ProgResult.TheVariants as result
-use Rattle.stack_code.specs.declared.interface.Procedure.{Procedure}
-use Rattle.stack_code.specs.Interface.{procedure_at, call_row_of}
+use Rattle.solo_base.specs.declared.interface.Procedure.{Procedure}
+use Rattle.solo_base.specs.Interface.{procedure_at, call_row_of}
 use Rattle.stack_code.specs.CodeLists.{CodeLists, routine_at}
 use Rattle.stack_machine.specs.declared.activation.Activation.{Activation}
 use Rattle.stack_machine.specs.declared.state.State.{State}
-use Rattle.stack_machine.specs.State.{Next, Goes, Asks, Lacks, push, has_room, words_of, with_words, with_program_words, advance, stop}
-use Rattle.stack_machine.specs.Effects.{replace, unary, binary, store, load, load_at, store_at, load_element, store_element, replace_found, push_found, index_in, index, difference, chr}
+use Rattle.stack_machine.specs.Activations.{waiting_with}
+use Rattle.stack_machine.specs.State.{Next, Goes, Asks, Lacks, push, has_room, words_at, with_words_at, words_of, with_words, advance, stop}
+use Rattle.solo_base.specs.Arithmetic.{difference}
+use Rattle.stack_machine.specs.Effects.{replace, unary, binary, store, load, load_at, store_at, load_element, store_element, replace_found, push_found, index_in, index, chr, refer, words_named, word_named, push_named, load_named, load_reference, write_named, store_named, store_reference}
 use Rattle.stack_machine.specs.Calls.{Request, Makes, OutOfRange, LacksValue, made, ask_row, sys, request}
-use Rattle.stack_machine.proofs.Weights.{weights}
+use Rattle.stack_machine.proofs.Weights.{weight, weights}
 
 -- the next place, with the same ticks and the same places of the waiting activations
 pub record IsNextPlace (c : CodeLists) (s t : State) : Type 0 where
@@ -80,12 +82,20 @@ load_at_moves c program s a b (i ∷ rest) = element_moves c program s a rest (i
 -- ---- Writes to a frame
 
 -- a write to a frame changes no place
-program_written : (c : CodeLists) (s : State) (below : List Activation) (words operands : List ℤ) → s.below ≡ below → IsNextPlace c s (advance (with_program_words s below words) operands)
-program_written c s [] words operands same = record { ticks = refl; waiting = refl; place = refl }
-program_written c s (program ∷ others) words operands same = record { ticks = refl; waiting = ap (weights c) (sym same); place = refl }
+waiting_places : (c : CodeLists) (below : List Activation) (number : ℕ) (words : List ℤ) → weights c (waiting_with below number words) ≡ weights c below
+waiting_places c [] number words = refl
+waiting_places c (a ∷ above) zero words = refl
+waiting_places c (a ∷ above) (suc number) words = ap (λ n. weight c a.place + n) (waiting_places c above number words)
+
+pub written_at : (c : CodeLists) (s : State) (number : ℕ) (words operands : List ℤ) → IsNextPlace c s (advance (with_words_at s number words) operands)
+written_at c s number words operands = record {
+  ticks = refl;
+  waiting = waiting_places c s.below number words;
+  place = refl;
+}
 
 pub written : (c : CodeLists) (program : Bool) (s : State) (words operands : List ℤ) → IsNextPlace c s (advance (with_words program s words) operands)
-written c true s words operands = program_written c s s.below words operands refl
+written c true s words operands = written_at c s 0 words operands
 written c false s words operands = record { ticks = refl; waiting = refl; place = refl }
 
 pub store_moves : (c : CodeLists) (program : Bool) (s : State) (a : ℕ) (operands : List ℤ) → MovesOn c s (store program s a operands)
@@ -101,6 +111,41 @@ pub store_at_moves : (c : CodeLists) (program : Bool) (s : State) (a b : ℕ) (o
 store_at_moves c program s a b [] = tt
 store_at_moves c program s a b (word ∷ []) = tt
 store_at_moves c program s a b (word ∷ i ∷ rest) = stored c program s a word rest (index_in i b)
+
+-- ---- References
+
+pub refer_moves : (c : CodeLists) (s : State) (number a : ℕ) → MovesOn c s (refer c s number a)
+refer_moves c s number a =
+    let operands = cast_signed w16 a ∷ pos number ∷ s.current.operands in
+    chosen c s (ltb (length s.current.operands + 1) (routine_at c s.current.routine).height) (Goes (advance s operands)) Lacks (advanced c s operands) tt
+
+named_moves : (c : CodeLists) (s : State) (word : Option ℤ) → MovesOn c s (push_named c s word)
+named_moves c s (Some word) = push_moves c s word
+named_moves c s None = tt
+
+reference_moves : (c : CodeLists) (s : State) (number place : Option ℤ) → MovesOn c s (load_named c s number place)
+reference_moves c s (Some number) (Some place) = named_moves c s (word_named (words_named s number) place)
+reference_moves c s (Some number) None = tt
+reference_moves c s None place = tt
+
+pub load_reference_moves : (c : CodeLists) (s : State) (a : ℕ) → MovesOn c s (load_reference c s a)
+load_reference_moves c s a = reference_moves c s (slice_get s.current.words a) (slice_get s.current.words (a + 1))
+
+named_written : (c : CodeLists) (s : State) (number place word : ℤ) (rest : List ℤ) → MovesOn c s (write_named s number place word rest)
+named_written c s (pos number) (pos place) word rest =
+    let words = words_at s number in
+    chosen c s (ltb place (length words)) (Goes (advance (with_words_at s number (slice_set words place word)) rest)) (stop s result.RangeError) (written_at c s number (slice_set words place word) rest) tt
+named_written c s (pos number) (negsuc place) word rest = tt
+named_written c s (negsuc number) place word rest = tt
+
+reference_written : (c : CodeLists) (s : State) (number place : Option ℤ) (word : ℤ) (rest : List ℤ) → MovesOn c s (store_named s number place word rest)
+reference_written c s (Some number) (Some place) word rest = named_written c s number place word rest
+reference_written c s (Some number) None word rest = tt
+reference_written c s None place word rest = tt
+
+pub store_reference_moves : (c : CodeLists) (s : State) (a : ℕ) (operands : List ℤ) → MovesOn c s (store_reference s a operands)
+store_reference_moves c s a [] = tt
+store_reference_moves c s a (word ∷ rest) = reference_written c s (slice_get s.current.words a) (slice_get s.current.words (a + 1)) word rest
 
 -- ---- Calls
 

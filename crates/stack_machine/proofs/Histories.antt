@@ -1,7 +1,8 @@
 -- The histories that a machine stands for, from pause to pause.
-use Rattle.std.proofs.Common.{◌≡◌, ℕ, zero, suc, Some, None, ℤ, pos, List, [], ◌∷◌, ◌++◌, refl, sym, subst}
+use Rattle.std.proofs.Common.{◌≡◌, ℕ, zero, suc, Some, None, ℤ, pos, List, [], ◌∷◌, ◌++◌, refl, sym, ◌∙◌, ap, append_assoc, subst}
 use Rattle.std.specs.Prelude.{replicate}
 use Rattle.std.proofs.lemmas.List.{append-nil}
+use Rattle.std.proofs.lemmas.Option.{none-some}
 use Rattle.solo_base.specs.declared.system_call.SysCall.{SysCall}
 use Rattle.solo_base.specs.declared.system_call.SysReply.{SysReply}
 use Rattle.stack_code.specs.CodeLists.{CodeLists, routine_at}
@@ -14,9 +15,10 @@ use Rattle.stack_machine.specs.State.{Asks}
 use Rattle.stack_machine.specs.Machine.{next, start_state, answered}
 use Rattle.stack_machine.specs.Run.{Moves, LeadsToCall, LeadsToEnd, Pauses, Replied, RunsFrom, Runs}
 use Rattle.stack_machine.specs.Standing.{Standing}
-use Rattle.stack_machine.specs.History.{WentOn, RunsOn, HasEnded, StandsFor, outcome_at}
+use Rattle.stack_machine.specs.History.{WentOn, RunsOn, HasEnded, StandsFor, outcome_at, CameTo}
 use Rattle.stack_machine.proofs.Onward.{has_ended}
 use Rattle.stack_machine.proofs.Pauses.{one_end, no_call_at_end}
+use Rattle.stack_machine.proofs.Reply.{goes_running}
 use Rattle.stack_machine.proofs.Rounds.{replied_more}
 
 -- ---- Further on
@@ -92,3 +94,46 @@ stands_answered m call reply replies calls asks stands =
       replied = replied_more m.code m.limit (start_state m.code) stands.begun m.state replies calls reply call stands.replied (call_asked m.code m.limit stands.begun m.state call stands.went_on asks);
       went_on = RunsOn 0 refl;
     }
+
+-- ---- A history goes on
+
+-- a program that has ended goes nowhere
+stays_ended : (c : CodeLists) (limit steps : ℕ) (b s t : State) (finish : Finish) → s.ended ≡ Some finish → LeadsToEnd c limit b finish.result finish.line finish.ticks → Moves c limit steps s t → WentOn c limit b t
+stays_ended c limit zero b s t finish ended leads same = HasEnded finish (ap (λ (v : State). v.ended) (sym same) ∙ ended) leads
+stays_ended c limit (suc steps) b s t finish ended leads (mid, goes, others) =
+    absurd (none-some finish (sym (goes_running c limit s mid goes) ∙ ended))
+
+went_further : (c : CodeLists) (limit : ℕ) (b s t : State) → WentOn c limit b s → WentOn c limit s t → WentOn c limit b t
+went_further c limit b s t (RunsOn n first) (RunsOn m others) = RunsOn (and_then n m) (moves_on c limit n m b s t first others)
+went_further c limit b s t (RunsOn n first) (HasEnded finish ended leads) = HasEnded finish ended (end_from c limit n b s finish first leads)
+went_further c limit b s t (HasEnded finish ended leads) (RunsOn m others) = stays_ended c limit m b s t finish ended leads others
+went_further c limit b s t (HasEnded finish ended leads) (HasEnded again ended' leads') = HasEnded again ended' (end_again c limit b s finish again ended leads leads')
+
+call_further : (c : CodeLists) (limit : ℕ) (b s t : State) (call : SysCall) → WentOn c limit b s → LeadsToCall c limit s call t → LeadsToCall c limit b call t
+call_further c limit b s t call went leads = went_to_pause c limit b s t (pause.Call call) went leads
+
+-- a machine that stood for a history stands for it with the replies and calls by which its program went on
+came_from : (c : CodeLists) (limit : ℕ) (s t begun : State) (replies : List SysReply) (calls : List SysCall) (before : List SysReply) (asked : List SysCall)
+    → Replied c limit s replies calls begun → WentOn c limit begun t → StandsFor (record { code = c; limit = limit; state = s }) before asked
+    → StandsFor (record { code = c; limit = limit; state = t }) (before ++ replies) (asked ++ calls)
+came_from c limit s t begun [] [] before asked same went stands =
+    rw (append-nil before, append-nil asked) (record {
+      begun = stands.begun;
+      replied = stands.replied;
+      went_on = went_further c limit stands.begun s t stands.went_on (subst (λ (v : State). WentOn c limit v t) (sym same) went);
+    })
+came_from c limit s t begun [] (call ∷ calls) before asked replied went stands = absurd replied
+came_from c limit s t begun (reply ∷ replies) [] before asked replied went stands = absurd replied
+came_from c limit s t begun (reply ∷ replies) (call ∷ calls) before asked (there, first, others) went stands =
+    let once : StandsFor (record { code = c; limit = limit; state = answered c there reply }) (before ++ reply ∷ []) (asked ++ call ∷ []) = record {
+      begun = answered c there reply;
+      replied = replied_more c limit (start_state c) stands.begun there before asked reply call stands.replied (call_further c limit stands.begun s there call stands.went_on first);
+      went_on = RunsOn 0 refl;
+    } in
+    let all = came_from c limit (answered c there reply) t begun replies calls (before ++ reply ∷ []) (asked ++ call ∷ []) others went once in
+    subst (λ (c' : List SysCall). StandsFor (record { code = c; limit = limit; state = t }) (before ++ reply ∷ replies) c') (append_assoc asked (call ∷ []) calls)
+    (subst (λ (r : List SysReply). StandsFor (record { code = c; limit = limit; state = t }) r ((asked ++ call ∷ []) ++ calls)) (append_assoc before (reply ∷ []) replies) all)
+
+pub stands_further : (m : Standing) (t : State) (replies : List SysReply) (calls : List SysCall) (before : List SysReply) (asked : List SysCall) → CameTo m.code m.limit m.state replies calls t → StandsFor m before asked
+    → StandsFor (record { code = m.code; limit = m.limit; state = t }) (before ++ replies) (asked ++ calls)
+stands_further m t replies calls before asked came stands = came_from m.code m.limit m.state t came.begun replies calls before asked came.replied came.went_on stands

@@ -1,5 +1,5 @@
 -- What keeps a program running: steps along the straight line, jumps, writes to frames, calls and returns.
-use Rattle.std.proofs.Common.{◌≡◌, ℕ, ◌+◌, ◌-◌, ◌<◌, ◌≤◌, Bool, true, false, List, [], ◌∷◌, ◌++◌, length, take, ℤ, pos, refl, sym, ◌∙◌, ap, arith, subst}
+use Rattle.std.proofs.Common.{◌≡◌, ℕ, zero, suc, ◌+◌, ◌-◌, ◌<◌, ◌≤◌, Bool, true, false, List, [], ◌∷◌, ◌++◌, length, take, ℤ, pos, refl, sym, ◌∙◌, ap, arith, subst}
 use Rattle.std.specs.Prelude.{reverse, replicate}
 use Rattle.std.proofs.lemmas.List.{length-append, length-take, length-drop, length-reverse, length-replicate}
 use Rattle.stack_code.specs.CodeFile.{mark}
@@ -7,9 +7,10 @@ use Rattle.stack_code.specs.CodeLists.{CodeLists, routine_at}
 use Rattle.stack_code.specs.Rules.{IsGood, routine_of, height_at, program_words}
 use Rattle.stack_machine.specs.declared.activation.Activation.{Activation}
 use Rattle.stack_machine.specs.declared.state.State.{State}
-use Rattle.stack_machine.specs.State.{advance, jump_to, words_of, with_words, program_words_of, with_program_words}
-use Rattle.stack_machine.specs.Activations.{opened, waiting_caller}
+use Rattle.stack_machine.specs.State.{advance, jump_to, words_at, with_words_at, words_of, with_words}
+use Rattle.stack_machine.specs.Activations.{opened, waiting_caller, words_from, waiting_with, own_with}
 use Rattle.stack_machine.specs.Safe.{IsAtPlace, Waits, lowest_routine, AreWaiting, IsRunning}
+use Rattle.stack_machine.proofs.Frames.{own_length, as_many_wait}
 use Rattle.stack_machine.proofs.Obedience.{GoesOn, height_is_low}
 use Rattle.stack_machine.proofs.Routines.{is_routine, start_is_own, start_is_empty}
 
@@ -58,28 +59,37 @@ resized c a more words at same = record {
   height = at.height;
 }
 
-frame_of : (c : CodeLists) (below : List Activation) (current : Activation) → AreWaiting c below current.routine → lowest_routine below current.routine ≡ 0 → length current.words ≡ (routine_at c current.routine).words → length (program_words_of below current) ≡ program_words c
+frame_of : (c : CodeLists) (below : List Activation) (current : Activation) → AreWaiting c below current.routine → lowest_routine below current.routine ≡ 0 → length current.words ≡ (routine_at c current.routine).words → length (words_from below current.words 0) ≡ program_words c
 frame_of c [] current waiting program words = words ∙ ap (λ r. (routine_at c r).words) program
 frame_of c (a ∷ above) current waiting program words = waiting.0.place.words ∙ ap (λ r. (routine_at c r).words) program
 
 -- the frame of the program has its words
-pub program_frame : (c : CodeLists) (limit : ℕ) (s : State) → IsRunning c limit s → length (program_words_of s.below s.current) ≡ program_words c
+pub program_frame : (c : CodeLists) (limit : ℕ) (s : State) → IsRunning c limit s → length (words_at s 0) ≡ program_words c
 program_frame c limit s running = frame_of c s.below s.current running.waiting running.program running.current.words
 
-program_rewritten : (c : CodeLists) (limit : ℕ) (s : State) (below : List Activation) (words : List ℤ) → s.below ≡ below → IsRunning c limit s → length words ≡ length (program_words_of below s.current) → IsRunning c limit (with_program_words s below words)
-program_rewritten c limit s [] words e running same = with_current c limit s running (record s.current { words = words }) s.ticks refl (resized c s.current 0 words running.current same) running.ticks
-program_rewritten c limit s (program ∷ above) words e running same =
-    let waiting : AreWaiting c (program ∷ above) s.current.routine = subst (λ (b : List Activation). AreWaiting c b s.current.routine) e running.waiting in
-    record {
-      current = running.current;
-      waiting = (record { not_program = waiting.0.not_program; place = resized c program _ words waiting.0.place same }, waiting.1);
-      program = subst (λ (b : List Activation). lowest_routine b s.current.routine ≡ 0) e running.program;
-      open_activations = subst (λ (b : List Activation). length b ≤ 63) e running.open_activations;
-      ticks = running.ticks;
-    }
+lowest_rewritten : (below : List Activation) (number : ℕ) (words : List ℤ) (called : ℕ) → lowest_routine (waiting_with below number words) called ≡ lowest_routine below called
+lowest_rewritten [] number words called = refl
+lowest_rewritten (a ∷ above) zero words called = refl
+lowest_rewritten (a ∷ above) (suc number) words called = refl
+
+waiting_rewritten : (c : CodeLists) (below : List Activation) (own : List ℤ) (number : ℕ) (words : List ℤ) (called : ℕ) → length words ≡ length (words_from below own number) → AreWaiting c below called → AreWaiting c (waiting_with below number words) called
+waiting_rewritten c [] own number words called same waiting = waiting
+waiting_rewritten c (a ∷ above) own zero words called same waiting = (record { not_program = waiting.0.not_program; place = resized c a _ words waiting.0.place same }, waiting.1)
+waiting_rewritten c (a ∷ above) own (suc number) words called same waiting =
+    (rw (lowest_rewritten above number words called) waiting.0, waiting_rewritten c above own number words called same waiting.1)
+
+-- a write to the frame of any activation keeps the program running
+pub rewritten_at : (c : CodeLists) (limit : ℕ) (s : State) (number : ℕ) (words : List ℤ) → IsRunning c limit s → length words ≡ length (words_at s number) → IsRunning c limit (with_words_at s number words)
+rewritten_at c limit s number words running same = record {
+  current = resized c s.current 0 (own_with s.below s.current.words number words) running.current (own_length s.below s.current.words number words same);
+  waiting = waiting_rewritten c s.below s.current.words number words s.current.routine same running.waiting;
+  program = lowest_rewritten s.below number words s.current.routine ∙ running.program;
+  open_activations = omega (arith, running.open_activations, as_many_wait s.below number words);
+  ticks = running.ticks;
+}
 
 pub rewritten : (c : CodeLists) (limit : ℕ) (s : State) (program : Bool) (words : List ℤ) → IsRunning c limit s → length words ≡ length (words_of program s) → IsRunning c limit (with_words program s words)
-rewritten c limit s true words running same = program_rewritten c limit s s.below words refl running same
+rewritten c limit s true words running same = rewritten_at c limit s 0 words running same
 rewritten c limit s false words running same = with_current c limit s running (record s.current { words = words }) s.ticks refl (resized c s.current 0 words running.current same) running.ticks
 
 -- what a write to a frame leaves as it was
@@ -88,12 +98,8 @@ pub record IsBeside (s t : State) : Type 0 where
   pub ended : t.ended ≡ s.ended
   pub ticks : t.ticks ≡ s.ticks
 
-program_is_beside : (s : State) (below : List Activation) (words : List ℤ) → IsBeside s (with_program_words s below words)
-program_is_beside s [] words = record { place = refl; ended = refl; ticks = refl }
-program_is_beside s (program ∷ above) words = record { place = refl; ended = refl; ticks = refl }
-
 pub is_beside : (s : State) (program : Bool) (words : List ℤ) → IsBeside s (with_words program s words)
-is_beside s true words = program_is_beside s s.below words
+is_beside s true words = record { place = refl; ended = refl; ticks = refl }
 is_beside s false words = record { place = refl; ended = refl; ticks = refl }
 
 -- ---- The activations that wait

@@ -5,6 +5,7 @@ pub mod Parts
 pub mod Pages
 pub mod Routines
 pub mod Obedience
+pub mod Frames
 pub mod Kept
 pub mod Standing
 pub mod Shapes

@@ -25,7 +25,7 @@ use Rattle.stack_machine.specs.Operators.{unary_of, binary_of}
 use Rattle.stack_machine.specs.Machine.{effect, next, next_by, next_of}
 use Rattle.stack_machine.proofs.Weights.{size, weight, weights, price, left_to_run, some_weight, heaviest, next_is_lighter, target_is_lighter, call_is_lighter}
 use Rattle.stack_machine.proofs.Starts.{start_is_unticked}
-use Rattle.stack_machine.proofs.Goes.{IsNextPlace, MovesOn, unary_moves, binary_moves, push_moves, load_moves, chr_moves, index_moves, load_at_moves, store_moves, store_at_moves, sys_moves}
+use Rattle.stack_machine.proofs.Goes.{IsNextPlace, MovesOn, unary_moves, binary_moves, push_moves, load_moves, chr_moves, index_moves, load_at_moves, store_moves, store_at_moves, refer_moves, load_reference_moves, store_reference_moves, sys_moves}
 
 -- an instruction at a place of the code that is no TICK
 pub record IsNoTick (c : CodeLists) (place : ℕ) : Type 0 where
@@ -215,6 +215,10 @@ row_falls c limit s op.SysL a b good at = moves_fall c limit s _ (no_tick_at c _
 row_falls c limit s op.Halt a b good at = tt
 row_falls c limit s op.Succ a b good at = moves_fall c limit s _ (no_tick_at c _ _ _ _ at refl) (unary_moves c (unary_of op.Succ) s s.current.operands)
 row_falls c limit s op.Pred a b good at = moves_fall c limit s _ (no_tick_at c _ _ _ _ at refl) (unary_moves c (unary_of op.Pred) s s.current.operands)
+row_falls c limit s op.RefG a b good at = moves_fall c limit s _ (no_tick_at c _ _ _ _ at refl) (refer_moves c s 0 a)
+row_falls c limit s op.RefL a b good at = moves_fall c limit s _ (no_tick_at c _ _ _ _ at refl) (refer_moves c s (length s.below) a)
+row_falls c limit s op.LoadR a b good at = moves_fall c limit s _ (no_tick_at c _ _ _ _ at refl) (load_reference_moves c s a)
+row_falls c limit s op.StoreR a b good at = moves_fall c limit s _ (no_tick_at c _ _ _ _ at refl) (store_reference_moves c s a s.current.operands)
 
 behind_from : (calls behind : Bool) → (not calls || behind) ≡ true → calls ≡ true → behind ≡ true
 behind_from true behind fits is = fits

@@ -5,7 +5,7 @@ use Rattle.std.specs.List.{list_all}
 use Rattle.std.proofs.lemmas.Bool.{cases_eq, and_from}
 use Rattle.std.proofs.lemmas.List.{ext_get_or, get_or-take, get_or-drop, get_or-map, length-map, length-take, length-drop, get_or-set_same, get_or-set_other}
 use Rattle.std.proofs.lemmas.List.Folds.{list_all_at}
-use Rattle.stack_machine.specs.Calls.{is_byte, byte_of, are_bytes}
+use Rattle.solo_base.specs.Arithmetic.{is_byte, byte_of, are_bytes}
 
 byte_cases : (yes : Bool) (n : ℕ) (b : ℕ) → cond yes (Some n) None ≡ Some b → (yes ≡ true) × (b ≡ n)
 byte_cases true n b e = (refl, cc)

@@ -12,9 +12,9 @@ use Rattle.stack_code.specs.Rules.{IsGood, pops}
 use Rattle.stack_machine.specs.declared.state.State.{State}
 use Rattle.stack_machine.specs.declared.state.Finish.{Finish}
 use Rattle.stack_machine.specs.State.{Next, Goes, Asks, Stops, words_of}
-use Rattle.stack_machine.specs.Calls.{results_in, array_in, ticks_in}
+use Rattle.solo_base.specs.Replies.{results_in, array_in, ticks_in}
 use Rattle.stack_machine.specs.Machine.{next, next_of, answered, reply_at, set_array, uses_program, array_start}
-use Rattle.stack_machine.specs.Fits.{Fits}
+use Rattle.solo_base.specs.Fits.{Fits}
 use Rattle.stack_machine.specs.Room.{TakesReply, HasRoomFor}
 use Rattle.stack_machine.specs.Safe.{IsSound}
 use Rattle.stack_machine.specs.Standing.{Standing, StandsWell, Awaits}

@@ -8,10 +8,11 @@ use Rattle.stack_code.specs.Rules.{IsGood}
 use Rattle.stack_machine.specs.declared.state.Finish.{Finish}
 use Rattle.stack_machine.specs.declared.state.State.{State}
 use Rattle.stack_machine.specs.Machine.{answered}
-use Rattle.stack_machine.specs.Fits.{Fits}
+use Rattle.solo_base.specs.Fits.{Fits}
 use Rattle.stack_machine.specs.Room.{HasRoomFor}
 use Rattle.stack_machine.specs.Safe.{IsSound}
 use Rattle.stack_machine.specs.Run.{Moves, LeadsToCall, LeadsToEnd, Replied}
+use Rattle.stack_machine.specs.History.{RunsOn, HasEnded}
 use Rattle.stack_machine.specs.World.{Gave, RanToEnd, BrokeOff}
 use Rattle.stack_machine.proofs.Weights.{left_to_run}
 use Rattle.stack_machine.proofs.Measure.{goes_less}
@@ -88,6 +89,7 @@ ran_to_end answers c limit s w t u v finish far leads ended sound =
       calls = far.calls;
       replies = far.replies;
       gave = far.gave;
+      came = record { begun = t; replied = far.replied; went_on = HasEnded finish ended leads };
       runs = (far.replies, [], t, sym (append-nil far.replies), far.replied, leads);
       ended = ended;
       ticks = sound.ended finish ended;
@@ -103,6 +105,7 @@ broke_off answers c limit s w t u v z call fault far leads fails =
       before = v;
       gave = far.gave;
       fails = fails;
+      came = record { begun = t; replied = far.replied; went_on = RunsOn leads.steps leads.moves };
       runs = (far.calls, call, t, u, refl, far.replied, leads);
       asks = leads.asks;
     }

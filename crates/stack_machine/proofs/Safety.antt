@@ -1,5 +1,5 @@
 -- A machine over good code lacks nothing, and stays so with each instruction and each reply.
-use Rattle.std.proofs.Common.{◌≡◌, ℕ, ◌+◌, ◌≤◌, true, false, Option, None, pos, refl, sym, ◌∙◌, ap, arith, subst}
+use Rattle.std.proofs.Common.{◌≡◌, ℕ, ◌+◌, ◌≤◌, true, false, Option, None, length, pos, refl, sym, ◌∙◌, ap, arith, subst}
 use Rattle.std.specs.Int.{w16, cast_signed}
 use Rattle.std.proofs.lemmas.Bool.{ltb-true, leb-true, and_parts}
 use Rattle.std.proofs.lemmas.List.{length-replicate}
@@ -20,12 +20,12 @@ use Rattle.stack_machine.specs.State.{Goes, Asks, Stops, Lacks}
 use Rattle.stack_machine.specs.Operators.{unary_of, binary_of}
 use Rattle.stack_machine.specs.Machine.{effect, next_by, next_of, next, start_state, answered}
 use Rattle.stack_machine.specs.Safe.{IsRunning, IsSafe, IsSound}
-use Rattle.stack_machine.specs.Fits.{Fits}
+use Rattle.solo_base.specs.Fits.{Fits}
 use Rattle.stack_machine.proofs.Routines.{program_start, start_is_own, start_is_empty}
 use Rattle.stack_machine.proofs.Obedience.{obeys}
 use Rattle.stack_machine.proofs.Kept.{at_place}
 use Rattle.stack_machine.proofs.Standing.{HasPlaceFor, IsSafeNext, Stands, by_table, stopped, inside_program, inside_own}
-use Rattle.stack_machine.proofs.Shapes.{unary_is_safe, binary_is_safe, chr_is_safe, push_is_safe, load_is_safe, store_is_safe, load_at_is_safe, store_at_is_safe}
+use Rattle.stack_machine.proofs.Shapes.{unary_is_safe, binary_is_safe, chr_is_safe, push_is_safe, load_is_safe, store_is_safe, load_at_is_safe, store_at_is_safe, refer_is_safe, load_reference_is_safe, store_reference_is_safe}
 use Rattle.stack_machine.proofs.ShapesOfControl.{index_is_safe, jump_is_safe, jump_false_is_safe, tick_is_safe, call_is_safe, leave_is_safe}
 use Rattle.stack_machine.proofs.ShapesOfCalls.{sys_is_safe, sys_program_is_safe, sys_local_is_safe}
 
@@ -74,6 +74,10 @@ row_is_safe c limit s op.SysL a b st here = sys_local_is_safe st here
 row_is_safe c limit s op.Halt a b st here = stopped st result.Terminated
 row_is_safe c limit s op.Succ a b st here = unary_is_safe st (by_table refl) (unary_of op.Succ) s.current.operands refl
 row_is_safe c limit s op.Pred a b st here = unary_is_safe st (by_table refl) (unary_of op.Pred) s.current.operands refl
+row_is_safe c limit s op.RefG a b st here = refer_is_safe st (by_table refl) 0 a
+row_is_safe c limit s op.RefL a b st here = refer_is_safe st (by_table refl) (length s.below) a
+row_is_safe c limit s op.LoadR a b st here = load_reference_is_safe st (by_table refl) a (inside_own st _ (ltb-true _ _ st.obeys.fits))
+row_is_safe c limit s op.StoreR a b st here = store_reference_is_safe st (by_table refl) a s.current.operands refl (inside_own st _ (ltb-true _ _ st.obeys.fits))
 
 -- ---- The next instruction
 

@@ -1,16 +1,17 @@
 -- Each row of the table is safe: its operands, its words and its room are there.
 use Rattle.std.proofs.Common.{◌≡◌, ℕ, ◌+◌, ◌-◌, ◌<◌, ◌≤◌, Bool, true, false, cond, Option, Some, None, List, [], ◌∷◌, length, get_or, ℤ, pos, negsuc, ltb, refl, sym, ap, arith, subst}
-use Rattle.std.specs.Prelude.{slice_set}
+use Rattle.std.specs.Prelude.{slice_get, slice_set}
+use Rattle.std.specs.Int.{w16, cast_signed}
 use Rattle.std.proofs.lemmas.Bool.{cond-true, lt-ltb, ltb-true}
 use Rattle.std.proofs.lemmas.Option.{slice_get-get_or}
 use Rattle.std.proofs.lemmas.List.{length-set}
 use Rattle.solo_base.specs.declared.outcome.ProgResult.TheVariants as result
 use Rattle.stack_code.specs.declared.table.Op.{Op}
-use Rattle.stack_code.specs.CodeLists.{CodeLists}
+use Rattle.stack_code.specs.CodeLists.{CodeLists, routine_at}
 use Rattle.stack_machine.specs.declared.state.State.{State}
-use Rattle.stack_machine.specs.State.{Next, Goes, Lacks, push, has_room, words_of, with_words, advance, stop}
-use Rattle.stack_machine.specs.Effects.{replace, unary, binary, store, load, load_at, store_at, load_element, store_element, replace_found, push_found, index_in, chr}
-use Rattle.stack_machine.proofs.Standing.{IsSafeNext, Stands, Takes, stopped, enough, room, onward, onward_with}
+use Rattle.stack_machine.specs.State.{Next, Goes, Lacks, push, has_room, words_at, with_words_at, words_of, with_words, advance, stop}
+use Rattle.stack_machine.specs.Effects.{replace, unary, binary, store, load, load_at, store_at, load_element, store_element, replace_found, push_found, index_in, chr, refer, words_named, word_named, push_named, load_named, load_reference, write_named, store_named, store_reference}
+use Rattle.stack_machine.proofs.Standing.{IsSafeNext, Stands, Takes, stopped, enough, room, onward, onward_with, onward_at}
 
 -- ---- Operators
 
@@ -96,3 +97,42 @@ module _ {c : CodeLists} {limit : ℕ} {s : State} {o : Op} {a b : ℕ} (st : St
   store_at_is_safe takes program start size (word ∷ []) same inside = absurd (omega (arith, enough st takes, ap length same))
   store_at_is_safe takes program start size (word ∷ i ∷ rest) same inside =
       element_stored takes program start size word rest (index_in i size) (omega (arith, ap length same)) (λ n found. index_below i size n found) inside
+
+-- ---- References
+
+module _ {c : CodeLists} {limit : ℕ} {s : State} {o : Op} {a b : ℕ} (st : Stands c limit s o a b) where
+  pub refer_is_safe : Takes c o a 0 2 → (number place : ℕ) → IsSafeNext c limit s (refer c s number place)
+  refer_is_safe takes number place =
+      let operands = cast_signed w16 place ∷ pos number ∷ s.current.operands in
+      let free = cond-true (ltb (length s.current.operands + 1) (routine_at c s.current.routine).height) (Goes (advance s operands)) Lacks (lt-ltb _ _ (omega (arith, room st takes))) in
+      subst (IsSafeNext c limit s) (sym free) (onward st takes operands (omega arith))
+
+  named_pushed : Takes c o a 0 1 → (word : Option ℤ) → IsSafeNext c limit s (push_named c s word)
+  named_pushed takes (Some word) = push_is_safe st takes word
+  named_pushed takes None = stopped st result.RangeError
+
+  pub load_reference_is_safe : Takes c o a 0 1 → (place : ℕ) → place + 1 < length s.current.words → IsSafeNext c limit s (load_reference c s place)
+  load_reference_is_safe takes place inside =
+      let number = get_or s.current.words place (pos 0) in
+      let word = get_or s.current.words (place + 1) (pos 0) in
+      subst (λ (found : Option ℤ). IsSafeNext c limit s (load_named c s found (slice_get s.current.words (place + 1)))) (sym (slice_get-get_or s.current.words place (pos 0) (omega arith)))
+      (subst (λ (found : Option ℤ). IsSafeNext c limit s (load_named c s (Some number) found)) (sym (slice_get-get_or s.current.words (place + 1) (pos 0) inside))
+      (named_pushed takes (word_named (words_named s number) word)))
+
+  named_written : Takes c o a 1 0 → (number place word : ℤ) (rest : List ℤ) → length rest ≡ length s.current.operands - 1 → IsSafeNext c limit s (write_named s number place word rest)
+  named_written takes (pos number) (pos place) word rest left =
+      let words = words_at s number in
+      let new = slice_set words place word in
+      either c limit s (ltb place (length words)) (Goes (advance (with_words_at s number new) rest)) (stop s result.RangeError)
+      (onward_at st takes number new rest (length-set words place word) (omega (arith, left))) (stopped st result.RangeError)
+  named_written takes (pos number) (negsuc place) word rest left = stopped st result.RangeError
+  named_written takes (negsuc number) place word rest left = stopped st result.RangeError
+
+  pub store_reference_is_safe : Takes c o a 1 0 → (place : ℕ) (operands : List ℤ) → operands ≡ s.current.operands → place + 1 < length s.current.words → IsSafeNext c limit s (store_reference s place operands)
+  store_reference_is_safe takes place [] same inside = absurd (omega (arith, enough st takes, ap length same))
+  store_reference_is_safe takes place (word ∷ rest) same inside =
+      let number = get_or s.current.words place (pos 0) in
+      let target = get_or s.current.words (place + 1) (pos 0) in
+      subst (λ (found : Option ℤ). IsSafeNext c limit s (store_named s found (slice_get s.current.words (place + 1)) word rest)) (sym (slice_get-get_or s.current.words place (pos 0) (omega arith)))
+      (subst (λ (found : Option ℤ). IsSafeNext c limit s (store_named s (Some number) found word rest)) (sym (slice_get-get_or s.current.words (place + 1) (pos 0) inside))
+      (named_written takes number target word rest (omega (arith, ap length same))))

@@ -10,15 +10,16 @@ use Rattle.solo_base.specs.declared.system_call.SysReply.TheVariants as replies
 use Rattle.stack_code.specs.declared.instr.Instr.{Instr}
 use Rattle.stack_code.specs.declared.table.Op.{Op}
 use Rattle.stack_code.specs.declared.table.Op.TheVariants as op
-use Rattle.stack_code.specs.declared.interface.Procedure.{Procedure}
-use Rattle.stack_code.specs.declared.interface.CallRow.{CallRow}
-use Rattle.stack_code.specs.Interface.{procedure_at, call_row_of, call_row, values_of, results_of}
+use Rattle.solo_base.specs.declared.interface.Procedure.{Procedure}
+use Rattle.solo_base.specs.declared.interface.CallRow.{CallRow}
+use Rattle.solo_base.specs.Interface.{procedure_at, call_row_of, call_row, values_of, results_of}
 use Rattle.stack_code.specs.CodeLists.{CodeLists, routine_at, instr_at}
 use Rattle.stack_code.specs.Rules.{pops, program_words, own_words}
 use Rattle.stack_machine.specs.declared.state.Finish.{Finish}
 use Rattle.stack_machine.specs.declared.state.State.{State}
 use Rattle.stack_machine.specs.State.{Lacks, advance, words_of, with_words}
-use Rattle.stack_machine.specs.Calls.{Request, Makes, OutOfRange, LacksValue, request, made, ask, ask_row, sys, results_in, array_in, ticks_in}
+use Rattle.solo_base.specs.Replies.{results_in, array_in, ticks_in}
+use Rattle.stack_machine.specs.Calls.{Request, Makes, OutOfRange, LacksValue, request, made, ask, ask_row, sys}
 use Rattle.stack_machine.specs.Machine.{reply_at, answered, set_array, array_start, uses_program}
 use Rattle.stack_machine.specs.Safe.{IsRunning}
 use Rattle.stack_machine.proofs.Kept.{with_current}

@@ -17,7 +17,8 @@ use Rattle.stack_code.specs.Rules.{routine_of, bounds_fit, jump_fits}
 use Rattle.stack_machine.specs.declared.activation.Activation.{Activation}
 use Rattle.stack_machine.specs.declared.state.State.{State}
 use Rattle.stack_machine.specs.State.{Goes, Stops, Lacks, has_room, advance, jump_to, stop}
-use Rattle.stack_machine.specs.Effects.{difference, replace_found, index, jump_false, tick, enter, call, give_back, return_to, leave}
+use Rattle.solo_base.specs.Arithmetic.{difference}
+use Rattle.stack_machine.specs.Effects.{replace_found, index, jump_false, tick, enter, call, give_back, return_to, leave}
 use Rattle.stack_machine.proofs.Standing.{IsSafeNext, Stands, Takes, by_table, stopped, enough, next_height, onward}
 use Rattle.stack_machine.specs.Safe.{IsAtPlace, lowest_routine}
 use Rattle.stack_machine.proofs.Kept.{jumped, with_current, called, at_place, returned, caller_waits}

@@ -5,18 +5,18 @@ use Rattle.solo_base.specs.declared.system_call.SysReply.{SysReply}
 use Rattle.solo_base.specs.declared.system_call.SysReply.TheVariants as replies
 use Rattle.stack_code.specs.declared.instr.Instr.{Instr}
 use Rattle.stack_code.specs.declared.table.Op.{Op}
-use Rattle.stack_code.specs.Interface.{values_of}
+use Rattle.solo_base.specs.Interface.{values_of}
 use Rattle.stack_code.specs.CodeLists.{CodeLists, routine_at, instr_at}
 use Rattle.stack_code.specs.Rules.{IsGood, height_at, may_be_last, pops, pushes, program_words, own_words}
 use Rattle.stack_machine.specs.declared.state.Finish.{Finish}
 use Rattle.stack_machine.specs.declared.state.State.{State}
-use Rattle.stack_machine.specs.State.{Next, Goes, Asks, Stops, Lacks, stop, advance, words_of, with_words}
-use Rattle.stack_machine.specs.Calls.{results_in, array_in, ticks_in}
+use Rattle.stack_machine.specs.State.{Next, Goes, Asks, Stops, Lacks, stop, advance, words_at, with_words_at, words_of, with_words}
+use Rattle.solo_base.specs.Replies.{results_in, array_in, ticks_in}
 use Rattle.stack_machine.specs.Machine.{answered, uses_program, array_start}
 use Rattle.stack_machine.specs.Safe.{IsRunning, IsSafe}
-use Rattle.stack_machine.specs.Fits.{Fits}
+use Rattle.solo_base.specs.Fits.{Fits}
 use Rattle.stack_machine.proofs.Obedience.{GoesOn, Obeys}
-use Rattle.stack_machine.proofs.Kept.{advanced, program_frame, rewritten, is_beside}
+use Rattle.stack_machine.proofs.Kept.{advanced, program_frame, rewritten, rewritten_at, is_beside}
 
 -- The values of the instruction's call are there, the reply's array lies in the frame, its results don't
 -- pass the routine's height, and its ticks don't pass the limit.
@@ -85,6 +85,11 @@ module _ {c : CodeLists} {limit : ℕ} {s : State} {o : Op} {a b : ℕ} (st : St
       let on : GoesOn c (with_words program s words).current.place = subst (GoesOn c) (sym beside.place) (st.obeys.goes_on takes.middle) in
       let at : height_at c ((with_words program s words).current.place + 1) ≡ length s.current.operands - popped + pushed = ap (λ p. height_at c (p + 1)) beside.place ∙ next_height takes in
       (beside.ended ∙ st.going, advanced c st.good limit (with_words program s words) (rewritten c limit s program words st.running same) on operands (height ∙ sym at))
+
+  -- the same behind a write to the frame of any activation
+  pub onward_at : {popped pushed : ℕ} → Takes c o a popped pushed → (number : ℕ) (words operands : List ℤ) → length words ≡ length (words_at s number) → length operands ≡ length s.current.operands - popped + pushed → IsSafeNext c limit s (Goes (advance (with_words_at s number words) operands))
+  onward_at takes number words operands same height =
+      (st.going, advanced c st.good limit (with_words_at s number words) (rewritten_at c limit s number words st.running same) (st.obeys.goes_on takes.middle) operands (height ∙ sym (next_height takes)))
 
   -- the frames have as many words as the rules say
   pub inside_program : (end : ℕ) → end ≤ program_words c → end ≤ length (words_of true s)

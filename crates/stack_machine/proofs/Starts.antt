@@ -5,7 +5,7 @@ use Rattle.std.proofs.lemmas.Bool.{false≢true, le-leb, lt-leb, leb-true, ltb-t
 use Rattle.stack_code.specs.declared.instr.RoutineInfo.{RoutineInfo}
 use Rattle.stack_code.specs.CodeLists.{CodeLists, routine_at, no_routine, instr_at}
 use Rattle.stack_code.specs.Rules.{IsGood, routine_of, starts_well, is_target, is_tick, is_jump, is_behind_tick}
-use Rattle.stack_code.proofs.StraightLine.{is_behind_tick_next}
+use Rattle.stack_code.proofs.BehindTick.{is_behind_tick_next}
 
 -- how many of these routines start at a place or before
 abbrev started : List RoutineInfo → ℕ → ℕ

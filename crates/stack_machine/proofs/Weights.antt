@@ -5,7 +5,7 @@ use Rattle.std.proofs.Math.Nat.{suc-mul, mul-le-mul_right, le-mul_of_pos_right}
 use Rattle.std.proofs.lemmas.Bool.{and_parts}
 use Rattle.stack_code.specs.CodeLists.{CodeLists, instr_at}
 use Rattle.stack_code.specs.Rules.{routine_of, is_target, is_tick, is_jump, is_behind_tick}
-use Rattle.stack_code.proofs.StraightLine.{is_behind_tick_next, is_behind_tick_start}
+use Rattle.stack_code.proofs.BehindTick.{is_behind_tick_next, is_behind_tick_start}
 use Rattle.stack_machine.specs.declared.activation.Activation.{Activation}
 use Rattle.stack_machine.specs.declared.state.State.{State}
 

@@ -1,29 +1,18 @@
--- The calls of a program, and what a reply makes of it.
-use Rattle.std.specs.Prelude.{ℕ, ◌+◌, ◌-◌, Bool, ◌&&◌, nat_le, if◌then◌else◌, List, [], ◌∷◌, length, take, drop, map, Option, Some, None, ℤ, pos, int_le, unsigned_abs}
-use Rattle.std.specs.List.{list_all}
+-- The calls of a program.
+use Rattle.std.specs.Prelude.{ℕ, ◌+◌, ◌-◌, Bool, ◌&&◌, nat_le, if◌then◌else◌, List, ◌∷◌, length, take, drop, map, Option, Some, None, ℤ, unsigned_abs}
 use Rattle.solo_base.specs.declared.outcome.ProgResult.TheVariants as result
 use Rattle.solo_base.specs.declared.system_call.SysCall.{SysCall}
 use Rattle.solo_base.specs.declared.system_call.SysCall.TheVariants as calls
-use Rattle.solo_base.specs.declared.system_call.SysReply.{SysReply}
-use Rattle.solo_base.specs.declared.system_call.SysReply.TheVariants as replies
-use Rattle.stack_code.specs.declared.interface.Procedure.{Procedure}
-use Rattle.stack_code.specs.declared.interface.Procedure.TheVariants as row
-use Rattle.stack_code.specs.Interface.{procedure_at, call_row_of}
+use Rattle.solo_base.specs.Arithmetic.{byte_of, are_bytes}
+use Rattle.solo_base.specs.declared.interface.Procedure.{Procedure}
+use Rattle.solo_base.specs.declared.interface.Procedure.TheVariants as row
+use Rattle.solo_base.specs.Interface.{procedure_at, call_row_of}
 use Rattle.stack_code.specs.CodeLists.{CodeLists, routine_at}
 use Rattle.stack_machine.specs.declared.state.State.{State}
 use Rattle.stack_machine.specs.State.{Next, Asks, Lacks, stop, words_of}
 
--- a word that is a byte
-abbrev pub is_byte : ℤ → Bool
-is_byte z = int_le (pos 0) z && int_le z (pos 255)
-
-abbrev pub byte_of : ℤ → Option ℕ
-byte_of z = if is_byte z then Some (unsigned_abs z) else None
-
-abbrev pub are_bytes : List ℤ → Bool
-are_bytes words = list_all is_byte words
-
--- what a procedure asks for, by its values (the last one topmost), its array and the ticks that are left. Out of range: WRITE, DISPLAY and PUT of a number outside 0 to 255.
+-- what a procedure asks for, by its values (the last one topmost), its array and the ticks that are left. Out
+-- of range: WRITE, DISPLAY and PUT of a number outside 0 to 255.
 pub data Request : Type 0 where
   Makes : SysCall → Request
   OutOfRange : Request
@@ -42,7 +31,8 @@ request row.Display (v ∷ rest) array left = write_of (λ b. calls.Display b) (
 request row.Open (f ∷ rest) array left = Makes (calls.Open f array)
 request row.Close (f ∷ rest) array left = Makes (calls.Close f)
 request row.Get (p ∷ f ∷ rest) array left = Makes (calls.Get f p)
-request row.Put (p ∷ f ∷ rest) array left = if are_bytes array then Makes (calls.Put f p (record { 0 = map unsigned_abs array })) else OutOfRange
+request row.Put (p ∷ f ∷ rest) array left =
+    if are_bytes array then Makes (calls.Put f p (record { 0 = map unsigned_abs array })) else OutOfRange
 request row.Length (f ∷ rest) array left = Makes (calls.Length f)
 request row.Lookup operands array left = Makes (calls.Lookup array)
 request row.ReadArg operands array left = Makes calls.ReadArg
@@ -72,26 +62,3 @@ ask_row c limit s None program b = Lacks
 -- SYS a; SYSG a b, SYSL a b: the call of row a, with the array from word b
 abbrev pub sys : CodeLists → ℕ → State → Bool → ℕ → ℕ → Next
 sys c limit s program a b = ask_row c limit s (procedure_at a) program b
-
--- ---- Replies
-
--- the words that a reply pushes, the last one topmost
-abbrev pub results_in : SysReply → List ℤ
-results_in (replies.Char byte) = pos byte ∷ []
-results_in (replies.Opened found) = (if found then pos 1 else pos 0) ∷ []
-results_in (replies.Length pages) = pages ∷ []
-results_in (replies.Found kind found) = (if found then pos 1 else pos 0) ∷ kind ∷ []
-results_in (replies.Argument tag number name) = number ∷ tag ∷ []
-results_in (replies.Ran line number ticks) = number ∷ line ∷ []
-results_in other = []
-
--- the words that a reply sets in the array
-abbrev pub array_in : SysReply → List ℤ
-array_in (replies.Page page) = map pos page.0
-array_in (replies.Argument tag number name) = map pos name
-array_in other = []
-
--- the ticks that a reply says were taken
-abbrev pub ticks_in : SysReply → ℕ
-ticks_in (replies.Ran line number ticks) = ticks
-ticks_in other = 0

@@ -1,14 +1,15 @@
 -- The rows of the table: what each instruction does.
-use Rattle.std.specs.Prelude.{ℕ, ◌+◌, ◌-◌, ◌*◌, Bool, not, ◌&&◌, nat_lt, nat_le, if◌then◌else◌, List, [], ◌∷◌, ◌++◌, length, take, slice_get, slice_set, Option, Some, None, ℤ, pos, negsuc, ◌+ℤ◌, ◌-ℤ◌, ◌*ℤ◌, int_le, int_div, int_rem}
+use Rattle.std.specs.Prelude.{ℕ, ◌+◌, ◌-◌, ◌*◌, Bool, ◌&&◌, nat_lt, nat_le, if◌then◌else◌, List, [], ◌∷◌, ◌++◌, length, take, slice_get, slice_set, Option, Some, None, ℤ, pos, negsuc, int_le}
 use Rattle.std.specs.Ordering.{int_eq}
 use Rattle.std.specs.Int.{w16, cast_signed}
 use Rattle.solo_base.specs.declared.outcome.ProgResult.TheVariants as result
+use Rattle.solo_base.specs.Arithmetic.{difference}
 use Rattle.stack_code.specs.declared.instr.RoutineInfo.{RoutineInfo}
 use Rattle.stack_code.specs.CodeLists.{CodeLists, routine_at}
 use Rattle.stack_machine.specs.declared.activation.Activation.{Activation}
 use Rattle.stack_machine.specs.declared.state.State.{State}
 use Rattle.stack_machine.specs.Activations.{opened, waiting_caller}
-use Rattle.stack_machine.specs.State.{Next, Goes, Stops, Lacks, stop, advance, jump_to, has_room, push, words_of, with_words}
+use Rattle.stack_machine.specs.State.{Next, Goes, Stops, Lacks, stop, advance, jump_to, has_room, push, words_at, with_words_at, words_of, with_words}
 
 -- ---- Words to and from frames
 
@@ -54,34 +55,58 @@ store_at program s a b (word ∷ i ∷ rest) = store_element program s a word re
 store_at program s a b (word ∷ []) = Lacks
 store_at program s a b [] = Lacks
 
+-- ---- References: the number of an activation, and above it a word of its frame
+
+-- REFG a, REFL a: push the number, push a
+abbrev pub refer : CodeLists → State → ℕ → ℕ → Next
+refer c s number a =
+    if nat_lt (length s.current.operands + 1) (routine_at c s.current.routine).height
+    then Goes (advance s (cast_signed w16 a ∷ pos number ∷ s.current.operands)) else Lacks
+
+-- the words of the activation that a word names; none where it isn't open
+abbrev pub words_named : State → ℤ → List ℤ
+words_named s (pos number) = words_at s number
+words_named s (negsuc number) = []
+
+-- the word that is named by a word, if it is there
+abbrev pub word_named : List ℤ → ℤ → Option ℤ
+word_named words (pos place) = slice_get words place
+word_named words (negsuc place) = None
+
+abbrev pub push_named : CodeLists → State → Option ℤ → Next
+push_named c s (Some word) = push c s word
+push_named c s None = stop s result.RangeError
+
+abbrev pub load_named : CodeLists → State → Option ℤ → Option ℤ → Next
+load_named c s (Some number) (Some place) = push_named c s (word_named (words_named s number) place)
+load_named c s (Some number) None = Lacks
+load_named c s None place = Lacks
+
+-- LOADR a: words a and a + 1 of its own frame are a number and a place; push the word there
+abbrev pub load_reference : CodeLists → State → ℕ → Next
+load_reference c s a = load_named c s (slice_get s.current.words a) (slice_get s.current.words (a + 1))
+
+-- the word becomes what a number and a place name
+abbrev pub write_named : State → ℤ → ℤ → ℤ → List ℤ → Next
+write_named s (pos number) (pos place) word rest =
+    if nat_lt place (length (words_at s number))
+    then Goes (advance (with_words_at s number (slice_set (words_at s number) place word)) rest)
+    else stop s result.RangeError
+write_named s (pos number) (negsuc place) word rest = stop s result.RangeError
+write_named s (negsuc number) place word rest = stop s result.RangeError
+
+abbrev pub store_named : State → Option ℤ → Option ℤ → ℤ → List ℤ → Next
+store_named s (Some number) (Some place) word rest = write_named s number place word rest
+store_named s (Some number) None word rest = Lacks
+store_named s None place word rest = Lacks
+
+-- STORER a: pop into the word that words a and a + 1 name
+abbrev pub store_reference : State → ℕ → List ℤ → Next
+store_reference s a [] = Lacks
+store_reference s a (word ∷ rest) =
+    store_named s (slice_get s.current.words a) (slice_get s.current.words (a + 1)) word rest
+
 -- ---- Arithmetic
-
--- a number of 16 bits, or none
-abbrev pub fit : ℤ → Option ℤ
-fit z = if int_le (negsuc 32767) z && int_le z (pos 32767) then Some z else None
-
-abbrev pub sum : ℤ → ℤ → Option ℤ
-sum l r = fit (l +ℤ r)
-
-abbrev pub difference : ℤ → ℤ → Option ℤ
-difference l r = fit (l -ℤ r)
-
-abbrev pub product : ℤ → ℤ → Option ℤ
-product l r = fit (l *ℤ r)
-
--- towards zero, and none by zero
-abbrev pub quotient : ℤ → ℤ → Option ℤ
-quotient l r = if int_eq r (pos 0) then None else fit (int_div l r)
-
--- with the sign of the dividend
-abbrev pub remainder : ℤ → ℤ → Option ℤ
-remainder l r = if int_eq r (pos 0) then None else Some (int_rem l r)
-
-abbrev pub truth : Bool → ℤ
-truth b = if b then pos 1 else pos 0
-
-abbrev pub holds : ℤ → Bool
-holds v = not (int_eq v (pos 0))
 
 abbrev pub replace : State → List ℤ → Option ℤ → Next
 replace s rest (Some word) = Goes (advance s (word ∷ rest))
@@ -103,12 +128,14 @@ abbrev pub index : State → ℕ → ℕ → List ℤ → Next
 index s a b [] = Lacks
 index s a b (v ∷ rest) =
     let low = cast_signed w16 a in
-    if int_le low v && int_le v (cast_signed w16 b) then replace_found s rest (difference v low) else stop s result.RangeError
+    if int_le low v
+    && int_le v (cast_signed w16 b) then replace_found s rest (difference v low) else stop s result.RangeError
 
 -- CHR: the top is 0 to 127
 abbrev pub chr : State → List ℤ → Next
 chr s [] = Lacks
-chr s (v ∷ rest) = if int_le (pos 0) v && int_le v (pos 127) then Goes (advance s (v ∷ rest)) else stop s result.RangeError
+chr s (v ∷ rest) =
+    if int_le (pos 0) v && int_le v (pos 127) then Goes (advance s (v ∷ rest)) else stop s result.RangeError
 
 -- ---- Control
 
@@ -121,13 +148,21 @@ jump_false s a (v ∷ rest) = Goes (if int_eq v (pos 0) then jump_to s a rest el
 abbrev pub tick : ℕ → State → ℕ → ℕ → Next
 tick limit s a b =
     let line = a * 65536 + b in
-    if nat_lt s.ticks limit then Goes (record s { ticks = s.ticks + 1; current = record s.current { line = line; place = s.current.place + 1 } })
+    if nat_lt s.ticks limit then Goes (record s {
+      ticks =
+          s.ticks + 1;
+      current = record s.current { line = line; place = s.current.place + 1 };
+    })
     else Stops result.TimeLimit line s.ticks
 
 abbrev pub enter : State → RoutineInfo → ℕ → Next
 enter s r a =
     if nat_le r.params (length s.current.operands)
-    then Goes (record s { below = s.below ++ waiting_caller r s.current ∷ []; current = opened r a s.current.operands })
+    then Goes (record s {
+      below =
+          s.below ++ waiting_caller r s.current ∷ [];
+      current = opened r a s.current.operands;
+    })
     else Lacks
 
 -- CALL a: StackLimit if 64 activations are open
@@ -137,7 +172,11 @@ call c s a = if nat_le 63 (length s.below) then stop s result.StackLimit else en
 abbrev pub give_back : CodeLists → State → List Activation → Activation → Option ℤ → Next
 give_back c s below caller None = Lacks
 give_back c s below caller (Some word) =
-    if has_room c caller then Goes (record s { below = below; current = record caller { operands = word ∷ caller.operands } }) else Lacks
+    if has_room c caller then Goes (record s {
+      below =
+          below;
+      current = record caller { operands = word ∷ caller.operands };
+    }) else Lacks
 
 abbrev pub return_to : CodeLists → State → List Activation → Option Activation → Next
 return_to c s below None = Lacks

@@ -6,9 +6,8 @@ pub mod Calls
 pub mod Machine
 pub mod Run
 pub mod Safe
-pub mod Fits
 pub mod Room
 pub mod Standing
+pub mod History
 pub mod World
 pub mod Laws
-pub mod History

@@ -12,9 +12,10 @@ use Rattle.stack_code.specs.Rules.{pops}
 use Rattle.stack_machine.specs.declared.state.Finish.{Finish}
 use Rattle.stack_machine.specs.declared.state.State.{State}
 use Rattle.stack_machine.specs.State.{Next, Goes, Stops, Lacks, stop, advance, jump_to, push, words_of, with_words}
-use Rattle.stack_machine.specs.Effects.{load, store, load_at, store_at, unary, binary, index, chr, jump_false, tick, call, leave}
+use Rattle.stack_machine.specs.Effects.{load, store, load_at, store_at, refer, load_reference, store_reference, unary, binary, index, chr, jump_false, tick, call, leave}
 use Rattle.stack_machine.specs.Operators.{unary_of, binary_of}
-use Rattle.stack_machine.specs.Calls.{sys, results_in, array_in, ticks_in}
+use Rattle.solo_base.specs.Replies.{results_in, array_in, ticks_in}
+use Rattle.stack_machine.specs.Calls.{sys}
 
 -- ---- The table
 
@@ -57,6 +58,10 @@ effect c limit s op.SysL a b = sys c limit s false a b
 effect c limit s op.Halt a b = stop s result.Terminated
 effect c limit s op.Succ a b = unary (unary_of op.Succ) s s.current.operands
 effect c limit s op.Pred a b = unary (unary_of op.Pred) s s.current.operands
+effect c limit s op.RefG a b = refer c s 0 a
+effect c limit s op.RefL a b = refer c s (length s.below) a
+effect c limit s op.LoadR a b = load_reference c s a
+effect c limit s op.StoreR a b = store_reference s a s.current.operands
 
 -- the instruction at the current place
 abbrev pub next_by : CodeLists → ℕ → State → Option Instr → Next
@@ -77,7 +82,15 @@ next c limit s = next_of c limit s s.ended
 abbrev pub start_state : CodeLists → State
 start_state c = record {
   below = [];
-  current = record { routine = 0; place = 0; line = 0; words = replicate (routine_at c 0).words (pos 0); operands = [] };
+  current =
+      record {
+        routine =
+            0;
+        place = 0;
+        line = 0;
+        words = replicate (routine_at c 0).words (pos 0);
+        operands = [];
+      };
   ticks = 0;
   ended = None;
 }
@@ -101,7 +114,8 @@ array_start other b = b
 abbrev pub set_array : List ℤ → ℕ → List ℤ → List ℤ
 set_array words b array = take b words ++ array ++ drop (b + length array) words
 
--- a state in which the instruction's call was answered: its values are popped, the array is set, the results are pushed, and the ticks count
+-- a state in which the instruction's call was answered: its values are popped, the array is set, the results
+-- are pushed, and the ticks count
 abbrev pub reply_at : CodeLists → State → Instr → SysReply → State
 reply_at c s i reply =
     let program = uses_program i.op in
@@ -110,7 +124,8 @@ reply_at c s i reply =
     record (advance set (results_in reply ++ popped)) { ticks = s.ticks + ticks_in reply }
 
 abbrev pub fail_call : State → State
-fail_call s = record s { ended = Some (record { result = result.CallError; line = s.current.line; ticks = s.ticks }) }
+fail_call s =
+    record s { ended = Some (record { result = result.CallError; line = s.current.line; ticks = s.ticks }) }
 
 unfoldable pub answered : CodeLists → State → SysReply → State
 answered c s replies.CallError = fail_call s

@@ -3,7 +3,7 @@ use Rattle.std.specs.Prelude.{not, ◌&&◌, ◌||◌, Option, Some, None, ℤ, 
 use Rattle.std.specs.Ordering.{int_eq}
 use Rattle.stack_code.specs.declared.table.Op.{Op}
 use Rattle.stack_code.specs.declared.table.Op.TheVariants as op
-use Rattle.stack_machine.specs.Effects.{fit, sum, difference, product, quotient, remainder, truth, holds}
+use Rattle.solo_base.specs.Arithmetic.{fit, sum, difference, product, quotient, remainder, truth, holds}
 
 abbrev pub unary_of : Op → ℤ → Option ℤ
 unary_of op.Neg v = fit (neg_ℤ v)

@@ -3,15 +3,16 @@ use Rattle.std.specs.Prelude.{◌≡◌, ◌+◌, ◌-◌, ◌<◌, ◌≤◌, �
 use Rattle.solo_base.specs.declared.system_call.SysReply.{SysReply}
 use Rattle.solo_base.specs.declared.system_call.SysReply.TheVariants as replies
 use Rattle.stack_code.specs.declared.instr.Instr.{Instr}
-use Rattle.stack_code.specs.Interface.{values_of}
+use Rattle.solo_base.specs.Interface.{values_of}
 use Rattle.stack_code.specs.Rules.{pops}
 use Rattle.stack_code.specs.CodeLists.{CodeLists, instr_at}
 use Rattle.stack_machine.specs.declared.state.State.{State}
 use Rattle.stack_machine.specs.State.{words_of}
-use Rattle.stack_machine.specs.Calls.{results_in, array_in, ticks_in}
+use Rattle.solo_base.specs.Replies.{results_in, array_in, ticks_in}
 use Rattle.stack_machine.specs.Machine.{uses_program, array_start}
 
--- the values of the instruction's call are there, the reply's array lies in the frame, and there is room for its results and its ticks
+-- the values of the instruction's call are there, the reply's array lies in the frame, and there is room for
+-- its results and its ticks
 pub record HasRoom (s : State) (i : Instr) (reply : SysReply) : Type 0 where
   pub values : values_of i.a ≤ length s.current.operands
   pub array : array_start i.op i.b + length (array_in reply) ≤ length (words_of (uses_program i.op) s)
@@ -21,7 +22,8 @@ pub record HasRoom (s : State) (i : Instr) (reply : SysReply) : Type 0 where
 -- the instruction at the program's place has made a call, and there is room for this reply to it
 pub record TakesReply (c : CodeLists) (s : State) (reply : SysReply) : Type 0 where
   pub inside : s.current.place < length c.instrs
-  pub pops_values : pops c (instr_at c s.current.place).op (instr_at c s.current.place).a ≡ values_of (instr_at c s.current.place).a
+  pub pops_values : pops c (instr_at c s.current.place).op (instr_at c s.current.place).a
+      ≡ values_of (instr_at c s.current.place).a
   pub room : HasRoom s (instr_at c s.current.place) reply
 
 -- CallError needs no room

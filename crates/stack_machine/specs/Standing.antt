@@ -7,7 +7,7 @@ use Rattle.stack_machine.specs.declared.state.State.{State}
 use Rattle.stack_machine.specs.State.{Asks}
 use Rattle.stack_machine.specs.Machine.{next}
 use Rattle.stack_machine.specs.Safe.{IsSound}
-use Rattle.stack_machine.specs.Fits.{Fits}
+use Rattle.solo_base.specs.Fits.{Fits}
 
 -- the code that the machine runs, the ticks that it may take, and the state of the program
 pub record Standing : Type 0 where

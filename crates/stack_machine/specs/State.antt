@@ -1,9 +1,10 @@
 -- Where a program stands, and what one instruction may make of it.
-use Rattle.std.specs.Prelude.{ℕ, ◌+◌, Bool, true, false, List, [], ◌∷◌, ℤ, length, nat_lt, if◌then◌else◌}
+use Rattle.std.specs.Prelude.{ℕ, ◌+◌, Bool, true, false, List, ◌∷◌, ℤ, length, nat_lt, if◌then◌else◌}
 use Rattle.solo_base.specs.declared.outcome.ProgResult.{ProgResult}
 use Rattle.solo_base.specs.declared.system_call.SysCall.{SysCall}
 use Rattle.stack_code.specs.CodeLists.{CodeLists, routine_at}
 use Rattle.stack_machine.specs.declared.activation.Activation.{Activation}
+use Rattle.stack_machine.specs.Activations.{words_from, waiting_with, own_with}
 use Rattle.stack_machine.specs.declared.state.State.{State}
 use Rattle.stack_machine.specs.declared.state.Step.{Step}
 use Rattle.stack_machine.specs.declared.state.Step.TheVariants as step
@@ -36,7 +37,8 @@ stop s result = Stops result s.current.line s.ticks
 
 -- at the next instruction, with these operands
 abbrev pub advance : State → List ℤ → State
-advance s operands = record s { current = record s.current { place = s.current.place + 1; operands = operands } }
+advance s operands =
+    record s { current = record s.current { place = s.current.place + 1; operands = operands } }
 
 -- at another instruction, with these operands
 abbrev pub jump_to : State → ℕ → List ℤ → State
@@ -52,20 +54,21 @@ push c s word = if has_room c s.current then Goes (advance s (word ∷ s.current
 
 -- ---- Frames
 
--- the words of the program's frame
-abbrev pub program_words_of : List Activation → Activation → List ℤ
-program_words_of [] current = current.words
-program_words_of (program ∷ others) current = program.words
+-- the words of the activation with this number, and the state in which it has other words
+abbrev pub words_at : State → ℕ → List ℤ
+words_at s number = words_from s.below s.current.words number
 
-abbrev pub with_program_words : State → List Activation → List ℤ → State
-with_program_words s [] words = record s { current = record s.current { words = words } }
-with_program_words s (program ∷ others) words = record s { below = record program { words = words } ∷ others }
+abbrev pub with_words_at : State → ℕ → List ℤ → State
+with_words_at s number words = record s {
+  below = waiting_with s.below number words;
+  current = record s.current { words = own_with s.below s.current.words number words };
+}
 
--- the words of the program's frame, or of the activation's own
+-- the words of the program's frame, or of the current activation's own
 abbrev pub words_of : Bool → State → List ℤ
-words_of true s = program_words_of s.below s.current
+words_of true s = words_at s 0
 words_of false s = s.current.words
 
 abbrev pub with_words : Bool → State → List ℤ → State
-with_words true s words = with_program_words s s.below words
+with_words true s words = with_words_at s 0 words
 with_words false s words = record s { current = record s.current { words = words } }

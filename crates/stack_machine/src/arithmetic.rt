@@ -1,6 +1,7 @@
 ghost use Rattle.std.specs.Prelude.{◌≡◌, ◌<◌, ◌∷◌, [], ℤ, pos, ◌+ℤ◌, ◌≤ℤ◌, negsuc, IfSome, IfNone, MatchOption, length};
 ghost use Rattle.stack_machine.specs.State.{outcome, stop};
-ghost use Rattle.stack_machine.specs.Effects.{fit, sum, difference, product, quotient, remainder, truth, holds, replace, unary, binary, index, chr};
+ghost use Rattle.solo_base.specs.Arithmetic.{fit, sum, difference, product, quotient, remainder, truth, holds};
+ghost use Rattle.stack_machine.specs.Effects.{replace, unary, binary, index, chr};
 ghost use Rattle.stack_machine.specs.Operators.{binary_of, unary_of};
 
 use crate::state::{State, Step};
@@ -17,7 +18,10 @@ impl State {
 
     /// Takes the two topmost words, the lower one first.
     pub(crate) fn pop_two(&mut self) -> Option<(i16, i16)>
-        ensures some { IfSome result (λ x. self.old ≡ record self.new { current = record self.new.current { operands = x.1 ∷ x.0 ∷ self.new.current.operands } }) }
+        ensures some { IfSome result (λ x. self.old ≡ record self.new {
+          current =
+              record self.new.current { operands = x.1 ∷ x.0 ∷ self.new.current.operands };
+        }) }
         ensures none { IfNone result (length self.old.current.operands < 2) }
         ensures room { length self.new.current.operands < 1536 }
     {

@@ -1,8 +1,14 @@
-ghost use Rattle.stack_machine.specs.Laws.{SomeRun, OneRun};
+ghost use Rattle.stack_machine.specs.Laws.{SomeRun, OneRun, AnyWordsAreKept};
 
 /// A run is determined. Nothing is done here: the contract is the law, for those who speak of runs.
 /// Verified code has a run for every limit and every list of fitting replies, and only one.
 pub fn runs_are_determined()
     ensures some { SomeRun }
     ensures one { OneRun }
+{}
+
+/// What a write to the frame of an activation changes. Nothing is done here: the contract is the law. What is
+/// written to an open activation is read from it, and the words of all others stay.
+pub fn words_are_kept()
+    ensures { AnyWordsAreKept }
 {}

@@ -9,6 +9,7 @@ mod laws;
 mod machine;
 mod memory;
 mod operands;
+mod references;
 mod replies;
 mod requests;
 mod running;
@@ -20,7 +21,7 @@ mod world;
 
 pub use activation::Activation;
 pub use frame::Frame;
-pub use laws::runs_are_determined;
+pub use laws::{runs_are_determined, words_are_kept};
 pub use machine::Machine;
 pub use operands::Operands;
 pub use running::Pause;
@@ -36,3 +37,5 @@ mod tests;
 mod tests_of_arithmetic;
 #[cfg(test)]
 mod tests_of_calls;
+#[cfg(test)]
+mod tests_of_references;

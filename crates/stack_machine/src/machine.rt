@@ -36,17 +36,28 @@ impl Model for Machine {
 
     ghost view = { λ machine. record { code = machine.code; limit = machine.limit; state = machine.state } };
 
-    ghost invariant = { λ machine. StandsWell (record { code = machine.code; limit = machine.limit; state = machine.state }) };
+    ghost invariant = { λ machine. StandsWell (record {
+      code =
+          machine.code;
+      limit = machine.limit;
+      state = machine.state;
+    }) };
 }
 
 impl Machine {
     ghost use Rattle.stack_machine.specs.Standing.{Standing, StandsWell, Awaits};
-    ghost use Rattle.stack_machine.specs.History.{StandsFor, outcome_at};
+    ghost use Rattle.stack_machine.specs.History.{StandsFor, CameTo, outcome_at};
 
     /// The machine at the program's first instruction. A refusal drops the code.
     pub fn make(alloc: Global, code: Verified, limit: u32) -> Result<Machine, NoMemory>
-        ensures state { IfOk result (λ machine. machine ≡ record { code = code; limit = limit; state = start_state code }) }
+        ensures state { IfOk result (λ machine. machine ≡ record {
+          code =
+              code;
+          limit = limit;
+          state = start_state code;
+        }) }
         ensures history { IfOk result (λ machine. StandsFor machine [] []) }
+        ensures well { IfOk result (λ machine. StandsWell machine) }
     {
         let mut words = Frame::new(alloc)?;
         words.begin(&[], routine_at(&code, 0).words as usize);
@@ -70,8 +81,10 @@ impl Machine {
     /// that ended stays so.
     pub fn go(&mut self) -> Pause
         ensures pauses { Pauses self.old.code self.old.limit self.old.state result self.new.state }
-        ensures runs { (replies : List SysReply) (calls : List SysCall) → StandsFor self.old replies calls → Runs self.old.code self.old.limit replies (outcome_at result calls) }
-        ensures history { (replies : List SysReply) (calls : List SysCall) → StandsFor self.old replies calls → StandsFor self.new replies calls }
+        ensures runs { (replies : List SysReply) (calls : List SysCall) → StandsFor self.old replies calls
+            → Runs self.old.code self.old.limit replies (outcome_at result calls) }
+        ensures history { (replies : List SysReply) (calls : List SysCall) → StandsFor self.old replies calls
+            → StandsFor self.new replies calls }
         ensures code { self.new.code ≡ self.old.code }
         ensures limit { self.new.limit ≡ self.old.limit }
         ensures ticks { (finish : Finish) → result ≡ Finished finish → finish.ticks ≤ self.new.limit }
@@ -83,8 +96,14 @@ impl Machine {
     /// Gives the reply to the call at which the program paused.
     pub fn answer(&mut self, reply: SysReply)
         requires { Awaits self.old reply }
-        ensures answered { self.new ≡ record self.old { state = answered self.old.code self.old.state reply } }
-        ensures history { (replies : List SysReply) (calls : List SysCall) (call : SysCall) → next self.old.code self.old.limit self.old.state ≡ Asks call self.old.state → StandsFor self.old replies calls → StandsFor self.new (replies ++ reply ∷ []) (calls ++ call ∷ []) }
+        ensures answered { self.new ≡ record self.old {
+          state =
+              answered self.old.code self.old.state reply;
+        } }
+        ensures history { (replies : List SysReply) (calls : List SysCall) (call : SysCall)
+            → next self.old.code self.old.limit self.old.state ≡ Asks call self.old.state
+            → StandsFor self.old replies calls
+            → StandsFor self.new (replies ++ reply ∷ []) (calls ++ call ∷ []) }
         ensures well { StandsWell self.new }
     {
         self.state.answer(&self.code, reply);
@@ -95,6 +114,10 @@ impl Machine {
     pub fn run<W: World>(&mut self, world: &mut W) -> Result<Finish, W::Fault>
         ensures ends { IfOk result (λ finish. RanToEnd W.answers self.old.code self.old.limit self.old.state world.old finish self.new.state world.new) }
         ensures broke_off { IfErr result (λ fault. BrokeOff W.answers self.old.code self.old.limit self.old.state world.old fault self.new.state world.new) }
+        // A machine that stood for a history stands for it with the replies and the calls of this run.
+        ensures history { (replies : List SysReply) (calls : List SysCall) (before : List SysReply) (asked : List SysCall) →
+            CameTo self.old.code self.old.limit self.old.state replies calls self.new.state →
+            StandsFor self.old before asked → StandsFor self.new (before ++ replies) (asked ++ calls) }
         ensures code { self.new.code ≡ self.old.code }
         ensures limit { self.new.limit ≡ self.old.limit }
         ensures well { StandsWell self.new }

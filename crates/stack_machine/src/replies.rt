@@ -1,17 +1,17 @@
 ghost use Rattle.std.specs.Prelude.{◌≡◌, ◌<◌, ◌≤◌, ◌+◌, ◌++◌, ◌∷◌, ◌^◌, length, map, pos};
 ghost use Rattle.stack_code.specs.CodeLists.{CodeLists};
-ghost use Rattle.stack_code.specs.Interface.{values_of};
+ghost use Rattle.solo_base.specs.Interface.{values_of};
 ghost use Rattle.stack_code.specs.Rules.{pops};
 ghost use Rattle.stack_machine.specs.State.{words_of, with_words};
-ghost use Rattle.stack_machine.specs.Calls.{results_in, array_in, ticks_in};
+ghost use Rattle.solo_base.specs.Replies.{results_in, array_in, ticks_in};
 ghost use Rattle.stack_machine.specs.Machine.{answered, fail_call, reply_at, set_array, uses_program, array_start};
 ghost use Rattle.stack_machine.specs.Room.{HasRoom, HasRoomFor};
 
 use crate::operands::Operands;
 use crate::state::State;
 use crate::step::{array_start, uses_program};
-use solo_base::{ProgResult, SysReply};
-use stack_code::{Instr, Procedure, Verified};
+use solo_base::{ProgResult, SysReply, call_row};
+use stack_code::{Instr, Verified};
 
 impl State {
     /// Completes the instruction whose call got this reply, or ends the program.
@@ -32,7 +32,8 @@ impl State {
     fn complete(&mut self, instr: Instr, reply: &SysReply)
         requires place { self.old.current.place < 8192 }
         requires room { HasRoom self.old instr reply.now }
-        ensures { (c : CodeLists) → pops c instr.op instr.a ≡ values_of instr.a → self.new ≡ reply_at c self.old instr reply.now }
+        ensures { (c : CodeLists) → pops c instr.op instr.a ≡ values_of instr.a
+            → self.new ≡ reply_at c self.old instr reply.now }
     {
         let program = uses_program(instr.op);
         self.set_array(program, array_start(instr) as usize, reply);
@@ -46,7 +47,8 @@ impl State {
     fn set_array(&mut self, program: bool, start: usize, reply: &SysReply)
         requires low { start < 2 ^ 16 }
         requires inside { start + length (array_in reply.now) ≤ length (words_of program self.old) }
-        ensures { self.new ≡ with_words program self.old (set_array (words_of program self.old) start (array_in reply.now)) }
+        ensures { self.new
+            ≡ with_words program self.old (set_array (words_of program self.old) start (array_in reply.now)) }
     {
         match reply {
             SysReply::Page(page) => self.set_bytes(program, start, &page.0),
@@ -59,7 +61,8 @@ impl State {
     fn set_bytes(&mut self, program: bool, start: usize, bytes: &[u8])
         requires low { start < 2 ^ 16 }
         requires inside { start + length bytes.now ≤ length (words_of program self.old) }
-        ensures { self.new ≡ with_words program self.old (set_array (words_of program self.old) start (map pos bytes.now)) }
+        ensures { self.new
+            ≡ with_words program self.old (set_array (words_of program self.old) start (map pos bytes.now)) }
     {
         for place in 0..bytes.len() {
             self.set_word(program, start + place, i16::from(bytes[place]));
@@ -71,8 +74,8 @@ impl State {
 fn values_of(row: u16) -> usize
     ensures { result ≡ values_of row }
 {
-    match Procedure::at(row) {
-        Some(procedure) => procedure.row().values as usize,
+    match call_row(row) {
+        Some(found) => found.values as usize,
         None => 0,
     }
 }

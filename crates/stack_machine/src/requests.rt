@@ -1,16 +1,14 @@
 ghost use Rattle.std.specs.Prelude.{◌≡◌, ◌<◌, ◌≤◌, ◌+◌, ◌^◌, ℕ, length, take, drop, map, pos, IfSome, IfNone, unsigned_abs, true, false, slice_index_or};
 ghost use Rattle.solo_base.specs.declared.outcome.ProgResult.TheVariants.{RangeError};
-ghost use Rattle.stack_code.specs.Interface.{call_row_of};
+ghost use Rattle.solo_base.specs.Interface.{call_row_of};
 ghost use Rattle.stack_machine.specs.State.{asked, stop, words_of};
-ghost use Rattle.stack_machine.specs.Calls.{sys, ask, made, request, byte_of, are_bytes};
+ghost use Rattle.solo_base.specs.Arithmetic.{byte_of, are_bytes};
+ghost use Rattle.stack_machine.specs.Calls.{sys, ask, made, request};
 
 use crate::state::{Ask, State};
 use crate::words::routine_at;
-use solo_base::{PAGE_LENGTH, Page, ProgResult, SysCall};
-use stack_code::{Procedure, Verified};
-
-/// How many words a name in a frame has.
-pub(crate) const NAME_LENGTH: usize = 12;
+use solo_base::{IDENT_LENGTH, PAGE_LENGTH, Page, Procedure, ProgResult, SysCall};
+use stack_code::Verified;
 
 impl State {
     /// SYS, SYSG, SYSL: the call of a row of the interface, with the array from word b. The program
@@ -43,7 +41,8 @@ impl State {
         requires low { b < 2 ^ 16 }
         requires values { (call_row_of procedure).values ≤ length self.now.current.operands }
         requires array { b + (call_row_of procedure).array ≤ length (words_of program self.now) }
-        ensures { asked result self.now ≡ made self.now (request procedure self.now.current.operands (take (call_row_of procedure).array (drop b (words_of program self.now))) left) }
+        ensures { asked result self.now
+            ≡ made self.now (request procedure self.now.current.operands (take (call_row_of procedure).array (drop b (words_of program self.now))) left) }
     {
         let top = self.operand(0);
         let second = self.operand(1);
@@ -108,8 +107,8 @@ impl State {
         requires inside { start + 12 ≤ length (words_of program self.now) }
         ensures { result ≡ take 12 (drop start (words_of program self.now)) }
     {
-        let mut name = [0; NAME_LENGTH];
-        for k in 0..NAME_LENGTH {
+        let mut name = [0; IDENT_LENGTH];
+        for k in 0..IDENT_LENGTH {
             name[k] = self.word(program, start + k).unwrap_or(0);
         }
         name
@@ -119,8 +118,10 @@ impl State {
     fn page_at(&self, program: bool, start: usize) -> Option<Page>
         requires low { start < 2 ^ 16 }
         requires inside { start + 512 ≤ length (words_of program self.now) }
-        ensures bytes { IfSome result (λ page. (are_bytes (take 512 (drop start (words_of program self.now))) ≡ true) × (page.0 ≡ map unsigned_abs (take 512 (drop start (words_of program self.now))))) }
-        ensures other { IfNone result (are_bytes (take 512 (drop start (words_of program self.now))) ≡ false) }
+        ensures bytes { IfSome result (λ page. (are_bytes (take 512 (drop start (words_of program self.now)))
+            ≡ true) × (page.0 ≡ map unsigned_abs (take 512 (drop start (words_of program self.now))))) }
+        ensures other { IfNone result (are_bytes (take 512 (drop start (words_of program self.now)))
+            ≡ false) }
     {
         let mut bytes = [0; PAGE_LENGTH];
         for k in 0..PAGE_LENGTH {

@@ -46,7 +46,10 @@ impl State {
     /// Ends the program with a result in a line.
     pub(crate) fn end(&mut self, result_of: ProgResult, line: u32) -> Finish
         ensures finish { result ≡ record { result = result_of; line = line; ticks = self.old.ticks } }
-        ensures ended { self.new ≡ record self.old { ended = Some (record { result = result_of; line = line; ticks = self.old.ticks }) } }
+        ensures ended { self.new ≡ record self.old {
+          ended =
+              Some (record { result = result_of; line = line; ticks = self.old.ticks });
+        } }
     {
         let finish = Finish {
             result: result_of,

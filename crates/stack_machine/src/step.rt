@@ -75,6 +75,13 @@ impl State {
             Op::Halt => self.stop(ProgResult::Terminated),
             Op::Succ => self.unary(Op::Succ),
             Op::Pred => self.unary(Op::Pred),
+            Op::RefG => self.refer(code, 0, a),
+            Op::RefL => {
+                let number = self.below.len();
+                self.refer(code, number, a)
+            }
+            Op::LoadR => self.load_reference(code, a),
+            Op::StoreR => self.store_reference(a),
         }
     }
 }

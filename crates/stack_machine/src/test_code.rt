@@ -1,10 +1,10 @@
-ghost use Rattle.std.specs.Prelude.{◌≡◌, ◌<◌, length};
+ghost use Rattle.std.specs.Prelude.{◌≡◌, ◌<◌, length, IfSome};
 ghost use Rattle.std.specs.List.{All};
-ghost use Rattle.stack_machine.specs.Fits.{Fits};
+ghost use Rattle.solo_base.specs.Fits.{Fits};
 
 use crate::*;
 use solo_base::{PAGE_LENGTH, Page, ProgResult, SysCall, SysReply};
-use stack_code::{Op, Verified, decode, verify};
+use stack_code::{Code, Op, Verified, decode, encode, verify};
 use std::alloc::Global;
 use std::test::*;
 
@@ -54,6 +54,16 @@ pub(crate) fn verified(
     let bytes = code_file(alloc, routines, instrs)?;
     let code = decode(alloc, &bytes).ok().ok_or("no code")?;
     Ok(verify(code).ok().ok_or("not good")?)
+}
+
+// The code, written and read again.
+pub(crate) fn read_again(alloc: Global, code: &Code) -> Option<Code>
+    ensures { IfSome result (λ again. again ≡ code.now) }
+{
+    let Ok(bytes) = encode(alloc, code) else {
+        return None;
+    };
+    decode(alloc, &bytes).ok()
 }
 
 // A page whose bytes count from 0.

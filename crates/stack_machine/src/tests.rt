@@ -1,5 +1,6 @@
 use crate::test_code::{
-    HALT, PROGRAM, Routine, TICK, Written, ends, finish_of, push, run_code, sys, verified,
+    HALT, PROGRAM, Routine, TICK, Written, ends, finish_of, push, read_again, run_code, sys,
+    verified,
 };
 use crate::*;
 use solo_base::{ProgResult, SysCall, SysReply};
@@ -177,5 +178,14 @@ fn a_program_that_ended_stays_so(rt: HostRuntime) -> Result<(), Fail> {
         };
         assert_eq!(rt; finish, ends(ProgResult::CallError, 1, 1));
     }
+    Ok(())
+}
+
+#[test]
+fn code_that_is_written_is_read_again(rt: HostRuntime) -> Result<(), Fail> {
+    let code = verified(rt.alloc(), PROGRAM, &[TICK, push(-3), sys(2), HALT])?;
+    let again = read_again(rt.alloc(), code.code()).ok_or("no code")?;
+    assert_eq!(rt; again.instrs(), code.code().instrs());
+    assert_eq!(rt; again.routines(), code.code().routines());
     Ok(())
 }

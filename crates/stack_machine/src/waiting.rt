@@ -1,6 +1,6 @@
-ghost use Rattle.std.specs.Prelude.{◌≡◌, ◌<◌, ◌≤◌, ◌+◌, List, [], ◌∷◌, ◌++◌, length, take, slice_get, slice_set, Some, IfOk};
+ghost use Rattle.std.specs.Prelude.{◌≡◌, ◌<◌, ◌≤◌, ◌+◌, List, [], ◌∷◌, ◌++◌, length, take, slice_get, slice_set, slice_index_or, Some, IfOk};
 ghost use Rattle.stack_machine.specs.declared.activation.Activation.{Activation};
-ghost use Rattle.stack_machine.specs.Activations.{opened, waiting_caller};
+ghost use Rattle.stack_machine.specs.Activations.{opened, waiting_caller, nobody};
 
 use crate::activation::Activation;
 use crate::{Frame, Operands};
@@ -84,28 +84,30 @@ impl Waiting {
         std::mem::swap(&mut self.slots[self.count], current);
     }
 
-    /// How many words the program's frame has, where it waits.
-    pub(crate) fn program_len(&self) -> usize
-        requires { 0 < length self.now }
-        ensures count { (program : Activation) → slice_get self.now 0 ≡ Some program → result ≡ length program.words }
+    /// How many words the frame of the activation with this number has.
+    pub(crate) fn words_len(&self, number: usize) -> usize
+        requires { number < length self.now }
+        ensures count { result ≡ length (slice_index_or self.now number nobody).words }
         ensures bound { result ≤ 4352 }
     {
-        self.slots[0].words.len()
+        self.slots[number].words.len()
     }
 
-    /// A word of the program's frame, where it waits.
-    pub(crate) fn program_word(&self, place: usize) -> Option<i16>
-        requires { 0 < length self.now }
-        ensures { (program : Activation) → slice_get self.now 0 ≡ Some program → result ≡ slice_get program.words place }
+    /// A word of its frame.
+    pub(crate) fn word(&self, number: usize, place: usize) -> Option<i16>
+        requires { number < length self.now }
+        ensures { result ≡ slice_get (slice_index_or self.now number nobody).words place }
     {
-        self.slots[0].words.get(place)
+        self.slots[number].words.get(place)
     }
 
-    /// Changes a word of the program's frame, where it waits.
-    pub(crate) fn set_program_word(&mut self, place: usize, word: i16)
-        requires { (program : Activation) × (slice_get self.old 0 ≡ Some program) × (place < length program.words) }
-        ensures { (program : Activation) → slice_get self.old 0 ≡ Some program → self.new ≡ slice_set self.old 0 (record program { words = slice_set program.words place word }) }
+    /// Changes a word of its frame.
+    pub(crate) fn set_word(&mut self, number: usize, place: usize, word: i16)
+        requires waits { number < length self.old }
+        requires inside { place < length (slice_index_or self.old number nobody).words }
+        ensures { (a : Activation) → slice_get self.old number ≡ Some a
+            → self.new ≡ slice_set self.old number (record a { words = slice_set a.words place word }) }
     {
-        self.slots[0].words.set(place, word);
+        self.slots[number].words.set(place, word);
     }
 }

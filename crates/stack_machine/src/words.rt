@@ -1,7 +1,7 @@
 ghost use Rattle.std.specs.Prelude.{◌≡◌, ◌<◌, ◌≤◌, ◌∷◌, ◌+◌, Bool, List, ℤ, [], length, slice_get, slice_set, IfSome, IfNone, IsTrue};
 ghost use Rattle.stack_code.specs.CodeLists.{IsCode, routine_at};
 ghost use Rattle.stack_code.specs.Rules.{IsGood};
-ghost use Rattle.stack_machine.specs.State.{has_room, words_of, with_words};
+ghost use Rattle.stack_machine.specs.State.{has_room, words_at, with_words_at, words_of, with_words};
 
 use crate::activation::Activation;
 use crate::state::State;
@@ -38,36 +38,75 @@ pub(crate) fn has_room(code: &Verified, activation: &Activation) -> bool
 }
 
 impl State {
-    /// How many words the program's frame, or the activation's own, has.
+    /// How many words the frame of the activation with this number has; 0 where none is open.
+    pub(crate) fn words_len_at(&self, number: usize) -> usize
+        ensures count { result ≡ length (words_at self.now number) }
+        ensures bound { result ≤ 4352 }
+    {
+        if number < self.below.len() {
+            self.below.words_len(number)
+        } else if number == self.below.len() {
+            self.current.words.len()
+        } else {
+            0
+        }
+    }
+
+    /// A word of the frame of the activation with this number, if both are there.
+    pub(crate) fn word_at(&self, number: usize, place: usize) -> Option<i16>
+        ensures { result ≡ slice_get (words_at self.now number) place }
+    {
+        if number < self.below.len() {
+            self.below.word(number, place)
+        } else if number == self.below.len() {
+            self.current.words.get(place)
+        } else {
+            None
+        }
+    }
+
+    /// Changes a word of the frame of the activation with this number.
+    pub(crate) fn set_word_at(&mut self, number: usize, place: usize, word: i16)
+        requires { place < length (words_at self.old number) }
+        ensures { self.new ≡ with_words_at self.old number (slice_set (words_at self.old number) place word) }
+    {
+        if number < self.below.len() {
+            self.below.set_word(number, place, word);
+        } else {
+            self.current.words.set(place, word);
+        }
+    }
+
+    /// How many words the program's frame, or the current activation's own, has.
     pub(crate) fn words_len(&self, program: bool) -> usize
         ensures count { result ≡ length (words_of program self.now) }
         ensures bound { result ≤ 4352 }
     {
-        if program && self.below.len() > 0 {
-            self.below.program_len()
+        if program {
+            self.words_len_at(0)
         } else {
             self.current.words.len()
         }
     }
 
-    /// A word of the program's frame, or of the activation's own.
+    /// A word of the program's frame, or of the current activation's own.
     pub(crate) fn word(&self, program: bool, place: usize) -> Option<i16>
         ensures { result ≡ slice_get (words_of program self.now) place }
     {
-        if program && self.below.len() > 0 {
-            self.below.program_word(place)
+        if program {
+            self.word_at(0, place)
         } else {
             self.current.words.get(place)
         }
     }
 
-    /// Changes a word of the program's frame, or of the activation's own.
+    /// Changes a word of the program's frame, or of the current activation's own.
     pub(crate) fn set_word(&mut self, program: bool, place: usize, word: i16)
         requires { place < length (words_of program self.old) }
         ensures { self.new ≡ with_words program self.old (slice_set (words_of program self.old) place word) }
     {
-        if program && self.below.len() > 0 {
-            self.below.set_program_word(place, word);
+        if program {
+            self.set_word_at(0, place, word);
         } else {
             self.current.words.set(place, word);
         }

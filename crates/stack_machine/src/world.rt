@@ -1,7 +1,7 @@
 ghost use Rattle.std.specs.Prelude.{◌≡◌, Result, IfOk, IfErr};
 ghost use Rattle.solo_base.specs.declared.system_call.SysCall.{SysCall};
 ghost use Rattle.solo_base.specs.declared.system_call.SysReply.{SysReply};
-ghost use Rattle.stack_machine.specs.Fits.{Fits};
+ghost use Rattle.solo_base.specs.Fits.{Fits};
 ghost use Rattle.stack_machine.specs.Safe.{IsSound};
 ghost use Rattle.stack_machine.specs.World.{RanToEnd, BrokeOff};
 

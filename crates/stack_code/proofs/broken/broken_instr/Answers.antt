@@ -2,7 +2,8 @@ use Rattle.std.proofs.Common.{not, sym, ◌∙◌, ap, length, arith}
 use Rattle.stack_code.specs.CodeFile.{least}
 use Rattle.stack_code.specs.Rules.{instr_is_good}
 use Rattle.stack_code.proofs.Least.{least_here, least_further, least_nowhere}
-use Rattle.stack_code.proofs.StraightLine.{height_at_start, is_behind_tick_start}
+use Rattle.stack_code.proofs.StraightLine.{height_at_start}
+use Rattle.stack_code.proofs.BehindTick.{is_behind_tick_start}
 use Rattle.stack_code.proofs.broken.broken_instr.Goals as goal
 
 pub loop-place-init : goal.loop-place-init

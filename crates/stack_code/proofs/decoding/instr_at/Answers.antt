@@ -1,7 +1,10 @@
--- Each number below 38 is that of an operation.
-use Rattle.std.proofs.Common.{arith, sym, ◌∙◌}
-use Rattle.stack_code.proofs.Rows.{op_at_some}
+-- An operation has the number.
+use Rattle.std.proofs.Common.{sym, ◌∙◌, ap}
+use Rattle.std.specs.Prelude.{is_some}
+use Rattle.std.proofs.lemmas.Bool.{false≢true}
+use Rattle.stack_code.specs.Table.{op_at}
 use Rattle.stack_code.proofs.decoding.instr_at.Goals as goal
 
 pub unreachable-requires : goal.unreachable-requires
-unreachable-requires c = op_at_some c.byte_at.result (omega (arith, c.byte_at.ensures, c.requires.number)) (sym c.at.ensures ∙ c.in-None.is)
+unreachable-requires c = false≢true
+    (ap is_some (sym c.in-None.is ∙ c.at.ensures ∙ ap op_at c.byte_at.ensures) ∙ c.requires.number)

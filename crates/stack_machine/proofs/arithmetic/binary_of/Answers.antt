@@ -1,5 +1,5 @@
 use Rattle.std.proofs.Common.{◌∙◌, ap}
-use Rattle.stack_machine.specs.Effects.{fit}
+use Rattle.solo_base.specs.Arithmetic.{fit}
 use Rattle.stack_machine.proofs.Numbers.{wide_product}
 use Rattle.stack_machine.proofs.arithmetic.binary_of.Goals as goal
 

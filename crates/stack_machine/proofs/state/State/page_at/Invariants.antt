@@ -2,7 +2,7 @@
 use Rattle.std.proofs.Common.{◌≡◌, ℕ, ◌+◌, ◌<◌, pos, true, length, get_or}
 use Rattle.std.specs.Prelude.{unsigned_abs}
 use Rattle.stack_machine.specs.State.{words_of}
-use Rattle.stack_machine.specs.Calls.{is_byte}
+use Rattle.solo_base.specs.Arithmetic.{is_byte}
 use Rattle.stack_machine.proofs.state.State.page_at.Given as goal
 
 abbrev pub invariant-loop-k : goal.invariant-loop-k

@@ -1,5 +1,5 @@
 use Rattle.std.proofs.Common.{sym, subst, ◌<◌}
-use Rattle.stack_machine.proofs.Rounds.{so_far_begins, room_in_round, so_far_more, round_less, ran_to_end}
+use Rattle.stack_machine.proofs.Rounds.{so_far_begins, room_in_round, so_far_more, round_less, ran_to_end, broke_off}
 use Rattle.stack_machine.proofs.Reply.{left_until_end}
 use Rattle.stack_machine.proofs.state.State.run.Goals as goal
 
@@ -21,3 +21,8 @@ loop-finish-smaller g c =
 pub loop-finish-preserved : goal.loop-finish-preserved
 loop-finish-preserved g c =
     so_far_more g.W.World.answers c.args.code.now c.args.limit c.args.self.now c.args.world.now c.loop-finish.self c.go.new.self c.answer.new.self c.loop-finish.world c.call.new.self c.in-Call.call c.in-Ok.reply c.loop-finish.invariant c.in-Call.ensures.pauses c.in-Call.ensures.sound c.in-Ok.ensures.answers c.in-Ok.ensures.fits c.answer.ensures
+
+pub returns-in-Err-clause-broke_off : goal.returns-in-Err-clause-broke_off
+returns-in-Err-clause-broke_off g c =
+    broke_off g.W.World.answers c.args.code.now c.args.limit c.args.self.now c.args.world.now c.loop-finish.self c.go.new.self c.loop-finish.world c.call.new.self
+    c.in-Call.call c.in-Err.fault c.loop-finish.invariant c.in-Call.ensures.pauses c.in-Err.ensures.answers
