@@ -1,3 +1,4 @@
 mod Parting
 mod Numerals
 pub mod Steps
+pub mod Completed

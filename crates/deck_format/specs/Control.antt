@@ -1,8 +1,8 @@
 -- What a card says to the deck: `#` in column 1, directly followed by its first word.
-use Rattle.std.specs.Prelude.{ℕ, ◌+◌, ◌-◌, ◌*◌, Bool, true, false, ◌&&◌, nat_le, ◌==◌, List, [], ◌∷◌, length, filter, Option, Some, None, codes, if◌then◌else◌}
+use Rattle.std.specs.Prelude.{ℕ, ◌+◌, Bool, true, false, ◌&&◌, ◌==◌, List, [], ◌∷◌, filter, Option, Some, None, codes, if◌then◌else◌}
 use Rattle.std.specs.Option.{option_map_or}
-use Rattle.std.specs.List.{list_all}
-use Rattle.solo_base.specs.Ident.{capital, identifier, is_digit}
+use Rattle.solo_base.specs.Ident.{capital, identifier}
+use Rattle.deck_format.specs.Numeral.{number_within}
 use Rattle.deck_format.specs.declared.control.Opener.TheVariants as opener
 use Rattle.deck_format.specs.declared.control.Control.{Control}
 use Rattle.deck_format.specs.declared.control.Control.TheVariants.{Opens, Data, End, Bad}
@@ -32,18 +32,9 @@ spells (code ∷ rest) (letter ∷ letters) = (capital code == letter) && spells
 spells [] (letter ∷ letters) = false
 spells (code ∷ rest) [] = false
 
--- the value of digits behind a number that was read
-abbrev pub value_after : ℕ → List ℕ → ℕ
-value_after number [] = number
-value_after number (digit ∷ digits) = value_after (10 * number + (digit - 48)) digits
-
 -- a limit of ticks: one to seven digits, of a value from 1 to 1,000,000
-abbrev pub is_limit : List ℕ → Bool
-is_limit word = nat_le 1 (length word) && nat_le (length word) 7 && list_all is_digit word
-    && nat_le 1 (value_after 0 word) && nat_le (value_after 0 word) 1000000
-
 abbrev pub limit_of : List ℕ → Option ℕ
-limit_of word = if is_limit word then Some (value_after 0 word) else None
+limit_of word = number_within 7 1 1000000 word
 
 -- where a job gives no limit
 abbrev pub default_limit : ℕ

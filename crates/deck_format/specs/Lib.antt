@@ -3,3 +3,5 @@ pub use Rattle.solo_base.specs.Ident
 pub mod Control
 pub mod Jobs
 pub mod JobReader
+pub mod Numeral
+pub mod Completed

@@ -2,7 +2,8 @@ ghost use Rattle.std.specs.Prelude.{◌≡◌};
 ghost use Rattle.solo_base.specs.Ident.{identifier};
 ghost use Rattle.deck_format.specs.Control.{control_of, behind_mark, form, words, lone, named, with_last, with_limit, with_file, limit_of};
 
-use crate::words::{limit_of, spells, split_word};
+use crate::numeral::number_within;
+use crate::words::{spells, split_word};
 use solo_base::Ident;
 
 /// A card that opens a group of cards.
@@ -121,7 +122,7 @@ fn with_last(word: &[u8], name: &[u8], last: &[u8]) -> Control
 fn with_limit(name: Ident, last: &[u8]) -> Control
     ensures { result ≡ with_limit name (limit_of last.now) }
 {
-    match limit_of(last) {
+    match number_within(last, 7, 1, 1_000_000) {
         Some(limit) => Control::Opens(Opener::Job { name, limit }),
         None => Control::Bad,
     }

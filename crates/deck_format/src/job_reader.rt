@@ -25,6 +25,7 @@ impl JobReader {
     ghost use Rattle.deck_format.specs.declared.job.Job.{Job};
     ghost use Rattle.deck_format.specs.Jobs.{jobs};
     ghost use Rattle.deck_format.specs.JobReader.{jobs_from, given, StandsFor};
+    ghost use Rattle.deck_format.specs.Completed.{completed};
 
     /// A reader that was given nothing, which takes no memory.
     pub fn new(alloc: Global) -> JobReader
@@ -46,6 +47,10 @@ impl JobReader {
         // So a reader that stood for some items does so with one more.
         ensures stands { IfOk result (λ job. (items : List Item) (jobs_given : List Job) →
             StandsFor self.old items jobs_given → StandsFor self.new (items ++ item.now ∷ []) (jobs_given ++ given job)) }
+
+        // It is the one job that the item completes, and none comes only where the item completes none.
+        ensures completes { IfOk result (λ job. (items : List Item) (jobs_given : List Job) →
+            StandsFor self.old items jobs_given → completed (items ++ item.now ∷ []) ≡ completed items ++ given job) }
         ensures err { OnErr result (self.new ≡ self.old) }
     {
         step(&mut self.place, self.alloc, item)

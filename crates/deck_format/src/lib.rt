@@ -4,13 +4,15 @@
 mod control;
 mod job;
 mod job_reader;
+mod numeral;
 mod place;
 mod words;
 
 pub use control::{Control, DEFAULT_LIMIT, Opener, control_of};
 pub use job::{CardFault, CardFaultKind, Job};
 pub use job_reader::JobReader;
-pub use place::Place;
+pub use numeral::number_within;
+pub use place::{Place, control_in, counts, ends_in, opener_in};
 
 #[cfg(test)]
 mod tests;

@@ -97,7 +97,7 @@ pub fn step(place: &mut Place, alloc: Global, item: &Item) -> Result<Option<Job>
 }
 
 /// The opener that a control card is.
-fn opener_in(control: &Option<Control>) -> Option<Opener>
+pub fn opener_in(control: &Option<Control>) -> Option<Opener>
     ensures { result ≡ opener_in control.now }
 {
     match control {
@@ -107,14 +107,14 @@ fn opener_in(control: &Option<Control>) -> Option<Opener>
 }
 
 /// Whether a control card ends its group.
-fn ends_in(control: &Option<Control>) -> bool
+pub fn ends_in(control: &Option<Control>) -> bool
     ensures { result ≡ ends_in control.now }
 {
     matches!(control, Some(Control::End))
 }
 
 /// The control card that the item is.
-fn control_in(item: &Item) -> Option<Control>
+pub fn control_in(item: &Item) -> Option<Control>
     ensures { result ≡ control_in item.now }
 {
     match item {
@@ -192,7 +192,7 @@ fn fault_at(kind: CardFaultKind, card: u32) -> CardFault
 }
 
 /// Whether the item counts where it stands outside groups: a blank card doesn't.
-fn counts(item: &Item) -> bool
+pub fn counts(item: &Item) -> bool
     ensures { result ≡ counts item.now }
 {
     match item {

@@ -1,6 +1,6 @@
 use Rattle.std.proofs.Common.{arith, rules}
 use Rattle.deck_format.proofs.Numerals.{OneMore, one_more}
-use Rattle.deck_format.proofs.words.+value_after.Goals as goal
+use Rattle.deck_format.proofs.numeral.+value_after.Goals as goal
 
 pub overflow_mul-number : goal.overflow_mul-number
 overflow_mul-number t c =

@@ -1,5 +1,5 @@
 use Rattle.std.proofs.Common.{length}
-use Rattle.deck_format.proofs.words.+value_after.Given as goal
+use Rattle.deck_format.proofs.numeral.+value_after.Given as goal
 
 abbrev pub decreases-value_after : goal.decreases-value_after
 decreases-value_after l = length l.digits.now
