@@ -1,8 +1,17 @@
-//! One job of a deck: what it prints.
+//! What the jobs of a deck print: the report of each, and the lines of a deck that still goes on.
 #![tactic(auto)]
 
+mod item_lines;
+mod job_stream;
+mod lines;
+mod lines_ahead;
+mod part;
 mod report;
 
+pub use job_stream::JobStream;
+pub use lines::lines_go_on;
+pub use lines_ahead::End;
+pub use part::Part;
 pub use report::run_job;
 
 #[cfg(test)]

@@ -37,7 +37,7 @@ fn push_all(lines: &mut LineList, more: &LineList) -> Result<(), NoMemory>
 }
 
 /// `JOB A`
-fn heading(name: &Ident) -> Line
+pub fn heading(name: &Ident) -> Line
     ensures { result ≡ heading name.now }
 {
     let mut line = Line::new();
@@ -57,7 +57,7 @@ fn listing_end(name: &Ident, cards: &LineList, fault: Option<CardFault>) -> Line
 }
 
 /// `A: LISTED 1 CARDS`
-fn listed_line(name: &Ident, count: u32) -> Line
+pub fn listed_line(name: &Ident, count: u32) -> Line
     ensures { result ≡ listed_line name.now count }
 {
     let mut line = starting_with(name);
@@ -68,7 +68,7 @@ fn listed_line(name: &Ident, count: u32) -> Line
 }
 
 /// `A: SPOILED CARD 2`
-fn fault_line(name: &Ident, fault: CardFault) -> Line
+pub fn fault_line(name: &Ident, fault: CardFault) -> Line
     ensures { result ≡ fault_line name.now fault }
 {
     let mut line = starting_with(name);
@@ -81,7 +81,7 @@ fn fault_line(name: &Ident, fault: CardFault) -> Line
 }
 
 /// `A: NOT BUILT`
-fn unbuilt_line(name: &Ident) -> Line
+pub fn unbuilt_line(name: &Ident) -> Line
     ensures { result ≡ unbuilt_line name.now }
 {
     let mut line = starting_with(name);
@@ -90,7 +90,7 @@ fn unbuilt_line(name: &Ident) -> Line
 }
 
 /// `3 CARDS SKIPPED`
-fn skipped_line(count: u32) -> Line
+pub fn skipped_line(count: u32) -> Line
     ensures { result ≡ skipped_line count }
 {
     let mut line = Line::new();

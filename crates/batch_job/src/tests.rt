@@ -1,6 +1,7 @@
-use crate::run_job;
+use crate::{JobStream, run_job};
 use deck_format::{CardFault, CardFaultKind, Job};
-use solo_base::{Ident, Line, LineList};
+use page_codec::{Packer, PageItems, Unpacker};
+use solo_base::{Ident, Item, Line, LineList, Page};
 use std::alloc::Global;
 use std::test::Fail;
 
@@ -70,5 +71,52 @@ fn other_jobs_are_printed(rt: HostRuntime) -> Result<(), Fail> {
         let skipped = printed(alloc, Job::Skipped { count })?;
         assert_eq!(rt; skipped.as_slice(), want);
     }
+    Ok(())
+}
+
+/// The last page of a stream of these cards.
+fn page_of(cards: &[&[u8]]) -> Result<Page, Fail> {
+    let mut packer = Packer::new();
+    for card in cards {
+        let line = Line::of(card).ok_or("a card")?;
+        if packer.push(&Item::Line(line)).is_some() {
+            return Err("more than a page".into());
+        }
+    }
+    Ok(packer.finish())
+}
+
+/// The items of the last page of a stream.
+fn items_of(page: &Page) -> Result<PageItems, Fail> {
+    match Unpacker::new().take(page, true) {
+        Ok(items) => Ok(items),
+        Err(_) => Err("a bad page".into()),
+    }
+}
+
+#[test]
+fn a_stream_gives_the_lines_of_its_jobs(rt: HostRuntime) -> Result<(), Fail> {
+    let deck = page_of(&[
+        b"X", b"#LIST A", b"HELLO", b"#LIST B", b"#BAD", b"Y", b"#JOB P", b"BEGIN", b"#END", b"Z",
+    ])?;
+    let mut stream = JobStream::new();
+    let mut packer = Packer::new();
+    assert!(rt; stream.wants().is_none());
+    stream.feed(items_of(&deck)?)?;
+    assert!(rt; stream.pack(&mut packer)?.is_none());
+    let mut lines = items_of(&packer.finish())?;
+    let mut text = Vec::new(rt.alloc());
+    for _ in 0..10 {
+        if let Some(Item::Line(line)) = lines.next() {
+            text.extend_from_slice(line.bytes())?;
+            text.push(b'|')?;
+        }
+    }
+    assert_eq!(rt;
+        text.as_slice(),
+        b"1 CARDS SKIPPED|JOB A|HELLO|A: LISTED 1 CARDS|JOB B|B: BAD CONTROL CARD 1|\
+          JOB P|P: NOT BUILT|1 CARDS SKIPPED|"
+            .as_slice()
+    );
     Ok(())
 }

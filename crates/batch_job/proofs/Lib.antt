@@ -1,0 +1,2 @@
+pub mod LinesSoFar
+pub mod PushingLines
