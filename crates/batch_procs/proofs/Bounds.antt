@@ -1,0 +1,79 @@
+-- How many parcels each of the five puts at most for what it takes.
+use Rattle.std.proofs.Common.{◌≡◌, ◌≤◌, ℕ, suc, false, List, [], ◌∷◌, length, length-append, Option, None, Some, refl, ap, arith}
+use Rattle.std.specs.Prelude.{option_to_list}
+use Rattle.solo_base.specs.declared.item.Item.{Item}
+use Rattle.solo_base.specs.declared.item.Item.TheVariants.{Line, Spoiled}
+use Rattle.solo_base.specs.declared.item.Feed.{Feed}
+use Rattle.solo_base.specs.declared.item.Feed.TheVariants as feed
+use Rattle.solo_base.specs.declared.page.Page.{Page}
+use Rattle.page_codec.specs.Packing.{PageInHand, first_page, page_given, hand_after}
+use Rattle.batch_procs.specs.Parcels.{Parcel, OfFeed, OfPage, OfLine}
+use Rattle.batch_procs.specs.Sends.{feeds, as_parcels, as_lines, marked, items, packed, until_end, lines_of}
+use Rattle.batch_procs.specs.Table.{card, input, printer}
+use Rattle.batch_procs.specs.Ahead.{GivesAtMost}
+
+feeds-length : (all : List Parcel) → length (feeds all) ≤ length all
+feeds-length [] = omega arith
+feeds-length (OfFeed f ∷ rest) = let few = feeds-length rest in omega (arith, few)
+feeds-length (OfPage page last ∷ rest) = let few = feeds-length rest in omega (arith, few)
+feeds-length (OfLine line ∷ rest) = let few = feeds-length rest in omega (arith, few)
+
+pub parcels-length : (all : List Feed) → length (as_parcels all) ≡ length all
+parcels-length [] = refl
+parcels-length (f ∷ rest) = ap suc (parcels-length rest)
+
+lines-length : (all : List (List ℕ)) → length (as_lines all) ≡ length all
+lines-length [] = refl
+lines-length (line ∷ rest) = ap suc (lines-length rest)
+
+until-length : (all : List Feed) → length (until_end all) ≤ length all
+until-length [] = omega arith
+until-length (feed.Item item ∷ rest) = let few = until-length rest in omega (arith, few)
+until-length (feed.End ∷ rest) = omega arith
+
+items-length : (all : List Feed) → length (items all) ≤ length all
+items-length [] = omega arith
+items-length (feed.Item item ∷ rest) = let few = items-length rest in omega (arith, few)
+items-length (feed.End ∷ rest) = omega arith
+
+pub lines_of-length : (xs : List Item) → length (lines_of xs) ≤ length xs
+lines_of-length [] = omega arith
+lines_of-length (Line line ∷ rest) = let few = lines_of-length rest in omega (arith, few)
+lines_of-length (Spoiled ∷ rest) = let few = lines_of-length rest in omega (arith, few)
+
+given-length : (hand : PageInHand) (item : Item) → length (marked false (option_to_list (page_given hand item))) ≤ 1
+given-length hand item = by (page_given hand item)
+  where
+    by : (given : Option Page) → length (marked false (option_to_list given)) ≤ 1
+    by None = omega arith
+    by (Some page) = omega arith
+
+pub packed-length : (hand : PageInHand) (all : List Feed) → length (packed hand all) ≤ length all
+packed-length hand [] = omega arith
+packed-length hand (feed.Item item ∷ rest) =
+    let one = given-length hand item in
+    let few = packed-length (hand_after hand item) rest in
+    let both = length-append (marked false (option_to_list (page_given hand item))) (packed (hand_after hand item) rest) in
+    omega (arith, one, few, both)
+packed-length hand (feed.End ∷ rest) = omega arith
+
+pub card-bound : GivesAtMost 1 card
+card-bound all =
+    let a = feeds-length all in
+    let b = until-length (feeds all) in
+    let c = parcels-length (until_end (feeds all)) in
+    omega (arith, a, b, c)
+
+pub input-bound : GivesAtMost 1 input
+input-bound all =
+    let a = feeds-length all in
+    let b = packed-length first_page (feeds all) in
+    omega (arith, a, b)
+
+pub printer-bound : GivesAtMost 1 printer
+printer-bound all =
+    let a = feeds-length all in
+    let b = items-length (feeds all) in
+    let c = lines_of-length (items (feeds all)) in
+    let d = lines-length (lines_of (items (feeds all))) in
+    omega (arith, a, b, c, d)

@@ -1,0 +1,148 @@
+-- How many items a page has at most, and what follows for those that take pages.
+use Rattle.std.proofs.Common.{◌≡◌, ◌≤◌, ℕ, zero, suc, ◌+◌, ◌*◌, ◌%◌, ◌^◌, ◌==◌, Bool, true, false, ◌&&◌, not, if◌then◌else◌, List, [], ◌∷◌, length, take, drop, Option, None, Some, Result, Ok, Err, refl, ap, subst, arith}
+use Rattle.std.specs.Prelude.{map, nat_le, slice_index}
+use Rattle.std.proofs.lemmas.Bool.Decides.{nat_tests}
+use Rattle.solo_base.specs.PageBytes.{number_at}
+use Rattle.solo_base.specs.declared.item.Item.{Item}
+use Rattle.solo_base.specs.declared.item.Item.TheVariants.{Line}
+use Rattle.solo_base.specs.declared.item.Feed.{Feed}
+use Rattle.solo_base.specs.declared.item.Feed.TheVariants as feed
+use Rattle.solo_base.specs.declared.page.Page.{Page}
+use Rattle.page_codec.specs.declared.judge.BadPage.{BadPage}
+use Rattle.page_codec.specs.Form.{mark}
+use Rattle.page_codec.specs.Places.{content_length, content_of}
+use Rattle.page_codec.specs.Packing.{first_page}
+use Rattle.page_codec.specs.Reading.{PageContent, characters, items_after, has_length, bad_body, bad_place, content_or_bad, page_read}
+use Rattle.batch_job.specs.LinesSoFar.{lines_so_far}
+use Rattle.batch_job.proofs.LinesSoFar.{lines-few}
+use Rattle.batch_procs.specs.Parcels.{Parcel, OfFeed, OfPage, OfLine}
+use Rattle.batch_procs.specs.Sends.{has_end, items, stream, items_then, behind, unpacked_by, unpacked, lines_of, job_lines, output_lines}
+use Rattle.batch_procs.specs.Process.{Process}
+use Rattle.batch_procs.specs.Table.{card, input, job, output, printer, nobody}
+use Rattle.batch_procs.specs.Ahead.{GivesAtMost, one_if, TheFiveAreBounded}
+use Rattle.batch_procs.proofs.Bounds.{card-bound, input-bound, printer-bound, lines_of-length, parcels-length, packed-length}
+
+-- ---- a page
+items-few : (passed : ℕ) (bytes : List ℕ) → length (items_after passed bytes) ≤ length bytes
+items-few passed [] = omega arith
+items-few (suc passed) (byte ∷ rest) = let few = items-few passed rest in omega (arith, few)
+items-few zero (byte ∷ rest) = let few = items-few (characters byte) rest in omega (arith, few)
+
+take-most : (n : ℕ) (xs : List ℕ) → length (take n xs) ≤ n
+take-most zero xs = omega arith
+take-most (suc n) [] = omega arith
+take-most (suc n) (x ∷ xs) = let few = take-most n xs in omega (arith, few)
+
+fourth-test : (a b c d : Bool) (rest : Option ℕ) → (if a then Some 0 else if b then Some 2 else if c then Some 3 else if d then Some 4 else rest) ≡ None
+    → d ≡ false
+fourth-test true b c d rest e = absurd cc
+fourth-test false true c d rest e = absurd cc
+fourth-test false false true d rest e = absurd cc
+fourth-test false false false true rest e = absurd cc
+fourth-test false false false false rest e = refl
+
+and-first : (a b : Bool) → not (a && b) ≡ false → a ≡ true
+and-first true b e = refl
+and-first false b e = absurd cc
+
+room : (n : ℕ) → nat_le n 506 ≡ true → n ≤ 506
+room n e = grind (arith, nat_tests)
+
+content-room : (place : ℕ) (last : Bool) (bytes : List ℕ) → bad_place place last bytes ≡ None → length (content_of bytes) ≤ 506
+content-room place last bytes sound =
+    let fits = fourth-test (not (number_at bytes 0 == place)) (not (slice_index bytes 2 == mark last)) (not (slice_index bytes 3 == 0))
+    (not (has_length last (content_length bytes))) (bad_body (content_length bytes) bytes) sound in
+    let within = room (content_length bytes) (and-first (nat_le (content_length bytes) 506) _ fits) in
+    let taken = take-most (content_length bytes) (drop 6 bytes) in
+    omega (arith, within, taken)
+
+abbrev items-or : List Item → Result PageContent BadPage → List Item
+items-or other (Ok content) = content.items
+items-or other (Err bad) = other
+
+content-few : (place : ℕ) (last : Bool) (bytes : List ℕ) (wrong : Option ℕ) (content : PageContent) → bad_place place last bytes ≡ wrong
+    → content_or_bad place last bytes wrong ≡ Ok content → length content.items ≤ 506
+content-few place last bytes None content sound is =
+    let few = items-few 0 (content_of bytes) in
+    let within = content-room place last bytes sound in
+    let same = ap (items-or []) is in
+    subst (λ items. length items ≤ 506) same (omega (arith, few, within))
+content-few place last bytes (Some at) content sound is = absurd cc
+
+page-few : (place : ℕ) (last : Bool) (page : Page) (content : PageContent) → page_read place last page ≡ Ok content → length content.items ≤ 506
+page-few place last page content is = content-few place last page.0 (bad_place place last page.0) content refl is
+
+-- ---- a stream of pages
+then-length : (xs : List Item) (rest : List Feed) → length (items_then xs rest) ≡ length xs + length rest
+then-length [] rest = omega arith
+then-length (x ∷ xs) rest = let more = then-length xs rest in omega (arith, more)
+
+behind-length : (last : Bool) (rest : List Feed) → length (behind last rest) ≤ 1 + length rest
+behind-length true rest = omega arith
+behind-length false rest = omega arith
+
+page-length : (place : ℕ) (last : Bool) (page : Page) (rest : List Feed) (read : Result PageContent BadPage) → page_read place last page ≡ read
+    → length (unpacked_by read last rest) ≤ 507 + length rest
+page-length place last page rest (Ok content) is =
+    let few = page-few place last page content is in
+    let both = then-length content.items (behind last rest) in
+    let end = behind-length last rest in
+    omega (arith, few, both, end)
+page-length place last page rest (Err bad) is = omega arith
+
+unpacked-length : (place : ℕ) (all : List Parcel) → length (unpacked place all) ≤ 507 * length all
+unpacked-length place [] = omega arith
+unpacked-length place (OfPage page last ∷ rest) =
+    let few = unpacked-length ((place + 1) % 2 ^ 16) rest in
+    let one = page-length place last page (unpacked ((place + 1) % 2 ^ 16) rest) (page_read place last page) refl in
+    omega (arith, few, one)
+unpacked-length place (OfFeed f ∷ rest) = omega arith
+unpacked-length place (OfLine line ∷ rest) = omega arith
+
+-- ---- the lines of it
+items-end : (all : List Feed) → length (items all) + one_if (has_end all) ≤ length all
+items-end [] = omega arith
+items-end (feed.Item item ∷ rest) = let few = items-end rest in omega (arith, few)
+items-end (feed.End ∷ rest) = omega arith
+
+stream-length : (xs : List Item) (t : Bool) → length (stream xs t) ≡ length xs + one_if t
+stream-length [] true = refl
+stream-length [] false = refl
+stream-length (x ∷ xs) t = let more = stream-length xs t in omega (arith, more)
+
+map-length : (lines : List (List ℕ)) → length (map Line lines) ≡ length lines
+map-length [] = refl
+map-length (line ∷ lines) = ap suc (map-length lines)
+
+pub output-bound : GivesAtMost 507 output
+output-bound all =
+    let fs = unpacked 0 all in
+    let a = unpacked-length 0 all in
+    let b = items-end fs in
+    let c = lines_of-length (items fs) in
+    let d = map-length (lines_of (items fs)) in
+    let e = stream-length (map Line (lines_of (items fs))) (has_end fs) in
+    let g = parcels-length (output_lines fs) in
+    omega (arith, a, b, c, d, e, g)
+
+pub job-bound : GivesAtMost 1521 job
+job-bound all =
+    let fs = unpacked 0 all in
+    let a = unpacked-length 0 all in
+    let b = items-end fs in
+    let lines = lines_so_far (items fs) (has_end fs) in
+    let c = lines-few (items fs) (has_end fs) in
+    let d = map-length lines in
+    let e = stream-length (map Line lines) (has_end fs) in
+    let g = packed-length first_page (job_lines fs) in
+    omega (arith, a, b, c, d, e, g)
+
+-- ---- the five
+either : (t : Bool) (n m : ℕ) (this other : Process) → GivesAtMost n this → GivesAtMost m other → GivesAtMost (if t then n else m) (if t then this else other)
+either true n m this other a b = a
+either false n m this other a b = b
+
+pub bounds : TheFiveAreBounded
+bounds p =
+    either (p == 1) 1 _ card _ card-bound (either (p == 2) 1 _ input _ input-bound (either (p == 3) 1521 _ job _ job-bound
+    (either (p == 4) 507 _ output _ output-bound (either (p == 5) 1 0 printer nobody printer-bound (λ all. omega arith)))))

@@ -1,0 +1,13 @@
+use Rattle.std.proofs.Common.{sym, ap, ◌∙◌}
+use Rattle.page_codec.specs.Stream.{awaited_after}
+use Rattle.batch_procs.proofs.PageTakes.{output-takes}
+use Rattle.batch_procs.proofs.output_proc.OutputWorkWork.take.Goals as goal
+
+pub returns-in-Ok-clause-ok : goal.returns-in-Ok-clause-ok
+returns-in-Ok-clause-ok c = λ taken sent keeps may.
+    let read = sym c.take.ensures.read ∙ c.in-Ok.is in
+    let all = output-takes _ _ _ _ _ _ taken sent c.args.reply c.in-Page.page c.in-Page.last c.in-Ok.items c.in-Page.is (sym c.is_ended.ensures
+    ∙ c.if-is_ended.false) read
+    (c.take.ensures.awaited
+    ∙ ap (awaited_after c.args.self.now.pages c.in-Page.last) c.in-Ok.is) c.next_feed-self.ensures.feeds c.next_feed-self.ensures.none keeps may in
+    (all.0, λ none. all.1)

@@ -1,0 +1,17 @@
+pub mod Parcels
+pub mod History
+pub mod Fits
+pub mod Causes
+pub mod Process
+pub mod Sends
+pub mod Table
+pub mod Faults
+pub mod Laws
+pub mod Parts
+pub mod Relays
+pub mod Machine
+pub mod Work
+pub mod Ahead
+pub mod Due
+pub mod Pages
+pub mod JobWork

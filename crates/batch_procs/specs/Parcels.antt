@@ -1,0 +1,65 @@
+-- What processes hand over.
+use Rattle.std.specs.Prelude.{◌≡◌, ℕ, Bool, true, false, not, ◌==◌, ◌||◌, List, [], ◌∷◌, slice_index}
+use Rattle.solo_base.specs.declared.item.Feed.{Feed}
+use Rattle.solo_base.specs.declared.item.Feed.TheVariants as feed
+use Rattle.solo_base.specs.declared.page.Page.{Page}
+
+-- What a process takes or puts: what a line buffer hands over, a page with its mark, or a line that is
+-- printed.
+pub data Parcel : Type 0 where
+  OfFeed : Feed → Parcel
+  OfPage : Page → Bool → Parcel
+  OfLine : List ℕ → Parcel
+
+-- the mark of a last page: its byte 2 isn't 0
+abbrev pub mark : Page → Bool
+mark page = not (slice_index page.0 2 == 0)
+
+-- whether it is the last of its stream
+abbrev pub is_last : Parcel → Bool
+is_last (OfFeed (feed.Item item)) = false
+is_last (OfFeed feed.End) = true
+is_last (OfPage page last) = last
+is_last (OfLine line) = false
+
+-- whether the last is among them
+abbrev pub is_ended : List Parcel → Bool
+is_ended [] = false
+is_ended (parcel ∷ rest) = is_last parcel || is_ended rest
+
+-- the pages among them
+abbrev pub pages : List Parcel → List Page
+pages [] = []
+pages (OfPage page last ∷ rest) = page ∷ pages rest
+pages (OfFeed f ∷ rest) = pages rest
+pages (OfLine line ∷ rest) = pages rest
+
+-- ---- kinds
+abbrev pub IsAFeed : Parcel → Type 0
+IsAFeed (OfFeed f) = Unit {0}
+IsAFeed (OfPage page last) = ⊥
+IsAFeed (OfLine line) = ⊥
+
+-- a page with its mark
+abbrev pub IsAPage : Parcel → Type 0
+IsAPage (OfFeed f) = ⊥
+IsAPage (OfPage page last) = Unit {0}
+IsAPage (OfLine line) = ⊥
+
+-- a line that is printed
+abbrev pub IsALine : Parcel → Type 0
+IsALine (OfFeed f) = ⊥
+IsALine (OfPage page last) = ⊥
+IsALine (OfLine line) = Unit {0}
+
+-- a page carries its own mark
+abbrev pub IsMarked : Parcel → Type 0
+IsMarked (OfFeed f) = Unit {0}
+IsMarked (OfPage page last) = mark page ≡ last
+IsMarked (OfLine line) = Unit {0}
+
+-- ---- lists of them
+-- nothing comes behind the last
+abbrev pub NothingBehind : List Parcel → Type 0
+NothingBehind [] = Unit {0}
+NothingBehind (parcel ∷ rest) = (is_last parcel ≡ true → rest ≡ []) × NothingBehind rest

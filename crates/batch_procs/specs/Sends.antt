@@ -1,0 +1,131 @@
+-- The list functions of the five processes: from all that one took to all that it should put.
+use Rattle.std.specs.Prelude.{ℕ, ◌+◌, ◌%◌, ◌^◌, Bool, true, false, List, [], ◌∷◌, ◌++◌, map, option_to_list, Result, Ok, Err}
+use Rattle.solo_base.specs.declared.item.Item.{Item}
+use Rattle.solo_base.specs.declared.item.Item.TheVariants.{Line, Spoiled}
+use Rattle.solo_base.specs.declared.item.Feed.{Feed}
+use Rattle.solo_base.specs.declared.item.Feed.TheVariants as feed
+use Rattle.solo_base.specs.declared.page.Page.{Page}
+use Rattle.page_codec.specs.declared.judge.BadPage.{BadPage}
+use Rattle.page_codec.specs.Form.{page_of}
+use Rattle.page_codec.specs.Packing.{PageInHand, first_page, page_given, hand_after}
+use Rattle.page_codec.specs.Reading.{PageContent, page_read}
+use Rattle.batch_job.specs.LinesSoFar.{lines_so_far}
+use Rattle.batch_procs.specs.Parcels.{Parcel, OfFeed, OfPage, OfLine}
+
+-- ---- parcels and what they hold
+-- the feeds among them
+abbrev pub feeds : List Parcel → List Feed
+feeds [] = []
+feeds (OfFeed f ∷ rest) = f ∷ feeds rest
+feeds (OfPage page last ∷ rest) = feeds rest
+feeds (OfLine line ∷ rest) = feeds rest
+
+-- each as a parcel
+abbrev pub as_parcels : List Feed → List Parcel
+as_parcels [] = []
+as_parcels (f ∷ rest) = OfFeed f ∷ as_parcels rest
+
+-- each as a printed line
+abbrev pub as_lines : List (List ℕ) → List Parcel
+as_lines [] = []
+as_lines (line ∷ rest) = OfLine line ∷ as_lines rest
+
+-- each page with this mark
+abbrev pub marked : Bool → List Page → List Parcel
+marked last [] = []
+marked last (page ∷ rest) = OfPage page last ∷ marked last rest
+
+-- ---- a stream of feeds: its items up to the end
+abbrev pub has_end : List Feed → Bool
+has_end [] = false
+has_end (feed.Item item ∷ rest) = has_end rest
+has_end (feed.End ∷ rest) = true
+
+-- the items before the end
+abbrev pub items : List Feed → List Item
+items [] = []
+items (feed.Item item ∷ rest) = item ∷ items rest
+items (feed.End ∷ rest) = []
+
+-- the end, where it has come
+abbrev pub end_if : Bool → List Feed
+end_if true = feed.End ∷ []
+end_if false = []
+
+-- these items, and the end behind them where it has come
+abbrev pub stream : List Item → Bool → List Feed
+stream [] ended = end_if ended
+stream (item ∷ rest) ended = feed.Item item ∷ stream rest ended
+
+-- ---- packing: a page goes out when an item has no room on it, and the last at the end
+abbrev pub packed : PageInHand → List Feed → List Parcel
+packed hand [] = []
+packed hand (feed.Item item ∷ rest) =
+    marked false (option_to_list (page_given hand item)) ++ packed (hand_after hand item) rest
+packed hand (feed.End ∷ rest) = OfPage (page_of hand.place true hand.content) true ∷ []
+
+-- ---- unpacking: the items of each page, and the end behind the last; nothing from a damaged page on
+abbrev pub items_then : List Item → List Feed → List Feed
+items_then [] rest = rest
+items_then (item ∷ items) rest = feed.Item item ∷ items_then items rest
+
+-- behind the last page comes the end, and behind another what follows
+abbrev pub behind : Bool → List Feed → List Feed
+behind true rest = feed.End ∷ []
+behind false rest = rest
+
+-- by what the page gave
+abbrev pub unpacked_by : Result PageContent BadPage → Bool → List Feed → List Feed
+unpacked_by (Ok content) last rest = items_then content.items (behind last rest)
+unpacked_by (Err bad) last rest = []
+
+-- of the pages from this place of their stream on
+abbrev pub unpacked : ℕ → List Parcel → List Feed
+unpacked place [] = []
+unpacked place (OfPage page last ∷ rest) =
+    unpacked_by (page_read place last page) last (unpacked ((place + 1) % 2 ^ 16) rest)
+unpacked place (OfFeed f ∷ rest) = []
+unpacked place (OfLine line ∷ rest) = []
+
+-- ---- what becomes of the items
+-- up to the end and with it
+abbrev pub until_end : List Feed → List Feed
+until_end all = stream (items all) (has_end all)
+
+-- the lines up to the end; a spoiled item is passed over
+abbrev pub lines_of : List Item → List (List ℕ)
+lines_of [] = []
+lines_of (Line line ∷ rest) = line ∷ lines_of rest
+lines_of (Spoiled ∷ rest) = lines_of rest
+
+-- these lines as items, and the end behind them where it has come
+abbrev pub lines_stream : List (List ℕ) → Bool → List Feed
+lines_stream lines ended = stream (map Line lines) ended
+
+-- ---- the five
+abbrev pub card_sends : List Parcel → List Parcel
+card_sends taken = as_parcels (until_end (feeds taken))
+
+-- the cards in pages
+abbrev pub input_sends : List Parcel → List Parcel
+input_sends taken = packed first_page (feeds taken)
+
+-- the lines so far of the items of its pages, in pages of its own
+abbrev pub job_lines : List Feed → List Feed
+job_lines all = lines_stream (lines_so_far (items all) (has_end all)) (has_end all)
+
+-- of pages of cards, pages of the lines of their jobs
+abbrev pub job_sends : List Parcel → List Parcel
+job_sends taken = packed first_page (job_lines (unpacked 0 taken))
+
+-- the lines up to the end and with it
+abbrev pub output_lines : List Feed → List Feed
+output_lines all = lines_stream (lines_of (items all)) (has_end all)
+
+-- the lines of the pages, and the end
+abbrev pub output_sends : List Parcel → List Parcel
+output_sends taken = as_parcels (output_lines (unpacked 0 taken))
+
+-- the lines up to the end, printed
+abbrev pub printer_sends : List Parcel → List Parcel
+printer_sends taken = as_lines (lines_of (items (feeds taken)))

@@ -1,0 +1,75 @@
+ghost use Rattle.std.specs.Prelude.{◌≡◌, option_to_list};
+ghost use Rattle.batch_procs.specs.Sends.{as_parcels};
+
+use crate::feeds::copy;
+use crate::machine::Machine;
+use crate::work::Work;
+use crate::{Action, Reply};
+use solo_base::{BufferNo, Cause, Feed, Item, NoMemory, Outcome};
+use solo_devices::CardRead;
+
+/// The card process: it reads the cards of the deck, and puts each into the line buffer 1.
+pub type CardProc = Machine<CardWork>;
+
+/// What the card process keeps: what it read and hasn't put, and whether the deck has ended.
+#[derive(Debug, Drop)]
+pub struct CardWork {
+    due: Option<Feed>,
+    ended: bool,
+}
+
+impl Work for CardWork {
+    ghost use Rattle.std.specs.Prelude.{option_to_list};
+    ghost use Rattle.batch_procs.specs.Sends.{as_parcels};
+    ghost use Rattle.batch_procs.specs.Table.{card};
+    ghost use Rattle.batch_procs.specs.Due.{KeepsDue};
+    ghost use Rattle.batch_procs.specs.Relays.{card-relay};
+
+    ghost process = { card };
+
+    ghost keeps = { λ work. KeepsDue card (as_parcels (option_to_list work.due)) work.ended };
+
+    ghost relay = { card-relay };
+
+    fn begin() -> CardWork {
+        CardWork {
+            due: None,
+            ended: false,
+        }
+    }
+
+    fn buffer(place: u8) -> Option<BufferNo> {
+        [1].get(place as usize).copied()
+    }
+
+    fn aim(&self) -> Action {
+        match &self.due {
+            Some(feed) => Action::PutFeed(copy(feed)),
+            None if self.ended => Action::Ended(Outcome::Done),
+            None => Action::ReadCard,
+        }
+    }
+
+    fn put(&mut self) {
+        self.due = None;
+    }
+
+    fn take(&mut self, reply: Reply) -> Result<Option<Outcome>, NoMemory> {
+        match reply {
+            Reply::Card(CardRead::Card(line)) => self.due = Some(Feed::Item(Item::Line(line))),
+            Reply::Card(CardRead::Spoiled) => self.due = Some(Feed::Item(Item::Spoiled)),
+            Reply::Card(CardRead::End) => {
+                self.due = Some(Feed::End);
+                self.ended = true;
+            }
+            Reply::Card(CardRead::Failed) => return Ok(Some(Outcome::Fault(Cause::ReadFault))),
+            Reply::Card(CardRead::Limit) => return Ok(Some(Outcome::Fault(Cause::DeckLimit))),
+            _ => {}
+        }
+        Ok(None)
+    }
+
+    fn work(&mut self) -> Result<(), NoMemory> {
+        Ok(())
+    }
+}

@@ -1,0 +1,75 @@
+ghost use Rattle.std.specs.Prelude.{◌≡◌, option_to_list};
+
+use crate::machine::Machine;
+use crate::work::Work;
+use crate::{Action, Reply};
+use page_codec::Packer;
+use solo_base::{BufferNo, Feed, NoMemory, Outcome, Page};
+use std::mem;
+
+/// The input process: it takes cards from the line buffer 1, packs them into pages, and puts these into
+/// the spool 2.
+pub type InputProc = Machine<InputWork>;
+
+/// What the input process keeps: the page in hand, the page that is due, and whether the end was taken.
+#[derive(Debug, Drop)]
+pub struct InputWork {
+    packer: Packer,
+    due: Option<Page>,
+    ended: bool,
+}
+
+impl Work for InputWork {
+    ghost use Rattle.std.specs.Prelude.{option_to_list};
+    ghost use Rattle.batch_procs.specs.Sends.{marked};
+    ghost use Rattle.batch_procs.specs.Table.{input};
+    ghost use Rattle.batch_procs.specs.Due.{KeepsInput};
+    ghost use Rattle.batch_procs.specs.Relays.{input-relay};
+
+    ghost process = { input };
+
+    ghost keeps = { λ work. KeepsInput (marked work.ended (option_to_list work.due)) work.ended work.packer };
+
+    ghost relay = { input-relay };
+
+    fn begin() -> InputWork {
+        InputWork {
+            packer: Packer::new(),
+            due: None,
+            ended: false,
+        }
+    }
+
+    fn buffer(place: u8) -> Option<BufferNo> {
+        [1, 2].get(place as usize).copied()
+    }
+
+    fn aim(&self) -> Action {
+        match &self.due {
+            Some(page) => Action::PutPage(*page),
+            None if self.ended => Action::Ended(Outcome::Done),
+            None => Action::TakeFeed,
+        }
+    }
+
+    fn put(&mut self) {
+        self.due = None;
+    }
+
+    fn take(&mut self, reply: Reply) -> Result<Option<Outcome>, NoMemory> {
+        match reply {
+            Reply::Feed(Feed::Item(item)) => self.due = self.packer.push(&item),
+            Reply::Feed(Feed::End) => {
+                let packer = mem::replace(&mut self.packer, Packer::new());
+                self.due = Some(packer.finish());
+                self.ended = true;
+            }
+            _ => {}
+        }
+        Ok(None)
+    }
+
+    fn work(&mut self) -> Result<(), NoMemory> {
+        Ok(())
+    }
+}

@@ -1,0 +1,100 @@
+ghost use Rattle.std.specs.Prelude.{◌≡◌};
+
+use crate::machine::Machine;
+use crate::output_proc::damage;
+use crate::pages::Pages;
+use crate::work::Work;
+use crate::{Action, Reply};
+use batch_job::JobStream;
+use page_codec::Packer;
+use solo_base::{BufferNo, NoMemory, Outcome, Page};
+use std::mem;
+
+/// The job process: it takes pages of cards from the spool 2, and puts pages of the jobs' lines into the
+/// spool 3.
+pub type JobProc = Machine<JobWork>;
+
+/// What the job process keeps: the pages that it awaits, the lines of their items, the page in hand and
+/// the page that is due, and whether there is work to do.
+#[derive(Debug, Drop)]
+pub struct JobWork {
+    pages: Pages,
+    lines: JobStream,
+    packer: Packer,
+    due: Option<Page>,
+    unworked: bool,
+}
+
+impl Work for JobWork {
+    ghost use Rattle.batch_procs.specs.Table.{job};
+    ghost use Rattle.batch_procs.specs.JobWork.{KeepsJob};
+    ghost use Rattle.batch_procs.specs.Relays.{job-relay};
+
+    ghost process = { job };
+
+    ghost keeps = { λ work. KeepsJob work.pages work.lines work.packer work.due work.unworked };
+
+    ghost relay = { job-relay };
+
+    fn begin() -> JobWork {
+        JobWork {
+            pages: Pages::new(),
+            lines: JobStream::new(),
+            packer: Packer::new(),
+            due: None,
+            unworked: false,
+        }
+    }
+
+    fn buffer(place: u8) -> Option<BufferNo> {
+        [2, 3].get(place as usize).copied()
+    }
+
+    fn aim(&self) -> Action {
+        match &self.due {
+            Some(page) => Action::PutPage(*page),
+            None if self.unworked => Action::Local,
+            None if self.pages.is_ended() => Action::Ended(Outcome::Done),
+            None => Action::TakePage,
+        }
+    }
+
+    fn put(&mut self) {
+        if let Some(page) = self.due.take() {
+            self.unworked = !page.last();
+        }
+    }
+
+    fn take(&mut self, reply: Reply) -> Result<Option<Outcome>, NoMemory> {
+        let Reply::Page { page, last } = reply else {
+            return Ok(None);
+        };
+        if self.pages.is_ended() {
+            return Ok(None);
+        }
+        match self.pages.take(&page, last) {
+            Ok(items) => {
+                self.lines.feed(items)?;
+                self.unworked = true;
+                Ok(None)
+            }
+            Err(bad) => Ok(Some(Outcome::Fault(damage(bad)))),
+        }
+    }
+
+    fn work(&mut self) -> Result<(), NoMemory> {
+        self.unworked = false;
+        match self.lines.pack(&mut self.packer)? {
+            Some(page) => {
+                self.due = Some(page);
+                Ok(())
+            }
+            None if self.pages.is_ended() => {
+                let packer = mem::replace(&mut self.packer, Packer::new());
+                self.due = Some(packer.finish());
+                Ok(())
+            }
+            None => Ok(()),
+        }
+    }
+}

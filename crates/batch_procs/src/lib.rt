@@ -1,0 +1,31 @@
+//! The five processes of the Job Stream System: each says what it does next, and is told what came of it.
+#![tactic(auto)]
+
+mod actions;
+mod card_proc;
+mod feeds;
+mod histories;
+mod input_proc;
+mod job_proc;
+mod machine;
+mod output_proc;
+mod pages;
+mod printer_proc;
+mod round;
+mod work;
+
+pub use actions::{Action, Reply};
+pub use card_proc::{CardProc, CardWork};
+pub use histories::histories_keep;
+pub use input_proc::{InputProc, InputWork};
+pub use job_proc::{JobProc, JobWork};
+pub use machine::Machine;
+pub use output_proc::{OutputProc, OutputWork};
+pub use printer_proc::{PrinterProc, PrinterWork};
+pub use round::Step;
+pub use work::Work;
+
+#[cfg(test)]
+mod test_walk;
+#[cfg(test)]
+mod tests;

@@ -1,0 +1,192 @@
+ghost use Rattle.std.specs.Prelude.{◌≡◌, ◌↔◌, IsTrue, ◌∷◌, true, None, List, [], Some, OnOk, OnErr};
+ghost use Rattle.batch_procs.specs.declared.actions.Action.{Action as ActionOf};
+ghost use Rattle.batch_procs.specs.declared.actions.Reply.TheVariants as reply;
+ghost use Rattle.batch_procs.specs.Causes.{caused};
+ghost use Rattle.batch_procs.specs.Fits.{Fits, MayWait};
+ghost use Rattle.batch_procs.specs.History.{Entry, Does, LacksMemory, Delays};
+ghost use Rattle.batch_procs.specs.Process.{next_action};
+ghost use Rattle.batch_procs.specs.Laws.{HasEnded};
+ghost use Rattle.batch_procs.specs.Machine.{StandsFor, NextIs};
+
+use crate::round::Step;
+use crate::work::Work;
+use crate::{Action, Reply};
+use solo_base::{Cause, NoMemory, Outcome};
+
+/// A process as a machine: it says what it does next, and is given the reply. It keeps no history.
+#[derive(Debug, Drop)]
+pub struct Machine<W: Work> {
+    pub(crate) work: W,
+    pub(crate) step: Step,
+    pub(crate) cause: Option<Outcome>,
+    pub(crate) stops: u8,
+}
+
+impl<W: Work> Machine<W> {
+    /// The machine of a process that has done nothing.
+    pub fn new() -> Machine<W>
+        ensures { StandsFor W.process W.keeps result [] }
+    {
+        Machine {
+            work: W::begin(),
+            step: Step::Free,
+            cause: None,
+            stops: 0,
+        }
+    }
+
+    /// What the process does next. Once it has ended it does nothing more.
+    pub fn next(&self) -> Action
+        ensures next { (h : List Entry) → StandsFor W.process W.keeps self.now h
+            → NextIs (next_action W.process h) result }
+
+        // A call that waits is made again.
+        ensures waits { (h : List Entry) (action : ActionOf) → StandsFor W.process W.keeps self.now h →
+            next_action W.process h ≡ Some action → MayWait action
+            → StandsFor W.process W.keeps self.now (Delays action ∷ h) }
+    {
+        match self.cause {
+            None => self.working(),
+            Some(cause) => self.closing(cause),
+        }
+    }
+
+    /// What a process without a cause does next.
+    fn working(&self) -> Action
+        ensures { (h : List Entry) → StandsFor W.process W.keeps self.now h → self.now.cause ≡ None
+            → NextIs (next_action W.process h) result }
+    {
+        match self.step {
+            Step::Free => begin(self.work.aim()),
+            Step::Awaited => Action::Request,
+            Step::Granted => self.work.aim(),
+            Step::Moved => Action::Release,
+            Step::Ended => Action::Ended(Outcome::Done),
+        }
+    }
+
+    /// What a process with a cause does next.
+    fn closing(&self, cause: Outcome) -> Action
+        ensures { (h : List Entry) → StandsFor W.process W.keeps self.now h → self.now.cause ≡ Some cause
+            → NextIs (next_action W.process h) result }
+    {
+        if self.step.holds_disk() {
+            return Action::Release;
+        }
+        match W::buffer(self.stops) {
+            Some(buffer) => Action::Stop(buffer),
+            None => Action::Ended(cause),
+        }
+    }
+
+    /// Whether the process has ended.
+    pub fn has_ended(&self) -> bool
+        ensures { (h : List Entry) → StandsFor W.process W.keeps self.now h → IsTrue result ↔ HasEnded h }
+    {
+        matches!(self.step, Step::Ended)
+    }
+
+    /// Why the process closes down, or did. None: it has no cause to.
+    pub fn cause(&self) -> Option<Outcome>
+        ensures { (h : List Entry) → StandsFor W.process W.keeps self.now h → result ≡ caused h }
+    {
+        self.cause
+    }
+
+    /// Gives the reply to the action that was next. Where memory is refused, this is the cause of the
+    /// process, and it closes down.
+    pub fn give(&mut self, reply: Reply) -> Result<(), NoMemory>
+        ensures ok { OnOk result ((h : List Entry) (action : ActionOf)
+            → StandsFor W.process W.keeps self.old h →
+            next_action W.process h ≡ Some action → Fits action reply
+            → StandsFor W.process W.keeps self.new (Does action reply ∷ h)) }
+        ensures err { OnErr result ((h : List Entry) (action : ActionOf)
+            → StandsFor W.process W.keeps self.old h →
+            next_action W.process h ≡ Some action → Fits action reply
+            → StandsFor W.process W.keeps self.new (LacksMemory action reply ∷ h)) }
+        ensures works { OnErr result (W.process.works ≡ true) }
+    {
+        let action = self.next();
+        self.step = Step::after(&action);
+        self.stops = stops_after(self.stops, &action);
+        match answer(&mut self.work, &action, reply) {
+            Ok(cause) => {
+                add_cause(&mut self.cause, cause);
+                Ok(())
+            }
+            Err(refused) => {
+                add_cause(&mut self.cause, Some(Outcome::Fault(Cause::NoMemory)));
+                Err(refused)
+            }
+        }
+    }
+}
+
+ghost use Rattle.batch_procs.specs.Process.{begins};
+ghost use Rattle.batch_procs.specs.Causes.{fault_at, or_new};
+ghost use Rattle.batch_procs.specs.Machine.{Answers, stops_after};
+
+/// The first call of what a process aims at: a move of a page begins with an await.
+fn begin(aim: Action) -> Action
+    ensures { result ≡ begins aim }
+{
+    match aim {
+        Action::PutPage(_) => Action::AwaitRoom,
+        Action::TakePage => Action::AwaitItem,
+        other => other,
+    }
+}
+
+/// How many buffers are stopped behind an action.
+fn stops_after(stops: u8, action: &Action) -> u8
+    ensures { result ≡ stops_after stops action.now }
+{
+    match action {
+        Action::Stop(_) => stops.saturating_add(1),
+        _ => stops,
+    }
+}
+
+/// The earlier cause stays.
+fn add_cause(cause: &mut Option<Outcome>, new: Option<Outcome>)
+    ensures { cause.new ≡ or_new cause.old new }
+{
+    if cause.is_none() {
+        *cause = new;
+    }
+}
+
+/// Uses the reply to an action, and says which cause it gives.
+fn answer<W: Work>(work: &mut W, action: &Action, reply: Reply) -> Result<Option<Outcome>, NoMemory>
+    ensures { Answers W.process W.keeps work.old action.now reply result work.new }
+{
+    match reply {
+        Reply::Done => finish(work, action),
+        Reply::Stopped => Ok(Some(Outcome::Stopped)),
+        Reply::Failed => Ok(Some(Outcome::Fault(fault_at(action)))),
+        Reply::NoMemory => Ok(Some(Outcome::Fault(Cause::NoMemory))),
+        handed => work.take(handed),
+    }
+}
+
+/// An action is done.
+fn finish<W: Work>(work: &mut W, action: &Action) -> Result<Option<Outcome>, NoMemory>
+    ensures { Answers W.process W.keeps work.old action.now reply.Done result work.new }
+{
+    match action {
+        Action::PutFeed(_) | Action::PutPage(_) | Action::Print(_) => work.put(),
+        Action::Local => work.work()?,
+        _ => {}
+    }
+    Ok(None)
+}
+
+/// The cause where the device of an action failed.
+fn fault_at(action: &Action) -> Cause
+    ensures { result ≡ fault_at action.now }
+{
+    match action {
+        Action::Print(_) => Cause::PrintFault,
+        _ => Cause::DiskFault,
+    }
+}

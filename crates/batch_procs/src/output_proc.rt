@@ -1,0 +1,137 @@
+ghost use Rattle.std.specs.Prelude.{◌≡◌, ◌++◌, [], None, option_to_list};
+ghost use Rattle.batch_procs.specs.Sends.{lines_of};
+ghost use Rattle.batch_procs.specs.Pages.{damaged, lines_left};
+ghost use Rattle.batch_job.specs.JobStream.{items_left};
+
+use crate::feeds::copy;
+use crate::machine::Machine;
+use crate::pages::Pages;
+use crate::work::Work;
+use crate::{Action, Reply};
+use page_codec::{BadPage, PageItems};
+use solo_base::{BufferNo, Cause, Feed, Item, Line, NoMemory, Outcome};
+
+/// The output process: it takes pages from the spool 3, and puts their lines into the line buffer 4.
+pub type OutputProc = Machine<OutputWork>;
+
+/// What the output process keeps: the pages that it awaits, and of the page in hand what is due first,
+/// the items behind it, and whether the end comes behind these.
+#[derive(Debug, Drop)]
+pub struct OutputWork {
+    pages: Pages,
+    due: Option<Feed>,
+    items: Option<PageItems>,
+    ending: bool,
+}
+
+impl Work for OutputWork {
+    ghost use Rattle.batch_procs.specs.Table.{output};
+    ghost use Rattle.batch_procs.specs.Pages.{lines_left, KeepsOutput};
+    ghost use Rattle.batch_job.specs.JobStream.{items_left};
+    ghost use Rattle.batch_procs.specs.Relays.{output-relay};
+
+    ghost process = { output };
+
+    ghost keeps = { λ work.
+        KeepsOutput work.pages work.due (lines_left (items_left work.items) work.ending) };
+
+    ghost relay = { output-relay };
+
+    fn begin() -> OutputWork {
+        OutputWork {
+            pages: Pages::new(),
+            due: None,
+            items: None,
+            ending: false,
+        }
+    }
+
+    fn buffer(place: u8) -> Option<BufferNo> {
+        [3, 4].get(place as usize).copied()
+    }
+
+    fn aim(&self) -> Action {
+        match &self.due {
+            Some(feed) => Action::PutFeed(copy(feed)),
+            None if self.pages.is_ended() => Action::Ended(Outcome::Done),
+            None => Action::TakePage,
+        }
+    }
+
+    fn put(&mut self) {
+        self.due = next_feed(&mut self.items, &mut self.ending);
+    }
+
+    fn take(&mut self, reply: Reply) -> Result<Option<Outcome>, NoMemory> {
+        let Reply::Page { page, last } = reply else {
+            return Ok(None);
+        };
+        if self.pages.is_ended() {
+            return Ok(None);
+        }
+        match self.pages.take(&page, last) {
+            Ok(items) => {
+                self.items = Some(items);
+                self.ending = last;
+                self.due = next_feed(&mut self.items, &mut self.ending);
+                Ok(None)
+            }
+            Err(bad) => Ok(Some(Outcome::Fault(damage(bad)))),
+        }
+    }
+
+    fn work(&mut self) -> Result<(), NoMemory> {
+        Ok(())
+    }
+}
+
+/// The cause where a page isn't the one that was expected.
+pub fn damage(bad: BadPage) -> Cause
+    ensures { result ≡ damaged bad }
+{
+    Cause::Damaged {
+        expected: bad.expected,
+        found: bad.found,
+        at: bad.at,
+    }
+}
+
+/// The next line of the items, or the end behind them.
+fn next_feed(items: &mut Option<PageItems>, ending: &mut bool) -> Option<Feed>
+    ensures feeds { lines_left (items_left items.old) ending.old ≡ option_to_list result
+        ++ lines_left (items_left items.new) ending.new }
+    ensures none { result ≡ None → lines_left (items_left items.new) ending.new ≡ [] }
+{
+    if let Some(line) = next_line(items) {
+        return Some(Feed::Item(Item::Line(line)));
+    }
+    if *ending {
+        *ending = false;
+        return Some(Feed::End);
+    }
+    None
+}
+
+/// The next line; spoiled items are passed over.
+fn next_line(items: &mut Option<PageItems>) -> Option<Line>
+    ensures lines { lines_of (items_left items.old) ≡ option_to_list result
+        ++ lines_of (items_left items.new) }
+    ensures none { result ≡ None → items_left items.new ≡ [] }
+{
+    match items {
+        Some(items) => next_line_of(items),
+        None => None,
+    }
+}
+
+fn next_line_of(items: &mut PageItems) -> Option<Line>
+    ensures lines { lines_of items.old.items ≡ option_to_list result ++ lines_of items.new.items }
+    ensures none { result ≡ None → items.new.items ≡ [] }
+{
+    'passing: while let Some(item) = items.next() {
+        if let Item::Line(line) = item {
+            return Some(line);
+        }
+    }
+    None
+}

@@ -1,0 +1,224 @@
+// Walks a process from its beginning to its end, for tests.
+
+use crate::work::Work;
+use crate::{Action, Machine, Reply};
+use page_codec::Packer;
+use solo_base::{Cause, Feed, Item, Line, Outcome, Page};
+use solo_devices::CardRead;
+use std::alloc::Global;
+use std::test::Fail;
+
+/// What goes wrong, and at which action, counted from 0.
+#[derive(Clone, Copy, Debug)]
+pub enum Trouble {
+    None,
+    Stop(usize),
+    Failure(usize),
+    Refusal(usize),
+}
+
+/// The text of an outcome.
+fn outcome_text(outcome: Outcome) -> &'static [u8] {
+    match outcome {
+        Outcome::Done => b"Done",
+        Outcome::Stopped => b"Stopped",
+        Outcome::Fault(Cause::ReadFault) => b"ReadFault",
+        Outcome::Fault(Cause::DiskFault) => b"DiskFault",
+        Outcome::Fault(Cause::PrintFault) => b"PrintFault",
+        Outcome::Fault(Cause::DeckLimit) => b"DeckLimit",
+        Outcome::Fault(
+            Cause::Damaged {
+                expected: 0,
+                found: 0,
+                at: 2,
+            },
+        ) => b"Damaged 0 0 2",
+        Outcome::Fault(Cause::NoMemory) => b"NoMemory",
+        _ => b"another outcome",
+    }
+}
+
+fn put_feed(text: &mut Vec<u8>, feed: &Feed) -> Result<(), Fail> {
+    text.extend_from_slice(b"PutFeed ")?;
+    match feed {
+        Feed::Item(Item::Line(line)) => text.extend_from_slice(line.bytes())?,
+        Feed::Item(Item::Spoiled) => text.extend_from_slice(b"spoiled")?,
+        Feed::End => text.extend_from_slice(b"end")?,
+    }
+    Ok(())
+}
+
+/// The place of a page in its stream, the bytes of its items, and whether it is the last.
+fn put_page(text: &mut Vec<u8>, page: &Page) -> Result<(), Fail> {
+    text.extend_from_slice(b"PutPage ")?;
+    text.push(b'0' + page.0[1] % 10)?;
+    text.push(b' ')?;
+    let length = u16::from_be_bytes([page.0[4], page.0[5]]);
+    text.push(b'0' + (length / 100 % 10) as u8)?;
+    text.push(b'0' + (length / 10 % 10) as u8)?;
+    text.push(b'0' + (length % 10) as u8)?;
+    if page.last() {
+        text.extend_from_slice(b" last")?;
+    }
+    Ok(())
+}
+
+/// Writes an action, with a bar behind it.
+pub fn put_action(text: &mut Vec<u8>, action: &Action) -> Result<(), Fail> {
+    match action {
+        Action::ReadCard => text.extend_from_slice(b"ReadCard")?,
+        Action::PutFeed(feed) => put_feed(text, feed)?,
+        Action::TakeFeed => text.extend_from_slice(b"TakeFeed")?,
+        Action::AwaitRoom => text.extend_from_slice(b"AwaitRoom")?,
+        Action::AwaitItem => text.extend_from_slice(b"AwaitItem")?,
+        Action::Request => text.extend_from_slice(b"Request")?,
+        Action::PutPage(page) => put_page(text, page)?,
+        Action::TakePage => text.extend_from_slice(b"TakePage")?,
+        Action::Release => text.extend_from_slice(b"Release")?,
+        Action::Local => text.extend_from_slice(b"Local")?,
+        Action::Print(line) => {
+            text.extend_from_slice(b"Print ")?;
+            text.extend_from_slice(line.bytes())?;
+        }
+        Action::Stop(buffer) => {
+            text.extend_from_slice(b"Stop ")?;
+            text.push(b'0' + *buffer % 10)?;
+        }
+        Action::Ended(outcome) => {
+            text.extend_from_slice(b"Ended ")?;
+            text.extend_from_slice(outcome_text(*outcome))?;
+        }
+    }
+    text.push(b'|')?;
+    Ok(())
+}
+
+/// What a process takes: cards, and the pages that hold them.
+#[derive(Drop)]
+pub struct Supply<'a> {
+    pub cards: &'a [&'a [u8]],
+    pub pages: Vec<Page>,
+    pub taken: usize,
+}
+
+/// The pages of a stream of these cards.
+fn pages_of(alloc: Global, cards: &[&[u8]]) -> Result<Vec<Page>, Fail> {
+    let mut packer = Packer::new();
+    let mut pages = Vec::new(alloc);
+    for card in cards {
+        let line = Line::of(card).ok_or("a card")?;
+        if let Some(page) = packer.push(&Item::Line(line)) {
+            pages.push(page)?;
+        }
+    }
+    pages.push(packer.finish())?;
+    Ok(pages)
+}
+
+impl Supply<'_> {
+    fn card(&mut self) -> CardRead {
+        let place = self.taken;
+        self.taken = place.saturating_add(1);
+        match self.cards.get(place) {
+            Some(card) => match Line::of(card) {
+                Some(line) => CardRead::Card(line),
+                None => CardRead::Spoiled,
+            },
+            None => CardRead::End,
+        }
+    }
+
+    fn feed(&mut self) -> Feed {
+        match self.card() {
+            CardRead::Card(line) => Feed::Item(Item::Line(line)),
+            CardRead::Spoiled => Feed::Item(Item::Spoiled),
+            _ => Feed::End,
+        }
+    }
+
+    fn page(&mut self) -> Reply {
+        let place = self.taken;
+        self.taken = place.saturating_add(1);
+        match self.pages.as_slice().get(place) {
+            Some(page) => Reply::Page {
+                page: *page,
+                last: page.last(),
+            },
+            None => Reply::Failed,
+        }
+    }
+
+    /// The reply to an action that succeeds.
+    fn reply_to(&mut self, action: &Action) -> Reply {
+        match action {
+            Action::ReadCard => Reply::Card(self.card()),
+            Action::TakeFeed => Reply::Feed(self.feed()),
+            Action::TakePage => self.page(),
+            _ => Reply::Done,
+        }
+    }
+}
+
+/// The reply that goes wrong at the action of this number.
+fn trouble_at(trouble: Trouble, number: usize) -> Option<Reply> {
+    match trouble {
+        Trouble::Stop(at) if at == number => Some(Reply::Stopped),
+        Trouble::Failure(at) if at == number => Some(Reply::Failed),
+        Trouble::Refusal(at) if at == number => Some(Reply::NoMemory),
+        _ => None,
+    }
+}
+
+/// All actions of a process that takes these cards, or the pages of them, up to its end.
+pub fn actions<W: Work + Drop>(
+    alloc: Global,
+    cards: &[&[u8]],
+    trouble: Trouble,
+) -> Result<Vec<u8>, Fail> {
+    let supply = Supply {
+        cards,
+        pages: pages_of(alloc, cards)?,
+        taken: 0,
+    };
+    actions_over::<W>(alloc, supply, trouble)
+}
+
+pub fn actions_over<W: Work + Drop>(
+    alloc: Global,
+    mut supply: Supply,
+    trouble: Trouble,
+) -> Result<Vec<u8>, Fail> {
+    let mut machine = Machine::<W>::new();
+    let mut text = Vec::new(alloc);
+    for number in 0..60 {
+        let action = machine.next();
+        put_action(&mut text, &action)?;
+        let reply = match trouble_at(trouble, number) {
+            Some(reply) => reply,
+            None => supply.reply_to(&action),
+        };
+        machine.give(reply)?;
+        if matches!(action, Action::Ended(_)) {
+            break;
+        }
+    }
+    Ok(text)
+}
+
+/// The pages of a listing of six cards of 80 columns and one of so many.
+pub fn listing(alloc: Global, columns: usize) -> Result<Vec<Page>, Fail> {
+    let mut packer = Packer::new();
+    let mut pages = Vec::new(alloc);
+    let heading = Line::of(b"#LIST A").ok_or("a card")?;
+    let _ = packer.push(&Item::Line(heading));
+    for place in 0..7 {
+        let length = if place < 6 { 80 } else { columns };
+        let card = b"A".repeat(alloc, length)?;
+        let card = Line::of(card.as_slice()).ok_or("a card")?;
+        if let Some(page) = packer.push(&Item::Line(card)) {
+            pages.push(page)?;
+        }
+    }
+    pages.push(packer.finish())?;
+    Ok(pages)
+}
