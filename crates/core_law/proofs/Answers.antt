@@ -1,0 +1,416 @@
+-- A call that may be made is answered: no device has to fail, and no memory to be refused.
+use Rattle.std.proofs.Common.{◌≡◌, ℕ, zero, suc, ◌<◌, Bool, false, List, [], ◌∷◌, ◌++◌, length, drop, map, Option, None, Some, refl, sym, ◌∙◌, ap, subst, arith}
+use Rattle.std.specs.List.{AllByRecursion}
+use Rattle.solo_base.specs.declared.item.Item.{Item}
+use Rattle.solo_base.specs.declared.item.Item.TheVariants.{Line, Spoiled}
+use Rattle.solo_base.specs.declared.item.Feed.{Feed}
+use Rattle.solo_base.specs.declared.page.Page.{Page}
+use Rattle.solo_base.specs.declared.outcome.Side.{Side}
+use Rattle.solo_base.specs.declared.outcome.Side.TheVariants.{Sender, Receiver}
+use Rattle.solo_base.specs.Text.{line_text}
+use Rattle.solo_devices.specs.declared.card_read.CardRead.TheVariants as read
+use Rattle.page_codec.specs.Form.{page_of}
+use Rattle.queue_var.specs.Sides.{stopped_by}
+use Rattle.batch_procs.specs.declared.actions.Action.{Action}
+use Rattle.batch_procs.specs.declared.actions.Action.TheVariants as act
+use Rattle.batch_procs.specs.declared.actions.Reply.TheVariants as reply
+use Rattle.batch_procs.specs.Parcels.{Parcel, OfFeed, OfPage, OfLine, is_last, IsAFeed, IsAPage}
+use Rattle.batch_procs.specs.History.{Entry, Does, Delays, action_of, taken, sent}
+use Rattle.batch_procs.specs.Process.{Process, IsFitting, Follows, next_action}
+use Rattle.batch_procs.proofs.Relay.{open-next, sent-is-part}
+use Rattle.batch_procs.proofs.Holding.{takes-awaited}
+use Rattle.network_law.specs.Acts.{Passes, Moves}
+use Rattle.network_law.specs.Buffer.{Buffer, Found, Ready, Lacking, Closed, found, parcel_found, IsFirst}
+use Rattle.network_law.specs.Network.{IsEnabled, MayCall, Fits}
+use Rattle.network_law.specs.Kept.{IsTold, Stands, passed}
+use Rattle.core_law.specs.Core.{Allows, upstream, call, went, core, CoreState, CoreEvent, IsBuffer}
+use Rattle.core_law.specs.Ends.{IsProcess, IsSmooth}
+use Rattle.core_law.proofs.Row.{IsRow}
+use Rattle.core_law.proofs.Taking.{next-take}
+use Rattle.core_law.proofs.Acting.{follows-of, item-ready}
+use Rattle.core_law.proofs.Passed.{passed-sent}
+use Rattle.core_law.proofs.Places.{call-buffer}
+
+-- an entry that may come, with the bytes that the devices gain
+pub record Comes (row : ℕ → Process) (s : CoreState) (p : ℕ) (a : Action) : Type 0 where
+  pub entry : Entry
+  pub gained : List ℕ
+  pub action_is : action_of entry ≡ a
+  pub suits : IsFitting (row p) entry
+  pub fits : Fits is_last s (call p a) (went entry)
+  pub allowed : Allows s.devices entry gained
+  pub smooth : IsSmooth entry
+
+-- ---- the deck
+deck-comes : (row : ℕ → Process) (s : CoreState) (p : ℕ) (deck : Option (List Item)) → s.devices.deck ≡ deck → Comes row s p act.ReadCard
+deck-comes row s p None e = record {
+  entry = Does act.ReadCard (reply.Card read.End);
+  gained = [];
+  action_is = refl;
+  suits = tt;
+  fits = refl;
+  allowed = (record { item = λ items told. absurd (let no = sym e ∙ told in cc); end = λ items told is. absurd (let no = sym e ∙ told in cc) }, refl);
+  smooth = tt;
+}
+deck-comes row s p (Some []) e = record {
+  entry = Does act.ReadCard (reply.Card read.End);
+  gained = [];
+  action_is = refl;
+  suits = tt;
+  fits = refl;
+  allowed = (record { item = λ items told. (items, refl); end = λ items told is. (let same = sym e ∙ told in cc) }, refl);
+  smooth = tt;
+}
+deck-comes row s p (Some (Line line ∷ rest)) e = record {
+  entry = Does act.ReadCard (reply.Card (read.Card line));
+  gained = [];
+  action_is = refl;
+  suits = tt;
+  fits = refl;
+  allowed = (record { item = λ items told. (rest, (let same = sym told ∙ e in cc)); end = λ items told is. absurd cc }, refl);
+  smooth = tt;
+}
+deck-comes row s p (Some (Spoiled ∷ rest)) e = record {
+  entry = Does act.ReadCard (reply.Card read.Spoiled);
+  gained = [];
+  action_is = refl;
+  suits = tt;
+  fits = refl;
+  allowed = (record { item = λ items told. (rest, (let same = sym told ∙ e in cc)); end = λ items told is. absurd cc }, refl);
+  smooth = tt;
+}
+
+-- ---- the desk
+ask-comes : (row : ℕ → Process) (s : CoreState) (p : ℕ) (handed holder : Option ℕ) → s.desk.claims.handed ≡ handed → s.desk.claims.holder ≡ holder
+    → Comes row s p act.Request
+ask-comes row s p (Some q) holder turn held = record {
+  entry = Does act.Request reply.Done;
+  gained = [];
+  action_is = refl;
+  suits = tt;
+  fits = rw turn refl;
+  allowed = refl;
+  smooth = tt;
+}
+ask-comes row s p None None turn held = record {
+  entry = Does act.Request reply.Done;
+  gained = [];
+  action_is = refl;
+  suits = tt;
+  fits = rw (turn, held) refl;
+  allowed = refl;
+  smooth = tt;
+}
+ask-comes row s p None (Some q) turn held = record {
+  entry = Delays act.Request;
+  gained = [];
+  action_is = refl;
+  suits = tt;
+  fits = rw (turn, held) refl;
+  allowed = refl;
+  smooth = tt;
+}
+
+-- ---- waiting calls
+put-comes : (row : ℕ → Process) (s : CoreState) (p : ℕ) (f : Feed) (finds : Found) → found (s.buffers p) Sender ≡ finds → Comes row s p (act.PutFeed f)
+put-comes row s p f Ready e = record {
+  entry = Does (act.PutFeed f) reply.Done;
+  gained = [];
+  action_is = refl;
+  suits = tt;
+  fits = rw e tt;
+  allowed = refl;
+  smooth = tt;
+}
+put-comes row s p f Lacking e = record {
+  entry = Delays (act.PutFeed f);
+  gained = [];
+  action_is = refl;
+  suits = tt;
+  fits = rw e tt;
+  allowed = refl;
+  smooth = tt;
+}
+put-comes row s p f Closed e = record {
+  entry = Does (act.PutFeed f) reply.Stopped;
+  gained = [];
+  action_is = refl;
+  suits = tt;
+  fits = rw e tt;
+  allowed = refl;
+  smooth = tt;
+}
+
+room-comes : (row : ℕ → Process) (s : CoreState) (p : ℕ) (finds : Found) → found (s.buffers p) Sender ≡ finds → Comes row s p act.AwaitRoom
+room-comes row s p Ready e = record {
+  entry = Does act.AwaitRoom reply.Done;
+  gained = [];
+  action_is = refl;
+  suits = tt;
+  fits = rw e refl;
+  allowed = refl;
+  smooth = tt;
+}
+room-comes row s p Lacking e = record { entry = Delays act.AwaitRoom; gained = []; action_is = refl; suits = tt; fits = rw e refl; allowed = refl; smooth = tt }
+room-comes row s p Closed e = record {
+  entry = Does act.AwaitRoom reply.Stopped;
+  gained = [];
+  action_is = refl;
+  suits = tt;
+  fits = rw e refl;
+  allowed = refl;
+  smooth = tt;
+}
+
+item-comes : (row : ℕ → Process) (s : CoreState) (p : ℕ) (finds : Found) → found (s.buffers (upstream p)) Receiver ≡ finds → Comes row s p act.AwaitItem
+item-comes row s p Ready e = record {
+  entry = Does act.AwaitItem reply.Done;
+  gained = [];
+  action_is = refl;
+  suits = tt;
+  fits = rw e refl;
+  allowed = refl;
+  smooth = tt;
+}
+item-comes row s p Lacking e = record { entry = Delays act.AwaitItem; gained = []; action_is = refl; suits = tt; fits = rw e refl; allowed = refl; smooth = tt }
+item-comes row s p Closed e = record {
+  entry = Does act.AwaitItem reply.Stopped;
+  gained = [];
+  action_is = refl;
+  suits = tt;
+  fits = rw e refl;
+  allowed = refl;
+  smooth = tt;
+}
+
+take-comes : (row : ℕ → Process) (s : CoreState) (p : ℕ) (finds : Found) → found (s.buffers (upstream p)) Receiver ≡ finds
+    → (finds ≡ Ready → (f : Feed) × IsFirst is_last (s.buffers (upstream p)) (OfFeed f)) → Comes row s p act.TakeFeed
+take-comes row s p Ready e first = (let (f, is) = first refl in record {
+  entry = Does act.TakeFeed (reply.Feed f);
+  gained = [];
+  action_is = refl;
+  suits = tt;
+  fits = rw e is;
+  allowed = refl;
+  smooth = tt;
+})
+take-comes row s p Lacking e first = record {
+  entry = Delays act.TakeFeed;
+  gained = [];
+  action_is = refl;
+  suits = tt;
+  fits = rw e tt;
+  allowed = refl;
+  smooth = tt;
+}
+take-comes row s p Closed e first = record {
+  entry = Does act.TakeFeed reply.Stopped;
+  gained = [];
+  action_is = refl;
+  suits = tt;
+  fits = rw e tt;
+  allowed = refl;
+  smooth = tt;
+}
+
+-- ---- the first inside
+same-front : (front a b : List Bool) → front ++ a ≡ front ++ b → a ≡ b
+same-front [] a b e = e
+same-front (x ∷ front) a b e = same-front front a b cc
+
+marks-append : (some more : List Parcel) → map is_last (some ++ more) ≡ map is_last some ++ map is_last more
+marks-append [] more = refl
+marks-append (x ∷ some) more = ap (λ ms. is_last x ∷ ms) (marks-append some more)
+
+all-behind : (Is : Parcel → Type 0) (part rest : List Parcel) → AllByRecursion Is (part ++ rest) → AllByRecursion Is rest
+all-behind Is [] rest all = all
+all-behind Is (x ∷ part) rest all = all-behind Is part rest all.1
+
+all-front : (Is : Parcel → Type 0) (part rest : List Parcel) → AllByRecursion Is (part ++ rest) → AllByRecursion Is part
+all-front Is [] rest all = tt
+all-front Is (x ∷ part) rest all = (all.0, all-front Is part rest all.1)
+
+first-is : (buffer : Buffer Parcel) (parcel : Parcel) (rest : List Parcel) → buffer.inside ≡ Some (parcel ∷ rest) → buffer.marks ≡ map is_last (parcel ∷ rest)
+    → IsFirst is_last buffer parcel
+first-is buffer parcel rest told marks = record {
+  marked = marks ∙ ap (λ ms. is_last parcel ∷ ms) (ap (drop 1) (sym marks));
+  told = λ inside e. (let same : parcel ∷ rest ≡ inside = (let both = sym told ∙ e in cc) in sym same ∙ ap (λ ps. parcel ∷ ps) (ap (drop 1) same));
+}
+
+none-inside : (marks : List Bool) → 0 < length marks → marks ≡ [] → ⊥
+none-inside marks some e = let none : length marks ≡ 0 = ap length e in omega (arith, some, none)
+
+first-feed : (buffer : Buffer Parcel) (inside : List Parcel) → buffer.inside ≡ Some inside → buffer.marks ≡ map is_last inside → AllByRecursion IsAFeed inside
+    → 0 < length buffer.marks → (f : Feed) × IsFirst is_last buffer (OfFeed f)
+first-feed buffer [] told marks are some = absurd (none-inside buffer.marks some marks)
+first-feed buffer (OfFeed f ∷ rest) told marks are some = (f, first-is buffer (OfFeed f) rest told marks)
+first-feed buffer (OfPage page last ∷ rest) told marks are some = absurd are.0
+first-feed buffer (OfLine line ∷ rest) told marks are some = absurd are.0
+
+abbrev FirstPage : Buffer Parcel → Type 0
+FirstPage buffer = (page : Page) × (last : Bool) × IsFirst is_last buffer (OfPage page last)
+
+first-page : (buffer : Buffer Parcel) (inside : List Parcel) → buffer.inside ≡ Some inside → buffer.marks ≡ map is_last inside → AllByRecursion IsAPage inside
+    → 0 < length buffer.marks → FirstPage buffer
+first-page buffer [] told marks are some = absurd (none-inside buffer.marks some marks)
+first-page buffer (OfPage page last ∷ rest) told marks are some = (page, last, first-is buffer (OfPage page last) rest told marks)
+first-page buffer (OfFeed f ∷ rest) told marks are some = absurd are.0
+first-page buffer (OfLine line ∷ rest) told marks are some = absurd are.0
+
+-- where the area isn't told any page may come
+untold-page : (buffer : Buffer Parcel) (marks : List Bool) → buffer.marks ≡ marks → buffer.inside ≡ None → 0 < length buffer.marks → FirstPage buffer
+untold-page buffer [] e untold some = absurd (none-inside buffer.marks some e)
+untold-page buffer (m ∷ rest) e untold some =
+    (page_of 0 false [], m, record { marked = e ∙ ap (λ ms. m ∷ ms) (ap (drop 1) (sym e)); told = λ inside told. absurd (let no = sym untold ∙ told in cc) })
+
+some-found : (by : Option Side) (marks : List Bool) → parcel_found by marks ≡ Ready → 0 < length marks
+some-found None [] e = absurd cc
+some-found (Some Sender) [] e = absurd cc
+some-found (Some Receiver) [] e = absurd cc
+some-found by (m ∷ marks) e = omega arith
+
+module _ {row : ℕ → Process} (laws : IsRow row) (opening s : CoreState) (st : Stands (core row) opening s)
+    (lines_told : (b : ℕ) → IsBuffer b → (row (suc b)).takes ≡ act.TakeFeed → IsTold (opening.buffers b)) where
+  marks-inside : (b : ℕ) (inside : List Parcel) → (s.buffers b).inside ≡ Some inside → (s.buffers b).marks ≡ map is_last inside
+  marks-inside b inside e =
+      let h = st.buffers.hand_over b in
+      same-front (map is_last (passed (core row) s b Receiver)) _ _ (h.marks.in_order ∙ ap (map is_last) (sym (h.parcels inside e))
+      ∙ marks-append (passed (core row) s b Receiver) inside)
+
+  kind-inside : (Is : Parcel → Type 0) (b : ℕ) → IsBuffer b → ((all : List Parcel) → AllByRecursion Is ((row b).sends all)) → (inside : List Parcel)
+      → (s.buffers b).inside ≡ Some inside → AllByRecursion Is inside
+  kind-inside Is b is kinds inside e =
+      let h = s.histories b in
+      let follows = follows-of row b h (st.follows b) in
+      let (rest, sends) = sent-is-part (row b) h (laws.relays b) follows in
+      let all_sent = all-front Is (sent h) rest (subst (λ ps. AllByRecursion Is ps) (sym sends) (kinds (taken h))) in
+      all-behind Is (passed (core row) s b Receiver) inside
+      (subst (λ ps. AllByRecursion Is ps) (sym ((st.buffers.hand_over b).parcels inside e ∙ passed-sent laws b is h follows)) all_sent)
+
+  ready-feed : (b : ℕ) → IsBuffer b → (row (suc b)).takes ≡ act.TakeFeed → found (s.buffers b) Receiver ≡ Ready
+      → (f : Feed) × IsFirst is_last (s.buffers b) (OfFeed f)
+  ready-feed b is takes ready =
+      let (inside, e) = st.told b (lines_told b is takes) in
+      first-feed (s.buffers b) inside e (marks-inside b inside e) (kind-inside IsAFeed b is (laws.feeds b is takes) inside e)
+      (some-found (stopped_by (s.buffers b).sides) (s.buffers b).marks ready)
+
+  ready-page : (b : ℕ) → IsBuffer b → (row (suc b)).takes ≡ act.TakePage → 0 < length (s.buffers b).marks → FirstPage (s.buffers b)
+  ready-page b is takes some =
+      elim (s.buffers b).inside as (λ inside. (s.buffers b).inside ≡ inside → FirstPage (s.buffers b)) [
+        | None ↦ (λ untold. untold-page (s.buffers b) (s.buffers b).marks refl untold some)
+        | Some inside ↦ (λ e. first-page (s.buffers b) inside e (marks-inside b inside e) (kind-inside IsAPage b is (laws.pages b is takes) inside e) some)
+      ] refl
+
+  -- the process that takes from the buffer before it
+  module _ (k : ℕ) (one : IsProcess (suc k)) where
+    abbrev h : List Entry
+    h = s.histories (suc k)
+
+    abbrev follows : Follows (row (suc k)) (s.histories (suc k))
+    follows = follows-of row (suc k) (s.histories (suc k)) (st.follows (suc k))
+
+    feed-comes : next_action (row (suc k)) (s.histories (suc k)) ≡ Some act.TakeFeed → Comes row s (suc k) act.TakeFeed
+    feed-comes next =
+        take-comes row s (suc k) (found (s.buffers k) Receiver) refl
+        (ready-feed k (call-buffer laws (suc k) (s.histories (suc k)) one follows act.TakeFeed k Receiver Passes next refl)
+        (next-take (row (suc k)) (s.histories (suc k)) act.TakeFeed next tt).same)
+
+    page-comes : next_action (row (suc k)) (s.histories (suc k)) ≡ Some act.TakePage → Comes row s (suc k) act.TakePage
+    page-comes next =
+        let none = open-next (row (suc k)) (s.histories (suc k)) act.TakePage next tt in
+        let some = st.buffers.ready k Receiver (item-ready row (suc k) (s.histories (suc k)) follows none
+        (takes-awaited (row (suc k)) (s.histories (suc k)) (laws.relays (suc k)) follows next)) in
+        let is = call-buffer laws (suc k) (s.histories (suc k)) one follows act.TakePage k Receiver Moves next refl in
+        let (page, last, first) = ready-page k is (next-take (row (suc k)) (s.histories (suc k)) act.TakePage next tt).same some in
+        record { entry = Does act.TakePage (reply.Page page last); gained = []; action_is = refl; suits = tt; fits = first; allowed = refl; smooth = tt }
+
+    comes-next : (a : Action) → next_action (row (suc k)) (s.histories (suc k)) ≡ Some a → Comes row s (suc k) a
+    comes-next act.ReadCard next = deck-comes row s (suc k) s.devices.deck refl
+    comes-next (act.PutFeed f) next = put-comes row s (suc k) f (found (s.buffers (suc k)) Sender) refl
+    comes-next act.TakeFeed next = feed-comes next
+    comes-next act.AwaitRoom next = room-comes row s (suc k) (found (s.buffers (suc k)) Sender) refl
+    comes-next act.AwaitItem next = item-comes row s (suc k) (found (s.buffers k) Receiver) refl
+    comes-next act.Request next = ask-comes row s (suc k) s.desk.claims.handed s.desk.claims.holder refl refl
+    comes-next (act.PutPage page) next = record {
+      entry = Does (act.PutPage page) reply.Done;
+      gained = [];
+      action_is = refl;
+      suits = tt;
+      fits = tt;
+      allowed = refl;
+      smooth = tt;
+    }
+    comes-next act.TakePage next = page-comes next
+    comes-next act.Release next = record {
+      entry = Does act.Release reply.Done;
+      gained = [];
+      action_is = refl;
+      suits = tt;
+      fits = refl;
+      allowed = refl;
+      smooth = tt;
+    }
+    comes-next act.Local next = record {
+      entry = Does act.Local reply.Done;
+      gained = [];
+      action_is = refl;
+      suits = tt;
+      fits = refl;
+      allowed = refl;
+      smooth = tt;
+    }
+    comes-next (act.Print line) next = record {
+      entry = Does (act.Print line) reply.Done;
+      gained = line_text line;
+      action_is = refl;
+      suits = tt;
+      fits = refl;
+      allowed = refl;
+      smooth = tt;
+    }
+    comes-next (act.Stop b) next = record {
+      entry = Does (act.Stop b) reply.Done;
+      gained = [];
+      action_is = refl;
+      suits = tt;
+      fits = refl;
+      allowed = refl;
+      smooth = tt;
+    }
+    comes-next (act.Ended how) next = record {
+      entry = Does (act.Ended how) reply.Done;
+      gained = [];
+      action_is = refl;
+      suits = tt;
+      fits = refl;
+      allowed = refl;
+      smooth = tt;
+    }
+
+  pub comes : (p : ℕ) (a : Action) → IsProcess p → next_action (row p) (s.histories p) ≡ Some a → Comes row s p a
+  comes zero a one next = (let low = one.0 in absurd (omega (arith, low)))
+  comes (suc k) a one next = comes-next k one a next
+
+  -- An enabled process has an event in which no device fails and no memory is refused.
+  pub record SmoothEvent (p : ℕ) : Type 0 where
+    pub event : CoreEvent
+    pub of : event.process ≡ p
+    pub enabled : IsEnabled (core row) s event
+    pub smooth : IsSmooth event.entry
+
+  pub smooth-event : (p : ℕ) (a : Action) → IsProcess p → next_action (row p) (s.histories p) ≡ Some a → MayCall s p (call p a) → SmoothEvent p
+  smooth-event p a one next may =
+      let is = comes p a one next in
+      record {
+        event = record { process = p; entry = is.entry; gained = is.gained };
+        of = refl;
+        enabled = record {
+          one = one;
+          next = next ∙ ap Some (sym is.action_is);
+          may = subst (λ a. MayCall s p (call p a)) (sym is.action_is) may;
+          suits = is.suits;
+          fits = subst (λ a. Fits is_last s (call p a) (went is.entry)) (sym is.action_is) is.fits;
+          allowed = is.allowed;
+        };
+        smooth = is.smooth;
+      }

@@ -1,0 +1,220 @@
+-- Where the last was taken and nothing was damaged, each of the five puts its last.
+use Rattle.std.proofs.Common.{◌≡◌, ℕ, ◌+◌, ◌%◌, ◌^◌, ◌<◌, Bool, true, false, List, [], ◌∷◌, ◌++◌, length, map, Option, None, Some, Result, Ok, Err, refl, sym, ◌∙◌, subst, arith, lit≤}
+use Rattle.std.specs.Prelude.{option_to_list}
+use Rattle.std.proofs.lemmas.List.{append-nil}
+use Rattle.std.specs.List.{AllByRecursion}
+use Rattle.solo_base.specs.declared.item.Item.{Item}
+use Rattle.solo_base.specs.declared.item.Item.TheVariants.{Line}
+use Rattle.solo_base.specs.declared.item.Feed.{Feed}
+use Rattle.solo_base.specs.declared.item.Feed.TheVariants as feed
+use Rattle.solo_base.specs.declared.outcome.Outcome.{Outcome}
+use Rattle.solo_base.specs.declared.page.Page.{Page}
+use Rattle.solo_devices.specs.declared.card_read.CardRead.{CardRead}
+use Rattle.solo_devices.specs.declared.card_read.CardRead.TheVariants as read
+use Rattle.page_codec.specs.declared.judge.BadPage.{BadPage}
+use Rattle.page_codec.specs.Packing.{PageInHand, first_page, page_given, hand_after}
+use Rattle.page_codec.specs.Reading.{PageContent, page_read}
+use Rattle.batch_procs.specs.declared.actions.Action.{Action}
+use Rattle.batch_procs.specs.declared.actions.Action.TheVariants as act
+use Rattle.batch_procs.specs.declared.actions.Reply.{Reply}
+use Rattle.batch_procs.specs.declared.actions.Reply.TheVariants as reply
+use Rattle.batch_procs.specs.Parcels.{Parcel, OfFeed, OfPage, OfLine, is_ended, pages, IsAFeed}
+use Rattle.batch_procs.specs.History.{Entry, Does, LacksMemory, Delays, card_taken, taken, taken_by}
+use Rattle.batch_procs.specs.Fits.{Fits, MayLack}
+use Rattle.batch_procs.specs.Causes.{caused, or_new, given_cause, damage, place}
+use Rattle.batch_procs.specs.Process.{Process, Follows, next_action}
+use Rattle.batch_procs.specs.Laws.{IsTake}
+use Rattle.batch_procs.specs.Sends.{feeds, as_parcels, marked, packed, items_then, unpacked, items, has_end, stream, job_lines, lines_of}
+use Rattle.batch_job.specs.LinesSoFar.{lines_so_far}
+use Rattle.batch_procs.specs.Table.{card, input, job, output, process}
+use Rattle.batch_procs.proofs.Closing.{or-none}
+use Rattle.batch_procs.proofs.Holding.{some-not_none}
+use Rattle.batch_procs.specs.Relays.{relays}
+use Rattle.core_law.specs.Core.{IsBuffer}
+use Rattle.core_law.proofs.Taking.{next-take}
+use Rattle.core_law.proofs.Row.{IsRow, by-number, not-none, prints-law, reads-law, bounds-law, beside-law, lines-are, row-laws}
+
+-- ---- what was taken, by kind
+all-more : (Is : Parcel → Type 0) (some more : List Parcel) → AllByRecursion Is some → AllByRecursion Is more → AllByRecursion Is (some ++ more)
+all-more Is [] more a b = b
+all-more Is (x ∷ some) more a b = (a.0, all-more Is some more a.1 b)
+
+no-page : (p : Process) (h : List Entry) → (p.takes ≡ act.TakePage → ⊥) → next_action p h ≡ Some act.TakePage → ⊥
+no-page p h not next = not (next-take p h act.TakePage next tt).same
+
+card-feeds : (answer : CardRead) → AllByRecursion IsAFeed (card_taken answer)
+card-feeds (read.Card line) = (tt, tt)
+card-feeds read.Spoiled = (tt, tt)
+card-feeds read.End = (tt, tt)
+card-feeds read.Failed = tt
+card-feeds read.Limit = tt
+
+-- ---- what a reply that fits gave
+pub takes-nothing : (a : Action) (r : Reply) → Fits a r → (IsTake a → ⊥) → taken_by r ≡ []
+takes-nothing a reply.Done fits not = refl
+takes-nothing a reply.Stopped fits not = refl
+takes-nothing a reply.Failed fits not = refl
+takes-nothing a reply.NoMemory fits not = refl
+takes-nothing act.ReadCard (reply.Card answer) fits not = absurd (not tt)
+takes-nothing act.TakeFeed (reply.Feed f) fits not = absurd (not tt)
+takes-nothing act.TakePage (reply.Page page last) fits not = absurd (not tt)
+takes-nothing a r fits not = absurd fits
+
+feed-reply : (r : Reply) → Fits act.TakeFeed r → AllByRecursion IsAFeed (taken_by r)
+feed-reply (reply.Feed f) fits = (tt, tt)
+feed-reply reply.Stopped fits = tt
+feed-reply r fits = absurd fits
+
+read-reply : (r : Reply) → Fits act.ReadCard r → AllByRecursion IsAFeed (taken_by r)
+read-reply (reply.Card answer) fits = card-feeds answer
+read-reply r fits = absurd fits
+
+feeds-after : (p : Process) (h : List Entry) (a : Action) (r : Reply) → (p.takes ≡ act.TakePage → ⊥) → next_action p h ≡ Some a → Fits a r
+    → AllByRecursion IsAFeed (taken h) → AllByRecursion IsAFeed (taken h ++ taken_by r)
+feeds-after p h act.ReadCard r not next fits all = all-more IsAFeed (taken h) (taken_by r) all (read-reply r fits)
+feeds-after p h act.TakeFeed r not next fits all = all-more IsAFeed (taken h) (taken_by r) all (feed-reply r fits)
+feeds-after p h act.TakePage r not next fits all = absurd (no-page p h not next)
+feeds-after p h a r not next fits all = rw (takes-nothing a r fits (λ is. is), append-nil (taken h)) all
+
+lacks-nothing : (p : Process) (h : List Entry) (a : Action) (r : Reply) → (p.takes ≡ act.TakePage → ⊥) → next_action p h ≡ Some a → MayLack a r
+    → AllByRecursion IsAFeed (taken h) → AllByRecursion IsAFeed (taken h ++ taken_by r)
+lacks-nothing p h act.TakePage r not next lack all = absurd (no-page p h not next)
+lacks-nothing p h act.Local reply.Done not next lack all = rw (append-nil (taken h)) all
+lacks-nothing p h a r not next lack all = absurd lack
+
+feeds-taken : (p : Process) (h : List Entry) → (p.takes ≡ act.TakePage → ⊥) → Follows p h → AllByRecursion IsAFeed (taken h)
+feeds-taken p [] not follows = tt
+feeds-taken p (Does a r ∷ h) not follows = feeds-after p h a r not follows.0 follows.1 (feeds-taken p h not follows.2)
+feeds-taken p (LacksMemory a r ∷ h) not follows = lacks-nothing p h a r not follows.0 follows.1.1 (feeds-taken p h not follows.2)
+feeds-taken p (Delays a ∷ h) not follows = feeds-taken p h not follows.2
+
+feeds-end : (all : List Parcel) → AllByRecursion IsAFeed all → is_ended all ≡ true → has_end (feeds all) ≡ true
+feeds-end [] are e = absurd cc
+feeds-end (OfFeed (feed.Item item) ∷ rest) are e = feeds-end rest are.1 e
+feeds-end (OfFeed feed.End ∷ rest) are e = refl
+feeds-end (OfPage page last ∷ rest) are e = absurd are.0
+feeds-end (OfLine line ∷ rest) are e = absurd are.0
+
+-- ---- pages that were read without damage, from a place on
+abbrev pub IsSound : ℕ → List Parcel → Type 0
+IsSound at [] = Unit {0}
+IsSound at (OfPage page last ∷ rest) = ((content : PageContent) × (page_read at last page ≡ Ok content)) × IsSound ((at + 1) % 2 ^ 16) rest
+IsSound at (OfFeed f ∷ rest) = ⊥
+IsSound at (OfLine line ∷ rest) = ⊥
+
+sound-more : (all : List Parcel) (at : ℕ) (page : Page) (last : Bool) → at < 2 ^ 16 → IsSound at all
+    → (content : PageContent) × (page_read ((at + length (pages all)) % 2 ^ 16) last page ≡ Ok content) → IsSound at (all ++ OfPage page last ∷ [])
+sound-more [] at page last small sound (content, e) = ((content, subst (λ n. page_read n last page ≡ Ok content) (omega (arith, small)) e), tt)
+sound-more (OfPage first mark ∷ rest) at page last small sound (content, e) =
+    (sound.0, sound-more rest ((at + 1) % 2 ^ 16) page last (omega arith) sound.1 (content, subst (λ n. page_read n last page ≡ Ok content) (omega arith) e))
+sound-more (OfFeed f ∷ rest) at page last small sound is = absurd sound
+sound-more (OfLine line ∷ rest) at page last small sound is = absurd sound
+
+sound-same : (all more : List Parcel) → more ≡ [] → IsSound 0 all → IsSound 0 (all ++ more)
+sound-same all more none is = rw (none, append-nil all) is
+
+damage-none : (read : Result PageContent BadPage) → damage read ≡ None → (content : PageContent) × (read ≡ Ok content)
+damage-none (Ok content) e = (content, refl)
+damage-none (Err bad) e = absurd cc
+
+or-second : (old new : Option Outcome) → or_new old new ≡ None → new ≡ None
+or-second None new e = e
+or-second (Some how) new e = absurd cc
+
+no-feed : (p : Process) (h : List Entry) (a : Action) → p.takes ≡ act.TakePage → next_action p h ≡ Some a → IsTake a → act.TakePage ≡ a
+no-feed p h a is next take = sym is ∙ (next-take p h a next take).same
+
+page-sound : (h : List Entry) (r : Reply) → Fits act.TakePage r → or_new (caused h) (given_cause act.TakePage r h) ≡ None → IsSound 0 (taken h)
+    → IsSound 0 (taken h ++ taken_by r)
+page-sound h (reply.Page page last) fits none is = sound-more (taken h) 0 page last (lit≤ tt) is
+    (subst (λ n. (content : PageContent) × (page_read n last page ≡ Ok content)) (omega arith)
+    (damage-none (page_read (place h) last page) (or-second (caused h) (damage (page_read (place h) last page)) none)))
+page-sound h reply.Failed fits none is = sound-same (taken h) [] refl is
+page-sound h r fits none is = absurd fits
+
+sound-after : (p : Process) (h : List Entry) (a : Action) (r : Reply) → p.takes ≡ act.TakePage → next_action p h ≡ Some a → Fits a r
+    → or_new (caused h) (given_cause a r h) ≡ None → IsSound 0 (taken h) → IsSound 0 (taken h ++ taken_by r)
+sound-after p h act.TakePage r takes next fits none is = page-sound h r fits none is
+sound-after p h act.ReadCard r takes next fits none is = absurd (let e = no-feed p h act.ReadCard takes next tt in cc)
+sound-after p h act.TakeFeed r takes next fits none is = absurd (let e = no-feed p h act.TakeFeed takes next tt in cc)
+sound-after p h a r takes next fits none is = sound-same (taken h) (taken_by r) (takes-nothing a r fits (λ is. is)) is
+
+sound-taken : (p : Process) (h : List Entry) → p.takes ≡ act.TakePage → Follows p h → caused h ≡ None → IsSound 0 (taken h)
+sound-taken p [] takes follows none = tt
+sound-taken p (Does a r ∷ h) takes follows none =
+    sound-after p h a r takes follows.0 follows.1 none (sound-taken p h takes follows.2 (or-none (caused h) (given_cause a r h) none))
+sound-taken p (LacksMemory a r ∷ h) takes follows none = absurd (some-not_none (caused h) _ none)
+sound-taken p (Delays a ∷ h) takes follows none = sound-taken p h takes follows.2 none
+
+items-end : (front : List Item) (rest : List Feed) → has_end (items_then front rest) ≡ has_end rest
+items-end [] rest = refl
+items-end (item ∷ front) rest = items-end front rest
+
+unpacked-end : (all : List Parcel) (at : ℕ) → IsSound at all → is_ended all ≡ true → has_end (unpacked at all) ≡ true
+unpacked-end [] at sound e = absurd cc
+unpacked-end (OfPage page true ∷ rest) at sound e = rw sound.0.1 (items-end sound.0.0.items (feed.End ∷ []))
+unpacked-end (OfPage page false ∷ rest) at sound e = rw sound.0.1 (items-end sound.0.0.items (unpacked ((at + 1) % 2 ^ 16) rest)
+    ∙ unpacked-end rest ((at + 1) % 2 ^ 16) sound.1 e)
+unpacked-end (OfFeed f ∷ rest) at sound e = absurd sound
+unpacked-end (OfLine line ∷ rest) at sound e = absurd sound
+
+-- ---- what is put
+stream-end : (front : List Item) (ended : Bool) → ended ≡ true → is_ended (as_parcels (stream front ended)) ≡ true
+stream-end [] ended e = rw e refl
+stream-end (item ∷ rest) ended e = stream-end rest ended e
+
+has_end-stream : (front : List Item) (ended : Bool) → ended ≡ true → has_end (stream front ended) ≡ true
+has_end-stream [] ended e = rw e refl
+has_end-stream (item ∷ rest) ended e = has_end-stream rest ended e
+
+given-end : (given : Option Page) (rest : List Parcel) → is_ended (marked false (option_to_list given) ++ rest) ≡ is_ended rest
+given-end None rest = refl
+given-end (Some page) rest = refl
+
+packed-end : (hand : PageInHand) (all : List Feed) → has_end all ≡ true → is_ended (packed hand all) ≡ true
+packed-end hand [] e = absurd cc
+packed-end hand (feed.Item item ∷ rest) e = given-end (page_given hand item) (packed (hand_after hand item) rest) ∙ packed-end (hand_after hand item) rest e
+packed-end hand (feed.End ∷ rest) e = refl
+
+-- ---- the five
+abbrev EndsLaw : Process → Type 0
+EndsLaw q = (h : List Entry) → Follows q h → caused h ≡ None → is_ended (taken h) ≡ true → is_ended (q.sends (taken h)) ≡ true
+
+card-ends : EndsLaw card
+card-ends h follows none e = stream-end (items (feeds (taken h))) (has_end (feeds (taken h))) (feeds-end (taken h) (feeds-taken card h (λ e. cc) follows) e)
+
+input-ends : EndsLaw input
+input-ends h follows none e = packed-end first_page (feeds (taken h)) (feeds-end (taken h) (feeds-taken input h (λ e. cc) follows) e)
+
+abbrev all_of : List Entry → List Feed
+all_of h = unpacked 0 (taken h)
+
+job-ends : EndsLaw job
+job-ends h follows none e =
+    packed-end first_page (job_lines (all_of h)) (has_end-stream (map Line (lines_so_far (items (all_of h)) (has_end (all_of h)))) (has_end (all_of h))
+    (unpacked-end (taken h) 0 (sound-taken job h refl follows none) e))
+
+output-ends : EndsLaw output
+output-ends h follows none e = stream-end (map Line (lines_of (items (all_of h)))) (has_end (all_of h))
+    (unpacked-end (taken h) 0 (sound-taken output h refl follows none) e)
+
+ends-law : (p : ℕ) → IsBuffer p → EndsLaw (process p)
+ends-law p is =
+    by-number EndsLaw p (λ e. card-ends) (λ e. input-ends) (λ e. job-ends) (λ e. output-ends) (λ e. (let below = is.1 in absurd (omega (arith, e, below))))
+    (λ none. absurd (not-none p none is))
+
+-- The five of the table are a row.
+pub the-five : IsRow process
+the-five = record {
+  relays = relays;
+  reads = reads-law;
+  first = refl;
+  prints = prints-law;
+  prints_only = λ all. lines-are (lines_of (items (feeds all)));
+  feeds = row-laws.feeds;
+  pages = row-laws.pages;
+  bounds = bounds-law;
+  both = row-laws.both;
+  beside = beside-law;
+  ends = ends-law;
+}

@@ -1,0 +1,179 @@
+-- Who was told of a stop, and that every stop goes back to a fault.
+use Rattle.std.proofs.Common.{◌≡◌, ◌⊎◌, inl, inr, ℕ, Bool, true, false, ◌||◌, List, [], ◌∷◌, Option, None, Some, Result, Ok, Err, refl, sym, ◌∙◌, ap, subst}
+use Rattle.std.proofs.lemmas.Bool.Decides.{eqb_tells}
+use Rattle.solo_base.specs.declared.outcome.Side.{Side}
+use Rattle.solo_base.specs.declared.outcome.Side.TheVariants.{Sender, Receiver}
+use Rattle.solo_base.specs.declared.outcome.Outcome.{Outcome}
+use Rattle.solo_base.specs.declared.outcome.Outcome.TheVariants as outcome
+use Rattle.solo_base.specs.declared.outcome.Cause.{Cause}
+use Rattle.solo_devices.specs.declared.card_read.CardRead.{CardRead}
+use Rattle.solo_devices.specs.declared.card_read.CardRead.TheVariants as read
+use Rattle.page_codec.specs.declared.judge.BadPage.{BadPage}
+use Rattle.page_codec.specs.Reading.{PageContent, page_read}
+use Rattle.queue_var.specs.Sides.{stopped_by, other}
+use Rattle.batch_procs.specs.declared.actions.Action.{Action}
+use Rattle.batch_procs.specs.declared.actions.Action.TheVariants as act
+use Rattle.batch_procs.specs.declared.actions.Reply.{Reply}
+use Rattle.batch_procs.specs.declared.actions.Reply.TheVariants as reply
+use Rattle.batch_procs.specs.Parcels.{is_ended}
+use Rattle.batch_procs.specs.History.{Entry, Does, LacksMemory, Delays, action_of, taken, newest}
+use Rattle.batch_procs.specs.Fits.{Fits}
+use Rattle.batch_procs.specs.Causes.{caused, or_new, given_cause, fault_read, damage, place}
+use Rattle.batch_procs.specs.Process.{Process, Follows, next_action, next_by, aim, due, unworked}
+use Rattle.batch_procs.specs.Laws.{IsNotDone}
+use Rattle.batch_procs.proofs.Closing.{working-no_stop, aimed-no_stop, caused-not_done}
+use Rattle.network_law.specs.Acts.{At, Visit, Awaits, Passes, Stops, told_at, was_told}
+use Rattle.network_law.specs.Network as law
+use Rattle.network_law.specs.Network.{IsEnabled, happens}
+use Rattle.network_law.specs.Kept.{Stands}
+use Rattle.network_law.proofs.Numbers.{set-same, set-other}
+use Rattle.network_law.proofs.Stopping.{stopped-before}
+use Rattle.core_law.specs.Core.{upstream, seat, call, went, core, CoreState, CoreEvent, IsBuffer}
+use Rattle.core_law.specs.Ends.{IsProcess, WasTold}
+use Rattle.core_law.proofs.Row.{IsRow}
+use Rattle.core_law.proofs.Acting.{follows-of, same-here}
+use Rattle.core_law.proofs.Lawful.{lawful, seated-by}
+use Rattle.core_law.proofs.Places.{call-buffer}
+
+-- ---- only one reply is the cause Stopped
+read-not : (answer : CardRead) → fault_read answer ≡ Some outcome.Stopped → ⊥
+read-not (read.Card line) e = cc
+read-not read.Spoiled e = cc
+read-not read.End e = cc
+read-not read.Failed e = cc
+read-not read.Limit e = cc
+
+damage-not : (page : Result PageContent BadPage) → damage page ≡ Some outcome.Stopped → ⊥
+damage-not (Ok content) e = cc
+damage-not (Err bad) e = cc
+
+given-stopped : (a : Action) (r : Reply) (h : List Entry) → given_cause a r h ≡ Some outcome.Stopped → r ≡ reply.Stopped
+given-stopped a reply.Done h e = absurd cc
+given-stopped a reply.Stopped h e = refl
+given-stopped a reply.Failed h e = absurd cc
+given-stopped a reply.NoMemory h e = absurd cc
+given-stopped a (reply.Card answer) h e = absurd (read-not answer e)
+given-stopped a (reply.Feed f) h e = absurd cc
+given-stopped a (reply.Page page last) h e = absurd (damage-not (page_read (place h) last page) e)
+
+or-stopped : (old new : Option Outcome) → or_new old new ≡ Some outcome.Stopped → (old ≡ Some outcome.Stopped) ⊎ (new ≡ Some outcome.Stopped)
+or-stopped None new e = inr e
+or-stopped (Some how) new e = inl e
+
+-- ---- who was told, and where
+pub record ToldAt (row : ℕ → Process) (p : ℕ) (h : List Entry) : Type 0 where
+  pub buffer : ℕ
+  pub side : Side
+  pub is_buffer : IsBuffer buffer
+  pub seated : seat buffer side ≡ p
+  pub told : was_told buffer side (law.acts (core row) p h) ≡ true
+
+or-true : (t : Bool) → (t || true) ≡ true
+or-true true = refl
+or-true false = refl
+
+module _ {row : ℕ → Process} (laws : IsRow row) (p : ℕ) (one : IsProcess p) where
+  told-more : (entry : Entry) (h : List Entry) → ToldAt row p h → ToldAt row p (entry ∷ h)
+  told-more entry h is = record {
+    buffer = is.buffer;
+    side = is.side;
+    is_buffer = is.is_buffer;
+    seated = is.seated;
+    told = ap (λ t. told_at is.buffer is.side (call p (action_of entry)) (went entry) || t) is.told
+        ∙ or-true (told_at is.buffer is.side (call p (action_of entry)) (went entry));
+  }
+
+  told-here : (h : List Entry) (a : Action) (b : ℕ) (side : Side) (visit : Visit) → Follows (row p) h → next_action (row p) h ≡ Some a
+      → call p a ≡ At b side visit
+      → told_at b side (call p a) (went (Does a reply.Stopped)) ≡ true → ToldAt row p (Does a reply.Stopped ∷ h)
+  told-here h a b side visit follows next e told = record {
+    buffer = b;
+    side = side;
+    is_buffer = call-buffer laws p h one follows a b side visit next e;
+    seated = seated-by laws p h one.0 follows a b side visit next e;
+    told = ap (λ t. t || was_told b side (law.acts (core row) p h)) told;
+  }
+
+  told-now : (h : List Entry) (a : Action) → Follows (row p) h → next_action (row p) h ≡ Some a → Fits a reply.Stopped → ToldAt row p (Does a reply.Stopped ∷ h)
+  told-now h (act.PutFeed f) follows next fits = told-here h (act.PutFeed f) p Sender Passes follows next refl (same-here p Sender)
+  told-now h act.TakeFeed follows next fits = told-here h act.TakeFeed (upstream p) Receiver Passes follows next refl (same-here (upstream p) Receiver)
+  told-now h act.AwaitRoom follows next fits = told-here h act.AwaitRoom p Sender Awaits follows next refl (same-here p Sender)
+  told-now h act.AwaitItem follows next fits = told-here h act.AwaitItem (upstream p) Receiver Awaits follows next refl (same-here (upstream p) Receiver)
+  told-now h a follows next fits = absurd fits
+
+  pub stopped-told : (h : List Entry) → Follows (row p) h → caused h ≡ Some outcome.Stopped → ToldAt row p h
+  stopped-told [] follows e = absurd cc
+  stopped-told (Does a r ∷ h) follows e =
+      elim (or-stopped (caused h) (given_cause a r h) e) as (λ _. ToldAt row p (Does a r ∷ h)) [
+        | inl old ↦ told-more (Does a r) h (stopped-told h follows.2 old)
+        | inr new ↦
+            let is = given-stopped a r h new in
+            subst (λ r. ToldAt row p (Does a r ∷ h)) (sym is) (told-now h a follows.2 follows.0 (subst (Fits a) is follows.1))
+      ]
+  stopped-told (LacksMemory a r ∷ h) follows e =
+      elim (or-stopped (caused h) _ e) as (λ _. ToldAt row p (LacksMemory a r ∷ h)) [
+        | inl old ↦ told-more (LacksMemory a r) h (stopped-told h follows.2 old)
+        | inr new ↦ absurd cc
+      ]
+  stopped-told (Delays a ∷ h) follows e = told-more (Delays a) h (stopped-told h follows.2 e)
+
+-- in a state
+pub was-told : {row : ℕ → Process} (laws : IsRow row) (opening s : CoreState) → Stands (core row) opening s → (p : ℕ) → IsProcess p
+    → caused (s.histories p) ≡ Some outcome.Stopped → WasTold s p
+was-told {row} laws opening s st p one e =
+    let is = stopped-told laws p one (s.histories p) (follows-of row p (s.histories p) (st.follows p)) e in
+    let at = subst (λ q. was_told is.buffer is.side (law.acts (core row) q (s.histories q)) ≡ true) (sym is.seated) is.told in
+    record { buffer = is.buffer; side = is.side; is_buffer = is.is_buffer; seated = is.seated; by = (st.buffers.told is.buffer is.side at).by_other }
+
+-- ---- every stop goes back to a fault
+abbrev pub HasFault : CoreState → Type 0
+HasFault s = (q : ℕ) × (cause : Cause) × (caused (s.histories q) ≡ Some (outcome.Fault cause))
+
+abbrev pub StopsHaveFault : CoreState → Type 0
+StopsHaveFault s = (b : ℕ) (by : Side) → stopped_by (s.buffers b).sides ≡ Some by → HasFault s
+
+cause-stays : (entry : Entry) (h : List Entry) (how : Outcome) → caused h ≡ Some how → caused (entry ∷ h) ≡ Some how
+cause-stays (Does a r) h how e = rw e refl
+cause-stays (LacksMemory a r) h how e = rw e refl
+cause-stays (Delays a) h how e = e
+
+stop-of : (p b : ℕ) (side : Side) (a : Action) → call p a ≡ At b side Stops → (c : ℕ) × (a ≡ act.Stop c)
+stop-of p b side (act.Stop c) e = (c, refl)
+stop-of p b side a e = absurd cc
+
+module _ {row : ℕ → Process} (laws : IsRow row) (opening s : CoreState) (event : CoreEvent) (st : Stands (core row) opening s) (faults : StopsHaveFault s)
+    (enabled : IsEnabled (core row) s event) where
+  abbrev p : ℕ
+  p = event.process
+
+  abbrev after : CoreState
+  after = happens (core row) s event
+
+  still-caused : (q : ℕ) (how : Outcome) → caused (s.histories q) ≡ Some how → caused (after.histories q) ≡ Some how
+  still-caused q how e =
+      elim (eqb_tells q p) as (λ _. caused (after.histories q) ≡ Some how) [
+        | inl own ↦ subst (λ q. caused (s.histories q) ≡ Some how → caused (after.histories q) ≡ Some how) (sym own.1)
+            (λ e. ap caused (set-same s.histories p (event.entry ∷ s.histories p)) ∙ cause-stays event.entry (s.histories p) how e) e
+        | inr differ ↦ ap caused (set-other s.histories p (event.entry ∷ s.histories p) q differ.1) ∙ e
+      ]
+
+  still-fault : HasFault s → HasFault after
+  still-fault (q, cause, e) = (q, cause, still-caused q (outcome.Fault cause) e)
+
+  -- who stops has a fault, or was told of one
+  stop-fault : (cause : Option Outcome) → caused (s.histories p) ≡ cause → (c : ℕ) → next_by (row p) cause (s.histories p) ≡ Some (act.Stop c) → HasFault s
+  stop-fault None e c stops =
+      (let h = s.histories p in absurd (working-no_stop (newest h) (aim (row p) h) (act.Stop c)
+      (aimed-no_stop (row p).takes (due (row p) h) (is_ended (taken h)) (unworked (row p) h) (laws.relays p).takes) stops))
+  stop-fault (Some outcome.Done) e c stops = absurd (subst IsNotDone e (caused-not_done (s.histories p)))
+  stop-fault (Some outcome.Stopped) e c stops = (let is = was-told laws opening s st p enabled.one e in faults is.buffer (other is.side) is.by)
+  stop-fault (Some (outcome.Fault cause)) e c stops = (p, cause, e)
+
+  pub keeps-faults : StopsHaveFault after
+  keeps-faults b by e =
+      still-fault (elim (stopped-before (lawful laws) s event st.follows st.buffers enabled b by e) as (λ _. HasFault s) [
+        | inl before ↦ faults b by before
+        | inr (side, here) ↦
+            let (c, is) = stop-of p b side (action_of event.entry) here in
+            stop-fault (caused (s.histories p)) refl c (enabled.next ∙ ap Some is)
+      ])

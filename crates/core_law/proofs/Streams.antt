@@ -1,0 +1,46 @@
+-- What the deck and the paper tell, as streams of parcels.
+use Rattle.std.specs.Prelude.{◌≡◌, ℕ, true, false, List, [], ◌∷◌, ◌++◌, Option, None, Some}
+use Rattle.solo_base.specs.declared.item.Item.{Item}
+use Rattle.solo_base.specs.declared.item.Feed.TheVariants as feed
+use Rattle.solo_base.specs.Text.{line_text}
+use Rattle.batch_job.specs.LinesSoFar.{IsPrefixOf}
+use Rattle.batch_procs.specs.Parcels.{Parcel, OfFeed, OfPage, OfLine, is_ended}
+use Rattle.batch_procs.specs.History.{Entry, taken, sent}
+use Rattle.batch_procs.specs.Causes.{caused}
+use Rattle.batch_procs.specs.Process.{Process}
+use Rattle.core_law.specs.Core.{CoreState}
+
+-- what the card process takes of a whole deck: its items, and then the end
+abbrev pub deck_parcels : List Item → List Parcel
+deck_parcels [] = OfFeed feed.End ∷ []
+deck_parcels (item ∷ items) = OfFeed (feed.Item item) ∷ deck_parcels items
+
+abbrev pub text_of : List Parcel → List ℕ
+text_of [] = []
+text_of (OfFeed f ∷ rest) = text_of rest
+text_of (OfPage page last ∷ rest) = text_of rest
+text_of (OfLine line ∷ rest) = line_text line ++ text_of rest
+
+-- the five list functions, one after the other
+abbrev pub output_of : (ℕ → Process) → List Parcel → List Parcel
+output_of row all = (row 5).sends ((row 4).sends ((row 3).sends ((row 2).sends ((row 1).sends all))))
+
+-- what was read of a told deck
+pub record ReadsOf (items : List Item) (deck : Option (List Item)) (read : List Parcel) : Type 0 where
+  pub left : List Item
+  pub left_is : deck ≡ Some left
+  pub parts : is_ended read ≡ false → read ++ deck_parcels left ≡ deck_parcels items
+  pub whole : is_ended read ≡ true → (read ≡ deck_parcels items) × (left ≡ [])
+
+-- what a told paper gained: all lines that were printed, and after a failure perhaps a part of one more
+pub record Gained (given : List ℕ) (paper : Option (List ℕ)) (sends : List Parcel → List Parcel) (h : List Entry) : Type 0 where
+  pub gained : List ℕ
+  pub paper_is : paper ≡ Some (given ++ gained)
+  pub printed : caused h ≡ None → gained ≡ text_of (sent h)
+  pub part : IsPrefixOf gained (text_of (sends (taken h)))
+
+pub record DevicesStand (row : ℕ → Process) (opening s : CoreState) : Type 0 where
+  pub read : (items : List Item) → opening.devices.deck ≡ Some items → ReadsOf items s.devices.deck (taken (s.histories 1))
+  pub gained : (given : List ℕ) → opening.devices.paper ≡ Some given → Gained given s.devices.paper (row 5).sends (s.histories 5)
+  pub deck_untold : opening.devices.deck ≡ None → s.devices.deck ≡ None
+  pub paper_untold : opening.devices.paper ≡ None → s.devices.paper ≡ None

@@ -1,0 +1,5 @@
+use Rattle.core_law.proofs.Reached.{reached-holds}
+use Rattle.core_law.proofs.interleavings.every_interleaving.Goals as goal
+
+pub returns : goal.returns
+returns c = reached-holds

@@ -1,0 +1,66 @@
+-- What holds of every reached state of the core, whatever the order of the events, whichever device fails and
+-- wherever memory is refused.
+use Rattle.std.specs.Prelude.{◌≡◌, ◌⊎◌, ℕ, suc, true, List, [], Option, Some, flat_map}
+use Rattle.solo_base.specs.declared.item.Item.{Item}
+use Rattle.solo_base.specs.declared.outcome.Side.{Side}
+use Rattle.solo_base.specs.Text.{text}
+use Rattle.solo_devices.specs.PrinterUnit.{Gains}
+use Rattle.page_codec.specs.Items.{AreItems}
+use Rattle.deck_format.specs.Jobs.{jobs}
+use Rattle.queue_var.specs.HandsOver.{is_one_of}
+use Rattle.resource_mon.specs.Claims.{HasOneHolder}
+use Rattle.batch_job.specs.Report.{report}
+use Rattle.batch_procs.specs.Parcels.{is_last}
+use Rattle.batch_procs.specs.History.{taken, sent, has_stopped}
+use Rattle.batch_procs.specs.Process.{Follows, next_action}
+use Rattle.batch_procs.specs.Laws.{HoldsOn}
+use Rattle.batch_procs.specs.Table.{process}
+use Rattle.network_law.specs.Acts.{was_told}
+use Rattle.network_law.specs.Network.{IsEnabled, acts}
+use Rattle.network_law.specs.Kept.{StandsFor, WasToldRightly}
+use Rattle.core_law.specs.Core.{core, CoreState, CoreEvent, IsBuffer, seat}
+use Rattle.core_law.specs.Opening.{Spools}
+use Rattle.core_law.specs.Ends.{IsProcess, HasEnded, AllDone, EndsTogether, IsSmooth}
+
+-- the lines that one thread prints for these items: the reports of their jobs, in order
+abbrev pub one_thread_lines : List Item → List (List ℕ)
+one_thread_lines items = flat_map report (jobs items)
+
+-- both spools tell their pages
+pub record AreTold (spools : Spools) : Type 0 where
+  pub input : spools.input_told ≡ true
+  pub output : spools.output_told ≡ true
+
+-- The holder of the disk puts or takes a page next or releases it, or the turn of the desk is handed to it.
+abbrev pub GoesOn : CoreState → ℕ → Type 0
+GoesOn s p = (s.desk.claims.handed ≡ Some p) ⊎ HoldsOn (next_action (process p) (s.histories p))
+
+pub record Holds (spools : Spools) (deck : Option (List Item)) (paper : Option (List ℕ))
+    (s : CoreState) : Type 0 where
+  -- What the paper gained is a prefix of what one thread prints, and all of it where all five ended with
+  -- their work done.
+  pub prints : AreTold spools → (items : List Item) → deck ≡ Some items → AreItems items
+      → Gains paper s.devices.paper (text (one_thread_lines items)) (AllDone s)
+  -- Then nothing is left of the deck.
+  pub reads : (items : List Item) → deck ≡ Some items → AllDone s → s.devices.deck ≡ Some []
+  -- Each buffer hands over in order what its sender sent, and who waits there has a cause to.
+  pub hands_over : (b : ℕ) → IsBuffer b → StandsFor is_last (sent (s.histories b))
+      (taken (s.histories (suc b))) (s.buffers b)
+  -- The stops of a buffer are those of its two processes.
+  pub stops : (b : ℕ) (side : Side) → is_one_of side (s.buffers b).stops
+      ≡ has_stopped b (s.histories (seat b side))
+  -- A side is told of a stop where the other side stopped first, and a receiver where nothing was inside.
+  pub told : (b : ℕ) (side : Side) → was_told b side
+      (acts (core process) (seat b side) (s.histories (seat b side))) ≡ true
+      → WasToldRightly (s.buffers b) side
+  -- One process has the disk, in order of arrival, and it goes on.
+  pub one_holder : HasOneHolder s.desk.requested s.desk.granted s.desk.released s.desk.claims
+  pub holder : (p : ℕ) → s.desk.claims.holder ≡ Some p → GoesOn s p
+  pub ends : EndsTogether s
+  -- Each process did what its history asks for.
+  pub follows : (p : ℕ) → Follows (process p) (s.histories p)
+
+-- Some process has not ended, and no event may happen in which no device fails and no memory is refused.
+pub record IsStuck (s : CoreState) : Type 0 where
+  pub not_ended : ((p : ℕ) → IsProcess p → HasEnded s p) → ⊥
+  pub none_enabled : (event : CoreEvent) → IsEnabled (core process) s event → IsSmooth event.entry → ⊥

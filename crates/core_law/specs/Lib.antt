@@ -1,0 +1,4 @@
+pub mod Core
+pub mod Opening
+pub mod Ends
+pub mod Holds

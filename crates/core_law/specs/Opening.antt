@@ -1,0 +1,36 @@
+-- The opening of the core, and its reached states.
+use Rattle.std.specs.Prelude.{◌≤◌, ◌==◌, ℕ, Bool, true, if◌then◌else◌, List, Option}
+use Rattle.solo_base.specs.declared.item.Item.{Item}
+use Rattle.batch_procs.specs.Table.{process}
+use Rattle.network_law.specs.Network as law
+use Rattle.core_law.specs.Core.{core, CoreState}
+
+-- the two spools: how many pages each has room for, and whether its area tells its pages
+pub record Spools : Type 0 where
+  pub input_size : ℕ
+  pub input_told : Bool
+  pub output_size : ℕ
+  pub output_told : Bool
+
+-- a spool has an area of 1 to 256 pages
+pub record AreInBounds (spools : Spools) : Type 0 where
+  pub input_some : 1 ≤ spools.input_size
+  pub input_most : spools.input_size ≤ 256
+  pub output_some : 1 ≤ spools.output_size
+  pub output_most : spools.output_size ≤ 256
+
+-- The line buffers 1 and 4 have room for one line each, and what is inside them is told.
+abbrev pub size_of : Spools → ℕ → ℕ
+size_of spools b = if b == 2 then spools.input_size else if b == 3 then spools.output_size else 1
+
+abbrev pub told_of : Spools → ℕ → Bool
+told_of spools b = if b == 2 then spools.input_told else if b == 3 then spools.output_told else true
+
+abbrev pub opened : Spools → Option (List Item) → Option (List ℕ) → CoreState
+opened spools deck paper = law.opening record { deck = deck; paper = paper } (size_of spools) (told_of spools)
+
+-- A state of the five that some list of enabled events leads to, from spools of such sizes.
+pub record IsReached (spools : Spools) (deck : Option (List Item)) (paper : Option (List ℕ))
+    (s : CoreState) : Type 0 where
+  pub bounds : AreInBounds spools
+  pub reached : law.IsReached (core process) (opened spools deck paper) s

@@ -1,0 +1,7 @@
+//! The law of the core: the five processes over two line buffers, two spools and one disk, whatever the order
+//! of their events and whichever device fails.
+#![tactic(auto)]
+
+mod interleavings;
+
+pub use interleavings::{every_interleaving, no_state_is_stuck};

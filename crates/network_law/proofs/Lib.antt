@@ -1,0 +1,11 @@
+pub mod Numbers
+pub mod Visits
+pub mod Lasts
+pub mod Seats
+pub mod KeepsBuffers
+pub mod KeepsReady
+pub mod KeepsQueues
+pub mod KeepsDesk
+pub mod Reached
+pub mod Rests
+pub mod Stopping

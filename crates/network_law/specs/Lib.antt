@@ -1,0 +1,6 @@
+pub mod Acts
+pub mod Buffer
+pub mod Desk
+pub mod Network
+pub mod Processes
+pub mod Kept
