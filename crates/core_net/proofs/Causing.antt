@@ -1,0 +1,165 @@
+-- The causes of what is performed.
+use Rattle.std.proofs.Common.{◌≡◌, ◌≢◌, ◌≤◌, ◌<◌, ◌↔◌, ℕ, List, true, Option, Some, refl, ◌∙◌, ap, subst, arith}
+use Rattle.solo_devices.specs.Count.{Rose}
+use Rattle.solo_devices.specs.CardUnit.{Held, byte_limit}
+use Rattle.solo_devices.specs.PrinterUnit.{Printing}
+use Rattle.solo_devices.specs.declared.card_read.CardRead.TheVariants as card_read
+use Rattle.batch_procs.specs.declared.actions.Action.{Action}
+use Rattle.batch_procs.specs.declared.actions.Action.TheVariants as act
+use Rattle.batch_procs.specs.declared.actions.Reply.{Reply}
+use Rattle.batch_procs.specs.declared.actions.Reply.TheVariants as reply
+use Rattle.core_net.specs.declared.shared.Shared.{Shared}
+use Rattle.core_net.specs.Calls.{ReplyFits}
+use Rattle.core_net.specs.Causes.{Counts, MovesInput, MovesOutput, IsPrint, HasCauses}
+
+-- an action that no device hears of
+abbrev pub IsQuiet : Action → Type 0
+IsQuiet act.ReadCard = ⊥
+IsQuiet (act.PutPage page) = ⊥
+IsQuiet act.TakePage = ⊥
+IsQuiet (act.Print line) = ⊥
+IsQuiet action = Unit {0}
+
+no-card : (action : Action) (answer : Rattle.solo_devices.specs.declared.card_read.CardRead.CardRead) → (action ≡ act.ReadCard → ⊥)
+    → ReplyFits action (Some (reply.Card answer)) → ⊥
+no-card act.ReadCard answer not fits = not refl
+no-card action answer not fits = fits
+
+quiet-reads : (action : Action) → IsQuiet action → action ≡ act.ReadCard → ⊥
+quiet-reads action is e = subst IsQuiet e is
+
+quiet-prints : (action : Action) → IsQuiet action → IsPrint action → ⊥
+quiet-prints (act.Print line) is print = is
+quiet-prints action is print = print
+
+quiet-input : (p : ℕ) (action : Action) → IsQuiet action → MovesInput p action → ⊥
+quiet-input p (act.PutPage page) is moves = is
+quiet-input p act.TakePage is moves = is
+quiet-input p action is moves = moves
+
+quiet-output : (p : ℕ) (action : Action) → IsQuiet action → MovesOutput p action → ⊥
+quiet-output p (act.PutPage page) is moves = is
+quiet-output p act.TakePage is moves = is
+quiet-output p action is moves = moves
+
+same-count : (a b : ℕ) → b ≡ a → a ≤ b
+same-count a b e = omega (arith, e)
+
+module _ {S K A B : Type 0} (counts : Counts S K A B) (old new : Shared S K A B) (p : ℕ) where
+  -- ---- what stays as it was
+  pub record AreSame : Type 0 where
+    pub deck : new.deck ≡ old.deck
+    pub paper : new.paper ≡ old.paper
+    pub input : new.input.area ≡ old.input.area
+    pub output : new.output.area ≡ old.output.area
+
+  fits-at : (action : Action) (result other : Option Reply) → result ≡ other → ReplyFits action result → ReplyFits action other
+  fits-at action result other e fits = subst (ReplyFits action) e fits
+
+  pub quiet-causes : (action : Action) (result : Option Reply) → IsQuiet action → ReplyFits action result → AreSame → HasCauses counts old new p action result
+  quiet-causes action result quiet fits same = record {
+    read = λ e. absurd (no-card action card_read.Failed (quiet-reads action quiet) (fits-at action result (Some (reply.Card card_read.Failed)) e fits));
+    limit = λ e. absurd (no-card action card_read.Limit (quiet-reads action quiet) (fits-at action result (Some (reply.Card card_read.Limit)) e fits));
+    limit_told = λ e. absurd (quiet-reads action quiet e);
+    print = λ is. absurd (quiet-prints action quiet is);
+    input = λ is. absurd (quiet-input p action quiet is);
+    output = λ is. absurd (quiet-output p action quiet is);
+    read_on = same-count _ _ (ap (λ (d : Held S). counts.read_faults d.source) same.deck);
+    print_on = same-count _ _ (ap (λ (d : Printing K). counts.print_faults d.sink) same.paper);
+    input_on = same-count _ _ (ap counts.input_faults same.input);
+    output_on = same-count _ _ (ap counts.output_faults same.output);
+    deck_live = λ live not_failed not_limit. ap (λ (d : Held S). d.live) same.deck ∙ live;
+    paper_live = λ live done. ap (λ (d : Printing K). d.live) same.paper ∙ live;
+  }
+
+  -- ---- a move of a page
+  abbrev pub IsMove : Action → Type 0
+  IsMove (act.PutPage page) = Unit {0}
+  IsMove act.TakePage = Unit {0}
+  IsMove action = ⊥
+
+  move-reads : (action : Action) → IsMove action → action ≡ act.ReadCard → ⊥
+  move-reads action is e = subst IsMove e is
+
+  move-prints : (action : Action) → IsMove action → IsPrint action → ⊥
+  move-prints (act.Print line) is print = is
+  move-prints action is print = print
+
+  pub input-causes : (action : Action) (r : Reply) → IsMove action → ReplyFits action (Some r) → (MovesOutput p action → ⊥) → new.deck ≡ old.deck
+      → new.paper ≡ old.paper → new.output.area ≡ old.output.area
+      → (r ≡ reply.Failed → Rose (counts.input_faults old.input.area) (counts.input_faults new.input.area))
+      → counts.input_faults old.input.area ≤ counts.input_faults new.input.area → HasCauses counts old new p action (Some r)
+  input-causes action r move fits not deck paper output failed later = record {
+    read = λ e. absurd (no-card action card_read.Failed (move-reads action move) (fits-at action (Some r) (Some (reply.Card card_read.Failed)) e fits));
+    limit = λ e. absurd (no-card action card_read.Limit (move-reads action move) (fits-at action (Some r) (Some (reply.Card card_read.Limit)) e fits));
+    limit_told = λ e. absurd (move-reads action move e);
+    print = λ is. absurd (move-prints action move is);
+    input = λ is e. failed cc;
+    output = λ is. absurd (not is);
+    read_on = same-count _ _ (ap (λ (d : Held S). counts.read_faults d.source) deck);
+    print_on = same-count _ _ (ap (λ (d : Printing K). counts.print_faults d.sink) paper);
+    input_on = later;
+    output_on = same-count _ _ (ap counts.output_faults output);
+    deck_live = λ live not_failed not_limit. ap (λ (d : Held S). d.live) deck ∙ live;
+    paper_live = λ live done. ap (λ (d : Printing K). d.live) paper ∙ live;
+  }
+
+  pub output-causes : (action : Action) (r : Reply) → IsMove action → ReplyFits action (Some r) → (MovesInput p action → ⊥) → new.deck ≡ old.deck
+      → new.paper ≡ old.paper → new.input.area ≡ old.input.area
+      → (r ≡ reply.Failed → Rose (counts.output_faults old.output.area) (counts.output_faults new.output.area))
+      → counts.output_faults old.output.area ≤ counts.output_faults new.output.area → HasCauses counts old new p action (Some r)
+  output-causes action r move fits not deck paper input failed later = record {
+    read = λ e. absurd (no-card action card_read.Failed (move-reads action move) (fits-at action (Some r) (Some (reply.Card card_read.Failed)) e fits));
+    limit = λ e. absurd (no-card action card_read.Limit (move-reads action move) (fits-at action (Some r) (Some (reply.Card card_read.Limit)) e fits));
+    limit_told = λ e. absurd (move-reads action move e);
+    print = λ is. absurd (move-prints action move is);
+    input = λ is. absurd (not is);
+    output = λ is e. failed cc;
+    read_on = same-count _ _ (ap (λ (d : Held S). counts.read_faults d.source) deck);
+    print_on = same-count _ _ (ap (λ (d : Printing K). counts.print_faults d.sink) paper);
+    input_on = same-count _ _ (ap counts.input_faults input);
+    output_on = later;
+    deck_live = λ live not_failed not_limit. ap (λ (d : Held S). d.live) deck ∙ live;
+    paper_live = λ live done. ap (λ (d : Printing K). d.live) paper ∙ live;
+  }
+
+  -- ---- a card and a line
+  pub read-causes : (r : Reply) → new.paper ≡ old.paper → new.input.area ≡ old.input.area → new.output.area ≡ old.output.area
+      → (r ≡ reply.Card card_read.Failed → Rose (counts.read_faults old.deck.source) (counts.read_faults new.deck.source))
+      → counts.read_faults old.deck.source ≤ counts.read_faults new.deck.source
+      → ((r ≡ reply.Card card_read.Limit) ↔ (byte_limit < counts.taken new.deck.source))
+      → (r ≢ reply.Card card_read.Failed → r ≢ reply.Card card_read.Limit → new.deck.live ≡ true) → HasCauses counts old new p act.ReadCard (Some r)
+  read-causes r paper input output failed later limit live = record {
+    read = λ e. failed cc;
+    limit = λ e. limit.0 cc;
+    limit_told = λ e is. ap Some (limit.1 is);
+    print = λ is. absurd is;
+    input = λ is. absurd is;
+    output = λ is. absurd is;
+    read_on = later;
+    print_on = same-count _ _ (ap (λ (d : Printing K). counts.print_faults d.sink) paper);
+    input_on = same-count _ _ (ap counts.input_faults input);
+    output_on = same-count _ _ (ap counts.output_faults output);
+    deck_live = λ was not_failed not_limit. live (λ e. not_failed (ap Some e)) (λ e. not_limit (ap Some e));
+    paper_live = λ was done. ap (λ (d : Printing K). d.live) paper ∙ was;
+  }
+
+  pub print-causes : (line : List ℕ) (r : Reply) → ReplyFits (act.Print line) (Some r) → new.deck ≡ old.deck → new.input.area ≡ old.input.area
+      → new.output.area ≡ old.output.area
+      → (r ≡ reply.Failed → Rose (counts.print_faults old.paper.sink) (counts.print_faults new.paper.sink))
+      → counts.print_faults old.paper.sink ≤ counts.print_faults new.paper.sink
+      → (r ≡ reply.Done → new.paper.live ≡ true) → HasCauses counts old new p (act.Print line) (Some r)
+  print-causes line r fits deck input output failed later live = record {
+    read = λ e. absurd (no-card (act.Print line) card_read.Failed (λ e. cc) (fits-at (act.Print line) (Some r) (Some (reply.Card card_read.Failed)) e fits));
+    limit = λ e. absurd (no-card (act.Print line) card_read.Limit (λ e. cc) (fits-at (act.Print line) (Some r) (Some (reply.Card card_read.Limit)) e fits));
+    limit_told = λ e. absurd cc;
+    print = λ is e. failed cc;
+    input = λ is. absurd is;
+    output = λ is. absurd is;
+    read_on = same-count _ _ (ap (λ (d : Held S). counts.read_faults d.source) deck);
+    print_on = later;
+    input_on = same-count _ _ (ap counts.input_faults input);
+    output_on = same-count _ _ (ap counts.output_faults output);
+    deck_live = λ was not_failed not_limit. ap (λ (d : Held S). d.live) deck ∙ was;
+    paper_live = λ was done. live (let e = done tt in cc);
+  }

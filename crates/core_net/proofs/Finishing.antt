@@ -1,0 +1,244 @@
+-- How each process ended follows from its cause, and how all did together from the law.
+use Rattle.std.proofs.Common.{◌≡◌, inl, inr, ◌<◌, ℕ, List, [], ◌∷◌, Bool, Option, None, Some, refl, sym, ◌∙◌, ap, subst, arith, lit≤}
+use Rattle.std.proofs.lemmas.Bool.Decides.{eqb_tells}
+use Rattle.solo_base.specs.declared.item.Item.{Item}
+use Rattle.solo_base.specs.declared.outcome.Side.{Side}
+use Rattle.solo_base.specs.declared.outcome.Outcome.{Outcome}
+use Rattle.solo_base.specs.declared.outcome.Outcome.TheVariants as outcome
+use Rattle.solo_base.specs.declared.outcome.Cause.{Cause}
+use Rattle.solo_base.specs.Text.{text}
+use Rattle.solo_devices.specs.CardUnit.{items_ahead}
+use Rattle.solo_devices.specs.PrinterUnit.{Gains}
+use Rattle.page_codec.specs.Items.{AreItems}
+use Rattle.queue_var.specs.Sides.{stopped_by}
+use Rattle.batch_procs.specs.declared.machine.Machine.{Machine}
+use Rattle.batch_procs.specs.declared.round.Step.TheVariants as step
+use Rattle.batch_procs.specs.declared.actions.Action.{Action}
+use Rattle.batch_procs.specs.declared.actions.Action.TheVariants as act
+use Rattle.batch_procs.specs.Parcels.{Parcel}
+use Rattle.batch_procs.specs.History.{Entry, newest}
+use Rattle.batch_procs.specs.Causes.{caused}
+use Rattle.batch_procs.specs.Faults.{GivenBy, FaultsOf}
+use Rattle.batch_procs.specs.Laws.{IsRelay, IsNotDone, HasEnded}
+use Rattle.batch_procs.specs.Machine.{StandsFor, step_after}
+use Rattle.batch_procs.specs.Process.{Process}
+use Rattle.batch_procs.specs.Table.{card, input, job, output, printer}
+use Rattle.batch_procs.specs.Relays.{relays}
+use Rattle.batch_procs.proofs.Faulty.{each_cause_is_given, faults_of_the_five}
+use Rattle.core_law.specs.Core.{CoreState, IsBuffer}
+use Rattle.core_law.specs.Ends.{IsProcess, HasEndedSo, AllDone, EndsTogether, outcome_by}
+use Rattle.core_law.specs.Holds.{one_thread_lines, AreTold, Holds}
+use Rattle.core_law.specs.Opening.{Spools}
+use Rattle.core_law.proofs.Together.{ended-as}
+use Rattle.core_law.proofs.Reached.{reached-holds}
+use Rattle.core_net.specs.declared.finish.Outcomes.{Outcomes}
+use Rattle.core_net.specs.declared.net.Net.{Net}
+use Rattle.core_net.specs.declared.shared.Shared.{Shared}
+use Rattle.core_net.specs.Shared.{Tells, SharedStands}
+use Rattle.core_net.specs.Net.{Keeps, NetStands, StandsReached}
+use Rattle.core_net.specs.Ended.{HaveEnded, outcome_at, all_done, sides_of, none_stopped, EndsSo, stopped_at, StoppedBeside, SomeFault, EndTogether, FaultsAre}
+
+-- ---- by number
+pub each-process : (P : ℕ → Type 0) (p : ℕ) → IsProcess p → P 1 → P 2 → P 3 → P 4 → P 5 → P p
+each-process P p is one two three four five =
+    elim (eqb_tells p 1) as (λ _. P p) [
+      | inl a ↦ subst P (sym a.1) one
+      | inr a ↦ elim (eqb_tells p 2) as (λ _. P p) [
+        | inl b ↦ subst P (sym b.1) two
+        | inr b ↦ elim (eqb_tells p 3) as (λ _. P p) [
+          | inl c ↦ subst P (sym c.1) three
+          | inr c ↦ elim (eqb_tells p 4) as (λ _. P p) [
+            | inl d ↦ subst P (sym d.1) four
+            | inr d ↦ (let last : p ≡ 5 = (let a = a.1 in let b = b.1 in let c = c.1 in let d = d.1 in let low = is.0 in let high = is.1 in
+                omega (arith, a, b, c, d, low, high)) in subst P (sym last) five)
+          ]
+        ]
+      ]
+    ]
+
+none-fifth : 5 < 5 → ⊥
+none-fifth less = omega (arith, less)
+
+each-buffer : (P : ℕ → Type 0) (b : ℕ) → IsBuffer b → P 1 → P 2 → P 3 → P 4 → P b
+each-buffer P b is one two three four =
+    let low = is.0 in
+    let high = is.1 in
+    each-process (λ b. IsBuffer b → P b) b (low, omega (arith, high)) (λ at. one) (λ at. two) (λ at. three) (λ at. four)
+    (λ at. absurd (none-fifth at.1)) is
+
+-- ---- one process
+ended-step : (last : Option Action) → step_after last ≡ step.Ended → (how : Outcome) × (last ≡ Some (act.Ended how))
+ended-step None e = absurd cc
+ended-step (Some act.ReadCard) e = absurd cc
+ended-step (Some (act.PutFeed f)) e = absurd cc
+ended-step (Some act.TakeFeed) e = absurd cc
+ended-step (Some act.AwaitRoom) e = absurd cc
+ended-step (Some act.AwaitItem) e = absurd cc
+ended-step (Some act.Request) e = absurd cc
+ended-step (Some (act.PutPage page)) e = absurd cc
+ended-step (Some act.TakePage) e = absurd cc
+ended-step (Some act.Release) e = absurd cc
+ended-step (Some act.Local) e = absurd cc
+ended-step (Some (act.Print line)) e = absurd cc
+ended-step (Some (act.Stop b)) e = absurd cc
+ended-step (Some (act.Ended how)) e = (how, refl)
+
+cause-is : (cause : Option Outcome) (how : Outcome) → outcome_by cause ≡ how → IsNotDone (Some how) → cause ≡ Some how
+cause-is None how e not = absurd (subst (λ o. IsNotDone (Some o)) (sym e) not)
+cause-is (Some found) how e not = ap Some e
+
+module _ {W : Type 0} (p : Process) (keeps : W → List Parcel → List Parcel → Bool → Type 0) (m : Machine W) (how : Outcome)
+    (is : (h : List Entry) → StandsFor p keeps m h → how ≡ outcome_by (caused h)) (h : List Entry) (st : StandsFor p keeps m h) where
+  ends-so : (before : List Entry) → IsRelay p → StandsFor p keeps m before → HasEnded before → newest h ≡ Some (act.Ended how)
+  ends-so before relay stood ended =
+      let at : step_after (newest h) ≡ step.Ended = sym st.step ∙ stood.step ∙ ap step_after ended.1 in
+      let (found, e) = ended-step (newest h) at in
+      subst (λ how. newest h ≡ Some (act.Ended how)) (sym (is h st ∙ ended-as p h found relay st.follows e)) e
+
+  given-so : (found : Outcome) → how ≡ found → IsNotDone (Some found) → GivenBy h found
+  given-so found e not = each_cause_is_given h found (cause-is (caused h) found (sym (is h st) ∙ e) not)
+
+  fault-so : (Fault : Cause → Type 0) → FaultsOf p Fault → (c : Cause) → how ≡ outcome.Fault c → Fault c
+  fault-so Fault faults c e = faults h c st.follows (cause-is (caused h) (outcome.Fault c) (sym (is h st) ∙ e) tt)
+
+-- ---- the five
+abbrev outcomes_by : Outcome → Outcome → Outcome → Outcome → Outcome → Outcomes
+outcomes_by a b c d e = record { card = a; input = b; job = c; output = d; printer = e }
+
+done-so : (a b c d e : Outcome) → a ≡ outcome.Done → b ≡ outcome.Done → c ≡ outcome.Done → d ≡ outcome.Done → e ≡ outcome.Done
+    → outcomes_by a b c d e ≡ all_done
+done-so a b c d e x y z v w = cc
+
+same-four : (a b c d x y z v : Option Side) → a ≡ x → b ≡ y → c ≡ z → d ≡ v → (a ∷ b ∷ c ∷ d ∷ []) ≡ (x ∷ y ∷ z ∷ v ∷ [])
+same-four a b c d x y z v i j k l = cc
+
+pub sides-are : {S K A B : Type 0} (tells : Tells S K A B) (shared : Shared S K A B) (s : CoreState) → SharedStands tells shared s → (a b c d : Option Side)
+    → a ≡ stopped_by shared.cards.sides → b ≡ stopped_by shared.input.sides → c ≡ stopped_by shared.output.sides → d ≡ stopped_by shared.lines.sides
+    → (a ∷ b ∷ c ∷ d ∷ []) ≡ sides_of s
+sides-are tells shared s st a b c d i j k l =
+    same-four a b c d _ _ _ _ (i ∙ sym (ap (λ x. stopped_by x.sides) st.cards.is)) (j ∙ sym (ap (λ x. stopped_by x.sides) st.input.is))
+    (k ∙ sym (ap (λ x. stopped_by x.sides) st.output.is)) (l ∙ sym (ap (λ x. stopped_by x.sides) st.lines.is))
+
+none-so : (a b c d : Option Side) → a ≡ None → b ≡ None → c ≡ None → d ≡ None → (a ∷ b ∷ c ∷ d ∷ []) ≡ none_stopped
+none-so a b c d x y z v = same-four a b c d None None None None x y z v
+
+same-end : (last : Option Action) (a b : Outcome) → last ≡ Some (act.Ended a) → last ≡ Some (act.Ended b) → a ≡ b
+same-end last a b x y = cc
+
+all-done : (p : ℕ) → IsProcess p → outcome_at all_done p ≡ outcome.Done
+all-done p one = each-process (λ p. outcome_at all_done p ≡ outcome.Done) p one refl refl refl refl refl
+
+-- The sides that stopped are those of the list.
+stopped-so : (s : CoreState) (b : ℕ) → IsBuffer b → stopped_at (sides_of s) b ≡ stopped_by (s.buffers b).sides
+stopped-so s b is = each-buffer (λ b. stopped_at (sides_of s) b ≡ stopped_by (s.buffers b).sides) b is refl refl refl refl
+
+pub gains-where : (before now : Option (List ℕ)) (whole : List ℕ) (X Y : Type 0) → (Y → X) → Gains before now whole X → Gains before now whole Y
+gains-where before now whole X Y if gains = record {
+  told = λ given is. (let all = gains.told given is in record { part = all.part; now_is = all.now_is; prefix = all.prefix; all_is = λ y. all.all_is (if y) });
+  untold = gains.untold;
+}
+
+module _ {S K A B : Type 0} (keeps : Keeps) (tells : Tells S K A B) (net : Net S K A B) (outcomes : Outcomes) (stops : List (Option Side))
+    (some : HaveEnded keeps tells net)
+    (card-is : (h : List Entry) → StandsFor card keeps.card net.card h → outcomes.card ≡ outcome_by (caused h))
+    (input-is : (h : List Entry) → StandsFor input keeps.input net.input h → outcomes.input ≡ outcome_by (caused h))
+    (job-is : (h : List Entry) → StandsFor job keeps.job net.job h → outcomes.job ≡ outcome_by (caused h))
+    (output-is : (h : List Entry) → StandsFor output keeps.output net.output h → outcomes.output ≡ outcome_by (caused h))
+    (printer-is : (h : List Entry) → StandsFor printer keeps.printer net.printer h → outcomes.printer ≡ outcome_by (caused h))
+    (stops-are : (s : CoreState) → NetStands keeps tells net s → stops ≡ sides_of s) where
+  abbrev first : CoreState
+  first = some.is.state
+
+  abbrev stood : NetStands keeps tells net first
+  stood = some.is.stands
+
+  ended : (s : CoreState) → NetStands keeps tells net s → (p : ℕ) → IsProcess p → HasEndedSo s (outcome_at outcomes p) p
+  ended s st p one =
+      each-process (λ p. HasEndedSo s (outcome_at outcomes p) p) p one
+      (ends-so card keeps.card net.card outcomes.card card-is (s.histories 1) st.card (first.histories 1) (relays 1) stood.card (some.all 1 (lit≤ tt, lit≤ tt)))
+      (ends-so input keeps.input net.input outcomes.input input-is (s.histories 2) st.input (first.histories 2) (relays 2) stood.input (some.all 2 (lit≤ tt, lit≤ tt)))
+      (ends-so job keeps.job net.job outcomes.job job-is (s.histories 3) st.job (first.histories 3) (relays 3) stood.job (some.all 3 (lit≤ tt, lit≤ tt)))
+      (ends-so output keeps.output net.output outcomes.output output-is (s.histories 4) st.output (first.histories 4) (relays 4) stood.output (some.all 4 (lit≤ tt, lit≤ tt)))
+      (ends-so printer keeps.printer net.printer outcomes.printer printer-is (s.histories 5) st.printer (first.histories 5) (relays 5) stood.printer (some.all 5 (lit≤ tt, lit≤ tt)))
+
+  given : (s : CoreState) → NetStands keeps tells net s → (p : ℕ) (how : Outcome) → IsProcess p → outcome_at outcomes p ≡ how → IsNotDone (Some how)
+      → GivenBy (s.histories p) how
+  given s st p how one =
+      each-process (λ p. outcome_at outcomes p ≡ how → IsNotDone (Some how) → GivenBy (s.histories p) how) p one
+      (given-so card keeps.card net.card outcomes.card card-is (s.histories 1) st.card how)
+      (given-so input keeps.input net.input outcomes.input input-is (s.histories 2) st.input how)
+      (given-so job keeps.job net.job outcomes.job job-is (s.histories 3) st.job how)
+      (given-so output keeps.output net.output outcomes.output output-is (s.histories 4) st.output how)
+      (given-so printer keeps.printer net.printer outcomes.printer printer-is (s.histories 5) st.printer how)
+
+  pub ends : (s : CoreState) → NetStands keeps tells net s → EndsSo s outcomes stops
+  ends s st = record { ended = ended s st; given = given s st; first = stops-are s st }
+
+  pub faults : FaultsAre outcomes
+  faults = record {
+    card = fault-so card keeps.card net.card outcomes.card card-is (first.histories 1) stood.card _ faults_of_the_five.card;
+    input = fault-so input keeps.input net.input outcomes.input input-is (first.histories 2) stood.input _ faults_of_the_five.input;
+    job = fault-so job keeps.job net.job outcomes.job job-is (first.histories 3) stood.job _ faults_of_the_five.job;
+    output = fault-so output keeps.output net.output outcomes.output output-is (first.histories 4) stood.output _ faults_of_the_five.output;
+    printer = fault-so printer keeps.printer net.printer outcomes.printer printer-is (first.histories 5) stood.printer _ faults_of_the_five.printer;
+  }
+
+  -- ---- together
+  all-are : (s : CoreState) → NetStands keeps tells net s → outcomes ≡ all_done → AllDone s
+  all-are s st e p one = subst (λ how. HasEndedSo s how p) (ap (λ o. outcome_at o p) e ∙ all-done p one) (ended s st p one)
+
+  law : EndsTogether first
+  law = (reached-holds some.spools some.deck some.paper first some.is.reached).ends
+
+  stopped-first : (b : ℕ) → IsBuffer b → stopped_at stops b ≡ stopped_by (first.buffers b).sides
+  stopped-first b is = ap (λ all. stopped_at all b) (stops-are first stood) ∙ stopped-so first b is
+
+  done-none : outcomes ≡ all_done → stops ≡ none_stopped
+  done-none e =
+      let none = law.done (all-are first stood e) in
+      stops-are first stood
+      ∙ none-so _ _ _ _ (none 1 (lit≤ tt, lit≤ tt)) (none 2 (lit≤ tt, lit≤ tt)) (none 3 (lit≤ tt, lit≤ tt)) (none 4 (lit≤ tt, lit≤ tt))
+
+  none-at : (b : ℕ) → IsBuffer b → stopped_at none_stopped b ≡ None
+  none-at b is = each-buffer (λ b. stopped_at none_stopped b ≡ None) b is refl refl refl refl
+
+  none-done : stops ≡ none_stopped → outcomes ≡ all_done
+  none-done e =
+      let free : (b : ℕ) → IsBuffer b → stopped_by (first.buffers b).sides ≡ None
+      = λ b is. sym (stopped-first b is) ∙ ap (λ all. stopped_at all b) e ∙ none-at b is in
+      let done : (p : ℕ) → IsProcess p → outcome_at outcomes p ≡ outcome.Done
+      = λ p one. law.unstopped free p (outcome_at outcomes p) one (ended first stood p one) in
+      done-so _ _ _ _ _ (done 1 (lit≤ tt, lit≤ tt)) (done 2 (lit≤ tt, lit≤ tt)) (done 3 (lit≤ tt, lit≤ tt)) (done 4 (lit≤ tt, lit≤ tt))
+      (done 5 (lit≤ tt, lit≤ tt))
+
+  beside : (p : ℕ) → IsProcess p → outcome_at outcomes p ≡ outcome.Stopped → StoppedBeside stops p × SomeFault outcomes
+  beside p one e =
+      let (told, found) = law.stopped some.all p one (subst (λ how. HasEndedSo first how p) e (ended first stood p one)) in
+      let (q, cause, q_one, fault) = found in (
+        record {
+          buffer = told.buffer;
+          side = told.side;
+          is_buffer = told.is_buffer;
+          seated = told.seated;
+          by = stopped-first told.buffer told.is_buffer ∙ told.by;
+        },
+        record { process = q; cause = cause; one = q_one; is = same-end (newest (first.histories q)) _ _ (ended first stood q q_one) fault },
+      )
+
+  pub together : EndTogether outcomes stops
+  together = record { done = (done-none, none-done); stopped = beside }
+
+  -- ---- for an opening
+  module _ (spools : Spools) (deck : Option (List Item)) (paper : Option (List ℕ)) (st : StandsReached keeps tells net spools deck paper) where
+    holds : Holds spools deck paper st.state
+    holds = reached-holds spools deck paper st.state st.reached
+
+    pub prints : AreTold spools → (items : List Item) → deck ≡ Some items → AreItems items
+        → Gains paper (tells.given net.shared.paper.sink) (text (one_thread_lines items)) (outcomes ≡ all_done)
+    prints told items is valid =
+        subst (λ now. Gains paper now (text (one_thread_lines items)) (outcomes ≡ all_done)) st.stands.shared.paper
+        (gains-where paper st.state.devices.paper _ _ _ (all-are st.state st.stands) (holds.prints told items is valid))
+
+    pub reads : (items : List Item) → deck ≡ Some items → outcomes ≡ all_done
+        → items_ahead (tells.left net.shared.deck.source) net.shared.deck.pending ≡ Some []
+    reads items is e = sym st.stands.shared.deck ∙ holds.reads items is (all-are st.state st.stands e)

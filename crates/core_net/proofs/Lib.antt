@@ -1,0 +1,15 @@
+mod SpoolVisits
+mod DeviceVisits
+mod Performing
+mod Stepping
+mod Askers
+mod MayPerforming
+mod DeskRoom
+mod Entering
+mod Causing
+mod NetSteps
+mod Turning
+mod TurnTaken
+mod Finishing
+mod WhoGoes
+mod RunMore

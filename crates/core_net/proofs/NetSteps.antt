@@ -1,0 +1,457 @@
+-- A step of one of the machines is a step of the network.
+use Rattle.std.proofs.Common.{◌≡◌, ◌≢◌, ℕ, true, List, ◌∷◌, Option, None, Some, refl, sym, ◌∙◌, ap, subst, arith}
+use Rattle.solo_base.specs.declared.item.Item.{Item}
+use Rattle.solo_devices.specs.declared.card_read.CardRead.{CardRead}
+use Rattle.solo_devices.specs.declared.card_read.CardRead.TheVariants as card_read
+use Rattle.batch_procs.specs.declared.actions.Action.{Action}
+use Rattle.batch_procs.specs.declared.actions.Action.TheVariants as act
+use Rattle.batch_procs.specs.declared.actions.Reply.{Reply}
+use Rattle.batch_procs.specs.declared.actions.Reply.TheVariants as reply
+use Rattle.batch_procs.specs.declared.machine.Machine.{Machine}
+use Rattle.batch_procs.specs.declared.card_proc.CardWork.{CardWork}
+use Rattle.batch_procs.specs.declared.input_proc.InputWork.{InputWork}
+use Rattle.batch_procs.specs.declared.job_proc.JobWork.{JobWork}
+use Rattle.batch_procs.specs.declared.output_proc.OutputWork.{OutputWork}
+use Rattle.batch_procs.specs.declared.printer_proc.PrinterWork.{PrinterWork}
+use Rattle.batch_procs.specs.History.{Entry, Does, LacksMemory, Delays, action_of}
+use Rattle.batch_procs.specs.Fits.{Fits, MayLack}
+use Rattle.batch_procs.specs.Causes.{caused, or_new, given_cause}
+use Rattle.batch_procs.specs.Machine.{StandsFor}
+use Rattle.batch_procs.specs.Process.{Process, IsFitting, Follows, next_action}
+use Rattle.batch_procs.specs.Table.{process, card, input, job, output, printer}
+use Rattle.batch_procs.proofs.Closing.{or-none}
+use Rattle.batch_procs.proofs.Holding.{some-not_none}
+use Rattle.network_law.specs.Kept.{Stands}
+use Rattle.network_law.specs.Network.{happens}
+use Rattle.core_law.specs.Core.{core, CoreState}
+use Rattle.core_law.specs.Ends.{IsProcess}
+use Rattle.core_law.specs.Opening.{Spools, opened, IsReached}
+use Rattle.core_law.proofs.Reached.{Centre, reached-centre}
+use Rattle.core_law.proofs.Acting.{follows-of}
+use Rattle.core_net.specs.declared.net.Net.{Net}
+use Rattle.core_net.specs.declared.shared.Shared.{Shared}
+use Rattle.core_net.specs.declared.step.Stepped.{Stepped}
+use Rattle.core_net.specs.Causes.{Counts, IsPrint, HasCauses}
+use Rattle.core_net.specs.Shared.{Tells, SharedStands, MayPerform}
+use Rattle.core_net.specs.Steps.{reply_of, MayStep, Steps}
+use Rattle.core_net.specs.Net.{Keeps, NetStands, MayStepIn, MayStepNet, StepsNet}
+use Rattle.core_net.proofs.Askers.{reads-deck, prints-paper}
+use Rattle.core_net.proofs.MayPerforming.{may-perform}
+use Rattle.core_net.proofs.DeskRoom.{desk-room}
+use Rattle.core_net.proofs.Entering.{IsEvent, is-event}
+
+-- ---- what an entry without a cause tells
+abbrev pub IsFailedRead : Option Reply → Type 0
+IsFailedRead (Some (reply.Card card_read.Failed)) = Unit {0}
+IsFailedRead (Some (reply.Card card_read.Limit)) = Unit {0}
+IsFailedRead result = ⊥
+
+-- the history had no cause before, and the entry is no failed read
+pub record IsFree (entry : Entry) (h : List Entry) : Type 0 where
+  pub before : caused h ≡ None
+  pub no_failed : reply_of entry ≢ Some (reply.Card card_read.Failed)
+  pub no_limit : reply_of entry ≢ Some (reply.Card card_read.Limit)
+
+failed-cause : (a : Action) (r : Reply) (h : List Entry) → caused (Does a r ∷ h) ≡ None → r ≡ reply.Card card_read.Failed → ⊥
+failed-cause a r h none e = some-not_none (caused h) _ (sym (ap (λ r. or_new (caused h) (given_cause a r h)) e) ∙ none)
+
+limit-cause : (a : Action) (r : Reply) (h : List Entry) → caused (Does a r ∷ h) ≡ None → r ≡ reply.Card card_read.Limit → ⊥
+limit-cause a r h none e = some-not_none (caused h) _ (sym (ap (λ r. or_new (caused h) (given_cause a r h)) e) ∙ none)
+
+some-reply : (r s : Reply) → Some r ≡ Some s → r ≡ s
+some-reply r s e = cc
+
+free-of : (entry : Entry) (h : List Entry) → caused (entry ∷ h) ≡ None → IsFree entry h
+free-of (Does a r) h none = record {
+  before = or-none (caused h) (given_cause a r h) none;
+  no_failed = λ e. failed-cause a r h none (some-reply r _ e);
+  no_limit = λ e. limit-cause a r h none (some-reply r _ e);
+}
+free-of (LacksMemory a r) h none = absurd (some-not_none (caused h) _ none)
+free-of (Delays a) h none = record { before = none; no_failed = λ e. cc; no_limit = λ e. cc }
+
+-- another process reads no card
+card-fits : (a : Action) (answer : CardRead) → Fits a (reply.Card answer) → a ≡ act.ReadCard
+card-fits act.ReadCard answer fits = refl
+card-fits a answer fits = absurd fits
+
+lack-card : (a : Action) (answer : CardRead) → MayLack a (reply.Card answer) → ⊥
+lack-card act.TakePage answer may = may
+lack-card act.Local answer may = may
+lack-card a answer may = may
+
+reads-nothing : (p : Process) (entry : Entry) (answer : CardRead) → IsFitting p entry → (action_of entry ≡ act.ReadCard → ⊥)
+    → reply_of entry ≡ Some (reply.Card answer) → ⊥
+reads-nothing p (Does a r) answer fits not e = not (card-fits a answer (subst (Fits a) (some-reply r (reply.Card answer) e) fits))
+reads-nothing p (LacksMemory a r) answer fits not e = lack-card a answer (subst (MayLack a) (some-reply r (reply.Card answer) e) fits.1)
+reads-nothing p (Delays a) answer fits not e = cc
+
+-- a print without a cause is done
+print-done : (p : Process) (entry : Entry) (h : List Entry) → IsFitting p entry → caused (entry ∷ h) ≡ None → IsPrint (action_of entry)
+    → reply_of entry ≡ Some reply.Done
+print-done p (Does (act.Print line) reply.Done) h fits none is = refl
+print-done p (Does (act.Print line) reply.Failed) h fits none is = absurd (some-not_none (caused h) _ none)
+print-done p (Does (act.Print line) reply.NoMemory) h fits none is = absurd (some-not_none (caused h) _ none)
+print-done p (Does (act.Print line) r) h fits none is = absurd fits
+print-done p (Does a r) h fits none is = absurd is
+print-done p (LacksMemory a r) h fits none is = absurd (some-not_none (caused h) _ none)
+print-done p (Delays (act.Print line)) h fits none is = absurd fits
+print-done p (Delays a) h fits none is = absurd is
+
+line-of : (a : Action) → IsPrint a → (line : List ℕ) × (a ≡ act.Print line)
+line-of (act.Print line) is = (line, refl)
+line-of a is = absurd is
+
+-- ---- one step
+module _ {S K A B : Type 0} (keeps : Keeps) (tells : Tells S K A B) (counts : Counts S K A B) (net : Net S K A B) (spools : Spools) (deck : Option (List Item))
+    (paper : Option (List ℕ)) (s : CoreState)
+    (reached : IsReached spools deck paper s) (stands : NetStands keeps tells net s) where
+  abbrev centre : Centre (opened spools deck paper) s
+  centre = reached-centre spools deck paper s reached
+
+  follows : (p : ℕ) → Follows (process p) (s.histories p)
+  follows p = follows-of process p (s.histories p) (centre.stands.follows p)
+
+  pub may-now : (p : ℕ) (action : Action) → MayStepIn s p action → MayPerform net.shared p action
+  may-now p action step =
+      may-perform tells (opened spools deck paper) s centre.stands net.shared stands.shared p step.one stands.deck_live stands.paper_live
+      (desk-room (opened spools deck paper) s centre.stands) action step.next step.may
+
+  -- ---- the devices after it
+  module _ (p : ℕ) (action : Action) (step : MayStepIn s p action) (new : Shared S K A B) (entry : Entry) (same : action_of entry ≡ action)
+      (suits : IsFitting (process p) entry) (causes : HasCauses counts net.shared new p action (reply_of entry)) where
+    pub deck-own : p ≡ 1 → caused (entry ∷ s.histories p) ≡ None → new.deck.live ≡ true
+    deck-own is none =
+        let free = free-of entry (s.histories p) none in
+        causes.deck_live (stands.deck_live (subst (λ q. caused (s.histories q) ≡ None) is free.before)) free.no_failed free.no_limit
+
+    pub deck-other : (p ≡ 1 → ⊥) → caused (s.histories 1) ≡ None → new.deck.live ≡ true
+    deck-other not none =
+        let no_read : action_of entry ≡ act.ReadCard → ⊥ = λ e. not (reads-deck p (s.histories p) (step.next ∙ ap Some (sym same ∙ e))) in
+        causes.deck_live (stands.deck_live none) (reads-nothing (process p) entry card_read.Failed suits no_read)
+        (reads-nothing (process p) entry card_read.Limit suits no_read)
+
+    before-free : caused (entry ∷ s.histories p) ≡ None → caused (s.histories p) ≡ None
+    before-free none = (free-of entry (s.histories p) none).before
+
+    pub paper-own : p ≡ 5 → caused (entry ∷ s.histories p) ≡ None → new.paper.live ≡ true
+    paper-own is none =
+        causes.paper_live (stands.paper_live (subst (λ q. caused (s.histories q) ≡ None) is (before-free none)))
+        (λ print. print-done (process p) entry (s.histories p) suits none (subst IsPrint (sym same) print))
+
+    pub paper-other : (p ≡ 5 → ⊥) → caused (s.histories 5) ≡ None → new.paper.live ≡ true
+    paper-other not none =
+        causes.paper_live (stands.paper_live none)
+        (λ print. (let (line, is) = line-of action print in absurd (not (prints-paper p (s.histories p) line step.one (follows p) (step.next ∙ ap Some is)))))
+
+  -- ---- by the machine
+  card-stands : (m : Machine CardWork) (new : Shared S K A B) (action : Action) (entry : Entry) (gained : List ℕ)
+      → StandsFor card keeps.card m (entry ∷ s.histories 1) → MayStepIn s 1 action → action_of entry ≡ action
+      → HasCauses counts net.shared new 1 action (reply_of entry)
+      → SharedStands tells new (happens (core process) s record {
+        process =
+            1;
+        entry =
+            entry;
+        gained =
+            gained;
+      }) → NetStands keeps tells (record net {
+        card =
+            m;
+        shared = new;
+      }) (happens (core process) s record { process = 1; entry = entry; gained = gained })
+  card-stands m new action entry gained st step same causes shared = record {
+    card = st;
+    input = stands.input;
+    job = stands.job;
+    output = stands.output;
+    printer = stands.printer;
+    shared = shared;
+    deck_live = deck-own 1 action step new entry same st.follows.1 causes refl;
+    paper_live = paper-other 1 action step new entry same st.follows.1 causes (λ e. cc);
+  }
+
+  input-stands : (m : Machine InputWork) (new : Shared S K A B) (action : Action) (entry : Entry) (gained : List ℕ)
+      → StandsFor input keeps.input m (entry ∷ s.histories 2) → MayStepIn s 2 action → action_of entry ≡ action
+      → HasCauses counts net.shared new 2 action (reply_of entry)
+      → SharedStands tells new (happens (core process) s record {
+        process =
+            2;
+        entry =
+            entry;
+        gained =
+            gained;
+      }) → NetStands keeps tells (record net {
+        input =
+            m;
+        shared = new;
+      }) (happens (core process) s record { process = 2; entry = entry; gained = gained })
+  input-stands m new action entry gained st step same causes shared = record {
+    card = stands.card;
+    input = st;
+    job = stands.job;
+    output = stands.output;
+    printer = stands.printer;
+    shared = shared;
+    deck_live = deck-other 2 action step new entry same st.follows.1 causes (λ e. cc);
+    paper_live = paper-other 2 action step new entry same st.follows.1 causes (λ e. cc);
+  }
+
+  job-stands : (m : Machine JobWork) (new : Shared S K A B) (action : Action) (entry : Entry) (gained : List ℕ)
+      → StandsFor job keeps.job m (entry ∷ s.histories 3) → MayStepIn s 3 action → action_of entry ≡ action
+      → HasCauses counts net.shared new 3 action (reply_of entry)
+      → SharedStands tells new (happens (core process) s record {
+        process =
+            3;
+        entry =
+            entry;
+        gained =
+            gained;
+      }) → NetStands keeps tells (record net {
+        job =
+            m;
+        shared = new;
+      }) (happens (core process) s record { process = 3; entry = entry; gained = gained })
+  job-stands m new action entry gained st step same causes shared = record {
+    card = stands.card;
+    input = stands.input;
+    job = st;
+    output = stands.output;
+    printer = stands.printer;
+    shared = shared;
+    deck_live = deck-other 3 action step new entry same st.follows.1 causes (λ e. cc);
+    paper_live = paper-other 3 action step new entry same st.follows.1 causes (λ e. cc);
+  }
+
+  output-stands : (m : Machine OutputWork) (new : Shared S K A B) (action : Action) (entry : Entry) (gained : List ℕ)
+      → StandsFor output keeps.output m (entry ∷ s.histories 4) → MayStepIn s 4 action → action_of entry ≡ action
+      → HasCauses counts net.shared new 4 action (reply_of entry)
+      → SharedStands tells new (happens (core process) s record {
+        process =
+            4;
+        entry =
+            entry;
+        gained =
+            gained;
+      }) → NetStands keeps tells (record net {
+        output =
+            m;
+        shared = new;
+      }) (happens (core process) s record { process = 4; entry = entry; gained = gained })
+  output-stands m new action entry gained st step same causes shared = record {
+    card = stands.card;
+    input = stands.input;
+    job = stands.job;
+    output = st;
+    printer = stands.printer;
+    shared = shared;
+    deck_live = deck-other 4 action step new entry same st.follows.1 causes (λ e. cc);
+    paper_live = paper-other 4 action step new entry same st.follows.1 causes (λ e. cc);
+  }
+
+  printer-stands : (m : Machine PrinterWork) (new : Shared S K A B) (action : Action) (entry : Entry) (gained : List ℕ)
+      → StandsFor printer keeps.printer m (entry ∷ s.histories 5) → MayStepIn s 5 action → action_of entry ≡ action
+      → HasCauses counts net.shared new 5 action (reply_of entry)
+      → SharedStands tells new (happens (core process) s record {
+        process =
+            5;
+        entry =
+            entry;
+        gained =
+            gained;
+      }) → NetStands keeps tells (record net {
+        printer =
+            m;
+        shared = new;
+      }) (happens (core process) s record { process = 5; entry = entry; gained = gained })
+  printer-stands m new action entry gained st step same causes shared = record {
+    card = stands.card;
+    input = stands.input;
+    job = stands.job;
+    output = stands.output;
+    printer = st;
+    shared = shared;
+    deck_live = deck-other 5 action step new entry same st.follows.1 causes (λ e. cc);
+    paper_live = paper-own 5 action step new entry same st.follows.1 causes refl;
+  }
+
+  event-at : (p : ℕ) (action : Action) (new : Shared S K A B) (Stands : List Entry → Type 0) (result : Stepped) → MayStepIn s p action
+      → (st : Steps Stands tells counts net.shared new p action (s.histories p) result) → IsFitting (process p) st.entry → IsEvent tells new s p st.entry
+  event-at p action new Stands result step st suits =
+      is-event tells net.shared new s stands.shared p step.one action step.next step.may st.entry st.action_is suits st.enters
+
+  pub at-card : (m : Machine CardWork) (new : Shared S K A B) (action : Action) (result : Stepped) → MayStepIn s 1 action
+      → Steps (StandsFor card keeps.card m) tells counts net.shared new 1 action (s.histories 1) result
+      → StepsNet keeps tells counts net (record net { card = m; shared = new }) s 1 action result
+  at-card m new action result step st =
+      let is = event-at 1 action new (StandsFor card keeps.card m) result step st st.stands.follows.1 in
+      record {
+        event =
+            record {
+              process =
+                  1;
+              entry =
+                  st.entry;
+              gained =
+                  is.gained;
+            };
+        process_is =
+            refl;
+        action_is =
+            st.action_is;
+        told =
+            st.told;
+        enabled =
+            is.enabled;
+        stands =
+            card-stands m new action st.entry is.gained st.stands step st.action_is st.causes is.after;
+        causes = st.causes;
+      }
+
+  pub at-input : (m : Machine InputWork) (new : Shared S K A B) (action : Action) (result : Stepped) → MayStepIn s 2 action
+      → Steps (StandsFor input keeps.input m) tells counts net.shared new 2 action (s.histories 2) result
+      → StepsNet keeps tells counts net (record net { input = m; shared = new }) s 2 action result
+  at-input m new action result step st =
+      let is = event-at 2 action new (StandsFor input keeps.input m) result step st st.stands.follows.1 in
+      record {
+        event =
+            record {
+              process =
+                  2;
+              entry =
+                  st.entry;
+              gained =
+                  is.gained;
+            };
+        process_is =
+            refl;
+        action_is =
+            st.action_is;
+        told =
+            st.told;
+        enabled =
+            is.enabled;
+        stands =
+            input-stands m new action st.entry is.gained st.stands step st.action_is st.causes is.after;
+        causes = st.causes;
+      }
+
+  pub at-job : (m : Machine JobWork) (new : Shared S K A B) (action : Action) (result : Stepped) → MayStepIn s 3 action
+      → Steps (StandsFor job keeps.job m) tells counts net.shared new 3 action (s.histories 3) result
+      → StepsNet keeps tells counts net (record net { job = m; shared = new }) s 3 action result
+  at-job m new action result step st =
+      let is = event-at 3 action new (StandsFor job keeps.job m) result step st st.stands.follows.1 in
+      record {
+        event =
+            record {
+              process =
+                  3;
+              entry =
+                  st.entry;
+              gained =
+                  is.gained;
+            };
+        process_is =
+            refl;
+        action_is =
+            st.action_is;
+        told =
+            st.told;
+        enabled =
+            is.enabled;
+        stands =
+            job-stands m new action st.entry is.gained st.stands step st.action_is st.causes is.after;
+        causes = st.causes;
+      }
+
+  pub at-output : (m : Machine OutputWork) (new : Shared S K A B) (action : Action) (result : Stepped) → MayStepIn s 4 action
+      → Steps (StandsFor output keeps.output m) tells counts net.shared new 4 action (s.histories 4) result
+      → StepsNet keeps tells counts net (record net { output = m; shared = new }) s 4 action result
+  at-output m new action result step st =
+      let is = event-at 4 action new (StandsFor output keeps.output m) result step st st.stands.follows.1 in
+      record {
+        event =
+            record {
+              process =
+                  4;
+              entry =
+                  st.entry;
+              gained =
+                  is.gained;
+            };
+        process_is =
+            refl;
+        action_is =
+            st.action_is;
+        told =
+            st.told;
+        enabled =
+            is.enabled;
+        stands =
+            output-stands m new action st.entry is.gained st.stands step st.action_is st.causes is.after;
+        causes = st.causes;
+      }
+
+  pub at-printer : (m : Machine PrinterWork) (new : Shared S K A B) (action : Action) (result : Stepped) → MayStepIn s 5 action
+      → Steps (StandsFor printer keeps.printer m) tells counts net.shared new 5 action (s.histories 5) result
+      → StepsNet keeps tells counts net (record net { printer = m; shared = new }) s 5 action result
+  at-printer m new action result step st =
+      let is = event-at 5 action new (StandsFor printer keeps.printer m) result step st st.stands.follows.1 in
+      record {
+        event =
+            record {
+              process =
+                  5;
+              entry =
+                  st.entry;
+              gained =
+                  is.gained;
+            };
+        process_is =
+            refl;
+        action_is =
+            st.action_is;
+        told =
+            st.told;
+        enabled =
+            is.enabled;
+        stands =
+            printer-stands m new action st.entry is.gained st.stands step st.action_is st.causes is.after;
+        causes = st.causes;
+      }
+
+-- ---- by the number
+pub next-at : (s : CoreState) (p q : ℕ) (action : Action) → p ≡ q → MayStepIn s p action → next_action (process q) (s.histories q) ≡ Some action
+next-at s p q action e step = subst (λ q. next_action (process q) (s.histories q) ≡ Some action) e step.next
+
+-- that a machine may step
+pub may-step : {S K A B : Type 0} (keeps : Keeps) (tells : Tells S K A B) (net : Net S K A B) (p q : ℕ) (Stands : List Entry → Type 0) → p ≡ q
+    → (m : MayStepNet keeps tells net p) → Stands (m.state.histories q) → MayStep (process q) Stands net.shared p
+may-step keeps tells net p q Stands e m stands = record {
+  history = m.state.histories q;
+  action = m.action;
+  stands = stands;
+  next = next-at m.state p q m.action e m.step;
+  may =
+      may-now keeps tells record {
+        read_faults =
+            λ x. 0;
+        taken =
+            λ x. 0;
+        print_faults =
+            λ x. 0;
+        input_faults = λ x. 0;
+        output_faults = λ x. 0;
+      } net m.spools m.deck m.paper m.state m.reached m.stands p m.action m.step;
+}
+
+pub steps-at : {S K A B : Type 0} (keeps : Keeps) (tells : Tells S K A B) (counts : Counts S K A B) (old new : Net S K A B) (s : CoreState) (Stands : List Entry
+    → Type 0) (p q : ℕ) (action : Action) (result : Stepped) (h : List Entry) → p ≡ q
+    → (MayStepIn s q action → Steps Stands tells counts old.shared new.shared q action h result → StepsNet keeps tells counts old new s q action result)
+    → MayStepIn s p action → Steps Stands tells counts old.shared new.shared p action h result → StepsNet keeps tells counts old new s p action result
+steps-at keeps tells counts old new s Stands p q action result h e each =
+    subst (λ p. MayStepIn s p action → Steps Stands tells counts old.shared new.shared p action h result
+    → StepsNet keeps tells counts old new s p action result) (sym e) each
+
+pub last-number : (p : ℕ) → IsProcess p → (p ≡ 1 → ⊥) → (p ≡ 2 → ⊥) → (p ≡ 3 → ⊥) → (p ≡ 4 → ⊥) → p ≡ 5
+last-number p one a b c d = (let low = one.0 in let high = one.1 in omega (arith, a, b, c, d, low, high))

@@ -1,0 +1,303 @@
+-- What a call on one of the monitors or devices is to all that is shared.
+use Rattle.std.proofs.Common.{◌≡◌, ℕ, ◌==◌, Bool, true, false, List, [], ◌++◌, length, drop, Option, None, Some, refl, sym, ◌∙◌, ap, subst, option_map}
+use Rattle.std.proofs.lemmas.Bool.{eqb-true, eq-eqb}
+use Rattle.std.proofs.lemmas.List.{append-nil}
+use Rattle.solo_base.specs.declared.item.Feed.{Feed}
+use Rattle.solo_base.specs.declared.outcome.Side.{Side}
+use Rattle.solo_devices.specs.CardUnit.{Held, items_ahead}
+use Rattle.solo_devices.specs.PrinterUnit.{Printing}
+use Rattle.queue_var.specs.Sides.{MayStop}
+use Rattle.resource_mon.specs.Claims.{Claims}
+use Rattle.slot_buffer.specs.Slot.{Slot}
+use Rattle.disk_spool.specs.Spool.{Spool}
+use Rattle.batch_procs.specs.declared.actions.Action.{Action}
+use Rattle.batch_procs.specs.declared.actions.Action.TheVariants as act
+use Rattle.batch_procs.specs.declared.actions.Reply.{Reply}
+use Rattle.batch_procs.specs.declared.actions.Reply.TheVariants as reply
+use Rattle.network_law.specs.Acts.{Visit, At}
+use Rattle.core_law.specs.Core.{Devices, Allows, given, read_off, call, went, CoreState}
+use Rattle.core_net.specs.declared.shared.Shared.{Shared}
+use Rattle.core_net.specs.Calls.{entry_of, Visited}
+use Rattle.core_net.specs.Lines.{LineStands}
+use Rattle.core_net.specs.Spools.{SpoolStands}
+use Rattle.core_net.specs.Desks.{Asked, Given}
+use Rattle.core_net.specs.Devices.{ReadsCard, PrintsLine}
+use Rattle.core_net.specs.Shared.{Tells, Choice, AtNumbers, StopsAt, Performs}
+
+-- ---- numbers
+chosen : (t : Bool) (X Y : Type 0) → t ≡ true → Choice t X Y → X
+chosen true X Y e is = is
+chosen false X Y e is = absurd cc
+
+pub refused : (t : Bool) (X Y : Type 0) → t ≡ false → Choice t X Y → Y
+refused false X Y e is = is
+refused true X Y e is = absurd cc
+
+differ : (t : Bool) (p m : ℕ) → (p == m) ≡ t → (p ≡ m → ⊥) → t ≡ false
+differ true p m e not = absurd (not (eqb-true p m e))
+differ false p m e not = refl
+
+pub choice-first : (p m : ℕ) (X Y : Type 0) → Choice (p == m) X Y → p ≡ m → X
+choice-first p m X Y is e = chosen (p == m) X Y (eq-eqb p m e) is
+
+pub choice-rest : (p m : ℕ) (X Y : Type 0) → Choice (p == m) X Y → (p ≡ m → ⊥) → Y
+choice-rest p m X Y is not = refused (p == m) X Y (differ (p == m) p m refl not) is
+
+pub record IsLast (p m : ℕ) (X : Type 0) : Type 0 where
+  pub is : X
+  pub number : p ≡ m
+
+last-by : (t : Bool) (p m : ℕ) (X : Type 0) → (p == m) ≡ t → Choice t X ⊥ → IsLast p m X
+last-by true p m X e is = record { is = is; number = eqb-true p m e }
+last-by false p m X e is = absurd is
+
+pub choice-last : (p m : ℕ) (X : Type 0) → Choice (p == m) X ⊥ → IsLast p m X
+choice-last p m X is = last-by (p == m) p m X refl is
+
+pub at-first : (p m n : ℕ) (X Y : ℕ → Type 0) → AtNumbers p m n X Y → p ≡ m → X p
+at-first p m n X Y is e = choice-first p m (X p) _ is e
+
+pub at-second : (p m n : ℕ) (X Y : ℕ → Type 0) → AtNumbers p m n X Y → (p ≡ m → ⊥) → IsLast p n (Y p)
+at-second p m n X Y is not = choice-last p n (Y p) (choice-rest p m (X p) _ is not)
+
+-- a buffer that may be stopped is one of the four
+pub stops-last : {S K A B : Type 0} (shared : Shared S K A B) (b : ℕ) (side : Side) → StopsAt shared b side → (b ≡ 1 → ⊥) → (b ≡ 2 → ⊥) → (b ≡ 3 → ⊥) → b ≡ 4
+stops-last shared b side is one two three =
+    let behind_one = choice-rest b 1 (MayStop shared.cards.sides side) (Choice (b == 2) (MayStop shared.input.sides side)
+    (Choice (b == 3) (MayStop shared.output.sides side) (Choice (b == 4) (MayStop shared.lines.sides side) ⊥))) is one in
+    let behind_two = choice-rest b 2 (MayStop shared.input.sides side) (Choice (b == 3) (MayStop shared.output.sides side)
+    (Choice (b == 4) (MayStop shared.lines.sides side) ⊥)) behind_one two in
+    let behind_three = choice-rest b 3 (MayStop shared.output.sides side) (Choice (b == 4) (MayStop shared.lines.sides side) ⊥) behind_two three in
+    (choice-last b 4 (MayStop shared.lines.sides side) behind_three).number
+
+-- ---- the devices stay
+same-deck : {X : Type 0} (deck : Option (List X)) → option_map (drop 0) deck ≡ deck
+same-deck None = refl
+same-deck (Some items) = refl
+
+same-paper : (paper : Option (List ℕ)) → option_map (λ before. before ++ []) paper ≡ paper
+same-paper None = refl
+same-paper (Some given) = ap Some (append-nil given)
+
+-- an action that no device hears of
+pub record IsSilent (action : Action) (result : Option Reply) : Type 0 where
+  pub allowed : (devices : Devices) → Allows devices (entry_of action result) []
+  pub none_read : read_off (entry_of action result) ≡ []
+
+abbrev pub NoDevice : Action → Type 0
+NoDevice act.ReadCard = ⊥
+NoDevice (act.Print line) = ⊥
+NoDevice action = Unit {0}
+
+pub silent : (action : Action) (result : Option Reply) → NoDevice action → IsSilent action result
+silent act.ReadCard result is = absurd is
+silent (act.Print line) result is = absurd is
+silent action None is = record { allowed = λ devices. refl; none_read = refl }
+silent action (Some r) is = record { allowed = λ devices. refl; none_read = refl }
+
+module _ {S K A B : Type 0} (tells : Tells S K A B) (old : Shared S K A B) (p : ℕ) (action : Action) (result : Option Reply) where
+  deck-stays : (s : CoreState) → IsSilent action result → s.devices.deck ≡ items_ahead (tells.left old.deck.source) old.deck.pending
+      → (given s.devices (entry_of action result) []).deck ≡ items_ahead (tells.left old.deck.source) old.deck.pending
+  deck-stays s quiet e = ap (λ items. option_map (drop (length items)) s.devices.deck) quiet.none_read ∙ same-deck s.devices.deck ∙ e
+
+  paper-stays : (s : CoreState) → s.devices.paper ≡ tells.given old.paper.sink
+      → (given s.devices (entry_of action result) []).paper ≡ tells.given old.paper.sink
+  paper-stays s e = same-paper s.devices.paper ∙ e
+
+  -- ---- at a buffer
+  pub at-cards : (new : Slot Feed) (side : Side) (visit : Visit) → NoDevice action → call p action ≡ At 1 side visit
+      → Visited LineStands old.cards new side visit p action result → Performs tells old (record old { cards = new }) p action result
+  at-cards new side visit quiet e v = record {
+    suits = v.suits;
+    gained = [];
+    fits = λ s st. rw e (v.fits (s.buffers 1) st.cards);
+    allowed = λ s st. (silent action result quiet).allowed s.devices;
+    after = λ s hs st. record {
+      deck = deck-stays s (silent action result quiet) st.deck;
+      paper = paper-stays s st.paper;
+      cards = rw e (v.after (s.buffers 1) st.cards);
+      input = rw e st.input;
+      output = rw e st.output;
+      lines = rw e st.lines;
+      desk = rw e st.desk;
+    };
+  }
+
+  pub at-lines : (new : Slot Feed) (side : Side) (visit : Visit) → NoDevice action → call p action ≡ At 4 side visit
+      → Visited LineStands old.lines new side visit p action result → Performs tells old (record old { lines = new }) p action result
+  at-lines new side visit quiet e v = record {
+    suits = v.suits;
+    gained = [];
+    fits = λ s st. rw e (v.fits (s.buffers 4) st.lines);
+    allowed = λ s st. (silent action result quiet).allowed s.devices;
+    after = λ s hs st. record {
+      deck = deck-stays s (silent action result quiet) st.deck;
+      paper = paper-stays s st.paper;
+      cards = rw e st.cards;
+      input = rw e st.input;
+      output = rw e st.output;
+      lines = rw e (v.after (s.buffers 4) st.lines);
+      desk = rw e st.desk;
+    };
+  }
+
+  pub at-input : (new : Spool A) (side : Side) (visit : Visit) → NoDevice action → call p action ≡ At 2 side visit
+      → Visited (SpoolStands tells.input_pages) old.input new side visit p action result → Performs tells old (record old { input = new }) p action result
+  at-input new side visit quiet e v = record {
+    suits = v.suits;
+    gained = [];
+    fits = λ s st. rw e (v.fits (s.buffers 2) st.input);
+    allowed = λ s st. (silent action result quiet).allowed s.devices;
+    after = λ s hs st. record {
+      deck = deck-stays s (silent action result quiet) st.deck;
+      paper = paper-stays s st.paper;
+      cards = rw e st.cards;
+      input = rw e (v.after (s.buffers 2) st.input);
+      output = rw e st.output;
+      lines = rw e st.lines;
+      desk = rw e st.desk;
+    };
+  }
+
+  pub at-output : (new : Spool B) (side : Side) (visit : Visit) → NoDevice action → call p action ≡ At 3 side visit
+      → Visited (SpoolStands tells.output_pages) old.output new side visit p action result → Performs tells old (record old { output = new }) p action result
+  at-output new side visit quiet e v = record {
+    suits = v.suits;
+    gained = [];
+    fits = λ s st. rw e (v.fits (s.buffers 3) st.output);
+    allowed = λ s st. (silent action result quiet).allowed s.devices;
+    after = λ s hs st. record {
+      deck = deck-stays s (silent action result quiet) st.deck;
+      paper = paper-stays s st.paper;
+      cards = rw e st.cards;
+      input = rw e st.input;
+      output = rw e (v.after (s.buffers 3) st.output);
+      lines = rw e st.lines;
+      desk = rw e st.desk;
+    };
+  }
+
+module _ {S K A B : Type 0} (tells : Tells S K A B) (old : Shared S K A B) (p : ℕ) where
+  -- ---- at the desk
+  pub at-request : (new : Claims) (result : Option Reply) → Asked old.desk new p result → Performs tells old (record old { desk = new }) p act.Request result
+  at-request new result a = record {
+    suits = a.suits;
+    gained = [];
+    fits = λ s st. a.fits ∙ ap (λ (c : Claims). Rattle.network_law.specs.Desk.asked c.handed c.holder) (sym st.desk);
+    allowed = λ s st. (silent act.Request result tt).allowed s.devices;
+    after = λ s hs st. record {
+      deck = deck-stays tells old p act.Request result s (silent act.Request result tt) st.deck;
+      paper = paper-stays tells old p act.Request result s st.paper;
+      cards = st.cards;
+      input = st.input;
+      output = st.output;
+      lines = st.lines;
+      desk = a.after s.desk st.desk;
+    };
+  }
+
+  pub at-release : (new : Claims) (result : Reply) → Given old.desk new result → Performs tells old (record old { desk = new }) p act.Release (Some result)
+  at-release new result a = record {
+    suits = a.suits;
+    gained = [];
+    fits = λ s st. a.fits;
+    allowed = λ s st. refl;
+    after = λ s hs st. record {
+      deck = deck-stays tells old p act.Release (Some result) s (silent act.Release (Some result) tt) st.deck;
+      paper = paper-stays tells old p act.Release (Some result) s st.paper;
+      cards = st.cards;
+      input = st.input;
+      output = st.output;
+      lines = st.lines;
+      desk = a.after s.desk st.desk;
+    };
+  }
+
+  -- ---- at a device
+  card-fits : (r : Reply) → Rattle.batch_procs.specs.Fits.Fits act.ReadCard r → went (entry_of act.ReadCard (Some r)) ≡ Rattle.network_law.specs.Acts.Done
+  card-fits (reply.Card answer) fits = refl
+  card-fits r fits = absurd fits
+
+  pub at-deck : (new : Held S) (r : Reply)
+      → ReadsCard (items_ahead (tells.left old.deck.source) old.deck.pending) (items_ahead (tells.left new.source) new.pending) r
+      → Performs tells old (record old { deck = new }) p act.ReadCard (Some r)
+  at-deck new r reads = record {
+    suits = reads.suits;
+    gained = [];
+    fits = λ s st. card-fits r reads.suits;
+    allowed = λ s st. reads.allowed s.devices st.deck;
+    after = λ s hs st. record {
+      deck = ap (option_map (drop (length (Rattle.core_law.specs.Core.items_by r)))) st.deck ∙ reads.after;
+      paper = paper-stays tells old p act.ReadCard (Some r) s st.paper;
+      cards = st.cards;
+      input = st.input;
+      output = st.output;
+      lines = st.lines;
+      desk = st.desk;
+    };
+  }
+
+  print-fits : (line : List ℕ) (r : Reply) → Rattle.batch_procs.specs.Fits.Fits (act.Print line) r
+      → went (entry_of (act.Print line) (Some r)) ≡ Rattle.network_law.specs.Acts.Done
+  print-fits line reply.Done fits = refl
+  print-fits line reply.Failed fits = refl
+  print-fits line reply.NoMemory fits = refl
+  print-fits line r fits = absurd fits
+
+  pub at-paper : (new : Printing K) (line : List ℕ) (r : Reply) → PrintsLine (tells.given old.paper.sink) (tells.given new.sink) line r
+      → Performs tells old (record old { paper = new }) p (act.Print line) (Some r)
+  at-paper new line r prints = record {
+    suits = prints.suits;
+    gained = prints.gained;
+    fits = λ s st. print-fits line r prints.suits;
+    allowed = λ s st. prints.allowed s.devices;
+    after = λ s hs st. record {
+      deck = same-deck s.devices.deck ∙ st.deck;
+      paper = ap (option_map (λ before. before ++ prints.gained)) st.paper ∙ prints.after;
+      cards = st.cards;
+      input = st.input;
+      output = st.output;
+      lines = st.lines;
+      desk = st.desk;
+    };
+  }
+
+  -- ---- at none of them
+  pub at-local : Performs tells old old p act.Local (Some reply.Done)
+  at-local = record {
+    suits = tt;
+    gained = [];
+    fits = λ s st. refl;
+    allowed = λ s st. refl;
+    after = λ s hs st. record {
+      deck = same-deck s.devices.deck ∙ st.deck;
+      paper = same-paper s.devices.paper ∙ st.paper;
+      cards = st.cards;
+      input = st.input;
+      output = st.output;
+      lines = st.lines;
+      desk = st.desk;
+    };
+  }
+
+  pub at-end : (how : Rattle.solo_base.specs.declared.outcome.Outcome.Outcome) → Performs tells old old p (act.Ended how) (Some reply.Done)
+  at-end how = record {
+    suits = tt;
+    gained = [];
+    fits = λ s st. refl;
+    allowed = λ s st. refl;
+    after = λ s hs st. record {
+      deck = same-deck s.devices.deck ∙ st.deck;
+      paper = same-paper s.devices.paper ∙ st.paper;
+      cards = st.cards;
+      input = st.input;
+      output = st.output;
+      lines = st.lines;
+      desk = st.desk;
+    };
+  }
+
+-- ---- by what the action is
+pub at-action : {S K A B : Type 0} (tells : Tells S K A B) (old new : Shared S K A B) (p : ℕ) (a b : Action) (result : Option Reply) → a ≡ b
+    → Performs tells old new p b result → Performs tells old new p a result
+at-action tells old new p a b result e is = subst (λ a. Performs tells old new p a result) (sym e) is

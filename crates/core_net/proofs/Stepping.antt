@@ -1,0 +1,86 @@
+-- From what is performed to the entry of the process.
+use Rattle.std.proofs.Common.{◌≡◌, ℕ, List, ◌∷◌, Option, None, Some, refl, sym, ◌∙◌, subst}
+use Rattle.batch_procs.specs.declared.actions.Action.{Action}
+use Rattle.batch_procs.specs.declared.actions.Action.TheVariants as act
+use Rattle.batch_procs.specs.declared.actions.Reply.{Reply}
+use Rattle.batch_procs.specs.declared.actions.Reply.TheVariants as reply
+use Rattle.batch_procs.specs.History.{Entry, Does, LacksMemory, Delays}
+use Rattle.batch_procs.specs.Fits.{Fits, MayLack, MayWait}
+use Rattle.batch_procs.specs.Machine.{NextIs}
+use Rattle.core_net.specs.declared.shared.Shared.{Shared}
+use Rattle.core_net.specs.declared.step.Stepped.TheVariants.{Acted, Delayed, Lacked}
+use Rattle.core_net.specs.Calls.{entry_of}
+use Rattle.core_net.specs.Causes.{Counts, HasCauses}
+use Rattle.core_net.specs.Shared.{Tells, Performs}
+use Rattle.core_net.specs.Steps.{Enters, Steps}
+
+module _ {S K A B : Type 0} (tells : Tells S K A B) (old new : Shared S K A B) (p : ℕ) where
+  pub enters : (action : Action) (result : Option Reply) → Performs tells old new p action result → Enters tells old new p action (entry_of action result)
+  enters action result is = record { gained = is.gained; fits = is.fits; allowed = is.allowed; after = is.after }
+
+  pub enters-lacking : (action : Action) (r : Reply) → MayLack action r → Performs tells old new p action (Some r)
+      → Enters tells old new p action (LacksMemory action r)
+  enters-lacking act.TakePage (reply.Page page last) may is = record { gained = is.gained; fits = is.fits; allowed = is.allowed; after = is.after }
+  enters-lacking act.Local reply.Done may is = record { gained = is.gained; fits = is.fits; allowed = is.allowed; after = is.after }
+  enters-lacking action r may is = absurd may
+
+-- ---- a step of a machine
+pub next-is : (next : Option Action) (a r : Action) → NextIs next r → next ≡ Some a → a ≡ r
+next-is None a r is e = absurd cc
+next-is (Some b) a r is e = (let same : b ≡ a = cc in sym same ∙ is)
+
+module _ {S K A B : Type 0} (Stands : List Entry → Type 0) (tells : Tells S K A B) (counts : Counts S K A B) (old new : Shared S K A B) (p : ℕ) (a r : Action)
+    (h : List Entry) (same : a ≡ r) where
+  same-action : (result : Option Reply) → Performs tells old new p r result → Performs tells old new p a result
+  same-action result is = subst (λ a. Performs tells old new p a result) (sym same) is
+
+  same-causes : (result : Option Reply) → HasCauses counts old new p r result → HasCauses counts old new p a result
+  same-causes result is = subst (λ a. HasCauses counts old new p a result) (sym same) is
+
+  pub steps-delayed : Performs tells old new p r None → HasCauses counts old new p r None → (MayWait a → Stands (Delays a ∷ h))
+      → Steps Stands tells counts old new p a h Delayed
+  steps-delayed is causes stands =
+      let own = same-action None is in
+      record {
+        entry =
+            Delays a;
+        told = refl;
+        action_is = refl;
+        stands = stands own.suits;
+        enters = enters tells old new p a None own;
+        causes = same-causes None causes;
+      }
+
+  pub steps-acted : (reply : Reply) → Performs tells old new p r (Some reply) → HasCauses counts old new p r (Some reply)
+      → (Fits a reply → Stands (Does a reply ∷ h)) → Steps Stands tells counts old new p a h Acted
+  steps-acted reply is causes stands =
+      let own = same-action (Some reply) is in
+      record {
+        entry =
+            Does a reply;
+        told =
+            refl;
+        action_is = refl;
+        stands = stands own.suits;
+        enters = enters tells old new p a (Some reply) own;
+        causes = same-causes (Some reply) causes;
+      }
+
+  pub steps-lacking : (reply : Reply) → Performs tells old new p r (Some reply) → HasCauses counts old new p r (Some reply)
+      → (Fits a reply → Stands (LacksMemory a reply ∷ h)) → (Stands (LacksMemory a reply ∷ h) → MayLack a reply)
+      → Steps Stands tells counts old new p a h Lacked
+  steps-lacking reply is causes stands lack =
+      let own = same-action (Some reply) is in
+      record {
+        entry =
+            LacksMemory a reply;
+        told =
+            refl;
+        action_is =
+            refl;
+        stands =
+            stands own.suits;
+        enters =
+            enters-lacking tells old new p a reply (lack (stands own.suits)) own;
+        causes = same-causes (Some reply) causes;
+      }

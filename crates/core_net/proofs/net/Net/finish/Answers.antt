@@ -1,0 +1,24 @@
+use Rattle.std.proofs.Common.{refl}
+use Rattle.core_net.proofs.Finishing.{sides-are, ends, faults, together, prints, reads}
+use Rattle.core_net.proofs.net.Net.finish.Goals as goal
+
+pub returns : goal.returns
+returns g c = record {
+  ends = ends _ _ c.args.self _ _ c.requires.ended c.outcome.ensures c.outcome-2.ensures c.outcome-3.ensures c.outcome-4.ensures c.outcome-5.ensures
+      (λ s st. sides-are _ c.args.self.shared s st.shared _ _ _ _ c.stopped_by.ensures.marked c.stopped_by-2.ensures.marked c.stopped_by-3.ensures.marked
+      c.stopped_by-4.ensures.marked);
+  together = together _ _ c.args.self _ _ c.requires.ended c.outcome.ensures c.outcome-2.ensures c.outcome-3.ensures c.outcome-4.ensures c.outcome-5.ensures
+      (λ s st. sides-are _ c.args.self.shared s st.shared _ _ _ _ c.stopped_by.ensures.marked c.stopped_by-2.ensures.marked c.stopped_by-3.ensures.marked
+      c.stopped_by-4.ensures.marked);
+  faults = faults _ _ c.args.self _ _ c.requires.ended c.outcome.ensures c.outcome-2.ensures c.outcome-3.ensures c.outcome-4.ensures c.outcome-5.ensures
+      (λ s st. sides-are _ c.args.self.shared s st.shared _ _ _ _ c.stopped_by.ensures.marked c.stopped_by-2.ensures.marked c.stopped_by-3.ensures.marked
+      c.stopped_by-4.ensures.marked);
+  prints = prints _ _ c.args.self _ _ c.requires.ended c.outcome.ensures c.outcome-2.ensures c.outcome-3.ensures c.outcome-4.ensures c.outcome-5.ensures
+      (λ s st. sides-are _ c.args.self.shared s st.shared _ _ _ _ c.stopped_by.ensures.marked c.stopped_by-2.ensures.marked c.stopped_by-3.ensures.marked
+      c.stopped_by-4.ensures.marked);
+  reads = reads _ _ c.args.self _ _ c.requires.ended c.outcome.ensures c.outcome-2.ensures c.outcome-3.ensures c.outcome-4.ensures c.outcome-5.ensures
+      (λ s st. sides-are _ c.args.self.shared s st.shared _ _ _ _ c.stopped_by.ensures.marked c.stopped_by-2.ensures.marked c.stopped_by-3.ensures.marked
+      c.stopped_by-4.ensures.marked);
+  units = (refl, refl);
+  areas = (c.into_inner.ensures, c.into_inner-2.ensures);
+}

@@ -1,0 +1,58 @@
+-- Where a failure comes from, and which devices may still be used.
+use Rattle.std.specs.Prelude.{◌≡◌, ◌≢◌, ◌≤◌, ◌<◌, ℕ, true, Option, Some}
+use Rattle.solo_devices.specs.Count.{Rose}
+use Rattle.solo_devices.specs.CardUnit.{byte_limit}
+use Rattle.solo_devices.specs.declared.card_read.CardRead.TheVariants as card_read
+use Rattle.batch_procs.specs.declared.actions.Action.{Action}
+use Rattle.batch_procs.specs.declared.actions.Action.TheVariants as act
+use Rattle.batch_procs.specs.declared.actions.Reply.{Reply}
+use Rattle.batch_procs.specs.declared.actions.Reply.TheVariants as reply
+use Rattle.core_net.specs.declared.shared.Shared.{Shared}
+
+-- what the devices count: the faults of each, and the bytes that were taken of the source
+pub record Counts (S K A B : Type 0) : Type 0 where
+  pub read_faults : S → ℕ
+  pub taken : S → ℕ
+  pub print_faults : K → ℕ
+  pub input_faults : A → ℕ
+  pub output_faults : B → ℕ
+
+-- a move of a page at the input spool: put by the input process, taken by the job process
+abbrev pub MovesInput : ℕ → Action → Type 0
+MovesInput p (act.PutPage page) = p ≡ 2
+MovesInput p act.TakePage = p ≡ 3
+MovesInput p action = ⊥
+
+-- and at the output spool
+abbrev pub MovesOutput : ℕ → Action → Type 0
+MovesOutput p (act.PutPage page) = p ≡ 3
+MovesOutput p act.TakePage = p ≡ 4
+MovesOutput p action = ⊥
+
+abbrev pub IsPrint : Action → Type 0
+IsPrint (act.Print line) = Unit {0}
+IsPrint action = ⊥
+
+-- Each failure was counted by its own device, and the limit is told where too many bytes were taken.
+pub record HasCauses {S K A B : Type 0} (counts : Counts S K A B) (old new : Shared S K A B) (p : ℕ)
+    (action : Action) (result : Option Reply) : Type 0 where
+  pub read : result ≡ Some (reply.Card card_read.Failed)
+      → Rose (counts.read_faults old.deck.source) (counts.read_faults new.deck.source)
+  pub limit : result ≡ Some (reply.Card card_read.Limit) → byte_limit < counts.taken new.deck.source
+  pub limit_told : action ≡ act.ReadCard → byte_limit < counts.taken new.deck.source
+      → result ≡ Some (reply.Card card_read.Limit)
+  pub print : IsPrint action → result ≡ Some reply.Failed
+      → Rose (counts.print_faults old.paper.sink) (counts.print_faults new.paper.sink)
+  pub input : MovesInput p action → result ≡ Some reply.Failed
+      → Rose (counts.input_faults old.input.area) (counts.input_faults new.input.area)
+  pub output : MovesOutput p action → result ≡ Some reply.Failed
+      → Rose (counts.output_faults old.output.area) (counts.output_faults new.output.area)
+  -- no count falls
+  pub read_on : counts.read_faults old.deck.source ≤ counts.read_faults new.deck.source
+  pub print_on : counts.print_faults old.paper.sink ≤ counts.print_faults new.paper.sink
+  pub input_on : counts.input_faults old.input.area ≤ counts.input_faults new.input.area
+  pub output_on : counts.output_faults old.output.area ≤ counts.output_faults new.output.area
+  -- a device may be used again unless it failed
+  pub deck_live : old.deck.live ≡ true → result ≢ Some (reply.Card card_read.Failed)
+      → result ≢ Some (reply.Card card_read.Limit) → new.deck.live ≡ true
+  pub paper_live : old.paper.live ≡ true → (IsPrint action → result ≡ Some reply.Done) → new.paper.live ≡ true

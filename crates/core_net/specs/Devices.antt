@@ -1,0 +1,22 @@
+-- What a call of a device is to the law.
+use Rattle.std.specs.Prelude.{◌≡◌, ℕ, List, [], ◌++◌, length, drop, Option}
+use Rattle.std.specs.Option.{option_map}
+use Rattle.solo_base.specs.declared.item.Item.{Item}
+use Rattle.batch_procs.specs.declared.actions.Action.TheVariants as act
+use Rattle.batch_procs.specs.declared.actions.Reply.{Reply}
+use Rattle.batch_procs.specs.Fits.{Fits}
+use Rattle.batch_procs.specs.History.{Does}
+use Rattle.core_law.specs.Core.{Devices, Allows, items_by}
+
+-- a card that is read, by the items that were ahead and are
+pub record ReadsCard (old new : Option (List Item)) (result : Reply) : Type 0 where
+  pub suits : Fits act.ReadCard result
+  pub allowed : (devices : Devices) → devices.deck ≡ old → Allows devices (Does act.ReadCard result) []
+  pub after : option_map (drop (length (items_by result))) old ≡ new
+
+-- a line that is printed, by what the paper was given before and since
+pub record PrintsLine (old new : Option (List ℕ)) (line : List ℕ) (result : Reply) : Type 0 where
+  pub suits : Fits (act.Print line) result
+  pub gained : List ℕ
+  pub allowed : (devices : Devices) → Allows devices (Does (act.Print line) result) gained
+  pub after : option_map (λ before. before ++ gained) old ≡ new

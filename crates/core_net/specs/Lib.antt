@@ -1,0 +1,14 @@
+pub mod Calls
+pub mod Lines
+pub mod Spools
+pub mod Desks
+pub mod Devices
+pub mod Shared
+pub mod Steps
+pub mod Causes
+pub mod Net
+pub mod Ended
+pub mod Going
+pub mod Runs
+pub mod Openings
+pub mod Turns

@@ -1,0 +1,89 @@
+-- The five machines over what they share, and the states of the core that they stand for.
+use Rattle.std.specs.Prelude.{◌≡◌, ℕ, Bool, true, List, Option, None, Some}
+use Rattle.solo_base.specs.declared.item.Item.{Item}
+use Rattle.batch_procs.specs.declared.actions.Action.{Action}
+use Rattle.batch_procs.specs.declared.card_proc.CardWork.{CardWork}
+use Rattle.batch_procs.specs.declared.input_proc.InputWork.{InputWork}
+use Rattle.batch_procs.specs.declared.job_proc.JobWork.{JobWork}
+use Rattle.batch_procs.specs.declared.output_proc.OutputWork.{OutputWork}
+use Rattle.batch_procs.specs.declared.printer_proc.PrinterWork.{PrinterWork}
+use Rattle.batch_procs.specs.Parcels.{Parcel}
+use Rattle.batch_procs.specs.History.{action_of}
+use Rattle.batch_procs.specs.Causes.{caused}
+use Rattle.batch_procs.specs.Machine.{StandsFor}
+use Rattle.batch_procs.specs.Process.{next_action}
+use Rattle.batch_procs.specs.Table.{process, card, input, job, output, printer}
+use Rattle.network_law.specs.Network.{IsEnabled, MayCall, happens}
+use Rattle.core_law.specs.Core.{call, core, CoreState, CoreEvent}
+use Rattle.core_law.specs.Ends.{IsProcess}
+use Rattle.core_law.specs.Opening.{Spools, IsReached}
+use Rattle.core_net.specs.declared.net.Net.{Net}
+use Rattle.core_net.specs.declared.step.Stepped.{Stepped}
+use Rattle.core_net.specs.Causes.{Counts, HasCauses}
+use Rattle.core_net.specs.Shared.{Tells, SharedStands}
+use Rattle.core_net.specs.Steps.{reply_of, stepped_by}
+
+-- what the work of each machine keeps of what was taken and put
+pub record Keeps : Type 1 where
+  pub card : CardWork → List Parcel → List Parcel → Bool → Type 0
+  pub input : InputWork → List Parcel → List Parcel → Bool → Type 0
+  pub job : JobWork → List Parcel → List Parcel → Bool → Type 0
+  pub output : OutputWork → List Parcel → List Parcel → Bool → Type 0
+  pub printer : PrinterWork → List Parcel → List Parcel → Bool → Type 0
+
+-- Each machine stands for the history of its process, and what is shared for the rest. A device may be used
+-- as long as its process has no cause to stop.
+pub record NetStands {S K A B : Type 0} (keeps : Keeps) (tells : Tells S K A B) (net : Net S K A B)
+    (s : CoreState) : Type 0 where
+  pub card : StandsFor card keeps.card net.card (s.histories 1)
+  pub input : StandsFor input keeps.input net.input (s.histories 2)
+  pub job : StandsFor job keeps.job net.job (s.histories 3)
+  pub output : StandsFor output keeps.output net.output (s.histories 4)
+  pub printer : StandsFor printer keeps.printer net.printer (s.histories 5)
+  pub shared : SharedStands tells net.shared s
+  pub deck_live : caused (s.histories 1) ≡ None → net.shared.deck.live ≡ true
+  pub paper_live : caused (s.histories 5) ≡ None → net.shared.paper.live ≡ true
+
+-- A process may step in a state: it has a next action, and is at its turn.
+pub record MayStepIn (s : CoreState) (p : ℕ) (action : Action) : Type 0 where
+  pub one : IsProcess p
+  pub next : next_action (process p) (s.histories p) ≡ Some action
+  pub may : MayCall s p (call p action)
+
+-- The network stands for some reached state in which the process may step.
+pub record MayStepNet {S K A B : Type 0} (keeps : Keeps) (tells : Tells S K A B) (net : Net S K A B)
+    (p : ℕ) : Type 0 where
+  pub spools : Spools
+  pub deck : Option (List Item)
+  pub paper : Option (List ℕ)
+  pub state : CoreState
+  pub reached : IsReached spools deck paper state
+  pub stands : NetStands keeps tells net state
+  pub action : Action
+  pub step : MayStepIn state p action
+
+-- One enabled event of the process, and the network stands for the state behind it.
+pub record StepsNet {S K A B : Type 0} (keeps : Keeps) (tells : Tells S K A B) (counts : Counts S K A B)
+    (old new : Net S K A B) (s : CoreState) (p : ℕ) (action : Action) (result : Stepped) : Type 0 where
+  pub event : CoreEvent
+  pub process_is : event.process ≡ p
+  pub action_is : action_of event.entry ≡ action
+  pub told : result ≡ stepped_by event.entry
+  pub enabled : IsEnabled (core process) s event
+  pub stands : NetStands keeps tells new (happens (core process) s event)
+  pub causes : HasCauses counts old.shared new.shared p action (reply_of event.entry)
+
+-- The network stands for a state that is reached from this opening.
+pub record StandsReached {S K A B : Type 0} (keeps : Keeps) (tells : Tells S K A B) (net : Net S K A B)
+    (spools : Spools) (deck : Option (List Item)) (paper : Option (List ℕ)) : Type 0 where
+  pub state : CoreState
+  pub reached : IsReached spools deck paper state
+  pub stands : NetStands keeps tells net state
+
+-- It stands for a state that is reached from some opening.
+pub record StandsSomewhere {S K A B : Type 0} (keeps : Keeps) (tells : Tells S K A B)
+    (net : Net S K A B) : Type 0 where
+  pub spools : Spools
+  pub deck : Option (List Item)
+  pub paper : Option (List ℕ)
+  pub is : StandsReached keeps tells net spools deck paper

@@ -1,0 +1,102 @@
+-- What the five share on one thread, and the states of the core that it stands for.
+use Rattle.std.specs.Prelude.{◌≡◌, ◌≢◌, ◌<◌, ◌==◌, ℕ, Bool, true, false, List, [], length, Option, None, IsSome}
+use Rattle.solo_base.specs.declared.outcome.Side.{Side}
+use Rattle.solo_base.specs.declared.outcome.Side.TheVariants.{Sender, Receiver}
+use Rattle.solo_devices.specs.CardUnit.{items_ahead}
+use Rattle.queue_var.specs.Sides.{Sides, MayEnter, MayStop, has_stopped}
+use Rattle.resource_mon.specs.Claims.{MayRequest}
+use Rattle.disk_spool.specs.Spool.{Spool}
+use Rattle.batch_procs.specs.declared.actions.Action.{Action}
+use Rattle.batch_procs.specs.declared.actions.Action.TheVariants as act
+use Rattle.batch_procs.specs.declared.actions.Reply.{Reply}
+use Rattle.batch_procs.specs.Parcels.{is_last}
+use Rattle.batch_procs.specs.History.{Entry}
+use Rattle.network_law.specs.Network.{Fits, buffers_after, desk_after}
+use Rattle.core_law.specs.Core.{Allows, given, call, went, side_at, CoreState}
+use Rattle.core_net.specs.declared.shared.Shared.{Shared}
+use Rattle.core_net.specs.Calls.{entry_of, ReplyFits}
+use Rattle.core_net.specs.Lines.{LineStands}
+use Rattle.core_net.specs.Spools.{SpoolStands}
+
+-- what the devices tell: what is left of a source, what a sink was given, and the pages of the two areas
+pub record Tells (S K A B : Type 0) : Type 0 where
+  pub left : S → Option (List ℕ)
+  pub given : K → Option (List ℕ)
+  pub input_pages : A → Option (List (List ℕ))
+  pub output_pages : B → Option (List (List ℕ))
+
+pub record SharedStands {S K A B : Type 0} (tells : Tells S K A B) (shared : Shared S K A B)
+    (s : CoreState) : Type 0 where
+  pub deck : s.devices.deck ≡ items_ahead (tells.left shared.deck.source) shared.deck.pending
+  pub paper : s.devices.paper ≡ tells.given shared.paper.sink
+  pub cards : LineStands shared.cards (s.buffers 1)
+  pub input : SpoolStands tells.input_pages shared.input (s.buffers 2)
+  pub output : SpoolStands tells.output_pages shared.output (s.buffers 3)
+  pub lines : LineStands shared.lines (s.buffers 4)
+  pub desk : s.desk.claims ≡ shared.desk
+
+-- ---- what a call asks for
+abbrev pub WaitsAt : Sides → Side → ℕ → Type 0
+WaitsAt sides side p = MayEnter sides side p × (has_stopped sides side ≡ false)
+
+abbrev pub PutsAt : {A : Type 0} → Spool A → Type 0
+PutsAt spool =
+    MayStop spool.sides Sender × (length spool.ring.marks < spool.ring.capacity)
+    × (has_stopped spool.sides Sender ≡ false)
+
+abbrev pub TakesAt : {A : Type 0} → Spool A → Type 0
+TakesAt spool =
+    MayStop spool.sides Receiver × (spool.ring.marks ≢ []) × (has_stopped spool.sides Receiver ≡ false)
+
+abbrev pub Choice : Bool → Type 0 → Type 0 → Type 0
+Choice true X Y = X
+Choice false X Y = Y
+
+-- the first at the number m, the second at n, and nothing elsewhere
+abbrev pub AtNumbers : ℕ → ℕ → ℕ → (ℕ → Type 0) → (ℕ → Type 0) → Type 0
+AtNumbers p m n X Y = Choice (p == m) (X p) (Choice (p == n) (Y p) ⊥)
+
+abbrev pub StopsAt : {S K A B : Type 0} → Shared S K A B → ℕ → Side → Type 0
+StopsAt shared b side =
+    Choice (b == 1) (MayStop shared.cards.sides side)
+    (Choice (b == 2) (MayStop shared.input.sides side)
+    (Choice (b == 3) (MayStop shared.output.sides side)
+    (Choice (b == 4) (MayStop shared.lines.sides side) ⊥)))
+
+abbrev pub MayPerform : {S K A B : Type 0} → Shared S K A B → ℕ → Action → Type 0
+MayPerform shared p act.ReadCard = shared.deck.live ≡ true
+MayPerform shared p (act.PutFeed f) =
+    AtNumbers p 1 4 (WaitsAt shared.cards.sides Sender) (WaitsAt shared.lines.sides Sender)
+MayPerform shared p act.TakeFeed =
+    AtNumbers p 2 5 (WaitsAt shared.cards.sides Receiver) (WaitsAt shared.lines.sides Receiver)
+MayPerform shared p act.AwaitRoom =
+    AtNumbers p 2 3 (WaitsAt shared.input.sides Sender) (WaitsAt shared.output.sides Sender)
+MayPerform shared p act.AwaitItem =
+    AtNumbers p 3 4 (WaitsAt shared.input.sides Receiver) (WaitsAt shared.output.sides Receiver)
+MayPerform shared p act.Request = MayRequest shared.desk p × (length shared.desk.waiting < 5)
+MayPerform shared p (act.PutPage page) =
+    AtNumbers p 2 3 (λ p. PutsAt shared.input) (λ p. PutsAt shared.output)
+MayPerform shared p act.TakePage = AtNumbers p 3 4 (λ p. TakesAt shared.input) (λ p. TakesAt shared.output)
+MayPerform shared p act.Release = IsSome shared.desk.holder × (shared.desk.handed ≡ None)
+MayPerform shared p act.Local = Unit {0}
+MayPerform shared p (act.Print line) = shared.paper.live ≡ true
+MayPerform shared p (act.Stop b) = StopsAt shared b (side_at p b)
+MayPerform shared p (act.Ended how) = Unit {0}
+
+-- ---- what a call does
+-- It goes as the law allows in each state that is stood for, and what is shared stands for the state behind
+-- it.
+pub record Performs {S K A B : Type 0} (tells : Tells S K A B) (old new : Shared S K A B) (p : ℕ)
+    (action : Action) (result : Option Reply) : Type 0 where
+  pub suits : ReplyFits action result
+  pub gained : List ℕ
+  pub fits : (s : CoreState) → SharedStands tells old s
+      → Fits is_last s (call p action) (went (entry_of action result))
+  pub allowed : (s : CoreState) → SharedStands tells old s → Allows s.devices (entry_of action result) gained
+  pub after : (s : CoreState) (histories : ℕ → List Entry) → SharedStands tells old s
+      → SharedStands tells new record {
+        devices = given s.devices (entry_of action result) gained;
+        histories = histories;
+        buffers = buffers_after is_last (call p action) p (went (entry_of action result)) s.buffers;
+        desk = desk_after (call p action) p (went (entry_of action result)) s.desk;
+      }

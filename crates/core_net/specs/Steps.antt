@@ -1,0 +1,63 @@
+-- What a step of a process is to the law.
+use Rattle.std.specs.Prelude.{◌≡◌, ℕ, List, ◌∷◌, Option, None, Some}
+use Rattle.batch_procs.specs.declared.actions.Action.{Action}
+use Rattle.batch_procs.specs.declared.actions.Reply.{Reply}
+use Rattle.batch_procs.specs.Parcels.{is_last}
+use Rattle.batch_procs.specs.History.{Entry, Does, LacksMemory, Delays, action_of}
+use Rattle.batch_procs.specs.Process.{Process, next_action}
+use Rattle.network_law.specs.Network.{Fits, buffers_after, desk_after}
+use Rattle.core_law.specs.Core.{Allows, given, call, went, CoreState}
+use Rattle.core_net.specs.declared.shared.Shared.{Shared}
+use Rattle.core_net.specs.declared.step.Stepped.{Stepped}
+use Rattle.core_net.specs.declared.step.Stepped.TheVariants.{Acted, Delayed, Lacked}
+use Rattle.core_net.specs.Causes.{Counts, HasCauses}
+use Rattle.core_net.specs.Shared.{Tells, SharedStands, MayPerform}
+
+-- An entry of a process goes as the law allows in each state that is stood for, and what is shared stands for
+-- the state behind it.
+pub record Enters {S K A B : Type 0} (tells : Tells S K A B) (old new : Shared S K A B) (p : ℕ)
+    (action : Action) (entry : Entry) : Type 0 where
+  pub gained : List ℕ
+  pub fits : (s : CoreState) → SharedStands tells old s → Fits is_last s (call p action) (went entry)
+  pub allowed : (s : CoreState) → SharedStands tells old s → Allows s.devices entry gained
+  pub after : (s : CoreState) (histories : ℕ → List Entry) → SharedStands tells old s
+      → SharedStands tells new record {
+        devices = given s.devices entry gained;
+        histories = histories;
+        buffers = buffers_after is_last (call p action) p (went entry) s.buffers;
+        desk = desk_after (call p action) p (went entry) s.desk;
+      }
+
+-- A machine of this process stands for a history after which it does this, and that may be performed.
+pub record MayStep {S K A B : Type 0} (process : Process) (Stands : List Entry → Type 0)
+    (shared : Shared S K A B)
+    (p : ℕ) : Type 0 where
+  pub history : List Entry
+  pub action : Action
+  pub stands : Stands history
+  pub next : next_action process history ≡ Some action
+  pub may : MayPerform shared p action
+
+-- how a step went, by its entry
+abbrev pub stepped_by : Entry → Stepped
+stepped_by (Does action r) = Acted
+stepped_by (LacksMemory action r) = Lacked
+stepped_by (Delays action) = Delayed
+
+-- the reply of an entry
+abbrev pub reply_of : Entry → Option Reply
+reply_of (Does action r) = Some r
+reply_of (LacksMemory action r) = Some r
+reply_of (Delays action) = None
+
+-- Behind a history after which it does this, the machine stands for one entry more, and the answer says which
+-- kind.
+pub record Steps {S K A B : Type 0} (Stands : List Entry → Type 0) (tells : Tells S K A B)
+    (counts : Counts S K A B) (old new : Shared S K A B) (p : ℕ) (action : Action) (history : List Entry)
+    (result : Stepped) : Type 0 where
+  pub entry : Entry
+  pub told : result ≡ stepped_by entry
+  pub action_is : action_of entry ≡ action
+  pub stands : Stands (entry ∷ history)
+  pub enters : Enters tells old new p action entry
+  pub causes : HasCauses counts old new p action (reply_of entry)

@@ -1,0 +1,45 @@
+ghost use Rattle.std.specs.Prelude.{◌≡◌, ◌<◌, ◌⊎◌, None, Some, length, IsSome};
+ghost use Rattle.resource_mon.specs.Claims.{MayRequest};
+ghost use Rattle.core_net.specs.Desks.{Asked, Given};
+
+use batch_procs::Reply;
+use resource_mon::{Grant, Resource};
+use solo_base::ProcNo;
+
+/// Asks for the disk, or resumes where the turn is handed to the process. No reply: the process waits.
+pub fn request<const N: usize>(desk: &mut Resource<N>, p: ProcNo) -> Option<Reply>
+    requires may { MayRequest desk.old p }
+    requires room { length desk.old.waiting < N }
+    ensures { Asked desk.old desk.new p result }
+{
+    match desk.handed() {
+        Some(_) => {
+            desk.resumed(p);
+            Some(Reply::Done)
+        }
+        None => grant(desk, p),
+    }
+}
+
+/// Asks for the disk while no turn is handed.
+fn grant<const N: usize>(desk: &mut Resource<N>, p: ProcNo) -> Option<Reply>
+    requires free { desk.old.handed ≡ None }
+    requires may { MayRequest desk.old p }
+    requires room { length desk.old.waiting < N }
+    ensures { Asked desk.old desk.new p result }
+{
+    match desk.request(p) {
+        Grant::Got => Some(Reply::Done),
+        Grant::Wait => None,
+    }
+}
+
+/// Gives the disk back.
+pub fn release<const N: usize>(desk: &mut Resource<N>) -> Reply
+    requires held { IsSome desk.old.holder }
+    requires free { desk.old.handed ≡ None }
+    ensures { Given desk.old desk.new result }
+{
+    let _ = desk.release();
+    Reply::Done
+}

@@ -1,0 +1,40 @@
+ghost use Rattle.std.specs.Prelude.{◌≡◌, ◌≤◌, ◌<◌, ◌≢◌, ◌↔◌, true, Some, ℕ};
+ghost use Rattle.solo_devices.specs.Count.{Rose};
+ghost use Rattle.solo_devices.specs.CardUnit.{items_ahead, byte_limit, IsAllTaken};
+ghost use Rattle.solo_devices.specs.declared.card_read.CardRead.TheVariants as card_read;
+ghost use Rattle.batch_procs.specs.declared.actions.Reply.TheVariants as reply;
+ghost use Rattle.core_net.specs.Devices.{ReadsCard, PrintsLine};
+
+use batch_procs::Reply;
+use solo_base::Line;
+use solo_devices::{CardRead, CardUnit, PrintFault, PrinterUnit, Sink, Source};
+
+/// Reads the next card of the deck.
+pub fn read_card<S: Source>(deck: &mut CardUnit<S>) -> Reply
+    requires live { deck.old.live ≡ true }
+    ensures reads { ReadsCard (items_ahead (S.left deck.old.source) deck.old.pending) (items_ahead (S.left deck.new.source) deck.new.pending) result }
+    ensures failed { result ≡ reply.Card card_read.Failed
+        → Rose (S.faults deck.old.source) (S.faults deck.new.source) }
+    ensures counts { S.faults deck.old.source ≤ S.faults deck.new.source }
+    ensures limit { (result ≡ reply.Card card_read.Limit) ↔ (byte_limit < S.taken deck.new.source) }
+    ensures all_taken { result ≡ reply.Card card_read.End → IsAllTaken (S.left deck.new.source) }
+    ensures live { result ≢ reply.Card card_read.Failed → result ≢ reply.Card card_read.Limit
+        → deck.new.live ≡ true }
+{
+    Reply::Card(deck.read())
+}
+
+/// Prints a line.
+pub fn print<K: Sink>(paper: &mut PrinterUnit<K>, line: &Line) -> Reply
+    requires live { paper.old.live ≡ true }
+    ensures prints { PrintsLine (K.given paper.old.sink) (K.given paper.new.sink) line.now result }
+    ensures failed { result ≡ reply.Failed → Rose (K.faults paper.old.sink) (K.faults paper.new.sink) }
+    ensures counts { K.faults paper.old.sink ≤ K.faults paper.new.sink }
+    ensures live { result ≡ reply.Done → paper.new.live ≡ true }
+{
+    match paper.print(line) {
+        Ok(()) => Reply::Done,
+        Err(PrintFault::Failed) => Reply::Failed,
+        Err(PrintFault::NoMemory) => Reply::NoMemory,
+    }
+}

@@ -1,0 +1,215 @@
+ghost use Rattle.std.specs.Prelude.{◌≡◌, ◌≤◌, ◌<◌, ◌↔◌, IsTrue, ℕ, List, [], Option, Some};
+ghost use Rattle.solo_base.specs.declared.item.Item.{Item};
+ghost use Rattle.batch_procs.specs.declared.actions.Action.{Action as ActionOf};
+ghost use Rattle.batch_procs.specs.Laws.{HasEnded};
+ghost use Rattle.batch_procs.specs.Process.{next_action};
+ghost use Rattle.batch_procs.specs.Table.{process};
+ghost use Rattle.core_law.specs.Core.{CoreState};
+ghost use Rattle.core_law.specs.Ends.{IsProcess};
+ghost use Rattle.core_law.specs.Opening.{Spools, opened, IsReached};
+ghost use Rattle.solo_devices.specs.CardUnit.{items_ahead};
+ghost use Rattle.core_net.specs.Openings.{spools_over};
+ghost use Rattle.core_net.specs.Net.{NetStands, MayStepIn, MayStepNet, StepsNet, StandsReached, StandsSomewhere};
+
+use crate::step::step_machine;
+use crate::turns::may_step;
+use crate::{Shared, Stepped};
+use batch_procs::{
+    CardProc, CardWork, InputProc, InputWork, JobProc, JobWork, Machine, OutputProc, OutputWork,
+    PrinterProc, PrinterWork, Work,
+};
+use solo_base::ProcNo;
+use solo_devices::{Area, Sink, Source};
+
+/// The network of the Job Stream System, which is stepped one event at a time. It keeps no histories:
+/// contracts say which states of the core it stands for.
+#[derive(Debug, Drop)]
+pub struct Net<S: Source, K: Sink, A: Area, B: Area> {
+    pub card: CardProc,
+    pub input: InputProc,
+    pub job: JobProc,
+    pub output: OutputProc,
+    pub printer: PrinterProc,
+    pub shared: Shared<S, K, A, B>,
+}
+
+impl<S: Source, K: Sink, A: Area, B: Area> Net<S, K, A, B> {
+    /// The network before its first step: a deck of which nothing was read, and an area of 1 to 256 pages for each
+    /// spool.
+    pub fn make(source: S, input: A, output: B, sink: K) -> Self
+        requires unread { S.taken source ≡ 0 }
+        requires input_some { 0 < A.size input }
+        requires input_few { A.size input ≤ 256 }
+        requires output_some { 0 < B.size output }
+        requires output_few { B.size output ≤ 256 }
+        ensures stands { NetStands record {
+          card = ⟦<CardWork as Work>⟧.keeps;
+          input = ⟦<InputWork as Work>⟧.keeps;
+          job = ⟦<JobWork as Work>⟧.keeps;
+          output = ⟦<OutputWork as Work>⟧.keeps;
+          printer = ⟦<PrinterWork as Work>⟧.keeps;
+        }
+            record { left = S.left; given = K.given; input_pages = A.pages; output_pages = B.pages }
+            result
+            (opened (spools_over (A.size input) (A.pages input) (B.size output) (B.pages output)) (items_ahead (S.left source) []) (K.given sink)) }
+        ensures reached { IsReached (spools_over (A.size input) (A.pages input) (B.size output) (B.pages output)) (items_ahead (S.left source) []) (K.given sink)
+            (opened (spools_over (A.size input) (A.pages input) (B.size output) (B.pages output)) (items_ahead (S.left source) []) (K.given sink)) }
+    {
+        Net {
+            card: Machine::new(),
+            input: Machine::new(),
+            job: Machine::new(),
+            output: Machine::new(),
+            printer: Machine::new(),
+            shared: Shared::make(source, input, output, sink),
+        }
+    }
+
+    /// Whether the next action of a process may happen now. One that ended has none.
+    pub fn enabled(&self, p: ProcNo) -> bool
+        requires one { IsProcess p }
+        ensures turn { (spools : Spools) (deck : Option (List Item)) (paper : Option (List ℕ)) (s : CoreState) →
+            (action : ActionOf) →
+            IsReached spools deck paper s →
+            NetStands record {
+              card = ⟦<CardWork as Work>⟧.keeps;
+              input = ⟦<InputWork as Work>⟧.keeps;
+              job = ⟦<JobWork as Work>⟧.keeps;
+              output = ⟦<OutputWork as Work>⟧.keeps;
+              printer = ⟦<PrinterWork as Work>⟧.keeps;
+            }
+            record { left = S.left; given = K.given; input_pages = A.pages; output_pages = B.pages } self.now s →
+            next_action (process p) (s.histories p) ≡ Some action →
+            IsTrue result ↔ MayStepIn s p action }
+    {
+        if p == 1 {
+            may_step(&self.card, p, &self.shared)
+        } else if p == 2 {
+            may_step(&self.input, p, &self.shared)
+        } else if p == 3 {
+            may_step(&self.job, p, &self.shared)
+        } else if p == 4 {
+            may_step(&self.output, p, &self.shared)
+        } else {
+            may_step(&self.printer, p, &self.shared)
+        }
+    }
+
+    /// Whether a process has ended.
+    pub fn has_ended(&self, p: ProcNo) -> bool
+        requires one { IsProcess p }
+        ensures ended { (s : CoreState) →
+            NetStands record {
+              card = ⟦<CardWork as Work>⟧.keeps;
+              input = ⟦<InputWork as Work>⟧.keeps;
+              job = ⟦<JobWork as Work>⟧.keeps;
+              output = ⟦<OutputWork as Work>⟧.keeps;
+              printer = ⟦<PrinterWork as Work>⟧.keeps;
+            }
+            record { left = S.left; given = K.given; input_pages = A.pages; output_pages = B.pages } self.now s →
+            IsTrue result ↔ HasEnded (s.histories p) }
+    {
+        if p == 1 {
+            self.card.has_ended()
+        } else if p == 2 {
+            self.input.has_ended()
+        } else if p == 3 {
+            self.job.has_ended()
+        } else if p == 4 {
+            self.output.has_ended()
+        } else {
+            self.printer.has_ended()
+        }
+    }
+
+    /// Lets the next action of a process happen, where it is at its turn. None: it has ended, or is not at its turn.
+    pub fn turn(&mut self, p: ProcNo) -> Option<Stepped>
+        requires one { IsProcess p }
+        requires reached { StandsSomewhere record {
+          card = ⟦<CardWork as Work>⟧.keeps;
+          input = ⟦<InputWork as Work>⟧.keeps;
+          job = ⟦<JobWork as Work>⟧.keeps;
+          output = ⟦<OutputWork as Work>⟧.keeps;
+          printer = ⟦<PrinterWork as Work>⟧.keeps;
+        }
+            record { left = S.left; given = K.given; input_pages = A.pages; output_pages = B.pages } self.old }
+        ensures reached { (spools : Spools) (deck : Option (List Item)) (paper : Option (List ℕ)) →
+            StandsReached record {
+              card = ⟦<CardWork as Work>⟧.keeps;
+              input = ⟦<InputWork as Work>⟧.keeps;
+              job = ⟦<JobWork as Work>⟧.keeps;
+              output = ⟦<OutputWork as Work>⟧.keeps;
+              printer = ⟦<PrinterWork as Work>⟧.keeps;
+            }
+            record { left = S.left; given = K.given; input_pages = A.pages; output_pages = B.pages } self.old spools deck paper →
+            StandsReached record {
+              card = ⟦<CardWork as Work>⟧.keeps;
+              input = ⟦<InputWork as Work>⟧.keeps;
+              job = ⟦<JobWork as Work>⟧.keeps;
+              output = ⟦<OutputWork as Work>⟧.keeps;
+              printer = ⟦<PrinterWork as Work>⟧.keeps;
+            }
+            record { left = S.left; given = K.given; input_pages = A.pages; output_pages = B.pages } self.new spools deck paper }
+    {
+        if self.has_ended(p) {
+            return None;
+        }
+        if self.enabled(p) {
+            Some(self.step(p))
+        } else {
+            None
+        }
+    }
+
+    /// Lets the next action of a process happen.
+    pub fn step(&mut self, p: ProcNo) -> Stepped
+        requires may { MayStepNet record {
+          card = ⟦<CardWork as Work>⟧.keeps;
+          input = ⟦<InputWork as Work>⟧.keeps;
+          job = ⟦<JobWork as Work>⟧.keeps;
+          output = ⟦<OutputWork as Work>⟧.keeps;
+          printer = ⟦<PrinterWork as Work>⟧.keeps;
+        }
+            record { left = S.left; given = K.given; input_pages = A.pages; output_pages = B.pages } self.old p }
+        ensures steps { (spools : Spools) (deck : Option (List Item)) (paper : Option (List ℕ)) (s : CoreState) →
+            (action : ActionOf) →
+            IsReached spools deck paper s →
+            NetStands record {
+              card = ⟦<CardWork as Work>⟧.keeps;
+              input = ⟦<InputWork as Work>⟧.keeps;
+              job = ⟦<JobWork as Work>⟧.keeps;
+              output = ⟦<OutputWork as Work>⟧.keeps;
+              printer = ⟦<PrinterWork as Work>⟧.keeps;
+            }
+            record { left = S.left; given = K.given; input_pages = A.pages; output_pages = B.pages } self.old s →
+            MayStepIn s p action →
+            StepsNet record {
+              card = ⟦<CardWork as Work>⟧.keeps;
+              input = ⟦<InputWork as Work>⟧.keeps;
+              job = ⟦<JobWork as Work>⟧.keeps;
+              output = ⟦<OutputWork as Work>⟧.keeps;
+              printer = ⟦<PrinterWork as Work>⟧.keeps;
+            }
+            record { left = S.left; given = K.given; input_pages = A.pages; output_pages = B.pages }
+            record {
+              read_faults = S.faults;
+              taken = S.taken;
+              print_faults = K.faults;
+              input_faults = A.faults;
+              output_faults = B.faults;
+            }
+            self.old self.new s p action result }
+    {
+        if p == 1 {
+            step_machine(&mut self.card, p, &mut self.shared)
+        } else if p == 2 {
+            step_machine(&mut self.input, p, &mut self.shared)
+        } else if p == 3 {
+            step_machine(&mut self.job, p, &mut self.shared)
+        } else if p == 4 {
+            step_machine(&mut self.output, p, &mut self.shared)
+        } else {
+            step_machine(&mut self.printer, p, &mut self.shared)
+        }
+    }
+}

@@ -1,0 +1,354 @@
+ghost use Rattle.std.specs.Prelude.{◌≡◌, ◌≤◌, ◌<◌, ℕ, true, List, [], None, Some};
+ghost use Rattle.batch_procs.specs.declared.actions.Action.TheVariants as act;
+ghost use Rattle.solo_devices.specs.CardUnit.{items_ahead};
+ghost use Rattle.core_law.specs.Opening.{opened};
+ghost use Rattle.core_net.specs.Openings.{spools_over};
+ghost use Rattle.core_net.specs.Causes.{HasCauses};
+ghost use Rattle.core_net.specs.Shared.{SharedStands, MayPerform, Performs};
+
+use crate::{
+    await_item, await_room, print, put_feed, put_page, read_card, release, request, stop_line,
+    stop_spool, take_feed, take_page,
+};
+use batch_procs::{Action, Reply};
+use disk_spool::Spool;
+use resource_mon::Resource;
+use slot_buffer::{LineBuffer, SlotBuffer};
+use solo_base::{BufferNo, Feed, Line, Page, ProcNo, Side};
+use solo_devices::{Area, CardUnit, PrinterUnit, Sink, Source};
+
+/// What the five processes share: the deck, the line buffers 1 and 4, the spools 2 and 3 with their areas,
+/// the paper, and the desk that grants the disk.
+#[derive(Debug, Drop)]
+pub struct Shared<S: Source, K: Sink, A: Area, B: Area> {
+    pub deck: CardUnit<S>,
+    pub cards: LineBuffer,
+    pub input: Spool<A>,
+    pub output: Spool<B>,
+    pub lines: LineBuffer,
+    pub paper: PrinterUnit<K>,
+    pub desk: Resource<5>,
+}
+
+impl<S: Source, K: Sink, A: Area, B: Area> Shared<S, K, A, B> {
+    /// What the five share before their first action.
+    pub fn make(source: S, input: A, output: B, sink: K) -> Self
+        requires unread { S.taken source ≡ 0 }
+        requires input_some { 0 < A.size input }
+        requires input_few { A.size input ≤ 256 }
+        requires output_some { 0 < B.size output }
+        requires output_few { B.size output ≤ 256 }
+        ensures stands { SharedStands record { left = S.left; given = K.given; input_pages = A.pages; output_pages = B.pages } result
+            (opened (spools_over (A.size input) (A.pages input) (B.size output) (B.pages output)) (items_ahead (S.left source) []) (K.given sink)) }
+        ensures deck_live { result.deck.live ≡ true }
+        ensures paper_live { result.paper.live ≡ true }
+    {
+        Shared {
+            deck: CardUnit::new(source),
+            cards: SlotBuffer::new(),
+            input: Spool::make(input),
+            output: Spool::make(output),
+            lines: SlotBuffer::new(),
+            paper: PrinterUnit::new(sink),
+            desk: Resource::new(),
+        }
+    }
+
+    /// Performs the action of a process. No reply: the process waits.
+    pub fn perform(&mut self, p: ProcNo, action: Action) -> Option<Reply>
+        requires may { MayPerform self.old p action }
+        ensures performs { Performs record {
+          left =
+              S.left;
+          given =
+              K.given;
+          input_pages = A.pages;
+          output_pages = B.pages;
+        } self.old self.new p action result }
+        ensures causes { HasCauses record {
+          read_faults =
+              S.faults;
+          taken =
+              S.taken;
+          print_faults =
+              K.faults;
+          input_faults =
+              A.faults;
+          output_faults = B.faults;
+        } self.old self.new p action result }
+    {
+        match action {
+            Action::ReadCard => Some(read_card(&mut self.deck)),
+            Action::PutFeed(feed) => self.put_feed(p, feed),
+            Action::TakeFeed => self.take_feed(p),
+            Action::AwaitRoom => self.await_room(p),
+            Action::AwaitItem => self.await_item(p),
+            Action::Request => request(&mut self.desk, p),
+            Action::PutPage(page) => Some(self.put_page(p, page)),
+            Action::TakePage => Some(self.take_page(p)),
+            Action::Release => Some(release(&mut self.desk)),
+            Action::Local => Some(Reply::Done),
+            Action::Print(line) => Some(self.print(p, line)),
+            Action::Stop(buffer) => Some(self.stop(p, buffer)),
+            Action::Ended(_) => Some(Reply::Done),
+        }
+    }
+
+    fn put_feed(&mut self, p: ProcNo, feed: Feed) -> Option<Reply>
+        requires may { MayPerform self.old p (act.PutFeed feed) }
+        ensures performs { Performs record {
+          left =
+              S.left;
+          given =
+              K.given;
+          input_pages =
+              A.pages;
+          output_pages = B.pages;
+        } self.old self.new p (act.PutFeed feed) result }
+        ensures causes { HasCauses record {
+          read_faults =
+              S.faults;
+          taken =
+              S.taken;
+          print_faults =
+              K.faults;
+          input_faults =
+              A.faults;
+          output_faults = B.faults;
+        } self.old self.new p (act.PutFeed feed) result }
+    {
+        if p == 1 {
+            put_feed(&mut self.cards, p, feed)
+        } else {
+            put_feed(&mut self.lines, p, feed)
+        }
+    }
+
+    fn take_feed(&mut self, p: ProcNo) -> Option<Reply>
+        requires may { MayPerform self.old p act.TakeFeed }
+        ensures performs { Performs record {
+          left =
+              S.left;
+          given =
+              K.given;
+          input_pages =
+              A.pages;
+          output_pages = B.pages;
+        } self.old self.new p act.TakeFeed result }
+        ensures causes { HasCauses record {
+          read_faults =
+              S.faults;
+          taken =
+              S.taken;
+          print_faults =
+              K.faults;
+          input_faults =
+              A.faults;
+          output_faults = B.faults;
+        } self.old self.new p act.TakeFeed result }
+    {
+        if p == 2 {
+            take_feed(&mut self.cards, p)
+        } else {
+            take_feed(&mut self.lines, p)
+        }
+    }
+
+    fn await_room(&mut self, p: ProcNo) -> Option<Reply>
+        requires may { MayPerform self.old p act.AwaitRoom }
+        ensures performs { Performs record {
+          left =
+              S.left;
+          given =
+              K.given;
+          input_pages =
+              A.pages;
+          output_pages = B.pages;
+        } self.old self.new p act.AwaitRoom result }
+        ensures causes { HasCauses record {
+          read_faults =
+              S.faults;
+          taken =
+              S.taken;
+          print_faults =
+              K.faults;
+          input_faults =
+              A.faults;
+          output_faults = B.faults;
+        } self.old self.new p act.AwaitRoom result }
+    {
+        if p == 2 {
+            await_room(&mut self.input, p)
+        } else {
+            await_room(&mut self.output, p)
+        }
+    }
+
+    fn await_item(&mut self, p: ProcNo) -> Option<Reply>
+        requires may { MayPerform self.old p act.AwaitItem }
+        ensures performs { Performs record {
+          left =
+              S.left;
+          given =
+              K.given;
+          input_pages =
+              A.pages;
+          output_pages = B.pages;
+        } self.old self.new p act.AwaitItem result }
+        ensures causes { HasCauses record {
+          read_faults =
+              S.faults;
+          taken =
+              S.taken;
+          print_faults =
+              K.faults;
+          input_faults =
+              A.faults;
+          output_faults = B.faults;
+        } self.old self.new p act.AwaitItem result }
+    {
+        if p == 3 {
+            await_item(&mut self.input, p)
+        } else {
+            await_item(&mut self.output, p)
+        }
+    }
+
+    fn put_page(&mut self, p: ProcNo, page: Page) -> Reply
+        requires may { MayPerform self.old p (act.PutPage page) }
+        ensures performs { Performs record {
+          left =
+              S.left;
+          given =
+              K.given;
+          input_pages =
+              A.pages;
+          output_pages = B.pages;
+        } self.old self.new p (act.PutPage page) (Some result) }
+        ensures causes { HasCauses record {
+          read_faults =
+              S.faults;
+          taken =
+              S.taken;
+          print_faults =
+              K.faults;
+          input_faults =
+              A.faults;
+          output_faults =
+              B.faults;
+        } self.old self.new p (act.PutPage page) (Some result) }
+    {
+        if p == 2 {
+            put_page(&mut self.input, page)
+        } else {
+            put_page(&mut self.output, page)
+        }
+    }
+
+    fn take_page(&mut self, p: ProcNo) -> Reply
+        requires may { MayPerform self.old p act.TakePage }
+        ensures performs { Performs record {
+          left =
+              S.left;
+          given =
+              K.given;
+          input_pages =
+              A.pages;
+          output_pages = B.pages;
+        } self.old self.new p act.TakePage (Some result) }
+        ensures causes { HasCauses record {
+          read_faults =
+              S.faults;
+          taken =
+              S.taken;
+          print_faults =
+              K.faults;
+          input_faults =
+              A.faults;
+          output_faults = B.faults;
+        } self.old self.new p act.TakePage (Some result) }
+    {
+        if p == 3 {
+            take_page(&mut self.input)
+        } else {
+            take_page(&mut self.output)
+        }
+    }
+
+    fn print(&mut self, p: ProcNo, line: Line) -> Reply
+        requires may { MayPerform self.old p (act.Print line) }
+        ensures performs { Performs record {
+          left =
+              S.left;
+          given =
+              K.given;
+          input_pages =
+              A.pages;
+          output_pages = B.pages;
+        } self.old self.new p (act.Print line) (Some result) }
+        ensures causes { HasCauses record {
+          read_faults =
+              S.faults;
+          taken =
+              S.taken;
+          print_faults =
+              K.faults;
+          input_faults =
+              A.faults;
+          output_faults =
+              B.faults;
+        } self.old self.new p (act.Print line) (Some result) }
+    {
+        let _ = p;
+        print(&mut self.paper, &line)
+    }
+
+    fn stop(&mut self, p: ProcNo, buffer: BufferNo) -> Reply
+        requires may { MayPerform self.old p (act.Stop buffer) }
+        ensures performs { Performs record {
+          left =
+              S.left;
+          given =
+              K.given;
+          input_pages =
+              A.pages;
+          output_pages = B.pages;
+        } self.old self.new p (act.Stop buffer) (Some result) }
+        ensures causes { HasCauses record {
+          read_faults =
+              S.faults;
+          taken =
+              S.taken;
+          print_faults =
+              K.faults;
+          input_faults =
+              A.faults;
+          output_faults =
+              B.faults;
+        } self.old self.new p (act.Stop buffer) (Some result) }
+    {
+        let side = side_at(p, buffer);
+        if buffer == 1 {
+            stop_line(&mut self.cards, buffer, side)
+        } else if buffer == 2 {
+            stop_spool(&mut self.input, buffer, side)
+        } else if buffer == 3 {
+            stop_spool(&mut self.output, buffer, side)
+        } else {
+            stop_line(&mut self.lines, buffer, side)
+        }
+    }
+}
+
+ghost use Rattle.core_law.specs.Core.{side_at};
+
+/// The side of a buffer at which a process sits beside it.
+pub(crate) fn side_at(p: ProcNo, buffer: BufferNo) -> Side
+    ensures { result ≡ side_at p buffer }
+{
+    if p == buffer {
+        Side::Sender
+    } else {
+        Side::Receiver
+    }
+}

@@ -1,0 +1,93 @@
+// Whether a process is at its turn.
+ghost use Rattle.std.specs.Prelude.{◌≡◌, ◌↔◌, IsTrue, Some, ℕ, List};
+ghost use Rattle.batch_procs.specs.declared.actions.Action.{Action as ActionOf};
+ghost use Rattle.batch_procs.specs.History.{Entry};
+ghost use Rattle.batch_procs.specs.Machine.{StandsFor};
+ghost use Rattle.batch_procs.specs.Process.{next_action};
+ghost use Rattle.queue_var.specs.Sides.{MayEnter, MayStop};
+ghost use Rattle.network_law.specs.Network.{MayCall};
+ghost use Rattle.core_law.specs.Core.{call, upstream, CoreState, IsBuffer};
+ghost use Rattle.core_net.specs.Shared.{SharedStands};
+ghost use Rattle.core_net.specs.Turns.{HasPlace};
+
+use crate::Shared;
+use crate::shared::side_at;
+use batch_procs::{Action, Machine, Work};
+use solo_base::{BufferNo, ProcNo, Side};
+use solo_devices::{Area, Sink, Source};
+
+impl<S: Source, K: Sink, A: Area, B: Area> Shared<S, K, A, B> {
+    /// Whether a process may enter a buffer by a side.
+    fn may_enter(&self, b: BufferNo, side: Side, p: ProcNo) -> bool
+        ensures { (s : CoreState) →
+            SharedStands record { left = S.left; given = K.given; input_pages = A.pages; output_pages = B.pages } self.now s →
+            IsBuffer b → IsTrue result ↔ MayEnter (s.buffers b).sides side p }
+    {
+        if b == 1 {
+            self.cards.may_enter(side, p)
+        } else if b == 2 {
+            self.input.may_enter(side, p)
+        } else if b == 3 {
+            self.output.may_enter(side, p)
+        } else {
+            self.lines.may_enter(side, p)
+        }
+    }
+
+    /// Whether a side of a buffer may move a page or stop.
+    fn may_stop(&self, b: BufferNo, side: Side) -> bool
+        ensures { (s : CoreState) →
+            SharedStands record { left = S.left; given = K.given; input_pages = A.pages; output_pages = B.pages } self.now s →
+            IsBuffer b → IsTrue result ↔ MayStop (s.buffers b).sides side }
+    {
+        if b == 1 {
+            self.cards.may_stop(side)
+        } else if b == 2 {
+            self.input.may_stop(side)
+        } else if b == 3 {
+            self.output.may_stop(side)
+        } else {
+            self.lines.may_stop(side)
+        }
+    }
+
+    /// Whether the monitors let a process make its call now.
+    pub fn may_call(&self, p: ProcNo, action: &Action) -> bool
+        ensures { (s : CoreState) →
+            SharedStands record { left = S.left; given = K.given; input_pages = A.pages; output_pages = B.pages } self.now s →
+            HasPlace s p action.now → IsTrue result ↔ MayCall s p (call p action.now) }
+    {
+        match action {
+            Action::PutFeed(_) | Action::AwaitRoom => self.may_enter(p, Side::Sender, p),
+            Action::TakeFeed | Action::AwaitItem => self.may_enter(upstream(p), Side::Receiver, p),
+            Action::Request => self.desk.may_request(p),
+            Action::PutPage(_) => self.may_stop(p, Side::Sender),
+            Action::TakePage => self.may_stop(upstream(p), Side::Receiver),
+            Action::Release => self.desk.handed().is_none(),
+            Action::Stop(b) => self.may_stop(*b, side_at(p, *b)),
+            Action::ReadCard | Action::Local | Action::Print(_) | Action::Ended(_) => true,
+        }
+    }
+}
+
+/// The buffer that a process takes from.
+fn upstream(p: ProcNo) -> BufferNo
+    ensures { result ≡ upstream p }
+{
+    p.saturating_sub(1)
+}
+
+/// Whether a process may make the call that its machine makes next.
+pub fn may_step<W: Work, S: Source, K: Sink, A: Area, B: Area>(
+    machine: &Machine<W>,
+    p: ProcNo,
+    shared: &Shared<S, K, A, B>,
+) -> bool
+    ensures { (h : List Entry) (action : ActionOf) (s : CoreState) → StandsFor W.process W.keeps machine.now h →
+        next_action W.process h ≡ Some action →
+        SharedStands record { left = S.left; given = K.given; input_pages = A.pages; output_pages = B.pages } shared.now s →
+        HasPlace s p action → IsTrue result ↔ MayCall s p (call p action) }
+{
+    let action = machine.next();
+    shared.may_call(p, &action)
+}
