@@ -1,0 +1,5 @@
+pub mod Running
+pub mod LineCalls
+pub mod Decks
+pub mod Papers
+pub mod SpoolCalls

@@ -1,0 +1,63 @@
+-- The five processes side by side: how each begins, and what it made of its connections.
+use Rattle.std.specs.Prelude.{ℕ, List, [], Option}
+use Rattle.solo_base.specs.declared.outcome.Outcome.{Outcome}
+use Rattle.batch_procs.specs.Table.{card, input, job, output, printer}
+use Rattle.batch_run.specs.declared.card_connections.CardConnections.{CardConnections}
+use Rattle.batch_run.specs.declared.printer_connections.PrinterConnections.{PrinterConnections}
+use Rattle.batch_run.specs.declared.input_connections.InputEnds.{InputEnds}
+use Rattle.batch_run.specs.declared.job_connections.JobEnds.{JobEnds}
+use Rattle.batch_run.specs.declared.output_connections.OutputEnds.{OutputEnds}
+use Rattle.batch_run.specs.declared.row.Row.{Row}
+use Rattle.batch_run.specs.declared.row.RowEnded.{RowEnded}
+use Rattle.batch_run.specs.Connections.{EndsSo}
+use Rattle.batch_run.specs.Cards.{CardRan}
+use Rattle.batch_run.specs.Lines.{PrinterRan}
+use Rattle.batch_run.specs.Pages.{InputRan, JobRan, OutputRan, input_connected, job_connected, output_connected}
+
+module _ {S A : Type 0} (left : S → Option (List ℕ)) (taken faults : S → ℕ) (size : A → ℕ) where
+  pub record FrontBegins (cards : CardConnections S) (pages : InputEnds A) : Type 0 where
+    pub cards_begin : CardRan left taken faults cards cards []
+    pub pages_begin : InputRan size (input_connected pages) (input_connected pages) []
+
+  pub record FrontRan (cards : CardConnections S) (pages : InputEnds A)
+      (ended : (CardConnections S × Outcome) × (InputEnds A × Outcome)) : Type 0 where
+    pub cards_ended : EndsSo card (CardRan left taken faults cards ended.0.0) ended.0.1
+    pub pages_ended : EndsSo input (InputRan size (input_connected pages) (input_connected ended.1.0)) ended.1.1
+
+module _ {K B : Type 0} (given : K → Option (List ℕ)) (faults : K → ℕ) (size : B → ℕ) where
+  pub record BackBegins (lines : OutputEnds B) (paper : PrinterConnections K) : Type 0 where
+    pub lines_begin : OutputRan size (output_connected lines) (output_connected lines) []
+    pub paper_begins : PrinterRan given faults paper paper []
+
+  pub record BackRan (lines : OutputEnds B) (paper : PrinterConnections K)
+      (ended : (OutputEnds B × Outcome) × (PrinterConnections K × Outcome)) : Type 0 where
+    pub lines_ended : EndsSo output (OutputRan size (output_connected lines) (output_connected ended.0.0)) ended.0.1
+    pub paper_ended : EndsSo printer (PrinterRan given faults paper ended.1.0) ended.1.1
+
+module _ {K A B : Type 0} (given : K → Option (List ℕ)) (faults : K → ℕ) (from_size : A → ℕ)
+    (to_size : B → ℕ) where
+  pub record RestBegins (jobs : JobEnds A B) (lines : OutputEnds B)
+      (paper : PrinterConnections K) : Type 0 where
+    pub jobs_begin : JobRan from_size to_size (job_connected jobs) (job_connected jobs) []
+    pub back_begins : BackBegins given faults to_size lines paper
+
+  pub record RestRan (jobs : JobEnds A B) (lines : OutputEnds B) (paper : PrinterConnections K)
+      (ended : (JobEnds A B × Outcome)
+      × ((OutputEnds B × Outcome) × (PrinterConnections K × Outcome))) : Type 0 where
+    pub jobs_ended : EndsSo job (JobRan from_size to_size (job_connected jobs) (job_connected ended.0.0)) ended.0.1
+    pub back_ended : BackRan given faults to_size lines paper ended.1
+
+-- The ends have had no call, no process has the disk, and the devices may be used.
+pub record RowBegins {S K A B : Type 0} (left : S → Option (List ℕ)) (taken source_faults : S → ℕ)
+    (given : K → Option (List ℕ))
+    (sink_faults : K → ℕ) (from_size : A → ℕ) (to_size : B → ℕ) (row : Row S K A B) : Type 0 where
+  pub front_begins : FrontBegins left taken source_faults from_size row.cards row.pages
+  pub rest_begins : RestBegins given sink_faults from_size to_size row.jobs row.lines row.paper
+
+-- Each of the five did what its history asks for, over its own connections.
+pub record RowRan {S K A B : Type 0} (left : S → Option (List ℕ)) (taken source_faults : S → ℕ)
+    (given : K → Option (List ℕ))
+    (sink_faults : K → ℕ) (from_size : A → ℕ) (to_size : B
+    → ℕ) (row : Row S K A B) (ended : RowEnded S K A B) : Type 0 where
+  pub front_ended : FrontRan left taken source_faults from_size row.cards row.pages ended.front
+  pub rest_ended : RestRan given sink_faults from_size to_size row.jobs row.lines row.paper ended.rest

@@ -1,0 +1,144 @@
+ghost use Rattle.std.specs.Prelude.{◌≡◌, []};
+ghost use Rattle.batch_procs.specs.Fits.{Fits};
+ghost use Rattle.batch_procs.specs.Table.{job};
+ghost use Rattle.batch_run.specs.Connections.{Comes, EndsSo, Performs};
+ghost use Rattle.batch_run.specs.declared.job_connections.JobConnections.{JobConnections};
+ghost use Rattle.batch_run.specs.Pages.{JobRan, does_job, job_connected};
+
+use crate::desk::Desk;
+use crate::run::{end_of, run_to_end};
+use batch_procs::{Action, JobWork, Machine, Reply};
+use disk_spool::{Fetched, SpoolGate, SpoolRecv, SpoolSend};
+use resource_mon::{DiskResource, DiskSeat};
+use solo_base::{Outcome, Page};
+use solo_devices::{Area, Moved};
+use std::sync::Wait;
+use std::thread::Threads;
+
+/// What the job process is connected to: the spool 2 as its receiver, the spool 3 as its sender, and the
+/// disk.
+pub struct JobConnections<'a, A: Area + Send, B: Area + Send> {
+    pub cards_gate: &'a SpoolGate<A>,
+    pub cards: SpoolRecv<A>,
+    pub pages_gate: &'a SpoolGate<B>,
+    pub pages: SpoolSend<B>,
+    pub desk: Desk<'a>,
+}
+
+/// The same before and after the process has run: it hasn't got the disk.
+#[derive(Drop)]
+pub struct JobEnds<'a, A: Area + Send, B: Area + Send> {
+    pub cards_gate: &'a SpoolGate<A>,
+    pub cards: SpoolRecv<A>,
+    pub pages_gate: &'a SpoolGate<B>,
+    pub pages: SpoolSend<B>,
+    pub disk: &'a DiskResource,
+    pub seat: DiskSeat,
+}
+
+impl<'a, A: Area + Send, B: Area + Send> JobConnections<'a, A, B> {
+    /// Runs the job process up to its end.
+    fn run<R: Threads + Wait + Sync>(&mut self, rt: &R) -> Outcome
+        requires { JobRan A.size B.size self.old self.old [] }
+        ensures { EndsSo job (JobRan A.size B.size self.old self.new) result }
+    {
+        run_to_end!(self, JobWork, rt)
+    }
+
+    /// Performs an action of the process, and waits where the other side of a buffer isn't ready.
+    fn perform<R: Threads + Wait + Sync>(&mut self, action: Action, rt: &R) -> Reply
+        requires does { does_job action }
+        requires comes { (start : JobConnections A B)
+            × Comes job (JobRan A.size B.size start self.old) action }
+        ensures fits { Fits action result }
+        ensures performs { (start : JobConnections A B)
+            → Performs job (JobRan A.size B.size start self.old) (JobRan A.size B.size start self.new) action result }
+    {
+        match action {
+            Action::AwaitItem => match self.cards.await_item(self.cards_gate, rt) {
+                Ok(()) => Reply::Done,
+                Err(_) => Reply::Stopped,
+            },
+            Action::AwaitRoom => match self.pages.await_room(self.pages_gate, rt) {
+                Ok(()) => Reply::Done,
+                Err(_) => Reply::Stopped,
+            },
+            Action::Request => {
+                self.desk.request(rt);
+                Reply::Done
+            }
+            Action::TakePage => {
+                let mut page = Page::zeros();
+                match self
+                    .cards
+                    .take(self.cards_gate, self.desk.pass(), &mut page, rt)
+                {
+                    Fetched::Done { last } => Reply::Page { page, last },
+                    Fetched::Failed => Reply::Failed,
+                }
+            }
+            Action::PutPage(page) => {
+                match self.pages.put(self.pages_gate, self.desk.pass(), &page, rt) {
+                    Moved::Done => Reply::Done,
+                    Moved::Failed => Reply::Failed,
+                }
+            }
+            Action::Release => {
+                self.desk.release(rt);
+                Reply::Done
+            }
+            Action::Stop(2) => {
+                self.cards.stop(self.cards_gate, rt);
+                Reply::Done
+            }
+            Action::Stop(_) => {
+                self.pages.stop(self.pages_gate, rt);
+                Reply::Done
+            }
+            Action::Local | Action::Ended(_) => Reply::Done,
+            _ => unreachable!(),
+        }
+    }
+}
+
+impl<'a, A: Area + Send, B: Area + Send> JobEnds<'a, A, B> {
+    /// Runs the job process up to its end.
+    pub fn ran<R: Threads + Wait + Sync>(self, rt: &R) -> (JobEnds<'a, A, B>, Outcome)
+        requires { JobRan A.size B.size (job_connected self) (job_connected self) [] }
+        ensures { EndsSo job (JobRan A.size B.size (job_connected self.entry) (job_connected result.0)) result.1 }
+    {
+        let JobEnds {
+            cards_gate,
+            cards,
+            pages_gate,
+            pages,
+            disk,
+            seat,
+        } = self;
+        let mut connections = JobConnections {
+            cards_gate,
+            cards,
+            pages_gate,
+            pages,
+            desk: Desk::new(disk, seat),
+        };
+        let how = connections.run(rt);
+        let JobConnections {
+            cards_gate,
+            cards,
+            pages_gate,
+            pages,
+            desk,
+        } = connections;
+        let (disk, seat) = desk.into_parts();
+        let ends = JobEnds {
+            cards_gate,
+            cards,
+            pages_gate,
+            pages,
+            disk,
+            seat,
+        };
+        (ends, how)
+    }
+}
