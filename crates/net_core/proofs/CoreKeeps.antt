@@ -11,7 +11,7 @@ use Rattle.slot_buffer.specs.declared.answers.Put.TheVariants as put
 use Rattle.slot_buffer.specs.declared.answers.Take.{Take}
 use Rattle.slot_buffer.specs.declared.answers.Take.TheVariants as take
 use Rattle.slot_buffer.specs.Slot.{StandsFor, put_answer, after_put, sent_with, take_answer, after_take, taken_with, after_stop}
-use Rattle.slot_buffer.proofs.History.{put-stands, take-stands, stop-stands}
+use Rattle.slot_buffer.specs.History.{put-stands, take-stands, stop-stands}
 use Rattle.net_core.specs.Page.{Page}
 use Rattle.net_core.specs.Input as input
 use Rattle.net_core.specs.Job as job

@@ -5,7 +5,7 @@ pub mod OutputKeeps
 pub mod JobKeeps
 pub mod CoreKeeps
 pub mod Headline
-pub mod Completed
+pub use Rattle.deck_format.proofs.Completed
 mod InputSteps
 mod Packing
 mod StreamSteps

@@ -5,7 +5,7 @@ pub use Rattle.solo_devices.specs.PrinterUnit
 pub use Rattle.batch_job.specs.OneThread
 pub use Rattle.queue_var.specs.HandsOver
 pub mod Page
-pub mod Completed
+pub use Rattle.deck_format.specs.Completed
 pub mod Input
 pub mod Job
 pub mod Output

@@ -2,17 +2,16 @@
 #![tactic(auto)]
 
 mod fault;
-mod streams;
 
 use fault::Fault;
 use solo_base::NoMemory;
 use solo_cli::{Finished, top};
 use solo_devices::{BlankArea, SureSink, SureSource};
+use solo_edge::{ReaderSource, WriterSink};
 use std::env;
-use std::io::{self, BufWriter};
+use std::io::{self, BufWriter, ErrorKind};
 use std::process::ExitCode;
 use std::rt::Env;
-use streams::{ReaderSource, WriterSink};
 
 fn main(rt: HostRuntime) -> ExitCode {
     let ended = run(&rt).unwrap_or(Ended::without_memory());
@@ -44,7 +43,7 @@ impl Ended {
 
 /// Runs the command of the words over standard input and standard output.
 fn run(rt: &(impl Env + Input + Print + AllocGlobal)) -> Result<Ended, NoMemory> {
-    let Ok(words) = words(rt) else {
+    let Some(words) = words(rt)? else {
         return Ok(Ended::with(1, Fault::Usage));
     };
     let Ok(writer) = BufWriter::new(rt.alloc(), io::writer(rt)) else {
@@ -81,11 +80,16 @@ fn run(rt: &(impl Env + Input + Print + AllocGlobal)) -> Result<Ended, NoMemory>
     })
 }
 
-/// The words of the command line behind the program's name.
-fn words(rt: &(impl Env + AllocGlobal)) -> io::Result<Vec<String>> {
+/// The words of the command line behind the program's name, or `None` where they can't be read.
+fn words(rt: &(impl Env + AllocGlobal)) -> Result<Option<Vec<String>>, NoMemory> {
+    let args = match env::args(rt) {
+        Ok(args) => args,
+        Err(error) if error.kind() == ErrorKind::OutOfMemory => return Err(NoMemory),
+        Err(_) => return Ok(None),
+    };
     let mut words = Vec::new(rt.alloc());
-    for word in env::args(rt)?.skip(1) {
+    for word in args.skip(1) {
         words.push(word)?;
     }
-    Ok(words)
+    Ok(Some(words))
 }

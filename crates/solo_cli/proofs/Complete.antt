@@ -1,5 +1,5 @@
 -- What is left to say of the status where no count rose, and of a deck that is too long.
-use Rattle.std.proofs.Common.{◌≡◌, ◌≢◌, ◌⊎◌, ◌≤◌, ◌+◌, ℕ, List, length, Option, Some, None, IfSome, refl, ◌∙◌, ap, inl, inr, arith}
+use Rattle.std.proofs.Common.{◌≡◌, ◌≢◌, ◌⊎◌, ◌≤◌, ◌+◌, ℕ, List, [], length, Option, Some, None, IfSome, refl, ◌∙◌, ap, inl, inr, arith}
 use Rattle.solo_base.specs.declared.outcome.Cause.{Cause}
 use Rattle.solo_base.specs.declared.outcome.Cause.TheVariants.{Usage, ReadFault, PrintFault, DeckLimit}
 use Rattle.solo_devices.specs.CardUnit.{bytes_total, IsAllTaken}
@@ -26,3 +26,10 @@ taken_of taken before (Some rest) told bytes zero is total =
     let both : Some (taken + length rest) ≡ Some (before + length bytes) = total ∙ ap (bytes_total before) is in
     let same : taken + length rest ≡ before + length bytes = cc in
     (omega (arith, same, zero), λ all. (let none : length rest ≡ 0 = ap length (all rest refl) in omega (arith, same, none, zero)))
+
+-- a deck that told its bytes tells that none is left, where all were taken
+pub emptied : (taken before : ℕ) (left told : Option (List ℕ)) (bytes : List ℕ) → told ≡ Some bytes →
+    bytes_total taken left ≡ bytes_total before told → IsAllTaken left → left ≡ Some []
+emptied taken before None told bytes is total all =
+    absurd (let no : None ≡ Some (before + length bytes) = total ∙ ap (bytes_total before) is in cc)
+emptied taken before (Some rest) told bytes is total all = ap Some (all rest refl)

@@ -1,4 +1,4 @@
-ghost use Rattle.std.specs.Prelude.{◌≡◌, ◌≢◌, ◌↔◌, ◌⊎◌, ◌<◌, ◌≤◌, ℕ, List, None, Some, length, map, string_bytes, IfSome};
+ghost use Rattle.std.specs.Prelude.{◌≡◌, ◌≢◌, ◌↔◌, ◌⊎◌, ◌<◌, ◌≤◌, ℕ, List, [], None, Some, length, map, string_bytes, IfSome};
 ghost use Rattle.solo_base.specs.Text.{text};
 ghost use Rattle.solo_devices.specs.Count.{Rose, Stayed};
 ghost use Rattle.solo_devices.specs.CardUnit.{byte_limit, bytes_total, IsAllTaken};
@@ -46,10 +46,10 @@ pub fn top<S: Source, Y: Source, K: Sink, T: Sink, F: Area, I: Area, O: Area>(
     requires keys { Y.taken keys ≡ 0 }
 
     // The paper gains the one-thread output of the deck's jobs, or a prefix of it; at status 0 all of it,
-    // and nothing of the deck is left.
+    // and the deck still tells what it has left: nothing.
     ensures output { (bytes : List ℕ) → S.left deck ≡ Some bytes → form (map (λ word. string_bytes word) words.now) ≡ Some Command.Batch →
         Gains (K.given paper) (K.given result.paper) (text (one_thread_output bytes)) (result.status ≡ 0) }
-    ensures all_taken { result.status ≡ 0 → IsAllTaken (S.left result.deck) }
+    ensures emptied { (bytes : List ℕ) → S.left deck ≡ Some bytes → result.status ≡ 0 → S.left result.deck ≡ Some [] }
 
     // Of a deck that tells its bytes and is within the limit the whole work is done where no count rose, unless
     // memory was refused; of a longer one never.

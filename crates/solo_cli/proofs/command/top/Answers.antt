@@ -3,7 +3,7 @@ use Rattle.solo_base.specs.Text.{text}
 use Rattle.solo_base.specs.declared.outcome.Cause.TheVariants.{DeckLimit}
 use Rattle.solo_cli.specs.declared.words.Command.TheVariants.{Batch}
 use Rattle.batch_job.specs.OneThread.{one_thread_output}
-use Rattle.solo_cli.proofs.Complete.{ends_well, taken_of}
+use Rattle.solo_cli.proofs.Complete.{ends_well, taken_of, emptied}
 use Rattle.solo_cli.proofs.Statuses.{no_cause, gains_at_zero}
 use Rattle.solo_cli.proofs.command.top.Goals as goal
 
@@ -31,3 +31,9 @@ returns-clause-longer g c = λ bytes told long zero.
     let none : c.run_command-cause.result.0 ≡ None = no_cause c.run_command-cause.result.0 (sym c.status_of.ensures ∙ zero) in
     let all : _ = (taken_of (g.S.Source.taken c.run_command-cause.result.1) (g.S.Source.taken c.args.deck) (g.S.Source.left c.run_command-cause.result.1) (g.S.Source.left c.args.deck) bytes c.requires.deck told r.total).1 (r.all_taken none) in
     absurd (let no : None ≡ Some DeckLimit = sym none ∙ r.limit.1 (omega (arith, long, all)) in cc)
+
+pub returns-clause-emptied : goal.returns-clause-emptied
+returns-clause-emptied g c = λ bytes told zero.
+    let r : _ = c.run_command-cause.ensures in
+    let none : c.run_command-cause.result.0 ≡ None = no_cause c.run_command-cause.result.0 (sym c.status_of.ensures ∙ zero) in
+    emptied (g.S.Source.taken c.run_command-cause.result.1) (g.S.Source.taken c.args.deck) (g.S.Source.left c.run_command-cause.result.1) (g.S.Source.left c.args.deck) bytes told r.total (r.all_taken none)
