@@ -15,6 +15,7 @@ pub enum Trouble {
     Stop(usize),
     Failure(usize),
     Refusal(usize),
+    Unread(usize),
 }
 
 /// The text of an outcome.
@@ -165,6 +166,7 @@ fn trouble_at(trouble: Trouble, number: usize) -> Option<Reply> {
         Trouble::Stop(at) if at == number => Some(Reply::Stopped),
         Trouble::Failure(at) if at == number => Some(Reply::Failed),
         Trouble::Refusal(at) if at == number => Some(Reply::NoMemory),
+        Trouble::Unread(at) if at == number => Some(Reply::Card(CardRead::Failed)),
         _ => None,
     }
 }

@@ -19,6 +19,14 @@ fn the_card_process_puts_each_card_before_it_reads_the_next(rt: HostRuntime) -> 
             Trouble::Stop(3),
             b"ReadCard|PutFeed HELLO|ReadCard|PutFeed end|Stop 1|Ended Stopped|".as_slice(),
         ),
+        (
+            Trouble::Unread(0),
+            b"ReadCard|Stop 1|Ended ReadFault|".as_slice(),
+        ),
+        (
+            Trouble::Unread(2),
+            b"ReadCard|PutFeed HELLO|ReadCard|Stop 1|Ended ReadFault|".as_slice(),
+        ),
     ] {
         let text = actions::<CardWork>(rt.alloc(), &[b"HELLO"], trouble)?;
         assert_eq!(rt; text.as_slice(), want);
@@ -54,6 +62,10 @@ fn the_input_process_asks_for_the_disk_once_there_is_room(rt: HostRuntime) -> Re
         (
             Trouble::Stop(0),
             b"TakeFeed|Stop 1|Stop 2|Ended Stopped|".as_slice(),
+        ),
+        (
+            Trouble::Stop(1),
+            b"TakeFeed|TakeFeed|Stop 1|Stop 2|Ended Stopped|".as_slice(),
         ),
         (
             Trouble::Stop(2),
@@ -153,6 +165,10 @@ fn the_output_process_puts_the_lines_of_each_page(rt: HostRuntime) -> Result<(),
         (
             Trouble::Stop(4),
             b"AwaitItem|Request|TakePage|Release|PutFeed HELLO|Stop 3|Stop 4|Ended Stopped|".as_slice(),
+        ),
+        (
+            Trouble::Stop(5),
+            b"AwaitItem|Request|TakePage|Release|PutFeed HELLO|PutFeed end|Stop 3|Stop 4|Ended Stopped|".as_slice(),
         ),
     ] {
         let text = actions::<OutputWork>(rt.alloc(), &[b"HELLO"], trouble)?;
