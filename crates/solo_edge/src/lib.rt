@@ -3,11 +3,13 @@
 #![tactic(auto)]
 
 mod drive_area;
+mod drive_file;
 mod reader_source;
 mod retried;
 mod writer_sink;
 
 pub use drive_area::DriveArea;
+pub use drive_file::open_drive;
 pub use reader_source::ReaderSource;
 pub use writer_sink::WriterSink;
 

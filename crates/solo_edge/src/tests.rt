@@ -1,4 +1,4 @@
-use crate::{DriveArea, ReaderSource, WriterSink};
+use crate::{DriveArea, ReaderSource, WriterSink, open_drive};
 use solo_base::Page;
 use solo_devices::{Area, Gave, Moved, Sink, Source, Took};
 use std::fs::{self, File, OpenOptions};
@@ -64,6 +64,44 @@ fn a_read_past_the_end_of_the_drive_fails_and_is_counted(rt: HostRuntime) -> Res
     assert_eq!(rt; area.write(1, &page), Moved::Done);
     assert_eq!(rt; area.read(1, &mut page), Moved::Done);
     assert_eq!(rt; area.faults(), 1);
+    Ok(())
+}
+
+#[test]
+fn a_drive_file_that_is_not_there_is_made_of_zeros(rt: HostRuntime) -> Result<(), Fail> {
+    let path = "solo_edge_made";
+    let mut area = DriveArea::new(open_drive(&rt, path, 3), 0, 4);
+    assert_eq!(rt; fs::read(&rt, path)?.as_slice(), [0; 3 * 512].as_slice());
+    let mut page = Page([9; 512]);
+    assert_eq!(rt; area.read(2, &mut page), Moved::Done);
+    assert!(rt; page.0.iter().all(|byte| *byte == 0));
+    assert_eq!(rt; area.read(3, &mut page), Moved::Failed);
+    assert_eq!(rt; area.write(1, &Page([7; 512])), Moved::Done);
+    fs::remove_file(&rt, path)?;
+    Ok(())
+}
+
+#[test]
+fn a_drive_file_that_is_there_is_left_as_it_is(rt: HostRuntime) -> Result<(), Fail> {
+    let path = "solo_edge_kept";
+    fs::write(&rt, path, [5; 512].as_slice())?;
+    let mut area = DriveArea::new(open_drive(&rt, path, 3), 0, 3);
+    let mut page = Page([0; 512]);
+    assert_eq!(rt; area.read(0, &mut page), Moved::Done);
+    assert!(rt; page.0.iter().all(|byte| *byte == 5));
+    assert_eq!(rt; fs::read(&rt, path)?.len(), 512);
+    fs::remove_file(&rt, path)?;
+    Ok(())
+}
+
+#[test]
+fn a_directory_and_a_path_through_a_file_are_no_drive(rt: HostRuntime) -> Result<(), Fail> {
+    let path = "solo_edge_file";
+    fs::write(&rt, path, b"X".as_slice())?;
+    assert!(rt; open_drive(&rt, ".", 1).is_none());
+    assert!(rt; open_drive(&rt, "solo_edge_file/drive", 1).is_none());
+    assert!(rt; open_drive(&rt, "solo_edge_nowhere/drive", 1).is_none());
+    fs::remove_file(&rt, path)?;
     Ok(())
 }
 
