@@ -6,12 +6,21 @@ mod fault;
 use fault::Fault;
 use solo_base::NoMemory;
 use solo_cli::{Finished, top};
-use solo_devices::{BlankArea, SureSink, SureSource};
-use solo_edge::{ReaderSource, WriterSink};
+use solo_devices::{SureSink, SureSource};
+use solo_edge::{DriveArea, ReaderSource, WriterSink, open_drive};
 use std::env;
+use std::fs::Files;
 use std::io::{self, BufWriter, ErrorKind};
 use std::process::ExitCode;
 use std::rt::Env;
+
+/// The file that is the drive. It stands where the program runs.
+const DRIVE: &str = "solo.disk";
+
+/// The drive's pages of files, and behind them those of the input spool and those of the output spool.
+const FILE_PAGES: u16 = 4288;
+
+const SPOOL_PAGES: u16 = 256;
 
 fn main(rt: HostRuntime) -> ExitCode {
     let ended = run(&rt).unwrap_or(Ended::without_memory());
@@ -42,7 +51,7 @@ impl Ended {
 }
 
 /// Runs the command of the words over standard input and standard output.
-fn run(rt: &(impl Env + Input + Print + AllocGlobal)) -> Result<Ended, NoMemory> {
+fn run(rt: &(impl Env + Input + Print + Files + AllocGlobal)) -> Result<Ended, NoMemory> {
     let Some(words) = words(rt)? else {
         return Ok(Ended::with(1, Fault::Usage));
     };
@@ -66,9 +75,9 @@ fn run(rt: &(impl Env + Input + Print + AllocGlobal)) -> Result<Ended, NoMemory>
         SureSource::new(Vec::new(rt.alloc()), 1),
         WriterSink::new(writer),
         SureSink::new(rt.alloc()),
-        BlankArea::new(0),
-        BlankArea::new(0),
-        BlankArea::new(0),
+        area(rt, 0, FILE_PAGES),
+        area(rt, FILE_PAGES, SPOOL_PAGES),
+        area(rt, FILE_PAGES + SPOOL_PAGES, SPOOL_PAGES),
     );
     // What was printed so far goes out whatever the status, and the lowest status decides.
     if paper.flush().is_err() && (status == 0 || status > 4) {
@@ -78,6 +87,13 @@ fn run(rt: &(impl Env + Input + Print + AllocGlobal)) -> Result<Ended, NoMemory>
         status,
         fault: cause.map(Fault::of),
     })
+}
+
+/// The area of so many pages of the drive, from page `first` on. Each area has the file opened for itself, as a
+/// file has one position.
+fn area<R: Files>(rt: &R, first: u16, pages: u16) -> DriveArea<R::File> {
+    let drive = open_drive(rt, DRIVE, FILE_PAGES + 2 * SPOOL_PAGES);
+    DriveArea::new(drive, first, pages)
 }
 
 /// The words of the command line behind the program's name, or `None` where they can't be read.
