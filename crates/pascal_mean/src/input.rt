@@ -33,11 +33,7 @@ impl Input {
     pub fn of(alloc: Global, cards: &LineList) -> Result<Input, NoMemory>
         ensures { IfOk result (λ input. input ≡ text cards.now) }
     {
-        let mut text = Vec::new(alloc);
-        for place in 0..cards.len() {
-            text.extend_from_slice(cards.get(place).bytes())?;
-            text.push(b'\n')?;
-        }
+        let text = text_of(alloc, cards)?;
         Ok(Input { text, read: 0 })
     }
 
@@ -54,4 +50,16 @@ impl Input {
             None => END_OF_MEDIUM,
         }
     }
+}
+
+/// The characters of these cards, each card's followed by code 10.
+pub fn text_of(alloc: Global, cards: &LineList) -> Result<Vec<u8>, NoMemory>
+    ensures { IfOk result (λ all. all.items ≡ text cards.now) }
+{
+    let mut text = Vec::new(alloc);
+    for place in 0..cards.len() {
+        text.extend_from_slice(cards.get(place).bytes())?;
+        text.push(b'\n')?;
+    }
+    Ok(text)
 }

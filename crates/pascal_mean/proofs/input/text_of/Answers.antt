@@ -1,7 +1,7 @@
 use Rattle.std.proofs.Common.{◌≡◌, ◌+◌, [], ◌∷◌, ◌++◌, drop, ◌∙◌, ap}
 use Rattle.solo_base.specs.Text.{text}
 use Rattle.pascal_mean.proofs.CardsRead.{one_card_more}
-use Rattle.pascal_mean.proofs.input.Input.of.Goals as goal
+use Rattle.pascal_mean.proofs.input.text_of.Goals as goal
 
 pub loop-place-preserved : goal.loop-place-preserved
 loop-place-preserved c =
