@@ -17,3 +17,6 @@ pub mod ReportLines
 pub mod RoundTrip
 pub mod Together
 pub mod Reached
+pub mod DeskRoom
+pub mod Sleeping
+pub mod WorkFalls

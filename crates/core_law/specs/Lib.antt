@@ -2,3 +2,4 @@ pub mod Core
 pub mod Opening
 pub mod Ends
 pub mod Holds
+pub mod Work

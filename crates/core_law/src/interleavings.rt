@@ -1,8 +1,11 @@
-ghost use Rattle.std.specs.Prelude.{ℕ, List, Option};
+ghost use Rattle.std.specs.Prelude.{ℕ, ◌<◌, List, Option};
 ghost use Rattle.solo_base.specs.declared.item.Item.{Item};
-ghost use Rattle.core_law.specs.Core.{CoreState};
+ghost use Rattle.batch_procs.specs.Table.{process};
+ghost use Rattle.network_law.specs.Network.{IsEnabled, happens};
+ghost use Rattle.core_law.specs.Core.{core, CoreState, CoreEvent};
 ghost use Rattle.core_law.specs.Opening.{Spools, IsReached};
 ghost use Rattle.core_law.specs.Holds.{Holds, IsStuck};
+ghost use Rattle.core_law.specs.Work.{work_left, LeavesFewer};
 
 /// Whatever the order of the events, whichever calls of the devices fail and wherever memory is refused: in each
 /// state that can be reached the paper gained a prefix of the one-thread output, each buffer hands over in order,
@@ -19,4 +22,13 @@ pub fn every_interleaving()
 pub fn no_state_is_stuck()
     ensures { (spools : Spools) (deck : Option (List Item)) (paper : Option (List ℕ)) (s : CoreState) →
         IsReached spools deck paper s → IsStuck s → ⊥ }
+{}
+
+/// Each event leaves less to do, whatever the devices tell and whichever of them fails: so no run goes on for
+/// ever. Nothing is done here: the contract is the law.
+pub fn each_event_leaves_less()
+    ensures { (spools : Spools) (deck : Option (List Item)) (paper : Option (List ℕ)) (s : CoreState)
+        (event : CoreEvent) (before after : ℕ) → IsReached spools deck paper s
+        → IsEnabled (core process) s event → LeavesFewer event.entry before after
+        → work_left after (happens (core process) s event) < work_left before s }
 {}

@@ -4,4 +4,4 @@
 
 mod interleavings;
 
-pub use interleavings::{every_interleaving, no_state_is_stuck};
+pub use interleavings::{each_event_leaves_less, every_interleaving, no_state_is_stuck};

@@ -4,7 +4,6 @@ mod Performing
 mod Stepping
 mod Askers
 mod MayPerforming
-mod DeskRoom
 mod Entering
 mod Causing
 mod NetSteps
@@ -13,3 +12,5 @@ mod TurnTaken
 mod Finishing
 mod WhoGoes
 mod RunMore
+mod Picking
+mod Counted

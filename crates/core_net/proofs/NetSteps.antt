@@ -37,7 +37,7 @@ use Rattle.core_net.specs.Steps.{reply_of, MayStep, Steps}
 use Rattle.core_net.specs.Net.{Keeps, NetStands, MayStepIn, MayStepNet, StepsNet}
 use Rattle.core_net.proofs.Askers.{reads-deck, prints-paper}
 use Rattle.core_net.proofs.MayPerforming.{may-perform}
-use Rattle.core_net.proofs.DeskRoom.{desk-room}
+use Rattle.core_law.proofs.DeskRoom.{desk-room}
 use Rattle.core_net.proofs.Entering.{IsEvent, is-event}
 
 -- ---- what an entry without a cause tells
@@ -306,6 +306,7 @@ module _ {S K A B : Type 0} (keeps : Keeps) (tells : Tells S K A B) (counts : Co
         stands =
             card-stands m new action st.entry is.gained st.stands step st.action_is st.causes is.after;
         causes = st.causes;
+        deck = st.enters.deck;
       }
 
   pub at-input : (m : Machine InputWork) (new : Shared S K A B) (action : Action) (result : Stepped) → MayStepIn s 2 action
@@ -334,6 +335,7 @@ module _ {S K A B : Type 0} (keeps : Keeps) (tells : Tells S K A B) (counts : Co
         stands =
             input-stands m new action st.entry is.gained st.stands step st.action_is st.causes is.after;
         causes = st.causes;
+        deck = st.enters.deck;
       }
 
   pub at-job : (m : Machine JobWork) (new : Shared S K A B) (action : Action) (result : Stepped) → MayStepIn s 3 action
@@ -362,6 +364,7 @@ module _ {S K A B : Type 0} (keeps : Keeps) (tells : Tells S K A B) (counts : Co
         stands =
             job-stands m new action st.entry is.gained st.stands step st.action_is st.causes is.after;
         causes = st.causes;
+        deck = st.enters.deck;
       }
 
   pub at-output : (m : Machine OutputWork) (new : Shared S K A B) (action : Action) (result : Stepped) → MayStepIn s 4 action
@@ -390,6 +393,7 @@ module _ {S K A B : Type 0} (keeps : Keeps) (tells : Tells S K A B) (counts : Co
         stands =
             output-stands m new action st.entry is.gained st.stands step st.action_is st.causes is.after;
         causes = st.causes;
+        deck = st.enters.deck;
       }
 
   pub at-printer : (m : Machine PrinterWork) (new : Shared S K A B) (action : Action) (result : Stepped) → MayStepIn s 5 action
@@ -418,6 +422,7 @@ module _ {S K A B : Type 0} (keeps : Keeps) (tells : Tells S K A B) (counts : Co
         stands =
             printer-stands m new action st.entry is.gained st.stands step st.action_is st.causes is.after;
         causes = st.causes;
+        deck = st.enters.deck;
       }
 
 -- ---- by the number

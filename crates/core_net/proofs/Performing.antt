@@ -1,5 +1,5 @@
 -- What a call on one of the monitors or devices is to all that is shared.
-use Rattle.std.proofs.Common.{◌≡◌, ℕ, ◌==◌, Bool, true, false, List, [], ◌++◌, length, drop, Option, None, Some, refl, sym, ◌∙◌, ap, subst, option_map}
+use Rattle.std.proofs.Common.{◌≡◌, ◌<◌, ℕ, ◌==◌, Bool, true, false, List, [], ◌++◌, length, drop, Option, None, Some, refl, sym, ◌∙◌, ap, subst, option_map}
 use Rattle.std.proofs.lemmas.Bool.{eqb-true, eq-eqb}
 use Rattle.std.proofs.lemmas.List.{append-nil}
 use Rattle.solo_base.specs.declared.item.Feed.{Feed}
@@ -15,14 +15,15 @@ use Rattle.batch_procs.specs.declared.actions.Action.TheVariants as act
 use Rattle.batch_procs.specs.declared.actions.Reply.{Reply}
 use Rattle.batch_procs.specs.declared.actions.Reply.TheVariants as reply
 use Rattle.network_law.specs.Acts.{Visit, At}
-use Rattle.core_law.specs.Core.{Devices, Allows, given, read_off, call, went, CoreState}
+use Rattle.core_law.specs.Core.{Devices, Allows, given, items_by, read_off, call, went, CoreState}
+use Rattle.core_law.specs.Work.{LeavesFewer}
 use Rattle.core_net.specs.declared.shared.Shared.{Shared}
 use Rattle.core_net.specs.Calls.{entry_of, Visited}
 use Rattle.core_net.specs.Lines.{LineStands}
 use Rattle.core_net.specs.Spools.{SpoolStands}
 use Rattle.core_net.specs.Desks.{Asked, Given}
 use Rattle.core_net.specs.Devices.{ReadsCard, PrintsLine}
-use Rattle.core_net.specs.Shared.{Tells, Choice, AtNumbers, StopsAt, Performs}
+use Rattle.core_net.specs.Shared.{Tells, Choice, AtNumbers, StopsAt, Performs, cards_left}
 
 -- ---- numbers
 chosen : (t : Bool) (X Y : Type 0) → t ≡ true → Choice t X Y → X
@@ -95,6 +96,12 @@ silent (act.Print line) result is = absurd is
 silent action None is = record { allowed = λ devices. refl; none_read = refl }
 silent action (Some r) is = record { allowed = λ devices. refl; none_read = refl }
 
+-- no card of the deck is given
+pub none-fewer : (action : Action) (result : Option Reply) (cards : ℕ) → NoDevice action → LeavesFewer (entry_of action result) cards cards
+none-fewer act.ReadCard result cards is = absurd is
+none-fewer action None cards is = refl
+none-fewer action (Some r) cards is = refl
+
 module _ {S K A B : Type 0} (tells : Tells S K A B) (old : Shared S K A B) (p : ℕ) (action : Action) (result : Option Reply) where
   deck-stays : (s : CoreState) → IsSilent action result → s.devices.deck ≡ items_ahead (tells.left old.deck.source) old.deck.pending
       → (given s.devices (entry_of action result) []).deck ≡ items_ahead (tells.left old.deck.source) old.deck.pending
@@ -110,6 +117,7 @@ module _ {S K A B : Type 0} (tells : Tells S K A B) (old : Shared S K A B) (p : 
   at-cards new side visit quiet e v = record {
     suits = v.suits;
     gained = [];
+    deck = none-fewer action result _ quiet;
     fits = λ s st. rw e (v.fits (s.buffers 1) st.cards);
     allowed = λ s st. (silent action result quiet).allowed s.devices;
     after = λ s hs st. record {
@@ -128,6 +136,7 @@ module _ {S K A B : Type 0} (tells : Tells S K A B) (old : Shared S K A B) (p : 
   at-lines new side visit quiet e v = record {
     suits = v.suits;
     gained = [];
+    deck = none-fewer action result _ quiet;
     fits = λ s st. rw e (v.fits (s.buffers 4) st.lines);
     allowed = λ s st. (silent action result quiet).allowed s.devices;
     after = λ s hs st. record {
@@ -146,6 +155,7 @@ module _ {S K A B : Type 0} (tells : Tells S K A B) (old : Shared S K A B) (p : 
   at-input new side visit quiet e v = record {
     suits = v.suits;
     gained = [];
+    deck = none-fewer action result _ quiet;
     fits = λ s st. rw e (v.fits (s.buffers 2) st.input);
     allowed = λ s st. (silent action result quiet).allowed s.devices;
     after = λ s hs st. record {
@@ -164,6 +174,7 @@ module _ {S K A B : Type 0} (tells : Tells S K A B) (old : Shared S K A B) (p : 
   at-output new side visit quiet e v = record {
     suits = v.suits;
     gained = [];
+    deck = none-fewer action result _ quiet;
     fits = λ s st. rw e (v.fits (s.buffers 3) st.output);
     allowed = λ s st. (silent action result quiet).allowed s.devices;
     after = λ s hs st. record {
@@ -183,6 +194,7 @@ module _ {S K A B : Type 0} (tells : Tells S K A B) (old : Shared S K A B) (p : 
   at-request new result a = record {
     suits = a.suits;
     gained = [];
+    deck = none-fewer act.Request result _ tt;
     fits = λ s st. a.fits ∙ ap (λ (c : Claims). Rattle.network_law.specs.Desk.asked c.handed c.holder) (sym st.desk);
     allowed = λ s st. (silent act.Request result tt).allowed s.devices;
     after = λ s hs st. record {
@@ -200,6 +212,7 @@ module _ {S K A B : Type 0} (tells : Tells S K A B) (old : Shared S K A B) (p : 
   at-release new result a = record {
     suits = a.suits;
     gained = [];
+    deck = refl;
     fits = λ s st. a.fits;
     allowed = λ s st. refl;
     after = λ s hs st. record {
@@ -220,14 +233,16 @@ module _ {S K A B : Type 0} (tells : Tells S K A B) (old : Shared S K A B) (p : 
 
   pub at-deck : (new : Held S) (r : Reply)
       → ReadsCard (items_ahead (tells.left old.deck.source) old.deck.pending) (items_ahead (tells.left new.source) new.pending) r
+      → (0 < length (items_by r) → cards_left tells.taken new < cards_left tells.taken old.deck)
       → Performs tells old (record old { deck = new }) p act.ReadCard (Some r)
-  at-deck new r reads = record {
+  at-deck new r reads fewer = record {
     suits = reads.suits;
     gained = [];
+    deck = fewer;
     fits = λ s st. card-fits r reads.suits;
     allowed = λ s st. reads.allowed s.devices st.deck;
     after = λ s hs st. record {
-      deck = ap (option_map (drop (length (Rattle.core_law.specs.Core.items_by r)))) st.deck ∙ reads.after;
+      deck = ap (option_map (drop (length (items_by r)))) st.deck ∙ reads.after;
       paper = paper-stays tells old p act.ReadCard (Some r) s st.paper;
       cards = st.cards;
       input = st.input;
@@ -249,6 +264,7 @@ module _ {S K A B : Type 0} (tells : Tells S K A B) (old : Shared S K A B) (p : 
   at-paper new line r prints = record {
     suits = prints.suits;
     gained = prints.gained;
+    deck = refl;
     fits = λ s st. print-fits line r prints.suits;
     allowed = λ s st. prints.allowed s.devices;
     after = λ s hs st. record {
@@ -267,6 +283,7 @@ module _ {S K A B : Type 0} (tells : Tells S K A B) (old : Shared S K A B) (p : 
   at-local = record {
     suits = tt;
     gained = [];
+    deck = refl;
     fits = λ s st. refl;
     allowed = λ s st. refl;
     after = λ s hs st. record {
@@ -284,6 +301,7 @@ module _ {S K A B : Type 0} (tells : Tells S K A B) (old : Shared S K A B) (p : 
   at-end how = record {
     suits = tt;
     gained = [];
+    deck = refl;
     fits = λ s st. refl;
     allowed = λ s st. refl;
     after = λ s hs st. record {

@@ -1,5 +1,5 @@
 -- A turn leads from a reached state to a reached state.
-use Rattle.std.proofs.Common.{◌≡◌, ◌↔◌, ℕ, Bool, false, List, [], ◌∷◌, ◌++◌, Option, None, Some, refl, sym, ◌∙◌, ap, subst}
+use Rattle.std.proofs.Common.{◌≡◌, ◌↔◌, ℕ, Bool, false, List, [], ◌∷◌, ◌++◌, Option, None, Some, refl, sym, ◌∙◌, ap, subst, arith}
 use Rattle.std.specs.Prelude.{IsTrue}
 use Rattle.solo_base.specs.declared.item.Item.{Item}
 use Rattle.batch_procs.specs.declared.actions.Action.{Action}
@@ -10,10 +10,11 @@ use Rattle.batch_procs.proofs.Holding.{none-next}
 use Rattle.network_law.specs.Network.{AreEnabled, IsEnabled, run, happens}
 use Rattle.core_law.specs.Core.{core, CoreState, CoreEvent}
 use Rattle.core_law.specs.Opening.{Spools, opened, IsReached}
+use Rattle.core_law.proofs.WorkFalls.{work-falls}
 use Rattle.core_net.specs.declared.net.Net.{Net}
 use Rattle.core_net.specs.declared.step.Stepped.{Stepped}
 use Rattle.core_net.specs.Causes.{Counts}
-use Rattle.core_net.specs.Shared.{Tells}
+use Rattle.core_net.specs.Shared.{Tells, cards_left}
 use Rattle.core_net.specs.Net.{Keeps, NetStands, MayStepIn, MayStepNet, StepsNet, StandsReached, StandsSomewhere}
 
 pub one-more : (s : CoreState) (events : List CoreEvent) (event : CoreEvent) → AreEnabled (core process) s events
@@ -86,10 +87,12 @@ module _ {S K A B : Type 0} (keeps : Keeps) (tells : Tells S K A B) (counts : Co
   turned new result steps spools deck paper st =
       let step = step-in spools deck paper st in
       let goes = steps spools deck paper st.state step.0 st.reached st.stands step.1 in
+      let less = work-falls spools deck paper st.state goes.event (cards_left tells.taken old.shared.deck) (cards_left tells.taken new.shared.deck)
+      st.reached goes.enabled goes.deck in
+      let all = st.within in
       record {
-        state =
-            happens (core process) st.state goes.event;
-        reached =
-            reached-more spools deck paper st.state goes.event st.reached goes.enabled;
+        state = happens (core process) st.state goes.event;
+        reached = reached-more spools deck paper st.state goes.event st.reached goes.enabled;
         stands = goes.stands;
+        within = omega (arith, less, all);
       }

@@ -17,6 +17,16 @@ pub record Counts (S K A B : Type 0) : Type 0 where
   pub input_faults : A → ℕ
   pub output_faults : B → ℕ
 
+-- what these devices count
+abbrev pub counting : {S K A B : Type 0} → (S → ℕ) → (S → ℕ) → (K → ℕ) → (A → ℕ) → (B → ℕ) → Counts S K A B
+counting read_faults taken print_faults input_faults output_faults = record {
+  read_faults = read_faults;
+  taken = taken;
+  print_faults = print_faults;
+  input_faults = input_faults;
+  output_faults = output_faults;
+}
+
 -- a move of a page at the input spool: put by the input process, taken by the job process
 abbrev pub MovesInput : ℕ → Action → Type 0
 MovesInput p (act.PutPage page) = p ≡ 2

@@ -9,6 +9,8 @@ pub mod Causes
 pub mod Net
 pub mod Ended
 pub mod Going
+pub mod Rules
+pub mod Counting
 pub mod Runs
 pub mod Openings
 pub mod Turns

@@ -1,5 +1,5 @@
 -- The five machines over what they share, and the states of the core that they stand for.
-use Rattle.std.specs.Prelude.{◌≡◌, ℕ, Bool, true, List, Option, None, Some}
+use Rattle.std.specs.Prelude.{◌≡◌, ◌≤◌, ℕ, Bool, true, List, Option, None, Some}
 use Rattle.solo_base.specs.declared.item.Item.{Item}
 use Rattle.batch_procs.specs.declared.actions.Action.{Action}
 use Rattle.batch_procs.specs.declared.card_proc.CardWork.{CardWork}
@@ -7,6 +7,11 @@ use Rattle.batch_procs.specs.declared.input_proc.InputWork.{InputWork}
 use Rattle.batch_procs.specs.declared.job_proc.JobWork.{JobWork}
 use Rattle.batch_procs.specs.declared.output_proc.OutputWork.{OutputWork}
 use Rattle.batch_procs.specs.declared.printer_proc.PrinterWork.{PrinterWork}
+use Rattle.batch_procs.specs.contracts.card_proc.CardWorkWork.TheImpl as card_work
+use Rattle.batch_procs.specs.contracts.input_proc.InputWorkWork.TheImpl as input_work
+use Rattle.batch_procs.specs.contracts.job_proc.JobWorkWork.TheImpl as job_work
+use Rattle.batch_procs.specs.contracts.output_proc.OutputWorkWork.TheImpl as output_work
+use Rattle.batch_procs.specs.contracts.printer_proc.PrinterWorkWork.TheImpl as printer_work
 use Rattle.batch_procs.specs.Parcels.{Parcel}
 use Rattle.batch_procs.specs.History.{action_of}
 use Rattle.batch_procs.specs.Causes.{caused}
@@ -17,10 +22,11 @@ use Rattle.network_law.specs.Network.{IsEnabled, MayCall, happens}
 use Rattle.core_law.specs.Core.{call, core, CoreState, CoreEvent}
 use Rattle.core_law.specs.Ends.{IsProcess}
 use Rattle.core_law.specs.Opening.{Spools, IsReached}
+use Rattle.core_law.specs.Work.{work_left, LeavesFewer}
 use Rattle.core_net.specs.declared.net.Net.{Net}
 use Rattle.core_net.specs.declared.step.Stepped.{Stepped}
 use Rattle.core_net.specs.Causes.{Counts, HasCauses}
-use Rattle.core_net.specs.Shared.{Tells, SharedStands}
+use Rattle.core_net.specs.Shared.{Tells, SharedStands, cards_left}
 use Rattle.core_net.specs.Steps.{reply_of, stepped_by}
 
 -- what the work of each machine keeps of what was taken and put
@@ -30,6 +36,16 @@ pub record Keeps : Type 1 where
   pub job : JobWork → List Parcel → List Parcel → Bool → Type 0
   pub output : OutputWork → List Parcel → List Parcel → Bool → Type 0
   pub printer : PrinterWork → List Parcel → List Parcel → Bool → Type 0
+
+-- what the five works keep
+abbrev pub the_keeps : Keeps
+the_keeps = record {
+  card = card_work.keeps-value.it;
+  input = input_work.keeps-value.it;
+  job = job_work.keeps-value.it;
+  output = output_work.keeps-value.it;
+  printer = printer_work.keeps-value.it;
+}
 
 -- Each machine stands for the history of its process, and what is shared for the rest. A device may be used
 -- as long as its process has no cause to stop.
@@ -72,6 +88,12 @@ pub record StepsNet {S K A B : Type 0} (keeps : Keeps) (tells : Tells S K A B) (
   pub enabled : IsEnabled (core process) s event
   pub stands : NetStands keeps tells new (happens (core process) s event)
   pub causes : HasCauses counts old.shared new.shared p action (reply_of event.entry)
+  pub deck : LeavesFewer event.entry (cards_left tells.taken old.shared.deck)
+      (cards_left tells.taken new.shared.deck)
+
+-- no run from an opening has more events
+abbrev pub most_events : ℕ
+most_events = 1000000000000000
 
 -- The network stands for a state that is reached from this opening.
 pub record StandsReached {S K A B : Type 0} (keeps : Keeps) (tells : Tells S K A B) (net : Net S K A B)
@@ -79,6 +101,7 @@ pub record StandsReached {S K A B : Type 0} (keeps : Keeps) (tells : Tells S K A
   pub state : CoreState
   pub reached : IsReached spools deck paper state
   pub stands : NetStands keeps tells net state
+  pub within : work_left (cards_left tells.taken net.shared.deck) state ≤ most_events
 
 -- It stands for a state that is reached from some opening.
 pub record StandsSomewhere {S K A B : Type 0} (keeps : Keeps) (tells : Tells S K A B)

@@ -2,7 +2,7 @@
 use Rattle.std.specs.Prelude.{◌≡◌, ◌≢◌, ◌<◌, ◌==◌, ℕ, Bool, true, false, List, [], length, Option, None, IsSome}
 use Rattle.solo_base.specs.declared.outcome.Side.{Side}
 use Rattle.solo_base.specs.declared.outcome.Side.TheVariants.{Sender, Receiver}
-use Rattle.solo_devices.specs.CardUnit.{items_ahead}
+use Rattle.solo_devices.specs.CardUnit.{Held, items_ahead, work_ahead}
 use Rattle.queue_var.specs.Sides.{Sides, MayEnter, MayStop, has_stopped}
 use Rattle.resource_mon.specs.Claims.{MayRequest}
 use Rattle.disk_spool.specs.Spool.{Spool}
@@ -13,17 +13,35 @@ use Rattle.batch_procs.specs.Parcels.{is_last}
 use Rattle.batch_procs.specs.History.{Entry}
 use Rattle.network_law.specs.Network.{Fits, buffers_after, desk_after}
 use Rattle.core_law.specs.Core.{Allows, given, call, went, side_at, CoreState}
+use Rattle.core_law.specs.Work.{LeavesFewer}
 use Rattle.core_net.specs.declared.shared.Shared.{Shared}
 use Rattle.core_net.specs.Calls.{entry_of, ReplyFits}
 use Rattle.core_net.specs.Lines.{LineStands}
 use Rattle.core_net.specs.Spools.{SpoolStands}
 
--- what the devices tell: what is left of a source, what a sink was given, and the pages of the two areas
+-- what the devices tell: what is left of a source and how many bytes were taken of it, what a sink was given,
+-- and the pages of the two areas
 pub record Tells (S K A B : Type 0) : Type 0 where
   pub left : S → Option (List ℕ)
+  pub taken : S → ℕ
   pub given : K → Option (List ℕ)
   pub input_pages : A → Option (List (List ℕ))
   pub output_pages : B → Option (List (List ℕ))
+
+-- what these devices tell
+abbrev pub telling : {S K A B : Type 0} → (S → Option (List ℕ)) → (S → ℕ) → (K → Option (List ℕ))
+    → (A → Option (List (List ℕ))) → (B → Option (List (List ℕ))) → Tells S K A B
+telling left taken given input_pages output_pages = record {
+  left = left;
+  taken = taken;
+  given = given;
+  input_pages = input_pages;
+  output_pages = output_pages;
+}
+
+-- how many cards the deck may still give: no more than this number, which falls with each
+abbrev pub cards_left : {S : Type 0} → (S → ℕ) → Held S → ℕ
+cards_left taken deck = work_ahead (taken deck.source) deck.pending deck.ended
 
 pub record SharedStands {S K A B : Type 0} (tells : Tells S K A B) (shared : Shared S K A B)
     (s : CoreState) : Type 0 where
@@ -90,6 +108,8 @@ pub record Performs {S K A B : Type 0} (tells : Tells S K A B) (old new : Shared
     (action : Action) (result : Option Reply) : Type 0 where
   pub suits : ReplyFits action result
   pub gained : List ℕ
+  pub deck : LeavesFewer (entry_of action result) (cards_left tells.taken old.deck)
+      (cards_left tells.taken new.deck)
   pub fits : (s : CoreState) → SharedStands tells old s
       → Fits is_last s (call p action) (went (entry_of action result))
   pub allowed : (s : CoreState) → SharedStands tells old s → Allows s.devices (entry_of action result) gained

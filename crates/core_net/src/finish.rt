@@ -11,11 +11,12 @@ ghost use Rattle.core_law.specs.Core.{CoreState};
 ghost use Rattle.core_law.specs.Ends.{outcome_by};
 ghost use Rattle.core_law.specs.Holds.{one_thread_lines, AreTold};
 ghost use Rattle.core_law.specs.Opening.{Spools};
-ghost use Rattle.core_net.specs.Net.{NetStands, StandsReached};
+ghost use Rattle.core_net.specs.Net.{NetStands, StandsReached, the_keeps};
+ghost use Rattle.core_net.specs.Shared.{telling};
 ghost use Rattle.core_net.specs.Ended.{HaveEnded, EndsSo, EndTogether, FaultsAre, all_done};
 
 use crate::{Net, Shared};
-use batch_procs::{CardWork, InputWork, JobWork, Machine, OutputWork, PrinterWork, Work};
+use batch_procs::{Machine, Work};
 use solo_base::{Outcome, Side};
 use solo_devices::{Area, CardUnit, PrinterUnit, Sink, Source};
 
@@ -44,25 +45,13 @@ pub struct Ran<S: Source, K: Sink, A: Area, B: Area> {
 impl<S: Source, K: Sink, A: Area, B: Area> Net<S, K, A, B> {
     /// How the network ended, once all five processes have.
     pub fn finish(self) -> Ran<S, K, A, B>
-        requires ended { HaveEnded record {
-          card = ⟦<CardWork as Work>⟧.keeps;
-          input = ⟦<InputWork as Work>⟧.keeps;
-          job = ⟦<JobWork as Work>⟧.keeps;
-          output = ⟦<OutputWork as Work>⟧.keeps;
-          printer = ⟦<PrinterWork as Work>⟧.keeps;
-        }
-            record { left = S.left; given = K.given; input_pages = A.pages; output_pages = B.pages } self }
+        requires ended { HaveEnded the_keeps
+            (telling S.left S.taken K.given A.pages B.pages) self }
 
         // In every state that it stands for.
         ensures ends { (s : CoreState) →
-            NetStands record {
-              card = ⟦<CardWork as Work>⟧.keeps;
-              input = ⟦<InputWork as Work>⟧.keeps;
-              job = ⟦<JobWork as Work>⟧.keeps;
-              output = ⟦<OutputWork as Work>⟧.keeps;
-              printer = ⟦<PrinterWork as Work>⟧.keeps;
-            }
-            record { left = S.left; given = K.given; input_pages = A.pages; output_pages = B.pages } self s →
+            NetStands the_keeps
+            (telling S.left S.taken K.given A.pages B.pages) self s →
             EndsSo s result.outcomes result.stopped_by }
         ensures together { EndTogether result.outcomes result.stopped_by }
         ensures faults { FaultsAre result.outcomes }
@@ -70,25 +59,13 @@ impl<S: Source, K: Sink, A: Area, B: Area> Net<S, K, A, B> {
         // For each opening that it is reached from: the paper gained what one thread prints or a part of it,
         // all of it where all are done, and then nothing is left of the deck.
         ensures prints { (spools : Spools) (deck : Option (List Item)) (paper : Option (List ℕ)) →
-            StandsReached record {
-              card = ⟦<CardWork as Work>⟧.keeps;
-              input = ⟦<InputWork as Work>⟧.keeps;
-              job = ⟦<JobWork as Work>⟧.keeps;
-              output = ⟦<OutputWork as Work>⟧.keeps;
-              printer = ⟦<PrinterWork as Work>⟧.keeps;
-            }
-            record { left = S.left; given = K.given; input_pages = A.pages; output_pages = B.pages } self spools deck paper →
+            StandsReached the_keeps
+            (telling S.left S.taken K.given A.pages B.pages) self spools deck paper →
             AreTold spools → (items : List Item) → deck ≡ Some items → AreItems items →
             Gains paper (K.given result.paper.sink) (text (one_thread_lines items)) (result.outcomes ≡ all_done) }
         ensures reads { (spools : Spools) (deck : Option (List Item)) (paper : Option (List ℕ)) →
-            StandsReached record {
-              card = ⟦<CardWork as Work>⟧.keeps;
-              input = ⟦<InputWork as Work>⟧.keeps;
-              job = ⟦<JobWork as Work>⟧.keeps;
-              output = ⟦<OutputWork as Work>⟧.keeps;
-              printer = ⟦<PrinterWork as Work>⟧.keeps;
-            }
-            record { left = S.left; given = K.given; input_pages = A.pages; output_pages = B.pages } self spools deck paper →
+            StandsReached the_keeps
+            (telling S.left S.taken K.given A.pages B.pages) self spools deck paper →
             (items : List Item) → deck ≡ Some items → result.outcomes ≡ all_done →
             items_ahead (S.left result.deck.source) result.deck.pending ≡ Some [] }
         ensures units { (result.deck ≡ self.shared.deck) × (result.paper ≡ self.shared.paper) }

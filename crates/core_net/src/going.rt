@@ -5,10 +5,10 @@ ghost use Rattle.core_law.specs.Ends.{IsProcess};
 ghost use Rattle.core_law.specs.Opening.{Spools, IsReached};
 ghost use Rattle.core_net.specs.Ended.{AllEnded};
 ghost use Rattle.core_net.specs.Going.{MayGo, IsFirst};
-ghost use Rattle.core_net.specs.Net.{NetStands};
+ghost use Rattle.core_net.specs.Net.{NetStands, the_keeps};
+ghost use Rattle.core_net.specs.Shared.{telling};
 
 use crate::Net;
-use batch_procs::{CardWork, InputWork, JobWork, OutputWork, PrinterWork, Work};
 use solo_base::ProcNo;
 use solo_devices::{Area, Sink, Source};
 
@@ -18,14 +18,8 @@ impl<S: Source, K: Sink, A: Area, B: Area> Net<S, K, A, B> {
         requires one { IsProcess p }
         ensures { (spools : Spools) (deck : Option (List Item)) (paper : Option (List ℕ)) (s : CoreState) →
             IsReached spools deck paper s →
-            NetStands record {
-              card = ⟦<CardWork as Work>⟧.keeps;
-              input = ⟦<InputWork as Work>⟧.keeps;
-              job = ⟦<JobWork as Work>⟧.keeps;
-              output = ⟦<OutputWork as Work>⟧.keeps;
-              printer = ⟦<PrinterWork as Work>⟧.keeps;
-            }
-            record { left = S.left; given = K.given; input_pages = A.pages; output_pages = B.pages } self.now s →
+            NetStands the_keeps
+            (telling S.left S.taken K.given A.pages B.pages) self.now s →
             IsTrue result ↔ MayGo s p }
     {
         !self.has_ended(p) && self.enabled(p)
@@ -36,25 +30,13 @@ impl<S: Source, K: Sink, A: Area, B: Area> Net<S, K, A, B> {
     pub fn first_enabled(&self) -> Option<ProcNo>
         ensures first { (spools : Spools) (deck : Option (List Item)) (paper : Option (List ℕ)) (s : CoreState) →
             IsReached spools deck paper s →
-            NetStands record {
-              card = ⟦<CardWork as Work>⟧.keeps;
-              input = ⟦<InputWork as Work>⟧.keeps;
-              job = ⟦<JobWork as Work>⟧.keeps;
-              output = ⟦<OutputWork as Work>⟧.keeps;
-              printer = ⟦<PrinterWork as Work>⟧.keeps;
-            }
-            record { left = S.left; given = K.given; input_pages = A.pages; output_pages = B.pages } self.now s →
+            NetStands the_keeps
+            (telling S.left S.taken K.given A.pages B.pages) self.now s →
             IfSome result (λ p. IsFirst s p) }
         ensures ended { (spools : Spools) (deck : Option (List Item)) (paper : Option (List ℕ)) (s : CoreState) →
             IsReached spools deck paper s →
-            NetStands record {
-              card = ⟦<CardWork as Work>⟧.keeps;
-              input = ⟦<InputWork as Work>⟧.keeps;
-              job = ⟦<JobWork as Work>⟧.keeps;
-              output = ⟦<OutputWork as Work>⟧.keeps;
-              printer = ⟦<PrinterWork as Work>⟧.keeps;
-            }
-            record { left = S.left; given = K.given; input_pages = A.pages; output_pages = B.pages } self.now s →
+            NetStands the_keeps
+            (telling S.left S.taken K.given A.pages B.pages) self.now s →
             IsNone result ↔ AllEnded s }
     {
         'asking: for p in 1..=5 {

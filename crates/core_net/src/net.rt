@@ -9,15 +9,15 @@ ghost use Rattle.core_law.specs.Ends.{IsProcess};
 ghost use Rattle.core_law.specs.Opening.{Spools, opened, IsReached};
 ghost use Rattle.solo_devices.specs.CardUnit.{items_ahead};
 ghost use Rattle.core_net.specs.Openings.{spools_over};
-ghost use Rattle.core_net.specs.Net.{NetStands, MayStepIn, MayStepNet, StepsNet, StandsReached, StandsSomewhere};
+ghost use Rattle.core_net.specs.Causes.{counting};
+ghost use Rattle.core_law.specs.Work.{work_left};
+ghost use Rattle.core_net.specs.Shared.{cards_left, telling};
+ghost use Rattle.core_net.specs.Net.{most_events, the_keeps, NetStands, MayStepIn, MayStepNet, StepsNet, StandsReached, StandsSomewhere};
 
 use crate::step::step_machine;
 use crate::turns::may_step;
 use crate::{Shared, Stepped};
-use batch_procs::{
-    CardProc, CardWork, InputProc, InputWork, JobProc, JobWork, Machine, OutputProc, OutputWork,
-    PrinterProc, PrinterWork, Work,
-};
+use batch_procs::{CardProc, InputProc, JobProc, Machine, OutputProc, PrinterProc};
 use solo_base::ProcNo;
 use solo_devices::{Area, Sink, Source};
 
@@ -42,18 +42,14 @@ impl<S: Source, K: Sink, A: Area, B: Area> Net<S, K, A, B> {
         requires input_few { A.size input ≤ 256 }
         requires output_some { 0 < B.size output }
         requires output_few { B.size output ≤ 256 }
-        ensures stands { NetStands record {
-          card = ⟦<CardWork as Work>⟧.keeps;
-          input = ⟦<InputWork as Work>⟧.keeps;
-          job = ⟦<JobWork as Work>⟧.keeps;
-          output = ⟦<OutputWork as Work>⟧.keeps;
-          printer = ⟦<PrinterWork as Work>⟧.keeps;
-        }
-            record { left = S.left; given = K.given; input_pages = A.pages; output_pages = B.pages }
+        ensures stands { NetStands the_keeps
+            (telling S.left S.taken K.given A.pages B.pages)
             result
             (opened (spools_over (A.size input) (A.pages input) (B.size output) (B.pages output)) (items_ahead (S.left source) []) (K.given sink)) }
         ensures reached { IsReached (spools_over (A.size input) (A.pages input) (B.size output) (B.pages output)) (items_ahead (S.left source) []) (K.given sink)
             (opened (spools_over (A.size input) (A.pages input) (B.size output) (B.pages output)) (items_ahead (S.left source) []) (K.given sink)) }
+        ensures within { work_left (cards_left S.taken result.shared.deck)
+            (opened (spools_over (A.size input) (A.pages input) (B.size output) (B.pages output)) (items_ahead (S.left source) []) (K.given sink)) ≤ most_events }
     {
         Net {
             card: Machine::new(),
@@ -71,14 +67,8 @@ impl<S: Source, K: Sink, A: Area, B: Area> Net<S, K, A, B> {
         ensures turn { (spools : Spools) (deck : Option (List Item)) (paper : Option (List ℕ)) (s : CoreState) →
             (action : ActionOf) →
             IsReached spools deck paper s →
-            NetStands record {
-              card = ⟦<CardWork as Work>⟧.keeps;
-              input = ⟦<InputWork as Work>⟧.keeps;
-              job = ⟦<JobWork as Work>⟧.keeps;
-              output = ⟦<OutputWork as Work>⟧.keeps;
-              printer = ⟦<PrinterWork as Work>⟧.keeps;
-            }
-            record { left = S.left; given = K.given; input_pages = A.pages; output_pages = B.pages } self.now s →
+            NetStands the_keeps
+            (telling S.left S.taken K.given A.pages B.pages) self.now s →
             next_action (process p) (s.histories p) ≡ Some action →
             IsTrue result ↔ MayStepIn s p action }
     {
@@ -99,14 +89,8 @@ impl<S: Source, K: Sink, A: Area, B: Area> Net<S, K, A, B> {
     pub fn has_ended(&self, p: ProcNo) -> bool
         requires one { IsProcess p }
         ensures ended { (s : CoreState) →
-            NetStands record {
-              card = ⟦<CardWork as Work>⟧.keeps;
-              input = ⟦<InputWork as Work>⟧.keeps;
-              job = ⟦<JobWork as Work>⟧.keeps;
-              output = ⟦<OutputWork as Work>⟧.keeps;
-              printer = ⟦<PrinterWork as Work>⟧.keeps;
-            }
-            record { left = S.left; given = K.given; input_pages = A.pages; output_pages = B.pages } self.now s →
+            NetStands the_keeps
+            (telling S.left S.taken K.given A.pages B.pages) self.now s →
             IsTrue result ↔ HasEnded (s.histories p) }
     {
         if p == 1 {
@@ -125,31 +109,13 @@ impl<S: Source, K: Sink, A: Area, B: Area> Net<S, K, A, B> {
     /// Lets the next action of a process happen, where it is at its turn. None: it has ended, or is not at its turn.
     pub fn turn(&mut self, p: ProcNo) -> Option<Stepped>
         requires one { IsProcess p }
-        requires reached { StandsSomewhere record {
-          card = ⟦<CardWork as Work>⟧.keeps;
-          input = ⟦<InputWork as Work>⟧.keeps;
-          job = ⟦<JobWork as Work>⟧.keeps;
-          output = ⟦<OutputWork as Work>⟧.keeps;
-          printer = ⟦<PrinterWork as Work>⟧.keeps;
-        }
-            record { left = S.left; given = K.given; input_pages = A.pages; output_pages = B.pages } self.old }
+        requires reached { StandsSomewhere the_keeps
+            (telling S.left S.taken K.given A.pages B.pages) self.old }
         ensures reached { (spools : Spools) (deck : Option (List Item)) (paper : Option (List ℕ)) →
-            StandsReached record {
-              card = ⟦<CardWork as Work>⟧.keeps;
-              input = ⟦<InputWork as Work>⟧.keeps;
-              job = ⟦<JobWork as Work>⟧.keeps;
-              output = ⟦<OutputWork as Work>⟧.keeps;
-              printer = ⟦<PrinterWork as Work>⟧.keeps;
-            }
-            record { left = S.left; given = K.given; input_pages = A.pages; output_pages = B.pages } self.old spools deck paper →
-            StandsReached record {
-              card = ⟦<CardWork as Work>⟧.keeps;
-              input = ⟦<InputWork as Work>⟧.keeps;
-              job = ⟦<JobWork as Work>⟧.keeps;
-              output = ⟦<OutputWork as Work>⟧.keeps;
-              printer = ⟦<PrinterWork as Work>⟧.keeps;
-            }
-            record { left = S.left; given = K.given; input_pages = A.pages; output_pages = B.pages } self.new spools deck paper }
+            StandsReached the_keeps
+            (telling S.left S.taken K.given A.pages B.pages) self.old spools deck paper →
+            StandsReached the_keeps
+            (telling S.left S.taken K.given A.pages B.pages) self.new spools deck paper }
     {
         if self.has_ended(p) {
             return None;
@@ -163,41 +129,17 @@ impl<S: Source, K: Sink, A: Area, B: Area> Net<S, K, A, B> {
 
     /// Lets the next action of a process happen.
     pub fn step(&mut self, p: ProcNo) -> Stepped
-        requires may { MayStepNet record {
-          card = ⟦<CardWork as Work>⟧.keeps;
-          input = ⟦<InputWork as Work>⟧.keeps;
-          job = ⟦<JobWork as Work>⟧.keeps;
-          output = ⟦<OutputWork as Work>⟧.keeps;
-          printer = ⟦<PrinterWork as Work>⟧.keeps;
-        }
-            record { left = S.left; given = K.given; input_pages = A.pages; output_pages = B.pages } self.old p }
+        requires may { MayStepNet the_keeps
+            (telling S.left S.taken K.given A.pages B.pages) self.old p }
         ensures steps { (spools : Spools) (deck : Option (List Item)) (paper : Option (List ℕ)) (s : CoreState) →
             (action : ActionOf) →
             IsReached spools deck paper s →
-            NetStands record {
-              card = ⟦<CardWork as Work>⟧.keeps;
-              input = ⟦<InputWork as Work>⟧.keeps;
-              job = ⟦<JobWork as Work>⟧.keeps;
-              output = ⟦<OutputWork as Work>⟧.keeps;
-              printer = ⟦<PrinterWork as Work>⟧.keeps;
-            }
-            record { left = S.left; given = K.given; input_pages = A.pages; output_pages = B.pages } self.old s →
+            NetStands the_keeps
+            (telling S.left S.taken K.given A.pages B.pages) self.old s →
             MayStepIn s p action →
-            StepsNet record {
-              card = ⟦<CardWork as Work>⟧.keeps;
-              input = ⟦<InputWork as Work>⟧.keeps;
-              job = ⟦<JobWork as Work>⟧.keeps;
-              output = ⟦<OutputWork as Work>⟧.keeps;
-              printer = ⟦<PrinterWork as Work>⟧.keeps;
-            }
-            record { left = S.left; given = K.given; input_pages = A.pages; output_pages = B.pages }
-            record {
-              read_faults = S.faults;
-              taken = S.taken;
-              print_faults = K.faults;
-              input_faults = A.faults;
-              output_faults = B.faults;
-            }
+            StepsNet the_keeps
+            (telling S.left S.taken K.given A.pages B.pages)
+            (counting S.faults S.taken K.faults A.faults B.faults)
             self.old self.new s p action result }
     {
         if p == 1 {

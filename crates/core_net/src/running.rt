@@ -1,71 +1,101 @@
-ghost use Rattle.std.specs.Prelude.{◌≤◌, ◌<◌, ℕ, List, Option};
+ghost use Rattle.std.specs.Prelude.{◌≡◌, ◌≤◌, ◌<◌, ◌+◌, ◌^◌, ℕ, length, List, Option, IsNone, IfSome};
 ghost use Rattle.solo_base.specs.declared.item.Item.{Item};
 ghost use Rattle.core_law.specs.Core.{CoreState};
 ghost use Rattle.core_law.specs.Opening.{Spools, IsReached};
-ghost use Rattle.core_net.specs.Ended.{HaveEnded};
-ghost use Rattle.core_net.specs.Net.{NetStands, StandsSomewhere};
-ghost use Rattle.core_net.specs.Runs.{RunsLeast};
+ghost use Rattle.core_net.specs.declared.rules.Rule.TheVariants as rule;
+ghost use Rattle.core_net.specs.Causes.{counting};
+ghost use Rattle.core_net.specs.Counting.{counted_by};
+ghost use Rattle.core_net.specs.Ended.{AllEnded, HaveEnded};
+ghost use Rattle.core_net.specs.Going.{MayGo};
+ghost use Rattle.core_net.specs.Net.{MayStepNet, NetStands, StandsSomewhere, the_keeps};
+ghost use Rattle.core_net.specs.Rules.{behind};
+ghost use Rattle.core_net.specs.Runs.{AreGoing, IsPicked, RunsBy, TurnTaken};
+ghost use Rattle.core_net.specs.Shared.{telling};
 
-use crate::Net;
-use batch_procs::{CardWork, InputWork, JobWork, OutputWork, PrinterWork, Work};
+use crate::{Counts, Net, Rule};
+use solo_base::ProcNo;
 use solo_devices::{Area, Sink, Source};
 
 impl<S: Source, K: Sink, A: Area, B: Area> Net<S, K, A, B> {
-    /// Lets the process with the least number that may go on take its turn, over and over, until all have
-    /// ended or `most` turns were taken. Answers how many were.
-    pub fn run_least(&mut self, most: u64) -> u64
-        requires before { StandsSomewhere record {
-          card = ⟦<CardWork as Work>⟧.keeps;
-          input = ⟦<InputWork as Work>⟧.keeps;
-          job = ⟦<JobWork as Work>⟧.keeps;
-          output = ⟦<OutputWork as Work>⟧.keeps;
-          printer = ⟦<PrinterWork as Work>⟧.keeps;
-        }
-            record { left = S.left; given = K.given; input_pages = A.pages; output_pages = B.pages } self.old }
+    /// Lets the process that a rule picks take its turn, over and over, until all five have ended. Every run
+    /// comes to its end. Answers what it counted.
+    pub fn run(&mut self, rule: Rule) -> Counts
+        requires before { StandsSomewhere the_keeps (telling S.left S.taken K.given A.pages B.pages) self.old }
         ensures runs { (spools : Spools) (deck : Option (List Item)) (paper : Option (List ℕ)) (s : CoreState) →
             IsReached spools deck paper s →
-            NetStands record {
-              card = ⟦<CardWork as Work>⟧.keeps;
-              input = ⟦<InputWork as Work>⟧.keeps;
-              job = ⟦<JobWork as Work>⟧.keeps;
-              output = ⟦<OutputWork as Work>⟧.keeps;
-              printer = ⟦<PrinterWork as Work>⟧.keeps;
-            }
-            record { left = S.left; given = K.given; input_pages = A.pages; output_pages = B.pages } self.old s →
-            RunsLeast record {
-              card = ⟦<CardWork as Work>⟧.keeps;
-              input = ⟦<InputWork as Work>⟧.keeps;
-              job = ⟦<JobWork as Work>⟧.keeps;
-              output = ⟦<OutputWork as Work>⟧.keeps;
-              printer = ⟦<PrinterWork as Work>⟧.keeps;
-            }
-            record { left = S.left; given = K.given; input_pages = A.pages; output_pages = B.pages } self.new s result }
-        ensures within { result ≤ most }
-        ensures reached { StandsSomewhere record {
-          card = ⟦<CardWork as Work>⟧.keeps;
-          input = ⟦<InputWork as Work>⟧.keeps;
-          job = ⟦<JobWork as Work>⟧.keeps;
-          output = ⟦<OutputWork as Work>⟧.keeps;
-          printer = ⟦<PrinterWork as Work>⟧.keeps;
-        }
-            record { left = S.left; given = K.given; input_pages = A.pages; output_pages = B.pages } self.new }
-        ensures ended { result < most → HaveEnded record {
-          card = ⟦<CardWork as Work>⟧.keeps;
-          input = ⟦<InputWork as Work>⟧.keeps;
-          job = ⟦<JobWork as Work>⟧.keeps;
-          output = ⟦<OutputWork as Work>⟧.keeps;
-          printer = ⟦<PrinterWork as Work>⟧.keeps;
-        }
-            record { left = S.left; given = K.given; input_pages = A.pages; output_pages = B.pages } self.new }
+            NetStands the_keeps (telling S.left S.taken K.given A.pages B.pages) self.old s →
+            RunsBy the_keeps (telling S.left S.taken K.given A.pages B.pages) rule self.new s result }
+        ensures ended { HaveEnded the_keeps (telling S.left S.taken K.given A.pages B.pages) self.new }
     {
-        let mut turns = 0;
-        'running: while turns < most {
-            let Some(p) = self.first_enabled() else {
-                break;
-            };
-            self.step(p);
-            turns += 1;
+        let mut now = rule;
+        let mut counts = Counts::none();
+        'running: while let Some(p) = self.next_by(&mut now) {
+            self.take_turn(p, &mut counts);
         }
-        turns
+        counts
+    }
+
+    /// The run of the schedule of a number, to its end.
+    pub fn run_numbered(&mut self, number: u32) -> Counts
+        requires before { StandsSomewhere the_keeps (telling S.left S.taken K.given A.pages B.pages) self.old }
+        ensures runs { (spools : Spools) (deck : Option (List Item)) (paper : Option (List ℕ)) (s : CoreState) →
+            IsReached spools deck paper s →
+            NetStands the_keeps (telling S.left S.taken K.given A.pages B.pages) self.old s →
+            RunsBy the_keeps (telling S.left S.taken K.given A.pages B.pages) (rule.Numbered number) self.new s result }
+        ensures ended { HaveEnded the_keeps (telling S.left S.taken K.given A.pages B.pages) self.new }
+    {
+        self.run(Rule::Numbered { number })
+    }
+
+    /// Which of the five may go on, in order of their numbers.
+    fn going(&self) -> [bool; 5]
+        ensures five { length result ≡ 5 }
+        ensures going { (spools : Spools) (deck : Option (List Item)) (paper : Option (List ℕ)) (s : CoreState) →
+            IsReached spools deck paper s →
+            NetStands the_keeps (telling S.left S.taken K.given A.pages B.pages) self.now s → AreGoing s 1 result }
+    {
+        [
+            self.may_go(1),
+            self.may_go(2),
+            self.may_go(3),
+            self.may_go(4),
+            self.may_go(5),
+        ]
+    }
+
+    /// The process that a rule picks. None: all five have ended, since no network is stuck.
+    pub fn next_by(&self, rule: &mut Rule) -> Option<ProcNo>
+        ensures picks { (spools : Spools) (deck : Option (List Item)) (paper : Option (List ℕ)) (s : CoreState) →
+            IsReached spools deck paper s →
+            NetStands the_keeps (telling S.left S.taken K.given A.pages B.pages) self.now s →
+            IfSome result (λ p. IsPicked rule.old s p × MayGo s p) }
+        ensures goes_on { rule.new ≡ behind rule.old result }
+        ensures ended { (spools : Spools) (deck : Option (List Item)) (paper : Option (List ℕ)) (s : CoreState) →
+            IsReached spools deck paper s →
+            NetStands the_keeps (telling S.left S.taken K.given A.pages B.pages) self.now s →
+            IsNone result → AllEnded s }
+    {
+        let going = self.going();
+        rule.pick(&going)
+    }
+
+    /// Lets a process take its turn, and counts it.
+    fn take_turn(&mut self, p: ProcNo, counts: &mut Counts)
+        requires may { MayStepNet the_keeps (telling S.left S.taken K.given A.pages B.pages) self.old p }
+        requires few { counts.old.events + 1 < 2 ^ 64 }
+        requires delays { counts.old.delays ≤ counts.old.events }
+        requires grants { counts.old.grants ≤ counts.old.events }
+        ensures turn { (spools : Spools) (deck : Option (List Item)) (paper : Option (List ℕ)) (s : CoreState) →
+            IsReached spools deck paper s →
+            NetStands the_keeps (telling S.left S.taken K.given A.pages B.pages) self.old s → MayGo s p →
+            TurnTaken the_keeps (telling S.left S.taken K.given A.pages B.pages) self.old self.new s p counts.old counts.new }
+        ensures events { counts.new.events ≡ counts.old.events + 1 }
+        ensures delays { counts.new.delays ≤ counts.new.events }
+        ensures grants { counts.new.grants ≤ counts.new.events }
+    {
+        let before = self.shared.desk.holder();
+        let stepped = self.step(p);
+        let after = self.shared.desk.holder();
+        *counts = counts.with(stepped, before, after);
     }
 }

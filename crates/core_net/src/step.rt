@@ -3,6 +3,8 @@ ghost use Rattle.batch_procs.specs.declared.actions.Action.{Action as ActionOf};
 ghost use Rattle.batch_procs.specs.History.{Entry};
 ghost use Rattle.batch_procs.specs.Process.{next_action};
 ghost use Rattle.batch_procs.specs.Machine.{StandsFor};
+ghost use Rattle.core_net.specs.Causes.{counting};
+ghost use Rattle.core_net.specs.Shared.{telling};
 ghost use Rattle.core_net.specs.Steps.{MayStep, Steps};
 
 use crate::Shared;
@@ -30,14 +32,8 @@ pub fn step_machine<W: Work, S: Source, K: Sink, A: Area, B: Area>(
     requires may { MayStep W.process (StandsFor W.process W.keeps machine.old) shared.old p }
     ensures { (h : List Entry) (action : ActionOf) → StandsFor W.process W.keeps machine.old h →
         next_action W.process h ≡ Some action →
-        Steps (StandsFor W.process W.keeps machine.new) record {
-          left =
-              S.left;
-          given = K.given;
-          input_pages = A.pages;
-          output_pages = B.pages;
-        }
-        record { read_faults = S.faults; taken = S.taken; print_faults = K.faults; input_faults = A.faults; output_faults = B.faults } shared.old shared.new p action h result }
+        Steps (StandsFor W.process W.keeps machine.new) (telling S.left S.taken K.given A.pages B.pages)
+        (counting S.faults S.taken K.faults A.faults B.faults) shared.old shared.new p action h result }
 {
     let action = machine.next();
     match shared.perform(p, action) {

@@ -1,11 +1,10 @@
 // Whole runs over memory: whichever process goes first, the paper is the one-thread output.
 ghost use Rattle.std.specs.Prelude.{◌≡◌, ◌≤◌, ◌<◌, IfOk};
-ghost use Rattle.core_law.specs.Ends.{IsProcess};
-ghost use Rattle.core_net.specs.Net.{StandsSomewhere};
+ghost use Rattle.core_net.specs.Net.{StandsSomewhere, the_keeps};
+ghost use Rattle.core_net.specs.Shared.{telling};
 
-use crate::{Net, Ran, Shared};
-use batch_procs::{CardWork, InputWork, JobWork, OutputWork, PrinterWork, Work};
-use solo_base::{Outcome, ProcNo};
+use crate::{Counts, Net, Outcomes, Ran, Rule};
+use solo_base::Outcome;
 use solo_devices::{Area, MemSink, MemSource, Sink, Source, SureArea};
 use std::alloc::Global;
 use std::process::Abort;
@@ -13,206 +12,301 @@ use std::test::*;
 
 type Network = Net<MemSource, MemSink, SureArea, SureArea>;
 
-fn take_turn(net: &mut Network, p: ProcNo)
-    requires one { IsProcess p }
-    requires before { StandsSomewhere record {
-      card = ⟦<CardWork as Work>⟧.keeps;
-      input = ⟦<InputWork as Work>⟧.keeps;
-      job = ⟦<JobWork as Work>⟧.keeps;
-      output = ⟦<OutputWork as Work>⟧.keeps;
-      printer = ⟦<PrinterWork as Work>⟧.keeps;
-    }
-        record {
-          left = ⟦<MemSource as Source>⟧.left;
-          given = ⟦<MemSink as Sink>⟧.given;
-          input_pages = ⟦<SureArea as Area>⟧.pages;
-          output_pages = ⟦<SureArea as Area>⟧.pages;
-        } net.old }
-    ensures { StandsSomewhere record {
-      card = ⟦<CardWork as Work>⟧.keeps;
-      input = ⟦<InputWork as Work>⟧.keeps;
-      job = ⟦<JobWork as Work>⟧.keeps;
-      output = ⟦<OutputWork as Work>⟧.keeps;
-      printer = ⟦<PrinterWork as Work>⟧.keeps;
-    }
-        record {
-          left = ⟦<MemSource as Source>⟧.left;
-          given = ⟦<MemSink as Sink>⟧.given;
-          input_pages = ⟦<SureArea as Area>⟧.pages;
-          output_pages = ⟦<SureArea as Area>⟧.pages;
-        } net.new }
-{
-    let _ = net.turn(p);
-}
+const DONE: Outcomes = Outcomes {
+    card: Outcome::Done,
+    input: Outcome::Done,
+    job: Outcome::Done,
+    output: Outcome::Done,
+    printer: Outcome::Done,
+};
 
-// Lets each of the five take its turn, the first to the last or the last to the first.
-fn take_round(net: &mut Network, forwards: bool)
-    requires before { StandsSomewhere record {
-      card = ⟦<CardWork as Work>⟧.keeps;
-      input = ⟦<InputWork as Work>⟧.keeps;
-      job = ⟦<JobWork as Work>⟧.keeps;
-      output = ⟦<OutputWork as Work>⟧.keeps;
-      printer = ⟦<PrinterWork as Work>⟧.keeps;
-    }
-        record {
-          left = ⟦<MemSource as Source>⟧.left;
-          given = ⟦<MemSink as Sink>⟧.given;
-          input_pages = ⟦<SureArea as Area>⟧.pages;
-          output_pages = ⟦<SureArea as Area>⟧.pages;
-        } net.old }
-    ensures { StandsSomewhere record {
-      card = ⟦<CardWork as Work>⟧.keeps;
-      input = ⟦<InputWork as Work>⟧.keeps;
-      job = ⟦<JobWork as Work>⟧.keeps;
-      output = ⟦<OutputWork as Work>⟧.keeps;
-      printer = ⟦<PrinterWork as Work>⟧.keeps;
-    }
-        record {
-          left = ⟦<MemSource as Source>⟧.left;
-          given = ⟦<MemSink as Sink>⟧.given;
-          input_pages = ⟦<SureArea as Area>⟧.pages;
-          output_pages = ⟦<SureArea as Area>⟧.pages;
-        } net.new }
-{
-    if forwards {
-        take_turn(net, 1);
-        take_turn(net, 2);
-        take_turn(net, 3);
-        take_turn(net, 4);
-        take_turn(net, 5);
-    } else {
-        take_turn(net, 5);
-        take_turn(net, 4);
-        take_turn(net, 3);
-        take_turn(net, 2);
-        take_turn(net, 1);
-    }
-}
-
-// So many rounds.
-fn take_turns(net: &mut Network, rounds: u32, forwards: bool)
-    requires before { StandsSomewhere record {
-      card = ⟦<CardWork as Work>⟧.keeps;
-      input = ⟦<InputWork as Work>⟧.keeps;
-      job = ⟦<JobWork as Work>⟧.keeps;
-      output = ⟦<OutputWork as Work>⟧.keeps;
-      printer = ⟦<PrinterWork as Work>⟧.keeps;
-    }
-        record {
-          left = ⟦<MemSource as Source>⟧.left;
-          given = ⟦<MemSink as Sink>⟧.given;
-          input_pages = ⟦<SureArea as Area>⟧.pages;
-          output_pages = ⟦<SureArea as Area>⟧.pages;
-        } net.old }
-    ensures { StandsSomewhere record {
-      card = ⟦<CardWork as Work>⟧.keeps;
-      input = ⟦<InputWork as Work>⟧.keeps;
-      job = ⟦<JobWork as Work>⟧.keeps;
-      output = ⟦<OutputWork as Work>⟧.keeps;
-      printer = ⟦<PrinterWork as Work>⟧.keeps;
-    }
-        record {
-          left = ⟦<MemSource as Source>⟧.left;
-          given = ⟦<MemSink as Sink>⟧.given;
-          input_pages = ⟦<SureArea as Area>⟧.pages;
-          output_pages = ⟦<SureArea as Area>⟧.pages;
-        } net.new }
-{
-    if rounds == 0 {
-        return;
-    }
-    take_round(net, forwards);
-    take_turns(net, rounds - 1, forwards);
-}
-
-fn network(rt: &impl Abort, alloc: Global, deck: &str, pages: u16) -> Result<Network, Fail>
-    requires some { 0 < pages }
-    requires few { pages ≤ 256 }
-    ensures { IfOk result (λ net. StandsSomewhere record {
-      card = ⟦<CardWork as Work>⟧.keeps;
-      input = ⟦<InputWork as Work>⟧.keeps;
-      job = ⟦<JobWork as Work>⟧.keeps;
-      output = ⟦<OutputWork as Work>⟧.keeps;
-      printer = ⟦<PrinterWork as Work>⟧.keeps;
-    }
-        record {
-          left = ⟦<MemSource as Source>⟧.left;
-          given = ⟦<MemSink as Sink>⟧.given;
-          input_pages = ⟦<SureArea as Area>⟧.pages;
-          output_pages = ⟦<SureArea as Area>⟧.pages;
-        } net) }
+fn network(
+    rt: &impl Abort,
+    alloc: Global,
+    deck: &str,
+    input: u16,
+    output: u16,
+) -> Result<Network, Fail>
+    requires input_some { 0 < input }
+    requires input_few { input ≤ 256 }
+    requires output_some { 0 < output }
+    requires output_few { output ≤ 256 }
+    ensures { IfOk result (λ net. StandsSomewhere the_keeps
+        (telling
+        ⟦<MemSource as Source>⟧.left
+        ⟦<MemSource as Source>⟧.taken
+        ⟦<MemSink as Sink>⟧.given
+        ⟦<SureArea as Area>⟧.pages
+        ⟦<SureArea as Area>⟧.pages) net) }
 {
     let source = MemSource::new(deck.as_bytes().to_vec(alloc)?, 7, Vec::new(alloc));
-    let input = SureArea::new(alloc, pages).ok().expect(rt, "ample memory");
-    let output = SureArea::new(alloc, pages).ok().expect(rt, "ample memory");
+    let input = SureArea::new(alloc, input).ok().expect(rt, "ample memory");
+    let output = SureArea::new(alloc, output).ok().expect(rt, "ample memory");
     let paper = MemSink::new(alloc, Vec::new(alloc));
     Ok(Net::make(source, input, output, paper))
 }
 
-fn prints(
+// What a run counts; its paper is this one.
+fn counts(
     rt: &impl Abort,
     alloc: Global,
     deck: &str,
     paper: &str,
     pages: u16,
-    forwards: bool,
-) -> Result<(), Fail>
+    rule: Rule,
+) -> Result<Counts, Fail>
     requires some { 0 < pages }
     requires few { pages ≤ 256 }
 {
-    let mut net = network(rt, alloc, deck, pages)?;
-    take_turns(&mut net, 2000, forwards);
-    assert!(rt; net.has_ended(5));
-    let Net { shared, .. } = net;
-    let Shared { paper: unit, .. } = shared;
-    let sink = unit.into_inner();
-    assert_eq!(rt; sink.bytes(), paper.as_bytes());
-    Ok(())
-}
-
-#[test]
-fn a_listing_is_printed(rt: HostRuntime) -> Result<(), Fail> {
-    let deck = "#LIST A\nHELLO\n#END\n";
-    let paper = "JOB A\nHELLO\nA: LISTED 1 CARDS\n";
-    prints(&rt, rt.alloc(), deck, paper, 1, true)?;
-    prints(&rt, rt.alloc(), deck, paper, 1, false)?;
-    prints(&rt, rt.alloc(), deck, paper, 256, true)
-}
-
-// The turns that the least process takes, as the plain simulation counts its events.
-fn takes_least(
-    rt: &impl Abort,
-    alloc: Global,
-    deck: &str,
-    paper: &str,
-    turns: u64,
-) -> Result<(), Fail> {
-    let mut net = network(rt, alloc, deck, 256)?;
-    let taken = net.run_least(1000);
-    assert_eq!(rt; taken, turns);
-    assert!(rt; taken < 1000);
+    let mut net = network(rt, alloc, deck, pages, pages)?;
+    let counts = net.run(rule);
     let Ran {
         outcomes,
         paper: unit,
         ..
     } = net.finish();
-    assert_eq!(rt; outcomes.printer, Outcome::Done);
+    assert_eq!(rt; outcomes, DONE);
     let sink = unit.into_inner();
     assert_eq!(rt; sink.bytes(), paper.as_bytes());
+    Ok(counts)
+}
+
+const LISTING: &str = "#LIST A\nHELLO\n#END\n";
+
+const LISTED: &str = "JOB A\nHELLO\nA: LISTED 1 CARDS\n";
+
+fn counted(events: u64, delays: u64, grants: u64) -> Counts {
+    Counts {
+        events,
+        delays,
+        grants,
+    }
+}
+
+#[test]
+fn a_listing_is_printed(rt: HostRuntime) -> Result<(), Fail> {
+    let rules = [
+        (Rule::Least, counted(51, 6, 4)),
+        (Rule::Cyclic { last: 5 }, counted(54, 9, 4)),
+    ];
+    for (rule, wanted) in rules {
+        let alloc = rt.alloc();
+        assert_eq!(rt; counts(&rt, alloc, LISTING, LISTED, 256, rule)?, wanted);
+    }
     Ok(())
 }
 
 #[test]
-fn the_least_goes_first(rt: HostRuntime) -> Result<(), Fail> {
-    let deck = "#LIST A\nHELLO\n#END\n";
-    let paper = "JOB A\nHELLO\nA: LISTED 1 CARDS\n";
-    takes_least(&rt, rt.alloc(), deck, paper, 51)?;
-    let deck = "X\n\n#LIST A\n";
-    let paper = "1 CARDS SKIPPED\nJOB A\nA: LISTED 0 CARDS\n";
-    takes_least(&rt, rt.alloc(), deck, paper, 51)?;
-    let deck =
-        "#LIST TEA\nBLACK\n  GREEN\n#list milk\n#END\nBETWEEN TWO GROUPS\n#LIST SUGAR\nWHITE\n#NOTE\nBROWN\n#END\n";
-    let paper =
-        "JOB TEA\nBLACK\n  GREEN\nTEA: LISTED 2 CARDS\nJOB MILK\nMILK: LISTED 0 CARDS\n1 CARDS SKIPPED\nJOB SUGAR\nWHITE\nSUGAR: BAD CONTROL CARD 2\n";
-    takes_least(&rt, rt.alloc(), deck, paper, 111)
+fn schedules_tell_runs_apart(rt: HostRuntime) -> Result<(), Fail> {
+    let wanted = [
+        (0, 51, 6),
+        (1, 52, 7),
+        (2, 52, 7),
+        (3, 53, 8),
+        (4, 52, 7),
+        (5, 51, 6),
+        (6, 53, 8),
+        (7, 54, 9),
+        (8, 54, 9),
+        (9, 54, 9),
+    ];
+    for (number, events, delays) in wanted {
+        let rule = Rule::Numbered { number };
+        let counts = counts(&rt, rt.alloc(), LISTING, LISTED, 256, rule)?;
+        assert_eq!(rt; counts, counted(events, delays, 4), "{number}");
+    }
+    Ok(())
+}
+
+// A deck under a schedule, over spools of so many pages: what the plain simulation counts.
+fn agrees(
+    rt: &impl Abort,
+    alloc: Global,
+    deck: &str,
+    number: u32,
+    pages: (u16, u16),
+    wanted: Counts,
+) -> Result<(), Fail>
+    requires input_some { 0 < pages.0 }
+    requires input_few { pages.0 ≤ 256 }
+    requires output_some { 0 < pages.1 }
+    requires output_few { pages.1 ≤ 256 }
+{
+    let mut net = network(rt, alloc, deck, pages.0, pages.1)?;
+    let counts = net.run_numbered(number);
+    assert_eq!(rt; counts, wanted, "{number}");
+    assert_eq!(rt; net.finish().outcomes, DONE);
+    Ok(())
+}
+
+#[test]
+fn runs_agree_with_a_plain_simulation(rt: HostRuntime) -> Result<(), Fail> {
+    let alloc = rt.alloc();
+    agrees(
+        &rt,
+        alloc,
+        "\nXXXXXXXXXXXXXXXXXXXXXXXXXXXXXXXXXXXXXXXXXXXXXXXXXXXXXXXXXXXXXXXXXXXXXXXXXXXXXXXX\n#bad\n",
+        196844699,
+        (1, 2),
+        counted(46, 7, 4),
+    )?;
+    agrees(
+        &rt,
+        alloc,
+        "  PLAIN  \n  PLAIN  \nXXXXXXXXXXXXXXXXXXXXXXXXXXXXXXXXX\n",
+        1193222565,
+        (2, 1),
+        counted(47, 8, 4),
+    )?;
+    agrees(
+        &rt,
+        alloc,
+        "XXXXXX\n#JOB J\n#END\n\n#DATA\n#END\n\n\n",
+        1240372477,
+        (2, 2),
+        counted(75, 12, 4),
+    )?;
+    agrees(
+        &rt,
+        alloc,
+        "#LIST A\n#LIST A\n  PLAIN  \n",
+        501892721,
+        (256, 2),
+        counted(58, 7, 4),
+    )?;
+    agrees(
+        &rt,
+        alloc,
+        "#LIST BC\nXXXXXXXXXXXXXXXXXXXXXXXXXXXXXXXXXXXXXX\n#DATA\n",
+        1301709977,
+        (1, 1),
+        counted(50, 5, 4),
+    )?;
+    agrees(
+        &rt,
+        alloc,
+        "#JOB J\n#LIST BC\nXXXXXXXXXXXXXXXXXXXXXXXXXXXXXXXXXXXXXXXXXXXXXXXXXXXXXXXXX\n",
+        1318286290,
+        (1, 2),
+        counted(61, 10, 4),
+    )?;
+    agrees(
+        &rt,
+        alloc,
+        "YYYYYYYYYYYYYYYYYYYYYYYYYYYYYYYYYYYYYYYYYYYYYYYYYYYYYYYYYYYYYYYYYYYYYYYYYYYYYYYYY\n",
+        347712949,
+        (256, 256),
+        counted(38, 5, 4),
+    )?;
+    agrees(
+        &rt,
+        alloc,
+        "  PLAIN  \nXXXXXXXXXXXXXXXXXXXXXXXXXXXXXXXXXXXXXXX\n\n#DATA\nXXXXXXXXXXXXXXXXXXXXXXXXXXXXXXXXXXXXXXX\n#LIST A\n#LIST A\n\n",
+        1425724992,
+        (1, 1),
+        counted(82, 13, 4),
+    )?;
+    agrees(
+        &rt,
+        alloc,
+        "#JOB J\n#END\n#END\n",
+        1773264063,
+        (1, 1),
+        counted(52, 7, 4),
+    )?;
+    agrees(
+        &rt,
+        alloc,
+        "  PLAIN  \n",
+        1369597099,
+        (1, 2),
+        counted(39, 6, 4),
+    )?;
+    Ok(())
+}
+
+#[test]
+fn longer_runs_agree_with_a_plain_simulation(rt: HostRuntime) -> Result<(), Fail> {
+    let alloc = rt.alloc();
+    agrees(
+        &rt,
+        alloc,
+        "XXXXXXXXXXXXXXXXXXXXXXXXXXXXXXX\nXXXXXXXXXXXXXXXXXXXXXXXXXXXXXXX\n#END\n",
+        589833353,
+        (1, 2),
+        counted(45, 6, 4),
+    )?;
+    agrees(
+        &rt,
+        alloc,
+        "#LIST BC\n  PLAIN  \nXXXXXXXXXXXXXXXXXXXXXXXXXXXXXXXXXXXXXXXXXXXXXXXXXXX\n",
+        1351531223,
+        (1, 256),
+        counted(57, 9, 4),
+    )?;
+    agrees(
+        &rt,
+        alloc,
+        "XXXX\n#LIST list9\nXXXX\nXXXX\n\n#JOB J\n#LIST list9\nXXXX\n",
+        326801271,
+        (1, 256),
+        counted(96, 12, 4),
+    )?;
+    agrees(
+        &rt,
+        alloc,
+        "XXXXXXXXXXXXXXXXXXXXXXXXXXXXXXXXXXXXXXXX\n#bad\n#END\n#END\n#END\n#END\n#END\nXXXXXXXXXXXXXXXXXXXXXXXXXXXXXXXXXXXXXXXX\n",
+        1544862794,
+        (256, 256),
+        counted(62, 8, 4),
+    )?;
+    agrees(
+        &rt,
+        alloc,
+        "#LIST BC\n\n\n\n\n  PLAIN  \n#LIST BC\n\n",
+        1495538832,
+        (2, 2),
+        counted(99, 18, 4),
+    )?;
+    agrees(
+        &rt,
+        alloc,
+        "\nXXXXXXXXXXXXXXXXXXXXXXXXXXXXXXXXXXXXXXXXXXXXXXXX\n#JOB J\n",
+        1352774131,
+        (1, 2),
+        counted(52, 7, 4),
+    )?;
+    agrees(
+        &rt,
+        alloc,
+        "#LIST A\n  PLAIN  \nYYYYYYYYYYYYYYYYYYYYYYYYYYYYYYYYYYYYYYYYYYYYYYYYYYYYYYYYYYYYYYYYYYYYYYYYYYYYYYYYY\nXX\n#END\nXX\nXX\n#LIST A\n\n#END\n#LIST A\n\nXX\nXX\n#LIST A\nXX\n\n#END\nXX\n#LIST A\nXX\n#LIST A\n#LIST A\nXX\nXX\nXX\n#JOB J\n\n#LIST A\n#END\n#bad\n#LIST A\n#LIST A\n#END\nXX\nXX\nXX\nXX\n#LIST A\n#JOB J\n#END\n#END\nXX\n#LIST A\n#LIST A\nXX\n#END\n#END\nXX\nXX\nXX\n#DATA\n\nXX\n#JOB J\nXX\n#JOB J\nYYYYYYYYYYYYYYYYYYYYYYYYYYYYYYYYYYYYYYYYYYYYYYYYYYYYYYYYYYYYYYYYYYYYYYYYYYYYYYYYY\n#JOB J\nXX\n",
+        1148854960,
+        (256, 256),
+        counted(464, 86, 6),
+    )?;
+    agrees(
+        &rt,
+        alloc,
+        "XXXXXXXXXXXXXXXXXXXXXXXXXXXXXXXXXXXXXXXXX\nXXXXXXXXXXXXXXXXXXXXXXXXXXXXXXXXXXXXXXXXX\nXXXXXXXXXXXXXXXXXXXXXXXXXXXXXXXXXXXXXXXXX\nXXXXXXXXXXXXXXXXXXXXXXXXXXXXXXXXXXXXXXXXX\n#LIST list9\n#JOB J\n  PLAIN  \nXXXXXXXXXXXXXXXXXXXXXXXXXXXXXXXXXXXXXXXXX\nXXXXXXXXXXXXXXXXXXXXXXXXXXXXXXXXXXXXXXXXX\n  PLAIN  \n#LIST list9\n#LIST list9\n#LIST list9\n#JOB J\n#DATA\nXXXXXXXXXXXXXXXXXXXXXXXXXXXXXXXXXXXXXXXXX\nXXXXXXXXXXXXXXXXXXXXXXXXXXXXXXXXXXXXXXXXX\n#LIST list9\nXXXXXXXXXXXXXXXXXXXXXXXXXXXXXXXXXXXXXXXXX\nXXXXXXXXXXXXXXXXXXXXXXXXXXXXXXXXXXXXXXXXX\n",
+        1672467304,
+        (2, 1),
+        counted(177, 30, 6),
+    )?;
+    agrees(
+        &rt,
+        alloc,
+        "  PLAIN  \n#END\n#LIST A\n#LIST A\nXXXXXXXXXXXXXXXXXXXXXXXXXXXXXXXXXXXXXXXXXXXX\n#JOB J\n#LIST A\nXXXXXXXXXXXXXXXXXXXXXXXXXXXXXXXXXXXXXXXXXXXX\nXXXXXXXXXXXXXXXXXXXXXXXXXXXXXXXXXXXXXXXXXXXX\nXXXXXXXXXXXXXXXXXXXXXXXXXXXXXXXXXXXXXXXXXXXX\n#END\nXXXXXXXXXXXXXXXXXXXXXXXXXXXXXXXXXXXXXXXXXXXX\n#LIST A\n  PLAIN  \n#END\nXXXXXXXXXXXXXXXXXXXXXXXXXXXXXXXXXXXXXXXXXXXX\nXXXXXXXXXXXXXXXXXXXXXXXXXXXXXXXXXXXXXXXXXXXX\nXXXXXXXXXXXXXXXXXXXXXXXXXXXXXXXXXXXXXXXXXXXX\nXXXXXXXXXXXXXXXXXXXXXXXXXXXXXXXXXXXXXXXXXXXX\nXXXXXXXXXXXXXXXXXXXXXXXXXXXXXXXXXXXXXXXXXXXX\n",
+        1509437510,
+        (1, 2),
+        counted(181, 31, 6),
+    )?;
+    agrees(
+        &rt,
+        alloc,
+        "#JOB J\n#END\nXXXXXXXXXXXXXXXXXXXXXXXXXXXXXXXXXXXXXXX\nXXXXXXXXXXXXXXXXXXXXXXXXXXXXXXXXXXXXXXX\nXXXXXXXXXXXXXXXXXXXXXXXXXXXXXXXXXXXXXXX\nXXXXXXXXXXXXXXXXXXXXXXXXXXXXXXXXXXXXXXX\n#LIST list9\n#LIST list9\n#END\nXXXXXXXXXXXXXXXXXXXXXXXXXXXXXXXXXXXXXXX\nXXXXXXXXXXXXXXXXXXXXXXXXXXXXXXXXXXXXXXX\nXXXXXXXXXXXXXXXXXXXXXXXXXXXXXXXXXXXXXXX\nXXXXXXXXXXXXXXXXXXXXXXXXXXXXXXXXXXXXXXX\nXXXXXXXXXXXXXXXXXXXXXXXXXXXXXXXXXXXXXXX\n\n#DATA\nXXXXXXXXXXXXXXXXXXXXXXXXXXXXXXXXXXXXXXX\n#END\nXXXXXXXXXXXXXXXXXXXXXXXXXXXXXXXXXXXXXXX\nXXXXXXXXXXXXXXXXXXXXXXXXXXXXXXXXXXXXXXX\n",
+        1475216845,
+        (256, 2),
+        counted(145, 25, 6),
+    )?;
+    Ok(())
 }

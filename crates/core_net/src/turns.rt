@@ -7,7 +7,7 @@ ghost use Rattle.batch_procs.specs.Process.{next_action};
 ghost use Rattle.queue_var.specs.Sides.{MayEnter, MayStop};
 ghost use Rattle.network_law.specs.Network.{MayCall};
 ghost use Rattle.core_law.specs.Core.{call, upstream, CoreState, IsBuffer};
-ghost use Rattle.core_net.specs.Shared.{SharedStands};
+ghost use Rattle.core_net.specs.Shared.{SharedStands, telling};
 ghost use Rattle.core_net.specs.Turns.{HasPlace};
 
 use crate::Shared;
@@ -20,7 +20,7 @@ impl<S: Source, K: Sink, A: Area, B: Area> Shared<S, K, A, B> {
     /// Whether a process may enter a buffer by a side.
     fn may_enter(&self, b: BufferNo, side: Side, p: ProcNo) -> bool
         ensures { (s : CoreState) →
-            SharedStands record { left = S.left; given = K.given; input_pages = A.pages; output_pages = B.pages } self.now s →
+            SharedStands (telling S.left S.taken K.given A.pages B.pages) self.now s →
             IsBuffer b → IsTrue result ↔ MayEnter (s.buffers b).sides side p }
     {
         if b == 1 {
@@ -37,7 +37,7 @@ impl<S: Source, K: Sink, A: Area, B: Area> Shared<S, K, A, B> {
     /// Whether a side of a buffer may move a page or stop.
     fn may_stop(&self, b: BufferNo, side: Side) -> bool
         ensures { (s : CoreState) →
-            SharedStands record { left = S.left; given = K.given; input_pages = A.pages; output_pages = B.pages } self.now s →
+            SharedStands (telling S.left S.taken K.given A.pages B.pages) self.now s →
             IsBuffer b → IsTrue result ↔ MayStop (s.buffers b).sides side }
     {
         if b == 1 {
@@ -54,7 +54,7 @@ impl<S: Source, K: Sink, A: Area, B: Area> Shared<S, K, A, B> {
     /// Whether the monitors let a process make its call now.
     pub fn may_call(&self, p: ProcNo, action: &Action) -> bool
         ensures { (s : CoreState) →
-            SharedStands record { left = S.left; given = K.given; input_pages = A.pages; output_pages = B.pages } self.now s →
+            SharedStands (telling S.left S.taken K.given A.pages B.pages) self.now s →
             HasPlace s p action.now → IsTrue result ↔ MayCall s p (call p action.now) }
     {
         match action {
@@ -85,7 +85,7 @@ pub fn may_step<W: Work, S: Source, K: Sink, A: Area, B: Area>(
 ) -> bool
     ensures { (h : List Entry) (action : ActionOf) (s : CoreState) → StandsFor W.process W.keeps machine.now h →
         next_action W.process h ≡ Some action →
-        SharedStands record { left = S.left; given = K.given; input_pages = A.pages; output_pages = B.pages } shared.now s →
+        SharedStands (telling S.left S.taken K.given A.pages B.pages) shared.now s →
         HasPlace s p action → IsTrue result ↔ MayCall s p (call p action) }
 {
     let action = machine.next();

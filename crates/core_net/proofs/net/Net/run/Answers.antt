@@ -1,0 +1,54 @@
+use Rattle.std.proofs.Common.{arith, ap, subst, sym, refl}
+use Rattle.core_net.specs.declared.counts.Counts.{Counts}
+use Rattle.core_net.specs.Runs.{HasLeft}
+use Rattle.core_net.proofs.RunMore.{no-turn, none-left, may-picked, left-more, few-events, runs-more, have-ended}
+use Rattle.core_net.proofs.net.Net.run.Goals as goal
+
+pub running-init : goal.running-init
+running-init g c =
+    let events = ap (λ (n : Counts). n.events) c.none-counts.ensures in
+    let delays = ap (λ (n : Counts). n.delays) c.none-counts.ensures in
+    let grants = ap (λ (n : Counts). n.grants) c.none-counts.ensures in (
+      λ spools deck paper s reached stands. no-turn _ _ c.args.rule c.args.self.now s c.none-counts.result c.none-counts.ensures stands,
+      none-left _ _ c.args.self.now c.requires.before c.none-counts.result.events events,
+      omega (arith, events, delays),
+      omega (arith, events, grants),
+    )
+
+pub take_turn-requires-clause-may : goal.take_turn-requires-clause-may
+take_turn-requires-clause-may g c =
+    may-picked _ _ c.running.self c.in-Some.p c.running.counts.events c.running.invariant.1
+    (λ spools deck paper s reached stands. (c.in-Some.ensures.picks spools deck paper s reached stands).1)
+
+pub running-smaller : goal.running-smaller
+running-smaller g c =
+    let has = c.running.invariant.1 in
+    let may = (c.in-Some.ensures.picks has.spools has.deck has.paper has.is.state has.is.reached has.is.stands).1 in
+    let few = few-events _ _ c.running.self c.take_turn.new.self c.in-Some.p c.running.counts.events c.running.counts c.take_turn.new.counts has
+    (c.take_turn.ensures.turn has.spools has.deck has.paper has.is.state has.is.reached has.is.stands may) in
+    let more = c.take_turn.ensures.events in
+    omega (arith, few, more)
+
+pub running-preserved : goal.running-preserved
+running-preserved g c =
+    let has = c.running.invariant.1 in
+    let may = (c.in-Some.ensures.picks has.spools has.deck has.paper has.is.state has.is.reached has.is.stands).1 in (
+      λ spools deck paper s reached stands.
+          runs-more _ _ c.args.rule c.running.now c.next_by.new.rule c.running.self c.take_turn.new.self c.in-Some.p c.running.counts c.take_turn.new.counts
+          spools deck paper s reached (λ s reached stands. c.in-Some.ensures.picks spools deck paper s reached stands)
+          (λ s reached stands may. c.take_turn.ensures.turn spools deck paper s reached stands may) c.in-Some.ensures.goes_on
+          (c.running.invariant.0 spools deck paper s reached stands),
+      subst (HasLeft _ _ c.take_turn.new.self) (sym c.take_turn.ensures.events)
+          (left-more _ _ c.running.self c.take_turn.new.self c.in-Some.p c.running.counts.events c.running.counts c.take_turn.new.counts has
+          (c.take_turn.ensures.turn has.spools has.deck has.paper has.is.state has.is.reached has.is.stands may)),
+      c.take_turn.ensures.delays,
+      c.take_turn.ensures.grants,
+    )
+
+pub returns-clause-runs : goal.returns-clause-runs
+returns-clause-runs g c = λ spools deck paper s reached stands. (c.running.invariant.0 spools deck paper s reached stands).ran
+
+pub returns-clause-ended : goal.returns-clause-ended
+returns-clause-ended g c =
+    have-ended _ _ c.running.self c.running.counts.events c.running.invariant.1
+    (λ spools deck paper s reached stands. c.in_default.ensures.ended spools deck paper s reached stands refl)

@@ -1,0 +1,21 @@
+use Rattle.std.specs.Prelude.{◌≤◌, ◌-◌, ℕ, List, Option}
+use Rattle.solo_base.specs.declared.item.Item.{Item}
+use Rattle.core_law.specs.Core.{CoreState}
+use Rattle.core_law.specs.Opening.{Spools, IsReached}
+use Rattle.core_net.specs.Net.{NetStands, the_keeps, most_events}
+use Rattle.core_net.specs.Runs.{HasLeft}
+use Rattle.core_net.specs.Shared.{telling}
+use Rattle.core_net.proofs.RunMore.{RunsSoFar}
+use Rattle.core_net.proofs.net.Net.run.Given as goal
+
+-- It is a run by the rule so far, and what is left of it has a bound.
+abbrev pub invariant-running : goal.invariant-running
+invariant-running g l =
+    ((spools : Spools) (deck : Option (List Item)) (paper : Option (List ℕ)) (s : CoreState) → IsReached spools deck paper s
+    → NetStands the_keeps (telling g.S.Source.left g.S.Source.taken g.K.Sink.given g.A.Area.pages g.B.Area.pages) l.fn.self s
+    → RunsSoFar the_keeps (telling g.S.Source.left g.S.Source.taken g.K.Sink.given g.A.Area.pages g.B.Area.pages) l.fn.rule l.now l.self s l.counts)
+    × HasLeft the_keeps (telling g.S.Source.left g.S.Source.taken g.K.Sink.given g.A.Area.pages g.B.Area.pages) l.self l.counts.events
+    × (l.counts.delays ≤ l.counts.events) × (l.counts.grants ≤ l.counts.events)
+
+abbrev pub decreases-running : goal.decreases-running
+decreases-running g l = most_events - l.counts.events
