@@ -40,6 +40,7 @@ module _ {A : Type 0} (told_by : A → Option (List (List ℕ))) (faults : A →
         stopped = who-stopped _ _ state.sides by tied.sides first;
         nothing_left = λ told. count ∙ ap length (tied.nothing_left told);
         of_area = tied.area;
+        tells = tied.tells;
       }
 
   pub meets : (pass other into : PassView (Spool A) (SpoolCall (Snapshot Page))) (state : Spool A) (left : ℕ) (by : Option Side) → into ≡ joined pass other → pass.view.number ≡ 1 → other.view.number ≡ 2 → pass.view.joined ≡ []

@@ -1,5 +1,5 @@
 -- The calls of a running spool, and what they have to do with its state.
-use Rattle.std.specs.Prelude.{◌≡◌, ◌≢◌, ℕ, ◌<◌, ◌≤◌, Bool, true, false, Option, List, [], ◌∷◌, ◌++◌, length}
+use Rattle.std.specs.Prelude.{◌≡◌, ◌≢◌, ℕ, ◌<◌, ◌≤◌, Bool, true, false, Option, IsSome, List, [], ◌∷◌, ◌++◌, length}
 use Rattle.std.specs.List.{flat_map, list_any}
 use Rattle.std.specs.declared.snapshot.Snapshot.{Snapshot}
 use Rattle.solo_base.specs.declared.outcome.Side.{Side}
@@ -94,6 +94,10 @@ pub record IsTiedToArea {A : Type 0} (faults : A → ℕ) (opening now : A) (cal
   pub failed : (side : Side) → has_failure (calls side) ≡ true → Rose (faults opening) (faults now)
   pub untouched : ((side : Side) → has_move (calls side) ≡ false) → now ≡ opening
 
+-- an area that told its pages tells its pages now
+abbrev pub TellsOn : {A : Type 0} → (A → Option (List (List ℕ))) → A → A → Type 0
+TellsOn told_by opening now = IsSome (told_by opening) → IsSome (told_by now)
+
 -- what a side needs for its put or take: room, or a page
 abbrev pub Has : Side → Ring → Type 0
 Has Sender ring = length ring.marks < ring.capacity
@@ -101,13 +105,14 @@ Has Receiver ring = ring.marks ≢ []
 
 -- The spool stands where it does after the calls of both ends: what was taken, and then what is inside, is what was put;
 -- who stopped first is known, and only the other end was told so, the receiver only where nothing was left. A side whose
--- await found what it wanted finds it there until its next call.
+-- await found what it wanted finds it there until its next call. An area that told its pages goes on telling them.
 pub record IsTied {A : Type 0} (told_by : A → Option (List (List ℕ))) (faults : A → ℕ) (opening : A) (calls : Side → List (SpoolCall (List ℕ))) (state : Spool A) : Type 0 where
   pub stops : List Side
   pub stands : StandsFor told_by (sent_of (calls Sender)) (taken_of (calls Receiver)) stops state
   pub sides : IsTiedToCalls (λ side. has_stop (calls side)) (λ side. was_refused (calls side)) state.sides
   pub nothing_left : was_refused (calls Receiver) ≡ true → state.ring.marks ≡ []
   pub area : IsTiedToArea faults opening state.area calls
+  pub tells : TellsOn told_by opening state.area
   pub ready : (side : Side) → is_ready (calls side) ≡ true → Has side state.ring
 
 -- ---- the queues and the turn

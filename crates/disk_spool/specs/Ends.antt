@@ -12,7 +12,7 @@ use Rattle.disk_spool.specs.declared.answers.Fetched.{Fetched}
 use Rattle.disk_spool.specs.declared.call.SpoolCall.{SpoolCall}
 use Rattle.disk_spool.specs.declared.call.SpoolCall.TheVariants as call
 use Rattle.disk_spool.specs.Spool.{Spool, empty_spool, mark, received_mark, received_page}
-use Rattle.disk_spool.specs.Calls.{IsTied, IsTiedToArea, sent_of, taken_of, has_stop, was_refused}
+use Rattle.disk_spool.specs.Calls.{IsTied, IsTiedToArea, TellsOn, sent_of, taken_of, has_stop, was_refused}
 
 -- which spool it is, and the area that it was made with
 pub record Opened (A : Type 0) : Type 0 where
@@ -61,7 +61,7 @@ without_last left all = take (length all - left) all
 
 -- What stands when both ends have met: the marks that were taken are those of the pages that were put without the last that
 -- are left, and so are the pages where the area tells them; it is known who stopped first; a receiver that was told of a stop
--- leaves nothing; and the area is what the calls of both made of it.
+-- leaves nothing; the area is what the calls of both made of it, and one that told its pages tells them now.
 pub record Meets {A : Type 0} (told_by : A → Option (List (List ℕ))) (faults : A → ℕ) (opening area : A) (calls : Side → List (SpoolCall (List ℕ))) (left : ℕ) (stopped_by : Option Side) : Type 0 where
   pub marks : map received_mark (taken_of (calls Receiver)) ≡ map mark (without_last left (sent_of (calls Sender)))
   pub pages : (told : List (List ℕ)) → told_by area ≡ Some told → map received_page (taken_of (calls Receiver)) ≡ without_last left (sent_of (calls Sender))
@@ -69,3 +69,4 @@ pub record Meets {A : Type 0} (told_by : A → Option (List (List ℕ))) (faults
   pub stopped : WhoStopped (λ side. has_stop (calls side)) (λ side. was_refused (calls side)) stopped_by
   pub nothing_left : was_refused (calls Receiver) ≡ true → left ≡ 0
   pub of_area : IsTiedToArea faults opening area calls
+  pub tells : TellsOn told_by opening area

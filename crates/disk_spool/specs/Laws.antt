@@ -1,6 +1,7 @@
 -- The two laws of a running spool: each entry keeps the tie, and whoever gets the turn can go on.
-use Rattle.std.specs.Prelude.{◌≡◌, ◌≢◌, ◌⊎◌, ℕ, ◌<◌, ◌≤◌, ◌==◌, length, drop, Bool, true, false, List, [], ◌∷◌, ◌++◌, Option, Some, None}
+use Rattle.std.specs.Prelude.{◌≡◌, ◌≢◌, ◌⊎◌, ℕ, ◌<◌, ◌≤◌, ◌==◌, length, drop, Bool, true, false, List, [], ◌∷◌, ◌++◌, Option, Some, None, IsSome}
 use Rattle.std.specs.declared.snapshot.Snapshot.{Snapshot}
+use Rattle.std.specs.Option.{is_some}
 use Rattle.std.proofs.Common.{refl, sym, ap, ◌∙◌, subst, arith, inl, inr, length-drop, eq-eqb}
 use Rattle.std.proofs.lemmas.Bool.{cases_eq}
 use Rattle.solo_base.specs.declared.outcome.Side.{Side}
@@ -13,17 +14,17 @@ use Rattle.queue_var.proofs.BetweenTwo.{entered-between, continued-between, dela
 use Rattle.queue_var.proofs.Waits.{not_first}
 use Rattle.monitor_gate.specs.Kind.{with_entry, Completes, Suspends}
 use Rattle.monitor_gate.specs.Lists.{with_entry_same, with_entry_other}
-use Rattle.solo_devices.specs.Area.{CountsFaults}
+use Rattle.solo_devices.specs.Area.{CountsFaults, Writes, WritesTo}
 use Rattle.solo_devices.specs.Count.{Rose}
 use Rattle.solo_devices.specs.declared.area.Moved.{Moved}
 use Rattle.disk_spool.specs.declared.answers.Await.{Await}
 use Rattle.disk_spool.specs.declared.answers.Fetched.{Fetched}
 use Rattle.disk_spool.specs.declared.call.SpoolCall.{SpoolCall}
 use Rattle.disk_spool.specs.declared.call.SpoolCall.TheVariants as call
-use Rattle.disk_spool.specs.Ring.{Ring, with_page, without_first}
+use Rattle.disk_spool.specs.Ring.{Ring, with_page, without_first, next_place}
 use Rattle.disk_spool.specs.Spool.{Spool, Received, StandsFor, mark, room_by, room_answer, item_by, item_answer, sent_with, taken_with, moved, AnswersFirst}
 use Rattle.disk_spool.specs.History.{room-stands, item-stands, put-stands, take-stands, stop-stands}
-use Rattle.disk_spool.specs.Calls.{sent_of, taken_of, was_refused, has_failure, has_move, page_put, page_taken, is_stop, is_refusal, is_failure, is_move, is_await, ready_after, is_ready, IsTiedToArea, Has, IsTied, handed_to, is_waiting, IsWoken, await_answer, Awaits, MayMove, Puts, Takes, Stops, Moves, Rests, value}
+use Rattle.disk_spool.specs.Calls.{sent_of, taken_of, was_refused, has_failure, has_move, page_put, page_taken, is_stop, is_refusal, is_failure, is_move, is_await, ready_after, is_ready, IsTiedToArea, TellsOn, Has, IsTied, handed_to, is_waiting, IsWoken, await_answer, Awaits, MayMove, Puts, Takes, Stops, Moves, Rests, value}
 
 -- ---- what the answers say
 below-full : (count capacity : ℕ) → (count == capacity) ≡ false → count ≤ capacity → count < capacity
@@ -101,6 +102,15 @@ module _ {A : Type 0} (faults : A → ℕ) (opening before now : A) (calls : Sid
     untouched = λ none. (let moved = any-own is_move calls side call move in let rests = none side in absurd cc);
   }
 
+-- a write leaves an area that tells its pages telling them
+told-then : (pages : List (List ℕ)) (now : Option (List (List ℕ))) (n : ℕ) (answer : Moved) (page : List ℕ) → WritesTo pages now n answer page → IsSome now
+told-then pages now n Moved.Done page writes = ap is_some writes
+told-then pages now n Moved.Failed page (after, is, same) = ap is_some is
+
+written-told : (before now : Option (List (List ℕ))) (n : ℕ) (answer : Moved) (page : List ℕ) → Writes before now n answer page → IsSome before → IsSome now
+written-told (Some pages) now n answer page writes told = told-then pages now n answer page (writes.told pages refl)
+written-told None now n answer page writes told = absurd cc
+
 module _ {A : Type 0} (told_by : A → Option (List (List ℕ))) (faults : A → ℕ) (opening : A) (before after : Spool A) (p : ℕ) (calls : Side → List (SpoolCall (List ℕ))) where
   abbrev Tied : (Side → List (SpoolCall (List ℕ))) → Spool A → Type 0
   Tied = IsTied told_by faults opening
@@ -134,6 +144,7 @@ module _ {A : Type 0} (told_by : A → Option (List (List ℕ))) (faults : A →
         sides = rw moved.after_is (tied-called is_stop is_refusal calls before.sides tied.sides (entered before.sides side) side done (entered-between before.sides side tied.sides.between) refl refl (λ e. absurd cc));
         nothing_left = rw moved.after_is (left-same side done refl before.ring.marks tied.nothing_left);
         area = area-same faults opening before.area after.area calls tied.area side done refl refl (ap (λ (s : Spool A). s.area) moved.after_is);
+        tells = subst (λ a. TellsOn told_by opening a) (sym (ap (λ (s : Spool A). s.area) moved.after_is)) tied.tells;
         ready = rw moved.after_is (ready-called calls before.ring before.ring side done tied.ready (λ e. await-ready side before tied.stands.marks.within moved.answer_is) (λ has. has));
       }
 
@@ -149,6 +160,7 @@ module _ {A : Type 0} (told_by : A → Option (List (List ℕ))) (faults : A →
         sides = rw moved.after_is (tied-called is_stop is_refusal calls before.sides tied.sides (entered before.sides side) side done (entered-between before.sides side tied.sides.between) refl refl (λ e. await-refused side before moved.answer_is));
         nothing_left = rw moved.after_is (refused_left side tied moved.answer_is);
         area = area-same faults opening before.area after.area calls tied.area side done refl refl (ap (λ (s : Spool A). s.area) moved.after_is);
+        tells = subst (λ a. TellsOn told_by opening a) (sym (ap (λ (s : Spool A). s.area) moved.after_is)) tied.tells;
         ready = rw moved.after_is (ready-called calls before.ring before.ring side done tied.ready (λ e. absurd cc) (λ has. has));
       }
 
@@ -170,6 +182,7 @@ module _ {A : Type 0} (told_by : A → Option (List (List ℕ))) (faults : A →
         sides = rw sides (tied-called is_stop is_refusal calls before.sides tied.sides (continued before.sides Receiver) Sender done (continued-between before.sides Receiver tied.sides.between) refl refl (λ e. absurd cc));
         nothing_left = λ told. absurd (none_told tied moved.may.not_stopped told);
         area = area-moved faults opening before.area after.area calls tied.area Sender done Moved.Done moved.cause refl (λ e. absurd cc);
+        tells = λ first. written-told (told_by before.area) (told_by after.area) (next_place before.ring) Moved.Done page moved.area (tied.tells first);
         ready = rw ring (ready-called calls before.ring (with_page before.ring (mark page)) Sender done tied.ready (λ e. absurd cc) (λ has. some_inside before.ring.marks (mark page)));
       }
 
@@ -183,6 +196,7 @@ module _ {A : Type 0} (told_by : A → Option (List (List ℕ))) (faults : A →
         sides = rw sides (tied-called is_stop is_refusal calls before.sides tied.sides before.sides Sender done tied.sides.between refl refl (λ e. absurd cc));
         nothing_left = λ told. absurd (none_told tied moved.may.not_stopped told);
         area = area-moved faults opening before.area after.area calls tied.area Sender done Moved.Failed moved.cause refl (λ e. refl);
+        tells = λ first. written-told (told_by before.area) (told_by after.area) (next_place before.ring) Moved.Failed page moved.area (tied.tells first);
         ready = rw ring (ready-called calls before.ring before.ring Sender done tied.ready (λ e. absurd cc) (λ has. has));
       }
 
@@ -200,6 +214,7 @@ module _ {A : Type 0} (told_by : A → Option (List (List ℕ))) (faults : A →
         sides = rw sides (tied-called is_stop is_refusal calls before.sides tied.sides (continued before.sides Sender) Receiver done (continued-between before.sides Sender tied.sides.between) refl refl (λ e. absurd cc));
         nothing_left = rw ring (λ told. ap (drop 1) (left-same Receiver done refl before.ring.marks tied.nothing_left told));
         area = area-moved faults opening before.area after.area calls tied.area Receiver done Moved.Done moved.cause refl (λ e. absurd cc);
+        tells = λ first. ap is_some moved.area.left ∙ tied.tells first;
         ready = rw ring (ready-called calls before.ring (without_first before.ring) Receiver done tied.ready (λ e. absurd cc) (λ has. some_room before.ring.marks before.ring.capacity moved.may.has tied.stands.marks.within));
       }
 
@@ -213,6 +228,7 @@ module _ {A : Type 0} (told_by : A → Option (List (List ℕ))) (faults : A →
         sides = rw sides (tied-called is_stop is_refusal calls before.sides tied.sides before.sides Receiver done tied.sides.between refl refl (λ e. absurd cc));
         nothing_left = rw ring (left-same Receiver done refl before.ring.marks tied.nothing_left);
         area = area-moved faults opening before.area after.area calls tied.area Receiver done Moved.Failed moved.cause refl (λ e. refl);
+        tells = λ first. ap is_some moved.area.left ∙ tied.tells first;
         ready = rw ring (ready-called calls before.ring before.ring Receiver done tied.ready (λ e. absurd cc) (λ has. has));
       }
 
@@ -224,6 +240,7 @@ module _ {A : Type 0} (told_by : A → Option (List (List ℕ))) (faults : A →
         sides = rw moved.after_is (tied-stopped is_stop is_refusal calls before.sides tied.sides side done moved.may_stop.1 refl refl);
         nothing_left = rw moved.after_is (left-same side done refl before.ring.marks tied.nothing_left);
         area = area-same faults opening before.area after.area calls tied.area side done refl refl (ap (λ (s : Spool A). s.area) moved.after_is);
+        tells = subst (λ a. TellsOn told_by opening a) (sym (ap (λ (s : Spool A). s.area) moved.after_is)) tied.tells;
         ready = rw moved.after_is (ready-called calls before.ring before.ring side done tied.ready (λ e. absurd cc) (λ has. has));
       }
 
@@ -236,6 +253,7 @@ module _ {A : Type 0} (told_by : A → Option (List (List ℕ))) (faults : A →
         sides = rw (moved.after_is, moved.process) (tied-waits is_stop is_refusal calls before.sides tied.sides (delayed (entered before.sides side) side (process_at side)) (delayed-between before.sides side tied.sides.between moved.not_stopped) refl);
         nothing_left = rw moved.after_is tied.nothing_left;
         area = subst (λ a. IsTiedToArea faults opening a calls) (sym (ap (λ (s : Spool A). s.area) moved.after_is)) tied.area;
+        tells = subst (λ a. TellsOn told_by opening a) (sym (ap (λ (s : Spool A). s.area) moved.after_is)) tied.tells;
         ready = rw moved.after_is tied.ready;
       }
 
