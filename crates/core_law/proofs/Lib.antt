@@ -8,13 +8,15 @@ pub mod Streams
 pub mod KeepsDevices
 pub mod KeepsPaper
 pub mod Places
-pub mod KeepsFaults
+pub mod Told
+pub mod Outcomes
 pub mod Answers
 pub mod Handed
 pub mod NeverStuck
-pub mod Prints
 pub mod ReportLines
 pub mod RoundTrip
+pub mod Passing
+pub mod Stopping
 pub mod Together
 pub mod Reached
 pub mod DeskRoom

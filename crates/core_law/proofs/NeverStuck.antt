@@ -24,7 +24,7 @@ use Rattle.network_law.specs.Kept.{CanWait, IsTold, Stands}
 use Rattle.network_law.proofs.Rests.{IsBlocked, rests}
 use Rattle.core_law.specs.Core.{seat, core, CoreState, CoreEvent, IsBuffer}
 use Rattle.core_law.specs.Ends.{IsProcess, IsSmooth, HasEnded}
-use Rattle.core_law.proofs.Row.{IsRow, Among}
+use Rattle.core_law.proofs.Row.{IsRow, Among, among-all}
 use Rattle.core_law.proofs.Acting.{follows-of, stops-are}
 use Rattle.core_law.proofs.Lawful.{lawful}
 use Rattle.core_law.proofs.Places.{call-buffer, sender-due, receiver-unended, none-due}
@@ -51,11 +51,6 @@ pub marked-told : (stops : Marks) (side : Side) → is_among side stops ≡ true
 marked-told marks.Neither side is none = cc
 marked-told (marks.One by) side is none = cc
 marked-told (marks.Both by) side is none = cc
-
-pub among-all : (Is : ℕ → Type 0) (b : ℕ) (buffers : List ℕ) → AllByRecursion Is buffers → Among b buffers → Is b
-among-all Is b [] all is = absurd is
-among-all Is b (c ∷ later) all (inl same) = subst Is same all.0
-among-all Is b (c ∷ later) all (inr is) = among-all Is b later all.1 is
 
 no-stop : (visit : Visit) → CanWait visit → visit ≡ Stops → ⊥
 no-stop Awaits can e = cc

@@ -1,7 +1,6 @@
 -- Every reached state of the core has what it promises.
 use Rattle.std.proofs.Common.{◌≡◌, inl, inr, ℕ, suc, ◌≤◌, true, List, [], ◌∷◌, ◌++◌, Option, Some, refl, sym, ◌∙◌, ap, subst, arith, lit≤}
 use Rattle.std.proofs.lemmas.List.{append-nil}
-use Rattle.std.proofs.lemmas.Bool.Decides.{eqb_tells}
 use Rattle.solo_base.specs.declared.item.Item.{Item}
 use Rattle.solo_base.specs.Text.{text}
 use Rattle.solo_devices.specs.PrinterUnit.{Gains, GainsOf}
@@ -9,7 +8,7 @@ use Rattle.page_codec.specs.Items.{AreItems}
 use Rattle.batch_procs.specs.declared.actions.Action.TheVariants as act
 use Rattle.batch_procs.specs.Parcels.{Parcel}
 use Rattle.network_law.specs.Buffer.{fresh}
-use Rattle.batch_procs.specs.Process.{Process}
+use Rattle.batch_procs.specs.Process.{Process, Follows}
 use Rattle.batch_procs.specs.Table.{process}
 use Rattle.batch_procs.proofs.Holding.{holder-next}
 use Rattle.network_law.specs.Network.{IsEnabled, AreEnabled, run, happens, inside_at}
@@ -20,15 +19,13 @@ use Rattle.core_law.specs.Opening.{Spools, AreInBounds, size_of, told_of, opened
 use Rattle.core_law.specs.Ends.{IsProcess, HasEnded, AllDone, IsSmooth}
 use Rattle.core_law.specs.Holds.{one_thread_lines, AreTold, GoesOn, Holds, IsStuck}
 use Rattle.core_law.proofs.Streams.{text_of, DevicesStand}
-use Rattle.core_law.proofs.Row.{feeds-at}
+use Rattle.core_law.proofs.Row.{feeds-at, each-buffer}
 use Rattle.core_law.proofs.Ends.{the-five}
 use Rattle.core_law.proofs.Acting.{follows-of, holds-are, stops-are}
 use Rattle.core_law.proofs.Lawful.{lawful}
 use Rattle.core_law.proofs.KeepsPaper.{keeps-devices}
-use Rattle.core_law.proofs.KeepsFaults.{StopsHaveFault, keeps-faults}
 use Rattle.core_law.proofs.NeverStuck.{ended-all}
-use Rattle.core_law.proofs.Prints.{prints-prefix, prints-all, reads-all}
-use Rattle.core_law.proofs.RoundTrip.{output-text}
+use Rattle.core_law.proofs.Passing.{HandOver, gains-of, reads-all}
 use Rattle.core_law.proofs.Handed.{handed}
 use Rattle.core_law.proofs.Together.{ends-together}
 
@@ -36,7 +33,6 @@ use Rattle.core_law.proofs.Together.{ends-together}
 pub record Centre (opening s : CoreState) : Type 0 where
   pub stands : Stands (core process) opening s
   pub devices : DevicesStand process opening s
-  pub faults : StopsHaveFault s
 
 centre-run : (opening s : CoreState) (events : List CoreEvent) → AreEnabled (core process) s events → Centre opening s
     → Centre opening (run (core process) s events)
@@ -45,7 +41,6 @@ centre-run opening s (event ∷ events) are c =
     centre-run opening (happens (core process) s event) events are.1 record {
       stands = stands-event (lawful the-five) opening s event c.stands are.0;
       devices = keeps-devices the-five opening s event (λ p. follows-of process p (s.histories p) (c.stands.follows p)) c.devices are.0;
-      faults = keeps-faults the-five opening s event c.stands c.faults are.0;
     }
 
 -- ---- the opening
@@ -54,9 +49,6 @@ text-nothing p = (text_of (p.sends []), refl)
 
 paper-nothing : (paper : Option (List ℕ)) (given : List ℕ) → paper ≡ Some given → paper ≡ Some (given ++ [])
 paper-nothing paper given e = rw (append-nil given) e
-
-nobody-stopped : (spools : Spools) (deck : Option (List Item)) (paper : Option (List ℕ)) → StopsHaveFault (opened spools deck paper)
-nobody-stopped spools deck paper b by e = absurd cc
 
 opening-centre : (spools : Spools) (deck : Option (List Item)) (paper : Option (List ℕ)) → Centre (opened spools deck paper) (opened spools deck paper)
 opening-centre spools deck paper = record {
@@ -72,7 +64,6 @@ opening-centre spools deck paper = record {
     deck_untold = λ e. e;
     paper_untold = λ e. e;
   };
-  faults = nobody-stopped spools deck paper;
 }
 
 pub reached-centre : (spools : Spools) (deck : Option (List Item)) (paper : Option (List ℕ)) (s : CoreState) → IsReached spools deck paper s
@@ -85,25 +76,11 @@ reached-centre spools deck paper s r =
 told-is : (spools : Spools) (b : ℕ) → told_of spools b ≡ true → IsTold {Parcel = Parcel} (fresh (size_of spools b) (inside_at (told_of spools b)))
 told-is spools b e = ([], ap inside_at e)
 
-by-number : (P : ℕ → Type 0) (b : ℕ) → IsBuffer b → P 1 → P 2 → P 3 → P 4 → P b
-by-number P b is one two three four =
-    elim (eqb_tells b 1) as (λ _. P b) [
-      | inl a ↦ subst P (sym a.1) one
-      | inr a ↦ elim (eqb_tells b 2) as (λ _. P b) [
-        | inl c ↦ subst P (sym c.1) two
-        | inr c ↦ elim (eqb_tells b 3) as (λ _. P b) [
-          | inl d ↦ subst P (sym d.1) three
-          | inr d ↦ (let last : b ≡ 4 = (let a = a.1 in let c = c.1 in let d = d.1 in let low = is.0 in let high = is.1 in
-              omega (arith, a, c, d, low, high)) in subst P (sym last) four)
-        ]
-      ]
-    ]
-
 all-told : (spools : Spools) → AreTold spools → (b : ℕ) → IsBuffer b → told_of spools b ≡ true
-all-told spools are b is = by-number (λ b. told_of spools b ≡ true) b is refl are.input are.output refl
+all-told spools are b is = each-buffer (λ b. told_of spools b ≡ true) b is refl are.input are.output refl
 
 all-sized : (spools : Spools) → AreInBounds spools → (b : ℕ) → IsBuffer b → 1 ≤ size_of spools b
-all-sized spools are b is = by-number (λ b. 1 ≤ size_of spools b) b is (lit≤ tt) are.input_some are.output_some (lit≤ tt)
+all-sized spools are b is = each-buffer (λ b. 1 ≤ size_of spools b) b is (lit≤ tt) are.input_some are.output_some (lit≤ tt)
 
 lines-told : (spools : Spools) (b : ℕ) → (process (suc b)).takes ≡ act.TakeFeed → told_of spools b ≡ true
 lines-told spools b takes =
@@ -113,28 +90,20 @@ lines-told spools b takes =
     ]
 
 -- ---- the promise
-same-rest : (front a b : List ℕ) → front ++ a ≡ front ++ b → a ≡ b
-same-rest [] a b e = e
-same-rest (x ∷ front) a b e = same-rest front a b cc
+follows-in : (opening s : CoreState) → Stands (core process) opening s → (p : ℕ) → Follows (process p) (s.histories p)
+follows-in opening s st p = follows-of process p (s.histories p) (st.follows p)
 
-some-same : (x y : List ℕ) → Some x ≡ Some y → x ≡ y
-some-same x y e = cc
+hands-over : (opening s : CoreState) → Stands (core process) opening s → ((b : ℕ) → IsBuffer b → IsTold (opening.buffers b)) → HandOver s.histories
+hands-over opening s st told b is = (let (inside, e) = st.told b (told b is) in (inside, (handed the-five opening s st b is).parcels inside e))
 
 gained-whole : (spools : Spools) (deck : Option (List Item)) (paper : Option (List ℕ)) (s : CoreState) → Centre (opened spools deck paper) s → AreTold spools
     → (items : List Item) → deck ≡ Some items → AreItems items
     → (given : List ℕ) → paper ≡ Some given → GainsOf given s.devices.paper (text (one_thread_lines items)) (AllDone s)
 gained-whole spools deck paper s c are items is valid given paper_is =
+    let opening = opened spools deck paper in
     let told = λ (b : ℕ) (at : IsBuffer b). told-is spools b (all-told spools are b at) in
-    let (gained, now, part) = prints-prefix the-five (opened spools deck paper) s c.stands c.devices told items given is paper_is in
-    let out = output-text items valid in
-    let (rest, whole) = part in
-    record {
-      part = gained;
-      now_is = now;
-      prefix = record { rest = rest; whole_is = whole ∙ out };
-      all_is = λ done. (let all = prints-all the-five (opened spools deck paper) s c.stands c.devices told items given is paper_is done in
-          same-rest given gained _ (some-same _ _ (sym now ∙ all)) ∙ out);
-    }
+    gains-of s.histories (follows-in opening s c.stands) (hands-over opening s c.stands told) items s.devices.deck given s.devices.paper valid
+    (c.devices.read items is) (c.devices.gained given paper_is)
 
 module _ (spools : Spools) (deck : Option (List Item)) (paper : Option (List ℕ)) (s : CoreState) (r : IsReached spools deck paper s) where
   abbrev c : Centre (opened spools deck paper) s
@@ -157,14 +126,14 @@ module _ (spools : Spools) (deck : Option (List Item)) (paper : Option (List ℕ
   pub reached-holds : Holds spools deck paper s
   reached-holds = record {
     prints = gains;
-    reads = λ items is done. reads-all the-five opening s c.stands c.devices items is done;
+    reads = λ items is done. reads-all the-five s.histories (follows-in opening s c.stands) items s.devices.deck (c.devices.read items is) done;
     hands_over = λ b is. handed the-five opening s c.stands b is;
     stops = λ b side. c.stands.buffers.stops b side ∙ stops-are process (seat b side) b side (s.histories (seat b side)) refl
         (follows-of process (seat b side) (s.histories (seat b side)) (c.stands.follows (seat b side)));
     told = c.stands.buffers.told;
     one_holder = c.stands.desk.one_holder;
     holder = goes-on;
-    ends = ends-together the-five opening s c.stands c.faults;
+    ends = ends-together the-five opening s c.stands;
     follows = λ p. follows-of process p (s.histories p) (c.stands.follows p);
   }
 

@@ -2,6 +2,7 @@
 use Rattle.std.proofs.Common.{◌≡◌, ◌⊎◌, inl, inr, ℕ, suc, ◌≤◌, ◌<◌, ◌==◌, Bool, true, false, if◌then◌else◌, List, [], ◌∷◌, ◌++◌, Option, None, Some, refl, sym, subst, arith, lit≤}
 use Rattle.std.specs.Prelude.{option_to_list}
 use Rattle.std.proofs.lemmas.Bool.{eqb-true, eq-eqb}
+use Rattle.std.proofs.lemmas.Bool.Decides.{eqb_tells}
 use Rattle.std.specs.List.{AllByRecursion}
 use Rattle.solo_base.specs.declared.item.Feed.{Feed}
 use Rattle.solo_base.specs.declared.item.Feed.TheVariants as feed
@@ -25,6 +26,11 @@ IsNoLine (OfLine line) = ⊥
 abbrev pub Among : ℕ → List ℕ → Type 0
 Among b [] = ⊥
 Among b (c ∷ later) = (c ≡ b) ⊎ Among b later
+
+pub among-all : (Is : ℕ → Type 0) (b : ℕ) (buffers : List ℕ) → AllByRecursion Is buffers → Among b buffers → Is b
+among-all Is b [] all is = absurd is
+among-all Is b (c ∷ later) all (inl same) = subst Is same all.0
+among-all Is b (c ∷ later) all (inr is) = among-all Is b later all.1 is
 
 -- Five processes in a row: the first alone reads cards, the last alone prints, and each has the buffers beside it.
 pub record IsRow (row : ℕ → Process) : Type 0 where
@@ -164,6 +170,21 @@ next-law b is =
     by-number (λ q. Among b q.buffers) (suc b) (λ e. (let low = is.0 in absurd (omega (arith, e, low)))) (λ e. inl (omega (arith, e)))
     (λ e. inl (omega (arith, e))) (λ e. inl (omega (arith, e))) (λ e. inl (omega (arith, e)))
     (λ none. absurd (not-next_none b none is))
+
+-- what holds of each buffer
+pub each-buffer : (P : ℕ → Type 0) (b : ℕ) → IsBuffer b → P 1 → P 2 → P 3 → P 4 → P b
+each-buffer P b is one two three four =
+    elim (eqb_tells b 1) as (λ _. P b) [
+      | inl a ↦ subst P (sym a.1) one
+      | inr a ↦ elim (eqb_tells b 2) as (λ _. P b) [
+        | inl c ↦ subst P (sym c.1) two
+        | inr c ↦ elim (eqb_tells b 3) as (λ _. P b) [
+          | inl d ↦ subst P (sym d.1) three
+          | inr d ↦ (let last : b ≡ 4 = (let a = a.1 in let c = c.1 in let d = d.1 in let low = is.0 in let high = is.1 in
+              omega (arith, a, c, d, low, high)) in subst P (sym last) four)
+        ]
+      ]
+    ]
 
 pub record RowLaws : Type 0 where
   pub feeds : (b : ℕ) → IsBuffer b → (process (suc b)).takes ≡ act.TakeFeed → (all : List Parcel) → AllByRecursion IsAFeed ((process b).sends all)

@@ -29,7 +29,7 @@ use Rattle.core_law.specs.Core.{CoreState, IsBuffer}
 use Rattle.core_law.specs.Ends.{IsProcess, HasEndedSo, AllDone, EndsTogether, outcome_by}
 use Rattle.core_law.specs.Holds.{one_thread_lines, AreTold, Holds}
 use Rattle.core_law.specs.Opening.{Spools}
-use Rattle.core_law.proofs.Together.{ended-as}
+use Rattle.core_law.proofs.Outcomes.{ended-as}
 use Rattle.core_law.proofs.Reached.{reached-holds}
 use Rattle.core_net.specs.declared.finish.Outcomes.{Outcomes}
 use Rattle.core_net.specs.declared.net.Net.{Net}

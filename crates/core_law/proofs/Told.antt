@@ -1,4 +1,4 @@
--- Who was told of a stop, and that every stop goes back to a fault.
+-- Who was told of a stop.
 use Rattle.std.proofs.Common.{◌≡◌, ◌⊎◌, inl, inr, ℕ, Bool, true, false, ◌||◌, List, [], ◌∷◌, Option, None, Some, Result, Ok, Err, refl, sym, ◌∙◌, ap, subst}
 use Rattle.std.proofs.lemmas.Bool.Decides.{eqb_tells}
 use Rattle.solo_base.specs.declared.outcome.Side.{Side}
@@ -47,7 +47,7 @@ damage-not : (page : Result PageContent BadPage) → damage page ≡ Some outcom
 damage-not (Ok content) e = cc
 damage-not (Err bad) e = cc
 
-given-stopped : (a : Action) (r : Reply) (h : List Entry) → given_cause a r h ≡ Some outcome.Stopped → r ≡ reply.Stopped
+pub given-stopped : (a : Action) (r : Reply) (h : List Entry) → given_cause a r h ≡ Some outcome.Stopped → r ≡ reply.Stopped
 given-stopped a reply.Done h e = absurd cc
 given-stopped a reply.Stopped h e = refl
 given-stopped a reply.Failed h e = absurd cc
@@ -124,56 +124,3 @@ was-told {row} laws opening s st p one e =
     let is = stopped-told laws p one (s.histories p) (follows-of row p (s.histories p) (st.follows p)) e in
     let at = subst (λ q. was_told is.buffer is.side (law.acts (core row) q (s.histories q)) ≡ true) (sym is.seated) is.told in
     record { buffer = is.buffer; side = is.side; is_buffer = is.is_buffer; seated = is.seated; by = (st.buffers.told is.buffer is.side at).by_other }
-
--- ---- every stop goes back to a fault
-abbrev pub HasFault : CoreState → Type 0
-HasFault s = (q : ℕ) × (cause : Cause) × (caused (s.histories q) ≡ Some (outcome.Fault cause))
-
-abbrev pub StopsHaveFault : CoreState → Type 0
-StopsHaveFault s = (b : ℕ) (by : Side) → stopped_by (s.buffers b).sides ≡ Some by → HasFault s
-
-cause-stays : (entry : Entry) (h : List Entry) (how : Outcome) → caused h ≡ Some how → caused (entry ∷ h) ≡ Some how
-cause-stays (Does a r) h how e = rw e refl
-cause-stays (LacksMemory a r) h how e = rw e refl
-cause-stays (Delays a) h how e = e
-
-stop-of : (p b : ℕ) (side : Side) (a : Action) → call p a ≡ At b side Stops → (c : ℕ) × (a ≡ act.Stop c)
-stop-of p b side (act.Stop c) e = (c, refl)
-stop-of p b side a e = absurd cc
-
-module _ {row : ℕ → Process} (laws : IsRow row) (opening s : CoreState) (event : CoreEvent) (st : Stands (core row) opening s) (faults : StopsHaveFault s)
-    (enabled : IsEnabled (core row) s event) where
-  abbrev p : ℕ
-  p = event.process
-
-  abbrev after : CoreState
-  after = happens (core row) s event
-
-  still-caused : (q : ℕ) (how : Outcome) → caused (s.histories q) ≡ Some how → caused (after.histories q) ≡ Some how
-  still-caused q how e =
-      elim (eqb_tells q p) as (λ _. caused (after.histories q) ≡ Some how) [
-        | inl own ↦ subst (λ q. caused (s.histories q) ≡ Some how → caused (after.histories q) ≡ Some how) (sym own.1)
-            (λ e. ap caused (set-same s.histories p (event.entry ∷ s.histories p)) ∙ cause-stays event.entry (s.histories p) how e) e
-        | inr differ ↦ ap caused (set-other s.histories p (event.entry ∷ s.histories p) q differ.1) ∙ e
-      ]
-
-  still-fault : HasFault s → HasFault after
-  still-fault (q, cause, e) = (q, cause, still-caused q (outcome.Fault cause) e)
-
-  -- who stops has a fault, or was told of one
-  stop-fault : (cause : Option Outcome) → caused (s.histories p) ≡ cause → (c : ℕ) → next_by (row p) cause (s.histories p) ≡ Some (act.Stop c) → HasFault s
-  stop-fault None e c stops =
-      (let h = s.histories p in absurd (working-no_stop (newest h) (aim (row p) h) (act.Stop c)
-      (aimed-no_stop (row p).takes (due (row p) h) (is_ended (taken h)) (unworked (row p) h) (laws.relays p).takes) stops))
-  stop-fault (Some outcome.Done) e c stops = absurd (subst IsNotDone e (caused-not_done (s.histories p)))
-  stop-fault (Some outcome.Stopped) e c stops = (let is = was-told laws opening s st p enabled.one e in faults is.buffer (other is.side) is.by)
-  stop-fault (Some (outcome.Fault cause)) e c stops = (p, cause, e)
-
-  pub keeps-faults : StopsHaveFault after
-  keeps-faults b by e =
-      still-fault (elim (stopped-before (lawful laws) s event st.follows st.buffers enabled b by e) as (λ _. HasFault s) [
-        | inl before ↦ faults b by before
-        | inr (side, here) ↦
-            let (c, is) = stop-of p b side (action_of event.entry) here in
-            stop-fault (caused (s.histories p)) refl c (enabled.next ∙ ap Some is)
-      ])
