@@ -1,6 +1,6 @@
 -- What the writes of a create make of the pages: the blank index page, the entry, the entry at the place of the key, the bits.
-use Rattle.std.proofs.Common.{◌≡◌, ◌≢◌, ℕ, ◌+◌, ◌*◌, ◌/◌, ◌%◌, ◌<◌, ◌≤◌, ◌==◌, cond, List, length, replicate, get_or, set, take, drop, refl, ap, sym, ◌∙◌, inl, inr, arith, length-set}
-use Rattle.std.specs.Prelude.{◌⊎◌, slice_index_or}
+use Rattle.std.proofs.Common.{◌≡◌, ◌≢◌, ℕ, ◌+◌, ◌*◌, ◌/◌, ◌%◌, ◌<◌, ◌≤◌, cond, List, length, replicate, set, take, drop, ap, sym, ◌∙◌, inl, inr, arith, length-set}
+use Rattle.std.specs.Prelude.{slice_index_or}
 use Rattle.std.proofs.lemmas.Bool.{cases_eq, ne_eqb}
 use Rattle.disk_pages.specs.Pages.{Pages}
 use Rattle.disk_layout.specs.declared.entry.Entry.{Entry}
@@ -20,7 +20,7 @@ unfolding spare_of
 spare_same pages after k same = ap (λ b. take 10 (drop (32 * (k % 16) + 18) b)) same
 
 -- an entry whose search length stays is the entry that was
-same_entry : (e now : Entry) → now ≡ record e { searches = now.searches } → now.searches ≡ e.searches → now ≡ e
+pub same_entry : (e now : Entry) → now ≡ record e { searches = now.searches } → now.searches ≡ e.searches → now ≡ e
 same_entry e now is same = is ∙ ap (λ n. record e { searches = n }) same
 
 module _ (kept kept_now : List Entry) (taken_now : Pages) (pages one two three after : List (List ℕ)) (p s : ℕ) (new : Entry)

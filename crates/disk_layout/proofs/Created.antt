@@ -176,7 +176,7 @@ module _ (d d' : Disk) (owner : ℕ → Option Use) (p : ℕ) (o : Owns d owner)
   has_file : (p' : ℕ) → HasFile d p' → p' ≢ p → HasFile d' p'
   has_file p' has other = record { inside = has.inside; used = λ e. has.used (sym (a.kinds p' has.inside other) ∙ e) }
 
-  numbers_of_index : (p' : ℕ) → HasFile d p' → p' ≢ p → (k : ℕ) → d'.number (index_at d' p') k ≡ d.number (index_at d p') k
+  pub numbers_of_index : (p' : ℕ) → HasFile d p' → p' ≢ p → (k : ℕ) → d'.number (index_at d' p') k ≡ d.number (index_at d p') k
   numbers_of_index p' has other k = ap (λ n. d'.number n k) (a.addresses p' has.inside other) ∙ a.numbers _ k (o.free _ _ (o.known (Index p') has))
 
   numbers_of_part : (p' k : ℕ) → HasFile d p' → p' ≢ p → k < part_count (length_at d p') → (j : ℕ) → d'.number (part_at d' p' k) j ≡ d.number (part_at d p' k) j

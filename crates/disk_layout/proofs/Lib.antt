@@ -1,3 +1,7 @@
+pub mod CatalogueWritten
+pub mod RenamedPages
+pub mod GivenBack
+pub mod DeletedPages
 pub mod CreateWritten
 pub mod NamePut
 pub mod CreatedPages

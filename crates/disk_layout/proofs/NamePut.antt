@@ -1,10 +1,10 @@
--- The entries in memory after a name was put.
-use Rattle.std.proofs.Common.{◌≡◌, ◌≢◌, ℕ, ◌+◌, ◌-◌, ◌<◌, ◌≤◌, ◌==◌, cond, min, List, length, get_or, set, refl, ap, sym, subst, ◌∙◌, inl, inr, arith, length-set, get_or-set_same, get_or-set_other}
+-- The entries in memory after a name was put or cleared.
+use Rattle.std.proofs.Common.{◌≡◌, ◌≢◌, ℕ, ◌+◌, ◌-◌, ◌<◌, ◌≤◌, cond, min, List, length, get_or, set, ap, sym, subst, ◌∙◌, inl, inr, arith, length-set, get_or-set_same, get_or-set_other}
 use Rattle.std.proofs.lemmas.Bool.{cases_eq, eq-eqb, ne_eqb}
 use Rattle.disk_layout.specs.declared.entry.Entry.{Entry}
 use Rattle.disk_layout.specs.Layout.{blank_entry}
 use Rattle.disk_layout.specs.Judging.{IsKeptEntry}
-use Rattle.disk_layout.specs.Writing.{PutsName}
+use Rattle.disk_layout.specs.Writing.{ClearsName, PutsName, unnamed}
 
 abbrev at : List Entry → ℕ → Entry
 at entries k = get_or entries k blank_entry
@@ -12,13 +12,20 @@ at entries k = get_or entries k blank_entry
 abbrev with_searches : ℕ → Entry → Entry
 with_searches n e = record e { searches = n }
 
-module _ (kept : List Entry) (p s : ℕ) (new : Entry) (size : length kept ≡ 240) (below : p < 240) (key : new.key ≡ s + 1) (s_below : s < 240)
-    (room : (k : ℕ) → k < 240 → (at kept k).searches < 65535) where
+-- the entries after one was put at a place under its search length
+abbrev pub entry_set : List Entry → ℕ → Entry → List Entry
+entry_set kept p new = set kept p (with_searches (at kept p).searches new)
+
+-- and the search length at a place after it was set
+abbrev pub searches_set : List Entry → ℕ → ℕ → List Entry
+searches_set kept s m = set kept s (with_searches m (at kept s))
+
+module _ (kept : List Entry) (p s m : ℕ) (new : Entry) (size : length kept ≡ 240) (below : p < 240) (s_below : s < 240) where
   abbrev one : List Entry
-  one = set kept p (with_searches (at kept p).searches new)
+  one = entry_set kept p new
 
   abbrev two : List Entry
-  two = set one s (with_searches (min ((at one s).searches + 1) 65535) (at one s))
+  two = searches_set one s m
 
   one_here : at one p ≡ with_searches (at kept p).searches new
   one_here = get_or-set_same kept p _ blank_entry (omega (arith, size, below))
@@ -26,13 +33,13 @@ module _ (kept : List Entry) (p s : ℕ) (new : Entry) (size : length kept ≡ 2
   one_beside : (k : ℕ) → k ≢ p → at one k ≡ at kept k
   one_beside k apart = get_or-set_other kept p k _ blank_entry apart
 
-  two_here : at two s ≡ with_searches (min ((at one s).searches + 1) 65535) (at one s)
+  two_here : at two s ≡ with_searches m (at one s)
   two_here = get_or-set_same one s _ blank_entry (let same = length-set kept p (with_searches (at kept p).searches new) in omega (arith, size, same, s_below))
 
   two_beside : (k : ℕ) → k ≢ s → at two k ≡ at one k
   two_beside k apart = get_or-set_other one s k _ blank_entry apart
 
-  searches_one : (k : ℕ) → (at one k).searches ≡ (at kept k).searches
+  pub searches_one : (k : ℕ) → (at one k).searches ≡ (at kept k).searches
   searches_one k = elim (cases_eq k p) [
     | inl own ↦ ap (λ x. (at one x).searches) own ∙ ap (λ e. e.searches) one_here ∙ ap (λ x. (at kept x).searches) (sym own)
     | inr apart ↦ ap (λ e. e.searches) (one_beside k apart)
@@ -47,23 +54,70 @@ module _ (kept : List Entry) (p s : ℕ) (new : Entry) (size : length kept ≡ 2
     | inr apart ↦ let is = two_beside k apart in is ∙ ap (λ n. with_searches n (at one k)) (sym (ap (λ e. e.searches) is))
   ]
 
-  pub puts_name : PutsName kept two p new
+  pub places_set : length two ≡ length kept
+  places_set = length-set one s _ ∙ length-set kept p _
+
+  pub here_set : at two p ≡ with_searches (at two p).searches new
+  here_set = alike p ∙ ap (with_searches (at two p).searches) one_here
+
+  pub beside_set : (k : ℕ) → k ≢ p → at two k ≡ with_searches (at two k).searches (at kept k)
+  beside_set k apart = alike k ∙ ap (with_searches (at two k).searches) (one_beside k apart)
+
+  pub searches_here : (k : ℕ) → k ≡ s → (at two k).searches ≡ m
+  searches_here k own = ap (λ x. (at two x).searches) own ∙ ap (λ e. e.searches) two_here
+
+  pub searches_stay : (k : ℕ) → k ≢ s → (at two k).searches ≡ (at kept k).searches
+  searches_stay k apart = ap (λ e. e.searches) (two_beside k apart) ∙ searches_one k
+
+module _ (kept : List Entry) (p s : ℕ) (new : Entry) (size : length kept ≡ 240) (below : p < 240) (key : new.key ≡ s + 1) (s_below : s < 240)
+    (room : (k : ℕ) → k < 240 → (at kept k).searches < 65535) where
+  abbrev raised : ℕ
+  raised = min ((at (entry_set kept p new) s).searches + 1) 65535
+
+  pub puts_name : PutsName kept (searches_set (entry_set kept p new) s raised) p new
   puts_name = record {
-    places = length-set one s _ ∙ length-set kept p _;
-    here = alike p ∙ ap (with_searches (at two p).searches) one_here;
-    beside = λ k inside apart. alike k ∙ ap (with_searches (at two k).searches) (one_beside k apart);
+    places = places_set kept p s raised new size below s_below;
+    here = here_set kept p s raised new size below s_below;
+    beside = λ k inside apart. beside_set kept p s raised new size below s_below k apart;
     searches = λ k inside. elim (cases_eq k s) [
       | inl own ↦
-          let raised = ap (λ x. (at two x).searches) own ∙ ap (λ e. e.searches) two_here in
-          let was = searches_one s in let small = room s s_below in let here = ap (λ x. (at kept x).searches) own in
+          let now = searches_here kept p s raised new size below s_below k own in
+          let was = searches_one kept p s raised new size below s_below s in let small = room s s_below in let here = ap (λ x. (at kept x).searches) own in
           let one_more = ap {B = ℕ} (λ b. cond b 1 0) (eq-eqb new.key (k + 1) (omega (arith, key, own))) in
-          omega (arith, raised, was, small, here, one_more)
+          omega (arith, now, was, small, here, one_more)
       | inr apart ↦
-          let stays = ap (λ e. e.searches) (two_beside k apart) ∙ searches_one k in
+          let stays = searches_stay kept p s raised new size below s_below k apart in
           let none = ap {B = ℕ} (λ b. cond b 1 0) (ne_eqb new.key (k + 1) (λ e. apart (omega (arith, key, e)))) in
           omega (arith, stays, none)
     ];
   }
+
+module _ (kept : List Entry) (p s : ℕ) (size : length kept ≡ 240) (below : p < 240) (key : (at kept p).key ≡ s + 1) (s_below : s < 240)
+    (some : 1 ≤ (at kept s).searches) where
+  abbrev lowered : ℕ
+  lowered = (at (entry_set kept p (unnamed 0)) s).searches - 1
+
+  pub clears_name : ClearsName kept (searches_set (entry_set kept p (unnamed 0)) s lowered) p
+  clears_name = record {
+    places = places_set kept p s lowered (unnamed 0) size below s_below;
+    here = here_set kept p s lowered (unnamed 0) size below s_below;
+    beside = λ k inside apart. beside_set kept p s lowered (unnamed 0) size below s_below k apart;
+    searches = λ k inside. elim (cases_eq k s) [
+      | inl own ↦
+          let now = searches_here kept p s lowered (unnamed 0) size below s_below k own in
+          let was = searches_one kept p s lowered (unnamed 0) size below s_below s in let here = ap (λ x. (at kept x).searches) own in
+          let one_less = ap {B = ℕ} (λ b. cond b 1 0) (eq-eqb (at kept p).key (k + 1) (omega (arith, key, own))) in
+          omega (arith, now, was, some, here, one_less)
+      | inr apart ↦
+          let stays = searches_stay kept p s lowered (unnamed 0) size below s_below k apart in
+          let none = ap {B = ℕ} (λ b. cond b 1 0) (ne_eqb (at kept p).key (k + 1) (λ e. apart (omega (arith, key, e)))) in
+          omega (arith, stays, none)
+    ];
+  }
+
+-- the entries after one was set and the search length at a place was made one less
+abbrev pub entry_lowered : List Entry → ℕ → ℕ → Entry → List Entry
+entry_lowered kept p s e = searches_set (set kept p e) s ((at (set kept p e) s).searches - 1)
 
 -- an entry may be kept whatever its search length
 kept_with : (e : Entry) (n : ℕ) → IsKeptEntry e → IsKeptEntry (with_searches n e)

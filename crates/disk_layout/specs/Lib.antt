@@ -7,4 +7,5 @@ pub mod Format1
 pub mod Layout
 pub mod Appending
 pub mod Writing
+pub mod Deleting
 pub mod Judging

@@ -38,6 +38,34 @@ pub record PutsName (kept kept_now : List Entry) (p : ℕ) (new : Entry) : Type 
       → (slice_index_or kept_now k blank_entry).searches
       ≡ (slice_index_or kept k blank_entry).searches + cond (new.key == k + 1) 1 0
 
+-- the entry of no file, at a place with this search length
+abbrev pub unnamed : ℕ → Entry
+unnamed searches = record { name = replicate 12 0; kind = 0; address = 0; protection = 0; key = 0; searches = searches }
+
+-- the entries in memory after the name at the place p was cleared: no file is there, and the search length at
+-- the place of its key is one less
+pub record ClearsName (kept kept_now : List Entry) (p : ℕ) : Type 0 where
+  pub places : length kept_now ≡ length kept
+  pub here : slice_index_or kept_now p blank_entry ≡ unnamed (slice_index_or kept_now p blank_entry).searches
+  pub beside : (k : ℕ) → k < 240 → k ≢ p
+      → slice_index_or kept_now k blank_entry ≡ record (slice_index_or kept k blank_entry) {
+        searches =
+            (slice_index_or kept_now k blank_entry).searches;
+      }
+  pub searches : (k : ℕ) → k < 240
+      → (slice_index_or kept k blank_entry).searches
+      ≡ (slice_index_or kept_now k blank_entry).searches + cond ((slice_index_or kept p blank_entry).key == k + 1) 1 0
+
+-- the pages after writes to the catalogue and the bit map: the entries and the bits are those in memory
+pub record CatalogueWrites (pages after : List (List ℕ)) (kept : List Entry) (taken : Pages) : Type 0 where
+  pub as_many : length after ≡ length pages
+  pub first : page_at after 0 ≡ page_at pages 0
+  pub entries : (k : ℕ) → k < 240 → slice_index_or kept k blank_entry ≡ entry_of after k
+  pub spares : (k : ℕ) → k < 240 → spare_of after k ≡ spare_of pages k
+  pub others : (n : ℕ) → 18 ≤ n → page_at after n ≡ page_at pages n
+  pub marked : (n : ℕ) → n < 4288 → marked_of after n ≡ set.contains taken n
+  pub zeros : (k : ℕ) → 24 ≤ k → slice_index (page_at after 17) k ≡ 0
+
 -- the pages after a file was created with this index page: the entries and the bits are those in memory
 pub record CreateWrites (pages after : List (List ℕ)) (kept : List Entry) (taken : Pages)
     (index : ℕ) : Type 0 where

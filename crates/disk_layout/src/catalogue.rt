@@ -1,8 +1,8 @@
-ghost use Rattle.std.specs.Prelude.{◌==◌, not, ◌≡◌, ◌≢◌, ◌+◌, ◌⊎◌, ℕ, ◌<◌, ◌≤◌, true, false, length, min, slice_index_or, slice_set, IfSome, IfNone};
+ghost use Rattle.std.specs.Prelude.{◌==◌, not, ◌≡◌, ◌≢◌, ◌+◌, ◌-◌, ◌⊎◌, ℕ, ◌<◌, ◌≤◌, true, false, length, min, slice_index_or, slice_set, IfSome, IfNone};
 ghost use Rattle.disk_layout.specs.Format.{count_below};
 ghost use Rattle.disk_layout.specs.Layout.{blank_entry};
 ghost use Rattle.disk_layout.specs.Judging.{IsKeptEntry};
-ghost use Rattle.disk_layout.specs.Writing.{IsFirstEmpty, PutsName};
+ghost use Rattle.disk_layout.specs.Writing.{ClearsName, IsFirstEmpty, PutsName, unnamed};
 
 use crate::Entry;
 
@@ -144,5 +144,48 @@ fn raise_searches(entries: &mut [Entry], place: usize)
 {
     let mut entry = entries[place];
     entry.searches = entry.searches.saturating_add(1);
+    entries[place] = entry;
+}
+
+/// Takes the name at a place away, and lowers the search length at the place of its key.
+pub fn clear_name(entries: &mut [Entry], place: usize)
+    requires places { length entries.old ≡ 240 }
+    requires place { place < 240 }
+    requires some { 1 ≤ (slice_index_or entries.old place blank_entry).key }
+    requires last { (slice_index_or entries.old place blank_entry).key ≤ 240 }
+    ensures clears { let key = (slice_index_or entries.old place blank_entry).key in
+        1 ≤ (slice_index_or entries.old (key - 1) blank_entry).searches
+        → ClearsName entries.old entries.new place }
+    ensures empty { (slice_index_or entries.new place blank_entry).kind ≡ 0 }
+    ensures kept { ((k : ℕ) → k < 240 → IsKeptEntry (slice_index_or entries.old k blank_entry))
+        → (k : ℕ) → k < 240 → IsKeptEntry (slice_index_or entries.new k blank_entry) }
+{
+    let entry = entries[place];
+    entries[place] = unnamed(entry.searches);
+    lower_searches(entries, entry.key as usize - 1);
+}
+
+// The entry of no file at a place with this search length.
+fn unnamed(searches: u16) -> Entry
+    ensures { result ≡ unnamed searches }
+{
+    Entry {
+        name: [0; 12],
+        kind: 0,
+        address: 0,
+        protection: 0,
+        key: 0,
+        searches,
+    }
+}
+
+// Makes the search length at a place one less. A catalogue's is at least 1 where a name has its key from it.
+fn lower_searches(entries: &mut [Entry], place: usize)
+    requires { place < length entries.old }
+    ensures { let entry = slice_index_or entries.old place blank_entry in
+        entries.new ≡ slice_set entries.old place (record entry { searches = entry.searches - 1 }) }
+{
+    let mut entry = entries[place];
+    entry.searches = entry.searches.saturating_sub(1);
     entries[place] = entry;
 }

@@ -11,7 +11,9 @@ mod kind;
 mod least;
 mod map_judge;
 
-pub use catalogue::{count_names, empty_place, is_named, place_of, put_name, set_protection};
+pub use catalogue::{
+    clear_name, count_names, empty_place, is_named, place_of, put_name, set_protection,
+};
 pub use catalogue_judge::{judge_entries, judge_searches, note_indexes};
 pub use entry::{Entry, is_address, is_whole, key_of};
 pub use first_page::{is_label, label};

@@ -1,4 +1,4 @@
-use Rattle.std.proofs.Common.{◌≡◌, ◌≤◌, ◌+◌, ◌==◌, not, cond, ℕ, get_or, ap, sym, ◌∙◌, arith}
+use Rattle.std.proofs.Common.{◌==◌, not, cond, ℕ, get_or, ap, sym, ◌∙◌, arith}
 use Rattle.disk_layout.specs.Layout.{blank_entry}
 use Rattle.disk_layout.proofs.JudgedEntries.{count_none, count_next}
 use Rattle.disk_layout.proofs.catalogue.count_names.Goals as goal

@@ -1,4 +1,4 @@
-use Rattle.std.proofs.Common.{◌≡◌, ◌≢◌, ◌≤◌, ◌<◌, ℕ, get_or}
+use Rattle.std.proofs.Common.{◌≢◌, ◌≤◌, ◌<◌, ℕ, get_or}
 use Rattle.disk_layout.specs.Layout.{blank_entry}
 use Rattle.disk_layout.proofs.catalogue.first_empty.Given as goal
 

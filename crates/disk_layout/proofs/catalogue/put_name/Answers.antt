@@ -1,4 +1,4 @@
-use Rattle.std.proofs.Common.{◌≡◌, ◌<◌, ◌-◌, arith}
+use Rattle.std.proofs.Common.{◌-◌, arith}
 use Rattle.disk_layout.proofs.NamePut.{kept_put, named_put}
 use Rattle.disk_layout.proofs.catalogue.put_name.Goals as goal
 
