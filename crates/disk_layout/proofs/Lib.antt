@@ -1,3 +1,5 @@
+pub mod NextNames
+pub mod Takings
 pub mod CatalogueWritten
 pub mod RenamedPages
 pub mod GivenBack

@@ -8,4 +8,6 @@ pub mod Layout
 pub mod Appending
 pub mod Writing
 pub mod Deleting
+pub mod Names
+pub mod Taking
 pub mod Judging

@@ -1,7 +1,8 @@
 -- What the writes of an entry of the catalogue change.
-use Rattle.std.specs.Prelude.{◌≡◌, ◌≢◌, ℕ, ◌+◌, ◌<◌, ◌≤◌, ◌⊎◌, ◌==◌, List, length, take, drop, replicate, cond, slice_index, slice_index_or}
+use Rattle.std.specs.Prelude.{◌≡◌, ◌≢◌, ℕ, ◌+◌, ◌-◌, ◌<◌, ◌≤◌, ◌⊎◌, ◌==◌, List, length, take, drop, replicate, cond, slice_index, slice_index_or}
 use Rattle.std.specs.FinSet as set
 use Rattle.disk_pages.specs.Pages.{Pages}
+use Rattle.disk_layout.specs.Format.{key_of}
 use Rattle.disk_layout.specs.Layout.{blank_entry}
 use Rattle.disk_layout.specs.declared.entry.Entry.{Entry}
 use Rattle.disk_layout.specs.Disk.{entry_in, entry_of, spare_of, entry_page, page_at, marked_of}
@@ -83,3 +84,12 @@ pub record IsFirstEmpty (entries : List Entry) (from p : ℕ) : Type 0 where
   pub empty : (slice_index_or entries p blank_entry).kind ≡ 0
   pub behind : from ≤ p → (k : ℕ) → from ≤ k → k < p → (slice_index_or entries k blank_entry).kind ≢ 0
   pub round : p < from → (k : ℕ) → k < length entries → (k < p) ⊎ (from ≤ k) → (slice_index_or entries k blank_entry).kind ≢ 0
+
+-- the entries in memory after the file at the place p was renamed: its name is cleared, and then the new one
+-- is put into the first empty place from that of its key on
+pub record IsRenamed (kept kept_now : List Entry) (p : ℕ) (name : List ℕ) : Type 0 where
+  pub between : List Entry
+  pub cleared : ClearsName kept between p
+  pub to : ℕ
+  pub first : IsFirstEmpty between (key_of name - 1) to
+  pub put : PutsName between kept_now to (record (slice_index_or kept p blank_entry) { name = name; key = key_of name })

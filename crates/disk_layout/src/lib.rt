@@ -10,6 +10,7 @@ mod judge;
 mod kind;
 mod least;
 mod map_judge;
+mod names;
 
 pub use catalogue::{
     clear_name, count_names, empty_place, is_named, place_of, put_name, set_protection,
@@ -21,3 +22,4 @@ pub use judge::{judge_index, judge_part};
 pub use kind::FileKind;
 pub use least::{earlier, note_bad};
 pub use map_judge::{ends_in_zeros, judge_bits, least_page};
+pub use names::place_after;
