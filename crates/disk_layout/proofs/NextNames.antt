@@ -1,6 +1,6 @@
 -- The next name among those of the first entries, with one entry more.
-use Rattle.std.proofs.Common.{◌≡◌, ℕ, ◌+◌, true, false, Option, Some, None, List, refl, ap, sym, subst, ◌∙◌, inl, inr, arith}
-use Rattle.std.specs.Prelude.{◌⊎◌}
+use Rattle.std.proofs.Common.{◌≡◌, ℕ, suc, zero, ◌+◌, ◌<◌, ◌≢◌, true, false, Option, Some, None, List, refl, ap, sym, subst, ◌∙◌, inl, inr, arith}
+use Rattle.std.specs.Prelude.{◌⊎◌, slice_index_or}
 use Rattle.std.specs.Ordering.{nat_cmp, is_lt}
 use Rattle.std.specs.declared.cmp.Ordering.{Ordering}
 use Rattle.std.specs.declared.cmp.Ordering.TheVariants.{Less, Equal, Greater}
@@ -8,7 +8,13 @@ use Rattle.std.specs.Cmp.Lexicographic.{slice_cmp, nat_list_cmp_total}
 use Rattle.std.proofs.lemmas.Cmp.{tied_itself}
 use Rattle.std.proofs.lemmas.Bool.{cases_eq, cases_Bool, true≢false}
 use Rattle.disk_layout.specs.declared.entry.Entry.{Entry}
-use Rattle.disk_layout.specs.Names.{IsNextBelow, IsUsed, comes_before, is_past, name_at}
+use Rattle.std.specs.FinMap as fin
+use Rattle.disk_pages.specs.Pages.{Pages}
+use Rattle.disk_layout.specs.Files.{File, files, file_at}
+use Rattle.disk_layout.specs.Layout.{IsLaidOut, blank_entry}
+use Rattle.disk_layout.proofs.Lookups.{found_file, no_file}
+use Rattle.disk_layout.proofs.Maps.{cases_name}
+use Rattle.disk_layout.specs.Names.{IsNameAfter, IsNextBelow, IsUsed, comes_before, is_past, name_at}
 
 less_is : (r : Ordering) → is_lt r ≡ true → r ≡ Less
 less_is Less e = refl
@@ -83,4 +89,48 @@ module _ (entries : List Entry) (after : Option (List ℕ)) (n : ℕ) where
       | inl here ↦ ap (λ x. comes_before (name_at entries x) (name_at entries p)) here ∙ not
       | inr apart ↦ before.3 k (omega (arith, below, apart)) its behind
     ],
+  )
+
+-- a name stands at a place below, or at none
+named_or_none : (entries : List Entry) (q : List ℕ) (n : ℕ)
+    → ((k : ℕ) × (k < n) × IsUsed entries k × (name_at entries k ≡ q)) ⊎ ((k : ℕ) → k < n → IsUsed entries k → name_at entries k ≢ q)
+named_or_none entries q zero = inr (λ k below. absurd (omega (arith, below)))
+named_or_none entries q (suc n) = elim (named_or_none entries q n) [
+  | inl w ↦ inl (w.0, omega (arith, w.1), w.2, w.3)
+  | inr none ↦ elim (cases_eq (slice_index_or entries n blank_entry).kind 0) [
+    | inl empty ↦ inr (λ k below used. elim (cases_eq k n) [
+      | inl here ↦ absurd (used (ap (λ x. (slice_index_or entries x blank_entry).kind) here ∙ empty))
+      | inr apart ↦ none k (omega (arith, below, apart)) used
+    ])
+    | inr used ↦ elim (cases_name (name_at entries n) q) [
+      | inl same ↦ inl (n, omega arith, used, same)
+      | inr other ↦ inr (λ k below its. elim (cases_eq k n) [
+        | inl here ↦ λ e. other (sym (ap (name_at entries) here) ∙ e)
+        | inr apart ↦ none k (omega (arith, below, apart)) its
+      ])
+    ]
+  ]
+]
+
+module _ (kept : List Entry) (taken : Pages) (pages : List (List ℕ)) (laid : IsLaidOut kept taken pages) (after : Option (List ℕ)) where
+  -- the name of a file stands in the catalogue
+  named_at_some : (q : List ℕ) (file : File) → fin.get (files pages) q ≡ Some file → (k : ℕ) × (k < 240) × IsUsed kept k × (name_at kept k ≡ q)
+  named_at_some q file is = elim (named_or_none kept q 240) [
+    | inl w ↦ w
+    | inr none ↦ absurd (none_is_some (sym (no_file kept taken pages laid q (λ p below used. none p (let places = laid.places in omega (arith, below, places)) used)) ∙ is))
+  ]
+    where
+      none_is_some : ◌≡◌ {A = Option File} None (Some file) → ⊥
+      none_is_some e = cc
+
+  pub none_after : IsNextBelow kept after 240 None → IsNameAfter (files pages) after None
+  none_after none = λ name file is. let w = named_at_some name file is in sym (ap (is_past after) w.3) ∙ none w.0 w.1 w.2
+
+  pub name_after : (p : ℕ) (name : List ℕ) → name_at kept p ≡ name → IsNextBelow kept after 240 (Some p) → IsNameAfter (files pages) after (Some name)
+  name_after p name is next = (
+    (file_at pages (slice_index_or kept p blank_entry), found_file kept taken pages laid p name next.0 next.1 is),
+    sym (ap (is_past after) is) ∙ next.2,
+    λ other file its past.
+        let w = named_at_some other file its in
+        sym (ap (λ x. comes_before x name) w.3) ∙ sym (ap (comes_before (name_at kept w.0)) is) ∙ next.3 w.0 w.1 w.2 (ap (is_past after) w.3 ∙ past),
   )
