@@ -3,3 +3,9 @@ pub mod LineCalls
 pub mod Decks
 pub mod Papers
 pub mod SpoolCalls
+pub mod Streams
+pub mod Given
+pub mod Devices
+pub mod Beginning
+pub mod Ending
+pub mod Promise

@@ -53,6 +53,7 @@ module _ {K : Type 0} {given : K → Option (List ℕ)} {faults : K → ℕ} (st
               (λ none. ap (λ front. front ++ print.gained) (all free)
                   ∙ ap (λ more. text_tried h ++ more) (part.1 (new-none (caused h) (given_cause (act.Print line) r h) none))),
             );
+        untold = λ none. sym print.after ∙ ap (option_map (λ before. before ++ print.gained)) (ran.untold none);
         counts = let later = ran.counts in omega (arith, later, counts);
         failed = λ is. rose-later (faults start.sink) (faults old.sink) (faults new.sink) ran.counts (failed (some-same r reply.Failed is));
         live = λ none. live (done-of line h r print.suits (new-none (caused h) (given_cause (act.Print line) r h) none));

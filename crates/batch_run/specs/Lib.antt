@@ -6,3 +6,6 @@ pub mod Desks
 pub mod Pages
 pub mod Row
 pub mod DoesOnly
+pub mod Begun
+pub mod Met
+pub mod Batch

@@ -29,13 +29,14 @@ newest_print (Does action r ∷ h) = newest_print h
 newest_print (LacksMemory action r ∷ h) = newest_print h
 newest_print (Delays action ∷ h) = newest_print h
 
--- By what it was at first: a told paper gained a part of what was tried, and all of it where nothing failed.
--- A failure was counted.
+-- By what it was at first: a told paper gained a part of what was tried, and all of it where nothing failed;
+-- one that isn't told stays so. A failure was counted.
 pub record PaperRan {K : Type 0} (given : K → Option (List ℕ)) (faults : K → ℕ) (start now : Printing K)
     (h : List Entry) : Type 0 where
   pub prints : (before : List ℕ) → given start.sink ≡ Some before →
       (gained : List ℕ) × (given now.sink ≡ Some (before ++ gained)) × IsPrefixOf gained (text_tried h)
       × (caused h ≡ None → gained ≡ text_tried h)
+  pub untold : given start.sink ≡ None → given now.sink ≡ None
   pub counts : faults start.sink ≤ faults now.sink
   pub failed : newest_print h ≡ Some reply.Failed → Rose (faults start.sink) (faults now.sink)
   pub live : caused h ≡ None → now.live ≡ true

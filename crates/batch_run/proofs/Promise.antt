@@ -1,0 +1,365 @@
+-- What a batch promises, from what its five processes did and how their ends met.
+use Rattle.std.proofs.Common.{◌≡◌, ◌⊎◌, inl, inr, ◌≤◌, ◌<◌, ℕ, true, List, [], ◌∷◌, ◌++◌, Option, None, Some, refl, sym, ◌∙◌, ap, subst, lit≤}
+use Rattle.std.specs.Option.{is_some}
+use Rattle.solo_base.specs.declared.item.Item.{Item}
+use Rattle.solo_base.specs.declared.outcome.Side.{Side}
+use Rattle.solo_base.specs.declared.outcome.Side.TheVariants.{Sender, Receiver}
+use Rattle.solo_base.specs.declared.outcome.Outcome.{Outcome}
+use Rattle.solo_base.specs.declared.outcome.Outcome.TheVariants as outcome
+use Rattle.solo_base.specs.declared.outcome.Cause.{Cause}
+use Rattle.solo_base.specs.declared.outcome.Cause.TheVariants as cause
+use Rattle.solo_base.specs.declared.page.Page.{Page}
+use Rattle.solo_base.specs.Text.{text}
+use Rattle.solo_devices.specs.Count.{Rose}
+use Rattle.solo_devices.specs.CardUnit.{Held, items_ahead, byte_limit}
+use Rattle.solo_devices.specs.declared.card_read.CardRead.TheVariants as read
+use Rattle.solo_devices.specs.PrinterUnit.{Printing, Gains}
+use Rattle.page_codec.specs.Items.{AreItems}
+use Rattle.disk_spool.specs.Ends.{known}
+use Rattle.resource_mon.specs.Seats.{Desk}
+use Rattle.batch_procs.specs.declared.actions.Action.{Action}
+use Rattle.batch_procs.specs.declared.actions.Action.TheVariants as act
+use Rattle.batch_procs.specs.declared.actions.Reply.TheVariants as reply
+use Rattle.batch_procs.specs.Fits.{Fits}
+use Rattle.batch_procs.specs.History.{Entry, Does, newest}
+use Rattle.batch_procs.specs.History as history
+use Rattle.batch_procs.specs.Causes.{caused}
+use Rattle.batch_procs.specs.Laws.{IsRelay, HasEnded}
+use Rattle.batch_procs.specs.Process.{Process, Follows}
+use Rattle.batch_procs.specs.Relays.{card-relay, input-relay, job-relay, output-relay, printer-relay}
+use Rattle.batch_procs.specs.Table.{card, input, job, output, printer}
+use Rattle.batch_procs.proofs.Faulty.{faults_of_the_five}
+use Rattle.core_law.specs.Core.{IsBuffer}
+use Rattle.core_law.specs.Ends.{IsProcess, outcome_by}
+use Rattle.core_law.specs.Holds.{one_thread_lines}
+use Rattle.core_law.proofs.Ends.{the-five}
+use Rattle.core_law.proofs.Outcomes.{ended-as}
+use Rattle.core_law.proofs.Passing.{EndDone, gains-of, reads-all}
+use Rattle.core_law.proofs.Row.{each-buffer}
+use Rattle.core_law.proofs.Stopping.{done-none, none-done, stopped-by}
+use Rattle.core_law.proofs.Streams.{ReadsOf, Gained}
+use Rattle.core_net.specs.declared.finish.Outcomes.{Outcomes}
+use Rattle.core_net.specs.Causes.{Counts}
+use Rattle.core_net.specs.Ended.{outcome_at, all_done, none_stopped, stopped_at, StoppedBeside, SomeFault, EndTogether, FaultsAre}
+use Rattle.batch_run.specs.declared.batch.Parted.{Parted}
+use Rattle.batch_run.specs.declared.desk.Desk.{Desk as Place}
+use Rattle.batch_run.specs.declared.gates.AllMet.{AllMet as Met}
+use Rattle.batch_run.specs.declared.gates.Gates.{Gates}
+use Rattle.batch_run.specs.declared.gates.Ends.{Ends}
+use Rattle.batch_run.specs.declared.row.Row.{Row}
+use Rattle.batch_run.specs.declared.row.RowEnded.{RowEnded}
+use Rattle.batch_run.specs.declared.units.Units.{Units}
+use Rattle.batch_run.specs.Batch.{FaultsAreCounted}
+use Rattle.batch_run.specs.Begun.{AreFresh, BeginsBy}
+use Rattle.batch_run.specs.Desks.{DeskRan}
+use Rattle.batch_run.specs.DoesOnly.{card-does, input-does, job-does, output-does, printer-does}
+use Rattle.batch_run.specs.Lines.{does_printer, newest_print}
+use Rattle.batch_run.specs.Met.{IsSeatOf, AreEndsOf, AllMeet, IsParted}
+use Rattle.batch_run.specs.Pages.{does_input, does_job, does_output}
+use Rattle.batch_run.specs.Row.{RowRan}
+use Rattle.batch_run.proofs.Devices.{deck-reads, paper-gained}
+use Rattle.batch_run.proofs.Ending.{FiveRan, each-process, histories, follows, hand-over, are-first, line-met, spool-met}
+use Rattle.batch_run.proofs.Given.{has-failed, put-failed, take-failed, read-failed, print-failed}
+
+-- ---- one process
+fault-cause : (found : Option Outcome) (c : Cause) → outcome_by found ≡ outcome.Fault c → found ≡ Some (outcome.Fault c)
+fault-cause None c e = absurd cc
+fault-cause (Some how) c e = ap Some e
+
+caused-so : (p : Process) (h : List Entry) (how : Outcome) (c : Cause) → IsRelay p → Follows p h → newest h ≡ Some (act.Ended how) → how ≡ outcome.Fault c
+    → caused h ≡ Some (outcome.Fault c)
+caused-so p h how c relay follows ended e = fault-cause (caused h) c (ended-as p h how relay follows ended ∙ e)
+
+-- the three actions of which a device may fail
+by-failed : (P : Action → Type 0) (a : Action) → Fits a reply.Failed → ((page : Page) → P (act.PutPage page)) → P act.TakePage → ((line : List ℕ) → P (act.Print line)) → P a
+by-failed P (act.PutPage page) fits put take print = put page
+by-failed P act.TakePage fits put take print = take
+by-failed P (act.Print line) fits put take print = print line
+by-failed P a fits put take print = absurd fits
+
+same-end : (last : Option Action) (a b : Outcome) → last ≡ Some (act.Ended a) → last ≡ Some (act.Ended b) → a ≡ b
+same-end last a b x y = cc
+
+all-done-by : (a b c d e : Outcome) → a ≡ outcome.Done → b ≡ outcome.Done → c ≡ outcome.Done → d ≡ outcome.Done → e ≡ outcome.Done
+    → record { card = a; input = b; job = c; output = d; printer = e } ≡ all_done
+all-done-by a b c d e x y z v w = cc
+
+none-by : (a b c d : Option Side) → a ≡ None → b ≡ None → c ≡ None → d ≡ None → (a ∷ b ∷ c ∷ d ∷ []) ≡ none_stopped
+none-by a b c d x y z v = cc
+
+rose-by : {a c b d : ℕ} → a ≡ c → b ≡ d → Rose a b → Rose c d
+rose-by {a} {c} {b} {d} x y rose = subst (λ n. Rose n d) x (subst (λ m. Rose a m) y rose)
+
+later-by : {a c b d : ℕ} → a ≡ c → b ≡ d → a ≤ b → c ≤ d
+later-by {a} {c} {b} {d} x y later = subst (λ n. n ≤ d) x (subst (λ m. a ≤ m) y later)
+
+either-rose : {a c b d e f : ℕ} → a ≡ c → b ≡ d → Rose a e ⊎ Rose b f → Rose c e ⊎ Rose d f
+either-rose x y (inl rose) = inl (rose-by x refl rose)
+either-rose x y (inr rose) = inr (rose-by y refl rose)
+
+seat-after : (desk : Desk) (number : ℕ) (start now : Place) (h : List Entry) → DeskRan start now h
+    → start.resource.now ≡ desk → start.seat.number ≡ number → IsSeatOf desk number now.seat
+seat-after desk number start now h ran disk is = record {
+  gate = ran.at.gate ∙ ap (λ d. d.gate) (sym ran.same.0 ∙ disk);
+  number_is = ran.same.1 ∙ is;
+  alone = ran.at.alone;
+}
+
+module _ {S K A B : Type 0} (left : S → Option (List ℕ)) (taken source_faults : S → ℕ) (given : K → Option (List ℕ)) (sink_faults : K → ℕ)
+    (from_size : A → ℕ) (to_size : B → ℕ) (gates : Gates A B) (ends : Ends A B) (deck : Held S) (paper : Printing K) (row : Row S K A B)
+    (ended : RowEnded S K A B) (parted : Parted S K A B)
+    (fresh : AreFresh (from_size gates.input.area) (to_size gates.output.area) gates ends)
+    (begins : BeginsBy gates ends deck paper row) (ran : RowRan left taken source_faults given sink_faults from_size to_size row ended)
+    (is : IsParted ended parted) where
+  -- ---- the ends are still those of their gates
+  pub ends-are : AreEndsOf (from_size gates.input.area) (to_size gates.output.area) gates parted.ends
+  ends-are =
+      let card = ran.front_ended.cards_ended.stands in
+      let input = ran.front_ended.pages_ended.stands in
+      let job = ran.rest_ended.jobs_ended.stands in
+      let output = ran.rest_ended.back_ended.lines_ended.stands in
+      let printer = ran.rest_ended.back_ended.paper_ended.stands in
+      record {
+        cards_sender = ap (λ e. e.gate) is.cards_sender ∙ card.gate.1 ∙ sym card.gate.0 ∙ begins.card_gate;
+        cards_receiver = ap (λ e. e.gate) is.cards_receiver ∙ input.from_gate.1 ∙ sym input.from_gate.0 ∙ begins.input_from_gate;
+        input_sender = ap (λ e. e.gate) is.input_sender ∙ input.to_gate.1
+            ∙ ap (λ g. known (from_size g.area) g) (sym input.to_gate.0 ∙ begins.input_to_gate);
+        input_receiver = ap (λ e. e.gate) is.input_receiver ∙ job.from_gate.1
+            ∙ ap (λ g. known (from_size g.area) g) (sym job.from_gate.0 ∙ begins.job_from_gate);
+        output_sender = ap (λ e. e.gate) is.output_sender ∙ job.to_gate.1
+            ∙ ap (λ g. known (to_size g.area) g) (sym job.to_gate.0 ∙ begins.job_to_gate);
+        output_receiver = ap (λ e. e.gate) is.output_receiver ∙ output.from_gate.1
+            ∙ ap (λ g. known (to_size g.area) g) (sym output.from_gate.0 ∙ begins.output_from_gate);
+        lines_sender = ap (λ e. e.gate) is.lines_sender ∙ output.to_gate.1 ∙ sym output.to_gate.0 ∙ begins.output_to_gate;
+        lines_receiver = ap (λ e. e.gate) is.lines_receiver ∙ printer.gate.1 ∙ sym printer.gate.0 ∙ begins.printer_gate;
+        seats = record {
+          three = fresh.seats.three;
+          input = subst (IsSeatOf gates.disk 1) (sym is.input_seat)
+              (seat-after gates.disk 1 _ _ _ input.desk begins.input_disk (ap (λ s. s.number) (begins.input_seat ∙ fresh.seats.input)));
+          job = subst (IsSeatOf gates.disk 2) (sym is.job_seat)
+              (seat-after gates.disk 2 _ _ _ job.desk begins.job_disk (ap (λ s. s.number) (begins.job_seat ∙ fresh.seats.job)));
+          output = subst (IsSeatOf gates.disk 3) (sym is.output_seat)
+              (seat-after gates.disk 3 _ _ _ output.desk begins.output_disk (ap (λ s. s.number) (begins.output_seat ∙ fresh.seats.output)));
+        };
+      }
+
+  module _ (input_told : A → Option (List (List ℕ))) (input_faults : A → ℕ) (output_told : B → Option (List (List ℕ))) (output_faults : B → ℕ)
+      (met : Met A B) (meets : AllMeet input_told input_faults output_told output_faults gates parted.ends met) where
+    abbrev first : ℕ → Option Side
+    first = stopped_at met.stopped_by
+
+    abbrev pub five : FiveRan input_told input_faults output_told output_faults gates.input.area met.input gates.output.area met.output first
+    five =
+        let card = ran.front_ended.cards_ended in
+        let input = ran.front_ended.pages_ended in
+        let job = ran.rest_ended.jobs_ended in
+        let output = ran.rest_ended.back_ended.lines_ended in
+        let printer = ran.rest_ended.back_ended.paper_ended in
+        record {
+          card_history = card.history;
+          input_history = input.history;
+          job_history = job.history;
+          output_history = output.history;
+          printer_history = printer.history;
+          card_follows = card.follows;
+          input_follows = input.follows;
+          job_follows = job.follows;
+          output_follows = output.follows;
+          printer_follows = printer.follows;
+          cards_rest = meets.cards_rest;
+          cards = line-met _ _ _ _ meets.cards_rest (first 1) (ap (λ e. e.calls) is.cards_sender ∙ card.stands.calls)
+              (ap (λ e. e.calls) is.cards_receiver ∙ input.stands.from_calls) meets.cards;
+          input_left = meets.input_left;
+          input_meets = spool-met input_told input_faults gates.input.area met.input _ _ _ _ meets.input_left (first 2)
+              (ap (λ e. e.calls) is.input_sender ∙ input.stands.to_calls) (ap (λ e. e.calls) is.input_receiver ∙ job.stands.from_calls) meets.input;
+          output_left = meets.output_left;
+          output_meets = spool-met output_told output_faults gates.output.area met.output _ _ _ _ meets.output_left (first 3)
+              (ap (λ e. e.calls) is.output_sender ∙ job.stands.to_calls) (ap (λ e. e.calls) is.output_receiver ∙ output.stands.from_calls) meets.output;
+          lines_rest = meets.lines_rest;
+          lines = line-met _ _ _ _ meets.lines_rest (first 4) (ap (λ e. e.calls) is.lines_sender ∙ output.stands.to_calls)
+              (ap (λ e. e.calls) is.lines_receiver ∙ printer.stands.calls) meets.lines;
+        }
+
+    abbrev outcomes : Outcomes
+    outcomes = parted.outcomes
+
+    -- ---- how each ended
+    ends-so : (h : List Entry) (how found : Outcome) → how ≡ found → newest h ≡ Some (act.Ended found) → newest h ≡ Some (act.Ended how)
+    ends-so h how found e last = last ∙ ap (λ how. Some (act.Ended how)) (sym e)
+
+    pub ended-at : (p : ℕ) → IsProcess p → newest (histories five p) ≡ Some (act.Ended (outcome_at outcomes p))
+    ended-at p one =
+        each-process (λ p. newest (histories five p) ≡ Some (act.Ended (outcome_at outcomes p))) p one
+        (ends-so ran.front_ended.cards_ended.history outcomes.card ended.front.0.1 is.card ran.front_ended.cards_ended.ended)
+        (ends-so ran.front_ended.pages_ended.history outcomes.input ended.front.1.1 is.input ran.front_ended.pages_ended.ended)
+        (ends-so ran.rest_ended.jobs_ended.history outcomes.job ended.rest.0.1 is.job ran.rest_ended.jobs_ended.ended)
+        (ends-so ran.rest_ended.back_ended.lines_ended.history outcomes.output ended.rest.1.0.1 is.output ran.rest_ended.back_ended.lines_ended.ended)
+        (ends-so ran.rest_ended.back_ended.paper_ended.history outcomes.printer ended.rest.1.1.1 is.printer ran.rest_ended.back_ended.paper_ended.ended)
+
+    done-at : (p : ℕ) → IsProcess p → outcome_at all_done p ≡ outcome.Done
+    done-at p one = each-process (λ p. outcome_at all_done p ≡ outcome.Done) p one refl refl refl refl refl
+
+    end-done : outcomes ≡ all_done → EndDone (histories five)
+    end-done e p one = ended-at p one ∙ ap (λ how. Some (act.Ended how)) (ap (λ o. outcome_at o p) e ∙ done-at p one)
+
+    -- ---- together
+    none-first : outcomes ≡ all_done → met.stopped_by ≡ none_stopped
+    none-first e =
+        let none = done-none the-five (histories five) (follows five) first (are-first five) (end-done e) in
+        meets.four ∙ none-by (first 1) (first 2) (first 3) (first 4) (none 1 (lit≤ tt, lit≤ tt)) (none 2 (lit≤ tt, lit≤ tt)) (none 3 (lit≤ tt, lit≤ tt))
+        (none 4 (lit≤ tt, lit≤ tt))
+
+    none-at : (b : ℕ) → IsBuffer b → stopped_at none_stopped b ≡ None
+    none-at b at = each-buffer (λ b. stopped_at none_stopped b ≡ None) b at refl refl refl refl
+
+    all-done : met.stopped_by ≡ none_stopped → outcomes ≡ all_done
+    all-done e =
+        let free = λ (b : ℕ) (at : IsBuffer b). ap (λ all. stopped_at all b) e ∙ none-at b at in
+        let done = λ (p : ℕ) (one : IsProcess p). none-done the-five (histories five) (follows five) first (are-first five) free p (outcome_at outcomes p) one
+        (ended-at p one) in
+        all-done-by outcomes.card outcomes.input outcomes.job outcomes.output outcomes.printer (done 1 (lit≤ tt, lit≤ tt)) (done 2 (lit≤ tt, lit≤ tt))
+        (done 3 (lit≤ tt, lit≤ tt)) (done 4 (lit≤ tt, lit≤ tt)) (done 5 (lit≤ tt, lit≤ tt))
+
+    beside : (p : ℕ) → IsProcess p → outcome_at outcomes p ≡ outcome.Stopped → StoppedBeside met.stopped_by p × SomeFault outcomes
+    beside p one e =
+        let all : (p : ℕ) → IsProcess p → HasEnded (histories five p) = λ p one. (outcome_at outcomes p, ended-at p one) in
+        let (told, fault) = stopped-by the-five (histories five) (follows five) first (are-first five) all p one
+        (ended-at p one ∙ ap (λ how. Some (act.Ended how)) e) in (
+          record { buffer = told.buffer; side = told.side; is_buffer = told.is_buffer; seated = told.seated; by = told.by },
+          record {
+            process = fault.process;
+            cause = fault.cause;
+            one = fault.one;
+            is = same-end (newest (histories five fault.process)) _ _ (ended-at fault.process fault.one) fault.ended;
+          },
+        )
+
+    pub together : EndTogether outcomes met.stopped_by
+    together = record { done = (none-first, all-done); stopped = beside }
+
+    -- ---- the faults
+    pub faults : FaultsAre outcomes
+    faults = record {
+      card = λ c e. faults_of_the_five.card _ c five.card_follows (caused-so card _ _ c card-relay five.card_follows (ended-at 1 (lit≤ tt, lit≤ tt)) e);
+      input = λ c e. faults_of_the_five.input _ c five.input_follows (caused-so input _ _ c input-relay five.input_follows (ended-at 2 (lit≤ tt, lit≤ tt)) e);
+      job = λ c e. faults_of_the_five.job _ c five.job_follows (caused-so job _ _ c job-relay five.job_follows (ended-at 3 (lit≤ tt, lit≤ tt)) e);
+      output = λ c e. faults_of_the_five.output _ c five.output_follows (caused-so output _ _ c output-relay five.output_follows (ended-at 4 (lit≤ tt, lit≤ tt)) e);
+      printer = λ c e. faults_of_the_five.printer _ c five.printer_follows
+          (caused-so printer _ _ c printer-relay five.printer_follows (ended-at 5 (lit≤ tt, lit≤ tt)) e);
+    }
+
+    -- ---- the devices
+    deck-read : (items : List Item) → items_ahead (left deck.source) deck.pending ≡ Some items
+        → ReadsOf items (items_ahead (left parted.deck.source) parted.deck.pending) (history.taken (histories five 1))
+    deck-read items told =
+        let card = ran.front_ended.cards_ended in
+        let (rest, now, parts, last) = card.stands.deck.reads items (ap (λ d. items_ahead (left d.source) d.pending) begins.deck_is ∙ told) in
+        deck-reads card.history items rest _ card.follows (ap (λ d. items_ahead (left d.source) d.pending) is.deck ∙ now) parts last
+
+    paper-gains : (before : List ℕ) → given paper.sink ≡ Some before → Gained before (given parted.paper.sink) printer.sends (histories five 5)
+    paper-gains before told =
+        let end = ran.rest_ended.back_ended.paper_ended in
+        let (gained, now, part, all) = end.stands.paper.prints before (ap (λ p. given p.sink) begins.paper_is ∙ told) in
+        paper-gained printer printer-relay end.history before gained _ end.follows (ap (λ p. given p.sink) is.paper ∙ now) part all
+
+    pub prints : is_some (input_told gates.input.area) ≡ true → is_some (output_told gates.output.area) ≡ true → (items : List Item)
+        → items_ahead (left deck.source) deck.pending ≡ Some items → AreItems items
+        → Gains (given paper.sink) (given parted.paper.sink) (text (one_thread_lines items)) (outcomes ≡ all_done)
+    prints input_is output_is items told valid = record {
+      told = λ before paper_told.
+          (let gains = gains-of (histories five) (follows five) (hand-over five input_is output_is) items _ before _ valid (deck-read items told)
+          (paper-gains before paper_told) in
+          record { part = gains.part; now_is = gains.now_is; prefix = gains.prefix; all_is = λ e. gains.all_is (end-done e) });
+      untold = λ none. ap (λ p. given p.sink) is.paper
+          ∙ ran.rest_ended.back_ended.paper_ended.stands.paper.untold (ap (λ p. given p.sink) begins.paper_is ∙ none);
+    }
+
+    pub reads : (items : List Item) → items_ahead (left deck.source) deck.pending ≡ Some items → outcomes ≡ all_done
+        → items_ahead (left parted.deck.source) parted.deck.pending ≡ Some []
+    reads items told e = reads-all the-five (histories five) (follows five) items _ (deck-read items told) (end-done e)
+
+    -- ---- the counts
+    read-gave : (c : Cause) → outcomes.card ≡ outcome.Fault c → caused five.card_history ≡ Some (outcome.Fault c)
+    read-gave c e = caused-so card five.card_history outcomes.card c card-relay five.card_follows (ended-at 1 (lit≤ tt, lit≤ tt)) e
+
+    deck-rose : outcomes.card ≡ outcome.Fault cause.ReadFault → Rose (source_faults deck.source) (source_faults parted.deck.source)
+    deck-rose e =
+        let newest = read-failed card-does five.card_history cause.ReadFault read.Failed refl five.card_follows (read-gave cause.ReadFault e) in
+        rose-by (ap (λ d. source_faults d.source) begins.deck_is) (ap (λ d. source_faults d.source) (sym is.deck))
+        (ran.front_ended.cards_ended.stands.deck.failed newest)
+
+    deck-long : outcomes.card ≡ outcome.Fault cause.DeckLimit → byte_limit < taken parted.deck.source
+    deck-long e =
+        let newest = read-failed card-does five.card_history cause.DeckLimit read.Limit refl five.card_follows (read-gave cause.DeckLimit e) in
+        subst (λ n. byte_limit < n) (ap (λ d. taken d.source) (sym is.deck)) (ran.front_ended.cards_ended.stands.deck.limit newest)
+
+    paper-rose : outcomes.printer ≡ outcome.Fault cause.PrintFault → Rose (sink_faults paper.sink) (sink_faults parted.paper.sink)
+    paper-rose e =
+        let h = five.printer_history in
+        let gave = caused-so printer h outcomes.printer cause.PrintFault printer-relay five.printer_follows (ended-at 5 (lit≤ tt, lit≤ tt)) e in
+        let failed = has-failed printer printer-does cause.PrintFault tt h five.printer_follows gave in
+        let newest = by-failed (λ a. (later before : List Entry) → h ≡ later ++ Does a reply.Failed ∷ before → does_printer a → newest_print h ≡ Some reply.Failed)
+        failed.action failed.fits (λ page later before at does. absurd does) (λ later before at does. absurd does)
+        (λ line later before at does. print-failed h later before line five.printer_follows at) failed.later failed.before failed.is failed.does_it in
+        rose-by (ap (λ p. sink_faults p.sink) begins.paper_is) (ap (λ p. sink_faults p.sink) (sym is.paper))
+        (ran.rest_ended.back_ended.paper_ended.stands.paper.failed newest)
+
+    input-rose : outcomes.input ≡ outcome.Fault cause.DiskFault → Rose (input_faults gates.input.area) (input_faults met.input)
+    input-rose e =
+        let h = five.input_history in
+        let gave = caused-so input h outcomes.input cause.DiskFault input-relay five.input_follows (ended-at 2 (lit≤ tt, lit≤ tt)) e in
+        let failed = has-failed input input-does cause.DiskFault tt h five.input_follows gave in
+        by-failed (λ a. (later before : List Entry) → h ≡ later ++ Does a reply.Failed ∷ before → does_input a
+        → Rose (input_faults gates.input.area) (input_faults met.input))
+        failed.action failed.fits (λ page later before at does. five.input_meets.of_area.failed Sender (put-failed 2 h later before page at))
+        (λ later before at does. absurd does) (λ line later before at does. absurd does) failed.later failed.before failed.is failed.does_it
+
+    job-rose : outcomes.job ≡ outcome.Fault cause.DiskFault
+        → Rose (input_faults gates.input.area) (input_faults met.input) ⊎ Rose (output_faults gates.output.area) (output_faults met.output)
+    job-rose e =
+        let h = five.job_history in
+        let gave = caused-so job h outcomes.job cause.DiskFault job-relay five.job_follows (ended-at 3 (lit≤ tt, lit≤ tt)) e in
+        let failed = has-failed job job-does cause.DiskFault tt h five.job_follows gave in
+        by-failed (λ a. (later before : List Entry) → h ≡ later ++ Does a reply.Failed ∷ before → does_job a
+        → Rose (input_faults gates.input.area) (input_faults met.input) ⊎ Rose (output_faults gates.output.area) (output_faults met.output))
+        failed.action failed.fits (λ page later before at does. inr (five.output_meets.of_area.failed Sender (put-failed 3 h later before page at)))
+        (λ later before at does. inl (five.input_meets.of_area.failed Receiver (take-failed 2 h later before at)))
+        (λ line later before at does. absurd does) failed.later failed.before failed.is failed.does_it
+
+    output-rose : outcomes.output ≡ outcome.Fault cause.DiskFault → Rose (output_faults gates.output.area) (output_faults met.output)
+    output-rose e =
+        let h = five.output_history in
+        let gave = caused-so output h outcomes.output cause.DiskFault output-relay five.output_follows (ended-at 4 (lit≤ tt, lit≤ tt)) e in
+        let failed = has-failed output output-does cause.DiskFault tt h five.output_follows gave in
+        by-failed (λ a. (later before : List Entry) → h ≡ later ++ Does a reply.Failed ∷ before → does_output a
+        → Rose (output_faults gates.output.area) (output_faults met.output))
+        failed.action failed.fits (λ page later before at does. absurd does)
+        (λ later before at does. five.output_meets.of_area.failed Receiver (take-failed 3 h later before at))
+        (λ line later before at does. absurd does) failed.later failed.before failed.is failed.does_it
+
+    abbrev pub counts : Counts S K A B
+    counts = record {
+      read_faults = source_faults;
+      taken = taken;
+      print_faults = sink_faults;
+      input_faults = input_faults;
+      output_faults = output_faults;
+    }
+
+    pub counted : (units : Units S K A B) → deck ≡ units.deck → paper ≡ units.paper → gates.input.area ≡ units.input → gates.output.area ≡ units.output
+        → FaultsAreCounted counts units
+        record { outcomes = outcomes; stopped_by = met.stopped_by; deck = parted.deck; input = met.input; output = met.output; paper = parted.paper }
+    counted units deck_is paper_is input_is output_is = record {
+      read = λ e. rose-by (ap (λ d. source_faults d.source) deck_is) refl (deck-rose e);
+      limit = deck-long;
+      input = λ e. rose-by (ap input_faults input_is) refl (input-rose e);
+      job = λ e. either-rose (ap input_faults input_is) (ap output_faults output_is) (job-rose e);
+      output = λ e. rose-by (ap output_faults output_is) refl (output-rose e);
+      print = λ e. rose-by (ap (λ p. sink_faults p.sink) paper_is) refl (paper-rose e);
+      read_on = later-by (ap (λ d. source_faults d.source) (begins.deck_is ∙ deck_is)) (ap (λ d. source_faults d.source) (sym is.deck))
+          ran.front_ended.cards_ended.stands.deck.counts;
+      input_on = later-by (ap input_faults input_is) refl five.input_meets.of_area.later;
+      output_on = later-by (ap output_faults output_is) refl five.output_meets.of_area.later;
+      print_on = later-by (ap (λ p. sink_faults p.sink) (begins.paper_is ∙ paper_is)) (ap (λ p. sink_faults p.sink) (sym is.paper))
+          ran.rest_ended.back_ended.paper_ended.stands.paper.counts;
+    }

@@ -1,0 +1,40 @@
+use Rattle.std.proofs.Common.{refl}
+use Rattle.batch_run.proofs.Beginning.{row-begins}
+use Rattle.batch_run.proofs.Promise.{together, faults, counted, prints, reads}
+use Rattle.batch_run.proofs.batch.run_made.Goals as goal
+
+pub run_five-ended-requires-after_bounds : goal.run_five-ended-requires-after_bounds
+run_five-ended-requires-after_bounds g c κs within =
+    row-begins g.S.Source.left g.S.Source.taken g.S.Source.faults g.K.Sink.given g.K.Sink.faults g.A.Area.size g.B.Area.size
+    c.args.gates c.args.ends c.args.deck c.args.paper c.row.result c.requires.fresh c.row.ensures c.requires.live.0 c.requires.live.1
+
+pub returns-clause-together : goal.returns-clause-together
+returns-clause-together g c =
+    together g.S.Source.left g.S.Source.taken g.S.Source.faults g.K.Sink.given g.K.Sink.faults g.A.Area.size g.B.Area.size
+    c.args.gates c.args.ends c.args.deck c.args.paper c.row.result c.run_five-ended.result c.take_apart-ends.result c.requires.fresh c.row.ensures
+    c.run_five-ended.ensures c.take_apart-ends.ensures g.A.Area.pages g.A.Area.faults g.B.Area.pages g.B.Area.faults c.meet-input.result c.meet-input.ensures
+
+pub returns-clause-faults : goal.returns-clause-faults
+returns-clause-faults g c =
+    faults g.S.Source.left g.S.Source.taken g.S.Source.faults g.K.Sink.given g.K.Sink.faults g.A.Area.size g.B.Area.size
+    c.args.gates c.args.ends c.args.deck c.args.paper c.row.result c.run_five-ended.result c.take_apart-ends.result c.requires.fresh c.row.ensures
+    c.run_five-ended.ensures c.take_apart-ends.ensures g.A.Area.pages g.A.Area.faults g.B.Area.pages g.B.Area.faults c.meet-input.result c.meet-input.ensures
+
+pub returns-clause-counted : goal.returns-clause-counted
+returns-clause-counted g c =
+    counted g.S.Source.left g.S.Source.taken g.S.Source.faults g.K.Sink.given g.K.Sink.faults g.A.Area.size g.B.Area.size
+    c.args.gates c.args.ends c.args.deck c.args.paper c.row.result c.run_five-ended.result c.take_apart-ends.result c.requires.fresh c.row.ensures
+    c.run_five-ended.ensures c.take_apart-ends.ensures g.A.Area.pages g.A.Area.faults g.B.Area.pages g.B.Area.faults c.meet-input.result c.meet-input.ensures
+    record { deck = c.args.deck; input = c.args.gates.input.area; output = c.args.gates.output.area; paper = c.args.paper } refl refl refl refl
+
+pub returns-clause-prints : goal.returns-clause-prints
+returns-clause-prints g c items ahead valid input_told output_told =
+    prints g.S.Source.left g.S.Source.taken g.S.Source.faults g.K.Sink.given g.K.Sink.faults g.A.Area.size g.B.Area.size
+    c.args.gates c.args.ends c.args.deck c.args.paper c.row.result c.run_five-ended.result c.take_apart-ends.result c.requires.fresh c.row.ensures
+    c.run_five-ended.ensures c.take_apart-ends.ensures g.A.Area.pages g.A.Area.faults g.B.Area.pages g.B.Area.faults c.meet-input.result c.meet-input.ensures input_told output_told items ahead valid
+
+pub returns-clause-reads : goal.returns-clause-reads
+returns-clause-reads g c items ahead done =
+    reads g.S.Source.left g.S.Source.taken g.S.Source.faults g.K.Sink.given g.K.Sink.faults g.A.Area.size g.B.Area.size
+    c.args.gates c.args.ends c.args.deck c.args.paper c.row.result c.run_five-ended.result c.take_apart-ends.result c.requires.fresh c.row.ensures
+    c.run_five-ended.ensures c.take_apart-ends.ensures g.A.Area.pages g.A.Area.faults g.B.Area.pages g.B.Area.faults c.meet-input.result c.meet-input.ensures items ahead done

@@ -1,0 +1,185 @@
+//! The batch: the five processes on threads, from the making of their buffers to the meeting of the ends.
+ghost use Rattle.std.specs.Prelude.{◌≡◌, ◌<◌, ◌≤◌, true, List, [], Some, IsSome, IfOk, IfErr};
+ghost use Rattle.solo_base.specs.declared.item.Item.{Item};
+ghost use Rattle.solo_base.specs.Text.{text};
+ghost use Rattle.solo_devices.specs.CardUnit.{items_ahead};
+ghost use Rattle.solo_devices.specs.PrinterUnit.{Gains};
+ghost use Rattle.page_codec.specs.Items.{AreItems};
+ghost use Rattle.core_law.specs.Holds.{one_thread_lines, AreTold};
+ghost use Rattle.core_net.specs.Ended.{all_done, EndTogether, FaultsAre};
+ghost use Rattle.core_net.specs.Openings.{spools_over};
+ghost use Rattle.batch_run.specs.Batch.{FaultsAreCounted};
+ghost use Rattle.batch_run.specs.Begun.{AreFresh};
+ghost use Rattle.batch_run.specs.Met.{IsParted};
+
+use crate::buffers::Seats;
+use crate::gates::{AllMet, Ends, Gates};
+use crate::making::make_all;
+use crate::row::{RowEnded, run_five};
+use crate::units::Units;
+use core_net::{Outcomes, Ran};
+use solo_base::NoMemory;
+use solo_devices::{Area, CardUnit, PrinterUnit, Sink, Source};
+use std::alloc::Global;
+use std::sync::Wait;
+use std::thread::Threads;
+
+/// How the five ended, with their ends and the devices.
+struct Parted<S: Source, K: Sink, A: Area + Send, B: Area + Send> {
+    outcomes: Outcomes,
+    ends: Ends<A, B>,
+    deck: CardUnit<S>,
+    paper: PrinterUnit<K>,
+}
+
+/// Runs the deck to the paper on five threads. Where memory is refused, no process has begun, and the units come
+/// back as they were.
+pub fn run_batch<
+    S: Source + Drop + Send,
+    K: Sink + Drop + Send,
+    A: Area + Send,
+    B: Area + Send,
+    R: Threads + Wait + Sync,
+>(
+    rt: &R,
+    alloc: Global,
+    units: Units<S, K, A, B>,
+) -> Result<Ran<S, K, A, B>, (Units<S, K, A, B>, NoMemory)>
+    requires live { (units.deck.live ≡ true) × (units.paper.live ≡ true) }
+    requires input { (0 < A.size units.input) × (A.size units.input ≤ 256) }
+    requires output { (0 < B.size units.output) × (B.size units.output ≤ 256) }
+    ensures refused { IfErr result (λ back. back.0 ≡ units) }
+
+    // How the five ended together, and where their faults come from.
+    ensures together { IfOk result (λ ran. EndTogether ran.outcomes ran.stopped_by) }
+    ensures faults { IfOk result (λ ran. FaultsAre ran.outcomes) }
+    ensures counted { IfOk result (λ ran. FaultsAreCounted record {
+      read_faults = S.faults;
+      taken = S.taken;
+      print_faults = K.faults;
+      input_faults = A.faults;
+      output_faults = B.faults;
+    } units ran) }
+
+    // The paper gained what one thread prints or a part of it, all of it where all are done, and then nothing is
+    // left of the deck.
+    ensures prints { IfOk result (λ ran. (items : List Item) →
+        items_ahead (S.left units.deck.source) units.deck.pending ≡ Some items → AreItems items →
+        AreTold (spools_over (A.size units.input) (A.pages units.input) (B.size units.output) (B.pages units.output)) →
+        Gains (K.given units.paper.sink) (K.given ran.paper.sink) (text (one_thread_lines items)) (ran.outcomes ≡ all_done)) }
+    ensures reads { IfOk result (λ ran. (items : List Item) →
+        items_ahead (S.left units.deck.source) units.deck.pending ≡ Some items → ran.outcomes ≡ all_done →
+        items_ahead (S.left ran.deck.source) ran.deck.pending ≡ Some []) }
+{
+    let Units {
+        deck,
+        input,
+        output,
+        paper,
+    } = units;
+    match make_all(alloc, input, output) {
+        Ok((gates, ends)) => Ok(run_made(rt, gates, ends, deck, paper)),
+        Err(((input, output), refused)) => {
+            let units = Units {
+                deck,
+                input,
+                output,
+                paper,
+            };
+            Err((units, refused))
+        }
+    }
+}
+
+// Runs them once everything is made.
+fn run_made<
+    S: Source + Drop + Send,
+    K: Sink + Drop + Send,
+    A: Area + Send,
+    B: Area + Send,
+    R: Threads + Wait + Sync,
+>(
+    rt: &R,
+    gates: Gates<A, B>,
+    ends: Ends<A, B>,
+    deck: CardUnit<S>,
+    paper: PrinterUnit<K>,
+) -> Ran<S, K, A, B>
+    requires live { (deck.live ≡ true) × (paper.live ≡ true) }
+    requires fresh { AreFresh (A.size gates.input.area) (B.size gates.output.area) gates ends }
+    ensures together { EndTogether result.outcomes result.stopped_by }
+    ensures faults { FaultsAre result.outcomes }
+    ensures counted { FaultsAreCounted record {
+      read_faults = S.faults;
+      taken = S.taken;
+      print_faults = K.faults;
+      input_faults = A.faults;
+      output_faults = B.faults;
+    } record {
+      deck = deck;
+      input = gates.input.area;
+      output = gates.output.area;
+      paper = paper;
+    } result }
+    ensures prints { (items : List Item) →
+        items_ahead (S.left deck.source) deck.pending ≡ Some items → AreItems items →
+        IsSome (A.pages gates.input.area) → IsSome (B.pages gates.output.area) →
+        Gains (K.given paper.sink) (K.given result.paper.sink) (text (one_thread_lines items)) (result.outcomes ≡ all_done) }
+    ensures reads { (items : List Item) →
+        items_ahead (S.left deck.source) deck.pending ≡ Some items → result.outcomes ≡ all_done →
+        items_ahead (S.left result.deck.source) result.deck.pending ≡ Some [] }
+{
+    let ended = run_five(rt, gates.row(ends, deck, paper));
+    let Parted {
+        outcomes,
+        ends,
+        deck,
+        paper,
+    } = take_apart(ended);
+    let AllMet {
+        input,
+        output,
+        stopped_by,
+    } = gates.meet(ends);
+    Ran {
+        outcomes,
+        stopped_by,
+        deck,
+        input,
+        output,
+        paper,
+    }
+}
+
+// How the five ended, apart from the gates that they were at.
+fn take_apart<'a, S: Source + Drop, K: Sink + Drop, A: Area + Send, B: Area + Send>(
+    ended: RowEnded<'a, S, K, A, B>,
+) -> Parted<S, K, A, B>
+    ensures { IsParted ended.entry result }
+{
+    let RowEnded { front, rest } = ended;
+    let ((cards, card), (pages, input)) = front;
+    let ((jobs, job), ((lines, output), (paper, printer))) = rest;
+    Parted {
+        outcomes: Outcomes {
+            card,
+            input,
+            job,
+            output,
+            printer,
+        },
+        ends: Ends {
+            cards: (cards.lines, pages.cards),
+            input: (pages.pages, jobs.cards),
+            output: (jobs.pages, lines.pages),
+            lines: (lines.lines, paper.lines),
+            seats: Seats {
+                input: pages.seat,
+                job: jobs.seat,
+                output: lines.seat,
+            },
+        },
+        deck: cards.deck,
+        paper: paper.paper,
+    }
+}
