@@ -22,9 +22,11 @@ use Rattle.std.proofs.Common.{set as set_at, length-set, get_or-set_same, get_or
 use Rattle.disk_layout.proofs.TakenPages.{free_and_taken}
 use Rattle.disk_pages.proofs.MarkedPages.{len_one_more}
 use Rattle.disk_layout.specs.Judging.{IsKeptEntry}
-use Rattle.disk_files.specs.Answers.{unprotected, read_answer_of, LaidNow, Holds, pages_needed, IsFileArea, Stays, stays_sound, append_answer, append_answer_of}
+use Rattle.disk_files.specs.Answers.{unprotected, read_answer_of, LaidNow, Holds, Told, pages_needed, IsFileArea, Stays, stays_sound, append_answer, append_answer_of, rename_answer}
 use Rattle.disk_layout.proofs.Lookups.{length-first_pages, kept_has}
 use Rattle.disk_layout.proofs.Grows.{grown}
+use Rattle.disk_layout.specs.Taking.{HasIndex, TakesNext}
+use Rattle.disk_layout.proofs.Takings.{takes_next}
 
 -- the answer by the file of an entry
 pub append_at : (pages : List (List ℕ)) (e : Entry) (free : ℕ) → e.protection ≢ 1
@@ -117,11 +119,23 @@ pub grown_by : (kept : List Entry) (taken : Pages) (pages : List (List ℕ)) (la
     × ((after : List (List ℕ)) × (now ≡ Some after) × Appends pages after taken taken_now i (number_of pages i 0) (page_at pages i) page))
     → OnOk r (LaidNow now kept taken_now
     (fin.insert (files pages) (slice_index_or kept p blank_entry).name (with_page (file_at pages (slice_index_or kept p blank_entry)) page))
-    × (set.len taken_now ≡ set.len taken + pages_needed (number_of pages i 0)))
+    × (set.len taken_now ≡ set.len taken + pages_needed (number_of pages i 0))
+    × Told now (λ after. TakesNext pages after (slice_index_or kept p blank_entry).name (number_of pages i 0)))
 grown_by kept taken pages laid p below used (Err e) now taken_now page w = tt
 grown_by kept taken pages laid p below used (Ok u) now taken_now page w =
     let x = grown kept taken pages laid p below used w.1.0 taken_now page w.0 w.1.2 in
-    (record { pages = w.1.0; told = w.1.1; laid = x.0; files = x.1 }, pages_taken _ _ _ _ _ _ _ _ w.1.2)
+    let is = x.0.entries p below in
+    let indexed : HasIndex w.1.0 (slice_index_or kept p blank_entry).name (slice_index_or kept p blank_entry).address = record {
+      place = p;
+      inside = below;
+      used = subst (λ e. e.kind ≢ 0) is used;
+      named = ap (λ e. e.name) (sym is);
+      address = ap (λ e. e.address) (sym is);
+    } in (
+      record { pages = w.1.0; told = w.1.1; laid = x.0; files = x.1 },
+      pages_taken _ _ _ _ _ _ _ _ w.1.2,
+      (w.1.0, w.1.1, takes_next kept taken taken_now pages w.1.0 _ _ _ page _ laid w.1.2 indexed),
+    )
 
 pub file_length_at : (pages : List (List ℕ)) (e : Entry) → length (file_at pages e).pages ≡ number_of pages e.address 0
 unfolding file_at
@@ -173,6 +187,15 @@ refused_left (inr same) = inr (same, refl, refl)
 
 pub inserted_as : (all : Files) (n q : List ℕ) (a b : File) (change : File → File) → n ≡ q → a ≡ b → fin.insert all n (change a) ≡ fin.insert all q (change b)
 inserted_as all n q a b change same_name same_file = ap (λ x. fin.insert all x (change a)) same_name ∙ ap (λ x. fin.insert all q (change x)) same_file
+
+pub renamed_as_told : (all : Files) (n q m r : List ℕ) (a b : File) → n ≡ q → m ≡ r → a ≡ b
+    → fin.insert (fin.remove all n) m a ≡ fin.insert (fin.remove all q) r b
+renamed_as_told all n q m r a b old new file =
+    ap (λ x. fin.insert (fin.remove all x) m a) old ∙ ap (λ x. fin.insert (fin.remove all q) x a) new ∙ ap (fin.insert (fin.remove all q) r) file
+
+-- the answer of a rename where the files of both names are these
+pub rename_at : (old new a b : Option File) → old ≡ a → new ≡ b → rename_answer old new ≡ rename_answer a b
+rename_at old new a b is other = ap (λ x. rename_answer x new) is ∙ ap (rename_answer a) other
 
 -- the entries that are kept after one was set
 pub set_places : (kept : List Entry) (p : ℕ) (e : Entry) → length kept ≡ 240 → length (set_at kept p e) ≡ 240

@@ -1,5 +1,5 @@
 -- What the writes of a create leave.
-use Rattle.std.proofs.Common.{◌≡◌, ◌≢◌, ℕ, suc, zero, ◌+◌, ◌-◌, ◌<◌, ◌≤◌, ◌==◌, Bool, true, false, not, cond, Option, Some, None, Ok, Err, inl, inr, List, [], length, replicate, get_or, set as set_at, refl, ap, sym, subst, ◌∙◌, arith, length-set}
+use Rattle.std.proofs.Common.{◌≡◌, ◌≢◌, ℕ, suc, zero, ◌+◌, ◌-◌, ◌<◌, ◌≤◌, ◌==◌, Bool, true, false, not, cond, Option, Some, None, Ok, Err, inl, inr, List, [], length, replicate, set as set_at, refl, ap, sym, subst, ◌∙◌, arith}
 use Rattle.std.specs.Prelude.{nat_le, slice_index_or}
 use Rattle.std.proofs.lemmas.Bool.{cases_eq, cond-false, cond-true, eq-eqb, le-leb, lt-leb, ne_eqb}
 use Rattle.std.specs.FinSet as set
@@ -10,7 +10,9 @@ use Rattle.disk_pages.proofs.MarkedPages.{len_one_more}
 use Rattle.disk_layout.specs.declared.entry.Entry.{Entry}
 use Rattle.disk_layout.specs.declared.kind.FileKind.{FileKind}
 use Rattle.disk_layout.specs.Format.{IsAddress, count_below, has_key, key_of}
-use Rattle.disk_layout.specs.Disk.{disk_of, entry_of}
+use Rattle.disk_layout.specs.Disk.{disk_of, entry_of, marked_of}
+use Rattle.disk_layout.specs.Taking.{TakesIndex}
+use Rattle.disk_layout.proofs.Takings.{takes_least}
 use Rattle.disk_layout.specs.Files.{files, kind_of, name_count}
 use Rattle.disk_layout.specs.Layout.{IsLaidOut, blank_entry}
 use Rattle.disk_layout.specs.Appending.{SavesMap}
@@ -20,7 +22,7 @@ use Rattle.disk_layout.proofs.CreatedPages.{laid_created, files_created}
 use Rattle.disk_layout.proofs.CreateWritten.{create_writes}
 use Rattle.disk_layout.specs.Judging.{IsKeptEntry}
 use Rattle.disk_files.specs.declared.fault.FileFault.TheVariants.{CatalogFull, DiskFull}
-use Rattle.disk_files.specs.Answers.{LaidNow, create_answer}
+use Rattle.disk_files.specs.Answers.{LaidNow, Told, create_answer}
 
 at_most_one : (b : Bool) → cond b 1 0 ≤ 1
 at_most_one true = omega arith
@@ -58,7 +60,7 @@ module _ (kept kept_now : List Entry) (taken taken_now : Pages) (pages : List (L
             kind;
         protected = false;
         pages = [];
-      })) × (set.len taken_now ≡ set.len taken + 1)
+      })) × (set.len taken_now ≡ set.len taken + 1) × Told now (λ after. TakesIndex pages after name)
   created_now now two three after told first second saved =
       let w = create_writes kept kept_now taken_now pages (set_at pages i zeros) two three after p (key - 1) new laid.as_many below
       (omega (arith, key_some, key_last)) (omega (arith, key_some)) free
@@ -71,6 +73,22 @@ module _ (kept kept_now : List Entry) (taken taken_now : Pages) (pages : List (L
               ∙ ap (λ k. fin.insert (files pages) name (record { kind = k; protected = false; pages = [] })) kind_is;
         },
         ap set.len taken_is ∙ len_one_more taken i least.free,
+        (
+          after,
+          told,
+          record {
+            index = i;
+            indexed =
+                let here = sym (w.entries p below) ∙ put.here in let kind = ap (λ e. e.kind) here in record {
+                  place = p;
+                  inside = below;
+                  used = λ e. omega (arith, e, kind, some);
+                  named = ap (λ e. e.name) here;
+                  address = ap (λ e. e.address) here;
+                };
+            taken = takes_least taken taken_now (marked_of pages) (marked_of after) i least taken_is laid.taken w.marked;
+          },
+        ),
       )
 
 -- ---- How many names there are

@@ -3,7 +3,6 @@ use Rattle.std.proofs.Common.{◌≡◌, ◌≢◌, inl, inr, ℕ, List, Option,
 use Rattle.std.specs.Prelude.{slice_set}
 use Rattle.solo_devices.specs.Area.{Writes, HasSize}
 use Rattle.solo_devices.specs.declared.area.Moved.{Moved}
-use Rattle.solo_devices.specs.declared.area.Moved.TheVariants as Moved
 use Rattle.disk_pages.specs.Pages.{Pages}
 use Rattle.disk_layout.specs.declared.entry.Entry.{Entry}
 use Rattle.disk_layout.specs.Format.{IsAddress}

@@ -1,3 +1,5 @@
+pub mod Renames
+pub mod Deletes
 pub mod Creates
 pub mod Mounted
 pub mod CatalogueRead

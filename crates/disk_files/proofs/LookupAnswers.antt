@@ -1,9 +1,16 @@
 -- What is answered of a file, by its entry.
-use Rattle.std.proofs.Common.{◌≡◌, ℕ, ◌-◌, ◌<◌, ◌==◌, Option, Some, Result, Ok, Err, OnOk, List, [], length, get_or, ap, sym, ◌∙◌, inl, inr, arith}
+use Rattle.std.proofs.Common.{◌≡◌, ℕ, ◌-◌, ◌<◌, ◌==◌, Option, Some, Result, Ok, Err, OnOk, List, [], length, get_or, ap, sym, ◌∙◌, inl, inr, arith, ◌≢◌, None, refl, subst}
 use Rattle.std.proofs.lemmas.Bool.{cases_eq, cases_lt}
 use Rattle.disk_layout.specs.declared.entry.Entry.{Entry}
 use Rattle.disk_layout.specs.Disk.{disk_of, page_at, number_of}
-use Rattle.disk_layout.specs.Files.{File, file_at, kind_of, page_of}
+use Rattle.disk_layout.specs.Files.{File, files, file_at, kind_of, page_of}
+use Rattle.solo_base.specs.Blanks.{trimmed}
+use Rattle.solo_base.specs.Ident.{identifier}
+use Rattle.disk_pages.specs.Pages.{Pages}
+use Rattle.disk_layout.specs.Layout.{IsLaidOut}
+use Rattle.disk_layout.specs.Judging.{IsKeptEntry}
+use Rattle.disk_layout.specs.Names.{IsNameAfter, IsNextBelow, name_at}
+use Rattle.disk_layout.proofs.NextNames.{name_after, none_after}
 use Rattle.disk_files.specs.declared.fault.FileFault.{FileFault}
 use Rattle.disk_files.specs.declared.fault.FileFault.TheVariants.{PageRange, DiskFault}
 use Rattle.disk_files.specs.Answers.{lookup_answer, read_answer, read_answer_of, Answers}
@@ -47,3 +54,19 @@ page_read pages e file n (Err fault) page is answer read = tt
 page_read pages e file n (Ok u) page is answer read =
     read ∙ sym (first_pages_at pages e.address (number_of pages e.address 0) (n - 1) (given_within _ n u answer))
     ∙ ap (λ ps. get_or ps (n - 1) []) (file_pages pages e file is)
+
+-- the name that comes next is that of an entry
+abbrev pub name_found : List Entry → Option ℕ → Option (List ℕ)
+name_found kept None = None
+name_found kept (Some p) = Some (name_at kept p)
+
+pub next_name : (kept : List Entry) (taken : Pages) (pages : List (List ℕ)) → IsLaidOut kept taken pages → (after : Option (List ℕ)) (n : ℕ) (next : Option ℕ)
+    → n ≡ length kept → IsNextBelow kept after n next → IsNameAfter (files pages) after (name_found kept next)
+next_name kept taken pages laid after n None size is = none_after kept taken pages laid after (subst (λ m. IsNextBelow kept after m None) (size ∙ laid.places) is)
+next_name kept taken pages laid after n (Some p) size is =
+    name_after kept taken pages laid after p (name_at kept p) refl (subst (λ m. IsNextBelow kept after m (Some p)) (size ∙ laid.places) is)
+
+-- the name of an entry in use is read back
+pub ident_kept : (e : Entry) → IsKeptEntry e → e.kind ≢ 0 → identifier (trimmed e.name) ≡ Some e.name
+ident_kept e (inl empty) used = absurd (used empty)
+ident_kept e (inr full) used = full.name

@@ -45,6 +45,10 @@ pub record Holds (now : Option (List (List ℕ))) (all : Files) (unused : ℕ) :
   pub files : files pages ≡ all
   pub free : free_count pages ≡ unused
 
+-- the area tells pages of which this holds
+abbrev pub Told : Option (List (List ℕ)) → (List (List ℕ) → Type 0) → Type 0
+Told now Holding = (after : List (List ℕ)) × (now ≡ Some after) × Holding after
+
 -- a mount is refused where the area failed, where memory lacks, or by the least page that breaks the format
 abbrev pub RefusesMount : List (List ℕ) → FileFault → Type 0
 RefusesMount pages fault =
@@ -117,6 +121,16 @@ append_answer_of count free =
 abbrev pub append_answer : Option File → ℕ → Result (Unit {0}) FileFault
 append_answer None free = Err NoFile
 append_answer (Some file) free = unprotected file (append_answer_of (length file.pages) free)
+
+abbrev pub delete_answer : Option File → Result (Unit {0}) FileFault
+delete_answer None = Err NoFile
+delete_answer (Some file) = unprotected file (Ok tt)
+
+-- the answer of a rename, by the files of the old and of the new name
+abbrev pub rename_answer : Option File → Option File → Result (Unit {0}) FileFault
+rename_answer None other = Err NoFile
+rename_answer (Some file) (Some other) = Err Exists
+rename_answer (Some file) None = unprotected file (Ok tt)
 
 -- ---- What a file area keeps of its area
 

@@ -5,13 +5,14 @@ ghost use Rattle.solo_base.specs.Ident.{IsIdent};
 ghost use Rattle.disk_layout.specs.Files.{files};
 ghost use Rattle.disk_layout.specs.Layout.{IsLaidOut, blank_entry};
 ghost use Rattle.disk_layout.specs.Judging.{IsKeptEntry};
+ghost use Rattle.disk_layout.specs.Taking.{TakesIndex};
 ghost use Rattle.disk_files.specs.declared.fault.FileFault.TheVariants.{DiskFault};
-ghost use Rattle.disk_files.specs.Answers.{FaultsOnly, LaidNow, Stays};
+ghost use Rattle.disk_files.specs.Answers.{FaultsOnly, LaidNow, Stays, Told};
 
 use crate::FileFault;
 use crate::append::{save_map, take};
 use crate::transfer::write;
-use crate::write_entry::write_entry;
+use crate::write_entry::save_entry;
 use disk_layout::{Entry, FileKind, key_of, put_name};
 use disk_pages::{AREA_PAGES, PageMap};
 use solo_base::Page;
@@ -39,7 +40,8 @@ pub fn create_file<A: Area>(
         → (slice_index_or entries.old k blank_entry).name ≢ name)
         → OnOk result (LaidNow (A.pages area.new) entries.new map.new
         (fin.insert (files pages) name (record { kind = kind; protected = false; pages = [] }))
-        × (set.len map.new ≡ set.len map.old + 1)) }
+        × (set.len map.new ≡ set.len map.old + 1)
+        × Told (A.pages area.new) (λ after. TakesIndex pages after name)) }
     ensures places { length entries.new ≡ 240 }
     ensures named { OnOk result ((slice_index_or entries.new place blank_entry).name ≡ name) }
     ensures kept { ((p : ℕ) → p < 240 → IsKeptEntry (slice_index_or entries.old p blank_entry))
@@ -61,9 +63,7 @@ pub fn create_file<A: Area>(
         searches: 0,
     };
     put_name(entries, place as usize, &entry);
-    let first = entries[place as usize];
-    write_entry(area, place, &first)?;
-    let last = entries[key as usize - 1];
-    write_entry(area, key - 1, &last)?;
+    save_entry(area, entries, place)?;
+    save_entry(area, entries, key - 1)?;
     save_map(area, map)
 }

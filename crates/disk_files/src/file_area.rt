@@ -1,25 +1,20 @@
-ghost use Rattle.std.specs.Prelude.{◌≡◌, ◌≢◌, ℕ, ◌+◌, ◌-◌, ◌<◌, ◌≤◌, ◌==◌, ◌⊎◌, List, [], Some, Ok, Err, IsTrue, length, slice_index_or, IfErr, IfOk, OnOk, MatchResult, true, false};
+ghost use Rattle.std.specs.Prelude.{◌≡◌, ℕ, ◌-◌, ◌≤◌, ◌==◌, ◌⊎◌, List, [], Some, Ok, Err, IsTrue, length, slice_index_or, IfErr, IfOk, IsOk, OnOk, MatchResult, true};
+ghost use Rattle.std.specs.Option.{option_copied};
 ghost use Rattle.std.specs.FinMap as fin;
 ghost use Rattle.disk_layout.specs.Disk.{number_of};
-ghost use Rattle.disk_layout.specs.Format.{IsAddress, IsSoloDisk, key_of};
-ghost use Rattle.disk_layout.specs.Layout.{blank_entry};
-ghost use Rattle.disk_layout.specs.Writing.{IsFirstEmpty};
-ghost use Rattle.disk_layout.specs.Files.{File, files, free_count, name_count, kind_of, with_page, with_page_at, with_protection};
-ghost use Rattle.disk_files.specs.declared.fault.FileFault.TheVariants.{NoFile, Exists, CatalogFull, Protected, DiskFull, FileFull, PageRange, DiskFault};
-ghost use Rattle.disk_files.specs.Answers.{FileTable, RefusesMount, MayRefuseMount, Answers, Holds, after_reading, FaultsOnly, lookup_answer, read_answer, append_answer, create_answer, replace_answer, protect_answer, pages_needed, stays_sound};
+ghost use Rattle.disk_layout.specs.Format.{IsAddress, IsSoloDisk};
+ghost use Rattle.disk_layout.specs.Names.{IsNameAfter};
+ghost use Rattle.disk_layout.specs.Files.{File, files, free_count, name_count, kind_of};
+ghost use Rattle.disk_files.specs.declared.fault.FileFault.TheVariants.{NoFile, PageRange, DiskFault};
+ghost use Rattle.disk_files.specs.Answers.{FileTable, RefusesMount, MayRefuseMount, Answers, after_reading, FaultsOnly, lookup_answer, read_answer};
 
-use crate::append::append_page;
-use crate::create::create_file;
-use crate::file_page::{read_file_page, replace_page};
+use crate::file_page::read_file_page;
 use crate::mount::judge;
 use crate::transfer::{read, stays_sound};
-use crate::write_entry::write_entry;
 use crate::{FileFault, FileInfo};
-use disk_layout::{
-    Entry, FileKind, count_names, empty_place, is_named, key_of, place_of, set_protection,
-};
+use disk_layout::{Entry, FileKind, count_names, place_after, place_of};
 use disk_pages::{AREA_PAGES, PageMap, number};
-use solo_base::{Ident, Page};
+use solo_base::{Ident, Page, trim_end};
 use solo_devices::Area;
 use std::alloc::Global;
 use std::marker::Model;
@@ -37,10 +32,10 @@ const BLANK: Entry = Entry {
 /// The files of an area.
 #[derive(Drop)]
 pub struct FileArea<A: Area> {
-    area: A,
-    entries: [Entry; 240],
-    map: PageMap,
-    sound: bool,
+    pub(crate) area: A,
+    pub(crate) entries: [Entry; 240],
+    pub(crate) map: PageMap,
+    pub(crate) sound: bool,
 }
 
 impl<A: Area> Model for FileArea<A> {
@@ -168,148 +163,31 @@ impl<A: Area> FileArea<A> {
         self.sound = stays_sound(&answer);
         answer
     }
-}
 
-impl<A: Area> FileArea<A> {
-    /// Puts a page behind a file. It takes the least free page; every 250 pages take a part page before.
-    pub fn append(&mut self, name: &Ident, page: &Page) -> Result<(), FileFault>
+    /// The least name behind this one, or the least of all where it is `None`. It is found in memory, so the
+    /// area is never asked.
+    pub fn name_after(&mut self, after: Option<&Ident>) -> Result<Option<Ident>, FileFault>
         requires { IsTrue self.old.sound }
         ensures answer { (pages : List (List ℕ)) → A.pages self.old.area ≡ Some pages
-            → Answers result (append_answer (fin.get (files pages) name.now) (free_count pages)) }
-        ensures file { (pages : List (List ℕ)) (file : File) → A.pages self.old.area ≡ Some pages
-            → fin.get (files pages) name.now ≡ Some file
-            → OnOk result (Holds (A.pages self.new.area)
-            (fin.insert (files pages) name.now (with_page file page.now.0))
-            (free_count pages - pages_needed (length file.pages))) }
-        ensures refusals { IfErr result (λ fault. (fault ≡ NoFile) ⊎ (fault ≡ Protected) ⊎ (fault ≡ FileFull)
-            ⊎ (fault ≡ DiskFull) ⊎ (fault ≡ DiskFault)) }
-        ensures refused { IfErr result (λ fault. (fault ≡ DiskFault)
-            ⊎ ((A.pages self.new.area ≡ A.pages self.old.area) × (self.new.taken ≡ self.old.taken))) }
-        ensures entries { self.new.entries ≡ self.old.entries }
-        ensures sound { self.new.sound ≡ stays_sound result }
-        ensures cause { FaultsOnly (A.faults self.old.area) (A.faults self.new.area) result }
+            → IfOk result (IsNameAfter (files pages) (option_copied after.entry)) }
+        ensures done { IsOk result }
+        ensures left { self.new ≡ self.old }
     {
-        let place = match place_of(&self.entries, name.bytes()) {
-            Some(place) => place,
-            None => return Err(FileFault::NoFile),
-        };
-        let entry = self.entries[place];
-        if entry.protection == 1 {
-            return Err(FileFault::Protected);
+        match place_after(&self.entries, bytes_of(after)) {
+            Some(place) => Ok(Ident::of(trim_end(&self.entries[place].name))),
+            None => Ok(None),
         }
-        let answer = append_page(&mut self.area, &mut self.map, entry.address, page);
-        self.sound = stays_sound(&answer);
-        answer
     }
 }
 
-impl<A: Area> FileArea<A> {
-    /// Makes page n of a file another.
-    pub fn replace(&mut self, name: &Ident, n: u16, page: &Page) -> Result<(), FileFault>
-        requires { IsTrue self.old.sound }
-        ensures answer { (pages : List (List ℕ)) → A.pages self.old.area ≡ Some pages
-            → Answers result (replace_answer (fin.get (files pages) name.now) n) }
-        ensures file { (pages : List (List ℕ)) (file : File) → A.pages self.old.area ≡ Some pages
-            → fin.get (files pages) name.now ≡ Some file
-            → OnOk result (Holds (A.pages self.new.area)
-            (fin.insert (files pages) name.now (with_page_at file n page.now.0)) (free_count pages)) }
-        ensures refusals { IfErr result (λ fault. (fault ≡ NoFile) ⊎ (fault ≡ Protected) ⊎ (fault ≡ PageRange)
-            ⊎ (fault ≡ DiskFault)) }
-        ensures refused { IfErr result (λ fault. (fault ≡ DiskFault)
-            ⊎ (A.pages self.new.area ≡ A.pages self.old.area)) }
-        ensures sound { self.new.sound ≡ stays_sound result }
-        ensures cause { FaultsOnly (A.faults self.old.area) (A.faults self.new.area) result }
-    {
-        let place = match place_of(&self.entries, name.bytes()) {
-            Some(place) => place,
-            None => return Err(FileFault::NoFile),
-        };
-        let entry = self.entries[place];
-        if entry.protection == 1 {
-            return Err(FileFault::Protected);
-        }
-        let answer = replace_page(&mut self.area, entry.address, n, page);
-        self.sound = stays_sound(&answer);
-        answer
-    }
-
-    /// Makes an empty file. Its name comes into the first empty place from that of its key on, cyclically.
-    pub fn create(&mut self, name: &Ident, kind: FileKind) -> Result<(), FileFault>
-        requires { IsTrue self.old.sound }
-        ensures answer { (pages : List (List ℕ)) → A.pages self.old.area ≡ Some pages
-            → Answers result (create_answer (fin.get (files pages) name.now) (name_count pages)
-            (free_count pages)) }
-        ensures file { (pages : List (List ℕ)) → A.pages self.old.area ≡ Some pages
-            → OnOk result (Holds (A.pages self.new.area)
-            (fin.insert (files pages) name.now (record {
-              kind =
-                  kind;
-              protected = false;
-              pages = [];
-            })) (free_count pages - 1)) }
-        ensures place { OnOk result ((p : ℕ) × IsFirstEmpty self.old.entries (key_of name.now - 1) p
-            × ((slice_index_or self.new.entries p blank_entry).name ≡ name.now)) }
-        ensures refusals { IfErr result (λ fault. (fault ≡ Exists) ⊎ (fault ≡ CatalogFull)
-            ⊎ (fault ≡ DiskFull) ⊎ (fault ≡ DiskFault)) }
-        ensures refused { IfErr result (λ fault. (fault ≡ DiskFault)
-            ⊎ (A.pages self.new.area ≡ A.pages self.old.area)) }
-        ensures sound { self.new.sound ≡ stays_sound result }
-        ensures cause { FaultsOnly (A.faults self.old.area) (A.faults self.new.area) result }
-    {
-        if is_named(&self.entries, name.bytes()) {
-            return Err(FileFault::Exists);
-        }
-        let place = match empty_place(&self.entries, key_of(&name.bytes()) as usize - 1) {
-            Some(place) => place,
-            None => return Err(FileFault::CatalogFull),
-        };
-        if self.map.free() == 0 {
-            return Err(FileFault::DiskFull);
-        }
-        let answer = create_file(
-            &mut self.area,
-            &mut self.map,
-            &mut self.entries,
-            place as u16,
-            name.bytes(),
-            kind,
-        );
-        self.sound = stays_sound(&answer);
-        answer
-    }
-
-    /// Sets whether a file is protected.
-    pub fn protect(&mut self, name: &Ident, on: bool) -> Result<(), FileFault>
-        requires { IsTrue self.old.sound }
-        ensures answer { (pages : List (List ℕ)) → A.pages self.old.area ≡ Some pages
-            → Answers result (protect_answer (fin.get (files pages) name.now)) }
-        ensures file { (pages : List (List ℕ)) (file : File) → A.pages self.old.area ≡ Some pages
-            → fin.get (files pages) name.now ≡ Some file
-            → OnOk result (Holds (A.pages self.new.area)
-            (fin.insert (files pages) name.now (with_protection file on)) (free_count pages)) }
-        ensures refusals { IfErr result (λ fault. (fault ≡ NoFile) ⊎ (fault ≡ DiskFault)) }
-        ensures refused { IfErr result (λ fault. (fault ≡ DiskFault)
-            ⊎ (A.pages self.new.area ≡ A.pages self.old.area)) }
-        ensures sound { self.new.sound ≡ stays_sound result }
-        ensures cause { FaultsOnly (A.faults self.old.area) (A.faults self.new.area) result }
-    {
-        let place = match place_of(&self.entries, name.bytes()) {
-            Some(place) => place,
-            None => return Err(FileFault::NoFile),
-        };
-        let entry = set_protection(&mut self.entries, place, protection_number(on));
-        let answer = write_entry(&mut self.area, place as u16, &entry);
-        self.sound = stays_sound(&answer);
-        answer
-    }
-}
-
-// The number by which an entry says whether its file is protected.
-fn protection_number(on: bool) -> u16
-    ensures small { result ≤ 1 }
-    ensures same { (result == 1) ≡ on }
+// The characters of a name, if there is one.
+fn bytes_of(name: Option<&Ident>) -> Option<[u8; 12]>
+    ensures { result ≡ option_copied name.entry }
 {
-    if on { 1 } else { 0 }
+    match name {
+        Some(name) => Some(name.bytes()),
+        None => None,
+    }
 }
 
 // What is said of the file of an entry.

@@ -2,12 +2,15 @@
 #![tactic(auto)]
 
 mod append;
+mod changes;
 mod create;
+mod delete;
 mod fault;
 mod file_area;
 mod file_page;
 mod judge_area;
 mod mount;
+mod rename;
 mod transfer;
 mod write_entry;
 

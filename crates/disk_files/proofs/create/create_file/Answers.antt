@@ -1,4 +1,4 @@
-use Rattle.std.proofs.Common.{◌≡◌, ◌∙◌, length-set}
+use Rattle.std.proofs.Common.{◌∙◌, length-set}
 use Rattle.disk_files.proofs.Numbers.{on_ok}
 use Rattle.disk_files.proofs.Creates.{created_now, new_kept, searches_few}
 use Rattle.disk_files.proofs.create.create_file.Goals as goal
@@ -6,8 +6,8 @@ use Rattle.disk_files.proofs.create.create_file.Goals as goal
 pub returns-clause-wrote : goal.returns-clause-wrote
 returns-clause-wrote g c = λ pages told laid empty fresh.
     let size = length-set pages c.take-index.result c.zeros.result.0 ∙ laid.as_many in
-    let first = c.in_ok-write_entry.ensures.wrote _ (c.in_ok-write.ensures.page pages told) size in
-    let second = c.in_ok-write_entry-2.ensures.wrote first.0 first.1 (first.2.as_many ∙ size) in
+    let first = c.in_ok-save_entry.ensures.wrote _ (c.in_ok-write.ensures.page pages told) size in
+    let second = c.in_ok-save_entry-2.ensures.wrote first.0 first.1 (first.2.as_many ∙ size) in
     on_ok c.save_map.result _ _
     (λ saved. created_now c.args.entries.now c.put_name.new.entries c.args.map.now c.take-index.new.map pages laid c.args.place c.take-index.result
     c.key_of-key.result c.args.name c.zeros.result.0
@@ -22,12 +22,12 @@ returns-clause-kept g c =
     λ all. c.put_name.ensures.kept all
     (new_kept _ _ _ _ c.requires.ident c.number.ensures.some c.number.ensures.last c.take-index.ensures.free c.key_of-key.ensures.key)
 
-pub returns-in_err-write_entry-clause-kept : goal.returns-in_err-write_entry-clause-kept
-returns-in_err-write_entry-clause-kept g c =
+pub returns-in_err-save_entry-clause-kept : goal.returns-in_err-save_entry-clause-kept
+returns-in_err-save_entry-clause-kept g c =
     λ all. c.put_name.ensures.kept all
     (new_kept _ _ _ _ c.requires.ident c.number.ensures.some c.number.ensures.last c.take-index.ensures.free c.key_of-key.ensures.key)
 
-pub returns-in_err-write_entry-2-clause-kept : goal.returns-in_err-write_entry-2-clause-kept
-returns-in_err-write_entry-2-clause-kept g c =
+pub returns-in_err-save_entry-2-clause-kept : goal.returns-in_err-save_entry-2-clause-kept
+returns-in_err-save_entry-2-clause-kept g c =
     λ all. c.put_name.ensures.kept all
     (new_kept _ _ _ _ c.requires.ident c.number.ensures.some c.number.ensures.last c.take-index.ensures.free c.key_of-key.ensures.key)

@@ -1,5 +1,8 @@
 use Rattle.std.proofs.Common.{length, ◌<◌, ◌-◌, ◌∙◌, ap, sym, subst, inr, arith}
 use Rattle.disk_layout.specs.Files.{files, free_count}
+use Rattle.std.specs.Prelude.{slice_index_or}
+use Rattle.disk_layout.specs.Layout.{blank_entry}
+use Rattle.disk_layout.specs.Taking.{TakesNext}
 use Rattle.disk_files.specs.Answers.{Holds, pages_needed, append_answer, append_answer_of, Answers}
 use Rattle.disk_files.proofs.Numbers.{on_ok, if_err}
 use Rattle.disk_layout.proofs.Lookups.{no_file, found_file}
@@ -62,5 +65,23 @@ returns-clause-file g c = λ pages file told is.
     (holds_now _ _ _ _ (free_count pages - pages_needed (length file.pages)) (let free =
     free_now _ _ pages laid in let count = ap (λ f. length f.pages) its in let counted = file_length_at pages _ in omega
     (arith, free, w.1, ap pages_needed (sym counted ∙ count))) w.0))
+    (grown_by _ _ pages laid c.in-Some.place below c.in-Some.ensures.used c.append_page-answer.result _ _ c.args.page.now.0
+    (c.append_page-answer.ensures.wrote pages told_inside grow))
+
+pub returns-clause-least : goal.returns-clause-least
+returns-clause-least g c = λ pages file told is.
+    let told_inside = ap (λ v. g.A.Area.pages v.area) c.self.view_is ∙ told in
+    let laid = c.self.invariant.laid (ap (λ v. v.sound) c.self.view_is ∙ c.requires) pages told_inside in
+    let below : c.in-Some.place < 240 = omega (arith, c.in-Some.ensures.inside, laid.places) in
+    let named = c.in-Some.ensures.name ∙ c.bytes.ensures.bytes in
+    let found = found_file _ _ pages laid c.in-Some.place c.args.name.now below c.in-Some.ensures.used named in
+    let grow = may_grow _ _ pages laid c.in-Some.place below c.in-Some.ensures.used in
+    let count = sym (file_length_at pages _) ∙ ap (λ f. length f.pages) (the_file (sym found ∙ is)) in
+    on_ok c.append_page-answer.result _ _
+    (λ w. (
+      w.2.0,
+      w.2.1,
+      subst (λ n. TakesNext pages w.2.0 n (length file.pages)) named (subst (TakesNext pages w.2.0 (slice_index_or c.self.inside.entries c.in-Some.place blank_entry).name) count w.2.2),
+    ))
     (grown_by _ _ pages laid c.in-Some.place below c.in-Some.ensures.used c.append_page-answer.result _ _ c.args.page.now.0
     (c.append_page-answer.ensures.wrote pages told_inside grow))

@@ -1,10 +1,10 @@
-use Rattle.std.proofs.Common.{◌≡◌, false, [], ◌<◌, ◌-◌, ◌+◌, ◌∙◌, Some, None, Ok, ℕ, ap, sym, subst, inl, inr, arith}
+use Rattle.std.proofs.Common.{false, [], ◌<◌, ◌-◌, ◌∙◌, ap, sym, subst, inl, inr, arith}
 use Rattle.std.specs.FinMap as fin
-use Rattle.std.specs.FinSet as set
 use Rattle.disk_layout.specs.Files.{files, free_count, name_count}
 use Rattle.disk_layout.specs.Format.{key_of}
 use Rattle.disk_layout.specs.Writing.{IsFirstEmpty}
-use Rattle.disk_files.specs.Answers.{Answers, Holds, create_answer}
+use Rattle.disk_layout.specs.Taking.{TakesIndex}
+use Rattle.disk_files.specs.Answers.{Holds, create_answer}
 use Rattle.disk_files.proofs.Numbers.{on_ok, if_err, answers_ok}
 use Rattle.disk_layout.proofs.Lookups.{no_file, found_file}
 use Rattle.disk_files.proofs.AreaAfter.{area_after, holds_now, free_now}
@@ -85,3 +85,13 @@ returns-clause-place g c =
     first_of_view : IsFirstEmpty c.args.self.now.entries (key_of c.args.name.now - 1) c.in-Some.place
     first_of_view = subst (λ entries. IsFirstEmpty entries (key_of c.args.name.now - 1) c.in-Some.place) (ap (λ v. v.entries) c.self.view_is)
         (subst (λ from. IsFirstEmpty c.self.inside.entries from c.in-Some.place) (ap (λ n. n - 1) (c.key_of.ensures.key ∙ ap key_of c.bytes-2.ensures.bytes)) c.in-Some.ensures.first)
+
+pub returns-clause-least : goal.returns-clause-least
+returns-clause-least g c = λ pages told.
+    let told_inside = ap (λ v. g.A.Area.pages v.area) c.self.view_is ∙ told in
+    let laid = c.self.invariant.laid (ap (λ v. v.sound) c.self.view_is ∙ c.requires) pages told_inside in
+    on_ok c.create_file-answer.result _ _
+    (λ w. (w.2.0, w.2.1, subst (TakesIndex pages w.2.0) c.bytes-3.ensures.bytes w.2.2))
+    (c.create_file-answer.ensures.wrote pages told_inside laid c.in-Some.ensures.first.empty
+    (λ k inside used e. c.is_named.ensures.not c.if-is_named.false k (omega (arith, inside, laid.places)) used (e ∙ c.bytes-3.ensures.bytes
+    ∙ sym c.bytes.ensures.bytes)))

@@ -1,4 +1,4 @@
-use Rattle.std.proofs.Common.{◌≡◌, ◌∙◌, ap}
+use Rattle.std.proofs.Common.{◌∙◌, ap}
 use Rattle.disk_files.proofs.Creates.{names_counted}
 use Rattle.disk_files.proofs.file_area.FileArea.names.Goals as goal
 

@@ -13,13 +13,13 @@ returns-in-None-clause-answer g c = λ pages told.
     inr (ap (λ f. replace_answer f c.args.n) (sym (no_file _ _ _ laid c.args.name.now (λ p below used e. c.in-None.ensures.none p below used (e
     ∙ sym c.bytes.ensures.bytes)))))
 
-pub returns-then-entry-eq1-clause-answer : goal.returns-then-entry-eq1-clause-answer
-returns-then-entry-eq1-clause-answer g c = λ pages told.
+pub returns-then-file-eq1-clause-answer : goal.returns-then-file-eq1-clause-answer
+returns-then-file-eq1-clause-answer g c = λ pages told.
     let told_inside = ap (λ v. g.A.Area.pages v.area) c.self.view_is ∙ told in
     let laid = c.self.invariant.laid (ap (λ v. v.sound) c.self.view_is ∙ c.requires) pages told_inside in
     let below : c.in-Some.place < 240 = omega (arith, c.in-Some.ensures.inside, laid.places) in
     let found = found_file _ _ pages laid c.in-Some.place c.args.name.now below c.in-Some.ensures.used (c.in-Some.ensures.name ∙ c.bytes.ensures.bytes) in
-    inr (sym (ap (λ f. replace_answer f c.args.n) found ∙ kept_from pages _ _ c.if-entry-eq1.true))
+    inr (sym (ap (λ f. replace_answer f c.args.n) found ∙ kept_from pages _ _ c.if-file-eq1.true))
 
 pub invariant_of-self : goal.invariant_of-self
 invariant_of-self g c =
@@ -41,7 +41,7 @@ returns-clause-answer g c = λ pages told.
     let below : c.in-Some.place < 240 = omega (arith, c.in-Some.ensures.inside, laid.places) in
     let found = found_file _ _ pages laid c.in-Some.place c.args.name.now below c.in-Some.ensures.used (c.in-Some.ensures.name ∙ c.bytes.ensures.bytes) in
     subst (Answers c.replace_page-answer.result)
-    (sym (ap (λ f. replace_answer f c.args.n) found ∙ unprotected_at pages _ _ c.if-entry-eq1.false ∙ range_at pages _ c.args.n))
+    (sym (ap (λ f. replace_answer f c.args.n) found ∙ unprotected_at pages _ _ c.if-file-eq1.false ∙ range_at pages _ c.args.n))
     (c.replace_page-answer.ensures.answer pages told_inside (has_pages _ _ pages laid c.in-Some.place below c.in-Some.ensures.used))
 
 pub returns-clause-file : goal.returns-clause-file
