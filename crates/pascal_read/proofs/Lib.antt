@@ -11,6 +11,7 @@ mod ParseCompleteStatement
 pub mod ParseDeclarationLists
 pub mod ParseDeclarationRows
 mod ParseEnds
+pub mod ParseExpressionParts
 pub mod ParseLists
 pub mod ParseOnePlace
 pub mod ParsePlace

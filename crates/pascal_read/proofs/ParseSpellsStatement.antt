@@ -9,7 +9,7 @@ use Rattle.pascal_tree.specs.declared.token.Reserved.{Reserved}
 use Rattle.pascal_tree.specs.declared.token.Reserved.TheVariants as reserved
 use Rattle.pascal_tree.specs.declared.token.Symbol.{Symbol}
 use Rattle.pascal_tree.specs.declared.token.Symbol.TheVariants as symbol
-use Rattle.pascal_read.specs.ParseWants.{Want, Step, took, skip, no, statement_step, behind_first_name_step, want_step, body_rest, case_wants}
+use Rattle.pascal_read.specs.ParseWants.{Want, Step, took, skip, no, statement_step, behind_first_name_step, want_step, case_wants}
 use Rattle.pascal_read.specs.ParseWants as want
 use Rattle.pascal_read.proofs.ParseSpells.{AllRead, StatementPart, begins_else, Makes, IsRight}
 use Rattle.pascal_read.proofs.ParseSpellsCases.{if_symbol, if_reserved, if_name, if_two}

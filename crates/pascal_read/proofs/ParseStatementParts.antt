@@ -12,7 +12,8 @@ use Rattle.pascal_tree.specs.declared.token.Reserved.TheVariants as reserved
 use Rattle.pascal_tree.specs.declared.token.Symbol.TheVariants as symbol
 use Rattle.pascal_read.specs.declared.parse_range.Range.{Range}
 use Rattle.pascal_read.specs.ParseRange.{spelled_range}
-use Rattle.pascal_read.specs.ParseParts.{spelled_otherwise, OtherwiseFits, OtherwiseCloses}
+use Rattle.pascal_tree.specs.declared.statement.Statement as statements
+use Rattle.pascal_read.specs.ParseParts.{seen_otherwise, spelled_otherwise, OtherwiseFits, OtherwiseCloses}
 
 -- a test, the word behind it, and a statement
 condition_words : (e : Expr) (w : Spot) (s : Statement) (m0 m1 m2 : List Spot) → m0 ≡ (spelled_expr e ++ w ∷ []) ++ m1 → m1 ≡ spelled_statement s ++ m2 →
@@ -51,6 +52,11 @@ if_fits l t n e s x (Some o) is f g h k =
     let P : Statement → ℕ → Type 0 = λ y m. StatementFits y m in
     let Q : Statement → Type 0 = λ y. StatementFits y (n + 1) in
     subst Q (sym is) (omega arith, f, subst (P s) (less_one n) g, h, subst (P o.1) (less_one n) k)
+
+-- where a statement ends closed before an ELSE, it does so before what stands behind it
+pub closed_before : (o : Option (ℕ × statements.Statement)) (s : Statement) (follows : Bool) → IfSome o (λ p. follows ≡ true) → (follows ≡ true → EndsClosed s) → IfSome (seen_otherwise o) (λ p. EndsClosed s)
+closed_before None s follows h k = tt
+closed_before (Some x) s follows h k = k h
 
 -- an IF ends closed where it has an ELSE whose statement does
 pub if_closes : (l t : ℕ) (e : Expr) (s x : Statement) (o : Option (ℕ × Statement)) (follows : Bool) → x ≡ if_of l e t s o → OtherwiseCloses o follows → follows ≡ true → EndsClosed x

@@ -170,18 +170,25 @@ simple_begins n w =
 abbrev pub expr_begins : ℕ → Word → Option (List Want)
 expr_begins n w = extended (simple_begins n w) (relation n ∷ [])
 
+-- what stands behind the opening bracket of an index, and behind that of arguments
+abbrev pub index_wants : ℕ → List Want
+index_wants n = expr n ∷ mark symbol.CloseIndex ∷ []
+
+abbrev pub argument_wants : ℕ → List Want
+argument_wants n = expr n ∷ more_exprs n ∷ mark symbol.Close ∷ []
+
 -- behind a name in an expression stands an index, an argument list or nothing
 abbrev pub behind_name_step : ℕ → Word → Step
 behind_name_step n w =
-    if is_symbol w symbol.OpenIndex then deeper n (λ m. expr m ∷ (mark symbol.CloseIndex ∷ [])) else
-    if is_symbol w symbol.Open then deeper n (λ m. expr m ∷ (more_exprs m ∷ (mark symbol.Close ∷ []))) else skip
+    if is_symbol w symbol.OpenIndex then deeper n index_wants else
+    if is_symbol w symbol.Open then deeper n argument_wants else skip
 
 -- behind the name that begins a statement stand an assignment, an argument list or nothing
 abbrev pub behind_first_name_step : Word → Step
 behind_first_name_step w =
     if is_symbol w symbol.Becomes then took (expr 64 ∷ []) else
-    if is_symbol w symbol.OpenIndex then took (expr 64 ∷ (mark symbol.CloseIndex ∷ (mark symbol.Becomes ∷ (expr 64 ∷ [])))) else
-    if is_symbol w symbol.Open then took (expr 64 ∷ (more_exprs 64 ∷ (mark symbol.Close ∷ []))) else skip
+    if is_symbol w symbol.OpenIndex then took (index_wants 64 ++ (mark symbol.Becomes ∷ expr 64 ∷ [])) else
+    if is_symbol w symbol.Open then took (argument_wants 64) else skip
 
 -- a branch of a CASE, and what stands behind CASE
 abbrev pub branch_wants : ℕ → List Want
@@ -191,25 +198,36 @@ abbrev pub case_wants : ℕ → List Want
 case_wants n =
     expr 64 ∷ reserved_word reserved.Of ∷ (branch_wants n ++ (more_branches n ∷ reserved_word reserved.End ∷ []))
 
--- what each word makes of a statement: a word that begins none leaves an empty one
-abbrev pub statement_step : ℕ → Word → Step
-statement_step n w =
-    if is_name w then took (behind_first_name ∷ []) else
-    if is_reserved w reserved.Begin then deeper n (λ m. statement m ∷ (more_statements m ∷ (reserved_word reserved.End ∷ []))) else
-    if is_reserved w reserved.If then deeper n (λ m. expr 64 ∷ (reserved_word reserved.Then ∷ (statement m ∷ (otherwise m ∷ [])))) else
-    if is_reserved w reserved.While then deeper n (λ m. expr 64 ∷ (reserved_word reserved.Do ∷ (statement m ∷ []))) else
-    if is_reserved w reserved.Repeat then deeper n (λ m. statement m ∷ (more_statements m ∷ (reserved_word reserved.Until ∷ (expr 64 ∷ [])))) else
-    if is_reserved w reserved.For then deeper n (λ m. name ∷ (mark symbol.Becomes ∷ (expr 64 ∷ (direction ∷ (expr 64 ∷ (reserved_word reserved.Do ∷ (statement m ∷ []))))))) else
-    if is_reserved w reserved.Case then deeper n case_wants else skip
+-- what stands behind BEGIN, up to its END
+abbrev pub compound_wants : ℕ → List Want
+compound_wants n = statement n ∷ more_statements n ∷ reserved_word reserved.End ∷ []
 
--- what is wanted behind the word that begins a body, a definition, a group, a parameter group or a block
-abbrev pub body_rest : List Want
-body_rest = statement 64 ∷ (more_statements 64 ∷ (reserved_word reserved.End ∷ []))
+-- what stands behind IF, behind WHILE and behind REPEAT
+abbrev pub if_wants : ℕ → List Want
+if_wants n = expr 64 ∷ reserved_word reserved.Then ∷ statement n ∷ otherwise n ∷ []
+
+abbrev pub while_wants : ℕ → List Want
+while_wants n = expr 64 ∷ reserved_word reserved.Do ∷ statement n ∷ []
+
+abbrev pub repeat_wants : ℕ → List Want
+repeat_wants n = statement n ∷ more_statements n ∷ reserved_word reserved.Until ∷ expr 64 ∷ []
 
 -- what stands between FOR and its statement
 abbrev pub range_wants : List Want
 range_wants = name ∷ mark symbol.Becomes ∷ expr 64 ∷ direction ∷ expr 64 ∷ reserved_word reserved.Do ∷ []
 
+-- what each word makes of a statement: a word that begins none leaves an empty one
+abbrev pub statement_step : ℕ → Word → Step
+statement_step n w =
+    if is_name w then took (behind_first_name ∷ []) else
+    if is_reserved w reserved.Begin then deeper n compound_wants else
+    if is_reserved w reserved.If then deeper n if_wants else
+    if is_reserved w reserved.While then deeper n while_wants else
+    if is_reserved w reserved.Repeat then deeper n repeat_wants else
+    if is_reserved w reserved.For then deeper n (λ m. range_wants ++ (statement m ∷ [])) else
+    if is_reserved w reserved.Case then deeper n case_wants else skip
+
+-- what is wanted behind the name that begins a definition, a group or a parameter group
 abbrev pub definition_rest : List Want → List Want
 definition_rest more = mark symbol.Equal ∷ (constant ∷ (mark symbol.Semicolon ∷ more))
 
@@ -235,9 +253,6 @@ procedure_rest = name ∷ parameters ∷ mark symbol.Semicolon ∷ (block_wants 
 abbrev pub function_rest : List Want
 function_rest = name ∷ parameters ∷ mark symbol.Colon ∷ name ∷ mark symbol.Semicolon ∷ (block_wants ++ mark symbol.Semicolon ∷ [])
 
-abbrev pub block_rest : List Want
-block_rest = consts ∷ (vars ∷ (body ∷ (mark symbol.Semicolon ∷ (routines ∷ []))))
-
 -- one word at one want
 abbrev pub want_step : Want → Word → Step
 want_step (reserved_word r) w = exactly (is_reserved w r)
@@ -261,7 +276,7 @@ want_step (more_statements n) w = if is_symbol w symbol.Semicolon then took (sta
 want_step (more_branches n) w = if is_symbol w symbol.Semicolon then took (branch_wants n ++ more_branches n ∷ []) else skip
 want_step more_labels w = if is_symbol w symbol.Comma then took (constant ∷ more_labels ∷ []) else skip
 want_step direction w = if is_reserved w reserved.To then took [] else exactly (is_reserved w reserved.Downto)
-want_step body w = if is_reserved w reserved.Begin then took body_rest else no
+want_step body w = if is_reserved w reserved.Begin then took (compound_wants 64) else no
 want_step heading w = if is_reserved w reserved.Program then took (name ∷ (mark symbol.Semicolon ∷ [])) else skip
 want_step constant w =
     if is_name w then took [] else
@@ -272,7 +287,7 @@ want_step definition w = if is_name w then took (definition_rest []) else no
 want_step more_definitions w = if is_name w then took (definition_rest (more_definitions ∷ [])) else skip
 want_step kind w =
     if is_name w then took [] else
-    if is_reserved w reserved.Array then took (mark symbol.OpenIndex ∷ (constant ∷ (mark symbol.UpTo ∷ (constant ∷ (mark symbol.CloseIndex ∷ (reserved_word reserved.Of ∷ (name ∷ []))))))) else no
+    if is_reserved w reserved.Array then took array_rest else no
 want_step vars w = if is_reserved w reserved.Var then took (group ∷ (more_groups ∷ [])) else skip
 want_step group w = if is_name w then took (group_rest []) else no
 want_step more_groups w = if is_name w then took (group_rest (more_groups ∷ [])) else skip
@@ -283,8 +298,8 @@ want_step parameter_group w =
     if is_reserved w reserved.Var then took (name ∷ parameter_group_rest) else no
 want_step more_parameters w = if is_symbol w symbol.Semicolon then took (parameter_group ∷ (more_parameters ∷ [])) else skip
 want_step routines w =
-    if is_reserved w reserved.Procedure then took (name ∷ (parameters ∷ (mark symbol.Semicolon ∷ block_rest))) else
-    if is_reserved w reserved.Function then took (name ∷ (parameters ∷ (mark symbol.Colon ∷ (name ∷ (mark symbol.Semicolon ∷ block_rest))))) else skip
+    if is_reserved w reserved.Procedure then took (procedure_rest ++ (routines ∷ [])) else
+    if is_reserved w reserved.Function then took (function_rest ++ (routines ∷ [])) else skip
 
 -- the wants after a step: those that it leaves, or what the later wants make of the word
 abbrev pub settle : Step → List Want → Option (List Want) → Option (List Want)

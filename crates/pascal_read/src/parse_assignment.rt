@@ -12,6 +12,7 @@ ghost use Rattle.pascal_read.specs.ParseWants as want;
 use crate::parse_expect::{LEVELS, expect_symbol};
 use crate::parse_expression::{arguments, expr, index};
 use crate::parse_fault::ParseFault;
+use crate::parse_node::boxed;
 use crate::parse_reader::Reader;
 use pascal_tree::Symbol;
 use pascal_tree::leaf::Name;
@@ -40,17 +41,17 @@ pub fn begun_by_name(
             becomes,
             value,
         };
-        return Ok(Statement::Assign(Box::new(alloc, assign)?));
+        return Ok(Statement::Assign(boxed(alloc, assign)?));
     }
     if let Some(opening) = reader.take_symbol(Symbol::OpenIndex) {
         let assign = indexed_assignment(reader, alloc, name, opening)?;
-        return Ok(Statement::Assign(Box::new(alloc, assign)?));
+        return Ok(Statement::Assign(boxed(alloc, assign)?));
     }
     let arguments = match reader.take_symbol(Symbol::Open) {
-        Some(opening) => Some(Box::new(alloc, arguments(reader, alloc, LEVELS, opening)?)?),
+        Some(opening) => Some(arguments(reader, alloc, LEVELS, opening)?),
         None => None,
     };
-    Ok(Statement::Call(Box::new(alloc, Call { name, arguments })?))
+    Ok(Statement::Call(boxed(alloc, Call { name, arguments })?))
 }
 
 // An assignment to an element, whose name and opening bracket are read.
@@ -76,7 +77,7 @@ fn indexed_assignment(
     let value = expr(reader, alloc, LEVELS)?;
     Ok(Assign {
         target: name,
-        index: Some(Box::new(alloc, index)?),
+        index: Some(index),
         becomes,
         value,
     })

@@ -1,16 +1,18 @@
 // Expressions, read by descent.
 #![tactic(auto, using(crate::proofs::ParseRows::rows, crate::proofs::ParseLists::pushes))]
 
-ghost use Rattle.std.specs.Prelude.{◌≡◌, ℕ, ◌≤◌, ◌∷◌, [], ◌++◌, List, Some, Err, IfOk, OnOk, IfSome, IfNone};
+ghost use Rattle.std.specs.Prelude.{◌≡◌, ℕ, ◌+◌, ◌≤◌, ◌∷◌, [], ◌++◌, List, Some, Err, IfOk, OnOk, IfSome, IfNone};
 ghost use Rattle.pascal_tree.specs.SeenExpression.{seen_expr, seen_simple, seen_term, seen_factor, seen_index, seen_arguments, seen_addends, seen_multipliers, seen_exprs};
 ghost use Rattle.pascal_tree.specs.SpellExpression.{spelled_expr, spelled_simple, spelled_addends, spelled_term, spelled_multipliers, spelled_factor, spelled_exprs, spelled_sign, spelled_index, spelled_arguments, name_at, symbol_at, reserved_at, adding_word, multiplying_word, relation_symbol};
 ghost use Rattle.pascal_tree.specs.Limits.{ExprFits, SimpleFits, AddendsFit, TermFits, MultipliersFit, FactorFits, IndexFits, ArgumentsFit, ExprsFit};
 ghost use Rattle.pascal_read.specs.ParseFirst.{word_at};
-ghost use Rattle.pascal_read.specs.ParseWants.{Want, mark, GoesOn, IsStuck, Skips, AllGoesOn, AllIsStuck, report};
+ghost use Rattle.pascal_read.specs.ParseParts.{seen_right, spelled_comparison, RightFits};
+ghost use Rattle.pascal_read.specs.ParseWants.{Want, mark, index_wants, argument_wants, GoesOn, IsStuck, Skips, AllGoesOn, AllIsStuck, report};
 ghost use Rattle.pascal_read.specs.ParseWants as want;
 
 use crate::parse_expect::{expect_symbol, within};
 use crate::parse_fault::ParseFault;
+use crate::parse_node::{boxed, compared};
 use crate::parse_reader::Reader;
 use pascal_tree::expression::{
     Adding, Arguments, Comparison, Expr, Factor, Index, Multiplying, Relation, Sign, Simple, Term,
@@ -31,19 +33,35 @@ pub fn expr(reader: &mut Reader, alloc: Global, levels: usize) -> Result<Expr, P
         → IsStuck (want.expr levels) reader.old line }
 {
     let left = simple(reader, alloc, levels)?;
+    let right = comparison(reader, alloc, levels)?;
+    Ok(compared(left, right))
+}
+
+// A relation and what stands behind it, where a relation stands here.
+#[cycle(expression)]
+fn comparison(
+    reader: &mut Reader,
+    alloc: Global,
+    levels: usize,
+) -> Result<Option<Box<Comparison>>, ParseFault>
+    requires { 1 ≤ levels }
+    ensures words { IfOk result
+        (λ x. reader.old ≡ spelled_comparison (seen_right x) ++ reader.new) }
+    ensures fits { IfOk result (λ x. RightFits (seen_right x) levels) }
+    ensures goes { OnOk result (GoesOn (want.relation levels) reader.old reader.new) }
+    ensures fault { (line : ℕ) → result ≡ Err (ParseFault.Syntax line)
+        → IsStuck (want.relation levels) reader.old line }
+{
     let Some((relation, line)) = take_relation(reader) else {
-        return Ok(Expr { left, right: None });
+        return Ok(None);
     };
     let right = simple(reader, alloc, levels)?;
-    let comparison = Comparison {
+    let node = Comparison {
         relation,
         line,
         right,
     };
-    Ok(Expr {
-        left,
-        right: Some(Box::new(alloc, comparison)?),
-    })
+    Ok(Some(boxed(alloc, node)?))
 }
 
 // Takes a relation, where one stands here.
@@ -222,23 +240,43 @@ fn factor(reader: &mut Reader, alloc: Global, levels: usize) -> Result<Factor, P
         return named(reader, alloc, levels, name);
     }
     if let Some(opening) = reader.take_symbol(Symbol::Open) {
-        let inner = expr(reader, alloc, within(levels, opening)?)?;
-        let closing = expect_symbol(reader, Symbol::Close)?;
-        return Ok(Factor::Group {
-            opening,
-            inner: Box::new(alloc, inner)?,
-            closing,
-        });
+        return group(reader, alloc, within(levels, opening)?, opening);
     }
     if let Some(line) = reader.take_reserved(Reserved::Not) {
         let operand = factor(reader, alloc, within(levels, line)?)?;
         return Ok(Factor::Not {
             line,
-            operand: Box::new(alloc, operand)?,
+            operand: boxed(alloc, operand)?,
         });
     }
     Err(ParseFault::Syntax {
         line: reader.line(),
+    })
+}
+
+// An expression in parentheses of which the first is read.
+#[cycle(expression)]
+fn group(
+    reader: &mut Reader,
+    alloc: Global,
+    levels: usize,
+    opening: u32,
+) -> Result<Factor, ParseFault>
+    requires { 1 ≤ levels }
+    ensures words { IfOk result (λ x. symbol_at Symbol.Open opening ∷ reader.old
+        ≡ spelled_factor (seen_factor x) ++ reader.new) }
+    ensures fits { IfOk result (λ x. FactorFits (seen_factor x) (levels + 1)) }
+    ensures goes { OnOk result (AllGoesOn (want.expr levels ∷ mark Symbol.Close ∷ [])
+        reader.old reader.new) }
+    ensures fault { (line : ℕ) → result ≡ Err (ParseFault.Syntax line)
+        → AllIsStuck (want.expr levels ∷ mark Symbol.Close ∷ []) reader.old line }
+{
+    let inner = expr(reader, alloc, levels)?;
+    let closing = expect_symbol(reader, Symbol::Close)?;
+    Ok(Factor::Group {
+        opening,
+        inner: boxed(alloc, inner)?,
+        closing,
     })
 }
 
@@ -260,11 +298,11 @@ fn named(
 {
     if let Some(opening) = reader.take_symbol(Symbol::OpenIndex) {
         let index = index(reader, alloc, within(levels, opening)?, opening)?;
-        return Ok(Factor::Element(name, Box::new(alloc, index)?));
+        return Ok(Factor::Element(name, index));
     }
     if let Some(opening) = reader.take_symbol(Symbol::Open) {
         let arguments = arguments(reader, alloc, within(levels, opening)?, opening)?;
-        return Ok(Factor::Call(name, Box::new(alloc, arguments)?));
+        return Ok(Factor::Call(name, arguments));
     }
     Ok(Factor::Name(name))
 }
@@ -276,23 +314,23 @@ pub fn index(
     alloc: Global,
     levels: usize,
     opening: u32,
-) -> Result<Index, ParseFault>
+) -> Result<Box<Index>, ParseFault>
     requires { 1 ≤ levels }
     ensures words { IfOk result (λ x. symbol_at Symbol.OpenIndex opening ∷ reader.old
-        ≡ spelled_index (seen_index x) ++ reader.new) }
-    ensures fits { IfOk result (λ x. IndexFits (seen_index x) levels) }
-    ensures goes { OnOk result (AllGoesOn (want.expr levels ∷ mark Symbol.CloseIndex ∷ [])
-        reader.old reader.new) }
+        ≡ spelled_index (seen_index x.value) ++ reader.new) }
+    ensures fits { IfOk result (λ x. IndexFits (seen_index x.value) levels) }
+    ensures goes { OnOk result (AllGoesOn (index_wants levels) reader.old reader.new) }
     ensures fault { (line : ℕ) → result ≡ Err (ParseFault.Syntax line)
-        → AllIsStuck (want.expr levels ∷ mark Symbol.CloseIndex ∷ []) reader.old line }
+        → AllIsStuck (index_wants levels) reader.old line }
 {
     let place = expr(reader, alloc, levels)?;
     let closing = expect_symbol(reader, Symbol::CloseIndex)?;
-    Ok(Index {
+    let node = Index {
         opening,
         place,
         closing,
-    })
+    };
+    boxed(alloc, node)
 }
 
 /// Arguments whose opening parenthesis is read.
@@ -302,26 +340,24 @@ pub fn arguments(
     alloc: Global,
     levels: usize,
     opening: u32,
-) -> Result<Arguments, ParseFault>
+) -> Result<Box<Arguments>, ParseFault>
     requires { 1 ≤ levels }
     ensures words { IfOk result (λ x. symbol_at Symbol.Open opening ∷ reader.old
-        ≡ spelled_arguments (seen_arguments x) ++ reader.new) }
-    ensures fits { IfOk result (λ x. ArgumentsFit (seen_arguments x) levels) }
-    ensures goes { OnOk result (AllGoesOn
-        (want.expr levels ∷ want.more_exprs levels ∷ mark Symbol.Close ∷ [])
-        reader.old reader.new) }
-    ensures fault { (line : ℕ) → result ≡ Err (ParseFault.Syntax line) → AllIsStuck
-        (want.expr levels ∷ want.more_exprs levels ∷ mark Symbol.Close ∷ []) reader.old line }
+        ≡ spelled_arguments (seen_arguments x.value) ++ reader.new) }
+    ensures fits { IfOk result (λ x. ArgumentsFit (seen_arguments x.value) levels) }
+    ensures goes { OnOk result (AllGoesOn (argument_wants levels) reader.old reader.new) }
+    ensures fault { (line : ℕ) → result ≡ Err (ParseFault.Syntax line) → AllIsStuck (argument_wants levels) reader.old line }
 {
     let first = expr(reader, alloc, levels)?;
     let rest = more_exprs(reader, alloc, levels)?;
     let closing = expect_symbol(reader, Symbol::Close)?;
-    Ok(Arguments {
+    let node = Arguments {
         opening,
         first,
         rest,
         closing,
-    })
+    };
+    boxed(alloc, node)
 }
 
 // The later expressions of a list, each behind its comma.

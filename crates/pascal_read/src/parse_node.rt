@@ -1,14 +1,31 @@
-// Statements of their parts.
+// Expressions and statements of their parts, and nodes in boxes.
 
-ghost use Rattle.std.specs.Prelude.{◌≡◌};
-ghost use Rattle.pascal_tree.specs.SeenExpression.{seen_expr};
+ghost use Rattle.std.specs.Prelude.{◌≡◌, IfOk, IfErr};
+ghost use Rattle.pascal_tree.specs.SeenExpression.{seen_expr, seen_simple, expr_of};
 ghost use Rattle.pascal_tree.specs.SeenStatement.{seen_statement, seen_branch, seen_branches, seen_if, seen_for, seen_case, if_of};
 ghost use Rattle.pascal_tree.specs.Statement.{for_do, case_of};
-ghost use Rattle.pascal_read.specs.ParseParts.{seen_otherwise};
+ghost use Rattle.pascal_read.specs.ParseParts.{seen_otherwise, seen_right};
 
+use crate::parse_fault::ParseFault;
 use crate::parse_range::Range;
-use pascal_tree::expression::Expr;
+use pascal_tree::expression::{Comparison, Expr, Simple};
 use pascal_tree::statement::{Branch, Case, For, If, Statement};
+use std::alloc::Global;
+
+/// A node in a box. A function of its own, so that those that call each other keep little on the stack.
+pub fn boxed<T: Drop>(alloc: Global, node: T) -> Result<Box<T>, ParseFault>
+    ensures node { IfOk result (λ x. x.value ≡ node) }
+    ensures fault { IfErr result (λ fault. fault ≡ ParseFault.NoMemory) }
+{
+    Ok(Box::new(alloc, node)?)
+}
+
+/// The expression of its parts.
+pub fn compared(left: Simple, right: Option<Box<Comparison>>) -> Expr
+    ensures { seen_expr result ≡ expr_of (seen_simple left) (seen_right right) }
+{
+    Expr { left, right }
+}
 
 /// The IF of its parts.
 pub fn conditional(

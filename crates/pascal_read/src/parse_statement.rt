@@ -2,13 +2,13 @@
 #![tactic(auto, using(crate::proofs::ParseStatementRows::statement_rows))]
 
 ghost use Rattle.std.specs.Prelude.{◌≡◌, ℕ, ◌+◌, ◌≤◌, ◌∷◌, [], ◌++◌, true, Err, IfOk, OnOk, IfSome};
-ghost use Rattle.pascal_tree.specs.SeenStatement.{seen_statement, seen_statements, seen_sequence, seen_body, seen_if, seen_while, seen_repeat, seen_for, seen_case, seen_branch, seen_branches};
+ghost use Rattle.pascal_tree.specs.SeenStatement.{seen_statement, seen_statements, seen_sequence, seen_body, seen_branch, seen_branches};
 ghost use Rattle.pascal_tree.specs.SpellExpression.{reserved_at};
 ghost use Rattle.pascal_tree.specs.SpellStatement.{spelled_statement, spelled_sequence, spelled_statements, spelled_body, spelled_branch, spelled_branches};
 ghost use Rattle.pascal_tree.specs.Limits.{StatementFits, SequenceFits, StatementsFit, EndsClosed, BodyFits, BranchFits, BranchesFit};
 ghost use Rattle.pascal_read.specs.ParseFirst.{first_is};
 ghost use Rattle.pascal_read.specs.ParseParts.{seen_otherwise, spelled_otherwise, OtherwiseFits, OtherwiseCloses};
-ghost use Rattle.pascal_read.specs.ParseWants.{reserved_word, range_wants, branch_wants, case_wants, is_reserved, GoesOn, IsStuck, AllGoesOn, AllIsStuck};
+ghost use Rattle.pascal_read.specs.ParseWants.{compound_wants, if_wants, while_wants, repeat_wants, range_wants, branch_wants, case_wants, is_reserved, GoesOn, IsStuck, AllGoesOn, AllIsStuck};
 ghost use Rattle.pascal_read.specs.ParseWants as want;
 
 use crate::parse_assignment::begun_by_name;
@@ -16,10 +16,10 @@ use crate::parse_constant::labels;
 use crate::parse_expect::{LEVELS, expect_reserved, expect_symbol, within};
 use crate::parse_expression::expr;
 use crate::parse_fault::ParseFault;
-use crate::parse_node::{choice, conditional, repeated};
+use crate::parse_node::{boxed, choice, conditional, repeated};
 use crate::parse_range::{condition, read_range};
 use crate::parse_reader::Reader;
-use pascal_tree::statement::{Body, Branch, Case, For, If, Repeat, Statement, Statements, While};
+use pascal_tree::statement::{Body, Branch, Repeat, Statement, Statements, While};
 use pascal_tree::{Reserved, Symbol};
 use std::alloc::Global;
 
@@ -58,27 +58,22 @@ fn statement(reader: &mut Reader, alloc: Global, levels: usize) -> Result<Statem
     }
     if let Some(line) = reader.take_reserved(Reserved::Begin) {
         let node = compound(reader, alloc, within(levels, line)?, line)?;
-        return Ok(Statement::Compound(Box::new(alloc, node)?));
+        return Ok(Statement::Compound(boxed(alloc, node)?));
     }
     if let Some(line) = reader.take_reserved(Reserved::If) {
-        let node = if_statement(reader, alloc, within(levels, line)?, line)?;
-        return Ok(Statement::If(Box::new(alloc, node)?));
+        return if_statement(reader, alloc, within(levels, line)?, line);
     }
     if let Some(line) = reader.take_reserved(Reserved::While) {
-        let node = while_statement(reader, alloc, within(levels, line)?, line)?;
-        return Ok(Statement::While(Box::new(alloc, node)?));
+        return while_statement(reader, alloc, within(levels, line)?, line);
     }
     if let Some(line) = reader.take_reserved(Reserved::Repeat) {
-        let node = repeat_statement(reader, alloc, within(levels, line)?, line)?;
-        return Ok(Statement::Repeat(Box::new(alloc, node)?));
+        return repeat_statement(reader, alloc, within(levels, line)?, line);
     }
     if let Some(line) = reader.take_reserved(Reserved::For) {
-        let node = for_statement(reader, alloc, within(levels, line)?, line)?;
-        return Ok(Statement::For(Box::new(alloc, node)?));
+        return for_statement(reader, alloc, within(levels, line)?, line);
     }
     if let Some(line) = reader.take_reserved(Reserved::Case) {
-        let node = case_statement(reader, alloc, within(levels, line)?, line)?;
-        return Ok(Statement::Case(Box::new(alloc, node)?));
+        return case_statement(reader, alloc, within(levels, line)?, line);
     }
     Ok(Statement::Empty)
 }
@@ -95,11 +90,9 @@ fn compound(
     ensures words { IfOk result (λ x. reserved_at Reserved.Begin begin ∷ reader.old
         ≡ spelled_body (seen_body x) ++ reader.new) }
     ensures fits { IfOk result (λ x. BodyFits (seen_body x) levels) }
-    ensures goes { OnOk result (AllGoesOn (want.statement levels ∷ want.more_statements levels
-        ∷ reserved_word Reserved.End ∷ []) reader.old reader.new) }
+    ensures goes { OnOk result (AllGoesOn (compound_wants levels) reader.old reader.new) }
     ensures fault { (line : ℕ) → result ≡ Err (ParseFault.Syntax line)
-        → AllIsStuck (want.statement levels ∷ want.more_statements levels
-        ∷ reserved_word Reserved.End ∷ []) reader.old line }
+        → AllIsStuck (compound_wants levels) reader.old line }
 {
     let statements = sequence(reader, alloc, levels)?;
     let end = expect_reserved(reader, Reserved::End)?;
@@ -157,24 +150,22 @@ fn if_statement(
     alloc: Global,
     levels: usize,
     line: u32,
-) -> Result<If, ParseFault>
+) -> Result<Statement, ParseFault>
     requires { 1 ≤ levels }
     ensures words { IfOk result (λ x. reserved_at Reserved.If line ∷ reader.old
-        ≡ spelled_statement (seen_if x) ++ reader.new) }
-    ensures fits { IfOk result (λ x. StatementFits (seen_if x) (levels + 1)) }
+        ≡ spelled_statement (seen_statement x) ++ reader.new) }
+    ensures fits { IfOk result (λ x. StatementFits (seen_statement x) (levels + 1)) }
     ensures closed { IfOk result
         (λ x. first_is (λ w. is_reserved w Reserved.Else) reader.new ≡ true
-        → EndsClosed (seen_if x)) }
-    ensures goes { OnOk result (AllGoesOn (want.expr 64 ∷ reserved_word Reserved.Then
-        ∷ want.statement levels ∷ want.otherwise levels ∷ []) reader.old reader.new) }
+        → EndsClosed (seen_statement x)) }
+    ensures goes { OnOk result (AllGoesOn (if_wants levels) reader.old reader.new) }
     ensures fault { (at : ℕ) → result ≡ Err (ParseFault.Syntax at)
-        → AllIsStuck (want.expr 64 ∷ reserved_word Reserved.Then
-        ∷ want.statement levels ∷ want.otherwise levels ∷ []) reader.old at }
+        → AllIsStuck (if_wants levels) reader.old at }
 {
     let (test, then) = condition(reader, alloc, Reserved::Then)?;
     let first = statement(reader, alloc, levels)?;
     let otherwise = otherwise(reader, alloc, levels)?;
-    Ok(conditional(line, test, then, first, otherwise))
+    Ok(Statement::If(boxed(alloc, conditional(line, test, then, first, otherwise))?))
 }
 
 // ELSE and its statement, where they stand here.
@@ -210,28 +201,27 @@ fn while_statement(
     alloc: Global,
     levels: usize,
     line: u32,
-) -> Result<While, ParseFault>
+) -> Result<Statement, ParseFault>
     requires { 1 ≤ levels }
     ensures words { IfOk result (λ x. reserved_at Reserved.While line ∷ reader.old
-        ≡ spelled_statement (seen_while x) ++ reader.new) }
-    ensures fits { IfOk result (λ x. StatementFits (seen_while x) (levels + 1)) }
+        ≡ spelled_statement (seen_statement x) ++ reader.new) }
+    ensures fits { IfOk result (λ x. StatementFits (seen_statement x) (levels + 1)) }
     ensures closed { IfOk result
         (λ x. first_is (λ w. is_reserved w Reserved.Else) reader.new ≡ true
-        → EndsClosed (seen_while x)) }
-    ensures goes { OnOk result (AllGoesOn (want.expr 64 ∷ reserved_word Reserved.Do
-        ∷ want.statement levels ∷ []) reader.old reader.new) }
+        → EndsClosed (seen_statement x)) }
+    ensures goes { OnOk result (AllGoesOn (while_wants levels) reader.old reader.new) }
     ensures fault { (at : ℕ) → result ≡ Err (ParseFault.Syntax at)
-        → AllIsStuck (want.expr 64 ∷ reserved_word Reserved.Do
-        ∷ want.statement levels ∷ []) reader.old at }
+        → AllIsStuck (while_wants levels) reader.old at }
 {
     let (test, does) = condition(reader, alloc, Reserved::Do)?;
     let turn = statement(reader, alloc, levels)?;
-    Ok(While {
+    let node = While {
         line,
         test,
         does,
         turn,
-    })
+    };
+    Ok(Statement::While(boxed(alloc, node)?))
 }
 
 // A REPEAT that is read.
@@ -241,27 +231,26 @@ fn repeat_statement(
     alloc: Global,
     levels: usize,
     line: u32,
-) -> Result<Repeat, ParseFault>
+) -> Result<Statement, ParseFault>
     requires { 1 ≤ levels }
     ensures words { IfOk result (λ x. reserved_at Reserved.Repeat line ∷ reader.old
-        ≡ spelled_statement (seen_repeat x) ++ reader.new) }
-    ensures fits { IfOk result (λ x. StatementFits (seen_repeat x) (levels + 1)) }
-    ensures closed { IfOk result (λ x. EndsClosed (seen_repeat x)) }
-    ensures goes { OnOk result (AllGoesOn (want.statement levels ∷ want.more_statements levels
-        ∷ reserved_word Reserved.Until ∷ want.expr 64 ∷ []) reader.old reader.new) }
+        ≡ spelled_statement (seen_statement x) ++ reader.new) }
+    ensures fits { IfOk result (λ x. StatementFits (seen_statement x) (levels + 1)) }
+    ensures closed { IfOk result (λ x. EndsClosed (seen_statement x)) }
+    ensures goes { OnOk result (AllGoesOn (repeat_wants levels) reader.old reader.new) }
     ensures fault { (at : ℕ) → result ≡ Err (ParseFault.Syntax at)
-        → AllIsStuck (want.statement levels ∷ want.more_statements levels
-        ∷ reserved_word Reserved.Until ∷ want.expr 64 ∷ []) reader.old at }
+        → AllIsStuck (repeat_wants levels) reader.old at }
 {
     let turn = sequence(reader, alloc, levels)?;
     let until = expect_reserved(reader, Reserved::Until)?;
     let test = expr(reader, alloc, LEVELS)?;
-    Ok(Repeat {
+    let node = Repeat {
         line,
         turn,
         until,
         test,
-    })
+    };
+    Ok(Statement::Repeat(boxed(alloc, node)?))
 }
 
 // A FOR that is read.
@@ -271,21 +260,21 @@ fn for_statement(
     alloc: Global,
     levels: usize,
     line: u32,
-) -> Result<For, ParseFault>
+) -> Result<Statement, ParseFault>
     requires { 1 ≤ levels }
     ensures words { IfOk result (λ x. reserved_at Reserved.For line ∷ reader.old
-        ≡ spelled_statement (seen_for x) ++ reader.new) }
-    ensures fits { IfOk result (λ x. StatementFits (seen_for x) (levels + 1)) }
+        ≡ spelled_statement (seen_statement x) ++ reader.new) }
+    ensures fits { IfOk result (λ x. StatementFits (seen_statement x) (levels + 1)) }
     ensures closed { IfOk result
         (λ x. first_is (λ w. is_reserved w Reserved.Else) reader.new ≡ true
-        → EndsClosed (seen_for x)) }
+        → EndsClosed (seen_statement x)) }
     ensures goes { OnOk result (AllGoesOn (range_wants ++ want.statement levels ∷ []) reader.old reader.new) }
     ensures fault { (at : ℕ) → result ≡ Err (ParseFault.Syntax at)
         → AllIsStuck (range_wants ++ want.statement levels ∷ []) reader.old at }
 {
     let range = read_range(reader, alloc)?;
     let turn = statement(reader, alloc, levels)?;
-    Ok(repeated(line, range, turn))
+    Ok(Statement::For(boxed(alloc, repeated(line, range, turn))?))
 }
 
 // A CASE that is read.
@@ -295,12 +284,12 @@ fn case_statement(
     alloc: Global,
     levels: usize,
     line: u32,
-) -> Result<Case, ParseFault>
+) -> Result<Statement, ParseFault>
     requires { 1 ≤ levels }
     ensures words { IfOk result (λ x. reserved_at Reserved.Case line ∷ reader.old
-        ≡ spelled_statement (seen_case x) ++ reader.new) }
-    ensures fits { IfOk result (λ x. StatementFits (seen_case x) (levels + 1)) }
-    ensures closed { IfOk result (λ x. EndsClosed (seen_case x)) }
+        ≡ spelled_statement (seen_statement x) ++ reader.new) }
+    ensures fits { IfOk result (λ x. StatementFits (seen_statement x) (levels + 1)) }
+    ensures closed { IfOk result (λ x. EndsClosed (seen_statement x)) }
     ensures goes { OnOk result (AllGoesOn (case_wants levels) reader.old reader.new) }
     ensures fault { (at : ℕ) → result ≡ Err (ParseFault.Syntax at)
         → AllIsStuck (case_wants levels) reader.old at }
@@ -309,7 +298,7 @@ fn case_statement(
     let first = branch(reader, alloc, levels)?;
     let rest = more_branches(reader, alloc, levels)?;
     let end = expect_reserved(reader, Reserved::End)?;
-    Ok(choice(line, selector, of, first, rest, end))
+    Ok(Statement::Case(boxed(alloc, choice(line, selector, of, first, rest, end))?))
 }
 
 // A branch of a CASE.

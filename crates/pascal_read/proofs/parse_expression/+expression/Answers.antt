@@ -1,9 +1,14 @@
 use Rattle.std.proofs.Common.{◌≡◌, ◌∷◌, ap, ◌∙◌, rules}
+use Rattle.std.proofs.lemmas.Result.{IfOk-weaker}
+use Rattle.pascal_tree.specs.SeenExpression.{seen_expr, seen_exprs, seen_arguments}
+use Rattle.pascal_tree.specs.Expression.{arguments}
 use Rattle.pascal_tree.specs.SpellExpression.{adding_word, multiplying_word, symbol_at}
 use Rattle.pascal_tree.specs.declared.token.Symbol.TheVariants as symbol
+use Rattle.pascal_tree.specs.declared.expression.Arguments.{the_lemmas}
 use Rattle.pascal_read.specs.ParseFirst.{word_at}
 use Rattle.pascal_read.specs.ParseWants.{report}
 use Rattle.pascal_read.specs.ParseWants as want
+use Rattle.pascal_read.proofs.ParseExpressionParts.{arguments_words, arguments_fit}
 use Rattle.pascal_read.proofs.ParseRows.{addend_goes, multiplier_goes, comma_goes}
 use Rattle.pascal_read.proofs.ParseLists.{one_more-addends, one_more-multipliers, one_more-exprs, AddendsFit-push, MultipliersFit-push, ExprsFit-push}
 use Rattle.pascal_read.proofs.parse_expression.+expression.Goals as goal
@@ -48,3 +53,25 @@ more_exprs-loop-line-preserved t c =
       λ y more. l.invariant.2 y more ∙ ap (λ ts. report ts (want.more_exprs c.args.levels ∷ (y ∷ more))) taken ∙ comma_goes line inside c.args.levels (y ∷ more)
           ∙ c.in_ok-expr.ensures.goes (want.more_exprs c.args.levels) (y ∷ more),
     )
+
+pub arguments-returns-clause-words : goal.arguments-returns-clause-words
+arguments-returns-clause-words t c =
+    IfOk-weaker c.boxed.result _ _
+    (λ x e.
+    let first = seen_expr c.in_ok-first.first in
+    let rest = seen_exprs c.in_ok-rest.rest.items in
+    let closing = c.in_ok-closing.closing in
+    let made : seen_arguments x.value ≡ arguments c.args.opening first rest closing = rw e (search (rules, the_lemmas)) in
+    arguments_words c.args.opening closing first rest (seen_arguments x.value) _ _ _ _ made c.in_ok-first.ensures.words c.in_ok-rest.ensures.words c.in_ok-closing.ensures.taken)
+    c.boxed.ensures.node
+
+pub arguments-returns-clause-fits : goal.arguments-returns-clause-fits
+arguments-returns-clause-fits t c =
+    IfOk-weaker c.boxed.result _ _
+    (λ x e.
+    let first = seen_expr c.in_ok-first.first in
+    let rest = seen_exprs c.in_ok-rest.rest.items in
+    let closing = c.in_ok-closing.closing in
+    let made : seen_arguments x.value ≡ arguments c.args.opening first rest closing = rw e (search (rules, the_lemmas)) in
+    arguments_fit c.args.opening closing c.args.levels first rest (seen_arguments x.value) made c.in_ok-first.ensures.fits c.in_ok-rest.ensures.fits)
+    c.boxed.ensures.node

@@ -24,17 +24,23 @@ decreases-addends l = 10 * l.levels + 4
 abbrev pub decreases-simple : goal.decreases-simple
 decreases-simple l = 10 * l.levels + 5
 
+abbrev pub decreases-comparison : goal.decreases-comparison
+decreases-comparison l = 10 * l.levels + 6
+
 abbrev pub decreases-expr : goal.decreases-expr
-decreases-expr l = 10 * l.levels + 6
+decreases-expr l = 10 * l.levels + 7
+
+abbrev pub decreases-group : goal.decreases-group
+decreases-group l = 10 * l.levels + 8
 
 abbrev pub decreases-more_exprs : goal.decreases-more_exprs
-decreases-more_exprs l = 10 * l.levels + 7
+decreases-more_exprs l = 10 * l.levels + 8
 
 abbrev pub decreases-index : goal.decreases-index
-decreases-index l = 10 * l.levels + 7
+decreases-index l = 10 * l.levels + 8
 
 abbrev pub decreases-arguments : goal.decreases-arguments
-decreases-arguments l = 10 * l.levels + 8
+decreases-arguments l = 10 * l.levels + 9
 
 abbrev pub invariant-addends-loop-adding : goal.invariant-addends-loop-adding
 invariant-addends-loop-adding l =
