@@ -16,7 +16,7 @@ abbrev without : ℕ → List ℕ → List ℕ
 without n [] = []
 without n (x ∷ xs) = if x == n then xs else x ∷ without n xs
 
-abbrev AreUpTo : ℕ → List ℕ → Type 0
+abbrev pub AreUpTo : ℕ → List ℕ → Type 0
 AreUpTo n xs = AllByRecursion (λ x. (1 ≤ x) × (x ≤ n)) xs
 
 module _ (n : ℕ) where
@@ -58,7 +58,7 @@ module _ (n : ℕ) where
       ] refl
 
 -- of numbers from 1 to n that stand once there are at most n
-at-most : (n : ℕ) (xs : List ℕ) → EachOnce xs → AreUpTo n xs → length xs ≤ n
+pub at-most : (n : ℕ) (xs : List ℕ) → EachOnce xs → AreUpTo n xs → length xs ≤ n
 at-most zero [] once are = omega arith
 at-most zero (x ∷ xs) once are = (let low = are.0.0 in let high = are.0.1 in absurd (omega (arith, low, high)))
 at-most (suc n) xs once are =
@@ -68,7 +68,7 @@ at-most (suc n) xs once are =
 
 -- ---- at the desk
 module _ (opening s : CoreState) (st : Stands (core process) opening s) where
-  waits-one : (q : ℕ) → StandsAtDesk (core process) s q → IsProcess q
+  pub waits-one : (q : ℕ) → StandsAtDesk (core process) s q → IsProcess q
   waits-one q at =
       elim (st.others q) as (λ _. IsProcess q) [
         | inl one ↦ one
@@ -76,7 +76,7 @@ module _ (opening s : CoreState) (st : Stands (core process) opening s) where
             ap (λ h. acts.waits (law.acts (core process) q h)) (sym empty) ∙ at.waits_now in absurd cc)
       ]
 
-  holds-one : (q : ℕ) → acts.holds (law.acts (core process) q (s.histories q)) ≡ true → IsProcess q
+  pub holds-one : (q : ℕ) → acts.holds (law.acts (core process) q (s.histories q)) ≡ true → IsProcess q
   holds-one q on =
       elim (st.others q) as (λ _. IsProcess q) [
         | inl one ↦ one

@@ -18,7 +18,12 @@ pub mod RoundTrip
 pub mod Passing
 pub mod Stopping
 pub mod Together
+pub mod Undamaged
 pub mod Reached
 pub mod DeskRoom
 pub mod Sleeping
 pub mod WorkFalls
+mod CallsMade
+mod CallsCaused
+mod FewSleep
+pub mod Bounded

@@ -24,10 +24,10 @@ use Rattle.core_law.proofs.Streams.{deck_parcels, text_of, output_of, ReadsOf, G
 use Rattle.core_law.proofs.KeepsDevices.{text-part, prefix-longer}
 use Rattle.core_law.proofs.RoundTrip.{output-text}
 
-part-of : (p : Process) (part whole : List Parcel) → IsRelay p → IsPrefixOf part whole → IsPrefixOf (p.sends part) (p.sends whole)
+pub part-of : (p : Process) (part whole : List Parcel) → IsRelay p → IsPrefixOf part whole → IsPrefixOf (p.sends part) (p.sends whole)
 part-of p part whole relay (rest, e) = subst (λ all. IsPrefixOf (p.sends part) (p.sends all)) e (relay.monotone part rest)
 
-read-part : (items : List Item) (deck : Option (List Item)) (read : List Parcel) (ended : Bool) → is_ended read ≡ ended → ReadsOf items deck read
+pub read-part : (items : List Item) (deck : Option (List Item)) (read : List Parcel) (ended : Bool) → is_ended read ≡ ended → ReadsOf items deck read
     → IsPrefixOf read (deck_parcels items)
 read-part items deck read true e r = ([], append-nil read ∙ (r.whole e).0)
 read-part items deck read false e r = (deck_parcels r.left, r.parts e)
@@ -46,11 +46,11 @@ module _ {row : ℕ → Process} (laws : IsRow row) (histories : ℕ → List En
 
   module _ (hand_over : HandOver histories) where
     -- ---- the prefix
-    sent-part : (p : ℕ) → IsPrefixOf (sent (histories p)) ((row p).sends (taken (histories p)))
+    pub sent-part : (p : ℕ) → IsPrefixOf (sent (histories p)) ((row p).sends (taken (histories p)))
     sent-part p = sent-is-part (row p) (histories p) (laws.relays p) (follows p)
 
     -- one process further
-    next-part : (b : ℕ) (all : List Parcel) → IsBuffer b → IsPrefixOf (taken (histories b)) all → IsPrefixOf (taken (histories (suc b))) ((row b).sends all)
+    pub next-part : (b : ℕ) (all : List Parcel) → IsBuffer b → IsPrefixOf (taken (histories b)) all → IsPrefixOf (taken (histories (suc b))) ((row b).sends all)
     next-part b all is part =
         prefix-longer _ _ _ (hand_over b is) (prefix-longer _ _ _ (sent-part b) (part-of (row b) (taken (histories b)) all (laws.relays b) part))
 

@@ -1,5 +1,5 @@
 -- Every reached state of the core has what it promises.
-use Rattle.std.proofs.Common.{◌≡◌, inl, inr, ℕ, suc, ◌≤◌, true, List, [], ◌∷◌, ◌++◌, Option, Some, refl, sym, ◌∙◌, ap, subst, arith, lit≤}
+use Rattle.std.proofs.Common.{◌≡◌, inl, inr, ℕ, suc, ◌≤◌, true, List, [], ◌∷◌, ◌++◌, Option, Some, refl, sym, ◌∙◌, ap, subst, lit≤}
 use Rattle.std.proofs.lemmas.List.{append-nil}
 use Rattle.solo_base.specs.declared.item.Item.{Item}
 use Rattle.solo_base.specs.Text.{text}
@@ -23,6 +23,7 @@ use Rattle.core_law.proofs.Row.{feeds-at, each-buffer}
 use Rattle.core_law.proofs.Ends.{the-five}
 use Rattle.core_law.proofs.Acting.{follows-of, holds-are, stops-are}
 use Rattle.core_law.proofs.Lawful.{lawful}
+use Rattle.core_law.proofs.Undamaged.{have-causes, undamaged}
 use Rattle.core_law.proofs.KeepsPaper.{keeps-devices}
 use Rattle.core_law.proofs.NeverStuck.{ended-all}
 use Rattle.core_law.proofs.Passing.{HandOver, gains-of, reads-all}
@@ -34,7 +35,7 @@ pub record Centre (opening s : CoreState) : Type 0 where
   pub stands : Stands (core process) opening s
   pub devices : DevicesStand process opening s
 
-centre-run : (opening s : CoreState) (events : List CoreEvent) → AreEnabled (core process) s events → Centre opening s
+pub centre-run : (opening s : CoreState) (events : List CoreEvent) → AreEnabled (core process) s events → Centre opening s
     → Centre opening (run (core process) s events)
 centre-run opening s [] are c = c
 centre-run opening s (event ∷ events) are c =
@@ -50,7 +51,7 @@ text-nothing p = (text_of (p.sends []), refl)
 paper-nothing : (paper : Option (List ℕ)) (given : List ℕ) → paper ≡ Some given → paper ≡ Some (given ++ [])
 paper-nothing paper given e = rw (append-nil given) e
 
-opening-centre : (spools : Spools) (deck : Option (List Item)) (paper : Option (List ℕ)) → Centre (opened spools deck paper) (opened spools deck paper)
+pub opening-centre : (spools : Spools) (deck : Option (List Item)) (paper : Option (List ℕ)) → Centre (opened spools deck paper) (opened spools deck paper)
 opening-centre spools deck paper = record {
   stands = opening-stands (core process) record { deck = deck; paper = paper } (size_of spools) (told_of spools);
   devices = record {
@@ -73,13 +74,13 @@ reached-centre spools deck paper s r =
     (opened spools deck paper) r.reached.events r.reached.enabled (opening-centre spools deck paper))
 
 -- ---- what is told, and the sizes
-told-is : (spools : Spools) (b : ℕ) → told_of spools b ≡ true → IsTold {Parcel = Parcel} (fresh (size_of spools b) (inside_at (told_of spools b)))
+pub told-is : (spools : Spools) (b : ℕ) → told_of spools b ≡ true → IsTold {Parcel = Parcel} (fresh (size_of spools b) (inside_at (told_of spools b)))
 told-is spools b e = ([], ap inside_at e)
 
-all-told : (spools : Spools) → AreTold spools → (b : ℕ) → IsBuffer b → told_of spools b ≡ true
+pub all-told : (spools : Spools) → AreTold spools → (b : ℕ) → IsBuffer b → told_of spools b ≡ true
 all-told spools are b is = each-buffer (λ b. told_of spools b ≡ true) b is refl are.input are.output refl
 
-all-sized : (spools : Spools) → AreInBounds spools → (b : ℕ) → IsBuffer b → 1 ≤ size_of spools b
+pub all-sized : (spools : Spools) → AreInBounds spools → (b : ℕ) → IsBuffer b → 1 ≤ size_of spools b
 all-sized spools are b is = each-buffer (λ b. 1 ≤ size_of spools b) b is (lit≤ tt) are.input_some are.output_some (lit≤ tt)
 
 lines-told : (spools : Spools) (b : ℕ) → (process (suc b)).takes ≡ act.TakeFeed → told_of spools b ≡ true
@@ -93,7 +94,7 @@ lines-told spools b takes =
 follows-in : (opening s : CoreState) → Stands (core process) opening s → (p : ℕ) → Follows (process p) (s.histories p)
 follows-in opening s st p = follows-of process p (s.histories p) (st.follows p)
 
-hands-over : (opening s : CoreState) → Stands (core process) opening s → ((b : ℕ) → IsBuffer b → IsTold (opening.buffers b)) → HandOver s.histories
+pub hands-over : (opening s : CoreState) → Stands (core process) opening s → ((b : ℕ) → IsBuffer b → IsTold (opening.buffers b)) → HandOver s.histories
 hands-over opening s st told b is = (let (inside, e) = st.told b (told b is) in (inside, (handed the-five opening s st b is).parcels inside e))
 
 gained-whole : (spools : Spools) (deck : Option (List Item)) (paper : Option (List ℕ)) (s : CoreState) → Centre (opened spools deck paper) s → AreTold spools
@@ -134,6 +135,9 @@ module _ (spools : Spools) (deck : Option (List Item)) (paper : Option (List ℕ
     one_holder = c.stands.desk.one_holder;
     holder = goes-on;
     ends = ends-together the-five opening s c.stands;
+    causes = have-causes opening s c.stands;
+    undamaged = λ are items is valid.
+        undamaged opening s c.stands c.devices (hands-over opening s c.stands (λ b at. told-is spools b (all-told spools are b at))) items is valid;
     follows = λ p. follows-of process p (s.histories p) (c.stands.follows p);
   }
 

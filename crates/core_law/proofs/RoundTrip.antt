@@ -27,14 +27,14 @@ use Rattle.batch_procs.specs.Table.{process}
 use Rattle.core_law.proofs.Streams.{deck_parcels, text_of, output_of}
 use Rattle.core_law.proofs.ReportLines.{report-lines}
 
-abbrev good : List Item → Bool → Result PageContent BadPage
+abbrev pub good : List Item → Bool → Result PageContent BadPage
 good all last = Ok (record { items = all; last = last })
 
 -- the items of a stream that has ended
 abbrev pub whole : List Item → List Feed
 whole all = stream all true
 
-abbrev as_stream : List Page → List Parcel
+abbrev pub as_stream : List Page → List Parcel
 as_stream [] = []
 as_stream (page ∷ []) = OfPage page true ∷ []
 as_stream (page ∷ next ∷ rest) = OfPage page false ∷ as_stream (next ∷ rest)
@@ -65,7 +65,7 @@ form-at n m last all page same form = record {
   spelled = form.spelled ∙ page_of-same n m last (items_bytes all) same;
 }
 
-read-back : (n : ℕ) (last : Bool) (all : List Item) (page : Page) → IsPage n last all page → page_read (n % 2 ^ 16) last page ≡ good all last
+pub read-back : (n : ℕ) (last : Bool) (all : List Item) (page : Page) → IsPage n last all page → page_read (n % 2 ^ 16) last page ≡ good all last
 read-back n last all page form =
     let here = form-at n (n % 65536) last all page (omega arith) form in
     read_taken (n % 65536) last page (nothing_wrong_again (n % 65536) last all page (omega arith) here)
@@ -82,10 +82,10 @@ stream-back (page ∷ next ∷ rest) n all (front, left, parts, form, more) =
     ∙ sym (then-more front left) ∙ ap whole (sym parts)
 
 -- ---- what is packed is such a stream
-record Packs (parcels : List Parcel) (all : List Item) : Type 0 where
-  pages : List Page
-  same : parcels ≡ as_stream pages
-  is_stream : IsStream 0 pages all
+pub record Packs (parcels : List Parcel) (all : List Item) : Type 0 where
+  pub pages : List Page
+  pub same : parcels ≡ as_stream pages
+  pub is_stream : IsStream 0 pages all
 
 first-packed : HasPacked first_page [] []
 first-packed = record { groups = []; last = []; valid = tt; whole = refl; cut = omega arith; given = refl; place = refl; content = refl }
@@ -107,10 +107,13 @@ packs-on (item ∷ more) all hand pages are is =
       is_stream = subst (IsStream 0 rest.pages) (append_assoc all (item ∷ []) more) rest.is_stream;
     }
 
+pub packs : (all : List Item) → AreItems all → Packs (packed first_page (whole all)) all
+packs all are = packs-on all [] first_page [] are first-packed
+
 -- Items that are packed are read back.
 pub round-trip : (all : List Item) → AreItems all → unpacked 0 (packed first_page (whole all)) ≡ whole all
 round-trip all are =
-    let is = packs-on all [] first_page [] are first-packed in
+    let is = packs all are in
     ap (unpacked 0) is.same ∙ stream-back is.pages 0 all is.is_stream
 
 -- ---- the five list functions
@@ -134,7 +137,7 @@ lines-back : (lines : List (List ℕ)) → lines_of (map Line lines) ≡ lines
 lines-back [] = refl
 lines-back (line ∷ rest) = ap (λ ls. line ∷ ls) (lines-back rest)
 
-line-items : (lines : List (List ℕ)) → AllByRecursion IsLine lines → AreItems (map Line lines)
+pub line-items : (lines : List (List ℕ)) → AllByRecursion IsLine lines → AreItems (map Line lines)
 line-items [] are = tt
 line-items (line ∷ rest) are = (are.0, line-items rest are.1)
 
@@ -143,21 +146,21 @@ abbrev pub job_reports : List Item → List (List ℕ)
 job_reports all = flat_map report (jobs all)
 
 module _ (deck : List Item) (are : AreItems deck) where
-  card-gives : card_sends (deck_parcels deck) ≡ as_parcels (whole deck)
+  pub card-gives : card_sends (deck_parcels deck) ≡ as_parcels (whole deck)
   card-gives = ap (λ fs. as_parcels (stream (items fs) (has_end fs))) (deck-feeds deck)
       ∙ ap (λ all. as_parcels (stream all (has_end (whole deck)))) (whole-items deck) ∙ ap (λ ended. as_parcels (stream deck ended)) (whole-ends deck)
 
-  input-gives : input_sends (card_sends (deck_parcels deck)) ≡ packed first_page (whole deck)
+  pub input-gives : input_sends (card_sends (deck_parcels deck)) ≡ packed first_page (whole deck)
   input-gives = ap input_sends card-gives ∙ ap (packed first_page) (feeds-back (whole deck))
 
-  job-gives : job_sends (input_sends (card_sends (deck_parcels deck))) ≡ packed first_page (whole (map Line (job_reports deck)))
+  pub job-gives : job_sends (input_sends (card_sends (deck_parcels deck))) ≡ packed first_page (whole (map Line (job_reports deck)))
   job-gives =
       ap job_sends input-gives ∙ ap (λ fs. packed first_page (job_lines fs)) (round-trip deck are)
       ∙ ap (λ all. packed first_page (lines_stream (Rattle.batch_job.specs.LinesSoFar.lines_so_far all (has_end (whole deck))) (has_end (whole deck))))
       (whole-items deck)
       ∙ ap (λ ended. packed first_page (lines_stream (Rattle.batch_job.specs.LinesSoFar.lines_so_far deck ended) ended)) (whole-ends deck)
 
-  output-gives : output_sends (job_sends (input_sends (card_sends (deck_parcels deck)))) ≡ as_parcels (whole (map Line (job_reports deck)))
+  pub output-gives : output_sends (job_sends (input_sends (card_sends (deck_parcels deck)))) ≡ as_parcels (whole (map Line (job_reports deck)))
   output-gives =
       let lines = job_reports deck in
       ap output_sends job-gives ∙ ap (λ fs. as_parcels (output_lines fs)) (round-trip (map Line lines) (line-items lines (report-lines deck are)))

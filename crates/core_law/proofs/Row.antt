@@ -17,6 +17,7 @@ use Rattle.batch_procs.specs.Laws.{IsRelay}
 use Rattle.batch_procs.specs.Sends.{feeds, as_parcels, as_lines, marked, packed, unpacked, until_end, job_lines, output_lines}
 use Rattle.batch_procs.specs.Table.{card, input, job, output, printer, nobody, process}
 use Rattle.core_law.specs.Core.{IsBuffer}
+use Rattle.core_law.specs.Ends.{IsProcess}
 
 abbrev pub IsNoLine : Parcel → Type 0
 IsNoLine (OfFeed f) = Unit {0}
@@ -182,6 +183,23 @@ each-buffer P b is one two three four =
           | inl d ↦ subst P (sym d.1) three
           | inr d ↦ (let last : b ≡ 4 = (let a = a.1 in let c = c.1 in let d = d.1 in let low = is.0 in let high = is.1 in
               omega (arith, a, c, d, low, high)) in subst P (sym last) four)
+        ]
+      ]
+    ]
+
+pub each-process : (P : ℕ → Type 0) (p : ℕ) → IsProcess p → P 1 → P 2 → P 3 → P 4 → P 5 → P p
+each-process P p is one two three four five =
+    elim (eqb_tells p 1) as (λ _. P p) [
+      | inl a ↦ subst P (sym a.1) one
+      | inr a ↦ elim (eqb_tells p 2) as (λ _. P p) [
+        | inl c ↦ subst P (sym c.1) two
+        | inr c ↦ elim (eqb_tells p 3) as (λ _. P p) [
+          | inl d ↦ subst P (sym d.1) three
+          | inr d ↦ elim (eqb_tells p 4) as (λ _. P p) [
+            | inl e ↦ subst P (sym e.1) four
+            | inr e ↦ (let last : p ≡ 5 = (let a = a.1 in let c = c.1 in let d = d.1 in let e = e.1 in let low = is.0 in let high = is.1 in
+                omega (arith, a, c, d, e, low, high)) in subst P (sym last) five)
+          ]
         ]
       ]
     ]

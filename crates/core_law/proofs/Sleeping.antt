@@ -1,24 +1,41 @@
 -- A call may wake one that sleeps, and a delay puts one to sleep.
-use Rattle.std.proofs.Common.{◌≡◌, ◌⊎◌, inl, inr, ℕ, ◌+◌, ◌≤◌, ◌<◌, Bool, true, false, List, [], ◌∷◌, ◌++◌, length, length-append, Option, None, Some, refl, sym, ◌∙◌, ap, subst, arith}
-use Rattle.std.proofs.lemmas.Bool.Decides.{eqb_tells}
+use Rattle.std.proofs.Common.{◌≡◌, ◌⊎◌, inl, inr, ℕ, ◌+◌, ◌≤◌, ◌<◌, Bool, true, false, List, [], ◌∷◌, length, length-append, Option, None, Some, refl, sym, ◌∙◌, ap, arith}
 use Rattle.solo_base.specs.declared.outcome.Side.{Side}
 use Rattle.solo_base.specs.declared.outcome.Side.TheVariants.{Sender, Receiver}
 use Rattle.queue_var.specs.declared.turn.Turn.{Turn}
 use Rattle.queue_var.specs.declared.turn.Turn.TheVariants.{Free, Handed}
-use Rattle.queue_var.specs.Sides.{Sides, MayEnter, MayStop, queue, entered, delayed, other}
+use Rattle.queue_var.specs.Sides.{Sides, MayEnter, MayStop, entered, delayed}
 use Rattle.resource_mon.specs.Claims.{later_of}
 use Rattle.batch_procs.specs.Parcels.{Parcel, is_last}
 use Rattle.network_law.specs.Acts.{Call, Alone, At, Asks, Gives, Visit, Awaits, Passes, Moves, Stops, Went, Delayed, Told, Done, Moved, is_delayed}
 use Rattle.network_law.specs.Buffer.{Buffer, after_visit, MayVisit, VisitFits}
-use Rattle.network_law.specs.Desk.{Desk, after_asking, after_grant, after_giving}
+use Rattle.network_law.specs.Desk.{Desk, after_asking, after_grant}
 use Rattle.network_law.specs.Network.{MayCall, Fits, buffers_after, desk_after}
 use Rattle.core_law.specs.Core.{CoreState, IsBuffer}
+use Rattle.core_law.proofs.Row.{each-buffer}
 use Rattle.core_law.specs.Work.{sleeps, sleepers_at, sleepers}
 
--- a delay puts one to sleep; any other call wakes at most one
-abbrev pub Slept : Bool → ℕ → ℕ → Type 0
-Slept true before after = after ≡ before + 1
-Slept false before after = before ≤ after + 1
+-- ---- what a call wakes
+abbrev pub moves : Went Parcel → ℕ
+moves (Moved parcel) = 1
+moves went = 0
+
+abbrev pub visit_wakes : Visit → Went Parcel → ℕ
+visit_wakes Awaits went = moves went
+visit_wakes Passes went = moves went
+visit_wakes Moves went = moves went
+visit_wakes Stops went = 1
+
+abbrev pub wakes : Call → Went Parcel → ℕ
+wakes Alone went = 0
+wakes (At b side visit) went = visit_wakes visit went
+wakes Asks went = 0
+wakes Gives went = 1
+
+-- a delay puts one to sleep; any other call wakes at most so many
+abbrev pub Slept : Bool → ℕ → ℕ → ℕ → Type 0
+Slept true n before after = after ≡ before + 1
+Slept false n before after = before ≤ after + n
 
 abbrev counted : Option ℕ → ℕ
 counted None = 0
@@ -68,22 +85,37 @@ stopping-one sides side may = entering-one sides side 0 (inl may)
 woken : (before after : ℕ) → before ≤ 1 → before ≤ after + 1
 woken before after few = omega (arith, few)
 
+sender-in : (r : Option ℕ) → sleeps Sender Free None + sleeps Receiver Free r ≡ counted r
+sender-in None = refl
+sender-in (Some q) = refl
+
+receiver-in : (s : Option ℕ) → sleeps Sender Free s + sleeps Receiver Free None ≡ counted s
+receiver-in None = refl
+receiver-in (Some q) = refl
+
+same-in : (before after : ℕ) → after ≡ before → before ≤ after + 0
+same-in before after e = omega (arith, e)
+
+let-in : (sides : Sides) (side : Side) (p : ℕ) → MayEnter sides side p → sleepers_at (entered sides side) ≡ sleepers_at sides
+let-in sides Sender p may = sender-in sides.receiver ∙ sym (enter-sender sides.turn sides.sender sides.receiver p may)
+let-in sides Receiver p may = receiver-in sides.sender ∙ sym (enter-receiver sides.turn sides.sender sides.receiver p may)
+
 -- ---- a call at a buffer
 waits-slept : (mark : Parcel → Bool) (side : Side) (buffer : Buffer Parcel) (p : ℕ) (went : Went Parcel) → MayEnter buffer.sides side p
-    → Slept (is_delayed went) (sleepers_at buffer.sides) (sleepers_at (after_visit mark Awaits side p went buffer).sides)
+    → Slept (is_delayed went) (moves went) (sleepers_at buffer.sides) (sleepers_at (after_visit mark Awaits side p went buffer).sides)
 waits-slept mark side buffer p Delayed may = put-to-sleep buffer.sides side p may
-waits-slept mark side buffer p Told may = woken _ _ (entering-one buffer.sides side p may)
-waits-slept mark side buffer p Done may = woken _ _ (entering-one buffer.sides side p may)
+waits-slept mark side buffer p Told may = same-in _ _ (let-in buffer.sides side p may)
+waits-slept mark side buffer p Done may = same-in _ _ (let-in buffer.sides side p may)
 waits-slept mark side buffer p (Moved parcel) may = woken _ _ (entering-one buffer.sides side p may)
 
 visit-slept : (mark : Parcel → Bool) (side : Side) (buffer : Buffer Parcel) (visit : Visit) (p : ℕ) (went : Went Parcel)
     → MayVisit buffer.sides side p visit → VisitFits mark side buffer visit went
-    → Slept (is_delayed went) (sleepers_at buffer.sides) (sleepers_at (after_visit mark visit side p went buffer).sides)
+    → Slept (is_delayed went) (visit_wakes visit went) (sleepers_at buffer.sides) (sleepers_at (after_visit mark visit side p went buffer).sides)
 visit-slept mark side buffer Awaits p went may fits = waits-slept mark side buffer p went may
 visit-slept mark side buffer Passes p went may fits = waits-slept mark side buffer p went may
 visit-slept mark side buffer Moves p Delayed may fits = absurd fits
 visit-slept mark side buffer Moves p Told may fits = absurd fits
-visit-slept mark side buffer Moves p Done may fits = woken _ _ (stopping-one buffer.sides side may)
+visit-slept mark side buffer Moves p Done may fits = same-in _ _ refl
 visit-slept mark side buffer Moves p (Moved parcel) may fits = woken _ _ (stopping-one buffer.sides side may)
 visit-slept mark side buffer Stops p Delayed may fits = absurd cc
 visit-slept mark side buffer Stops p Told may fits = absurd cc
@@ -95,11 +127,11 @@ grant-same : (turn : Option ℕ) (desk : Desk) (p : ℕ) → (after_grant turn d
 grant-same None desk p = refl
 grant-same (Some q) desk p = refl
 
-same-slept : (before after : List ℕ) → after ≡ before → length before ≤ length after + 1
+same-slept : (before after : List ℕ) → after ≡ before → length before ≤ length after + 0
 same-slept before after e = (let same : length after ≡ length before = ap length e in omega (arith, same))
 
 asks-slept : (desk : Desk) (p : ℕ) (went : Went Parcel)
-    → Slept (is_delayed went) (length desk.claims.waiting) (length (after_asking desk p went).claims.waiting)
+    → Slept (is_delayed went) 0 (length desk.claims.waiting) (length (after_asking desk p went).claims.waiting)
 asks-slept desk p Delayed = length-append desk.claims.waiting (p ∷ [])
 asks-slept desk p Told = same-slept _ _ (grant-same desk.claims.handed desk p)
 asks-slept desk p Done = same-slept _ _ (grant-same desk.claims.handed desk p)
@@ -110,35 +142,21 @@ later-slept [] = omega arith
 later-slept (q ∷ later) = omega arith
 
 -- ---- among all that sleep
-among : (d : Bool) (a b rest x y : ℕ) → x ≡ a + rest → y ≡ b + rest → Slept d a b → Slept d x y
-among true a b rest x y e f slept = omega (arith, e, f, slept)
-among false a b rest x y e f slept = omega (arith, e, f, slept)
+among : (d : Bool) (n a b rest x y : ℕ) → x ≡ a + rest → y ≡ b + rest → Slept d n a b → Slept d n x y
+among true n a b rest x y e f slept = omega (arith, e, f, slept)
+among false n a b rest x y e f slept = omega (arith, e, f, slept)
 
-same-still : (w : Went Parcel) (n : ℕ) → w ≡ Done → Slept (is_delayed w) n n
+same-still : (w : Went Parcel) (n : ℕ) → w ≡ Done → Slept (is_delayed w) 0 n n
 same-still Delayed n e = absurd cc
 same-still Told n e = omega arith
 same-still Done n e = omega arith
 same-still (Moved parcel) n e = omega arith
 
-gives-still : (w : Went Parcel) (waiting : List ℕ) → w ≡ Done → Slept (is_delayed w) (length waiting) (length (later_of waiting))
+gives-still : (w : Went Parcel) (waiting : List ℕ) → w ≡ Done → Slept (is_delayed w) 1 (length waiting) (length (later_of waiting))
 gives-still Delayed waiting e = absurd cc
 gives-still Told waiting e = later-slept waiting
 gives-still Done waiting e = later-slept waiting
 gives-still (Moved parcel) waiting e = later-slept waiting
-
-by-buffer : (P : ℕ → Type 0) (b : ℕ) → IsBuffer b → P 1 → P 2 → P 3 → P 4 → P b
-by-buffer P b is one two three four =
-    elim (eqb_tells b 1) as (λ _. P b) [
-      | inl a ↦ subst P (sym a.1) one
-      | inr a ↦ elim (eqb_tells b 2) as (λ _. P b) [
-        | inl c ↦ subst P (sym c.1) two
-        | inr c ↦ elim (eqb_tells b 3) as (λ _. P b) [
-          | inl d ↦ subst P (sym d.1) three
-          | inr d ↦ (let last : b ≡ 4 = (let a = a.1 in let c = c.1 in let d = d.1 in let low = is.0 in let high = is.1 in
-              omega (arith, a, c, d, low, high)) in subst P (sym last) four)
-        ]
-      ]
-    ]
 
 module _ (s : CoreState) (p : ℕ) where
   -- behind a call that went so
@@ -152,30 +170,45 @@ module _ (s : CoreState) (p : ℕ) where
   waiting = length s.desk.claims.waiting
 
   at-slept : (b : ℕ) (side : Side) (visit : Visit) (w : Went Parcel) → IsBuffer b → MayVisit (s.buffers b).sides side p visit
-      → VisitFits is_last side (s.buffers b) visit w → Slept (is_delayed w) (sleepers s) (sleepers (after (At b side visit) w))
+      → VisitFits is_last side (s.buffers b) visit w → Slept (is_delayed w) (visit_wakes visit w) (sleepers s) (sleepers (after (At b side visit) w))
   at-slept b side visit w is =
-      by-buffer (λ b. MayVisit (s.buffers b).sides side p visit → VisitFits is_last side (s.buffers b) visit w
-      → Slept (is_delayed w) (sleepers s) (sleepers (after (At b side visit) w))) b is
-      (λ may fits. among (is_delayed w) (at 1) _ (at 2 + at 3 + at 4 + waiting) _ _ (omega arith) (omega arith)
+      each-buffer (λ b. MayVisit (s.buffers b).sides side p visit → VisitFits is_last side (s.buffers b) visit w
+      → Slept (is_delayed w) (visit_wakes visit w) (sleepers s) (sleepers (after (At b side visit) w))) b is
+      (λ may fits. among (is_delayed w) (visit_wakes visit w) (at 1) _ (at 2 + at 3 + at 4 + waiting) _ _ (omega arith) (omega arith)
       (visit-slept is_last side (s.buffers 1) visit p w may fits))
-      (λ may fits. among (is_delayed w) (at 2) _ (at 1 + at 3 + at 4 + waiting) _ _ (omega arith) (omega arith)
+      (λ may fits. among (is_delayed w) (visit_wakes visit w) (at 2) _ (at 1 + at 3 + at 4 + waiting) _ _ (omega arith) (omega arith)
       (visit-slept is_last side (s.buffers 2) visit p w may fits))
-      (λ may fits. among (is_delayed w) (at 3) _ (at 1 + at 2 + at 4 + waiting) _ _ (omega arith) (omega arith)
+      (λ may fits. among (is_delayed w) (visit_wakes visit w) (at 3) _ (at 1 + at 2 + at 4 + waiting) _ _ (omega arith) (omega arith)
       (visit-slept is_last side (s.buffers 3) visit p w may fits))
-      (λ may fits. among (is_delayed w) (at 4) _ (at 1 + at 2 + at 3 + waiting) _ _ (omega arith) (omega arith)
+      (λ may fits. among (is_delayed w) (visit_wakes visit w) (at 4) _ (at 1 + at 2 + at 3 + waiting) _ _ (omega arith) (omega arith)
       (visit-slept is_last side (s.buffers 4) visit p w may fits))
 
   pub call-slept : (c : Call) (w : Went Parcel) → ((b : ℕ) (side : Side) (visit : Visit) → c ≡ At b side visit → IsBuffer b) → MayCall s p c
-      → Fits is_last s c w → Slept (is_delayed w) (sleepers s) (sleepers (after c w))
+      → Fits is_last s c w → Slept (is_delayed w) (wakes c w) (sleepers s) (sleepers (after c w))
   call-slept Alone w place may fits = same-still w (sleepers s) fits
   call-slept (At b side visit) w place may fits = at-slept b side visit w (place b side visit refl) may fits
   call-slept Asks w place may fits =
-      among (is_delayed w) waiting _ (at 1 + at 2 + at 3 + at 4) _ _ (omega arith) (omega arith) (asks-slept s.desk p w)
+      among (is_delayed w) 0 waiting _ (at 1 + at 2 + at 3 + at 4) _ _ (omega arith) (omega arith) (asks-slept s.desk p w)
   call-slept Gives w place may fits =
-      among (is_delayed w) waiting _ (at 1 + at 2 + at 3 + at 4) _ _ (omega arith) (omega arith) (gives-still w s.desk.claims.waiting fits)
+      among (is_delayed w) 1 waiting _ (at 1 + at 2 + at 3 + at 4) _ _ (omega arith) (omega arith) (gives-still w s.desk.claims.waiting fits)
+
+moves-most : (w : Went Parcel) → moves w ≤ 1
+moves-most Delayed = omega arith
+moves-most Told = omega arith
+moves-most Done = omega arith
+moves-most (Moved parcel) = omega arith
+
+pub wakes-most : (c : Call) (w : Went Parcel) → wakes c w ≤ 1
+wakes-most Alone w = omega arith
+wakes-most (At b side Awaits) w = moves-most w
+wakes-most (At b side Passes) w = moves-most w
+wakes-most (At b side Moves) w = moves-most w
+wakes-most (At b side Stops) w = omega arith
+wakes-most Asks w = omega arith
+wakes-most Gives w = omega arith
 
 -- ---- no more than there are queues
-sleeps-most : (side : Side) (turn : Turn Side) (q : Option ℕ) → sleeps side turn q ≤ 1
+pub sleeps-most : (side : Side) (turn : Turn Side) (q : Option ℕ) → sleeps side turn q ≤ 1
 sleeps-most side turn None = omega arith
 sleeps-most Sender (Handed Sender) (Some p) = omega arith
 sleeps-most Sender (Handed Receiver) (Some p) = omega arith

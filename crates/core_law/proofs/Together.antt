@@ -1,5 +1,5 @@
 -- How the five end together, in every reached state.
-use Rattle.std.proofs.Common.{◌≡◌, inl, inr, ℕ, true, false, Option, None, Some, refl, sym, ◌∙◌, ap, subst}
+use Rattle.std.proofs.Common.{◌≡◌, ℕ, true, false, Option, None, Some, refl, sym, ◌∙◌}
 use Rattle.solo_base.specs.declared.outcome.Side.{Side}
 use Rattle.solo_base.specs.declared.outcome.Side.TheVariants.{Sender, Receiver}
 use Rattle.solo_base.specs.declared.outcome.Outcome.TheVariants as outcome
@@ -15,7 +15,7 @@ use Rattle.core_law.proofs.Row.{IsRow}
 use Rattle.core_law.proofs.Acting.{follows-of}
 use Rattle.core_law.proofs.NeverStuck.{mark-is}
 use Rattle.core_law.proofs.Told.{was-told}
-use Rattle.core_law.proofs.Stopping.{AreFirst, WasToldBy, EndsInFault, done-none, none-done, stopped-by}
+use Rattle.core_law.proofs.Stopping.{AreFirst, WasToldBy, done-none, none-done, stopped-by}
 
 none-among : (stops : Stops) (side : Side) → first_of stops ≡ None → is_among side stops ≡ false
 none-among Neither side e = refl

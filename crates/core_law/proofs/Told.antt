@@ -1,38 +1,30 @@
 -- Who was told of a stop.
 use Rattle.std.proofs.Common.{◌≡◌, ◌⊎◌, inl, inr, ℕ, Bool, true, false, ◌||◌, List, [], ◌∷◌, Option, None, Some, Result, Ok, Err, refl, sym, ◌∙◌, ap, subst}
-use Rattle.std.proofs.lemmas.Bool.Decides.{eqb_tells}
 use Rattle.solo_base.specs.declared.outcome.Side.{Side}
 use Rattle.solo_base.specs.declared.outcome.Side.TheVariants.{Sender, Receiver}
 use Rattle.solo_base.specs.declared.outcome.Outcome.{Outcome}
 use Rattle.solo_base.specs.declared.outcome.Outcome.TheVariants as outcome
-use Rattle.solo_base.specs.declared.outcome.Cause.{Cause}
 use Rattle.solo_devices.specs.declared.card_read.CardRead.{CardRead}
 use Rattle.solo_devices.specs.declared.card_read.CardRead.TheVariants as read
 use Rattle.page_codec.specs.declared.judge.BadPage.{BadPage}
 use Rattle.page_codec.specs.Reading.{PageContent, page_read}
-use Rattle.queue_var.specs.Sides.{stopped_by, other}
 use Rattle.batch_procs.specs.declared.actions.Action.{Action}
 use Rattle.batch_procs.specs.declared.actions.Action.TheVariants as act
 use Rattle.batch_procs.specs.declared.actions.Reply.{Reply}
 use Rattle.batch_procs.specs.declared.actions.Reply.TheVariants as reply
-use Rattle.batch_procs.specs.Parcels.{is_ended}
-use Rattle.batch_procs.specs.History.{Entry, Does, LacksMemory, Delays, action_of, taken, newest}
+use Rattle.batch_procs.specs.History.{Entry, Does, LacksMemory, Delays, action_of}
 use Rattle.batch_procs.specs.Fits.{Fits}
 use Rattle.batch_procs.specs.Causes.{caused, or_new, given_cause, fault_read, damage, place}
-use Rattle.batch_procs.specs.Process.{Process, Follows, next_action, next_by, aim, due, unworked}
-use Rattle.batch_procs.specs.Laws.{IsNotDone}
-use Rattle.batch_procs.proofs.Closing.{working-no_stop, aimed-no_stop, caused-not_done}
-use Rattle.network_law.specs.Acts.{At, Visit, Awaits, Passes, Stops, told_at, was_told}
+use Rattle.batch_procs.specs.Process.{Process, Follows, next_action}
+use Rattle.network_law.specs.Acts.{At, Visit, Awaits, Passes, told_at, was_told}
 use Rattle.network_law.specs.Network as law
 use Rattle.network_law.specs.Network.{IsEnabled, happens}
 use Rattle.network_law.specs.Kept.{Stands}
-use Rattle.network_law.proofs.Numbers.{set-same, set-other}
-use Rattle.network_law.proofs.Stopping.{stopped-before}
-use Rattle.core_law.specs.Core.{upstream, seat, call, went, core, CoreState, CoreEvent, IsBuffer}
+use Rattle.core_law.specs.Core.{upstream, seat, call, went, core, CoreState, IsBuffer}
 use Rattle.core_law.specs.Ends.{IsProcess, WasTold}
 use Rattle.core_law.proofs.Row.{IsRow}
 use Rattle.core_law.proofs.Acting.{follows-of, same-here}
-use Rattle.core_law.proofs.Lawful.{lawful, seated-by}
+use Rattle.core_law.proofs.Lawful.{seated-by}
 use Rattle.core_law.proofs.Places.{call-buffer}
 
 -- ---- only one reply is the cause Stopped

@@ -1,7 +1,6 @@
 -- Each event of the core lowers the work that is left.
-use Rattle.std.proofs.Common.{◌≡◌, inl, inr, ℕ, suc, ◌+◌, ◌*◌, ◌-◌, ◌≤◌, ◌<◌, Bool, true, false, ◌||◌, List, [], ◌∷◌, ◌++◌, map, length, length-append, Option, None, Some, refl, sym, ◌∙◌, ap, subst, arith, lit≤}
+use Rattle.std.proofs.Common.{◌≡◌, ℕ, suc, ◌+◌, ◌*◌, ◌-◌, ◌≤◌, ◌<◌, Bool, true, false, ◌||◌, List, [], ◌∷◌, ◌++◌, map, length, length-append, Option, None, Some, refl, sym, ◌∙◌, ap, subst, arith, lit≤}
 use Rattle.std.proofs.lemmas.List.{append-nil, length-map}
-use Rattle.std.proofs.lemmas.Bool.Decides.{eqb_tells}
 use Rattle.solo_base.specs.declared.item.Item.{Item}
 use Rattle.solo_base.specs.declared.item.Feed.TheVariants as feed
 use Rattle.solo_base.specs.declared.outcome.Outcome.{Outcome}
@@ -23,14 +22,13 @@ use Rattle.batch_procs.proofs.Ahead.{ahead_falls}
 use Rattle.batch_procs.proofs.Falling.{unstopped-same}
 use Rattle.batch_procs.proofs.PageBounds.{bounds}
 use Rattle.batch_procs.proofs.Relay.{open-next}
-use Rattle.network_law.specs.Acts.{Visit, At, Went, Delayed, is_delayed}
+use Rattle.network_law.specs.Acts.{Went, Delayed, is_delayed}
 use Rattle.network_law.specs.Network.{IsEnabled, happens}
 use Rattle.network_law.specs.Kept.{Stands}
 use Rattle.network_law.proofs.Reached.{stands-event}
 use Rattle.core_law.specs.Core.{call, core, went, items_by, CoreState, CoreEvent, IsBuffer}
-use Rattle.core_law.specs.Ends.{IsProcess}
 use Rattle.core_law.specs.Opening.{Spools, opened, IsReached}
-use Rattle.core_law.specs.Work.{weight, process_left, buffer_left, reads_left, deck_left, calls_left, sleepers, work_left, LeavesFewer}
+use Rattle.core_law.specs.Work.{weight, reads_left, calls_left, sleepers, work_left, LeavesFewer}
 use Rattle.core_law.proofs.Acting.{follows-of, delays-of}
 use Rattle.core_law.proofs.DeskRoom.{desk-room}
 use Rattle.core_law.proofs.Ends.{the-five}
@@ -38,7 +36,8 @@ use Rattle.core_law.proofs.Handed.{handed}
 use Rattle.core_law.proofs.Lawful.{lawful}
 use Rattle.core_law.proofs.Places.{call-buffer}
 use Rattle.core_law.proofs.Reached.{reached-centre}
-use Rattle.core_law.proofs.Sleeping.{Slept, call-slept, few-sleep}
+use Rattle.core_law.proofs.Row.{each-process}
+use Rattle.core_law.proofs.Sleeping.{Slept, wakes, wakes-most, call-slept, few-sleep}
 use Rattle.core_law.proofs.Taking.{next-take}
 
 -- ---- what an entry costs: a delay nothing
@@ -217,7 +216,8 @@ module _ (opening s : CoreState) (event : CoreEvent) (st : Stands (core process)
       → length (taken (next_state.histories (suc b))) + length (next_state.buffers b).marks ≡ length (sent (next_state.histories b))
   inside-next b is = counted _ _ _ (handed the-five opening next_state st-next b is).marks.in_order
 
-  pub slept : Slept (is_delayed (went event.entry)) (sleepers s) (sleepers next_state)
+  pub slept : Slept (is_delayed (went event.entry)) (wakes (call event.process (Rattle.batch_procs.specs.History.action_of event.entry)) (went event.entry))
+      (sleepers s) (sleepers next_state)
   slept =
       call-slept s event.process (call event.process (Rattle.batch_procs.specs.History.action_of event.entry)) (went event.entry)
       (λ b side visit e. call-buffer the-five event.process (s.histories event.process) enabled.one
@@ -362,27 +362,10 @@ module _ (opening s : CoreState) (st : Stands (core process) opening s) (entry :
       (deck-same 5 enabled (λ e. cc)) (same-at 5 1 enabled one refl refl) (same-at 5 2 enabled two refl refl)
       (same-at 5 3 enabled three refl refl) (less-at 5 4 enabled four refl refl refl)
 
-by-process : (P : ℕ → Type 0) (p : ℕ) → IsProcess p → P 1 → P 2 → P 3 → P 4 → P 5 → P p
-by-process P p is one two three four five =
-    elim (eqb_tells p 1) as (λ _. P p) [
-      | inl a ↦ subst P (sym a.1) one
-      | inr a ↦ elim (eqb_tells p 2) as (λ _. P p) [
-        | inl c ↦ subst P (sym c.1) two
-        | inr c ↦ elim (eqb_tells p 3) as (λ _. P p) [
-          | inl d ↦ subst P (sym d.1) three
-          | inr d ↦ elim (eqb_tells p 4) as (λ _. P p) [
-            | inl e ↦ subst P (sym e.1) four
-            | inr e ↦ (let last : p ≡ 5 = (let a = a.1 in let c = c.1 in let d = d.1 in let e = e.1 in let low = is.0 in let high = is.1 in
-                omega (arith, a, c, d, e, low, high)) in subst P (sym last) five)
-          ]
-        ]
-      ]
-    ]
-
 calls-fall : (opening s : CoreState) (st : Stands (core process) opening s) (event : CoreEvent) (cards left : ℕ) → LeavesFewer event.entry cards left
     → IsEnabled (core process) s event → calls_left left (happens (core process) s event) + cost event.entry ≤ calls_left cards s
 calls-fall opening s st event cards left leaves enabled =
-    by-process (Falls opening s st event.entry event.gained cards left leaves) event.process enabled.one
+    each-process (Falls opening s st event.entry event.gained cards left leaves) event.process enabled.one
     (first-falls opening s st event.entry event.gained cards left leaves) (second-falls opening s st event.entry event.gained cards left leaves)
     (third-falls opening s st event.entry event.gained cards left leaves) (fourth-falls opening s st event.entry event.gained cards left leaves)
     (fifth-falls opening s st event.entry event.gained cards left leaves) enabled
@@ -392,17 +375,18 @@ not-delayed : (w : Went Parcel) → (w ≡ Delayed → ⊥) → is_delayed w ≡
 not-delayed Delayed not = absurd (not refl)
 not-delayed w not = refl
 
-answered : (entry : Entry) → ((a : Action) → entry ≡ Delays a → ⊥) → is_delayed (went entry) ≡ false
+pub answered : (entry : Entry) → ((a : Action) → entry ≡ Delays a → ⊥) → is_delayed (went entry) ≡ false
 answered entry not = not-delayed (went entry) (λ e. (let (a, is) = delays-of entry e in not a is))
 
-lower : (c left s now : ℕ) → left + 1 ≤ c → s ≤ now + 1 → 2 * left + (12 - now) < 2 * c + (12 - s)
-lower c left s now less slept = omega (arith, less, slept)
+lower : (c left s now n : ℕ) → left + 1 ≤ c → s ≤ now + n → n ≤ 1 → 2 * left + (12 - now) < 2 * c + (12 - s)
+lower c left s now n less slept one = omega (arith, less, slept, one)
 
-fall : (entry : Entry) (c left s now : ℕ) → left + cost entry ≤ c → Slept (is_delayed (went entry)) s now → now ≤ 12
+fall : (entry : Entry) (c left s now n : ℕ) → left + cost entry ≤ c → Slept (is_delayed (went entry)) n s now → n ≤ 1 → now ≤ 12
     → 2 * left + (12 - now) < 2 * c + (12 - s)
-fall (Does a r) c left s now less slept most = lower c left s now less (subst (λ d. Slept d s now) (answered (Does a r) (λ b e. cc)) slept)
-fall (LacksMemory a r) c left s now less slept most = lower c left s now less (subst (λ d. Slept d s now) (answered (LacksMemory a r) (λ b e. cc)) slept)
-fall (Delays a) c left s now less slept most = omega (arith, less, slept, most)
+fall (Does a r) c left s now n less slept one most = lower c left s now n less (subst (λ d. Slept d n s now) (answered (Does a r) (λ b e. cc)) slept) one
+fall (LacksMemory a r) c left s now n less slept one most =
+    lower c left s now n less (subst (λ d. Slept d n s now) (answered (LacksMemory a r) (λ b e. cc)) slept) one
+fall (Delays a) c left s now n less slept one most = omega (arith, less, slept, most)
 
 -- each event of a reached state
 pub work-falls : (spools : Spools) (deck : Option (List Item)) (paper : Option (List ℕ)) (s : CoreState) (event : CoreEvent) (cards left : ℕ)
@@ -410,6 +394,6 @@ pub work-falls : (spools : Spools) (deck : Option (List Item)) (paper : Option (
     → work_left left (happens (core process) s event) < work_left cards s
 work-falls spools deck paper s event cards left reached enabled leaves =
     let st = (reached-centre spools deck paper s reached).stands in
-    fall event.entry (calls_left cards s) (calls_left left (happens (core process) s event)) (sleepers s) (sleepers (happens (core process) s event))
-    (calls-fall (opened spools deck paper) s st event cards left leaves enabled) (slept (opened spools deck paper) s event st enabled)
+    fall event.entry (calls_left cards s) (calls_left left (happens (core process) s event)) (sleepers s) (sleepers (happens (core process) s event)) _
+    (calls-fall (opened spools deck paper) s st event cards left leaves enabled) (slept (opened spools deck paper) s event st enabled) (wakes-most _ _)
     (few (opened spools deck paper) s event st enabled)

@@ -1,14 +1,17 @@
 -- How the processes end: who was told of a stop, and where the faults come from.
-use Rattle.std.specs.Prelude.{◌≡◌, ◌≤◌, ℕ, Option, None, Some}
+use Rattle.std.specs.Prelude.{◌≡◌, ◌⊎◌, ◌≤◌, ℕ, Option, None, Some}
 use Rattle.solo_base.specs.declared.outcome.Side.{Side}
 use Rattle.solo_base.specs.declared.outcome.Outcome.{Outcome}
 use Rattle.solo_base.specs.declared.outcome.Outcome.TheVariants as outcome
 use Rattle.solo_base.specs.declared.outcome.Cause.{Cause}
+use Rattle.solo_base.specs.declared.outcome.Cause.TheVariants as cause
 use Rattle.queue_var.specs.Sides.{stopped_by, other}
 use Rattle.solo_devices.specs.declared.card_read.CardRead.TheVariants as read
 use Rattle.batch_procs.specs.declared.actions.Action.TheVariants as act
 use Rattle.batch_procs.specs.declared.actions.Reply.TheVariants as reply
 use Rattle.batch_procs.specs.History.{Entry, Does, LacksMemory, newest}
+use Rattle.batch_procs.specs.Faults.{GivenBy, IsDamaged}
+use Rattle.batch_procs.specs.Laws.{IsNotDone}
 use Rattle.core_law.specs.Core.{CoreState, IsBuffer, seat}
 
 abbrev pub IsProcess : ℕ → Type 0
@@ -46,6 +49,19 @@ pub record EndsTogether (s : CoreState) : Type 0 where
   pub stopped : ((p : ℕ) → IsProcess p → HasEnded s p) → (p : ℕ) → IsProcess p
       → HasEndedSo s outcome.Stopped p
       → WasTold s p × ((q : ℕ) × (cause : Cause) × IsProcess q × HasEndedSo s (outcome.Fault cause) q)
+
+-- ---- causes
+-- Each process that isn't done has the entry that gave its cause, and each fault is one of its own.
+pub record HaveCauses (s : CoreState) : Type 0 where
+  pub given : (p : ℕ) (how : Outcome) → IsProcess p → HasEndedSo s how p → IsNotDone (Some how)
+      → GivenBy (s.histories p) how
+  pub card : (c : Cause) → HasEndedSo s (outcome.Fault c) 1 → (c ≡ cause.ReadFault) ⊎ (c ≡ cause.DeckLimit)
+  pub input : (c : Cause) → HasEndedSo s (outcome.Fault c) 2 → c ≡ cause.DiskFault
+  pub job : (c : Cause) → HasEndedSo s (outcome.Fault c) 3
+      → (c ≡ cause.DiskFault) ⊎ (IsDamaged c ⊎ (c ≡ cause.NoMemory))
+  pub output : (c : Cause) → HasEndedSo s (outcome.Fault c) 4 → (c ≡ cause.DiskFault) ⊎ IsDamaged c
+  pub printer : (c : Cause) → HasEndedSo s (outcome.Fault c) 5
+      → (c ≡ cause.PrintFault) ⊎ (c ≡ cause.NoMemory)
 
 -- ---- never stuck
 -- an entry in which no device failed and no memory was refused

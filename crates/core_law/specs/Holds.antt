@@ -3,6 +3,8 @@
 use Rattle.std.specs.Prelude.{◌≡◌, ◌⊎◌, ℕ, suc, true, List, [], Option, Some, flat_map}
 use Rattle.solo_base.specs.declared.item.Item.{Item}
 use Rattle.solo_base.specs.declared.outcome.Side.{Side}
+use Rattle.solo_base.specs.declared.outcome.Outcome.TheVariants as outcome
+use Rattle.solo_base.specs.declared.outcome.Cause.{Cause}
 use Rattle.solo_base.specs.Text.{text}
 use Rattle.solo_devices.specs.PrinterUnit.{Gains}
 use Rattle.page_codec.specs.Items.{AreItems}
@@ -10,6 +12,7 @@ use Rattle.deck_format.specs.Jobs.{jobs}
 use Rattle.queue_var.specs.HandsOver.{is_one_of}
 use Rattle.resource_mon.specs.Claims.{HasOneHolder}
 use Rattle.batch_job.specs.Report.{report}
+use Rattle.batch_procs.specs.Faults.{IsDamaged}
 use Rattle.batch_procs.specs.Parcels.{is_last}
 use Rattle.batch_procs.specs.History.{taken, sent, has_stopped}
 use Rattle.batch_procs.specs.Process.{Follows, next_action}
@@ -20,7 +23,7 @@ use Rattle.network_law.specs.Network.{IsEnabled, acts}
 use Rattle.network_law.specs.Kept.{StandsFor, WasToldRightly}
 use Rattle.core_law.specs.Core.{core, CoreState, CoreEvent, IsBuffer, seat}
 use Rattle.core_law.specs.Opening.{Spools}
-use Rattle.core_law.specs.Ends.{IsProcess, HasEnded, AllDone, EndsTogether, IsSmooth}
+use Rattle.core_law.specs.Ends.{IsProcess, HasEnded, HasEndedSo, AllDone, EndsTogether, HaveCauses, IsSmooth}
 
 -- the lines that one thread prints for these items: the reports of their jobs, in order
 abbrev pub one_thread_lines : List Item → List (List ℕ)
@@ -57,6 +60,10 @@ pub record Holds (spools : Spools) (deck : Option (List Item)) (paper : Option (
   pub one_holder : HasOneHolder s.desk.requested s.desk.granted s.desk.released s.desk.claims
   pub holder : (p : ℕ) → s.desk.claims.holder ≡ Some p → GoesOn s p
   pub ends : EndsTogether s
+  pub causes : HaveCauses s
+  -- Over told areas no page is damaged.
+  pub undamaged : AreTold spools → (items : List Item) → deck ≡ Some items → AreItems items
+      → (p : ℕ) (c : Cause) → IsProcess p → HasEndedSo s (outcome.Fault c) p → IsDamaged c → ⊥
   -- Each process did what its history asks for.
   pub follows : (p : ℕ) → Follows (process p) (s.histories p)
 

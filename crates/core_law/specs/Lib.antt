@@ -3,3 +3,4 @@ pub mod Opening
 pub mod Ends
 pub mod Holds
 pub mod Work
+pub mod Bound

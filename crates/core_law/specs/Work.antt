@@ -1,11 +1,11 @@
 -- How much the core may still do: a number that falls with each event, whatever the devices tell and whichever
 -- of them fails.
-use Rattle.std.specs.Prelude.{◌≡◌, ◌<◌, ◌+◌, ◌*◌, ◌-◌, ℕ, zero, suc, Bool, true, false, List, length, Option, None, Some}
+use Rattle.std.specs.Prelude.{◌≡◌, ◌<◌, ◌+◌, ◌*◌, ◌-◌, ℕ, zero, suc, Bool, false, length, Option, None, Some}
 use Rattle.solo_base.specs.declared.outcome.Side.{Side}
 use Rattle.solo_base.specs.declared.outcome.Side.TheVariants.{Sender, Receiver}
 use Rattle.solo_base.specs.declared.outcome.Outcome.{Outcome}
 use Rattle.queue_var.specs.declared.turn.Turn.{Turn}
-use Rattle.queue_var.specs.declared.turn.Turn.TheVariants.{Free, Handed}
+use Rattle.queue_var.specs.declared.turn.Turn.TheVariants.{Handed}
 use Rattle.queue_var.specs.Sides.{Sides}
 use Rattle.batch_procs.specs.declared.actions.Action.TheVariants as act
 use Rattle.batch_procs.specs.Parcels.{is_ended}

@@ -1,10 +1,12 @@
-ghost use Rattle.std.specs.Prelude.{ℕ, ◌<◌, List, Option};
+ghost use Rattle.std.specs.Prelude.{◌≡◌, ℕ, ◌<◌, ◌≤◌, length, List, Option, Some};
 ghost use Rattle.solo_base.specs.declared.item.Item.{Item};
 ghost use Rattle.batch_procs.specs.Table.{process};
-ghost use Rattle.network_law.specs.Network.{IsEnabled, happens};
+ghost use Rattle.network_law.specs.Network.{AreEnabled, IsEnabled, happens};
 ghost use Rattle.core_law.specs.Core.{core, CoreState, CoreEvent};
 ghost use Rattle.core_law.specs.Opening.{Spools, IsReached};
-ghost use Rattle.core_law.specs.Holds.{Holds, IsStuck};
+ghost use Rattle.page_codec.specs.Items.{AreItems};
+ghost use Rattle.core_law.specs.Bound.{longest_run};
+ghost use Rattle.core_law.specs.Holds.{AreTold, Holds, IsStuck};
 ghost use Rattle.core_law.specs.Work.{work_left, LeavesFewer};
 
 /// Whatever the order of the events, whichever calls of the devices fail and wherever memory is refused: in each
@@ -31,4 +33,13 @@ pub fn each_event_leaves_less()
         (event : CoreEvent) (before after : ℕ) → IsReached spools deck paper s
         → IsEnabled (core process) s event → LeavesFewer event.entry before after
         → work_left after (happens (core process) s event) < work_left before s }
+{}
+
+/// Over told devices no run is longer than the cards of its deck and the lines that one thread prints for them allow,
+/// whichever calls fail and wherever memory is refused. Nothing is done here: the contract is the law.
+pub fn no_run_is_longer()
+    ensures { (spools : Spools) (deck : Option (List Item)) (paper : Option (List ℕ)) (s : CoreState)
+        (items : List Item) (events : List CoreEvent) → IsReached spools deck paper s → AreTold spools
+        → deck ≡ Some items → AreItems items → AreEnabled (core process) s events
+        → length events ≤ longest_run items }
 {}

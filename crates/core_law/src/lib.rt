@@ -4,4 +4,6 @@
 
 mod interleavings;
 
-pub use interleavings::{each_event_leaves_less, every_interleaving, no_state_is_stuck};
+pub use interleavings::{
+    each_event_leaves_less, every_interleaving, no_run_is_longer, no_state_is_stuck,
+};

@@ -1,6 +1,5 @@
 -- How each process ended follows from its cause, and how all did together from the law.
-use Rattle.std.proofs.Common.{◌≡◌, inl, inr, ◌<◌, ℕ, List, [], ◌∷◌, Bool, Option, None, Some, refl, sym, ◌∙◌, ap, subst, arith, lit≤}
-use Rattle.std.proofs.lemmas.Bool.Decides.{eqb_tells}
+use Rattle.std.proofs.Common.{◌≡◌, ℕ, List, [], ◌∷◌, Bool, Option, None, Some, refl, sym, ◌∙◌, ap, subst, lit≤}
 use Rattle.solo_base.specs.declared.item.Item.{Item}
 use Rattle.solo_base.specs.declared.outcome.Side.{Side}
 use Rattle.solo_base.specs.declared.outcome.Outcome.{Outcome}
@@ -31,40 +30,13 @@ use Rattle.core_law.specs.Holds.{one_thread_lines, AreTold, Holds}
 use Rattle.core_law.specs.Opening.{Spools}
 use Rattle.core_law.proofs.Outcomes.{ended-as}
 use Rattle.core_law.proofs.Reached.{reached-holds}
+use Rattle.core_law.proofs.Row.{each-buffer, each-process}
 use Rattle.core_net.specs.declared.finish.Outcomes.{Outcomes}
 use Rattle.core_net.specs.declared.net.Net.{Net}
 use Rattle.core_net.specs.declared.shared.Shared.{Shared}
 use Rattle.core_net.specs.Shared.{Tells, SharedStands}
 use Rattle.core_net.specs.Net.{Keeps, NetStands, StandsReached}
-use Rattle.core_net.specs.Ended.{HaveEnded, outcome_at, all_done, sides_of, none_stopped, EndsSo, stopped_at, StoppedBeside, SomeFault, EndTogether, FaultsAre}
-
--- ---- by number
-pub each-process : (P : ℕ → Type 0) (p : ℕ) → IsProcess p → P 1 → P 2 → P 3 → P 4 → P 5 → P p
-each-process P p is one two three four five =
-    elim (eqb_tells p 1) as (λ _. P p) [
-      | inl a ↦ subst P (sym a.1) one
-      | inr a ↦ elim (eqb_tells p 2) as (λ _. P p) [
-        | inl b ↦ subst P (sym b.1) two
-        | inr b ↦ elim (eqb_tells p 3) as (λ _. P p) [
-          | inl c ↦ subst P (sym c.1) three
-          | inr c ↦ elim (eqb_tells p 4) as (λ _. P p) [
-            | inl d ↦ subst P (sym d.1) four
-            | inr d ↦ (let last : p ≡ 5 = (let a = a.1 in let b = b.1 in let c = c.1 in let d = d.1 in let low = is.0 in let high = is.1 in
-                omega (arith, a, b, c, d, low, high)) in subst P (sym last) five)
-          ]
-        ]
-      ]
-    ]
-
-none-fifth : 5 < 5 → ⊥
-none-fifth less = omega (arith, less)
-
-each-buffer : (P : ℕ → Type 0) (b : ℕ) → IsBuffer b → P 1 → P 2 → P 3 → P 4 → P b
-each-buffer P b is one two three four =
-    let low = is.0 in
-    let high = is.1 in
-    each-process (λ b. IsBuffer b → P b) b (low, omega (arith, high)) (λ at. one) (λ at. two) (λ at. three) (λ at. four)
-    (λ at. absurd (none-fifth at.1)) is
+use Rattle.core_net.specs.Ended.{HaveEnded, outcome_at, all_done, sides_of, none_stopped, EndsSo, stopped_at, StoppedBeside, SomeFault, EndTogether, FaultsAre, NoneDamaged}
 
 -- ---- one process
 ended-step : (last : Option Action) → step_after last ≡ step.Ended → (how : Outcome) × (last ≡ Some (act.Ended how))
@@ -242,3 +214,7 @@ module _ {S K A B : Type 0} (keeps : Keeps) (tells : Tells S K A B) (net : Net S
     pub reads : (items : List Item) → deck ≡ Some items → outcomes ≡ all_done
         → items_ahead (tells.left net.shared.deck.source) net.shared.deck.pending ≡ Some []
     reads items is e = sym st.stands.shared.deck ∙ holds.reads items is (all-are st.state st.stands e)
+
+    pub undamaged : AreTold spools → (items : List Item) → deck ≡ Some items → AreItems items → NoneDamaged outcomes
+    undamaged told items is valid p c one e =
+        holds.undamaged told items is valid p c one (subst (λ how. HasEndedSo st.state how p) e (ended st.state st.stands p one))

@@ -38,7 +38,7 @@ use Rattle.core_net.specs.Net.{Keeps, NetStands, MayStepIn, MayStepNet, StepsNet
 use Rattle.core_net.proofs.Askers.{reads-deck, prints-paper}
 use Rattle.core_net.proofs.MayPerforming.{may-perform}
 use Rattle.core_law.proofs.DeskRoom.{desk-room}
-use Rattle.core_net.proofs.Entering.{IsEvent, is-event}
+use Rattle.core_net.proofs.Entering.{is-event}
 
 -- ---- what an entry without a cause tells
 abbrev pub IsFailedRead : Option Reply → Type 0
@@ -275,155 +275,59 @@ module _ {S K A B : Type 0} (keeps : Keeps) (tells : Tells S K A B) (counts : Co
     paper_live = paper-own 5 action step new entry same st.follows.1 causes refl;
   }
 
-  event-at : (p : ℕ) (action : Action) (new : Shared S K A B) (Stands : List Entry → Type 0) (result : Stepped) → MayStepIn s p action
-      → (st : Steps Stands tells counts net.shared new p action (s.histories p) result) → IsFitting (process p) st.entry → IsEvent tells new s p st.entry
-  event-at p action new Stands result step st suits =
-      is-event tells net.shared new s stands.shared p step.one action step.next step.may st.entry st.action_is suits st.enters
+  -- A step of one machine is a step of the network that this machine and what is shared make of it.
+  step-of : (p : ℕ) (next : Net S K A B) (Stands : List Entry → Type 0) (action : Action) (result : Stepped) → MayStepIn s p action
+      → (st : Steps Stands tells counts net.shared next.shared p action (s.histories p) result) → IsFitting (process p) st.entry
+      → ((gained : List ℕ) → SharedStands tells next.shared (happens (core process) s record { process = p; entry = st.entry; gained = gained })
+      → NetStands keeps tells next (happens (core process) s record { process = p; entry = st.entry; gained = gained }))
+      → StepsNet keeps tells counts net next s p action result
+  step-of p next Stands action result step st suits stood =
+      let is = is-event tells net.shared next.shared s stands.shared p step.one action step.next step.may st.entry st.action_is suits st.enters in
+      record {
+        event = record { process = p; entry = st.entry; gained = is.gained };
+        process_is = refl;
+        action_is = st.action_is;
+        told = st.told;
+        enabled = is.enabled;
+        stands = stood is.gained is.after;
+        causes = st.causes;
+        deck = st.enters.deck;
+      }
 
   pub at-card : (m : Machine CardWork) (new : Shared S K A B) (action : Action) (result : Stepped) → MayStepIn s 1 action
       → Steps (StandsFor card keeps.card m) tells counts net.shared new 1 action (s.histories 1) result
       → StepsNet keeps tells counts net (record net { card = m; shared = new }) s 1 action result
   at-card m new action result step st =
-      let is = event-at 1 action new (StandsFor card keeps.card m) result step st st.stands.follows.1 in
-      record {
-        event =
-            record {
-              process =
-                  1;
-              entry =
-                  st.entry;
-              gained =
-                  is.gained;
-            };
-        process_is =
-            refl;
-        action_is =
-            st.action_is;
-        told =
-            st.told;
-        enabled =
-            is.enabled;
-        stands =
-            card-stands m new action st.entry is.gained st.stands step st.action_is st.causes is.after;
-        causes = st.causes;
-        deck = st.enters.deck;
-      }
+      step-of 1 (record net { card = m; shared = new }) (StandsFor card keeps.card m) action result step st st.stands.follows.1
+      (λ gained shared. card-stands m new action st.entry gained st.stands step st.action_is st.causes shared)
 
   pub at-input : (m : Machine InputWork) (new : Shared S K A B) (action : Action) (result : Stepped) → MayStepIn s 2 action
       → Steps (StandsFor input keeps.input m) tells counts net.shared new 2 action (s.histories 2) result
       → StepsNet keeps tells counts net (record net { input = m; shared = new }) s 2 action result
   at-input m new action result step st =
-      let is = event-at 2 action new (StandsFor input keeps.input m) result step st st.stands.follows.1 in
-      record {
-        event =
-            record {
-              process =
-                  2;
-              entry =
-                  st.entry;
-              gained =
-                  is.gained;
-            };
-        process_is =
-            refl;
-        action_is =
-            st.action_is;
-        told =
-            st.told;
-        enabled =
-            is.enabled;
-        stands =
-            input-stands m new action st.entry is.gained st.stands step st.action_is st.causes is.after;
-        causes = st.causes;
-        deck = st.enters.deck;
-      }
+      step-of 2 (record net { input = m; shared = new }) (StandsFor input keeps.input m) action result step st st.stands.follows.1
+      (λ gained shared. input-stands m new action st.entry gained st.stands step st.action_is st.causes shared)
 
   pub at-job : (m : Machine JobWork) (new : Shared S K A B) (action : Action) (result : Stepped) → MayStepIn s 3 action
       → Steps (StandsFor job keeps.job m) tells counts net.shared new 3 action (s.histories 3) result
       → StepsNet keeps tells counts net (record net { job = m; shared = new }) s 3 action result
   at-job m new action result step st =
-      let is = event-at 3 action new (StandsFor job keeps.job m) result step st st.stands.follows.1 in
-      record {
-        event =
-            record {
-              process =
-                  3;
-              entry =
-                  st.entry;
-              gained =
-                  is.gained;
-            };
-        process_is =
-            refl;
-        action_is =
-            st.action_is;
-        told =
-            st.told;
-        enabled =
-            is.enabled;
-        stands =
-            job-stands m new action st.entry is.gained st.stands step st.action_is st.causes is.after;
-        causes = st.causes;
-        deck = st.enters.deck;
-      }
+      step-of 3 (record net { job = m; shared = new }) (StandsFor job keeps.job m) action result step st st.stands.follows.1
+      (λ gained shared. job-stands m new action st.entry gained st.stands step st.action_is st.causes shared)
 
   pub at-output : (m : Machine OutputWork) (new : Shared S K A B) (action : Action) (result : Stepped) → MayStepIn s 4 action
       → Steps (StandsFor output keeps.output m) tells counts net.shared new 4 action (s.histories 4) result
       → StepsNet keeps tells counts net (record net { output = m; shared = new }) s 4 action result
   at-output m new action result step st =
-      let is = event-at 4 action new (StandsFor output keeps.output m) result step st st.stands.follows.1 in
-      record {
-        event =
-            record {
-              process =
-                  4;
-              entry =
-                  st.entry;
-              gained =
-                  is.gained;
-            };
-        process_is =
-            refl;
-        action_is =
-            st.action_is;
-        told =
-            st.told;
-        enabled =
-            is.enabled;
-        stands =
-            output-stands m new action st.entry is.gained st.stands step st.action_is st.causes is.after;
-        causes = st.causes;
-        deck = st.enters.deck;
-      }
+      step-of 4 (record net { output = m; shared = new }) (StandsFor output keeps.output m) action result step st st.stands.follows.1
+      (λ gained shared. output-stands m new action st.entry gained st.stands step st.action_is st.causes shared)
 
   pub at-printer : (m : Machine PrinterWork) (new : Shared S K A B) (action : Action) (result : Stepped) → MayStepIn s 5 action
       → Steps (StandsFor printer keeps.printer m) tells counts net.shared new 5 action (s.histories 5) result
       → StepsNet keeps tells counts net (record net { printer = m; shared = new }) s 5 action result
   at-printer m new action result step st =
-      let is = event-at 5 action new (StandsFor printer keeps.printer m) result step st st.stands.follows.1 in
-      record {
-        event =
-            record {
-              process =
-                  5;
-              entry =
-                  st.entry;
-              gained =
-                  is.gained;
-            };
-        process_is =
-            refl;
-        action_is =
-            st.action_is;
-        told =
-            st.told;
-        enabled =
-            is.enabled;
-        stands =
-            printer-stands m new action st.entry is.gained st.stands step st.action_is st.causes is.after;
-        causes = st.causes;
-        deck = st.enters.deck;
-      }
+      step-of 5 (record net { printer = m; shared = new }) (StandsFor printer keeps.printer m) action result step st st.stands.follows.1
+      (λ gained shared. printer-stands m new action st.entry gained st.stands step st.action_is st.causes shared)
 
 -- ---- by the number
 pub next-at : (s : CoreState) (p q : ℕ) (action : Action) → p ≡ q → MayStepIn s p action → next_action (process q) (s.histories q) ≡ Some action

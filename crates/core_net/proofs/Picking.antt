@@ -12,7 +12,7 @@ use Rattle.core_net.specs.Ended.{AllEnded}
 use Rattle.core_net.specs.Going.{MayGo}
 use Rattle.core_net.specs.Rules.{numbers_from, first_above, or_first, drawn, pick}
 use Rattle.core_net.specs.Runs.{AreGoing, IsPicked}
-use Rattle.core_net.proofs.Finishing.{each-process}
+use Rattle.core_law.proofs.Row.{each-process}
 use Rattle.core_net.proofs.WhoGoes as who
 
 -- ---- what is picked is one of them

@@ -1,10 +1,14 @@
 -- A run with one turn more.
-use Rattle.std.proofs.Common.{◌≡◌, ◌<◌, ℕ, ◌+◌, List, [], ◌∷◌, ◌++◌, length-append, Option, Some, refl, sym, ◌∙◌, ap, subst, arith}
+use Rattle.std.proofs.Common.{◌≤◌, ◌≡◌, ◌<◌, ℕ, ◌+◌, List, [], ◌∷◌, ◌++◌, length-append, Option, Some, refl, sym, ◌∙◌, ap, subst, arith}
 use Rattle.solo_base.specs.declared.item.Item.{Item}
+use Rattle.page_codec.specs.Items.{AreItems}
 use Rattle.batch_procs.specs.Table.{process}
 use Rattle.network_law.specs.Network.{AreEnabled, run, happens}
 use Rattle.core_law.specs.Core.{core, CoreState, CoreEvent}
 use Rattle.core_law.specs.Opening.{Spools, IsReached}
+use Rattle.core_law.specs.Bound.{longest_run}
+use Rattle.core_law.specs.Holds.{AreTold}
+use Rattle.core_law.proofs.Bounded.{no-run_longer}
 use Rattle.core_law.proofs.WorkFalls.{work-falls}
 use Rattle.core_net.specs.declared.counts.Counts.{Counts}
 use Rattle.core_net.specs.declared.net.Net.{Net}
@@ -158,6 +162,15 @@ module _ {S K A B : Type 0} (keeps : Keeps) (tells : Tells S K A B) where
         now_is = next_is ∙ ap (λ r. behind r (Some p)) so_far.now_is ∙ ap (λ p. behind (rule_behind rule ran.events) (Some p)) (sym turn.process_is)
             ∙ sym (behind-more rule ran.events turn.event);
       }
+
+  -- over told devices it is no longer than its deck allows
+  pub run-bounded : (rule : Rule) (net : Net S K A B) (s : CoreState) (counts : Counts) (spools : Spools) (deck : Option (List Item)) (paper : Option (List ℕ))
+      (items : List Item) → IsReached spools deck paper s → AreTold spools → deck ≡ Some items → AreItems items → RunsBy keeps tells rule net s counts
+      → counts.events ≤ longest_run items
+  run-bounded rule net s counts spools deck paper items reached told deck_is are ran =
+      let few = no-run_longer spools deck paper s items ran.events reached told deck_is are ran.enabled in
+      let same = ap (λ (c : Counts). c.events) ran.counts_are in
+      omega (arith, few, same)
 
   -- where all have ended in each of its states, they have in the one that is known
   pub have-ended : (net : Net S K A B) (events : ℕ) → HasLeft keeps tells net events

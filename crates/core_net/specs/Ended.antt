@@ -94,6 +94,11 @@ pub record EndTogether (outcomes : Outcomes) (stops : List (Option Side)) : Type
   pub stopped : (p : ℕ) → IsProcess p → outcome_at outcomes p ≡ outcome.Stopped
       → StoppedBeside stops p × SomeFault outcomes
 
+-- None ended with a page that was damaged.
+abbrev pub NoneDamaged : Outcomes → Type 0
+NoneDamaged outcomes =
+    (p : ℕ) (c : Cause) → IsProcess p → outcome_at outcomes p ≡ outcome.Fault c → IsDamaged c → ⊥
+
 -- Each process has only faults of its own.
 pub record FaultsAre (outcomes : Outcomes) : Type 0 where
   pub card : (c : Cause) → outcomes.card ≡ outcome.Fault c → (c ≡ cause.ReadFault) ⊎ (c ≡ cause.DeckLimit)

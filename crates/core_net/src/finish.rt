@@ -13,7 +13,7 @@ ghost use Rattle.core_law.specs.Holds.{one_thread_lines, AreTold};
 ghost use Rattle.core_law.specs.Opening.{Spools};
 ghost use Rattle.core_net.specs.Net.{NetStands, StandsReached, the_keeps};
 ghost use Rattle.core_net.specs.Shared.{telling};
-ghost use Rattle.core_net.specs.Ended.{HaveEnded, EndsSo, EndTogether, FaultsAre, all_done};
+ghost use Rattle.core_net.specs.Ended.{HaveEnded, EndsSo, EndTogether, FaultsAre, NoneDamaged, all_done};
 
 use crate::{Net, Shared};
 use batch_procs::{Machine, Work};
@@ -68,6 +68,11 @@ impl<S: Source, K: Sink, A: Area, B: Area> Net<S, K, A, B> {
             (telling S.left S.taken K.given A.pages B.pages) self spools deck paper →
             (items : List Item) → deck ≡ Some items → result.outcomes ≡ all_done →
             items_ahead (S.left result.deck.source) result.deck.pending ≡ Some [] }
+        // and no page was damaged
+        ensures undamaged { (spools : Spools) (deck : Option (List Item)) (paper : Option (List ℕ)) →
+            StandsReached the_keeps (telling S.left S.taken K.given A.pages B.pages) self spools deck paper →
+            AreTold spools → (items : List Item) → deck ≡ Some items → AreItems items →
+            NoneDamaged result.outcomes }
         ensures units { (result.deck ≡ self.shared.deck) × (result.paper ≡ self.shared.paper) }
         ensures areas { (result.input ≡ self.shared.input.area) × (result.output ≡ self.shared.output.area) }
     {

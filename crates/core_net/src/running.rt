@@ -1,6 +1,9 @@
-ghost use Rattle.std.specs.Prelude.{◌≡◌, ◌≤◌, ◌<◌, ◌+◌, ◌^◌, ℕ, length, List, Option, IsNone, IfSome};
+ghost use Rattle.std.specs.Prelude.{◌≡◌, ◌≤◌, ◌<◌, ◌+◌, ◌^◌, ℕ, length, List, Option, Some, IsNone, IfSome};
 ghost use Rattle.solo_base.specs.declared.item.Item.{Item};
+ghost use Rattle.page_codec.specs.Items.{AreItems};
+ghost use Rattle.core_law.specs.Bound.{longest_run};
 ghost use Rattle.core_law.specs.Core.{CoreState};
+ghost use Rattle.core_law.specs.Holds.{AreTold};
 ghost use Rattle.core_law.specs.Opening.{Spools, IsReached};
 ghost use Rattle.core_net.specs.declared.rules.Rule.TheVariants as rule;
 ghost use Rattle.core_net.specs.Causes.{counting};
@@ -26,6 +29,13 @@ impl<S: Source, K: Sink, A: Area, B: Area> Net<S, K, A, B> {
             NetStands the_keeps (telling S.left S.taken K.given A.pages B.pages) self.old s →
             RunsBy the_keeps (telling S.left S.taken K.given A.pages B.pages) rule self.new s result }
         ensures ended { HaveEnded the_keeps (telling S.left S.taken K.given A.pages B.pages) self.new }
+
+        // Over told devices it has no more events than the cards and lines of the deck allow.
+        ensures bound { (spools : Spools) (deck : Option (List Item)) (paper : Option (List ℕ)) (s : CoreState) →
+            (items : List Item) →
+            IsReached spools deck paper s →
+            NetStands the_keeps (telling S.left S.taken K.given A.pages B.pages) self.old s → AreTold spools → deck ≡ Some items →
+            AreItems items → result.events ≤ longest_run items }
     {
         let mut now = rule;
         let mut counts = Counts::none();
@@ -43,6 +53,13 @@ impl<S: Source, K: Sink, A: Area, B: Area> Net<S, K, A, B> {
             NetStands the_keeps (telling S.left S.taken K.given A.pages B.pages) self.old s →
             RunsBy the_keeps (telling S.left S.taken K.given A.pages B.pages) (rule.Numbered number) self.new s result }
         ensures ended { HaveEnded the_keeps (telling S.left S.taken K.given A.pages B.pages) self.new }
+
+        // Over told devices it has no more events than the cards and lines of the deck allow.
+        ensures bound { (spools : Spools) (deck : Option (List Item)) (paper : Option (List ℕ)) (s : CoreState) →
+            (items : List Item) →
+            IsReached spools deck paper s →
+            NetStands the_keeps (telling S.left S.taken K.given A.pages B.pages) self.old s → AreTold spools → deck ≡ Some items →
+            AreItems items → result.events ≤ longest_run items }
     {
         self.run(Rule::Numbered { number })
     }

@@ -118,6 +118,23 @@ fn schedules_tell_runs_apart(rt: HostRuntime) -> Result<(), Fail> {
     Ok(())
 }
 
+// Three cards, three lines and one job.
+#[test]
+fn no_run_is_longer_than_its_bound(rt: HostRuntime) -> Result<(), Fail> {
+    let bound = 40 * (3 + 3 + 2) + 10;
+    let mut longest = 0;
+    for number in 0..100u32 {
+        let rule = Rule::Numbered { number };
+        let counts = counts(&rt, rt.alloc(), LISTING, LISTED, 1, rule)?;
+        if counts.events > longest {
+            longest = counts.events;
+        }
+    }
+    assert!(rt; longest >= 54);
+    assert!(rt; longest <= bound);
+    Ok(())
+}
+
 // A deck under a schedule, over spools of so many pages: what the plain simulation counts.
 fn agrees(
     rt: &impl Abort,

@@ -1,5 +1,5 @@
 use Rattle.std.proofs.Common.{refl}
-use Rattle.core_net.proofs.Finishing.{sides-are, ends, faults, together, prints, reads}
+use Rattle.core_net.proofs.Finishing.{sides-are, ends, faults, together, prints, reads, undamaged}
 use Rattle.core_net.proofs.net.Net.finish.Goals as goal
 
 pub returns : goal.returns
@@ -17,6 +17,9 @@ returns g c = record {
       (λ s st. sides-are _ c.args.self.shared s st.shared _ _ _ _ c.stopped_by.ensures.marked c.stopped_by-2.ensures.marked c.stopped_by-3.ensures.marked
       c.stopped_by-4.ensures.marked);
   reads = reads _ _ c.args.self _ _ c.requires.ended c.outcome.ensures c.outcome-2.ensures c.outcome-3.ensures c.outcome-4.ensures c.outcome-5.ensures
+      (λ s st. sides-are _ c.args.self.shared s st.shared _ _ _ _ c.stopped_by.ensures.marked c.stopped_by-2.ensures.marked c.stopped_by-3.ensures.marked
+      c.stopped_by-4.ensures.marked);
+  undamaged = undamaged _ _ c.args.self _ _ c.requires.ended c.outcome.ensures c.outcome-2.ensures c.outcome-3.ensures c.outcome-4.ensures c.outcome-5.ensures
       (λ s st. sides-are _ c.args.self.shared s st.shared _ _ _ _ c.stopped_by.ensures.marked c.stopped_by-2.ensures.marked c.stopped_by-3.ensures.marked
       c.stopped_by-4.ensures.marked);
   units = (refl, refl);

@@ -1,7 +1,7 @@
 use Rattle.std.proofs.Common.{arith, ap, subst, sym, refl}
 use Rattle.core_net.specs.declared.counts.Counts.{Counts}
 use Rattle.core_net.specs.Runs.{HasLeft}
-use Rattle.core_net.proofs.RunMore.{no-turn, none-left, may-picked, left-more, few-events, runs-more, have-ended}
+use Rattle.core_net.proofs.RunMore.{no-turn, none-left, may-picked, left-more, few-events, runs-more, run-bounded, have-ended}
 use Rattle.core_net.proofs.net.Net.run.Goals as goal
 
 pub running-init : goal.running-init
@@ -52,3 +52,8 @@ pub returns-clause-ended : goal.returns-clause-ended
 returns-clause-ended g c =
     have-ended _ _ c.running.self c.running.counts.events c.running.invariant.1
     (λ spools deck paper s reached stands. c.in_default.ensures.ended spools deck paper s reached stands refl)
+
+pub returns-clause-bound : goal.returns-clause-bound
+returns-clause-bound g c = λ spools deck paper s items reached stands told deck_is are.
+    run-bounded _ _ c.args.rule c.running.self s c.running.counts spools deck paper items reached told deck_is are
+    (c.running.invariant.0 spools deck paper s reached stands).ran

@@ -1,0 +1,316 @@
+-- Over told devices a run is no longer than its cards and lines allow.
+use Rattle.std.proofs.Common.{◌≡◌, ℕ, suc, ◌+◌, ◌*◌, ◌≤◌, Bool, true, false, List, [], ◌∷◌, ◌++◌, map, length, length-append, Option, None, Some, refl, sym, ◌∙◌, ap, subst, arith, lit≤}
+use Rattle.std.specs.Prelude.{option_to_list}
+use Rattle.std.proofs.lemmas.List.{length-map}
+use Rattle.solo_base.specs.declared.item.Item.{Item}
+use Rattle.solo_base.specs.declared.item.Item.TheVariants.{Line}
+use Rattle.solo_base.specs.declared.item.Feed.{Feed}
+use Rattle.solo_base.specs.declared.item.Feed.TheVariants as feed
+use Rattle.solo_base.specs.declared.page.Page.{Page}
+use Rattle.page_codec.specs.Items.{AreItems}
+use Rattle.page_codec.specs.Packing.{PageInHand, first_page, page_given, hand_after}
+use Rattle.batch_job.specs.LinesSoFar.{IsPrefixOf}
+use Rattle.batch_procs.specs.declared.actions.Action.{Action}
+use Rattle.batch_procs.specs.declared.actions.Action.TheVariants as act
+use Rattle.batch_procs.specs.declared.actions.Reply.{Reply}
+use Rattle.batch_procs.specs.declared.actions.Reply.TheVariants as reply
+use Rattle.batch_procs.specs.Ahead.{one_if}
+use Rattle.batch_procs.specs.Parcels.{Parcel}
+use Rattle.batch_procs.specs.History.{Entry, Does, LacksMemory, Delays, action_of, taken, sent, holds}
+use Rattle.batch_procs.specs.Fits.{Fits, MayLack}
+use Rattle.batch_procs.specs.Laws.{IsRelay, IsHeld}
+use Rattle.batch_procs.specs.Process.{Process, IsFitting, Follows, aim}
+use Rattle.batch_procs.specs.Sends.{as_parcels, as_lines, marked, packed, card_sends, input_sends, job_sends, output_sends}
+use Rattle.batch_procs.specs.Table.{process}
+use Rattle.batch_procs.proofs.Bounds.{parcels-length, packed-length}
+use Rattle.batch_procs.proofs.Falling.{one-most}
+use Rattle.batch_procs.proofs.Held.{IsFree}
+use Rattle.batch_procs.proofs.Machines.{not-held}
+use Rattle.network_law.specs.Acts.{is_delayed}
+use Rattle.network_law.specs.Network.{AreEnabled, run, happens}
+use Rattle.network_law.specs.Kept.{Stands}
+use Rattle.network_law.proofs.Reached.{stands-event}
+use Rattle.core_law.specs.Bound.{longest_run}
+use Rattle.core_law.specs.Core.{call, core, went, CoreState, CoreEvent, IsBuffer}
+use Rattle.core_law.specs.Ends.{IsProcess}
+use Rattle.core_law.specs.Holds.{AreTold, one_thread_lines}
+use Rattle.core_law.specs.Opening.{Spools, AreInBounds, opened, IsReached}
+use Rattle.core_law.specs.Work.{sleepers}
+use Rattle.core_law.proofs.Acting.{follows-of}
+use Rattle.core_law.proofs.CallsCaused.{HasSlack, made-most}
+use Rattle.core_law.proofs.CallsMade.{counts, counts_by, made, put_sum, sum-append, free-left}
+use Rattle.core_law.proofs.Ends.{the-five}
+use Rattle.core_law.proofs.FewSleep.{IsPlain, plain-next, card-aims, printer-aims, seven-sleep}
+use Rattle.core_law.proofs.KeepsDevices.{prefix-longer}
+use Rattle.core_law.proofs.Lawful.{lawful}
+use Rattle.core_law.proofs.Passing.{HandOver, read-part, next-part, sent-part, part-of}
+use Rattle.core_law.proofs.Reached.{centre-run, opening-centre, told-is, all-told, all-sized, hands-over}
+use Rattle.core_law.proofs.Row.{each-process}
+use Rattle.core_law.proofs.RoundTrip.{whole, job_reports, card-gives, input-gives, job-gives, output-gives, output-is}
+use Rattle.core_law.proofs.Sleeping.{Slept, wakes}
+use Rattle.core_law.proofs.Streams.{deck_parcels, output_of, DevicesStand}
+use Rattle.core_law.proofs.WorkFalls.{slept, answered}
+
+-- ---- an event counts itself and what it wakes
+wakes-does : (p : ℕ) (a : Action) (r : Reply) → Fits a r → 1 + wakes (call p a) (went (Does a r)) ≤ counts_by a r
+wakes-does p act.ReadCard (reply.Card answer) fits = omega arith
+wakes-does p (act.PutFeed f) reply.Done fits = omega arith
+wakes-does p (act.PutFeed f) reply.Stopped fits = omega arith
+wakes-does p act.TakeFeed (reply.Feed f) fits = omega arith
+wakes-does p act.TakeFeed reply.Stopped fits = omega arith
+wakes-does p act.AwaitRoom reply.Done fits = omega arith
+wakes-does p act.AwaitRoom reply.Stopped fits = omega arith
+wakes-does p act.AwaitItem reply.Done fits = omega arith
+wakes-does p act.AwaitItem reply.Stopped fits = omega arith
+wakes-does p act.Request reply.Done fits = omega arith
+wakes-does p (act.PutPage page) reply.Done fits = omega arith
+wakes-does p (act.PutPage page) reply.Failed fits = omega arith
+wakes-does p act.TakePage (reply.Page page last) fits = omega arith
+wakes-does p act.TakePage reply.Failed fits = omega arith
+wakes-does p act.Release reply.Done fits = omega arith
+wakes-does p act.Local reply.Done fits = omega arith
+wakes-does p (act.Print line) reply.Done fits = omega arith
+wakes-does p (act.Print line) reply.Failed fits = omega arith
+wakes-does p (act.Print line) reply.NoMemory fits = omega arith
+wakes-does p (act.Stop b) reply.Done fits = omega arith
+wakes-does p (act.Ended how) reply.Done fits = omega arith
+wakes-does p a r fits = absurd fits
+
+wakes-lacks : (p : ℕ) (a : Action) (r : Reply) → MayLack a r → 1 + wakes (call p a) (went (LacksMemory a r)) ≤ counts_by a r
+wakes-lacks p act.TakePage (reply.Page page last) may = omega arith
+wakes-lacks p act.Local reply.Done may = omega arith
+wakes-lacks p a r may = absurd may
+
+more-or-sleeps : (q : Process) (p : ℕ) (entry : Entry) (s now : ℕ) → IsFitting q entry
+    → Slept (is_delayed (went entry)) (wakes (call p (action_of entry)) (went entry)) s now → s + 1 ≤ counts entry + now
+more-or-sleeps q p (Does a r) s now fits slept =
+    let wakes_few = wakes-does p a r fits in
+    let rest : s ≤ now + wakes (call p a) (went (Does a r)) = subst (λ d. Slept d (wakes (call p a) (went (Does a r))) s now) (answered (Does a r) (λ b e. cc)) slept in
+    omega (arith, wakes_few, rest)
+more-or-sleeps q p (LacksMemory a r) s now fits slept =
+    let wakes_few = wakes-lacks p a r fits.1 in
+    let rest : s ≤ now + wakes (call p a) (went (LacksMemory a r))
+    = subst (λ d. Slept d (wakes (call p a) (went (LacksMemory a r))) s now) (answered (LacksMemory a r) (λ b e. cc)) slept in
+    omega (arith, wakes_few, rest)
+more-or-sleeps q p (Delays a) s now fits slept = omega (arith, slept)
+
+-- ---- all that was made
+abbrev all_made : CoreState → ℕ
+all_made s = made (s.histories 1) + made (s.histories 2) + made (s.histories 3) + made (s.histories 4) + made (s.histories 5)
+
+sum-1 : (c a b d e f : ℕ) → c + a + b + d + e + f ≡ a + b + d + e + f + c
+sum-1 c a b d e f = omega arith
+
+sum-2 : (c a b d e f : ℕ) → a + (c + b) + d + e + f ≡ a + b + d + e + f + c
+sum-2 c a b d e f = omega arith
+
+sum-3 : (c a b d e f : ℕ) → a + b + (c + d) + e + f ≡ a + b + d + e + f + c
+sum-3 c a b d e f = omega arith
+
+sum-4 : (c a b d e f : ℕ) → a + b + d + (c + e) + f ≡ a + b + d + e + f + c
+sum-4 c a b d e f = omega arith
+
+sum-5 : (c a b d e f : ℕ) → a + b + d + e + (c + f) ≡ a + b + d + e + f + c
+sum-5 c a b d e f = omega arith
+
+module _ (s : CoreState) (entry : Entry) (gained : List ℕ) where
+  made-at : (p : ℕ) → IsProcess p → all_made (happens (core process) s record { process = p; entry = entry; gained = gained }) ≡ all_made s + counts entry
+  made-at p one =
+      each-process (λ p. all_made (happens (core process) s record { process = p; entry = entry; gained = gained }) ≡ all_made s + counts entry) p one
+      (sum-1 (counts entry) (made (s.histories 1)) (made (s.histories 2)) (made (s.histories 3)) (made (s.histories 4)) (made (s.histories 5)))
+      (sum-2 (counts entry) (made (s.histories 1)) (made (s.histories 2)) (made (s.histories 3)) (made (s.histories 4)) (made (s.histories 5)))
+      (sum-3 (counts entry) (made (s.histories 1)) (made (s.histories 2)) (made (s.histories 3)) (made (s.histories 4)) (made (s.histories 5)))
+      (sum-4 (counts entry) (made (s.histories 1)) (made (s.histories 2)) (made (s.histories 3)) (made (s.histories 4)) (made (s.histories 5)))
+      (sum-5 (counts entry) (made (s.histories 1)) (made (s.histories 2)) (made (s.histories 3)) (made (s.histories 4)) (made (s.histories 5)))
+
+add-up : (n k m c s now all sl : ℕ) → k ≡ m + c → s + 1 ≤ c + now → n + k + now ≤ all + sl → suc n + m + s ≤ all + sl
+add-up n k m c s now all sl is more rest = omega (arith, is, more, rest)
+
+-- Each event of a list is counted, or sleeps.
+events-counted : (opening s : CoreState) (events : List CoreEvent) → AreEnabled (core process) s events → Stands (core process) opening s
+    → length events + all_made s + sleepers s ≤ all_made (run (core process) s events) + sleepers (run (core process) s events)
+events-counted opening s [] are st = omega arith
+events-counted opening s (event ∷ events) are st =
+    let enabled = are.0 in
+    let next = happens (core process) s event in
+    add-up (length events) (all_made next) (all_made s) (counts event.entry) (sleepers s) (sleepers next) _ _
+    (made-at s event.entry event.gained event.process enabled.one)
+    (more-or-sleeps (process event.process) event.process event.entry (sleepers s) (sleepers next) enabled.suits (slept opening s event st enabled))
+    (events-counted opening next events are.1 (stands-event (lawful the-five) opening s event st enabled))
+
+-- ---- what closing down has left
+plain-is_free : (a : Action) → IsPlain a → IsFree a
+plain-is_free act.Request is = absurd is
+plain-is_free act.Release is = absurd is
+plain-is_free (act.PutPage page) is = absurd is
+plain-is_free act.TakePage is = absurd is
+plain-is_free other is = tt
+
+plain-not_held : (a : Action) → IsPlain a → IsHeld a → ⊥
+plain-not_held (act.PutPage page) is held = is
+plain-not_held act.TakePage is held = is
+plain-not_held act.Release is held = is
+plain-not_held other is held = held
+
+plain-slack : (p : Process) → IsRelay p → ((h : List Entry) → IsPlain (aim p h)) → length p.buffers ≡ 1 → HasSlack p 2
+plain-slack p relay aims one h a follows none next =
+    let is = plain-next p relay aims h a follows next in
+    let two = free-left p h a relay follows next none (plain-is_free a is) (plain-not_held a is) in
+    let off : one_if (holds h) ≡ 0 = ap one_if (not-held p h a relay follows next (plain-not_held a is)) in
+    omega (arith, two, off, one)
+
+pages-slack : (p : Process) → length p.buffers ≡ 2 → HasSlack p 8
+pages-slack p two h a follows none next = (let most = one-most (holds h) in omega (arith, two, most))
+
+-- ---- sums over whole lists
+part-length : (part all : List Parcel) → IsPrefixOf part all → length part ≤ length all
+part-length part all (rest, e) = (let same = sym (length-append part rest) ∙ ap length e in omega (arith, same))
+
+part-sum : (works : Bool) (part all : List Parcel) → IsPrefixOf part all → put_sum works part ≤ put_sum works all
+part-sum works part all (rest, e) = (let same = sym (sum-append works part rest) ∙ ap (put_sum works) e in omega (arith, same))
+
+sum-feeds : (fs : List Feed) → put_sum false (as_parcels fs) ≡ 2 * length fs
+sum-feeds [] = refl
+sum-feeds (f ∷ rest) = (let more = sum-feeds rest in omega (arith, more))
+
+sum-lines : (lines : List (List ℕ)) → put_sum false (as_lines lines) ≡ length lines
+sum-lines [] = refl
+sum-lines (line ∷ rest) = (let more = sum-lines rest in omega (arith, more))
+
+given-sum : (works : Bool) (given : Option Page) → put_sum works (marked false (option_to_list given)) ≤ 6 + one_if works
+given-sum works None = omega arith
+given-sum works (Some page) = omega arith
+
+packed-six : (hand : PageInHand) (fs : List Feed) → put_sum false (packed hand fs) ≤ 6 * length fs
+packed-six hand [] = omega arith
+packed-six hand (feed.Item item ∷ rest) =
+    let one = given-sum false (page_given hand item) in
+    let more = packed-six (hand_after hand item) rest in
+    let both = sum-append false (marked false (option_to_list (page_given hand item))) (packed (hand_after hand item) rest) in
+    omega (arith, one, more, both)
+packed-six hand (feed.End ∷ rest) = omega arith
+
+packed-seven : (hand : PageInHand) (fs : List Feed) → put_sum true (packed hand fs) ≤ 7 * length fs
+packed-seven hand [] = omega arith
+packed-seven hand (feed.Item item ∷ rest) =
+    let one = given-sum true (page_given hand item) in
+    let more = packed-seven (hand_after hand item) rest in
+    let both = sum-append true (marked false (option_to_list (page_given hand item))) (packed (hand_after hand item) rest) in
+    omega (arith, one, more, both)
+packed-seven hand (feed.End ∷ rest) = omega arith
+
+deck-length : (items : List Item) → length (deck_parcels items) ≡ length items + 1
+deck-length [] = refl
+deck-length (item ∷ rest) = (let more = deck-length rest in omega (arith, more))
+
+whole-length : (items : List Item) → length (whole items) ≡ length items + 1
+whole-length [] = refl
+whole-length (item ∷ rest) = (let more = whole-length rest in omega (arith, more))
+
+-- ---- a reached state over told devices
+all-in-all : (c l t1 p1 t2 p2 t3 p3 t4 p4 t5 p5 m1 m2 m3 m4 m5 : ℕ) → m1 ≤ 2 + (1 * t1 + p1) + 2 → m2 ≤ 2 + (2 * t2 + p2) + 8 → m3 ≤ 2 + (7 * t3 + p3) + 8
+    → m4 ≤ 2 + (6 * t4 + p4) + 8 → m5 ≤ 2 + (2 * t5 + p5) + 2 → t1 ≤ c + 1 → p1 ≤ 2 * (c + 1) → t2 ≤ c + 1 → p2 ≤ 6 * (c + 1) → t3 ≤ c + 1
+    → p3 ≤ 7 * (l + 1) → t4 ≤ l + 1 → p4 ≤ 2 * (l + 1) → t5 ≤ l + 1 → p5 ≤ l → m1 + m2 + m3 + m4 + m5 ≤ 18 * c + 18 * l + 73
+all-in-all c l t1 p1 t2 p2 t3 p3 t4 p4 t5 p5 m1 m2 m3 m4 m5 a b d e f g h i j k n o q r u = omega (arith, a, b, d, e, f, g, h, i, j, k, n, o, q, r, u)
+
+module _ (opening s : CoreState) (st : Stands (core process) opening s) (d : DevicesStand process opening s)
+    (hand_over : HandOver s.histories) (items : List Item) (deck : opening.devices.deck ≡ Some items) (are : AreItems items) where
+  abbrev lines : List (List ℕ)
+  lines = job_reports items
+
+  follows : (p : ℕ) → Follows (process p) (s.histories p)
+  follows p = follows-of process p (s.histories p) (st.follows p)
+
+  took-1 : IsPrefixOf (taken (s.histories 1)) (deck_parcels items)
+  took-1 = read-part items s.devices.deck (taken (s.histories 1)) _ refl (d.read items deck)
+
+  took-2 : IsPrefixOf (taken (s.histories 2)) (card_sends (deck_parcels items))
+  took-2 = next-part the-five s.histories follows hand_over 1 _ (lit≤ tt, lit≤ tt) took-1
+
+  took-3 : IsPrefixOf (taken (s.histories 3)) (input_sends (card_sends (deck_parcels items)))
+  took-3 = next-part the-five s.histories follows hand_over 2 _ (lit≤ tt, lit≤ tt) took-2
+
+  took-4 : IsPrefixOf (taken (s.histories 4)) (job_sends (input_sends (card_sends (deck_parcels items))))
+  took-4 = next-part the-five s.histories follows hand_over 3 _ (lit≤ tt, lit≤ tt) took-3
+
+  took-5 : IsPrefixOf (taken (s.histories 5)) (output_sends (job_sends (input_sends (card_sends (deck_parcels items)))))
+  took-5 = next-part the-five s.histories follows hand_over 4 _ (lit≤ tt, lit≤ tt) took-4
+
+  put-of : (p : ℕ) (all : List Parcel) → IsPrefixOf (taken (s.histories p)) all → IsPrefixOf (sent (s.histories p)) ((process p).sends all)
+  put-of p all part =
+      prefix-longer _ _ _ (sent-part the-five s.histories follows hand_over p) (part-of (process p) (taken (s.histories p)) all (the-five.relays p) part)
+
+  line-count : length (whole (map Line lines)) ≡ length lines + 1
+  line-count = whole-length (map Line lines) ∙ ap (λ n. n + 1) (length-map lines Line)
+
+  pub made-few : all_made s ≤ 18 * length items + 18 * length (one_thread_lines items) + 73
+  made-few =
+      let c = length items in
+      let n1 = deck-length items in
+      let n2 : length (card_sends (deck_parcels items)) ≡ c + 1 = ap length (card-gives items are) ∙ parcels-length (whole items) ∙ whole-length items in
+      let n3 = packed-length first_page (whole items) in
+      let n3_is = ap length (input-gives items are) in
+      let w = whole-length items in
+      let n4 = packed-length first_page (whole (map Line lines)) in
+      let n4_is = ap length (job-gives items are) in
+      let n5 : length (output_sends (job_sends (input_sends (card_sends (deck_parcels items))))) ≡ length lines + 1
+      = ap length (output-gives items are) ∙ parcels-length (whole (map Line lines)) ∙ line-count in
+      let t1 = part-length _ _ took-1 in
+      let t2 = part-length _ _ took-2 in
+      let t3 = part-length _ _ took-3 in
+      let t4 = part-length _ _ took-4 in
+      let t5 = part-length _ _ took-5 in
+      let p1 = part-sum false _ _ (put-of 1 _ took-1) in
+      let p1_is : put_sum false (card_sends (deck_parcels items)) ≡ 2 * length (whole items) = ap (put_sum false) (card-gives items are) ∙ sum-feeds (whole items) in
+      let p2 = part-sum false _ _ (put-of 2 _ took-2) in
+      let p2_is = ap (put_sum false) (input-gives items are) in
+      let p2_most = packed-six first_page (whole items) in
+      let p3 = part-sum true _ _ (put-of 3 _ took-3) in
+      let p3_is = ap (put_sum true) (job-gives items are) in
+      let p3_most = packed-seven first_page (whole (map Line lines)) in
+      let p4 = part-sum false _ _ (put-of 4 _ took-4) in
+      let p4_is : put_sum false (output_sends (job_sends (input_sends (card_sends (deck_parcels items))))) ≡ 2 * length (whole (map Line lines))
+      = ap (put_sum false) (output-gives items are) ∙ sum-feeds (whole (map Line lines)) in
+      let p5 = part-sum false _ _ (put-of 5 _ took-5) in
+      let p5_is : put_sum false (output_of process (deck_parcels items)) ≡ length lines = ap (put_sum false) (output-is items are) ∙ sum-lines lines in
+      let l = line-count in
+      all-in-all c (length lines) (length (taken (s.histories 1))) (put_sum false (sent (s.histories 1))) (length (taken (s.histories 2)))
+      (put_sum false (sent (s.histories 2))) (length (taken (s.histories 3))) (put_sum true (sent (s.histories 3))) (length (taken (s.histories 4)))
+      (put_sum false (sent (s.histories 4))) (length (taken (s.histories 5))) (put_sum false (sent (s.histories 5))) _ _ _ _ _
+      (made-most (process 1) 2 (the-five.relays 1) (plain-slack (process 1) (the-five.relays 1) card-aims refl) (s.histories 1) (follows 1))
+      (made-most (process 2) 8 (the-five.relays 2) (pages-slack (process 2) refl) (s.histories 2) (follows 2))
+      (made-most (process 3) 8 (the-five.relays 3) (pages-slack (process 3) refl) (s.histories 3) (follows 3))
+      (made-most (process 4) 8 (the-five.relays 4) (pages-slack (process 4) refl) (s.histories 4) (follows 4))
+      (made-most (process 5) 2 (the-five.relays 5) (plain-slack (process 5) (the-five.relays 5) printer-aims refl) (s.histories 5) (follows 5))
+      (omega (arith, t1, n1)) (omega (arith, p1, p1_is, w)) (omega (arith, t2, n2)) (omega (arith, p2, p2_is, p2_most, w)) (omega (arith, t3, n3, n3_is, w))
+      (omega (arith, p3, p3_is, p3_most, l)) (omega (arith, t4, n4, n4_is, l)) (omega (arith, p4, p4_is, l)) (omega (arith, t5, n5)) (omega (arith, p5, p5_is))
+
+-- No list of events from an opening over told devices is longer.
+pub no-longer : (spools : Spools) (deck : Option (List Item)) (paper : Option (List ℕ)) (items : List Item) (events : List CoreEvent) → AreInBounds spools
+    → AreTold spools → deck ≡ Some items → AreItems items → AreEnabled (core process) (opened spools deck paper) events
+    → length events ≤ longest_run items
+no-longer spools deck paper items events bounds are_told deck_is are enabled =
+    let opening = opened spools deck paper in
+    let last = centre-run opening opening events enabled (opening-centre spools deck paper) in
+    let told = λ (b : ℕ) (at : IsBuffer b). told-is spools b (all-told spools are_told b at) in
+    let counted = events-counted opening opening events enabled (opening-centre spools deck paper).stands in
+    let few = made-few opening (run (core process) opening events) last.stands last.devices (hands-over opening (run (core process) opening events) last.stands told) items deck_is are in
+    let asleep = seven-sleep opening (run (core process) opening events) last.stands (all-sized spools bounds) in
+    omega (arith, counted, few, asleep)
+
+enabled-more : (s : CoreState) (some more : List CoreEvent) → AreEnabled (core process) s some → AreEnabled (core process) (run (core process) s some) more
+    → AreEnabled (core process) s (some ++ more)
+enabled-more s [] more are rest = rest
+enabled-more s (event ∷ some) more are rest = (are.0, enabled-more (happens (core process) s event) some more are.1 rest)
+
+-- Nor one from a reached state.
+pub no-run_longer : (spools : Spools) (deck : Option (List Item)) (paper : Option (List ℕ)) (s : CoreState) (items : List Item) (events : List CoreEvent)
+    → IsReached spools deck paper s → AreTold spools → deck ≡ Some items → AreItems items → AreEnabled (core process) s events
+    → length events ≤ longest_run items
+no-run_longer spools deck paper s items events r are_told deck_is are enabled =
+    let opening = opened spools deck paper in
+    let before = r.reached.events in
+    let here = subst (λ s. AreEnabled (core process) s events) (sym r.reached.leads) enabled in
+    let all = no-longer spools deck paper items (before ++ events) r.bounds are_told deck_is are (enabled-more opening before events r.reached.enabled here) in
+    let both = length-append before events in
+    omega (arith, all, both)

@@ -1,0 +1,311 @@
+-- What a process has done, by what it took and put: each entry, and one more where it may wake another process.
+use Rattle.std.proofs.Common.{◌≡◌, ℕ, ◌+◌, ◌*◌, ◌≤◌, Bool, true, false, ◌&&◌, not, List, [], ◌∷◌, ◌++◌, length, length-append, Option, None, Some, refl, sym, ◌∙◌, ap, subst, arith}
+use Rattle.solo_base.specs.declared.outcome.Outcome.{Outcome}
+use Rattle.solo_devices.specs.declared.card_read.CardRead.TheVariants as read
+use Rattle.batch_procs.specs.declared.actions.Action.{Action}
+use Rattle.batch_procs.specs.declared.actions.Action.TheVariants as act
+use Rattle.batch_procs.specs.declared.actions.Reply.{Reply}
+use Rattle.batch_procs.specs.declared.actions.Reply.TheVariants as reply
+use Rattle.batch_procs.specs.declared.round.Step.{Step}
+use Rattle.batch_procs.specs.declared.round.Step.TheVariants as step
+use Rattle.batch_procs.specs.Parcels.{Parcel, OfFeed, OfPage, OfLine, is_ended}
+use Rattle.batch_procs.specs.History.{Entry, Does, LacksMemory, Delays, taken_by, taken, put_by, sent, holds, newest}
+use Rattle.batch_procs.specs.Causes.{given_cause, caused}
+use Rattle.batch_procs.specs.Fits.{Fits}
+use Rattle.batch_procs.specs.Process.{Process, unworked, due, aim, aimed, working, begins, closing, next_action, Follows}
+use Rattle.batch_procs.specs.Laws.{IsTake, IsHeld, IsRelay}
+use Rattle.batch_procs.specs.Machine.{step_of, step_after}
+use Rattle.batch_procs.specs.Ahead.{moves_ahead, one_if, unstopped, ahead_at}
+use Rattle.batch_procs.specs.Parts.{some-same}
+use Rattle.batch_procs.proofs.Closing.{works-next, working-no_stop, aimed-no_stop}
+use Rattle.batch_procs.proofs.Held.{IsFree, aim-is}
+use Rattle.batch_procs.proofs.Machines.{held-by, not-held}
+use Rattle.batch_procs.proofs.Falling.{free-step, request-step, release-step, one-most}
+use Rattle.core_law.proofs.Taking.{next-take}
+
+-- ---- what an entry counts
+abbrev pub counts_by : Action → Reply → ℕ
+counts_by (act.PutFeed f) reply.Done = 2
+counts_by act.TakeFeed (reply.Feed f) = 2
+counts_by (act.PutPage page) reply.Done = 2
+counts_by act.TakePage (reply.Page page last) = 2
+counts_by act.Release r = 2
+counts_by (act.Stop b) r = 2
+counts_by action r = 1
+
+abbrev pub counts : Entry → ℕ
+counts (Does a r) = counts_by a r
+counts (LacksMemory a r) = counts_by a r
+counts (Delays a) = 0
+
+abbrev pub made : List Entry → ℕ
+made [] = 0
+made (entry ∷ h) = counts entry + made h
+
+-- ---- what a take and a put come to, with the calls around a move of a page, and the work where it is done
+abbrev pub take_cost : Action → ℕ
+take_cost act.ReadCard = 1
+take_cost act.TakeFeed = 2
+take_cost act.TakePage = 6
+take_cost other = 0
+
+abbrev pub put_cost : Parcel → ℕ
+put_cost (OfFeed f) = 2
+put_cost (OfPage page last) = 6
+put_cost (OfLine line) = 1
+
+abbrev pub put_sum : Bool → List Parcel → ℕ
+put_sum works [] = 0
+put_sum works (parcel ∷ rest) = put_cost parcel + one_if works + put_sum works rest
+
+pub sum-append : (works : Bool) (xs ys : List Parcel) → put_sum works (xs ++ ys) ≡ put_sum works xs + put_sum works ys
+sum-append works [] ys = omega arith
+sum-append works (x ∷ xs) ys = (let rest = sum-append works xs ys in omega (arith, rest))
+
+-- what is left of a move of a page
+abbrev pub left : Step → ℕ
+left step.Free = 2
+left step.Awaited = 1
+left step.Granted = 0
+left step.Moved = 4
+left step.Ended = 0
+
+abbrev pub spent : Process → List Entry → ℕ
+spent p h = (take_cost p.takes + one_if p.works) * length (taken h) + put_sum p.works (sent h)
+
+abbrev pub closing_left : Process → List Entry → ℕ
+closing_left p h = ahead_at (step_after (newest h)) (2 * one_if (holds h) + 2 * unstopped p.buffers h + 1)
+
+abbrev pub Within : Process → ℕ → Option Outcome → List Entry → Type 0
+Within p slack None h = made h + ahead_at (step_after (newest h)) (left (step_after (newest h)) + one_if (unworked p h)) ≤ 2 + spent p h
+Within p slack (Some how) h = made h + closing_left p h ≤ 2 + spent p h + slack
+
+-- ---- steps
+left-free : (s : Step) → moves_ahead s ≡ 2 → left s ≡ 2
+left-free step.Free e = refl
+left-free step.Awaited e = absurd cc
+left-free step.Granted e = absurd cc
+left-free step.Moved e = absurd cc
+left-free step.Ended e = absurd cc
+
+left-awaited : (s : Step) → moves_ahead s ≡ 1 → left s ≡ 1
+left-awaited step.Free e = absurd cc
+left-awaited step.Awaited e = refl
+left-awaited step.Granted e = absurd cc
+left-awaited step.Moved e = absurd cc
+left-awaited step.Ended e = absurd cc
+
+left-moved : (s : Step) → moves_ahead s ≡ 3 → left s ≡ 4
+left-moved step.Free e = absurd cc
+left-moved step.Awaited e = absurd cc
+left-moved step.Granted e = absurd cc
+left-moved step.Moved e = refl
+left-moved step.Ended e = absurd cc
+
+pub at-most : (s : Step) (n : ℕ) → ahead_at s n ≤ n
+at-most step.Free n = omega arith
+at-most step.Awaited n = omega arith
+at-most step.Granted n = omega arith
+at-most step.Moved n = omega arith
+at-most step.Ended n = omega arith
+
+pub working-counts : (newest : Option Action) (aim a : Action) (n : ℕ) → working newest aim ≡ Some a → ahead_at (step_after newest) n ≡ n
+working-counts None aim a n e = refl
+working-counts (Some act.AwaitRoom) aim a n e = refl
+working-counts (Some act.AwaitItem) aim a n e = refl
+working-counts (Some act.Request) aim a n e = refl
+working-counts (Some (act.PutPage page)) aim a n e = refl
+working-counts (Some act.TakePage) aim a n e = refl
+working-counts (Some (act.Ended how)) aim a n e = absurd cc
+working-counts (Some other) aim a n e = refl
+
+pub closing-counts : (newest : Option Action) (next a : Action) (n : ℕ) → closing newest next ≡ Some a → ahead_at (step_after newest) n ≡ n
+closing-counts None next a n e = refl
+closing-counts (Some (act.Ended how)) next a n e = absurd cc
+closing-counts (Some act.AwaitRoom) next a n e = refl
+closing-counts (Some act.AwaitItem) next a n e = refl
+closing-counts (Some act.Request) next a n e = refl
+closing-counts (Some (act.PutPage page)) next a n e = refl
+closing-counts (Some act.TakePage) next a n e = refl
+closing-counts (Some other) next a n e = refl
+
+pub free-left : (p : Process) (h : List Entry) (a : Action) → IsRelay p → Follows p h → next_action p h ≡ Some a → caused h ≡ None → IsFree a → (IsHeld a → ⊥)
+    → left (step_after (newest h)) ≡ 2
+free-left p h a relay follows next none free apart =
+    left-free (step_after (newest h)) (free-step (newest h) (aim p h) a (works-next p h a next none) free
+    (sym (held-by p h relay follows) ∙ not-held p h a relay follows next apart))
+
+and-most : (t u : Bool) → one_if (t && u) ≤ one_if t
+and-most true u = one-most u
+and-most false u = omega arith
+
+-- ---- one that has no cause, and is given none
+-- what is spent behind an entry that took so many and put these
+pub spent-more : (p : Process) (h : List Entry) (a : Action) (r : Reply) (n : ℕ) (ps : List Parcel) → length (taken_by r) ≡ n → put_by a r ≡ ps
+    → spent p (Does a r ∷ h) ≡ spent p h + (take_cost p.takes + one_if p.works) * n + put_sum p.works ps
+spent-more p h a r n ps takes puts_are =
+    let c = take_cost p.takes + one_if p.works in
+    let tk : length (taken h ++ taken_by r) ≡ length (taken h) + n = length-append (taken h) (taken_by r) ∙ ap (λ m. length (taken h) + m) takes in
+    let st : put_sum p.works (sent h ++ put_by a r) ≡ put_sum p.works (sent h) + put_sum p.works ps
+    = sum-append p.works (sent h) (put_by a r) ∙ ap (λ ps. put_sum p.works (sent h) + put_sum p.works ps) puts_are in
+    let times : c * (length (taken h) + n) ≡ c * length (taken h) + c * n = grind arith in
+    ap (λ m. c * m + put_sum p.works (sent h ++ put_by a r)) tk ∙ ap (λ m. m + put_sum p.works (sent h ++ put_by a r)) times
+    ∙ ap (λ m. c * length (taken h) + c * n + m) st ∙ omega arith
+
+sum-up : (m l u s e l' u' s' more g : ℕ) → m + (l + u) ≤ 2 + s → s' ≡ s + more → e + l' + u' ≤ l + u + more → g ≤ l' + u' → e + m + g ≤ 2 + s'
+sum-up m l u s e l' u' s' more g was is less most = omega (arith, was, is, less, most)
+
+module _ (p : Process) (h : List Entry) (a : Action) (r : Reply) (relay : IsRelay p) (follows : Follows p (Does a r ∷ h)) (none : caused h ≡ None)
+    (was : made h + (left (step_after (newest h)) + one_if (unworked p h)) ≤ 2 + spent p h) where
+  -- of a number that was taken and a list that was put
+  steps : (n : ℕ) (ps : List Parcel) → length (taken_by r) ≡ n → put_by a r ≡ ps
+      → counts_by a r + left (step_of a) + one_if (unworked p (Does a r ∷ h))
+      ≤ left (step_after (newest h)) + one_if (unworked p h) + ((take_cost p.takes + one_if p.works) * n + put_sum p.works ps)
+      → Within p 0 None (Does a r ∷ h)
+  steps n ps takes puts_are less =
+      sum-up (made h) _ _ (spent p h) (counts_by a r) _ _ _ _ _ was (spent-more p h a r n ps takes puts_are ∙ omega arith) less (at-most (step_of a) _)
+
+take-one : (a : Action) (r : Reply) (h : List Entry) → IsTake a → Fits a r → given_cause a r h ≡ None → length (taken_by r) ≡ 1
+take-one act.ReadCard (reply.Card (read.Card line)) h take fits none = refl
+take-one act.ReadCard (reply.Card read.Spoiled) h take fits none = refl
+take-one act.ReadCard (reply.Card read.End) h take fits none = refl
+take-one act.ReadCard (reply.Card read.Failed) h take fits none = absurd cc
+take-one act.ReadCard (reply.Card read.Limit) h take fits none = absurd cc
+take-one act.ReadCard other h take fits none = absurd fits
+take-one act.TakeFeed (reply.Feed f) h take fits none = refl
+take-one act.TakeFeed reply.Stopped h take fits none = absurd cc
+take-one act.TakeFeed other h take fits none = absurd fits
+take-one act.TakePage (reply.Page page last) h take fits none = refl
+take-one act.TakePage reply.Failed h take fits none = absurd cc
+take-one act.TakePage other h take fits none = absurd fits
+take-one other r h take fits none = absurd take
+
+counts-most : (a : Action) (r : Reply) → counts_by a r ≤ 2
+counts-most (act.PutFeed f) reply.Done = omega arith
+counts-most act.TakeFeed (reply.Feed f) = omega arith
+counts-most (act.PutPage page) reply.Done = omega arith
+counts-most act.TakePage (reply.Page page last) = omega arith
+counts-most act.Release r = omega arith
+counts-most (act.Stop b) r = omega arith
+counts-most action r = omega arith
+
+-- what a take of this kind costs
+pub cost-is : (takes a : Action) → takes ≡ a → take_cost takes ≡ take_cost a
+cost-is takes a e = ap take_cost e
+
+take-less : (e l' u' l u c w : ℕ) → e + l' ≤ l + c → u' ≤ w → e + l' + u' ≤ l + u + ((c + w) * 1 + 0)
+take-less e l' u' l u c w less work = omega (arith, less, work)
+
+put-less : (e l' u' l u c w k : ℕ) → e + l' ≤ l + c → u' ≤ w → e + l' + u' ≤ l + u + (k * 0 + (c + w + 0))
+put-less e l' u' l u c w k less work = omega (arith, less, work)
+
+still-less : (e l' u' l u k : ℕ) → e + l' + u' ≤ l + u → e + l' + u' ≤ l + u + (k * 0 + 0)
+still-less e l' u' l u k less = omega (arith, less)
+
+working-local : (p : Process) (h : List Entry) → IsRelay p → next_action p h ≡ Some act.Local → caused h ≡ None → unworked p h ≡ true
+working-local p h relay next none = by (newest h) (works-next p h act.Local next none)
+  where
+    aimed-local : (takes : Action) (due : List Parcel) (ended work : Bool) → IsTake takes → aimed takes due ended work ≡ act.Local → work ≡ true
+    aimed-local takes [] true false take e = absurd cc
+    aimed-local takes [] true true take e = refl
+    aimed-local takes [] false true take e = refl
+    aimed-local takes [] false false take e = absurd (subst IsTake e take)
+    aimed-local takes (OfFeed f ∷ more) ended work take e = absurd cc
+    aimed-local takes (OfPage page last ∷ more) ended work take e = absurd cc
+    aimed-local takes (OfLine line ∷ more) ended work take e = absurd cc
+
+    here : aim p h ≡ act.Local → unworked p h ≡ true
+    here e = aimed-local p.takes (due p h) (is_ended (taken h)) (unworked p h) relay.takes e
+
+    begun : (aim : Action) → begins aim ≡ act.Local → aim ≡ act.Local
+    begun (act.PutPage page) e = absurd cc
+    begun act.TakePage e = absurd cc
+    begun other e = e
+
+    by : (newest : Option Action) → working newest (aim p h) ≡ Some act.Local → unworked p h ≡ true
+    by None e = here (begun (aim p h) (some-same _ _ e))
+    by (Some act.AwaitRoom) e = absurd cc
+    by (Some act.AwaitItem) e = absurd cc
+    by (Some act.Request) e = here (some-same _ _ e)
+    by (Some (act.PutPage page)) e = absurd cc
+    by (Some act.TakePage) e = absurd cc
+    by (Some (act.Ended how)) e = absurd cc
+    by (Some other) e = here (begun (aim p h) (some-same _ _ e))
+
+local-less : (l : ℕ) (u now : Bool) → l ≡ 2 → u ≡ true → now ≡ false → 1 + 2 + one_if now ≤ l + one_if u
+local-less l true false is on off = omega (arith, is)
+local-less l true true is on off = absurd cc
+local-less l false now is on off = absurd cc
+
+pub and-nothing : (t : Bool) → (t && false) ≡ false
+and-nothing true = refl
+and-nothing false = refl
+
+pub works-within : (p : Process) (h : List Entry) (a : Action) (r : Reply) → IsRelay p → Follows p (Does a r ∷ h) → caused h ≡ None → given_cause a r h ≡ None
+    → made h + (left (step_after (newest h)) + one_if (unworked p h)) ≤ 2 + spent p h → Within p 0 None (Does a r ∷ h)
+works-within p h act.ReadCard r relay follows none given was =
+    let cost = cost-is p.takes act.ReadCard (next-take p h act.ReadCard follows.0 tt).same in
+    let free = free-left p h act.ReadCard relay follows.2 follows.0 none tt (λ is. is) in
+    steps p h act.ReadCard r relay follows none was 1 [] (take-one act.ReadCard r h tt follows.1 given) refl
+    (take-less 1 2 _ _ _ (take_cost p.takes) (one_if p.works) (omega (arith, cost, free)) (and-most p.works true))
+works-within p h act.TakeFeed r relay follows none given was =
+    let cost = cost-is p.takes act.TakeFeed (next-take p h act.TakeFeed follows.0 tt).same in
+    let free = free-left p h act.TakeFeed relay follows.2 follows.0 none tt (λ is. is) in
+    let most = counts-most act.TakeFeed r in
+    steps p h act.TakeFeed r relay follows none was 1 [] (take-one act.TakeFeed r h tt follows.1 given) refl
+    (take-less (counts_by act.TakeFeed r) 2 _ _ _ (take_cost p.takes) (one_if p.works) (omega (arith, cost, free, most)) (and-most p.works true))
+works-within p h act.TakePage r relay follows none given was =
+    let cost = cost-is p.takes act.TakePage (next-take p h act.TakePage follows.0 tt).same in
+    let most = counts-most act.TakePage r in
+    steps p h act.TakePage r relay follows none was 1 [] (take-one act.TakePage r h tt follows.1 given) refl
+    (take-less (counts_by act.TakePage r) 4 _ _ _ (take_cost p.takes) (one_if p.works) (omega (arith, cost, most)) (and-most p.works true))
+works-within p h (act.PutFeed f) reply.Done relay follows none given was =
+    let free = free-left p h (act.PutFeed f) relay follows.2 follows.0 none tt (λ is. is) in
+    steps p h (act.PutFeed f) reply.Done relay follows none was 0 (OfFeed f ∷ []) refl refl
+    (put-less 2 2 _ _ _ 2 (one_if p.works) _ (omega (arith, free)) (and-most p.works _))
+works-within p h (act.PutFeed f) reply.Stopped relay follows none given was = absurd cc
+works-within p h (act.PutFeed f) other relay follows none given was = absurd follows.1
+works-within p h (act.PutPage page) reply.Done relay follows none given was =
+    steps p h (act.PutPage page) reply.Done relay follows none was 0 (OfPage page (Rattle.batch_procs.specs.Parcels.mark page) ∷ []) refl refl
+    (put-less 2 4 _ _ _ 6 (one_if p.works) _ (omega arith) (and-most p.works (not (Rattle.batch_procs.specs.Parcels.mark page))))
+works-within p h (act.PutPage page) reply.Failed relay follows none given was = absurd cc
+works-within p h (act.PutPage page) other relay follows none given was = absurd follows.1
+works-within p h (act.Print line) reply.Done relay follows none given was =
+    let free = free-left p h (act.Print line) relay follows.2 follows.0 none tt (λ is. is) in
+    steps p h (act.Print line) reply.Done relay follows none was 0 (OfLine line ∷ []) refl refl
+    (put-less 1 2 _ _ _ 1 (one_if p.works) _ (omega (arith, free)) (and-most p.works _))
+works-within p h (act.Print line) reply.Failed relay follows none given was = absurd cc
+works-within p h (act.Print line) reply.NoMemory relay follows none given was = absurd cc
+works-within p h (act.Print line) other relay follows none given was = absurd follows.1
+works-within p h act.AwaitRoom reply.Done relay follows none given was =
+    let free = free-left p h act.AwaitRoom relay follows.2 follows.0 none tt (λ is. is) in
+    steps p h act.AwaitRoom reply.Done relay follows none was 0 [] refl refl (still-less 1 1 _ _ _ _ (omega (arith, free)))
+works-within p h act.AwaitRoom reply.Stopped relay follows none given was = absurd cc
+works-within p h act.AwaitRoom other relay follows none given was = absurd follows.1
+works-within p h act.AwaitItem reply.Done relay follows none given was =
+    let free = free-left p h act.AwaitItem relay follows.2 follows.0 none tt (λ is. is) in
+    steps p h act.AwaitItem reply.Done relay follows none was 0 [] refl refl (still-less 1 1 _ _ _ _ (omega (arith, free)))
+works-within p h act.AwaitItem reply.Stopped relay follows none given was = absurd cc
+works-within p h act.AwaitItem other relay follows none given was = absurd follows.1
+works-within p h act.Request reply.Done relay follows none given was =
+    let one = left-awaited (step_after (newest h)) (request-step (newest h) (aim p h) (aim-is p h relay) (works-next p h act.Request follows.0 none)) in
+    steps p h act.Request reply.Done relay follows none was 0 [] refl refl (still-less 1 0 _ _ _ _ (omega (arith, one)))
+works-within p h act.Request other relay follows none given was = absurd follows.1
+works-within p h act.Release reply.Done relay follows none given was =
+    let moved = left-moved (step_after (newest h)) (release-step (newest h) (aim p h) (aim-is p h relay) (works-next p h act.Release follows.0 none)) in
+    steps p h act.Release reply.Done relay follows none was 0 [] refl refl (still-less 2 2 _ _ _ _ (omega (arith, moved)))
+works-within p h act.Release other relay follows none given was = absurd follows.1
+works-within p h act.Local reply.Done relay follows none given was =
+    let free = free-left p h act.Local relay follows.2 follows.0 none tt (λ is. is) in
+    steps p h act.Local reply.Done relay follows none was 0 [] refl refl
+    (still-less 1 2 _ _ _ _ (local-less _ (unworked p h) (p.works && false) free (working-local p h relay follows.0 none) (and-nothing p.works)))
+works-within p h act.Local other relay follows none given was = absurd follows.1
+works-within p h (act.Ended how) reply.Done relay follows none given was =
+    let free = free-left p h (act.Ended how) relay follows.2 follows.0 none tt (λ is. is) in
+    let same = spent-more p h (act.Ended how) reply.Done 0 [] refl refl in
+    let zero : (take_cost p.takes + one_if p.works) * 0 ≡ 0 = omega arith in
+    omega (arith, was, free, same, zero)
+works-within p h (act.Ended how) other relay follows none given was = absurd follows.1
+works-within p h (act.Stop b) r relay follows none given was =
+    absurd (working-no_stop (newest h) (aim p h) (act.Stop b) (aimed-no_stop p.takes (due p h) (is_ended (taken h)) (unworked p h) relay.takes)
+    (works-next p h (act.Stop b) follows.0 none))

@@ -1,0 +1,202 @@
+-- Each cause has its entry; and over told areas each page that is taken is one that was put, so none is damaged.
+use Rattle.std.proofs.Common.{◌≡◌, inl, inr, ℕ, suc, ◌+◌, ◌%◌, ◌^◌, Bool, true, false, List, [], ◌∷◌, ◌++◌, length, map, Option, None, Some, refl, sym, ◌∙◌, ap, subst, append_assoc, arith, lit≤}
+use Rattle.std.proofs.lemmas.List.{append-nil}
+use Rattle.solo_base.specs.declared.item.Item.{Item}
+use Rattle.solo_base.specs.declared.item.Item.TheVariants.{Line}
+use Rattle.solo_base.specs.declared.page.Page.{Page}
+use Rattle.solo_base.specs.declared.outcome.Outcome.{Outcome}
+use Rattle.solo_base.specs.declared.outcome.Outcome.TheVariants as outcome
+use Rattle.solo_base.specs.declared.outcome.Cause.{Cause}
+use Rattle.solo_base.specs.declared.outcome.Cause.TheVariants as cause
+use Rattle.solo_devices.specs.declared.card_read.CardRead.TheVariants as read
+use Rattle.page_codec.specs.Items.{AreItems}
+use Rattle.page_codec.specs.Reading.{page_read}
+use Rattle.page_codec.specs.Stream.{IsStream}
+use Rattle.batch_job.specs.LinesSoFar.{IsPrefixOf}
+use Rattle.batch_procs.specs.declared.actions.Action.{Action}
+use Rattle.batch_procs.specs.declared.actions.Action.TheVariants as act
+use Rattle.batch_procs.specs.declared.actions.Reply.TheVariants as reply
+use Rattle.batch_procs.specs.Parcels.{Parcel, OfPage, pages}
+use Rattle.batch_procs.specs.History.{Entry, Does, LacksMemory, Delays, taken, taken_by}
+use Rattle.batch_procs.specs.Causes.{fault_at, damage, place, caused}
+use Rattle.batch_procs.specs.Faults.{cause_by, FaultsOf, IsDamaged}
+use Rattle.batch_procs.specs.Laws.{IsNotDone}
+use Rattle.batch_procs.specs.Process.{Follows}
+use Rattle.batch_procs.specs.Sends.{input_sends, card_sends, job_sends}
+use Rattle.batch_procs.specs.Table.{process}
+use Rattle.batch_procs.proofs.Faulty.{each_cause_is_given, faults_of_the_five}
+use Rattle.network_law.specs.Kept.{Stands}
+use Rattle.core_law.specs.Core.{core, CoreState}
+use Rattle.core_law.specs.Ends.{IsProcess, HasEndedSo, HaveCauses, outcome_by}
+use Rattle.core_law.proofs.Acting.{follows-of}
+use Rattle.core_law.proofs.Ends.{the-five}
+use Rattle.core_law.proofs.Passing.{HandOver, read-part, next-part}
+use Rattle.core_law.proofs.ReportLines.{report-lines}
+use Rattle.core_law.proofs.Row.{each-process}
+use Rattle.core_law.proofs.RoundTrip.{Packs, good, as_stream, read-back, packs, line-items, input-gives, job-gives, job_reports}
+use Rattle.core_law.proofs.Streams.{deck_parcels, DevicesStand}
+use Rattle.core_law.proofs.Outcomes.{ended-as}
+
+-- ---- causes
+cause-of : (c : Option Outcome) (how : Outcome) → outcome_by c ≡ how → IsNotDone (Some how) → c ≡ Some how
+cause-of (Some c) how e not = ap Some e
+cause-of None how e not = absurd (subst (λ how. IsNotDone (Some how)) (sym e) not)
+
+module _ (opening s : CoreState) (st : Stands (core process) opening s) where
+  follows : (p : ℕ) → Follows (process p) (s.histories p)
+  follows p = follows-of process p (s.histories p) (st.follows p)
+
+  caused-so : (p : ℕ) (how : Outcome) → HasEndedSo s how p → IsNotDone (Some how) → caused (s.histories p) ≡ Some how
+  caused-so p how ended not = cause-of (caused (s.histories p)) how (ended-as (process p) (s.histories p) how (the-five.relays p) (follows p) ended) not
+
+  fault-so : (Fault : Cause → Type 0) (p : ℕ) → FaultsOf (process p) Fault → (c : Cause) → HasEndedSo s (outcome.Fault c) p → Fault c
+  fault-so Fault p faults c ended = faults (s.histories p) c (follows p) (caused-so p (outcome.Fault c) ended tt)
+
+  pub have-causes : HaveCauses s
+  have-causes = record {
+    given = λ p how one ended not. each_cause_is_given (s.histories p) how (caused-so p how ended not);
+    card = fault-so _ 1 faults_of_the_five.card;
+    input = fault-so _ 2 faults_of_the_five.input;
+    job = fault-so _ 3 faults_of_the_five.job;
+    output = fault-so _ 4 faults_of_the_five.output;
+    printer = fault-so _ 5 faults_of_the_five.printer;
+  }
+
+-- ---- the entry that gives a damaged page
+fault-not : (a : Action) (c : Cause) → fault_at a ≡ c → IsDamaged c → ⊥
+fault-not (act.Print line) c e is = subst IsDamaged (sym e) is
+fault-not other c e is = subst IsDamaged (sym e) is
+
+same-fault : (a b : Cause) → Some (outcome.Fault a) ≡ Some (outcome.Fault b) → a ≡ b
+same-fault a b e = cc
+
+record GivesPage (entry : Entry) (before : List Entry) (c : Cause) : Type 0 where
+  page : Page
+  last : Bool
+  took : taken (entry ∷ before) ≡ taken before ++ OfPage page last ∷ []
+  damaged : damage (page_read (place before) last page) ≡ Some (outcome.Fault c)
+
+gives-page : (entry : Entry) (before : List Entry) (c : Cause) → cause_by entry before ≡ Some (outcome.Fault c) → IsDamaged c → GivesPage entry before c
+gives-page (Does a (reply.Page page last)) before c e is = record { page = page; last = last; took = refl; damaged = e }
+gives-page (Does a reply.Done) before c e is = absurd cc
+gives-page (Does a reply.Stopped) before c e is = absurd cc
+gives-page (Does a reply.Failed) before c e is = absurd (fault-not a c (same-fault (fault_at a) c e) is)
+gives-page (Does a reply.NoMemory) before c e is = absurd (subst IsDamaged (sym (same-fault cause.NoMemory c e)) is)
+gives-page (Does a (reply.Card (read.Card line))) before c e is = absurd cc
+gives-page (Does a (reply.Card read.Spoiled)) before c e is = absurd cc
+gives-page (Does a (reply.Card read.End)) before c e is = absurd cc
+gives-page (Does a (reply.Card read.Failed)) before c e is = absurd (subst IsDamaged (sym (same-fault cause.ReadFault c e)) is)
+gives-page (Does a (reply.Card read.Limit)) before c e is = absurd (subst IsDamaged (sym (same-fault cause.DeckLimit c e)) is)
+gives-page (Does a (reply.Feed f)) before c e is = absurd cc
+gives-page (LacksMemory a r) before c e is = absurd (subst IsDamaged (sym (same-fault cause.NoMemory c e)) is)
+gives-page (Delays a) before c e is = absurd cc
+
+taken-later : (later : List Entry) (entry : Entry) (before : List Entry) → IsPrefixOf (taken (entry ∷ before)) (taken (later ++ entry ∷ before))
+taken-later [] entry before = ([], append-nil (taken (entry ∷ before)))
+taken-later (Does a r ∷ later) entry before =
+    (let (more, e) = taken-later later entry before in
+    (more ++ taken_by r, sym (append_assoc (taken (entry ∷ before)) more (taken_by r)) ∙ ap (λ all. all ++ taken_by r) e))
+taken-later (LacksMemory a r ∷ later) entry before =
+    (let (more, e) = taken-later later entry before in
+    (more ++ taken_by r, sym (append_assoc (taken (entry ∷ before)) more (taken_by r)) ∙ ap (λ all. all ++ taken_by r) e))
+taken-later (Delays a ∷ later) entry before = taken-later later entry before
+
+-- ---- a page of a stream is read back
+not-none : (front rest : List Parcel) (x : Parcel) → front ++ x ∷ rest ≡ [] → ⊥
+not-none [] rest x e = cc
+not-none (y ∷ front) rest x e = cc
+
+same-page : (page other : Page) (last mark : Bool) → OfPage page last ≡ OfPage other mark → (page ≡ other) × (last ≡ mark)
+same-page page other last mark e = (cc, cc)
+
+head-same : (x y : Parcel) (xs ys : List Parcel) → x ∷ xs ≡ y ∷ ys → x ≡ y
+head-same x y xs ys e = cc
+
+tail-same : (x y : Parcel) (xs ys : List Parcel) → x ∷ xs ≡ y ∷ ys → xs ≡ ys
+tail-same x y xs ys e = cc
+
+undamaged-here : (n : ℕ) (page other : Page) (last mark : Bool) (all : List Item) → OfPage page last ≡ OfPage other mark
+    → page_read (n % 2 ^ 16) mark other ≡ good all mark → damage (page_read ((n + 0) % 2 ^ 16) last page) ≡ None
+undamaged-here n page other last mark all e is =
+    let (pages_are, marks_are) = same-page page other last mark e in
+    let at : n + 0 ≡ n = omega arith in
+    rw (at, pages_are, marks_are) (ap damage is)
+
+undamaged-at : (ps : List Page) (n : ℕ) (all : List Item) (front : List Parcel) (page : Page) (last : Bool) (rest : List Parcel) → IsStream n ps all
+    → front ++ OfPage page last ∷ rest ≡ as_stream ps → damage (page_read ((n + length front) % 2 ^ 16) last page) ≡ None
+undamaged-at [] n all front page last rest stream e = absurd stream
+undamaged-at (p ∷ []) n all [] page last rest form e =
+    undamaged-here n page p last true all (head-same (OfPage page last) (OfPage p true) rest [] e) (read-back n true all p form)
+undamaged-at (p ∷ []) n all (x ∷ front) page last rest form e =
+    absurd (not-none front rest (OfPage page last) (tail-same x (OfPage p true) (front ++ OfPage page last ∷ rest) [] e))
+undamaged-at (p ∷ next ∷ more) n all [] page last rest (items, left, parts, form, later) e =
+    undamaged-here n page p last false items (head-same (OfPage page last) (OfPage p false) rest (as_stream (next ∷ more)) e) (read-back n false items p form)
+undamaged-at (p ∷ next ∷ more) n all (x ∷ front) page last rest (items, left, parts, form, later) e =
+    let at : n + 1 + length front ≡ n + length (x ∷ front) = omega arith in
+    ap (λ m. damage (page_read (m % 2 ^ 16) last page)) (sym at)
+    ∙ undamaged-at (next ∷ more) (n + 1) left front page last rest later
+    (tail-same x (OfPage p false) (front ++ OfPage page last ∷ rest) (as_stream (next ∷ more)) e)
+
+all-pages : (ps : List Page) (front rest : List Parcel) → front ++ rest ≡ as_stream ps → length (pages front) ≡ length front
+all-pages ps [] rest e = refl
+all-pages [] (x ∷ front) rest e = absurd cc
+all-pages (p ∷ []) (x ∷ front) rest e =
+    subst (λ x. length (pages (x ∷ front)) ≡ length (x ∷ front)) (sym (head-same x (OfPage p true) (front ++ rest) [] e))
+    (ap suc (all-pages [] front rest (tail-same x (OfPage p true) (front ++ rest) [] e)))
+all-pages (p ∷ next ∷ more) (x ∷ front) rest e =
+    subst (λ x. length (pages (x ∷ front)) ≡ length (x ∷ front)) (sym (head-same x (OfPage p false) (front ++ rest) (as_stream (next ∷ more)) e))
+    (ap suc (all-pages (next ∷ more) front rest (tail-same x (OfPage p false) (front ++ rest) (as_stream (next ∷ more)) e)))
+
+-- a history whose pages are those of a stream, or the first of them, meets none that is damaged
+no-damage : (h : List Entry) (parcels : List Parcel) (all : List Item) (c : Cause) → Packs parcels all → IsPrefixOf (taken h) parcels
+    → caused h ≡ Some (outcome.Fault c) → IsDamaged c → ⊥
+no-damage h parcels all c is (rest, part) fault damaged =
+    let given = each_cause_is_given h (outcome.Fault c) fault in
+    let gives = gives-page given.entry given.before c given.gives damaged in
+    let (more, later) = taken-later given.later given.entry given.before in
+    let front = taken given.before in
+    let here : front ++ OfPage gives.page gives.last ∷ (more ++ rest) ≡ as_stream is.pages =
+    sym (append_assoc front (OfPage gives.page gives.last ∷ []) (more ++ rest))
+    ∙ ap (λ ps. ps ++ (more ++ rest)) (sym gives.took) ∙ sym (append_assoc (taken (given.entry ∷ given.before)) more rest)
+    ∙ ap (λ ps. ps ++ rest) (later ∙ ap taken (sym given.is)) ∙ part ∙ is.same in
+    let count = all-pages is.pages front (OfPage gives.page gives.last ∷ (more ++ rest)) here in
+    let none = undamaged-at is.pages 0 all front gives.page gives.last (more ++ rest) is.is_stream here in
+    let from : 0 + length front ≡ length (pages front) = omega (arith, count) in
+    let at : (0 + length front) % 2 ^ 16 ≡ place given.before = ap (λ n. n % 2 ^ 16) from in
+    let no : Some (outcome.Fault c) ≡ None = sym gives.damaged ∙ ap (λ n. damage (page_read n gives.last gives.page)) (sym at) ∙ none in
+    cc
+
+module _ (opening s : CoreState) (st : Stands (core process) opening s) (d : DevicesStand process opening s)
+    (hand_over : HandOver s.histories) (items : List Item) (deck : opening.devices.deck ≡ Some items) (are : AreItems items) where
+  first : IsPrefixOf (taken (s.histories 1)) (deck_parcels items)
+  first = read-part items s.devices.deck (taken (s.histories 1)) _ refl (d.read items deck)
+
+  third : IsPrefixOf (taken (s.histories 3)) (input_sends (card_sends (deck_parcels items)))
+  third = next-part the-five s.histories (follows opening s st) hand_over 2 _ (lit≤ tt, lit≤ tt) (next-part the-five s.histories (follows opening s st) hand_over 1 _ (lit≤ tt, lit≤ tt) first)
+
+  fourth : IsPrefixOf (taken (s.histories 4)) (job_sends (input_sends (card_sends (deck_parcels items))))
+  fourth = next-part the-five s.histories (follows opening s st) hand_over 3 _ (lit≤ tt, lit≤ tt) third
+
+  job-undamaged : (c : Cause) → caused (s.histories 3) ≡ Some (outcome.Fault c) → IsDamaged c → ⊥
+  job-undamaged c =
+      no-damage (s.histories 3) _ items c (subst (λ ps. Packs ps items) (sym (input-gives items are)) (packs items are)) third
+
+  output-undamaged : (c : Cause) → caused (s.histories 4) ≡ Some (outcome.Fault c) → IsDamaged c → ⊥
+  output-undamaged c =
+      let lines = map Line (job_reports items) in
+      no-damage (s.histories 4) _ lines c
+      (subst (λ ps. Packs ps lines) (sym (job-gives items are)) (packs lines (line-items (job_reports items) (report-lines items are)))) fourth
+
+  not-disk : (c : Cause) (other : Cause) → (IsDamaged other → ⊥) → c ≡ other → IsDamaged c → ⊥
+  not-disk c other not e is = not (subst IsDamaged e is)
+
+  pub undamaged : (p : ℕ) (c : Cause) → IsProcess p → HasEndedSo s (outcome.Fault c) p → IsDamaged c → ⊥
+  undamaged p c one ended damaged =
+      let causes = have-causes opening s st in
+      each-process (λ p. HasEndedSo s (outcome.Fault c) p → ⊥) p one
+      (λ e. elim (causes.card c e) as (λ _. ⊥) [ inl a ↦ not-disk c cause.ReadFault (λ no. no) a damaged | inr a ↦ not-disk c cause.DeckLimit (λ no. no) a damaged ])
+      (λ e. not-disk c cause.DiskFault (λ no. no) (causes.input c e) damaged)
+      (λ e. job-undamaged c (caused-so opening s st 3 (outcome.Fault c) e tt) damaged)
+      (λ e. output-undamaged c (caused-so opening s st 4 (outcome.Fault c) e tt) damaged)
+      (λ e. elim (causes.printer c e) as (λ _. ⊥) [ inl a ↦ not-disk c cause.PrintFault (λ no. no) a damaged | inr a ↦ not-disk c cause.NoMemory (λ no. no) a damaged ])
+      ended
