@@ -165,7 +165,8 @@ module _ (p : Process) (relay : IsRelay p) where
       → IsPrefixOf (text_tried h ++ line_text line) (text_of (p.sends (taken h ++ taken_by r)))
   line-part line r h follows next =
       let before = tried-sent h follows (open-next p h (act.Print line) next tt) in
-      let now : text_tried h ++ line_text line ≡ text_of (sent h ++ OfLine line ∷ []) = ap (λ front. front ++ line_text line) before ∙ sym (one-line line (sent h)) in
+      let now : text_tried h ++ line_text line ≡ text_of (sent h ++ OfLine line ∷ []) =
+      ap (λ front. front ++ line_text line) before ∙ sym (one-line line (sent h)) in
       let whole = text-part (sent h ++ OfLine line ∷ []) (p.sends (taken h ++ []))
       (sent-is-part p (Does (act.Print line) reply.Done ∷ h) relay (next, tt, follows)) in
       subst (λ text. IsPrefixOf text (text_of (p.sends (taken h ++ taken_by r)))) (sym now)

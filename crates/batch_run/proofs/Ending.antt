@@ -132,7 +132,8 @@ printer-takes act.TakePage does = absurd does
 printer-takes a does = tt
 
 -- ---- the four actions that may be told of a stop, and the three that may fail
-by-told : (P : Action → Type 0) (a : Action) → Fits a reply.Stopped → ((f : Feed) → P (act.PutFeed f)) → P act.TakeFeed → P act.AwaitRoom → P act.AwaitItem → P a
+by-told : (P : Action → Type 0) (a : Action) → Fits a reply.Stopped → ((f : Feed) → P (act.PutFeed f)) → P act.TakeFeed → P act.AwaitRoom
+    → P act.AwaitItem → P a
 by-told P (act.PutFeed f) fits put take room item = put f
 by-told P act.TakeFeed fits put take room item = take
 by-told P act.AwaitRoom fits put take room item = room

@@ -54,7 +54,7 @@ use Rattle.batch_run.specs.Begun.{AreFresh, BeginsBy}
 use Rattle.batch_run.specs.Desks.{DeskRan}
 use Rattle.batch_run.specs.DoesOnly.{card-does, input-does, job-does, output-does, printer-does}
 use Rattle.batch_run.specs.Lines.{does_printer, newest_print}
-use Rattle.batch_run.specs.Met.{IsSeatOf, AreEndsOf, AllMeet, IsParted}
+use Rattle.batch_run.specs.Met.{IsSeatAt, AreEndsOf, AllMeet, IsParted}
 use Rattle.batch_run.specs.Pages.{does_input, does_job, does_output}
 use Rattle.batch_run.specs.Row.{RowRan}
 use Rattle.batch_run.proofs.Devices.{deck-reads, paper-gained}
@@ -71,7 +71,8 @@ caused-so : (p : Process) (h : List Entry) (how : Outcome) (c : Cause) → IsRel
 caused-so p h how c relay follows ended e = fault-cause (caused h) c (ended-as p h how relay follows ended ∙ e)
 
 -- the three actions of which a device may fail
-by-failed : (P : Action → Type 0) (a : Action) → Fits a reply.Failed → ((page : Page) → P (act.PutPage page)) → P act.TakePage → ((line : List ℕ) → P (act.Print line)) → P a
+by-failed : (P : Action → Type 0) (a : Action) → Fits a reply.Failed → ((page : Page) → P (act.PutPage page)) → P act.TakePage
+    → ((line : List ℕ) → P (act.Print line)) → P a
 by-failed P (act.PutPage page) fits put take print = put page
 by-failed P act.TakePage fits put take print = take
 by-failed P (act.Print line) fits put take print = print line
@@ -98,7 +99,7 @@ either-rose x y (inl rose) = inl (rose-by x refl rose)
 either-rose x y (inr rose) = inr (rose-by y refl rose)
 
 seat-after : (desk : Desk) (number : ℕ) (start now : Place) (h : List Entry) → DeskRan start now h
-    → start.resource.now ≡ desk → start.seat.number ≡ number → IsSeatOf desk number now.seat
+    → start.resource.now ≡ desk → start.seat.number ≡ number → IsSeatAt desk number now.seat
 seat-after desk number start now h ran disk is = record {
   gate = ran.at.gate ∙ ap (λ d. d.gate) (sym ran.same.0 ∙ disk);
   number_is = ran.same.1 ∙ is;
@@ -134,11 +135,11 @@ module _ {S K A B : Type 0} (left : S → Option (List ℕ)) (taken source_fault
         lines_receiver = ap (λ e. e.gate) is.lines_receiver ∙ printer.gate.1 ∙ sym printer.gate.0 ∙ begins.printer_gate;
         seats = record {
           three = fresh.seats.three;
-          input = subst (IsSeatOf gates.disk 1) (sym is.input_seat)
+          input = subst (IsSeatAt gates.disk 1) (sym is.input_seat)
               (seat-after gates.disk 1 _ _ _ input.desk begins.input_disk (ap (λ s. s.number) (begins.input_seat ∙ fresh.seats.input)));
-          job = subst (IsSeatOf gates.disk 2) (sym is.job_seat)
+          job = subst (IsSeatAt gates.disk 2) (sym is.job_seat)
               (seat-after gates.disk 2 _ _ _ job.desk begins.job_disk (ap (λ s. s.number) (begins.job_seat ∙ fresh.seats.job)));
-          output = subst (IsSeatOf gates.disk 3) (sym is.output_seat)
+          output = subst (IsSeatAt gates.disk 3) (sym is.output_seat)
               (seat-after gates.disk 3 _ _ _ output.desk begins.output_disk (ap (λ s. s.number) (begins.output_seat ∙ fresh.seats.output)));
         };
       }
@@ -243,7 +244,8 @@ module _ {S K A B : Type 0} (left : S → Option (List ℕ)) (taken source_fault
       card = λ c e. faults_of_the_five.card _ c five.card_follows (caused-so card _ _ c card-relay five.card_follows (ended-at 1 (lit≤ tt, lit≤ tt)) e);
       input = λ c e. faults_of_the_five.input _ c five.input_follows (caused-so input _ _ c input-relay five.input_follows (ended-at 2 (lit≤ tt, lit≤ tt)) e);
       job = λ c e. faults_of_the_five.job _ c five.job_follows (caused-so job _ _ c job-relay five.job_follows (ended-at 3 (lit≤ tt, lit≤ tt)) e);
-      output = λ c e. faults_of_the_five.output _ c five.output_follows (caused-so output _ _ c output-relay five.output_follows (ended-at 4 (lit≤ tt, lit≤ tt)) e);
+      output = λ c e. faults_of_the_five.output _ c five.output_follows
+          (caused-so output _ _ c output-relay five.output_follows (ended-at 4 (lit≤ tt, lit≤ tt)) e);
       printer = λ c e. faults_of_the_five.printer _ c five.printer_follows
           (caused-so printer _ _ c printer-relay five.printer_follows (ended-at 5 (lit≤ tt, lit≤ tt)) e);
     }
@@ -298,7 +300,8 @@ module _ {S K A B : Type 0} (left : S → Option (List ℕ)) (taken source_fault
         let h = five.printer_history in
         let gave = caused-so printer h outcomes.printer cause.PrintFault printer-relay five.printer_follows (ended-at 5 (lit≤ tt, lit≤ tt)) e in
         let failed = has-failed printer printer-does cause.PrintFault tt h five.printer_follows gave in
-        let newest = by-failed (λ a. (later before : List Entry) → h ≡ later ++ Does a reply.Failed ∷ before → does_printer a → newest_print h ≡ Some reply.Failed)
+        let newest = by-failed (λ a. (later before : List Entry) → h ≡ later ++ Does a reply.Failed ∷ before → does_printer a
+        → newest_print h ≡ Some reply.Failed)
         failed.action failed.fits (λ page later before at does. absurd does) (λ later before at does. absurd does)
         (λ line later before at does. print-failed h later before line five.printer_follows at) failed.later failed.before failed.is failed.does_it in
         rose-by (ap (λ p. sink_faults p.sink) begins.paper_is) (ap (λ p. sink_faults p.sink) (sym is.paper))

@@ -222,7 +222,8 @@ module _ (p : Process) (b : ℕ) where
 heads : {X : Type 0} (x y : X) (xs ys : List X) → (x ∷ xs) ≡ (y ∷ ys) → (x ≡ y) × (xs ≡ ys)
 heads x y xs ys e = (cc, cc)
 
-own-marks : (took : List Received) → map received_mark took ≡ map mark (map received_page took) → map received_parcel took ≡ map page_parcel (map received_page took)
+own-marks : (took : List Received) → map received_mark took ≡ map mark (map received_page took)
+    → map received_parcel took ≡ map page_parcel (map received_page took)
 own-marks [] e = refl
 own-marks (x ∷ took) e =
     let (first, rest) = heads x.last (mark x.page) (map received_mark took) (map mark (map received_page took)) e in

@@ -37,7 +37,8 @@ abbrev pub IsFreshDisk : RunningDisk → Type 0
 IsFreshDisk running = AreFreshSeats running.disk running.seats
 
 -- all that the five begin with, the spools over areas of so many pages
-pub record AreFresh {A B : Type 0} (input_size output_size : ℕ) (gates : Gates A B) (ends : Ends A B) : Type 0 where
+pub record AreFresh {A B : Type 0} (input_size output_size : ℕ) (gates : Gates A B)
+    (ends : Ends A B) : Type 0 where
   pub cards_sender : ends.cards.0 ≡ record { gate = gates.cards; calls = [] }
   pub cards_receiver : ends.cards.1 ≡ record { gate = gates.cards; calls = [] }
   pub input_sender : ends.input.0 ≡ record { gate = known input_size gates.input; calls = [] }
@@ -49,8 +50,8 @@ pub record AreFresh {A B : Type 0} (input_size output_size : ℕ) (gates : Gates
   pub seats : AreFreshSeats gates.disk ends.seats
 
 -- ---- the five processes at these gates, each with its own ends and devices
-pub record BeginsBy {S K A B : Type 0} (gates : Gates A B) (ends : Ends A B) (deck : Held S) (paper : Printing K)
-    (row : Row S K A B) : Type 0 where
+pub record BeginsBy {S K A B : Type 0} (gates : Gates A B) (ends : Ends A B) (deck : Held S)
+    (paper : Printing K) (row : Row S K A B) : Type 0 where
   pub deck_is : row.cards.deck ≡ deck
   pub paper_is : row.paper.paper ≡ paper
   pub card_gate : row.cards.gate.now ≡ gates.cards

@@ -32,8 +32,8 @@ struct Parted<S: Source, K: Sink, A: Area + Send, B: Area + Send> {
     paper: PrinterUnit<K>,
 }
 
-/// Runs the deck to the paper on five threads. Where memory is refused, no process has begun, and the units come
-/// back as they were.
+/// Runs the deck to the paper on five threads. Where memory is refused, no process has begun, and the
+/// units come back as they were.
 pub fn run_batch<
     S: Source + Drop + Send,
     K: Sink + Drop + Send,
@@ -61,12 +61,14 @@ pub fn run_batch<
       output_faults = B.faults;
     } units ran) }
 
-    // The paper gained what one thread prints or a part of it, all of it where all are done, and then nothing is
-    // left of the deck.
+    // The paper gained what one thread prints or a part of it, all of it where all are done, and then
+    // nothing is left of the deck.
     ensures prints { IfOk result (λ ran. (items : List Item) →
         items_ahead (S.left units.deck.source) units.deck.pending ≡ Some items → AreItems items →
-        AreTold (spools_over (A.size units.input) (A.pages units.input) (B.size units.output) (B.pages units.output)) →
-        Gains (K.given units.paper.sink) (K.given ran.paper.sink) (text (one_thread_lines items)) (ran.outcomes ≡ all_done)) }
+        AreTold (spools_over (A.size units.input) (A.pages units.input)
+        (B.size units.output) (B.pages units.output)) →
+        Gains (K.given units.paper.sink) (K.given ran.paper.sink)
+        (text (one_thread_lines items)) (ran.outcomes ≡ all_done)) }
     ensures reads { IfOk result (λ ran. (items : List Item) →
         items_ahead (S.left units.deck.source) units.deck.pending ≡ Some items → ran.outcomes ≡ all_done →
         items_ahead (S.left ran.deck.source) ran.deck.pending ≡ Some []) }
@@ -124,7 +126,8 @@ fn run_made<
     ensures prints { (items : List Item) →
         items_ahead (S.left deck.source) deck.pending ≡ Some items → AreItems items →
         IsSome (A.pages gates.input.area) → IsSome (B.pages gates.output.area) →
-        Gains (K.given paper.sink) (K.given result.paper.sink) (text (one_thread_lines items)) (result.outcomes ≡ all_done) }
+        Gains (K.given paper.sink) (K.given result.paper.sink)
+        (text (one_thread_lines items)) (result.outcomes ≡ all_done) }
     ensures reads { (items : List Item) →
         items_ahead (S.left deck.source) deck.pending ≡ Some items → result.outcomes ≡ all_done →
         items_ahead (S.left result.deck.source) result.deck.pending ≡ Some [] }

@@ -53,7 +53,8 @@ impl<A: Area + Send> RunningSpool<A> {
     pub(crate) fn make(alloc: Global, area: A) -> Result<RunningSpool<A>, (A, NoMemory)>
         requires some { 0 < A.size area }
         requires few { A.size area ≤ 256 }
-        ensures made { IfOk result (λ spool. IsFreshSpool (A.size spool.gate.area) spool × (spool.gate.area ≡ area)) }
+        ensures made { IfOk result (λ spool.
+            IsFreshSpool (A.size spool.gate.area) spool × (spool.gate.area ≡ area)) }
         ensures refused { IfErr result (λ back. back.0 ≡ area) }
     {
         match SpoolGate::make(alloc, area) {

@@ -1,4 +1,5 @@
-//! The gates of the five processes and their ends there: made before the processes begin, and ended once all have.
+//! The gates of the five processes and their ends there: made before the processes begin, and ended once all
+//! have.
 ghost use Rattle.batch_run.specs.Begun.{BeginsBy};
 ghost use Rattle.batch_run.specs.Met.{AreEndsOf, AllMeet};
 

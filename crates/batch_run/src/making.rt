@@ -16,7 +16,8 @@ pub(crate) fn make_all<A: Area + Send, B: Area + Send>(
 ) -> Result<(Gates<A, B>, Ends<A, B>), ((A, B), NoMemory)>
     requires input { (0 < A.size input) × (A.size input ≤ 256) }
     requires output { (0 < B.size output) × (B.size output ≤ 256) }
-    ensures made { IfOk result (λ made. AreFresh (A.size made.0.input.area) (B.size made.0.output.area) made.0 made.1) }
+    ensures made { IfOk result (λ made.
+        AreFresh (A.size made.0.input.area) (B.size made.0.output.area) made.0 made.1) }
     ensures areas { IfOk result (λ made. (made.0.input.area ≡ input) × (made.0.output.area ≡ output)) }
     ensures refused { IfErr result (λ back. back.0 ≡ (input, output)) }
 {
@@ -57,8 +58,10 @@ fn make_disk_and_spools<A: Area + Send, B: Area + Send>(
     requires input { (0 < A.size input) × (A.size input ≤ 256) }
     requires output { (0 < B.size output) × (B.size output ≤ 256) }
     ensures disk { IfOk result (λ made. IsFreshDisk made.0) }
-    ensures input { IfOk result (λ made. IsFreshSpool (A.size made.1.gate.area) made.1 × (made.1.gate.area ≡ input)) }
-    ensures output { IfOk result (λ made. IsFreshSpool (B.size made.2.gate.area) made.2 × (made.2.gate.area ≡ output)) }
+    ensures input { IfOk result (λ made.
+        IsFreshSpool (A.size made.1.gate.area) made.1 × (made.1.gate.area ≡ input)) }
+    ensures output { IfOk result (λ made.
+        IsFreshSpool (B.size made.2.gate.area) made.2 × (made.2.gate.area ≡ output)) }
     ensures refused { IfErr result (λ back. back.0 ≡ (input, output)) }
 {
     let disk = match RunningDisk::make(alloc) {
@@ -82,8 +85,10 @@ fn make_spools<A: Area + Send, B: Area + Send>(
 ) -> Result<(RunningSpool<A>, RunningSpool<B>), ((A, B), NoMemory)>
     requires input { (0 < A.size input) × (A.size input ≤ 256) }
     requires output { (0 < B.size output) × (B.size output ≤ 256) }
-    ensures input { IfOk result (λ made. IsFreshSpool (A.size made.0.gate.area) made.0 × (made.0.gate.area ≡ input)) }
-    ensures output { IfOk result (λ made. IsFreshSpool (B.size made.1.gate.area) made.1 × (made.1.gate.area ≡ output)) }
+    ensures input { IfOk result (λ made.
+        IsFreshSpool (A.size made.0.gate.area) made.0 × (made.0.gate.area ≡ input)) }
+    ensures output { IfOk result (λ made.
+        IsFreshSpool (B.size made.1.gate.area) made.1 × (made.1.gate.area ≡ output)) }
     ensures refused { IfErr result (λ back. back.0 ≡ (input, output)) }
 {
     let input = match RunningSpool::make(alloc, input) {

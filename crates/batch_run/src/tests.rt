@@ -125,8 +125,8 @@ fn some_fault(outcomes: &Outcomes, cause: Cause) -> bool {
         || outcomes.printer == fault
 }
 
-// One call fails: the paper has the beginning of what one thread prints, some outcome is this fault, and a buffer
-// was stopped.
+// One call fails: the paper has the beginning of what one thread prints, some outcome is this fault, and a
+// buffer was stopped.
 fn stops<R: Threads + Wait + Sync + Abort>(
     rt: &R,
     alloc: Global,

@@ -31,10 +31,12 @@ pub returns-clause-prints : goal.returns-clause-prints
 returns-clause-prints g c items ahead valid input_told output_told =
     prints g.S.Source.left g.S.Source.taken g.S.Source.faults g.K.Sink.given g.K.Sink.faults g.A.Area.size g.B.Area.size
     c.args.gates c.args.ends c.args.deck c.args.paper c.row.result c.run_five-ended.result c.take_apart-ends.result c.requires.fresh c.row.ensures
-    c.run_five-ended.ensures c.take_apart-ends.ensures g.A.Area.pages g.A.Area.faults g.B.Area.pages g.B.Area.faults c.meet-input.result c.meet-input.ensures input_told output_told items ahead valid
+    c.run_five-ended.ensures c.take_apart-ends.ensures g.A.Area.pages g.A.Area.faults g.B.Area.pages g.B.Area.faults c.meet-input.result c.meet-input.ensures
+    input_told output_told items ahead valid
 
 pub returns-clause-reads : goal.returns-clause-reads
 returns-clause-reads g c items ahead done =
     reads g.S.Source.left g.S.Source.taken g.S.Source.faults g.K.Sink.given g.K.Sink.faults g.A.Area.size g.B.Area.size
     c.args.gates c.args.ends c.args.deck c.args.paper c.row.result c.run_five-ended.result c.take_apart-ends.result c.requires.fresh c.row.ensures
-    c.run_five-ended.ensures c.take_apart-ends.ensures g.A.Area.pages g.A.Area.faults g.B.Area.pages g.B.Area.faults c.meet-input.result c.meet-input.ensures items ahead done
+    c.run_five-ended.ensures c.take_apart-ends.ensures g.A.Area.pages g.A.Area.faults g.B.Area.pages g.B.Area.faults c.meet-input.result c.meet-input.ensures
+    items ahead done
