@@ -31,7 +31,7 @@ use Rattle.batch_procs.specs.Table.{card, input, job, output, printer}
 use Rattle.batch_procs.proofs.Faulty.{faults_of_the_five}
 use Rattle.core_law.specs.Core.{IsBuffer}
 use Rattle.core_law.specs.Ends.{IsProcess, outcome_by}
-use Rattle.core_law.specs.Holds.{one_thread_lines}
+use Rattle.batch_job.specs.OneThread.{one_thread_lines}
 use Rattle.core_law.proofs.Ends.{the-five}
 use Rattle.core_law.proofs.Outcomes.{ended-as}
 use Rattle.core_law.proofs.Passing.{EndDone, gains-of, reads-all}

@@ -33,7 +33,8 @@ use Rattle.network_law.proofs.Reached.{stands-event}
 use Rattle.core_law.specs.Bound.{longest_run}
 use Rattle.core_law.specs.Core.{call, core, went, CoreState, CoreEvent, IsBuffer}
 use Rattle.core_law.specs.Ends.{IsProcess}
-use Rattle.core_law.specs.Holds.{AreTold, one_thread_lines}
+use Rattle.batch_job.specs.OneThread.{one_thread_lines}
+use Rattle.core_law.specs.Holds.{AreTold}
 use Rattle.core_law.specs.Opening.{Spools, AreInBounds, opened, IsReached}
 use Rattle.core_law.specs.Work.{sleepers}
 use Rattle.core_law.proofs.Acting.{follows-of}
@@ -85,7 +86,8 @@ more-or-sleeps : (q : Process) (p : ℕ) (entry : Entry) (s now : ℕ) → IsFit
     → Slept (is_delayed (went entry)) (wakes (call p (action_of entry)) (went entry)) s now → s + 1 ≤ counts entry + now
 more-or-sleeps q p (Does a r) s now fits slept =
     let wakes_few = wakes-does p a r fits in
-    let rest : s ≤ now + wakes (call p a) (went (Does a r)) = subst (λ d. Slept d (wakes (call p a) (went (Does a r))) s now) (answered (Does a r) (λ b e. cc)) slept in
+    let rest : s ≤ now + wakes (call p a) (went (Does a r)) = subst (λ d. Slept d (wakes (call p a) (went (Does a r))) s now) (answered (Does a r)
+    (λ b e. cc)) slept in
     omega (arith, wakes_few, rest)
 more-or-sleeps q p (LacksMemory a r) s now fits slept =
     let wakes_few = wakes-lacks p a r fits.1 in
@@ -261,7 +263,8 @@ module _ (opening s : CoreState) (st : Stands (core process) opening s) (d : Dev
       let t4 = part-length _ _ took-4 in
       let t5 = part-length _ _ took-5 in
       let p1 = part-sum false _ _ (put-of 1 _ took-1) in
-      let p1_is : put_sum false (card_sends (deck_parcels items)) ≡ 2 * length (whole items) = ap (put_sum false) (card-gives items are) ∙ sum-feeds (whole items) in
+      let p1_is : put_sum false (card_sends (deck_parcels items)) ≡ 2 * length (whole items) = ap (put_sum false) (card-gives items are)
+      ∙ sum-feeds (whole items) in
       let p2 = part-sum false _ _ (put-of 2 _ took-2) in
       let p2_is = ap (put_sum false) (input-gives items are) in
       let p2_most = packed-six first_page (whole items) in
@@ -294,7 +297,8 @@ no-longer spools deck paper items events bounds are_told deck_is are enabled =
     let last = centre-run opening opening events enabled (opening-centre spools deck paper) in
     let told = λ (b : ℕ) (at : IsBuffer b). told-is spools b (all-told spools are_told b at) in
     let counted = events-counted opening opening events enabled (opening-centre spools deck paper).stands in
-    let few = made-few opening (run (core process) opening events) last.stands last.devices (hands-over opening (run (core process) opening events) last.stands told) items deck_is are in
+    let few = made-few opening (run (core process) opening events) last.stands last.devices (hands-over opening (run
+    (core process) opening events) last.stands told) items deck_is are in
     let asleep = seven-sleep opening (run (core process) opening events) last.stands (all-sized spools bounds) in
     omega (arith, counted, few, asleep)
 

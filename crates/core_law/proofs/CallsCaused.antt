@@ -61,7 +61,8 @@ spent-none p h a r takes puts_are =
 taken-cost : (c w n k : ℕ) → c ≡ 6 → k ≡ n + (c + w) * 1 + 0 → k ≡ n + (6 + w)
 taken-cost c w n k e is = omega (arith, e, is)
 
-causes : (p : Process) (h : List Entry) (a : Action) (r : Reply) (how : Outcome) → Follows p (Does a r ∷ h) → given_cause a r h ≡ Some how → CauseOf p h (Does a r)
+causes : (p : Process) (h : List Entry) (a : Action) (r : Reply) (how : Outcome) → Follows p (Does a r ∷ h) → given_cause a r h ≡ Some how
+    → CauseOf p h (Does a r)
 causes p h act.ReadCard (reply.Card answer) how follows given = by answer given
   where
     by : (answer : Rattle.solo_devices.specs.declared.card_read.CardRead.CardRead) → given_cause act.ReadCard (reply.Card answer) h ≡ Some how
@@ -127,7 +128,8 @@ lacks p h act.TakePage (reply.Page page last) next may =
       more = 6 + one_if p.works;
       held = refl;
       few = omega arith;
-      spent_is = lack-cost (take_cost p.takes) (one_if p.works) (length (taken h)) (put_sum p.works (sent h)) _ cost (length-append (taken h) (OfPage page last ∷ []));
+      spent_is = lack-cost (take_cost p.takes) (one_if p.works) (length (taken h)) (put_sum p.works (sent h)) _ cost (length-append (taken h)
+          (OfPage page last ∷ []));
     }
   where
     lack-cost : (c w n k m : ℕ) → c ≡ 6 → m ≡ n + 1 → (c + w) * m + k ≡ (c + w) * n + k + (6 + w)

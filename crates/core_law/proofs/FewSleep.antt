@@ -83,7 +83,8 @@ plain-stops (b ∷ later) how h =
     elim (has_stopped b h) as P [ true ↦ plain-stops later how h | false ↦ tt ]
 
 module _ (p : Process) (relay : IsRelay p) (aims : (h : List Entry) → IsPlain (aim p h)) where
-  plain-now : (h : List Entry) (a : Action) (cause : Option Outcome) → Follows p h → NewestPlain (newest h) → caused h ≡ cause → next_action p h ≡ Some a → IsPlain a
+  plain-now : (h : List Entry) (a : Action) (cause : Option Outcome) → Follows p h → NewestPlain (newest h) → caused h ≡ cause → next_action p h ≡ Some a
+      → IsPlain a
   plain-now h a None follows was cause next = plain-working (newest h) (aim p h) a was (aims h) (works-next p h a next cause)
   plain-now h a (Some how) follows was cause next =
       let closing_is : closing (newest h) (closes p.buffers how h) ≡ Some a = sym (ap (λ c. next_by p c h) cause) ∙ next in
@@ -210,7 +211,8 @@ module _ (opening s : CoreState) (st : Stands (core process) opening s) where
   first-of : (capacity : ℕ) (marks : List Bool) (sides : Sides) → WaitsWithCause (Lacks capacity marks) sides → 1 ≤ capacity → sleepers_at sides ≤ 1
   first-of capacity marks sides w some =
       two-wait sides.turn sides.sender sides.receiver capacity marks some
-      (λ q e. elim (w.cause Sender q e) as (λ _. (length marks ≡ capacity) ⊎ (sides.turn ≡ Handed Sender)) [ inl lacks ↦ inl lacks.0 | inr handed ↦ inr handed ])
+      (λ q e. elim (w.cause Sender q e) as (λ _. (length marks ≡ capacity) ⊎
+      (sides.turn ≡ Handed Sender)) [ inl lacks ↦ inl lacks.0 | inr handed ↦ inr handed ])
       (λ q e. elim (w.cause Receiver q e) as (λ _. (marks ≡ []) ⊎ (sides.turn ≡ Handed Receiver)) [ inl lacks ↦ inl lacks.0 | inr handed ↦ inr handed ])
 
   module _ (sizes : (b : ℕ) → IsBuffer b → 1 ≤ (opening.buffers b).capacity) where

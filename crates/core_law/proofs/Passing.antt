@@ -17,7 +17,7 @@ use Rattle.batch_procs.proofs.Relay.{sent-is-part}
 use Rattle.batch_procs.proofs.Ended.{ended-rightly, done-free, nothing-left}
 use Rattle.core_law.specs.Core.{IsBuffer}
 use Rattle.core_law.specs.Ends.{IsProcess}
-use Rattle.core_law.specs.Holds.{one_thread_lines}
+use Rattle.batch_job.specs.OneThread.{one_thread_lines}
 use Rattle.core_law.proofs.Row.{IsRow}
 use Rattle.core_law.proofs.Ends.{the-five}
 use Rattle.core_law.proofs.Streams.{deck_parcels, text_of, output_of, ReadsOf, Gained}

@@ -17,7 +17,8 @@ use Rattle.network_law.proofs.Reached.{stands-event, opening-stands}
 use Rattle.core_law.specs.Core.{core, CoreState, CoreEvent, IsBuffer, seat}
 use Rattle.core_law.specs.Opening.{Spools, AreInBounds, size_of, told_of, opened, IsReached}
 use Rattle.core_law.specs.Ends.{IsProcess, HasEnded, AllDone, IsSmooth}
-use Rattle.core_law.specs.Holds.{one_thread_lines, AreTold, GoesOn, Holds, IsStuck}
+use Rattle.batch_job.specs.OneThread.{one_thread_lines}
+use Rattle.core_law.specs.Holds.{AreTold, GoesOn, Holds, IsStuck}
 use Rattle.core_law.proofs.Streams.{text_of, DevicesStand}
 use Rattle.core_law.proofs.Row.{feeds-at, each-buffer}
 use Rattle.core_law.proofs.Ends.{the-five}

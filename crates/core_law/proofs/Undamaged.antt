@@ -172,7 +172,8 @@ module _ (opening s : CoreState) (st : Stands (core process) opening s) (d : Dev
   first = read-part items s.devices.deck (taken (s.histories 1)) _ refl (d.read items deck)
 
   third : IsPrefixOf (taken (s.histories 3)) (input_sends (card_sends (deck_parcels items)))
-  third = next-part the-five s.histories (follows opening s st) hand_over 2 _ (lit≤ tt, lit≤ tt) (next-part the-five s.histories (follows opening s st) hand_over 1 _ (lit≤ tt, lit≤ tt) first)
+  third = next-part the-five s.histories (follows opening s st) hand_over 2 _ (lit≤ tt, lit≤ tt) (next-part the-five s.histories
+      (follows opening s st) hand_over 1 _ (lit≤ tt, lit≤ tt) first)
 
   fourth : IsPrefixOf (taken (s.histories 4)) (job_sends (input_sends (card_sends (deck_parcels items))))
   fourth = next-part the-five s.histories (follows opening s st) hand_over 3 _ (lit≤ tt, lit≤ tt) third
@@ -194,9 +195,17 @@ module _ (opening s : CoreState) (st : Stands (core process) opening s) (d : Dev
   undamaged p c one ended damaged =
       let causes = have-causes opening s st in
       each-process (λ p. HasEndedSo s (outcome.Fault c) p → ⊥) p one
-      (λ e. elim (causes.card c e) as (λ _. ⊥) [ inl a ↦ not-disk c cause.ReadFault (λ no. no) a damaged | inr a ↦ not-disk c cause.DeckLimit (λ no. no) a damaged ])
+      (λ e. elim (causes.card c e) as (λ _. ⊥) [
+        | inl a ↦ not-disk c cause.ReadFault (λ no. no) a damaged
+        | inr a ↦ not-disk c cause.DeckLimit
+            (λ no. no) a damaged
+      ])
       (λ e. not-disk c cause.DiskFault (λ no. no) (causes.input c e) damaged)
       (λ e. job-undamaged c (caused-so opening s st 3 (outcome.Fault c) e tt) damaged)
       (λ e. output-undamaged c (caused-so opening s st 4 (outcome.Fault c) e tt) damaged)
-      (λ e. elim (causes.printer c e) as (λ _. ⊥) [ inl a ↦ not-disk c cause.PrintFault (λ no. no) a damaged | inr a ↦ not-disk c cause.NoMemory (λ no. no) a damaged ])
+      (λ e. elim (causes.printer c e) as (λ _. ⊥) [
+        | inl a ↦ not-disk c cause.PrintFault (λ no. no) a damaged
+        | inr a ↦ not-disk c cause.NoMemory
+            (λ no. no) a damaged
+      ])
       ended

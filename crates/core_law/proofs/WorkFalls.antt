@@ -28,7 +28,7 @@ use Rattle.network_law.specs.Kept.{Stands}
 use Rattle.network_law.proofs.Reached.{stands-event}
 use Rattle.core_law.specs.Core.{call, core, went, items_by, CoreState, CoreEvent, IsBuffer}
 use Rattle.core_law.specs.Opening.{Spools, opened, IsReached}
-use Rattle.core_law.specs.Work.{weight, reads_left, calls_left, sleepers, work_left, LeavesFewer}
+use Rattle.core_law.specs.Work.{weight, reads_left, calls_left, sleepers, events_left, LeavesFewer}
 use Rattle.core_law.proofs.Acting.{follows-of, delays-of}
 use Rattle.core_law.proofs.DeskRoom.{desk-room}
 use Rattle.core_law.proofs.Ends.{the-five}
@@ -128,12 +128,14 @@ module _ (h : List Entry) (cards left : ℕ) where
   by-card : (r : Reply) → Fits act.ReadCard r → caused h ≡ None → is_ended (taken h) ≡ false → (0 < length (items_by r) → left < cards)
       → Reads h (Does act.ReadCard r) cards left
   by-card (reply.Card (read.Card line)) fits none on fewer =
-      let most = reads-most (caused (Does act.ReadCard (reply.Card (read.Card line)) ∷ h)) (is_ended (taken (Does act.ReadCard (reply.Card (read.Card line)) ∷ h))) left in
+      let most = reads-most (caused (Does act.ReadCard (reply.Card (read.Card line)) ∷ h)) (is_ended (taken (Does act.ReadCard (reply.Card
+      (read.Card line)) ∷ h))) left in
       let less = fewer (lit≤ tt) in
       let all : reads_left (caused h) (is_ended (taken h)) cards ≡ cards + 1 = rw (none, on) refl in
       omega (arith, most, less, all)
   by-card (reply.Card read.Spoiled) fits none on fewer =
-      let most = reads-most (caused (Does act.ReadCard (reply.Card read.Spoiled) ∷ h)) (is_ended (taken (Does act.ReadCard (reply.Card read.Spoiled) ∷ h))) left in
+      let most = reads-most (caused (Does act.ReadCard (reply.Card read.Spoiled) ∷ h)) (is_ended (taken (Does act.ReadCard
+      (reply.Card read.Spoiled) ∷ h))) left in
       let less = fewer (lit≤ tt) in
       let all : reads_left (caused h) (is_ended (taken h)) cards ≡ cards + 1 = rw (none, on) refl in
       omega (arith, most, less, all)
@@ -150,7 +152,8 @@ module _ (h : List Entry) (cards left : ℕ) where
   by-other a r none same =
       let ended : is_ended (taken h ++ taken_by r) ≡ is_ended (taken h) = ap (λ more. is_ended (taken h ++ more)) none ∙ ap is_ended (append-nil (taken h)) in
       let few = reads-cause (caused h) (given_cause a r h) (is_ended (taken h)) cards in
-      let now : reads_left (caused (Does a r ∷ h)) (is_ended (taken (Does a r ∷ h))) left ≡ reads_left (or_new (caused h) (given_cause a r h)) (is_ended (taken h)) cards
+      let now : reads_left (caused (Does a r ∷ h)) (is_ended (taken (Does a r ∷ h))) left ≡ reads_left (or_new (caused h) (given_cause a r h)) (is_ended
+      (taken h)) cards
       = ap (λ t. reads_left (or_new (caused h) (given_cause a r h)) t left) ended
       ∙ ap (λ n. reads_left (or_new (caused h) (given_cause a r h)) (is_ended (taken h)) n) same in
       let took_none : length (taken_by r) ≡ 0 = ap length none in
@@ -185,7 +188,8 @@ reads-not : (p : ℕ) (h : List Entry) (a : Action) → ((process p).takes ≡ a
 reads-not p h a not next e =
     not ((next-take (process p) h act.ReadCard (next ∙ ap Some e) tt).same)
 
-leaves-same : (entry : Entry) (cards left : ℕ) → (Rattle.batch_procs.specs.History.action_of entry ≡ act.ReadCard → ⊥) → LeavesFewer entry cards left → left ≡ cards
+leaves-same : (entry : Entry) (cards left : ℕ) → (Rattle.batch_procs.specs.History.action_of entry ≡ act.ReadCard → ⊥) → LeavesFewer entry cards left
+    → left ≡ cards
 leaves-same (Does act.ReadCard r) cards left not leaves = absurd (not refl)
 leaves-same (Does a r) cards left not leaves = leaves
 leaves-same (LacksMemory a r) cards left not leaves = leaves
@@ -282,7 +286,8 @@ three = buffer-is 3 (lit≤ tt) (lit≤ tt)
 abbrev four : IsBuffer 4
 four = buffer-is 4 (lit≤ tt) (lit≤ tt)
 
-module _ (opening s : CoreState) (st : Stands (core process) opening s) (entry : Entry) (gained : List ℕ) (cards left : ℕ) (leaves : LeavesFewer entry cards left) where
+module _ (opening s : CoreState) (st : Stands (core process) opening s) (entry : Entry) (gained : List ℕ) (cards left : ℕ)
+    (leaves : LeavesFewer entry cards left) where
   abbrev event_of : ℕ → CoreEvent
   event_of p = record { process = p; entry = entry; gained = gained }
 
@@ -301,7 +306,8 @@ module _ (opening s : CoreState) (st : Stands (core process) opening s) (entry :
   same-at p b enabled is above own =
       let now = inside-next opening s (event_of p) st enabled b is in
       let before = inside opening s (event_of p) st enabled b is in
-      same-inside _ _ _ _ before (ap (λ h. length (taken h) + length ((happens (core process) s (event_of p)).buffers b).marks) (sym above) ∙ now ∙ ap (λ h. length (sent h)) own)
+      same-inside _ _ _ _ before (ap (λ h. length (taken h) + length ((happens (core process) s (event_of p)).buffers b).marks) (sym above) ∙ now
+      ∙ ap (λ h. length (sent h)) own)
 
   more-at : (p : ℕ) (enabled : IsEnabled (core process) s (event_of p)) → IsBuffer p
       → (happens (core process) s (event_of p)).histories (suc p) ≡ s.histories (suc p)
@@ -326,7 +332,8 @@ module _ (opening s : CoreState) (st : Stands (core process) opening s) (entry :
       (taken-more (s.histories (suc b)) entry)
 
   deck-same : (p : ℕ) → IsEnabled (core process) s (event_of p) → ((process p).takes ≡ act.ReadCard → ⊥)
-      → reads_left (caused (s.histories 1)) (is_ended (taken (s.histories 1))) left ≡ reads_left (caused (s.histories 1)) (is_ended (taken (s.histories 1))) cards
+      → reads_left (caused (s.histories 1)) (is_ended (taken (s.histories 1))) left ≡ reads_left (caused (s.histories 1)) (is_ended (taken
+      (s.histories 1))) cards
   deck-same p enabled not =
       ap (reads_left (caused (s.histories 1)) (is_ended (taken (s.histories 1))))
       (leaves-same entry cards left (reads-not p (s.histories p) _ not enabled.next) leaves)
@@ -391,7 +398,7 @@ fall (Delays a) c left s now n less slept one most = omega (arith, less, slept, 
 -- each event of a reached state
 pub work-falls : (spools : Spools) (deck : Option (List Item)) (paper : Option (List ℕ)) (s : CoreState) (event : CoreEvent) (cards left : ℕ)
     → IsReached spools deck paper s → IsEnabled (core process) s event → LeavesFewer event.entry cards left
-    → work_left left (happens (core process) s event) < work_left cards s
+    → events_left left (happens (core process) s event) < events_left cards s
 work-falls spools deck paper s event cards left reached enabled leaves =
     let st = (reached-centre spools deck paper s reached).stands in
     fall event.entry (calls_left cards s) (calls_left left (happens (core process) s event)) (sleepers s) (sleepers (happens (core process) s event)) _

@@ -1,6 +1,6 @@
 -- What holds of every reached state of the core, whatever the order of the events, whichever device fails and
 -- wherever memory is refused.
-use Rattle.std.specs.Prelude.{◌≡◌, ◌⊎◌, ℕ, suc, true, List, [], Option, Some, flat_map}
+use Rattle.std.specs.Prelude.{◌≡◌, ◌⊎◌, ℕ, suc, true, List, [], Option, Some}
 use Rattle.solo_base.specs.declared.item.Item.{Item}
 use Rattle.solo_base.specs.declared.outcome.Side.{Side}
 use Rattle.solo_base.specs.declared.outcome.Outcome.TheVariants as outcome
@@ -8,10 +8,9 @@ use Rattle.solo_base.specs.declared.outcome.Cause.{Cause}
 use Rattle.solo_base.specs.Text.{text}
 use Rattle.solo_devices.specs.PrinterUnit.{Gains}
 use Rattle.page_codec.specs.Items.{AreItems}
-use Rattle.deck_format.specs.Jobs.{jobs}
 use Rattle.queue_var.specs.HandsOver.{is_one_of}
 use Rattle.resource_mon.specs.Claims.{HasOneHolder}
-use Rattle.batch_job.specs.Report.{report}
+use Rattle.batch_job.specs.OneThread.{one_thread_lines}
 use Rattle.batch_procs.specs.Faults.{IsDamaged}
 use Rattle.batch_procs.specs.Parcels.{is_last}
 use Rattle.batch_procs.specs.History.{taken, sent, has_stopped}
@@ -24,10 +23,6 @@ use Rattle.network_law.specs.Kept.{StandsFor, WasToldRightly}
 use Rattle.core_law.specs.Core.{core, CoreState, CoreEvent, IsBuffer, seat}
 use Rattle.core_law.specs.Opening.{Spools}
 use Rattle.core_law.specs.Ends.{IsProcess, HasEnded, HasEndedSo, AllDone, EndsTogether, HaveCauses, IsSmooth}
-
--- the lines that one thread prints for these items: the reports of their jobs, in order
-abbrev pub one_thread_lines : List Item → List (List ℕ)
-one_thread_lines items = flat_map report (jobs items)
 
 -- both spools tell their pages
 pub record AreTold (spools : Spools) : Type 0 where

@@ -77,8 +77,8 @@ most_sleepers = 12
 
 -- ---- what is left
 -- Each call lowers the calls that are left, and may wake one that sleeps; a delay puts one to sleep.
-abbrev pub work_left : ℕ → CoreState → ℕ
-work_left cards s = 2 * calls_left cards s + (most_sleepers - sleepers s)
+abbrev pub events_left : ℕ → CoreState → ℕ
+events_left cards s = 2 * calls_left cards s + (most_sleepers - sleepers s)
 
 -- how many cards a deck may still give before an entry and behind it: an item leaves it fewer, and no other
 -- action than a read changes it

@@ -7,10 +7,12 @@ ghost use Rattle.core_law.specs.Opening.{Spools, IsReached};
 ghost use Rattle.page_codec.specs.Items.{AreItems};
 ghost use Rattle.core_law.specs.Bound.{longest_run};
 ghost use Rattle.core_law.specs.Holds.{AreTold, Holds, IsStuck};
-ghost use Rattle.core_law.specs.Work.{work_left, LeavesFewer};
+ghost use Rattle.core_law.specs.Work.{events_left, LeavesFewer};
 
-/// Whatever the order of the events, whichever calls of the devices fail and wherever memory is refused: in each
-/// state that can be reached the paper gained a prefix of the one-thread output, each buffer hands over in order,
+/// Whatever the order of the events, whichever calls of the devices fail and wherever memory is refused:
+/// in each
+/// state that can be reached the paper gained a prefix of the one-thread output, each buffer hands over in
+/// order,
 /// one process has the disk, and a stop is told rightly. Where all five ended with their work done, the paper
 /// gained all of it. Nothing is done here: the contract is the law.
 pub fn every_interleaving()
@@ -18,8 +20,10 @@ pub fn every_interleaving()
         IsReached spools deck paper s → Holds spools deck paper s }
 {}
 
-/// No state that can be reached is stuck, whichever calls of the devices failed and wherever memory was refused:
-/// where no event may happen but by a failure, all processes have ended. Nothing is done here: the contract is
+/// No state that can be reached is stuck, whichever calls of the devices failed and wherever memory was
+/// refused:
+/// where no event may happen but by a failure, all processes have ended. Nothing is done here: the
+/// contract is
 /// the law.
 pub fn no_state_is_stuck()
     ensures { (spools : Spools) (deck : Option (List Item)) (paper : Option (List ℕ)) (s : CoreState) →
@@ -32,10 +36,11 @@ pub fn each_event_leaves_less()
     ensures { (spools : Spools) (deck : Option (List Item)) (paper : Option (List ℕ)) (s : CoreState)
         (event : CoreEvent) (before after : ℕ) → IsReached spools deck paper s
         → IsEnabled (core process) s event → LeavesFewer event.entry before after
-        → work_left after (happens (core process) s event) < work_left before s }
+        → events_left after (happens (core process) s event) < events_left before s }
 {}
 
-/// Over told devices no run is longer than the cards of its deck and the lines that one thread prints for them allow,
+/// Over told devices no run is longer than the cards of its deck and the lines that one thread prints for
+/// them allow,
 /// whichever calls fail and wherever memory is refused. Nothing is done here: the contract is the law.
 pub fn no_run_is_longer()
     ensures { (spools : Spools) (deck : Option (List Item)) (paper : Option (List ℕ)) (s : CoreState)

@@ -26,7 +26,8 @@ use Rattle.batch_procs.specs.Relays.{relays}
 use Rattle.batch_procs.proofs.Faulty.{each_cause_is_given, faults_of_the_five}
 use Rattle.core_law.specs.Core.{CoreState, IsBuffer}
 use Rattle.core_law.specs.Ends.{IsProcess, HasEndedSo, AllDone, EndsTogether, outcome_by}
-use Rattle.core_law.specs.Holds.{one_thread_lines, AreTold, Holds}
+use Rattle.batch_job.specs.OneThread.{one_thread_lines}
+use Rattle.core_law.specs.Holds.{AreTold, Holds}
 use Rattle.core_law.specs.Opening.{Spools}
 use Rattle.core_law.proofs.Outcomes.{ended-as}
 use Rattle.core_law.proofs.Reached.{reached-holds}
@@ -128,10 +129,13 @@ module _ {S K A B : Type 0} (keeps : Keeps) (tells : Tells S K A B) (net : Net S
   ended s st p one =
       each-process (λ p. HasEndedSo s (outcome_at outcomes p) p) p one
       (ends-so card keeps.card net.card outcomes.card card-is (s.histories 1) st.card (first.histories 1) (relays 1) stood.card (some.all 1 (lit≤ tt, lit≤ tt)))
-      (ends-so input keeps.input net.input outcomes.input input-is (s.histories 2) st.input (first.histories 2) (relays 2) stood.input (some.all 2 (lit≤ tt, lit≤ tt)))
+      (ends-so input keeps.input net.input outcomes.input input-is (s.histories 2) st.input (first.histories 2) (relays 2) stood.input (some.all 2
+      (lit≤ tt, lit≤ tt)))
       (ends-so job keeps.job net.job outcomes.job job-is (s.histories 3) st.job (first.histories 3) (relays 3) stood.job (some.all 3 (lit≤ tt, lit≤ tt)))
-      (ends-so output keeps.output net.output outcomes.output output-is (s.histories 4) st.output (first.histories 4) (relays 4) stood.output (some.all 4 (lit≤ tt, lit≤ tt)))
-      (ends-so printer keeps.printer net.printer outcomes.printer printer-is (s.histories 5) st.printer (first.histories 5) (relays 5) stood.printer (some.all 5 (lit≤ tt, lit≤ tt)))
+      (ends-so output keeps.output net.output outcomes.output output-is (s.histories 4) st.output (first.histories 4) (relays 4) stood.output (some.all 4
+      (lit≤ tt, lit≤ tt)))
+      (ends-so printer keeps.printer net.printer outcomes.printer printer-is (s.histories 5) st.printer (first.histories 5) (relays 5) stood.printer
+      (some.all 5 (lit≤ tt, lit≤ tt)))
 
   given : (s : CoreState) → NetStands keeps tells net s → (p : ℕ) (how : Outcome) → IsProcess p → outcome_at outcomes p ≡ how → IsNotDone (Some how)
       → GivenBy (s.histories p) how

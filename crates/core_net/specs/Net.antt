@@ -22,7 +22,7 @@ use Rattle.network_law.specs.Network.{IsEnabled, MayCall, happens}
 use Rattle.core_law.specs.Core.{call, core, CoreState, CoreEvent}
 use Rattle.core_law.specs.Ends.{IsProcess}
 use Rattle.core_law.specs.Opening.{Spools, IsReached}
-use Rattle.core_law.specs.Work.{work_left, LeavesFewer}
+use Rattle.core_law.specs.Work.{events_left, LeavesFewer}
 use Rattle.core_net.specs.declared.net.Net.{Net}
 use Rattle.core_net.specs.declared.step.Stepped.{Stepped}
 use Rattle.core_net.specs.Causes.{Counts, HasCauses}
@@ -101,7 +101,7 @@ pub record StandsReached {S K A B : Type 0} (keeps : Keeps) (tells : Tells S K A
   pub state : CoreState
   pub reached : IsReached spools deck paper state
   pub stands : NetStands keeps tells net state
-  pub within : work_left (cards_left tells.taken net.shared.deck) state ≤ most_events
+  pub within : events_left (cards_left tells.taken net.shared.deck) state ≤ most_events
 
 -- It stands for a state that is reached from some opening.
 pub record StandsSomewhere {S K A B : Type 0} (keeps : Keeps) (tells : Tells S K A B)

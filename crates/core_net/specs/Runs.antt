@@ -5,7 +5,7 @@ use Rattle.batch_procs.specs.Table.{process}
 use Rattle.network_law.specs.Network.{AreEnabled, IsEnabled, run, happens}
 use Rattle.core_law.specs.Core.{core, CoreState, CoreEvent}
 use Rattle.core_law.specs.Opening.{Spools}
-use Rattle.core_law.specs.Work.{work_left, LeavesFewer}
+use Rattle.core_law.specs.Work.{events_left, LeavesFewer}
 use Rattle.core_net.specs.declared.counts.Counts.{Counts}
 use Rattle.core_net.specs.declared.net.Net.{Net}
 use Rattle.core_net.specs.declared.rules.Rule.{Rule}
@@ -55,7 +55,7 @@ pub record HasLeft {S K A B : Type 0} (keeps : Keeps) (tells : Tells S K A B) (n
   pub deck : Option (List Item)
   pub paper : Option (List ℕ)
   pub is : StandsReached keeps tells net spools deck paper
-  pub left : work_left (cards_left tells.taken net.shared.deck) is.state + events ≤ most_events
+  pub left : events_left (cards_left tells.taken net.shared.deck) is.state + events ≤ most_events
 
 -- One enabled event of the process, which leaves the deck no more cards than it had; it is counted, and the
 -- network stands for the state behind it.

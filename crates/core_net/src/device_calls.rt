@@ -14,7 +14,8 @@ use solo_devices::{CardRead, CardUnit, PrintFault, PrinterUnit, Sink, Source};
 /// Reads the next card of the deck.
 pub fn read_card<S: Source>(deck: &mut CardUnit<S>) -> Reply
     requires live { deck.old.live ≡ true }
-    ensures reads { ReadsCard (items_ahead (S.left deck.old.source) deck.old.pending) (items_ahead (S.left deck.new.source) deck.new.pending) result }
+    ensures reads { ReadsCard (items_ahead (S.left deck.old.source) deck.old.pending)
+        (items_ahead (S.left deck.new.source) deck.new.pending) result }
     ensures failed { result ≡ reply.Card card_read.Failed
         → Rose (S.faults deck.old.source) (S.faults deck.new.source) }
     ensures counts { S.faults deck.old.source ≤ S.faults deck.new.source }

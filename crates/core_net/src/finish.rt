@@ -9,7 +9,8 @@ ghost use Rattle.batch_procs.specs.History.{Entry};
 ghost use Rattle.batch_procs.specs.Machine.{StandsFor};
 ghost use Rattle.core_law.specs.Core.{CoreState};
 ghost use Rattle.core_law.specs.Ends.{outcome_by};
-ghost use Rattle.core_law.specs.Holds.{one_thread_lines, AreTold};
+ghost use Rattle.batch_job.specs.OneThread.{one_thread_lines};
+ghost use Rattle.core_law.specs.Holds.{AreTold};
 ghost use Rattle.core_law.specs.Opening.{Spools};
 ghost use Rattle.core_net.specs.Net.{NetStands, StandsReached, the_keeps};
 ghost use Rattle.core_net.specs.Shared.{telling};
@@ -62,7 +63,8 @@ impl<S: Source, K: Sink, A: Area, B: Area> Net<S, K, A, B> {
             StandsReached the_keeps
             (telling S.left S.taken K.given A.pages B.pages) self spools deck paper →
             AreTold spools → (items : List Item) → deck ≡ Some items → AreItems items →
-            Gains paper (K.given result.paper.sink) (text (one_thread_lines items)) (result.outcomes ≡ all_done) }
+            Gains paper (K.given result.paper.sink) (text (one_thread_lines items))
+            (result.outcomes ≡ all_done) }
         ensures reads { (spools : Spools) (deck : Option (List Item)) (paper : Option (List ℕ)) →
             StandsReached the_keeps
             (telling S.left S.taken K.given A.pages B.pages) self spools deck paper →

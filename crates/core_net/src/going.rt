@@ -28,12 +28,14 @@ impl<S: Source, K: Sink, A: Area, B: Area> Net<S, K, A, B> {
     /// The process with the least number that may go on. None: all five have ended, since no network is
     /// stuck.
     pub fn first_enabled(&self) -> Option<ProcNo>
-        ensures first { (spools : Spools) (deck : Option (List Item)) (paper : Option (List ℕ)) (s : CoreState) →
+        ensures first { (spools : Spools) (deck : Option (List Item)) (paper : Option (List ℕ))
+            (s : CoreState) →
             IsReached spools deck paper s →
             NetStands the_keeps
             (telling S.left S.taken K.given A.pages B.pages) self.now s →
             IfSome result (λ p. IsFirst s p) }
-        ensures ended { (spools : Spools) (deck : Option (List Item)) (paper : Option (List ℕ)) (s : CoreState) →
+        ensures ended { (spools : Spools) (deck : Option (List Item)) (paper : Option (List ℕ))
+            (s : CoreState) →
             IsReached spools deck paper s →
             NetStands the_keeps
             (telling S.left S.taken K.given A.pages B.pages) self.now s →

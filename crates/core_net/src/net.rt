@@ -10,7 +10,7 @@ ghost use Rattle.core_law.specs.Opening.{Spools, opened, IsReached};
 ghost use Rattle.solo_devices.specs.CardUnit.{items_ahead};
 ghost use Rattle.core_net.specs.Openings.{spools_over};
 ghost use Rattle.core_net.specs.Causes.{counting};
-ghost use Rattle.core_law.specs.Work.{work_left};
+ghost use Rattle.core_law.specs.Work.{events_left};
 ghost use Rattle.core_net.specs.Shared.{cards_left, telling};
 ghost use Rattle.core_net.specs.Net.{most_events, the_keeps, NetStands, MayStepIn, MayStepNet, StepsNet, StandsReached, StandsSomewhere};
 
@@ -34,7 +34,8 @@ pub struct Net<S: Source, K: Sink, A: Area, B: Area> {
 }
 
 impl<S: Source, K: Sink, A: Area, B: Area> Net<S, K, A, B> {
-    /// The network before its first step: a deck of which nothing was read, and an area of 1 to 256 pages for each
+    /// The network before its first step: a deck of which nothing was read, and an area of 1 to 256 pages
+    /// for each
     /// spool.
     pub fn make(source: S, input: A, output: B, sink: K) -> Self
         requires unread { S.taken source ≡ 0 }
@@ -45,11 +46,15 @@ impl<S: Source, K: Sink, A: Area, B: Area> Net<S, K, A, B> {
         ensures stands { NetStands the_keeps
             (telling S.left S.taken K.given A.pages B.pages)
             result
-            (opened (spools_over (A.size input) (A.pages input) (B.size output) (B.pages output)) (items_ahead (S.left source) []) (K.given sink)) }
-        ensures reached { IsReached (spools_over (A.size input) (A.pages input) (B.size output) (B.pages output)) (items_ahead (S.left source) []) (K.given sink)
-            (opened (spools_over (A.size input) (A.pages input) (B.size output) (B.pages output)) (items_ahead (S.left source) []) (K.given sink)) }
-        ensures within { work_left (cards_left S.taken result.shared.deck)
-            (opened (spools_over (A.size input) (A.pages input) (B.size output) (B.pages output)) (items_ahead (S.left source) []) (K.given sink)) ≤ most_events }
+            (opened (spools_over (A.size input) (A.pages input) (B.size output) (B.pages output))
+            (items_ahead (S.left source) []) (K.given sink)) }
+        ensures reached { IsReached (spools_over (A.size input) (A.pages input) (B.size output)
+            (B.pages output)) (items_ahead (S.left source) []) (K.given sink)
+            (opened (spools_over (A.size input) (A.pages input) (B.size output) (B.pages output))
+            (items_ahead (S.left source) []) (K.given sink)) }
+        ensures within { events_left (cards_left S.taken result.shared.deck)
+            (opened (spools_over (A.size input) (A.pages input) (B.size output) (B.pages output))
+            (items_ahead (S.left source) []) (K.given sink)) ≤ most_events }
     {
         Net {
             card: Machine::new(),
@@ -64,7 +69,8 @@ impl<S: Source, K: Sink, A: Area, B: Area> Net<S, K, A, B> {
     /// Whether the next action of a process may happen now. One that ended has none.
     pub fn enabled(&self, p: ProcNo) -> bool
         requires one { IsProcess p }
-        ensures turn { (spools : Spools) (deck : Option (List Item)) (paper : Option (List ℕ)) (s : CoreState) →
+        ensures turn { (spools : Spools) (deck : Option (List Item)) (paper : Option (List ℕ))
+            (s : CoreState) →
             (action : ActionOf) →
             IsReached spools deck paper s →
             NetStands the_keeps
@@ -106,7 +112,8 @@ impl<S: Source, K: Sink, A: Area, B: Area> Net<S, K, A, B> {
         }
     }
 
-    /// Lets the next action of a process happen, where it is at its turn. None: it has ended, or is not at its turn.
+    /// Lets the next action of a process happen, where it is at its turn. None: it has ended, or is not at
+    /// its turn.
     pub fn turn(&mut self, p: ProcNo) -> Option<Stepped>
         requires one { IsProcess p }
         requires reached { StandsSomewhere the_keeps
@@ -131,7 +138,8 @@ impl<S: Source, K: Sink, A: Area, B: Area> Net<S, K, A, B> {
     pub fn step(&mut self, p: ProcNo) -> Stepped
         requires may { MayStepNet the_keeps
             (telling S.left S.taken K.given A.pages B.pages) self.old p }
-        ensures steps { (spools : Spools) (deck : Option (List Item)) (paper : Option (List ℕ)) (s : CoreState) →
+        ensures steps { (spools : Spools) (deck : Option (List Item)) (paper : Option (List ℕ))
+            (s : CoreState) →
             (action : ActionOf) →
             IsReached spools deck paper s →
             NetStands the_keeps

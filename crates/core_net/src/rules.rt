@@ -76,7 +76,8 @@ fn first_behind(last: ProcNo, going: &[bool]) -> Option<ProcNo>
 // The one at the place that a number draws.
 fn at_drawn(drawn: u32, going: &[bool]) -> Option<ProcNo>
     requires five { length going.now ≡ 5 }
-    ensures { result ≡ slice_get (numbers_from 1 going.now) ((drawn / 65536) % length (numbers_from 1 going.now)) }
+    ensures { result ≡ slice_get (numbers_from 1 going.now)
+        ((drawn / 65536) % length (numbers_from 1 going.now)) }
 {
     let count = count(1, going);
     if count == 0 {

@@ -23,18 +23,22 @@ impl<S: Source, K: Sink, A: Area, B: Area> Net<S, K, A, B> {
     /// Lets the process that a rule picks take its turn, over and over, until all five have ended. Every run
     /// comes to its end. Answers what it counted.
     pub fn run(&mut self, rule: Rule) -> Counts
-        requires before { StandsSomewhere the_keeps (telling S.left S.taken K.given A.pages B.pages) self.old }
-        ensures runs { (spools : Spools) (deck : Option (List Item)) (paper : Option (List ℕ)) (s : CoreState) →
+        requires before { StandsSomewhere the_keeps
+            (telling S.left S.taken K.given A.pages B.pages) self.old }
+        ensures runs { (spools : Spools) (deck : Option (List Item)) (paper : Option (List ℕ))
+            (s : CoreState) →
             IsReached spools deck paper s →
             NetStands the_keeps (telling S.left S.taken K.given A.pages B.pages) self.old s →
             RunsBy the_keeps (telling S.left S.taken K.given A.pages B.pages) rule self.new s result }
         ensures ended { HaveEnded the_keeps (telling S.left S.taken K.given A.pages B.pages) self.new }
 
         // Over told devices it has no more events than the cards and lines of the deck allow.
-        ensures bound { (spools : Spools) (deck : Option (List Item)) (paper : Option (List ℕ)) (s : CoreState) →
+        ensures bound { (spools : Spools) (deck : Option (List Item)) (paper : Option (List ℕ))
+            (s : CoreState) →
             (items : List Item) →
             IsReached spools deck paper s →
-            NetStands the_keeps (telling S.left S.taken K.given A.pages B.pages) self.old s → AreTold spools → deck ≡ Some items →
+            NetStands the_keeps (telling S.left S.taken K.given A.pages B.pages) self.old s →
+            AreTold spools → deck ≡ Some items →
             AreItems items → result.events ≤ longest_run items }
     {
         let mut now = rule;
@@ -47,18 +51,23 @@ impl<S: Source, K: Sink, A: Area, B: Area> Net<S, K, A, B> {
 
     /// The run of the schedule of a number, to its end.
     pub fn run_numbered(&mut self, number: u32) -> Counts
-        requires before { StandsSomewhere the_keeps (telling S.left S.taken K.given A.pages B.pages) self.old }
-        ensures runs { (spools : Spools) (deck : Option (List Item)) (paper : Option (List ℕ)) (s : CoreState) →
+        requires before { StandsSomewhere the_keeps
+            (telling S.left S.taken K.given A.pages B.pages) self.old }
+        ensures runs { (spools : Spools) (deck : Option (List Item)) (paper : Option (List ℕ))
+            (s : CoreState) →
             IsReached spools deck paper s →
             NetStands the_keeps (telling S.left S.taken K.given A.pages B.pages) self.old s →
-            RunsBy the_keeps (telling S.left S.taken K.given A.pages B.pages) (rule.Numbered number) self.new s result }
+            RunsBy the_keeps (telling S.left S.taken K.given A.pages B.pages)
+            (rule.Numbered number) self.new s result }
         ensures ended { HaveEnded the_keeps (telling S.left S.taken K.given A.pages B.pages) self.new }
 
         // Over told devices it has no more events than the cards and lines of the deck allow.
-        ensures bound { (spools : Spools) (deck : Option (List Item)) (paper : Option (List ℕ)) (s : CoreState) →
+        ensures bound { (spools : Spools) (deck : Option (List Item)) (paper : Option (List ℕ))
+            (s : CoreState) →
             (items : List Item) →
             IsReached spools deck paper s →
-            NetStands the_keeps (telling S.left S.taken K.given A.pages B.pages) self.old s → AreTold spools → deck ≡ Some items →
+            NetStands the_keeps (telling S.left S.taken K.given A.pages B.pages) self.old s →
+            AreTold spools → deck ≡ Some items →
             AreItems items → result.events ≤ longest_run items }
     {
         self.run(Rule::Numbered { number })
@@ -67,9 +76,11 @@ impl<S: Source, K: Sink, A: Area, B: Area> Net<S, K, A, B> {
     /// Which of the five may go on, in order of their numbers.
     fn going(&self) -> [bool; 5]
         ensures five { length result ≡ 5 }
-        ensures going { (spools : Spools) (deck : Option (List Item)) (paper : Option (List ℕ)) (s : CoreState) →
+        ensures going { (spools : Spools) (deck : Option (List Item)) (paper : Option (List ℕ))
+            (s : CoreState) →
             IsReached spools deck paper s →
-            NetStands the_keeps (telling S.left S.taken K.given A.pages B.pages) self.now s → AreGoing s 1 result }
+            NetStands the_keeps (telling S.left S.taken K.given A.pages B.pages) self.now s →
+            AreGoing s 1 result }
     {
         [
             self.may_go(1),
@@ -82,12 +93,14 @@ impl<S: Source, K: Sink, A: Area, B: Area> Net<S, K, A, B> {
 
     /// The process that a rule picks. None: all five have ended, since no network is stuck.
     pub fn next_by(&self, rule: &mut Rule) -> Option<ProcNo>
-        ensures picks { (spools : Spools) (deck : Option (List Item)) (paper : Option (List ℕ)) (s : CoreState) →
+        ensures picks { (spools : Spools) (deck : Option (List Item)) (paper : Option (List ℕ))
+            (s : CoreState) →
             IsReached spools deck paper s →
             NetStands the_keeps (telling S.left S.taken K.given A.pages B.pages) self.now s →
             IfSome result (λ p. IsPicked rule.old s p × MayGo s p) }
         ensures goes_on { rule.new ≡ behind rule.old result }
-        ensures ended { (spools : Spools) (deck : Option (List Item)) (paper : Option (List ℕ)) (s : CoreState) →
+        ensures ended { (spools : Spools) (deck : Option (List Item)) (paper : Option (List ℕ))
+            (s : CoreState) →
             IsReached spools deck paper s →
             NetStands the_keeps (telling S.left S.taken K.given A.pages B.pages) self.now s →
             IsNone result → AllEnded s }
@@ -102,10 +115,12 @@ impl<S: Source, K: Sink, A: Area, B: Area> Net<S, K, A, B> {
         requires few { counts.old.events + 1 < 2 ^ 64 }
         requires delays { counts.old.delays ≤ counts.old.events }
         requires grants { counts.old.grants ≤ counts.old.events }
-        ensures turn { (spools : Spools) (deck : Option (List Item)) (paper : Option (List ℕ)) (s : CoreState) →
+        ensures turn { (spools : Spools) (deck : Option (List Item)) (paper : Option (List ℕ))
+            (s : CoreState) →
             IsReached spools deck paper s →
             NetStands the_keeps (telling S.left S.taken K.given A.pages B.pages) self.old s → MayGo s p →
-            TurnTaken the_keeps (telling S.left S.taken K.given A.pages B.pages) self.old self.new s p counts.old counts.new }
+            TurnTaken the_keeps (telling S.left S.taken K.given A.pages B.pages) self.old self.new s p
+            counts.old counts.new }
         ensures events { counts.new.events ≡ counts.old.events + 1 }
         ensures delays { counts.new.delays ≤ counts.new.events }
         ensures grants { counts.new.grants ≤ counts.new.events }

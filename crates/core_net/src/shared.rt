@@ -39,7 +39,8 @@ impl<S: Source, K: Sink, A: Area, B: Area> Shared<S, K, A, B> {
         requires output_some { 0 < B.size output }
         requires output_few { B.size output ≤ 256 }
         ensures stands { SharedStands (telling S.left S.taken K.given A.pages B.pages) result
-            (opened (spools_over (A.size input) (A.pages input) (B.size output) (B.pages output)) (items_ahead (S.left source) []) (K.given sink)) }
+            (opened (spools_over (A.size input) (A.pages input) (B.size output) (B.pages output))
+            (items_ahead (S.left source) []) (K.given sink)) }
         ensures deck_live { result.deck.live ≡ true }
         ensures paper_live { result.paper.live ≡ true }
         ensures deck { result.deck ≡ fresh_unit source }
@@ -58,8 +59,10 @@ impl<S: Source, K: Sink, A: Area, B: Area> Shared<S, K, A, B> {
     /// Performs the action of a process. No reply: the process waits.
     pub fn perform(&mut self, p: ProcNo, action: Action) -> Option<Reply>
         requires may { MayPerform self.old p action }
-        ensures performs { Performs (telling S.left S.taken K.given A.pages B.pages) self.old self.new p action result }
-        ensures causes { HasCauses (counting S.faults S.taken K.faults A.faults B.faults) self.old self.new p action result }
+        ensures performs { Performs (telling S.left S.taken K.given A.pages B.pages)
+            self.old self.new p action result }
+        ensures causes { HasCauses (counting S.faults S.taken K.faults A.faults B.faults)
+            self.old self.new p action result }
     {
         match action {
             Action::ReadCard => Some(read_card(&mut self.deck)),
@@ -80,8 +83,10 @@ impl<S: Source, K: Sink, A: Area, B: Area> Shared<S, K, A, B> {
 
     fn put_feed(&mut self, p: ProcNo, feed: Feed) -> Option<Reply>
         requires may { MayPerform self.old p (act.PutFeed feed) }
-        ensures performs { Performs (telling S.left S.taken K.given A.pages B.pages) self.old self.new p (act.PutFeed feed) result }
-        ensures causes { HasCauses (counting S.faults S.taken K.faults A.faults B.faults) self.old self.new p (act.PutFeed feed) result }
+        ensures performs { Performs (telling S.left S.taken K.given A.pages B.pages)
+            self.old self.new p (act.PutFeed feed) result }
+        ensures causes { HasCauses (counting S.faults S.taken K.faults A.faults B.faults)
+            self.old self.new p (act.PutFeed feed) result }
     {
         if p == 1 {
             put_feed(&mut self.cards, p, feed)
@@ -92,8 +97,10 @@ impl<S: Source, K: Sink, A: Area, B: Area> Shared<S, K, A, B> {
 
     fn take_feed(&mut self, p: ProcNo) -> Option<Reply>
         requires may { MayPerform self.old p act.TakeFeed }
-        ensures performs { Performs (telling S.left S.taken K.given A.pages B.pages) self.old self.new p act.TakeFeed result }
-        ensures causes { HasCauses (counting S.faults S.taken K.faults A.faults B.faults) self.old self.new p act.TakeFeed result }
+        ensures performs { Performs (telling S.left S.taken K.given A.pages B.pages)
+            self.old self.new p act.TakeFeed result }
+        ensures causes { HasCauses (counting S.faults S.taken K.faults A.faults B.faults)
+            self.old self.new p act.TakeFeed result }
     {
         if p == 2 {
             take_feed(&mut self.cards, p)
@@ -104,8 +111,10 @@ impl<S: Source, K: Sink, A: Area, B: Area> Shared<S, K, A, B> {
 
     fn await_room(&mut self, p: ProcNo) -> Option<Reply>
         requires may { MayPerform self.old p act.AwaitRoom }
-        ensures performs { Performs (telling S.left S.taken K.given A.pages B.pages) self.old self.new p act.AwaitRoom result }
-        ensures causes { HasCauses (counting S.faults S.taken K.faults A.faults B.faults) self.old self.new p act.AwaitRoom result }
+        ensures performs { Performs (telling S.left S.taken K.given A.pages B.pages)
+            self.old self.new p act.AwaitRoom result }
+        ensures causes { HasCauses (counting S.faults S.taken K.faults A.faults B.faults)
+            self.old self.new p act.AwaitRoom result }
     {
         if p == 2 {
             await_room(&mut self.input, p)
@@ -116,8 +125,10 @@ impl<S: Source, K: Sink, A: Area, B: Area> Shared<S, K, A, B> {
 
     fn await_item(&mut self, p: ProcNo) -> Option<Reply>
         requires may { MayPerform self.old p act.AwaitItem }
-        ensures performs { Performs (telling S.left S.taken K.given A.pages B.pages) self.old self.new p act.AwaitItem result }
-        ensures causes { HasCauses (counting S.faults S.taken K.faults A.faults B.faults) self.old self.new p act.AwaitItem result }
+        ensures performs { Performs (telling S.left S.taken K.given A.pages B.pages)
+            self.old self.new p act.AwaitItem result }
+        ensures causes { HasCauses (counting S.faults S.taken K.faults A.faults B.faults)
+            self.old self.new p act.AwaitItem result }
     {
         if p == 3 {
             await_item(&mut self.input, p)
@@ -128,8 +139,10 @@ impl<S: Source, K: Sink, A: Area, B: Area> Shared<S, K, A, B> {
 
     fn put_page(&mut self, p: ProcNo, page: Page) -> Reply
         requires may { MayPerform self.old p (act.PutPage page) }
-        ensures performs { Performs (telling S.left S.taken K.given A.pages B.pages) self.old self.new p (act.PutPage page) (Some result) }
-        ensures causes { HasCauses (counting S.faults S.taken K.faults A.faults B.faults) self.old self.new p (act.PutPage page) (Some result) }
+        ensures performs { Performs (telling S.left S.taken K.given A.pages B.pages)
+            self.old self.new p (act.PutPage page) (Some result) }
+        ensures causes { HasCauses (counting S.faults S.taken K.faults A.faults B.faults)
+            self.old self.new p (act.PutPage page) (Some result) }
     {
         if p == 2 {
             put_page(&mut self.input, page)
@@ -140,8 +153,10 @@ impl<S: Source, K: Sink, A: Area, B: Area> Shared<S, K, A, B> {
 
     fn take_page(&mut self, p: ProcNo) -> Reply
         requires may { MayPerform self.old p act.TakePage }
-        ensures performs { Performs (telling S.left S.taken K.given A.pages B.pages) self.old self.new p act.TakePage (Some result) }
-        ensures causes { HasCauses (counting S.faults S.taken K.faults A.faults B.faults) self.old self.new p act.TakePage (Some result) }
+        ensures performs { Performs (telling S.left S.taken K.given A.pages B.pages)
+            self.old self.new p act.TakePage (Some result) }
+        ensures causes { HasCauses (counting S.faults S.taken K.faults A.faults B.faults)
+            self.old self.new p act.TakePage (Some result) }
     {
         if p == 3 {
             take_page(&mut self.input)
@@ -152,8 +167,10 @@ impl<S: Source, K: Sink, A: Area, B: Area> Shared<S, K, A, B> {
 
     fn print(&mut self, p: ProcNo, line: Line) -> Reply
         requires may { MayPerform self.old p (act.Print line) }
-        ensures performs { Performs (telling S.left S.taken K.given A.pages B.pages) self.old self.new p (act.Print line) (Some result) }
-        ensures causes { HasCauses (counting S.faults S.taken K.faults A.faults B.faults) self.old self.new p (act.Print line) (Some result) }
+        ensures performs { Performs (telling S.left S.taken K.given A.pages B.pages)
+            self.old self.new p (act.Print line) (Some result) }
+        ensures causes { HasCauses (counting S.faults S.taken K.faults A.faults B.faults)
+            self.old self.new p (act.Print line) (Some result) }
     {
         let _ = p;
         print(&mut self.paper, &line)
@@ -161,8 +178,10 @@ impl<S: Source, K: Sink, A: Area, B: Area> Shared<S, K, A, B> {
 
     fn stop(&mut self, p: ProcNo, buffer: BufferNo) -> Reply
         requires may { MayPerform self.old p (act.Stop buffer) }
-        ensures performs { Performs (telling S.left S.taken K.given A.pages B.pages) self.old self.new p (act.Stop buffer) (Some result) }
-        ensures causes { HasCauses (counting S.faults S.taken K.faults A.faults B.faults) self.old self.new p (act.Stop buffer) (Some result) }
+        ensures performs { Performs (telling S.left S.taken K.given A.pages B.pages)
+            self.old self.new p (act.Stop buffer) (Some result) }
+        ensures causes { HasCauses (counting S.faults S.taken K.faults A.faults B.faults)
+            self.old self.new p (act.Stop buffer) (Some result) }
     {
         let side = side_at(p, buffer);
         if buffer == 1 {

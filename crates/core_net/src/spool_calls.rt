@@ -28,7 +28,8 @@ pub fn await_room<A: Area>(spool: &mut Spool<A>, p: ProcNo) -> Option<Reply>
 pub fn await_item<A: Area>(spool: &mut Spool<A>, p: ProcNo) -> Option<Reply>
     requires may_enter { MayEnter spool.old.sides Receiver p }
     requires not_stopped { has_stopped spool.old.sides Receiver ≡ false }
-    ensures visited { Visited (SpoolStands A.pages) spool.old spool.new Receiver Awaits p act.AwaitItem result }
+    ensures visited { Visited
+        (SpoolStands A.pages) spool.old spool.new Receiver Awaits p act.AwaitItem result }
     ensures area { spool.new.area ≡ spool.old.area }
 {
     reply_of(spool.await_item(p))

@@ -83,7 +83,8 @@ pub fn may_step<W: Work, S: Source, K: Sink, A: Area, B: Area>(
     p: ProcNo,
     shared: &Shared<S, K, A, B>,
 ) -> bool
-    ensures { (h : List Entry) (action : ActionOf) (s : CoreState) → StandsFor W.process W.keeps machine.now h →
+    ensures { (h : List Entry) (action : ActionOf) (s : CoreState) →
+        StandsFor W.process W.keeps machine.now h →
         next_action W.process h ≡ Some action →
         SharedStands (telling S.left S.taken K.given A.pages B.pages) shared.now s →
         HasPlace s p action → IsTrue result ↔ MayCall s p (call p action) }
