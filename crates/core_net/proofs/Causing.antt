@@ -70,6 +70,7 @@ module _ {S K A B : Type 0} (counts : Counts S K A B) (old new : Shared S K A B)
     output_on = same-count _ _ (ap counts.output_faults same.output);
     deck_live = λ live not_failed not_limit. ap (λ (d : Held S). d.live) same.deck ∙ live;
     paper_live = λ live done. ap (λ (d : Printing K). d.live) same.paper ∙ live;
+    deck_stays = λ not. same.deck;
   }
 
   -- ---- a move of a page
@@ -102,6 +103,7 @@ module _ {S K A B : Type 0} (counts : Counts S K A B) (old new : Shared S K A B)
     output_on = same-count _ _ (ap counts.output_faults output);
     deck_live = λ live not_failed not_limit. ap (λ (d : Held S). d.live) deck ∙ live;
     paper_live = λ live done. ap (λ (d : Printing K). d.live) paper ∙ live;
+    deck_stays = λ not. deck;
   }
 
   pub output-causes : (action : Action) (r : Reply) → IsMove action → ReplyFits action (Some r) → (MovesInput p action → ⊥) → new.deck ≡ old.deck
@@ -121,6 +123,7 @@ module _ {S K A B : Type 0} (counts : Counts S K A B) (old new : Shared S K A B)
     output_on = later;
     deck_live = λ live not_failed not_limit. ap (λ (d : Held S). d.live) deck ∙ live;
     paper_live = λ live done. ap (λ (d : Printing K). d.live) paper ∙ live;
+    deck_stays = λ not. deck;
   }
 
   -- ---- a card and a line
@@ -142,6 +145,7 @@ module _ {S K A B : Type 0} (counts : Counts S K A B) (old new : Shared S K A B)
     output_on = same-count _ _ (ap counts.output_faults output);
     deck_live = λ was not_failed not_limit. live (λ e. not_failed (ap Some e)) (λ e. not_limit (ap Some e));
     paper_live = λ was done. ap (λ (d : Printing K). d.live) paper ∙ was;
+    deck_stays = λ not. absurd (not refl);
   }
 
   pub print-causes : (line : List ℕ) (r : Reply) → ReplyFits (act.Print line) (Some r) → new.deck ≡ old.deck → new.input.area ≡ old.input.area
@@ -162,4 +166,5 @@ module _ {S K A B : Type 0} (counts : Counts S K A B) (old new : Shared S K A B)
     output_on = same-count _ _ (ap counts.output_faults output);
     deck_live = λ was not_failed not_limit. ap (λ (d : Held S). d.live) deck ∙ was;
     paper_live = λ was done. live (let e = done tt in cc);
+    deck_stays = λ not. deck;
   }

@@ -14,3 +14,5 @@ mod WhoGoes
 mod RunMore
 mod Picking
 mod Counted
+mod FaultsCounted
+mod WholeRuns

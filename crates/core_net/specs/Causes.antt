@@ -66,3 +66,5 @@ pub record HasCauses {S K A B : Type 0} (counts : Counts S K A B) (old new : Sha
   pub deck_live : old.deck.live ≡ true → result ≢ Some (reply.Card card_read.Failed)
       → result ≢ Some (reply.Card card_read.Limit) → new.deck.live ≡ true
   pub paper_live : old.paper.live ≡ true → (IsPrint action → result ≡ Some reply.Done) → new.paper.live ≡ true
+  -- the deck changes by a read alone
+  pub deck_stays : action ≢ act.ReadCard → new.deck ≡ old.deck

@@ -14,3 +14,5 @@ pub mod Counting
 pub mod Runs
 pub mod Openings
 pub mod Turns
+pub mod Faults
+pub mod WholeRuns

@@ -2,6 +2,7 @@
 //! law of the core has it.
 #![tactic(auto)]
 
+mod core_run;
 mod counts;
 mod desk_calls;
 mod device_calls;
@@ -16,6 +17,7 @@ mod spool_calls;
 mod step;
 mod turns;
 
+pub use core_run::run_core;
 pub use counts::Counts;
 pub use desk_calls::{release, request};
 pub use device_calls::{print, read_card};

@@ -9,8 +9,9 @@ ghost use Rattle.core_net.specs.declared.rules.Rule.TheVariants as rule;
 ghost use Rattle.core_net.specs.Causes.{counting};
 ghost use Rattle.core_net.specs.Counting.{counted_by};
 ghost use Rattle.core_net.specs.Ended.{AllEnded, HaveEnded};
+ghost use Rattle.core_net.specs.Faults.{Devices, CausesAreCounted};
 ghost use Rattle.core_net.specs.Going.{MayGo};
-ghost use Rattle.core_net.specs.Net.{MayStepNet, NetStands, StandsSomewhere, the_keeps};
+ghost use Rattle.core_net.specs.Net.{MayStepNet, NetStands, StandsReached, StandsSomewhere, the_keeps};
 ghost use Rattle.core_net.specs.Rules.{behind};
 ghost use Rattle.core_net.specs.Runs.{AreGoing, IsPicked, RunsBy, TurnTaken};
 ghost use Rattle.core_net.specs.Shared.{telling};
@@ -40,6 +41,14 @@ impl<S: Source, K: Sink, A: Area, B: Area> Net<S, K, A, B> {
             NetStands the_keeps (telling S.left S.taken K.given A.pages B.pages) self.old s →
             AreTold spools → deck ≡ Some items →
             AreItems items → result.events ≤ longest_run items }
+        ensures reached { (spools : Spools) (deck : Option (List Item)) (paper : Option (List ℕ)) →
+            StandsReached the_keeps (telling S.left S.taken K.given A.pages B.pages) self.old spools deck paper →
+            StandsReached the_keeps (telling S.left S.taken K.given A.pages B.pages) self.new spools deck paper }
+        ensures counted { (before : Devices S K A B) →
+            CausesAreCounted the_keeps (telling S.left S.taken K.given A.pages B.pages)
+            (counting S.faults S.taken K.faults A.faults B.faults) before self.old →
+            CausesAreCounted the_keeps (telling S.left S.taken K.given A.pages B.pages)
+            (counting S.faults S.taken K.faults A.faults B.faults) before self.new }
     {
         let mut now = rule;
         let mut counts = Counts::none();
@@ -69,6 +78,14 @@ impl<S: Source, K: Sink, A: Area, B: Area> Net<S, K, A, B> {
             NetStands the_keeps (telling S.left S.taken K.given A.pages B.pages) self.old s →
             AreTold spools → deck ≡ Some items →
             AreItems items → result.events ≤ longest_run items }
+        ensures reached { (spools : Spools) (deck : Option (List Item)) (paper : Option (List ℕ)) →
+            StandsReached the_keeps (telling S.left S.taken K.given A.pages B.pages) self.old spools deck paper →
+            StandsReached the_keeps (telling S.left S.taken K.given A.pages B.pages) self.new spools deck paper }
+        ensures counted { (before : Devices S K A B) →
+            CausesAreCounted the_keeps (telling S.left S.taken K.given A.pages B.pages)
+            (counting S.faults S.taken K.faults A.faults B.faults) before self.old →
+            CausesAreCounted the_keeps (telling S.left S.taken K.given A.pages B.pages)
+            (counting S.faults S.taken K.faults A.faults B.faults) before self.new }
     {
         self.run(Rule::Numbered { number })
     }
@@ -121,6 +138,11 @@ impl<S: Source, K: Sink, A: Area, B: Area> Net<S, K, A, B> {
             NetStands the_keeps (telling S.left S.taken K.given A.pages B.pages) self.old s → MayGo s p →
             TurnTaken the_keeps (telling S.left S.taken K.given A.pages B.pages) self.old self.new s p
             counts.old counts.new }
+        ensures counted { (before : Devices S K A B) →
+            CausesAreCounted the_keeps (telling S.left S.taken K.given A.pages B.pages)
+            (counting S.faults S.taken K.faults A.faults B.faults) before self.old →
+            CausesAreCounted the_keeps (telling S.left S.taken K.given A.pages B.pages)
+            (counting S.faults S.taken K.faults A.faults B.faults) before self.new }
         ensures events { counts.new.events ≡ counts.old.events + 1 }
         ensures delays { counts.new.delays ≤ counts.new.events }
         ensures grants { counts.new.grants ≤ counts.new.events }

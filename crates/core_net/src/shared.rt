@@ -4,6 +4,7 @@ ghost use Rattle.solo_devices.specs.CardUnit.{fresh_unit, items_ahead};
 ghost use Rattle.core_law.specs.Opening.{opened};
 ghost use Rattle.core_net.specs.Openings.{spools_over};
 ghost use Rattle.core_net.specs.Causes.{HasCauses, counting};
+ghost use Rattle.core_net.specs.Faults.{devices_of};
 ghost use Rattle.core_net.specs.Shared.{SharedStands, MayPerform, Performs, telling};
 
 use crate::{
@@ -44,6 +45,8 @@ impl<S: Source, K: Sink, A: Area, B: Area> Shared<S, K, A, B> {
         ensures deck_live { result.deck.live ≡ true }
         ensures paper_live { result.paper.live ≡ true }
         ensures deck { result.deck ≡ fresh_unit source }
+        ensures devices { devices_of result
+            ≡ record { source = source; sink = sink; input = input; output = output } }
     {
         Shared {
             deck: CardUnit::new(source),

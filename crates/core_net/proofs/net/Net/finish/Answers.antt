@@ -1,5 +1,6 @@
 use Rattle.std.proofs.Common.{refl}
 use Rattle.core_net.proofs.Finishing.{sides-are, ends, faults, together, prints, reads, undamaged}
+use Rattle.core_net.proofs.FaultsCounted.{ended-counted, same-devices}
 use Rattle.core_net.proofs.net.Net.finish.Goals as goal
 
 pub returns : goal.returns
@@ -22,6 +23,12 @@ returns g c = record {
   undamaged = undamaged _ _ c.args.self _ _ c.requires.ended c.outcome.ensures c.outcome-2.ensures c.outcome-3.ensures c.outcome-4.ensures c.outcome-5.ensures
       (λ s st. sides-are _ c.args.self.shared s st.shared _ _ _ _ c.stopped_by.ensures.marked c.stopped_by-2.ensures.marked c.stopped_by-3.ensures.marked
       c.stopped_by-4.ensures.marked);
+  counted = λ before were.
+      let some = c.requires.ended.is in
+      ended-counted _ _ _ c.args.self _ _ some.state some.stands (c.outcome.ensures (some.state.histories 1) some.stands.card)
+      (c.outcome-2.ensures (some.state.histories 2) some.stands.input) (c.outcome-3.ensures (some.state.histories 3) some.stands.job)
+      (c.outcome-4.ensures (some.state.histories 4) some.stands.output) (c.outcome-5.ensures (some.state.histories 5) some.stands.printer)
+      (same-devices _ _ _ _ _ _ c.into_inner.ensures c.into_inner-2.ensures) before were;
   units = (refl, refl);
   areas = (c.into_inner.ensures, c.into_inner-2.ensures);
 }

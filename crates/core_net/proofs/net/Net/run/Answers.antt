@@ -2,6 +2,7 @@ use Rattle.std.proofs.Common.{arith, ap, subst, sym, refl}
 use Rattle.core_net.specs.declared.counts.Counts.{Counts}
 use Rattle.core_net.specs.Runs.{HasLeft}
 use Rattle.core_net.proofs.RunMore.{no-turn, none-left, may-picked, left-more, few-events, runs-more, run-bounded, have-ended}
+use Rattle.core_net.proofs.WholeRuns.{turn-reaches}
 use Rattle.core_net.proofs.net.Net.run.Goals as goal
 
 pub running-init : goal.running-init
@@ -13,6 +14,8 @@ running-init g c =
       none-left _ _ c.args.self.now c.requires.before c.none-counts.result.events events,
       omega (arith, events, delays),
       omega (arith, events, grants),
+      λ spools deck paper st. st,
+      λ before were. were,
     )
 
 pub take_turn-requires-clause-may : goal.take_turn-requires-clause-may
@@ -43,6 +46,12 @@ running-preserved g c =
           (c.take_turn.ensures.turn has.spools has.deck has.paper has.is.state has.is.reached has.is.stands may)),
       c.take_turn.ensures.delays,
       c.take_turn.ensures.grants,
+      λ spools deck paper st.
+          let at = c.running.invariant.4 spools deck paper st in
+          let goes = (c.in-Some.ensures.picks spools deck paper at.state at.reached at.stands).1 in
+          turn-reaches _ _ c.running.self c.take_turn.new.self c.in-Some.p c.running.counts c.take_turn.new.counts spools deck paper at
+          (c.take_turn.ensures.turn spools deck paper at.state at.reached at.stands goes),
+      λ before were. c.take_turn.ensures.counted before (c.running.invariant.5 before were),
     )
 
 pub returns-clause-runs : goal.returns-clause-runs

@@ -1,6 +1,7 @@
 use Rattle.std.proofs.Common.{◌∙◌, ap}
 use Rattle.core_net.specs.Counting.{counted_by}
 use Rattle.core_net.proofs.Counted.{turn-taken}
+use Rattle.core_net.proofs.FaultsCounted.{turn-counted}
 use Rattle.core_net.proofs.net.Net.take_turn.Goals as goal
 
 pub returns-clause-turn : goal.returns-clause-turn
@@ -10,3 +11,9 @@ returns-clause-turn g c = λ spools deck paper s reached stands may.
     (c.with.ensures.counted
     ∙ ap (λ h. counted_by c.args.counts.now c.step-stepped.result h c.holder-after.result) c.holder-before.ensures
     ∙ ap (λ h. counted_by c.args.counts.now c.step-stepped.result c.args.self.now.shared.desk.holder h) c.holder-after.ensures)
+
+pub returns-clause-counted : goal.returns-clause-counted
+returns-clause-counted g c = λ before were.
+    let may = c.requires.may in
+    turn-counted _ _ _ c.args.self.now c.step-stepped.new.self c.args.p c.step-stepped.result may
+    (c.step-stepped.ensures.steps may.spools may.deck may.paper may.state may.action may.reached may.stands may.step) before were

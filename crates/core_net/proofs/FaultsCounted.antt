@@ -1,0 +1,319 @@
+-- Each step keeps that the faults so far were counted by their devices.
+use Rattle.std.proofs.Common.{◌≡◌, ◌≤◌, ◌<◌, ◌⊎◌, inl, inr, ℕ, ◌==◌, if◌then◌else◌, Bool, List, ◌∷◌, Option, None, Some, Result, Ok, Err, refl, sym, ◌∙◌, ap, subst, arith}
+use Rattle.std.proofs.lemmas.Bool.Decides.{eqb_tells}
+use Rattle.solo_base.specs.declared.item.Item.{Item}
+use Rattle.solo_base.specs.declared.outcome.Outcome.{Outcome}
+use Rattle.solo_base.specs.declared.outcome.Outcome.TheVariants as outcome
+use Rattle.solo_base.specs.declared.outcome.Cause.{Cause}
+use Rattle.solo_base.specs.declared.outcome.Cause.TheVariants as cause
+use Rattle.solo_devices.specs.Count.{Rose}
+use Rattle.solo_devices.specs.CardUnit.{Held, byte_limit}
+use Rattle.solo_devices.specs.declared.card_read.CardRead.{CardRead}
+use Rattle.solo_devices.specs.declared.card_read.CardRead.TheVariants as card_read
+use Rattle.page_codec.specs.declared.judge.BadPage.{BadPage}
+use Rattle.page_codec.specs.Reading.{PageContent, page_read}
+use Rattle.batch_procs.specs.declared.actions.Action.{Action}
+use Rattle.batch_procs.specs.declared.actions.Action.TheVariants as act
+use Rattle.batch_procs.specs.declared.actions.Reply.{Reply}
+use Rattle.batch_procs.specs.declared.actions.Reply.TheVariants as reply
+use Rattle.batch_procs.specs.Causes.{fault_at, fault_read, damage, place, given_cause, or_new, caused}
+use Rattle.batch_procs.specs.Faults.{cause_by}
+use Rattle.batch_procs.specs.Fits.{Fits}
+use Rattle.batch_procs.specs.History.{Entry, Does, LacksMemory, Delays, action_of}
+use Rattle.batch_procs.specs.Process.{Process, IsFitting, Follows, next_action}
+use Rattle.batch_procs.specs.Table.{process}
+use Rattle.batch_procs.proofs.Relay.{open-next}
+use Rattle.network_law.specs.Network.{happens}
+use Rattle.core_law.specs.Core.{core, CoreState, CoreEvent}
+use Rattle.core_law.specs.Ends.{IsProcess, outcome_by}
+use Rattle.core_law.specs.Opening.{Spools, IsReached}
+use Rattle.core_law.proofs.Acting.{follows-of}
+use Rattle.core_law.proofs.Reached.{reached-centre}
+use Rattle.core_net.specs.declared.finish.Outcomes.{Outcomes}
+use Rattle.core_net.specs.declared.net.Net.{Net}
+use Rattle.core_net.specs.declared.step.Stepped.{Stepped}
+use Rattle.core_net.specs.Causes.{Counts, HasCauses, IsPrint, MovesInput, MovesOutput}
+use Rattle.core_net.specs.Faults.{Devices, devices_of, AreCounted, outcomes_in, CausesAreCounted}
+use Rattle.core_net.specs.Net.{Keeps, NetStands, MayStepNet, StepsNet}
+use Rattle.core_net.specs.Shared.{Tells}
+use Rattle.core_net.specs.Steps.{reply_of}
+use Rattle.core_net.proofs.Askers.{moves-page, takes-page, reads-deck}
+
+-- ---- what an entry that gave a fault was told
+abbrev IsMove : Action → Type 0
+IsMove (act.PutPage page) = Unit {0}
+IsMove act.TakePage = Unit {0}
+IsMove action = ⊥
+
+abbrev Told : Cause → Action → Option Reply → Type 0
+Told cause.ReadFault a r = r ≡ Some (reply.Card card_read.Failed)
+Told cause.DeckLimit a r = r ≡ Some (reply.Card card_read.Limit)
+Told cause.DiskFault a r = IsMove a × (r ≡ Some reply.Failed)
+Told cause.PrintFault a r = IsPrint a × (r ≡ Some reply.Failed)
+Told other a r = Unit {0}
+
+same-fault : (c d : Cause) → Some (outcome.Fault c) ≡ Some (outcome.Fault d) → c ≡ d
+same-fault c d e = cc
+
+module _ (c : Cause) (a : Action) where
+  told-read : (answer : CardRead) → fault_read answer ≡ Some (outcome.Fault c) → Told c a (Some (reply.Card answer))
+  told-read (card_read.Card line) e = absurd cc
+  told-read card_read.Spoiled e = absurd cc
+  told-read card_read.End e = absurd cc
+  told-read card_read.Failed e = subst (λ c. Told c a (Some (reply.Card card_read.Failed))) (same-fault cause.ReadFault c e) refl
+  told-read card_read.Limit e = subst (λ c. Told c a (Some (reply.Card card_read.Limit))) (same-fault cause.DeckLimit c e) refl
+
+  told-damage : (page : Result PageContent BadPage) (r : Option Reply) → damage page ≡ Some (outcome.Fault c) → Told c a r
+  told-damage (Ok content) r e = absurd cc
+  told-damage (Err bad) r e = subst (λ c. Told c a r) (same-fault (cause.Damaged bad.expected bad.found bad.at) c e) tt
+
+  told-memory : (r : Option Reply) → Some (outcome.Fault cause.NoMemory) ≡ Some (outcome.Fault c) → Told c a r
+  told-memory r e = subst (λ c. Told c a r) (same-fault cause.NoMemory c e) tt
+
+told-failed : (c : Cause) (a : Action) → Fits a reply.Failed → Some (outcome.Fault (fault_at a)) ≡ Some (outcome.Fault c) → Told c a (Some reply.Failed)
+told-failed c (act.PutPage page) fits e = subst (λ c. Told c (act.PutPage page) (Some reply.Failed)) (same-fault cause.DiskFault c e) (tt, refl)
+told-failed c act.TakePage fits e = subst (λ c. Told c act.TakePage (Some reply.Failed)) (same-fault cause.DiskFault c e) (tt, refl)
+told-failed c (act.Print line) fits e = subst (λ c. Told c (act.Print line) (Some reply.Failed)) (same-fault cause.PrintFault c e) (tt, refl)
+told-failed c a fits e = absurd fits
+
+told-so : (p : Process) (entry : Entry) (h : List Entry) (c : Cause) → IsFitting p entry → cause_by entry h ≡ Some (outcome.Fault c)
+    → Told c (action_of entry) (reply_of entry)
+told-so p (Does a reply.Done) h c fits e = absurd cc
+told-so p (Does a reply.Stopped) h c fits e = absurd cc
+told-so p (Does a reply.Failed) h c fits e = told-failed c a fits e
+told-so p (Does a reply.NoMemory) h c fits e = told-memory c a (Some reply.NoMemory) e
+told-so p (Does a (reply.Card answer)) h c fits e = told-read c a answer e
+told-so p (Does a (reply.Feed f)) h c fits e = absurd cc
+told-so p (Does a (reply.Page page last)) h c fits e = told-damage c a (page_read (place h) last page) (Some (reply.Page page last)) e
+told-so p (LacksMemory a r) h c fits e = told-memory c a (Some r) e
+told-so p (Delays a) h c fits e = absurd cc
+
+-- ---- the fault of one process behind an event: it had it before, or the event is its own and gave it
+fault-of : (how : Option Outcome) (c : Cause) → outcome_by how ≡ outcome.Fault c → how ≡ Some (outcome.Fault c)
+fault-of None c e = absurd cc
+fault-of (Some how) c e = ap Some e
+
+or-gave : (old new : Option Outcome) (how : Outcome) → or_new old new ≡ Some how → (old ≡ Some how) ⊎ (new ≡ Some how)
+or-gave None new how e = inr e
+or-gave (Some before) new how e = inl e
+
+entry-gave : (entry : Entry) (h : List Entry) (how : Outcome) → caused (entry ∷ h) ≡ Some how → (caused h ≡ Some how) ⊎ (cause_by entry h ≡ Some how)
+entry-gave (Does a r) h how e = or-gave (caused h) (given_cause a r h) how e
+entry-gave (LacksMemory a r) h how e = or-gave (caused h) (Some (outcome.Fault cause.NoMemory)) how e
+entry-gave (Delays a) h how e = inl e
+
+event-gave : (s : CoreState) (event : CoreEvent) (q : ℕ) (how : Outcome) → caused ((happens (core process) s event).histories q) ≡ Some how
+    → (caused (s.histories q) ≡ Some how) ⊎ ((event.process ≡ q) × (cause_by event.entry (s.histories q) ≡ Some how))
+event-gave s event q how =
+    let Goal : Type 0 = (caused (s.histories q) ≡ Some how) ⊎ ((event.process ≡ q) × (cause_by event.entry (s.histories q) ≡ Some how)) in
+    let P : Bool → Type 0 = λ t. caused (if t then event.entry ∷ s.histories event.process else s.histories q) ≡ Some how → Goal in
+    let own : q ≡ event.process → caused (event.entry ∷ s.histories event.process) ≡ Some how → Goal =
+    λ is e. elim (entry-gave event.entry (s.histories q) how (subst (λ p. caused (event.entry ∷ s.histories p) ≡ Some how) (sym is) e)) as (λ _. Goal) [
+      | inl old ↦ inl old
+      | inr new ↦ inr (sym is, new)
+    ] in
+    elim (eqb_tells q event.process) as (λ _. P (q == event.process)) [
+      | inl is ↦ subst P (sym is.0) (own is.1)
+      | inr not ↦ subst P (sym not.0) (λ e. inl e)
+    ]
+
+-- ---- who moves a page
+moves-so : (p : ℕ) (h : List Entry) (a : Action) → IsProcess p → Follows (process p) h → next_action (process p) h ≡ Some a → IsMove a
+    → MovesInput p a ⊎ MovesOutput p a
+moves-so p h (act.PutPage page) one follows next is = moves-page p h page one follows next
+moves-so p h act.TakePage one follows next is = takes-page p h one next
+moves-so p h a one follows next is = absurd is
+
+no-output : (p : ℕ) (a : Action) → p ≡ 2 → MovesOutput p a → ⊥
+no-output p (act.PutPage page) two is = let same = sym two ∙ is in cc
+no-output p act.TakePage two is = let same = sym two ∙ is in cc
+no-output p a two is = is
+
+no-input : (p : ℕ) (a : Action) → p ≡ 4 → MovesInput p a → ⊥
+no-input p (act.PutPage page) four is = let same = sym four ∙ is in cc
+no-input p act.TakePage four is = let same = sym four ∙ is in cc
+no-input p a four is = is
+
+-- ---- counts that rise
+rose-then : (a b c : ℕ) → Rose a b → b ≤ c → Rose a c
+rose-then a b c rose on = omega (arith, rose, on)
+
+then-rose : (a b c : ℕ) → a ≤ b → Rose b c → Rose a c
+then-rose a b c on rose = omega (arith, on, rose)
+
+on-then : (a b c : ℕ) → a ≤ b → b ≤ c → a ≤ c
+on-then a b c x y = omega (arith, x, y)
+
+same-five : (a b c d e x y z v w : Outcome) → a ≡ x → b ≡ y → c ≡ z → d ≡ v → e ≡ w → (the_five : Outcomes)
+    → the_five ≡ record { card = a; input = b; job = c; output = d; printer = e }
+    → the_five ≡ record { card = x; input = y; job = z; output = v; printer = w }
+same-five a b c d e x y z v w i j k l m the_five is = cc
+
+abbrev these : {S K A B : Type 0} → S → K → A → B → Devices S K A B
+these source sink input output = record { source = source; sink = sink; input = input; output = output }
+
+pub same-devices : {S K A B : Type 0} (source : S) (sink : K) (a c : A) (b d : B) → a ≡ c → b ≡ d → these source sink a b ≡ these source sink c d
+same-devices source sink a c b d x y = cc
+
+module _ {S K A B : Type 0} (keeps : Keeps) (tells : Tells S K A B) (counts : Counts S K A B) where
+  -- a network's processes have the same causes in each state that it stands for
+  same-outcomes : (net : Net S K A B) (s t : CoreState) → NetStands keeps tells net s → NetStands keeps tells net t → outcomes_in s ≡ outcomes_in t
+  same-outcomes net s t a b =
+      same-five _ _ _ _ _ _ _ _ _ _ (ap outcome_by (sym a.card.cause ∙ b.card.cause)) (ap outcome_by (sym a.input.cause ∙ b.input.cause))
+      (ap outcome_by (sym a.job.cause ∙ b.job.cause)) (ap outcome_by (sym a.output.cause ∙ b.output.cause))
+      (ap outcome_by (sym a.printer.cause ∙ b.printer.cause)) (outcomes_in s) refl
+
+  -- what is counted in one state that it stands for is in each
+  counted-each : (net : Net S K A B) (before : Devices S K A B) (s : CoreState) → NetStands keeps tells net s
+      → AreCounted counts before (devices_of net.shared) (outcomes_in s) → CausesAreCounted keeps tells counts before net
+  counted-each net before s stands are = λ t other. subst (AreCounted counts before (devices_of net.shared)) (same-outcomes net s t stands other) are
+
+  -- ---- one step
+  module _ (old new : Net S K A B) (spools : Spools) (deck : Option (List Item)) (paper : Option (List ℕ)) (s : CoreState) (p : ℕ) (action : Action)
+      (stepped : Stepped) (reached : IsReached spools deck paper s)
+      (step : StepsNet keeps tells counts old new s p action stepped) where
+    abbrev event : CoreEvent
+    event = step.event
+
+    abbrev q : ℕ
+    q = event.process
+
+    abbrev made : Action
+    made = action_of event.entry
+
+    causes : HasCauses counts old.shared new.shared q made (reply_of event.entry)
+    causes =
+        subst (λ p. HasCauses counts old.shared new.shared p made (reply_of event.entry)) (sym step.process_is)
+        (subst (λ a. HasCauses counts old.shared new.shared p a (reply_of event.entry)) (sym step.action_is) step.causes)
+
+    follows : Follows (process q) (s.histories q)
+    follows = follows-of process q (s.histories q) ((reached-centre spools deck paper s reached).stands.follows q)
+
+    next : next_action (process q) (s.histories q) ≡ Some made
+    next = step.enabled.next
+
+    now-or-before : (n : ℕ) (c : Cause) → outcome_by (caused ((happens (core process) s event).histories n)) ≡ outcome.Fault c
+        → (outcome_by (caused (s.histories n)) ≡ outcome.Fault c) ⊎ ((q ≡ n) × Told c made (reply_of event.entry))
+    now-or-before n c is =
+        elim (event-gave s event n (outcome.Fault c) (fault-of (caused ((happens (core process) s event).histories n)) c is))
+        as (λ _. (outcome_by (caused (s.histories n)) ≡ outcome.Fault c) ⊎ ((q ≡ n) × Told c made (reply_of event.entry))) [
+          | inl before ↦ inl (ap outcome_by before)
+          | inr now ↦ inr (now.0, told-so (process q) event.entry (s.histories n) c step.enabled.suits now.1)
+        ]
+
+    -- with a cause the card process reads no more
+    deck-same : (how : Outcome) → caused (s.histories 1) ≡ Some how → new.shared.deck ≡ old.shared.deck
+    deck-same how is =
+        causes.deck_stays (λ reads.
+        let asked : next_action (process q) (s.histories q) ≡ Some act.ReadCard = next ∙ ap Some reads in
+        let none : caused (s.histories q) ≡ None = open-next (process q) (s.histories q) act.ReadCard asked tt in
+        let here : caused (s.histories 1) ≡ None = subst (λ p. caused (s.histories p) ≡ None) (reads-deck q (s.histories q) asked) none in
+        let both = sym here ∙ is in cc)
+
+    module _ (before : Devices S K A B) (was : AreCounted counts before (devices_of old.shared) (outcomes_in s)) where
+      moves : IsMove made → MovesInput q made ⊎ MovesOutput q made
+      moves is = moves-so q (s.histories q) made step.enabled.one follows next is
+
+      input-rose : MovesInput q made → reply_of event.entry ≡ Some reply.Failed
+          → Rose (counts.input_faults before.input) (counts.input_faults new.shared.input.area)
+      input-rose is failed = then-rose _ _ _ was.input_on (causes.input is failed)
+
+      output-rose : MovesOutput q made → reply_of event.entry ≡ Some reply.Failed
+          → Rose (counts.output_faults before.output) (counts.output_faults new.shared.output.area)
+      output-rose is failed = then-rose _ _ _ was.output_on (causes.output is failed)
+
+      abbrev InputRose : Type 0
+      InputRose = Rose (counts.input_faults before.input) (counts.input_faults new.shared.input.area)
+
+      abbrev OutputRose : Type 0
+      OutputRose = Rose (counts.output_faults before.output) (counts.output_faults new.shared.output.area)
+
+      read : outcome_by (caused ((happens (core process) s event).histories 1)) ≡ outcome.Fault cause.ReadFault
+          → Rose (counts.read_faults before.source) (counts.read_faults new.shared.deck.source)
+      read is =
+          elim (now-or-before 1 cause.ReadFault is) as (λ _. Rose (counts.read_faults before.source) (counts.read_faults new.shared.deck.source)) [
+            | inl had ↦ rose-then _ _ _ (was.read had) causes.read_on
+            | inr gave ↦ then-rose _ _ _ was.read_on (causes.read gave.1)
+          ]
+
+      limit : outcome_by (caused ((happens (core process) s event).histories 1)) ≡ outcome.Fault cause.DeckLimit
+          → byte_limit < counts.taken new.shared.deck.source
+      limit is =
+          elim (now-or-before 1 cause.DeckLimit is) as (λ _. byte_limit < counts.taken new.shared.deck.source) [
+            | inl had ↦ subst (λ (d : Held S). byte_limit < counts.taken d.source) (sym (deck-same (outcome.Fault cause.DeckLimit)
+                (fault-of (caused (s.histories 1)) cause.DeckLimit had))) (was.limit had)
+            | inr gave ↦ causes.limit gave.1
+          ]
+
+      input : outcome_by (caused ((happens (core process) s event).histories 2)) ≡ outcome.Fault cause.DiskFault → InputRose
+      input is =
+          elim (now-or-before 2 cause.DiskFault is) as (λ _. InputRose) [
+            | inl had ↦ rose-then _ _ _ (was.input had) causes.input_on
+            | inr gave ↦ elim (moves gave.1.0) as (λ _. InputRose) [
+              | inl there ↦ input-rose there gave.1.1
+              | inr there ↦ absurd (no-output q made gave.0 there)
+            ]
+          ]
+
+      job : outcome_by (caused ((happens (core process) s event).histories 3)) ≡ outcome.Fault cause.DiskFault → InputRose ⊎ OutputRose
+      job is =
+          elim (now-or-before 3 cause.DiskFault is) as (λ _. InputRose ⊎ OutputRose) [
+            | inl had ↦ elim (was.job had) as (λ _. InputRose ⊎ OutputRose) [
+              | inl rose ↦ inl (rose-then _ _ _ rose causes.input_on)
+              | inr rose ↦ inr (rose-then _ _ _ rose causes.output_on)
+            ]
+            | inr gave ↦ elim (moves gave.1.0) as (λ _. InputRose ⊎ OutputRose) [
+              | inl there ↦ inl (input-rose there gave.1.1)
+              | inr there ↦ inr (output-rose there gave.1.1)
+            ]
+          ]
+
+      output : outcome_by (caused ((happens (core process) s event).histories 4)) ≡ outcome.Fault cause.DiskFault → OutputRose
+      output is =
+          elim (now-or-before 4 cause.DiskFault is) as (λ _. OutputRose) [
+            | inl had ↦ rose-then _ _ _ (was.output had) causes.output_on
+            | inr gave ↦ elim (moves gave.1.0) as (λ _. OutputRose) [
+              | inl there ↦ absurd (no-input q made gave.0 there)
+              | inr there ↦ output-rose there gave.1.1
+            ]
+          ]
+
+      print : outcome_by (caused ((happens (core process) s event).histories 5)) ≡ outcome.Fault cause.PrintFault
+          → Rose (counts.print_faults before.sink) (counts.print_faults new.shared.paper.sink)
+      print is =
+          elim (now-or-before 5 cause.PrintFault is) as (λ _. Rose (counts.print_faults before.sink) (counts.print_faults new.shared.paper.sink)) [
+            | inl had ↦ rose-then _ _ _ (was.print had) causes.print_on
+            | inr gave ↦ then-rose _ _ _ was.print_on (causes.print gave.1.0 gave.1.1)
+          ]
+
+      counted : AreCounted counts before (devices_of new.shared) (outcomes_in (happens (core process) s event))
+      counted = record {
+        read = read;
+        limit = limit;
+        input = input;
+        job = job;
+        output = output;
+        print = print;
+        read_on = on-then _ _ _ was.read_on causes.read_on;
+        input_on = on-then _ _ _ was.input_on causes.input_on;
+        output_on = on-then _ _ _ was.output_on causes.output_on;
+        print_on = on-then _ _ _ was.print_on causes.print_on;
+      }
+
+  -- A turn keeps that they were counted.
+  pub turn-counted : (old new : Net S K A B) (p : ℕ) (stepped : Stepped) (may : MayStepNet keeps tells old p)
+      → StepsNet keeps tells counts old new may.state p may.action stepped
+      → (before : Devices S K A B) → CausesAreCounted keeps tells counts before old → CausesAreCounted keeps tells counts before new
+  turn-counted old new p stepped may step before were =
+      counted-each new before (happens (core process) may.state step.event) step.stands
+      (counted old new may.spools may.deck may.paper may.state p may.action stepped may.reached step before (were may.state may.stands))
+
+  -- What was counted until all ended is what the run tells.
+  pub ended-counted : (net : Net S K A B) (outcomes : Outcomes) (now : Devices S K A B) (s : CoreState) → NetStands keeps tells net s
+      → outcomes.card ≡ outcome_by (caused (s.histories 1)) → outcomes.input ≡ outcome_by (caused (s.histories 2))
+      → outcomes.job ≡ outcome_by (caused (s.histories 3)) → outcomes.output ≡ outcome_by (caused (s.histories 4))
+      → outcomes.printer ≡ outcome_by (caused (s.histories 5)) → now ≡ devices_of net.shared
+      → (before : Devices S K A B) → CausesAreCounted keeps tells counts before net → AreCounted counts before now outcomes
+  ended-counted net outcomes now s stands card input job output printer devices before were =
+      subst (λ now. AreCounted counts before now outcomes) (sym devices)
+      (subst (AreCounted counts before (devices_of net.shared)) (sym (same-five _ _ _ _ _ _ _ _ _ _ card input job output printer outcomes refl)) (were s stands))

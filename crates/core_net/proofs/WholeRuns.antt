@@ -1,0 +1,65 @@
+-- A run from an opening to its end.
+use Rattle.std.proofs.Common.{◌≡◌, ◌≤◌, ℕ, List, Option, refl, sym, ◌∙◌, ap, arith}
+use Rattle.solo_base.specs.declared.item.Item.{Item}
+use Rattle.solo_base.specs.declared.outcome.Side.{Side}
+use Rattle.batch_procs.specs.Table.{process}
+use Rattle.solo_devices.specs.CardUnit.{Held, items_ahead}
+use Rattle.solo_devices.specs.PrinterUnit.{Printing}
+use Rattle.network_law.specs.Network.{run, happens}
+use Rattle.core_law.specs.Core.{core, CoreState, Devices}
+use Rattle.core_law.specs.Opening.{Spools, IsReached}
+use Rattle.core_law.specs.Work.{events_left}
+use Rattle.core_law.proofs.WorkFalls.{work-falls}
+use Rattle.core_net.specs.declared.counts.Counts.{Counts}
+use Rattle.core_net.specs.declared.finish.Outcomes.{Outcomes}
+use Rattle.core_net.specs.declared.net.Net.{Net}
+use Rattle.core_net.specs.declared.rules.Rule.{Rule}
+use Rattle.core_net.specs.Ended.{EndsSo}
+use Rattle.core_net.specs.Net.{Keeps, NetStands, StandsReached, most_events}
+use Rattle.core_net.specs.Runs.{RunsBy, TurnTaken}
+use Rattle.core_net.specs.Shared.{Tells, cards_left}
+use Rattle.core_net.specs.WholeRuns.{RunsToEnd}
+use Rattle.core_net.proofs.TurnTaken.{reached-more}
+
+same-told : (devices : Devices) (deck : Option (List Item)) (paper : Option (List ℕ)) → devices.deck ≡ deck → devices.paper ≡ paper
+    → devices ≡ record { deck = deck; paper = paper }
+same-told devices deck paper a b = rw (sym a, sym b) refl
+
+module _ {S K A B : Type 0} (keeps : Keeps) (tells : Tells S K A B) where
+  -- a turn leads from a reached state to a reached state of the same opening
+  pub turn-reaches : (old new : Net S K A B) (p : ℕ) (before after : Counts) (spools : Spools) (deck : Option (List Item)) (paper : Option (List ℕ))
+      (st : StandsReached keeps tells old spools deck paper) → TurnTaken keeps tells old new st.state p before after
+      → StandsReached keeps tells new spools deck paper
+  turn-reaches old new p before after spools deck paper st turn =
+      let less = work-falls spools deck paper st.state turn.event (cards_left tells.taken old.shared.deck) (cards_left tells.taken new.shared.deck)
+      st.reached turn.enabled turn.deck in
+      let all = st.within in
+      record {
+        state = happens (core process) st.state turn.event;
+        reached = reached-more spools deck paper st.state turn.event st.reached turn.enabled;
+        stands = turn.stands;
+        within = omega (arith, less, all);
+      }
+
+  -- where a network begins, as one that is reached
+  pub reached-first : (net : Net S K A B) (spools : Spools) (deck : Option (List Item)) (paper : Option (List ℕ)) (s : CoreState)
+      → IsReached spools deck paper s → NetStands keeps tells net s → events_left (cards_left tells.taken net.shared.deck) s ≤ most_events
+      → StandsReached keeps tells net spools deck paper
+  reached-first net spools deck paper s reached stands within = record { state = s; reached = reached; stands = stands; within = within }
+
+  -- how a run went, once it has ended, told without its network
+  pub runs-to-end : (rule : Rule) (net : Net S K A B) (s : CoreState) (counts : Counts) → RunsBy keeps tells rule net s counts
+      → (outcomes : Outcomes) (stops : List (Option Side)) → ((s : CoreState) → NetStands keeps tells net s → EndsSo s outcomes stops)
+      → (deck : Held S) (paper : Printing K) → deck ≡ net.shared.deck → paper ≡ net.shared.paper
+      → RunsToEnd rule s counts outcomes stops record { deck = items_ahead (tells.left deck.source) deck.pending; paper = tells.given paper.sink }
+  runs-to-end rule net s counts ran outcomes stops ends deck paper deck_is paper_is = record {
+    events = ran.events;
+    enabled = ran.enabled;
+    by_rule = ran.by_rule;
+    counts_are = ran.counts_are;
+    ends = ends (run (core process) s ran.events) ran.stands;
+    devices_are =
+        same-told (run (core process) s ran.events).devices _ _
+        (ran.stands.shared.deck ∙ ap (λ (d : Held S). items_ahead (tells.left d.source) d.pending) (sym deck_is))
+        (ran.stands.shared.paper ∙ ap (λ (d : Printing K). tells.given d.sink) (sym paper_is));
+  }

@@ -1,0 +1,23 @@
+use Rattle.core_net.proofs.WholeRuns.{reached-first, runs-to-end}
+use Rattle.core_net.proofs.core_run.run_core.Goals as goal
+
+pub returns-clause-runs : goal.returns-clause-runs
+returns-clause-runs g c =
+    runs-to-end _ _ c.args.rule c.run-counts.new.self _ c.run-counts.result
+    (c.run-counts.ensures.runs _ _ _ _ c.make-net.ensures.reached c.make-net.ensures.stands) c.finish.result.outcomes c.finish.result.stopped_by
+    c.finish.ensures.ends c.finish.result.deck c.finish.result.paper c.finish.ensures.units.0 c.finish.ensures.units.1
+
+pub returns-clause-counted : goal.returns-clause-counted
+returns-clause-counted g c = c.finish.ensures.counted _ (c.run-counts.ensures.counted _ c.make-net.ensures.counted)
+
+pub returns-clause-prints : goal.returns-clause-prints
+returns-clause-prints g c = λ items is valid told.
+    c.finish.ensures.prints _ _ _
+    (c.run-counts.ensures.reached _ _ _ (reached-first _ _ c.make-net.result _ _ _ _ c.make-net.ensures.reached c.make-net.ensures.stands c.make-net.ensures.within))
+    told items is valid
+
+pub returns-clause-reads : goal.returns-clause-reads
+returns-clause-reads g c = λ items is done.
+    c.finish.ensures.reads _ _ _
+    (c.run-counts.ensures.reached _ _ _ (reached-first _ _ c.make-net.result _ _ _ _ c.make-net.ensures.reached c.make-net.ensures.stands c.make-net.ensures.within))
+    items is done

@@ -1,0 +1,65 @@
+//! A run of the core on one thread, from the making of its network to its end.
+ghost use Rattle.std.specs.Prelude.{◌≡◌, ◌≤◌, ◌<◌, ℕ, List, [], Some};
+ghost use Rattle.solo_base.specs.declared.item.Item.{Item};
+ghost use Rattle.solo_base.specs.Text.{text};
+ghost use Rattle.solo_devices.specs.CardUnit.{items_ahead};
+ghost use Rattle.solo_devices.specs.PrinterUnit.{Gains};
+ghost use Rattle.page_codec.specs.Items.{AreItems};
+ghost use Rattle.core_law.specs.Holds.{one_thread_lines, AreTold};
+ghost use Rattle.core_law.specs.Opening.{opened};
+ghost use Rattle.core_net.specs.Causes.{counting};
+ghost use Rattle.core_net.specs.Ended.{all_done, EndTogether, FaultsAre};
+ghost use Rattle.core_net.specs.Faults.{FaultsAreCounted};
+ghost use Rattle.core_net.specs.Openings.{spools_over};
+ghost use Rattle.core_net.specs.WholeRuns.{RunsToEnd};
+
+use crate::{Counts, Net, Ran, Rule};
+use solo_devices::{Area, Sink, Source};
+
+/// Runs a deck of which nothing was read to the paper, over an area of 1 to 256 pages for each spool. A rule picks
+/// the process that steps next, until all five have ended.
+pub fn run_core<S: Source, K: Sink, A: Area, B: Area>(
+    source: S,
+    input: A,
+    output: B,
+    sink: K,
+    rule: Rule,
+) -> (Ran<S, K, A, B>, Counts)
+    requires unread { S.taken source ≡ 0 }
+    requires input { (0 < A.size input) × (A.size input ≤ 256) }
+    requires output { (0 < B.size output) × (B.size output ≤ 256) }
+
+    // What is counted is the run of the rule from the opening over these devices, and the deck and the paper are
+    // as this run leaves them.
+    ensures runs { RunsToEnd rule
+        (opened
+        (spools_over (A.size input) (A.pages input) (B.size output) (B.pages output))
+        (items_ahead (S.left source) [])
+        (K.given sink))
+        result.1 result.0.outcomes result.0.stopped_by
+        record {
+          deck = items_ahead (S.left result.0.deck.source) result.0.deck.pending;
+          paper = K.given result.0.paper.sink;
+        } }
+
+    // How the five ended together, and where their faults come from.
+    ensures together { EndTogether result.0.outcomes result.0.stopped_by }
+    ensures faults { FaultsAre result.0.outcomes }
+    ensures counted { FaultsAreCounted (counting S.faults S.taken K.faults A.faults B.faults)
+        record { source = source; sink = sink; input = input; output = output } result.0 }
+
+    // The paper gained what one thread prints or a part of it, all of it where all are done, and then nothing is
+    // left of the deck.
+    ensures prints { (items : List Item) →
+        items_ahead (S.left source) [] ≡ Some items → AreItems items →
+        AreTold (spools_over (A.size input) (A.pages input) (B.size output) (B.pages output)) →
+        Gains (K.given sink) (K.given result.0.paper.sink)
+        (text (one_thread_lines items)) (result.0.outcomes ≡ all_done) }
+    ensures reads { (items : List Item) →
+        items_ahead (S.left source) [] ≡ Some items → result.0.outcomes ≡ all_done →
+        items_ahead (S.left result.0.deck.source) result.0.deck.pending ≡ Some [] }
+{
+    let mut net = Net::make(source, input, output, sink);
+    let counts = net.run(rule);
+    (net.finish(), counts)
+}
