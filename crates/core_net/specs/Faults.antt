@@ -40,8 +40,8 @@ devices_left ran = record {
   output = ran.output;
 }
 
--- Where a process has a fault of its device, this device has counted it since, or the deck was too long. The job
--- process uses both areas. No count falls.
+-- Where a process has a fault of its device, this device has counted it since, or the deck was too long. The
+-- job process uses both areas. No count falls.
 pub record AreCounted {S K A B : Type 0} (counts : Counts S K A B) (before now : Devices S K A B)
     (outcomes : Outcomes) : Type 0 where
   pub read : outcomes.card ≡ outcome.Fault cause.ReadFault
@@ -79,5 +79,5 @@ outcomes_in s = record {
 -- The faults of each state that the network stands for were counted since.
 abbrev pub CausesAreCounted : {S K A B : Type 0} → Keeps → Tells S K A B → Counts S K A B → Devices S K A B
     → Net S K A B → Type 0
-CausesAreCounted keeps tells counts before net =
-    (s : CoreState) → NetStands keeps tells net s → AreCounted counts before (devices_of net.shared) (outcomes_in s)
+CausesAreCounted keeps tells counts before net = (s : CoreState) → NetStands keeps tells net s
+    → AreCounted counts before (devices_of net.shared) (outcomes_in s)

@@ -5,10 +5,11 @@ ghost use Rattle.solo_base.specs.Text.{text};
 ghost use Rattle.solo_devices.specs.CardUnit.{items_ahead};
 ghost use Rattle.solo_devices.specs.PrinterUnit.{Gains};
 ghost use Rattle.page_codec.specs.Items.{AreItems};
+ghost use Rattle.core_law.specs.Bound.{longest_run};
 ghost use Rattle.core_law.specs.Holds.{one_thread_lines, AreTold};
 ghost use Rattle.core_law.specs.Opening.{opened};
 ghost use Rattle.core_net.specs.Causes.{counting};
-ghost use Rattle.core_net.specs.Ended.{all_done, EndTogether, FaultsAre};
+ghost use Rattle.core_net.specs.Ended.{all_done, EndTogether, FaultsAre, NoneDamaged};
 ghost use Rattle.core_net.specs.Faults.{FaultsAreCounted};
 ghost use Rattle.core_net.specs.Openings.{spools_over};
 ghost use Rattle.core_net.specs.WholeRuns.{RunsToEnd};
@@ -16,8 +17,8 @@ ghost use Rattle.core_net.specs.WholeRuns.{RunsToEnd};
 use crate::{Counts, Net, Ran, Rule};
 use solo_devices::{Area, Sink, Source};
 
-/// Runs a deck of which nothing was read to the paper, over an area of 1 to 256 pages for each spool. A rule picks
-/// the process that steps next, until all five have ended.
+/// Runs a deck of which nothing was read to the paper, over an area of 1 to 256 pages for each spool. A rule
+/// picks the process that steps next, until all five have ended.
 pub fn run_core<S: Source, K: Sink, A: Area, B: Area>(
     source: S,
     input: A,
@@ -29,8 +30,8 @@ pub fn run_core<S: Source, K: Sink, A: Area, B: Area>(
     requires input { (0 < A.size input) × (A.size input ≤ 256) }
     requires output { (0 < B.size output) × (B.size output ≤ 256) }
 
-    // What is counted is the run of the rule from the opening over these devices, and the deck and the paper are
-    // as this run leaves them.
+    // What is counted is the run of the rule from the opening over these devices, and the deck and the paper
+    // are as this run leaves them.
     ensures runs { RunsToEnd rule
         (opened
         (spools_over (A.size input) (A.pages input) (B.size output) (B.pages output))
@@ -48,8 +49,8 @@ pub fn run_core<S: Source, K: Sink, A: Area, B: Area>(
     ensures counted { FaultsAreCounted (counting S.faults S.taken K.faults A.faults B.faults)
         record { source = source; sink = sink; input = input; output = output } result.0 }
 
-    // The paper gained what one thread prints or a part of it, all of it where all are done, and then nothing is
-    // left of the deck.
+    // The paper gained what one thread prints or a part of it, all of it where all are done, and then nothing
+    // is left of the deck.
     ensures prints { (items : List Item) →
         items_ahead (S.left source) [] ≡ Some items → AreItems items →
         AreTold (spools_over (A.size input) (A.pages input) (B.size output) (B.pages output)) →
@@ -58,6 +59,17 @@ pub fn run_core<S: Source, K: Sink, A: Area, B: Area>(
     ensures reads { (items : List Item) →
         items_ahead (S.left source) [] ≡ Some items → result.0.outcomes ≡ all_done →
         items_ahead (S.left result.0.deck.source) result.0.deck.pending ≡ Some [] }
+
+    // Over told devices no page was damaged, and there were no more events than the cards and lines of the deck
+    // allow.
+    ensures undamaged { (items : List Item) →
+        items_ahead (S.left source) [] ≡ Some items → AreItems items →
+        AreTold (spools_over (A.size input) (A.pages input) (B.size output) (B.pages output)) →
+        NoneDamaged result.0.outcomes }
+    ensures bound { (items : List Item) →
+        items_ahead (S.left source) [] ≡ Some items → AreItems items →
+        AreTold (spools_over (A.size input) (A.pages input) (B.size output) (B.pages output)) →
+        result.1.events ≤ longest_run items }
 {
     let mut net = Net::make(source, input, output, sink);
     let counts = net.run(rule);

@@ -13,11 +13,24 @@ returns-clause-counted g c = c.finish.ensures.counted _ (c.run-counts.ensures.co
 pub returns-clause-prints : goal.returns-clause-prints
 returns-clause-prints g c = λ items is valid told.
     c.finish.ensures.prints _ _ _
-    (c.run-counts.ensures.reached _ _ _ (reached-first _ _ c.make-net.result _ _ _ _ c.make-net.ensures.reached c.make-net.ensures.stands c.make-net.ensures.within))
+    (c.run-counts.ensures.reached _ _ _
+    (reached-first _ _ c.make-net.result _ _ _ _ c.make-net.ensures.reached c.make-net.ensures.stands c.make-net.ensures.within))
     told items is valid
 
 pub returns-clause-reads : goal.returns-clause-reads
 returns-clause-reads g c = λ items is done.
     c.finish.ensures.reads _ _ _
-    (c.run-counts.ensures.reached _ _ _ (reached-first _ _ c.make-net.result _ _ _ _ c.make-net.ensures.reached c.make-net.ensures.stands c.make-net.ensures.within))
+    (c.run-counts.ensures.reached _ _ _
+    (reached-first _ _ c.make-net.result _ _ _ _ c.make-net.ensures.reached c.make-net.ensures.stands c.make-net.ensures.within))
     items is done
+
+pub returns-clause-undamaged : goal.returns-clause-undamaged
+returns-clause-undamaged g c = λ items is valid told.
+    c.finish.ensures.undamaged _ _ _
+    (c.run-counts.ensures.reached _ _ _
+    (reached-first _ _ c.make-net.result _ _ _ _ c.make-net.ensures.reached c.make-net.ensures.stands c.make-net.ensures.within))
+    told items is valid
+
+pub returns-clause-bound : goal.returns-clause-bound
+returns-clause-bound g c = λ items is valid told.
+    c.run-counts.ensures.bound _ _ _ _ items c.make-net.ensures.reached c.make-net.ensures.stands told is valid

@@ -22,8 +22,10 @@ invariant-running g l =
     → StandsReached the_keeps (telling g.S.Source.left g.S.Source.taken g.K.Sink.given g.A.Area.pages g.B.Area.pages) l.fn.self spools deck paper
     → StandsReached the_keeps (telling g.S.Source.left g.S.Source.taken g.K.Sink.given g.A.Area.pages g.B.Area.pages) l.self spools deck paper)
     × ((before : Devices _ _ _ _)
-    → CausesAreCounted the_keeps (telling g.S.Source.left g.S.Source.taken g.K.Sink.given g.A.Area.pages g.B.Area.pages) (counting g.S.Source.faults g.S.Source.taken g.K.Sink.faults g.A.Area.faults g.B.Area.faults) before l.fn.self
-    → CausesAreCounted the_keeps (telling g.S.Source.left g.S.Source.taken g.K.Sink.given g.A.Area.pages g.B.Area.pages) (counting g.S.Source.faults g.S.Source.taken g.K.Sink.faults g.A.Area.faults g.B.Area.faults) before l.self)
+    → CausesAreCounted the_keeps (telling g.S.Source.left g.S.Source.taken g.K.Sink.given g.A.Area.pages g.B.Area.pages)
+    (counting g.S.Source.faults g.S.Source.taken g.K.Sink.faults g.A.Area.faults g.B.Area.faults) before l.fn.self
+    → CausesAreCounted the_keeps (telling g.S.Source.left g.S.Source.taken g.K.Sink.given g.A.Area.pages g.B.Area.pages)
+    (counting g.S.Source.faults g.S.Source.taken g.K.Sink.faults g.A.Area.faults g.B.Area.faults) before l.self)
 
 abbrev pub decreases-running : goal.decreases-running
 decreases-running g l = most_events - l.counts.events
