@@ -1,16 +1,14 @@
 // Whole runs over memory: whichever process goes first, the paper is the one-thread output.
-ghost use Rattle.std.specs.Prelude.{◌≡◌, ◌≤◌, ◌<◌, IfOk};
-ghost use Rattle.core_net.specs.Net.{StandsSomewhere, the_keeps};
-ghost use Rattle.core_net.specs.Shared.{telling};
+ghost use Rattle.std.specs.Prelude.{◌≤◌, ◌<◌};
 
-use crate::{Counts, Net, Outcomes, Ran, Rule};
+use crate::{Counts, Outcomes, Ran, Rule, run_core};
 use solo_base::Outcome;
-use solo_devices::{Area, MemSink, MemSource, Sink, Source, SureArea};
+use solo_devices::{MemSink, MemSource, SureArea};
 use std::alloc::Global;
 use std::process::Abort;
 use std::test::*;
 
-type Network = Net<MemSource, MemSink, SureArea, SureArea>;
+type Run = Ran<MemSource, MemSink, SureArea, SureArea>;
 
 const DONE: Outcomes = Outcomes {
     card: Outcome::Done,
@@ -20,30 +18,28 @@ const DONE: Outcomes = Outcomes {
     printer: Outcome::Done,
 };
 
-fn network(
+// A whole run, over spools of so many pages.
+fn run(
     rt: &impl Abort,
     alloc: Global,
     deck: &str,
-    input: u16,
-    output: u16,
-) -> Result<Network, Fail>
-    requires input_some { 0 < input }
-    requires input_few { input ≤ 256 }
-    requires output_some { 0 < output }
-    requires output_few { output ≤ 256 }
-    ensures { IfOk result (λ net. StandsSomewhere the_keeps
-        (telling
-        ⟦<MemSource as Source>⟧.left
-        ⟦<MemSource as Source>⟧.taken
-        ⟦<MemSink as Sink>⟧.given
-        ⟦<SureArea as Area>⟧.pages
-        ⟦<SureArea as Area>⟧.pages) net) }
+    pages: (u16, u16),
+    rule: Rule,
+) -> Result<(Run, Counts), Fail>
+    requires input_some { 0 < pages.0 }
+    requires input_few { pages.0 ≤ 256 }
+    requires output_some { 0 < pages.1 }
+    requires output_few { pages.1 ≤ 256 }
 {
     let source = MemSource::new(deck.as_bytes().to_vec(alloc)?, 7, Vec::new(alloc));
-    let input = SureArea::new(alloc, input).ok().expect(rt, "ample memory");
-    let output = SureArea::new(alloc, output).ok().expect(rt, "ample memory");
+    let input = SureArea::new(alloc, pages.0)
+        .ok()
+        .expect(rt, "ample memory");
+    let output = SureArea::new(alloc, pages.1)
+        .ok()
+        .expect(rt, "ample memory");
     let paper = MemSink::new(alloc, Vec::new(alloc));
-    Ok(Net::make(source, input, output, paper))
+    Ok(run_core(source, input, output, paper, rule))
 }
 
 // What a run counts; its paper is this one.
@@ -58,13 +54,12 @@ fn counts(
     requires some { 0 < pages }
     requires few { pages ≤ 256 }
 {
-    let mut net = network(rt, alloc, deck, pages, pages)?;
-    let counts = net.run(rule);
+    let (ran, counts) = run(rt, alloc, deck, (pages, pages), rule)?;
     let Ran {
         outcomes,
         paper: unit,
         ..
-    } = net.finish();
+    } = ran;
     assert_eq!(rt; outcomes, DONE);
     let sink = unit.into_inner();
     assert_eq!(rt; sink.bytes(), paper.as_bytes());
@@ -149,10 +144,9 @@ fn agrees(
     requires output_some { 0 < pages.1 }
     requires output_few { pages.1 ≤ 256 }
 {
-    let mut net = network(rt, alloc, deck, pages.0, pages.1)?;
-    let counts = net.run_numbered(number);
+    let (ran, counts) = run(rt, alloc, deck, pages, Rule::Numbered { number })?;
     assert_eq!(rt; counts, wanted, "{number}");
-    assert_eq!(rt; net.finish().outcomes, DONE);
+    assert_eq!(rt; ran.outcomes, DONE);
     Ok(())
 }
 
