@@ -28,6 +28,8 @@ deck-begins left taken faults deck live = record {
   counts = same≤ (faults deck.source);
   failed = λ e. absurd cc;
   limit = λ e. absurd cc;
+  longer = λ few over. absurd (omega (arith, few, over));
+  total = refl;
   live = λ none. live;
 }
 

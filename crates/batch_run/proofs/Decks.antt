@@ -4,7 +4,7 @@ use Rattle.solo_base.specs.declared.item.Item.{Item}
 use Rattle.solo_devices.specs.Count.{Rose}
 use Rattle.solo_devices.specs.declared.card_read.CardRead.{CardRead}
 use Rattle.solo_devices.specs.declared.card_read.CardRead.TheVariants as read
-use Rattle.solo_devices.specs.CardUnit.{Held, GivesNext, items_ahead, item_of, byte_limit, IsAllTaken}
+use Rattle.solo_devices.specs.CardUnit.{Held, GivesNext, items_ahead, item_of, byte_limit, bytes_total, IsAllTaken}
 use Rattle.batch_procs.specs.declared.actions.Action.TheVariants as act
 use Rattle.batch_procs.specs.declared.actions.Reply.TheVariants as reply
 use Rattle.batch_procs.specs.History.{Entry, Does}
@@ -40,8 +40,9 @@ module _ {S : Type 0} {left : S → Option (List ℕ)} {taken faults : S → ℕ
       → (answer ≡ read.End → IsAllTaken (left new.source)) → faults old.source ≤ faults new.source
       → (answer ≡ read.Failed → Rose (faults old.source) (faults new.source)) → ((answer ≡ read.Limit) ↔ (byte_limit < taken new.source))
       → (answer ≢ read.Failed → answer ≢ read.Limit → new.live ≡ true)
+      → bytes_total (taken new.source) (left new.source) ≡ bytes_total (taken old.source) (left old.source)
       → DeckRan left taken faults start new (Does act.ReadCard (reply.Card answer) ∷ h)
-  deck-read ran next all counts failed limit live = record {
+  deck-read ran next all counts failed limit live total = record {
     reads = λ items told.
         let (rest, ahead, parts, end) = ran.reads items told in
         let takes = next.told rest ahead in (
@@ -54,5 +55,7 @@ module _ {S : Type 0} {left : S → Option (List ℕ)} {taken faults : S → ℕ
     counts = let later = ran.counts in omega (arith, later, counts);
     failed = λ is. rose-later (faults start.source) (faults old.source) (faults new.source) ran.counts (failed (some-same answer read.Failed is));
     limit = λ is. limit.0 (some-same answer read.Limit is);
+    longer = λ few over. ap Some (limit.1 over);
+    total = total ∙ ran.total;
     live = λ none. (let not = not-failed answer (new-none (caused h) (fault_read answer) none) in live not.0 not.1);
   }

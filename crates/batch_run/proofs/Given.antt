@@ -297,6 +297,18 @@ pub read-failed : DoesOnly card does_card → (h : List Entry) (c : Cause) (want
 read-failed only h c wanted is follows e =
     (let g = each_cause_is_given h (outcome.Fault c) e in deck-gave only h g.later g.before wanted c is follows g.none g.entry g.is g.gives)
 
+-- a deck that told its limit is the cause
+pub limit-cause : (h : List Entry) → Follows card h → newest_read h ≡ Some read.Limit → caused h ≡ Some (outcome.Fault cause.DeckLimit)
+limit-cause [] follows e = absurd cc
+limit-cause (Does act.ReadCard (reply.Card answer) ∷ h) follows e =
+    let none = open-next card h act.ReadCard follows.0 tt in
+    let limit = some-same answer read.Limit e in
+    rw (none, limit) refl
+limit-cause (Does act.ReadCard r ∷ h) follows e = absurd follows.1
+limit-cause (Does a r ∷ h) follows e = rw (limit-cause h follows.2 e) refl
+limit-cause (LacksMemory a r ∷ h) follows e = rw (limit-cause h follows.2 e) refl
+limit-cause (Delays a ∷ h) follows e = limit-cause h follows.2 e
+
 -- the printer process
 some-cause : (old : Option Outcome) (how : Outcome) → (first : Outcome) × (or_new old (Some how) ≡ Some first)
 some-cause None how = (how, refl)

@@ -11,7 +11,7 @@ use Rattle.solo_base.specs.declared.outcome.Cause.TheVariants as cause
 use Rattle.solo_base.specs.declared.page.Page.{Page}
 use Rattle.solo_base.specs.Text.{text}
 use Rattle.solo_devices.specs.Count.{Rose}
-use Rattle.solo_devices.specs.CardUnit.{Held, items_ahead, byte_limit}
+use Rattle.solo_devices.specs.CardUnit.{Held, items_ahead, byte_limit, bytes_total, IsAllTaken}
 use Rattle.solo_devices.specs.declared.card_read.CardRead.TheVariants as read
 use Rattle.solo_devices.specs.PrinterUnit.{Printing, Gains}
 use Rattle.page_codec.specs.Items.{AreItems}
@@ -27,7 +27,8 @@ use Rattle.batch_procs.specs.Causes.{caused}
 use Rattle.batch_procs.specs.Laws.{IsRelay, HasEnded}
 use Rattle.batch_procs.specs.Process.{Process, Follows}
 use Rattle.batch_procs.specs.Relays.{card-relay, input-relay, job-relay, output-relay, printer-relay}
-use Rattle.batch_procs.specs.Table.{card, input, job, output, printer}
+use Rattle.batch_procs.specs.Table.{card, input, job, output, printer, process}
+use Rattle.batch_procs.proofs.Ended.{ended-rightly}
 use Rattle.batch_procs.proofs.Faulty.{faults_of_the_five}
 use Rattle.core_law.specs.Core.{IsBuffer}
 use Rattle.core_law.specs.Ends.{IsProcess, outcome_by}
@@ -57,9 +58,9 @@ use Rattle.batch_run.specs.Lines.{does_printer, newest_print}
 use Rattle.batch_run.specs.Met.{IsSeatAt, AreEndsOf, AllMeet, IsParted}
 use Rattle.batch_run.specs.Pages.{does_input, does_job, does_output}
 use Rattle.batch_run.specs.Row.{RowRan}
-use Rattle.batch_run.proofs.Devices.{deck-reads, paper-gained}
+use Rattle.batch_run.proofs.Devices.{deck-reads, cards-taken, paper-gained}
 use Rattle.batch_run.proofs.Ending.{FiveRan, each-process, histories, follows, hand-over, are-first, line-met, spool-met}
-use Rattle.batch_run.proofs.Given.{has-failed, put-failed, take-failed, read-failed, print-failed}
+use Rattle.batch_run.proofs.Given.{has-failed, put-failed, take-failed, read-failed, print-failed, limit-cause}
 
 -- ---- one process
 fault-cause : (found : Option Outcome) (c : Cause) → outcome_by found ≡ outcome.Fault c → found ≡ Some (outcome.Fault c)
@@ -279,6 +280,27 @@ module _ {S K A B : Type 0} (left : S → Option (List ℕ)) (taken source_fault
     pub reads : (items : List Item) → items_ahead (left deck.source) deck.pending ≡ Some items → outcomes ≡ all_done
         → items_ahead (left parted.deck.source) parted.deck.pending ≡ Some []
     reads items told e = reads-all the-five (histories five) (follows five) items _ (deck-read items told) (end-done e)
+
+    pub taken-all : outcomes ≡ all_done → IsAllTaken (left parted.deck.source)
+    taken-all e =
+        let end = ran.front_ended.cards_ended in
+        let last = (ended-rightly (process 1) (histories five 1) outcome.Done (the-five.relays 1) (follows five 1)
+        (end-done e 1 (lit≤ tt, lit≤ tt))).done refl in
+        subst (λ d. IsAllTaken (left d.source)) (sym is.deck)
+        (end.stands.deck.all ((cards-taken end.history end.follows).ended last.1).1)
+
+    pub longer : taken deck.source ≤ byte_limit → byte_limit < taken parted.deck.source → outcomes.card ≡ outcome.Fault cause.DeckLimit
+    longer few over =
+        let end = ran.front_ended.cards_ended in
+        let newest = end.stands.deck.longer (subst (λ d. taken d.source ≤ byte_limit) (sym begins.deck_is) few)
+        (subst (λ d. byte_limit < taken d.source) is.deck over) in
+        let gave = limit-cause end.history end.follows newest in
+        sym (ended-as card end.history outcomes.card card-relay end.follows (ended-at 1 (lit≤ tt, lit≤ tt))) ∙ ap outcome_by gave
+
+    pub total : bytes_total (taken parted.deck.source) (left parted.deck.source) ≡ bytes_total (taken deck.source) (left deck.source)
+    total =
+        ap (λ d. bytes_total (taken d.source) (left d.source)) is.deck ∙ ran.front_ended.cards_ended.stands.deck.total
+        ∙ ap (λ d. bytes_total (taken d.source) (left d.source)) begins.deck_is
 
     -- ---- the counts
     read-gave : (c : Cause) → outcomes.card ≡ outcome.Fault c → caused five.card_history ≡ Some (outcome.Fault c)

@@ -4,7 +4,7 @@ use Rattle.solo_base.specs.declared.item.Item.{Item}
 use Rattle.solo_devices.specs.declared.card_read.CardRead.{CardRead}
 use Rattle.solo_devices.specs.declared.card_read.CardRead.TheVariants as read
 use Rattle.solo_devices.specs.Count.{Rose}
-use Rattle.solo_devices.specs.CardUnit.{Held, items_ahead, byte_limit, IsAllTaken}
+use Rattle.solo_devices.specs.CardUnit.{Held, items_ahead, byte_limit, bytes_total, IsAllTaken}
 use Rattle.batch_procs.specs.declared.actions.Action.{Action}
 use Rattle.batch_procs.specs.declared.actions.Action.TheVariants as act
 use Rattle.batch_procs.specs.declared.actions.Reply.TheVariants as reply
@@ -32,7 +32,8 @@ newest_read (LacksMemory action r ∷ h) = newest_read h
 newest_read (Delays action ∷ h) = newest_read h
 
 -- By what it was at first: its items are those that were read and those that are ahead, and its end came
--- where none is left. A failure was counted, and the limit comes where too many bytes were taken.
+-- where none is left. A failure was counted, and the limit comes where too many bytes were taken and nowhere
+-- else. What was taken and what is left are all that it had.
 pub record DeckRan {S : Type 0} (left : S → Option (List ℕ)) (taken faults : S → ℕ) (start now : Held S)
     (h : List Entry) : Type 0 where
   pub reads : (items : List Item) → items_ahead (left start.source) start.pending ≡ Some items →
@@ -43,6 +44,8 @@ pub record DeckRan {S : Type 0} (left : S → Option (List ℕ)) (taken faults :
   pub counts : faults start.source ≤ faults now.source
   pub failed : newest_read h ≡ Some read.Failed → Rose (faults start.source) (faults now.source)
   pub limit : newest_read h ≡ Some read.Limit → byte_limit < taken now.source
+  pub longer : taken start.source ≤ byte_limit → byte_limit < taken now.source → newest_read h ≡ Some read.Limit
+  pub total : bytes_total (taken now.source) (left now.source) ≡ bytes_total (taken start.source) (left start.source)
   pub live : caused h ≡ None → now.live ≡ true
 
 -- ---- the connections of the card process

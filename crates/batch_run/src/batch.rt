@@ -2,7 +2,9 @@
 ghost use Rattle.std.specs.Prelude.{◌≡◌, ◌<◌, ◌≤◌, true, List, [], Some, IsSome, IfOk, IfErr};
 ghost use Rattle.solo_base.specs.declared.item.Item.{Item};
 ghost use Rattle.solo_base.specs.Text.{text};
-ghost use Rattle.solo_devices.specs.CardUnit.{items_ahead};
+ghost use Rattle.solo_base.specs.declared.outcome.Cause.TheVariants as cause;
+ghost use Rattle.solo_base.specs.declared.outcome.Outcome.TheVariants as outcome;
+ghost use Rattle.solo_devices.specs.CardUnit.{items_ahead, byte_limit, bytes_total, IsAllTaken};
 ghost use Rattle.solo_devices.specs.PrinterUnit.{Gains};
 ghost use Rattle.page_codec.specs.Items.{AreItems};
 ghost use Rattle.batch_job.specs.OneThread.{one_thread_lines};
@@ -73,6 +75,13 @@ pub fn run_batch<
     ensures reads { IfOk result (λ ran. (items : List Item) →
         items_ahead (S.left units.deck.source) units.deck.pending ≡ Some items → ran.outcomes ≡ all_done →
         items_ahead (S.left ran.deck.source) ran.deck.pending ≡ Some []) }
+    ensures all_taken { IfOk result (λ ran. ran.outcomes ≡ all_done → IsAllTaken (S.left ran.deck.source)) }
+
+    // The limit comes wherever too many bytes were taken, and all that the source had was taken or is left.
+    ensures longer { IfOk result (λ ran. S.taken units.deck.source ≤ byte_limit →
+        byte_limit < S.taken ran.deck.source → ran.outcomes.card ≡ outcome.Fault cause.DeckLimit) }
+    ensures total { IfOk result (λ ran. bytes_total (S.taken ran.deck.source) (S.left ran.deck.source)
+        ≡ bytes_total (S.taken units.deck.source) (S.left units.deck.source)) }
 {
     let Units {
         deck,
@@ -132,6 +141,11 @@ fn run_made<
     ensures reads { (items : List Item) →
         items_ahead (S.left deck.source) deck.pending ≡ Some items → result.outcomes ≡ all_done →
         items_ahead (S.left result.deck.source) result.deck.pending ≡ Some [] }
+    ensures all_taken { result.outcomes ≡ all_done → IsAllTaken (S.left result.deck.source) }
+    ensures longer { S.taken deck.source ≤ byte_limit → byte_limit < S.taken result.deck.source →
+        result.outcomes.card ≡ outcome.Fault cause.DeckLimit }
+    ensures total { bytes_total (S.taken result.deck.source) (S.left result.deck.source)
+        ≡ bytes_total (S.taken deck.source) (S.left deck.source) }
 {
     let ended = run_five(rt, gates.row(ends, deck, paper));
     let Parted {

@@ -1,6 +1,6 @@
 use Rattle.std.proofs.Common.{refl}
 use Rattle.batch_run.proofs.Beginning.{row-begins}
-use Rattle.batch_run.proofs.Promise.{together, faults, counted, prints, reads}
+use Rattle.batch_run.proofs.Promise.{together, faults, counted, prints, reads, taken-all, longer, total}
 use Rattle.batch_run.proofs.batch.run_made.Goals as goal
 
 pub run_five-ended-requires-after_bounds : goal.run_five-ended-requires-after_bounds
@@ -40,3 +40,21 @@ returns-clause-reads g c items ahead done =
     c.args.gates c.args.ends c.args.deck c.args.paper c.row.result c.run_five-ended.result c.take_apart-ends.result c.requires.fresh c.row.ensures
     c.run_five-ended.ensures c.take_apart-ends.ensures g.A.Area.pages g.A.Area.faults g.B.Area.pages g.B.Area.faults c.meet-input.result c.meet-input.ensures
     items ahead done
+
+pub returns-clause-all_taken : goal.returns-clause-all_taken
+returns-clause-all_taken g c done =
+    taken-all g.S.Source.left g.S.Source.taken g.S.Source.faults g.K.Sink.given g.K.Sink.faults g.A.Area.size g.B.Area.size
+    c.args.gates c.args.ends c.args.deck c.args.paper c.row.result c.run_five-ended.result c.take_apart-ends.result c.requires.fresh c.row.ensures
+    c.run_five-ended.ensures c.take_apart-ends.ensures g.A.Area.pages g.A.Area.faults g.B.Area.pages g.B.Area.faults c.meet-input.result c.meet-input.ensures done
+
+pub returns-clause-longer : goal.returns-clause-longer
+returns-clause-longer g c few over =
+    longer g.S.Source.left g.S.Source.taken g.S.Source.faults g.K.Sink.given g.K.Sink.faults g.A.Area.size g.B.Area.size
+    c.args.gates c.args.ends c.args.deck c.args.paper c.row.result c.run_five-ended.result c.take_apart-ends.result c.requires.fresh c.row.ensures
+    c.run_five-ended.ensures c.take_apart-ends.ensures g.A.Area.pages g.A.Area.faults g.B.Area.pages g.B.Area.faults c.meet-input.result c.meet-input.ensures few over
+
+pub returns-clause-total : goal.returns-clause-total
+returns-clause-total g c =
+    total g.S.Source.left g.S.Source.taken g.S.Source.faults g.K.Sink.given g.K.Sink.faults g.A.Area.size g.B.Area.size
+    c.args.gates c.args.ends c.args.deck c.args.paper c.row.result c.run_five-ended.result c.take_apart-ends.result c.requires.fresh c.row.ensures
+    c.run_five-ended.ensures c.take_apart-ends.ensures g.A.Area.pages g.A.Area.faults g.B.Area.pages g.B.Area.faults c.meet-input.result c.meet-input.ensures

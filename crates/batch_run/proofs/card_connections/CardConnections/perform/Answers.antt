@@ -19,7 +19,7 @@ returns-in-ReadCard-clause-performs g c start h ran follows next =
         gate = ran.gate;
         calls = ran.calls;
         deck = deck-read start.deck c.args.self.now.deck c.read.new.self h c.read.result ran.deck c.read.ensures.next c.read.ensures.all_taken
-            c.read.ensures.counts c.read.ensures.failed c.read.ensures.limit c.read.ensures.live;
+            c.read.ensures.counts c.read.ensures.failed c.read.ensures.limit c.read.ensures.live c.read.ensures.total;
       };
       lacks = λ may. absurd may;
     }
