@@ -84,11 +84,9 @@ fn a_tree_is_spelled_by_the_words_that_it_was_read_from(rt: HostRuntime) -> Resu
 #[test]
 fn names_are_as_long_as_a_card_or_a_line(rt: HostRuntime) -> Result<(), Fail> {
     let alloc = rt.alloc();
+    let letters = [b'A'; 132];
     for length in [1, 80, 132] {
-        let mut name = Line::new();
-        for _ in 0..length {
-            name.append(b"A");
-        }
+        let name = Line::of(letters.get(..length).ok_or("no letters")?).ok_or("no name")?;
         let mut program = LineList::new(alloc);
         program.push(&Line::of(b"BEGIN").ok_or("no card")?)?;
         program.push(&name)?;
@@ -132,38 +130,68 @@ fn add_cards(program: &mut LineList, card: &str, times: usize) -> Option<()> {
     Some(())
 }
 
-/// Sixty-three statements, each in the one before, and in the last of them a test of sixty-three factors.
-fn deepest_program(alloc: Global) -> Option<LineList> {
+/// Sixty-two statements, each in the one before, and in the last of them an IF whose test has
+/// sixty-three factors, each in the one before. A statement and a factor are given by what stands
+/// in each before the next one and behind it.
+fn deepest_program(
+    alloc: Global,
+    statement: (&str, &str),
+    factor: (&str, &str),
+) -> Option<LineList> {
     let mut program = LineList::new(alloc);
     add_cards(&mut program, "BEGIN", 1)?;
-    add_cards(&mut program, "CASE 1 OF 1: IF A THEN B ELSE", 31)?;
+    add_cards(&mut program, statement.0, 62)?;
     add_cards(&mut program, "IF", 1)?;
-    add_cards(&mut program, "1 = - 1 + 1 * F(1,", 63)?;
+    add_cards(&mut program, factor.0, 63)?;
     add_cards(&mut program, "1", 1)?;
-    add_cards(&mut program, ")", 63)?;
+    add_cards(&mut program, factor.1, 63)?;
     add_cards(&mut program, "THEN B ELSE", 1)?;
-    add_cards(&mut program, "END", 31)?;
+    add_cards(&mut program, statement.1, 62)?;
     add_cards(&mut program, "END.", 1)?;
     Some(program)
 }
 
-/// Whether the deepest program is spelled by as many words as it has.
-fn spells_back(alloc: Global) -> Option<bool> {
-    let tokens = scan(alloc, &deepest_program(alloc)?).ok()?;
+/// Whether such a program is spelled by as many words as it has.
+fn spells_back(alloc: Global, statement: (&str, &str), factor: (&str, &str)) -> Option<bool> {
+    let tokens = scan(alloc, &deepest_program(alloc, statement, factor)?).ok()?;
     let count = tokens.len();
     let tree = parse(alloc, tokens).ok()?;
     let spelling = spell(&tree).ok()?;
     Some(spelling.len() == count)
 }
 
+/// Whether each of the deepest programs is spelled back: each kind of statement around the factors
+/// that need most, and each kind of factor in the statement that needs most.
+fn all_spell_back(alloc: Global) -> Option<bool> {
+    let call = ("1 = - 1 + 1 * F(1,", ")");
+    let case = ("CASE 1 OF 1: X; 1:", "END");
+    let table = [
+        (("BEGIN X;", "END"), call),
+        (("IF A THEN B ELSE", ""), call),
+        (("WHILE A DO", ""), call),
+        (("REPEAT X;", "UNTIL A"), call),
+        (("FOR I := 1 TO 2 DO", ""), call),
+        (case, call),
+        (case, ("1 = - 1 + 1 * A(.", ".)")),
+        (case, ("1 = - 1 + 1 * (", ")")),
+        (case, ("NOT", "")),
+    ];
+    for (statement, factor) in table {
+        if !spells_back(alloc, statement, factor)? {
+            return Some(false);
+        }
+    }
+    Some(true)
+}
+
 #[test]
-fn the_deepest_program_is_read_and_spelled_in_four_megabytes_of_stack(
+fn the_deepest_programs_are_read_and_spelled_in_two_megabytes_of_stack(
     rt: HostRuntime,
 ) -> Result<(), Fail> {
     let alloc = rt.alloc();
     let read = Builder::new()
-        .stack_size(4 << 20)
-        .spawn(&rt, move || spells_back(alloc))?
+        .stack_size(2 << 20)
+        .spawn(&rt, move || all_spell_back(alloc))?
         .join(&rt);
     assert_eq!(rt; read, Some(true));
     Ok(())
