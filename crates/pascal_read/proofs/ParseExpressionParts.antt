@@ -6,8 +6,8 @@ use Rattle.pascal_tree.specs.SpellExpression.{symbol_at, spelled_expr, spelled_e
 use Rattle.pascal_tree.specs.Limits.{ExprFits, ExprsFit, ArgumentsFit}
 use Rattle.pascal_tree.specs.declared.token.Symbol.TheVariants as symbol
 
-pub arguments_words : (o c : ℕ) (e : Expr) (more : Exprs) (x : Arguments) (m0 m1 m2 m3 : List Spot) → x ≡ arguments o e more c → m0 ≡ spelled_expr e ++ m1 → m1 ≡ spelled_exprs more ++ m2 →
-    m2 ≡ symbol_at symbol.Close c ∷ m3 → symbol_at symbol.Open o ∷ m0 ≡ spelled_arguments x ++ m3
+pub arguments_words : (o c : ℕ) (e : Expr) (more : Exprs) (x : Arguments) (m0 m1 m2 m3 : List Spot) → x ≡ arguments o e more c →
+    m0 ≡ spelled_expr e ++ m1 → m1 ≡ spelled_exprs more ++ m2 → m2 ≡ symbol_at symbol.Close c ∷ m3 → symbol_at symbol.Open o ∷ m0 ≡ spelled_arguments x ++ m3
 arguments_words o c e more x m0 m1 m2 m3 is p q r =
     let close_at : Spot = symbol_at symbol.Close c in
     ap (λ u. symbol_at symbol.Open o ∷ u)

@@ -54,7 +54,8 @@ if_fits l t n e s x (Some o) is f g h k =
     subst Q (sym is) (omega arith, f, subst (P s) (less_one n) g, h, subst (P o.1) (less_one n) k)
 
 -- where a statement ends closed before an ELSE, it does so before what stands behind it
-pub closed_before : (o : Option (ℕ × statements.Statement)) (s : Statement) (follows : Bool) → IfSome o (λ p. follows ≡ true) → (follows ≡ true → EndsClosed s) → IfSome (seen_otherwise o) (λ p. EndsClosed s)
+pub closed_before : (o : Option (ℕ × statements.Statement)) (s : Statement) (follows : Bool) → IfSome o (λ p. follows ≡ true) →
+    (follows ≡ true → EndsClosed s) → IfSome (seen_otherwise o) (λ p. EndsClosed s)
 closed_before None s follows h k = tt
 closed_before (Some x) s follows h k = k h
 

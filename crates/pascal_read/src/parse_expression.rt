@@ -346,7 +346,8 @@ pub fn arguments(
         ≡ spelled_arguments (seen_arguments x.value) ++ reader.new) }
     ensures fits { IfOk result (λ x. ArgumentsFit (seen_arguments x.value) levels) }
     ensures goes { OnOk result (AllGoesOn (argument_wants levels) reader.old reader.new) }
-    ensures fault { (line : ℕ) → result ≡ Err (ParseFault.Syntax line) → AllIsStuck (argument_wants levels) reader.old line }
+    ensures fault { (line : ℕ) → result ≡ Err (ParseFault.Syntax line)
+        → AllIsStuck (argument_wants levels) reader.old line }
 {
     let first = expr(reader, alloc, levels)?;
     let rest = more_exprs(reader, alloc, levels)?;

@@ -62,7 +62,8 @@ arguments-returns-clause-words t c =
     let rest = seen_exprs c.in_ok-rest.rest.items in
     let closing = c.in_ok-closing.closing in
     let made : seen_arguments x.value ≡ arguments c.args.opening first rest closing = rw e (search (rules, the_lemmas)) in
-    arguments_words c.args.opening closing first rest (seen_arguments x.value) _ _ _ _ made c.in_ok-first.ensures.words c.in_ok-rest.ensures.words c.in_ok-closing.ensures.taken)
+    arguments_words c.args.opening closing first rest (seen_arguments x.value) _ _ _ _ made
+    c.in_ok-first.ensures.words c.in_ok-rest.ensures.words c.in_ok-closing.ensures.taken)
     c.boxed.ensures.node
 
 pub arguments-returns-clause-fits : goal.arguments-returns-clause-fits

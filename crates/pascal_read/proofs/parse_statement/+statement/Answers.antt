@@ -51,7 +51,8 @@ if_statement-returns-clause-words t c =
     let second = seen_otherwise c.in_ok-otherwise.otherwise in
     let whole = seen_statement (statements.If c.in_ok-boxed.field-0) in
     let made : whole ≡ if_of c.args.line test c.in_ok-test.then first second = search (rules, the_lemmas) in
-    if_words c.args.line c.in_ok-test.then test first whole second _ _ _ _ made c.in_ok-test.ensures.words c.in_ok-first.ensures.words c.in_ok-otherwise.ensures.words
+    if_words c.args.line c.in_ok-test.then test first whole second _ _ _ _ made
+    c.in_ok-test.ensures.words c.in_ok-first.ensures.words c.in_ok-otherwise.ensures.words
 
 pub if_statement-returns-clause-fits : goal.if_statement-returns-clause-fits
 if_statement-returns-clause-fits t c =
@@ -77,7 +78,8 @@ for_statement-returns-clause-words t c =
     let range = c.in_ok-range.range in
     let turn = seen_statement c.in_ok-turn.turn in
     let whole = seen_statement (statements.For c.in_ok-boxed.field-0) in
-    let made : whole ≡ for_do c.args.line range.control range.becomes (seen_expr range.from) range.direction range.toward (seen_expr range.to) range.does turn = search (rules, the_lemmas) in
+    let made : whole ≡ for_do c.args.line range.control range.becomes (seen_expr range.from) range.direction range.toward (seen_expr range.to) range.does turn
+    = search (rules, the_lemmas) in
     for_words c.args.line range turn whole _ _ _ made c.in_ok-range.ensures.words c.in_ok-turn.ensures.words
 
 pub case_statement-returns-clause-words : goal.case_statement-returns-clause-words
@@ -87,4 +89,5 @@ case_statement-returns-clause-words t c =
     let rest = seen_branches c.in_ok-rest.rest.items in
     let whole = seen_statement (statements.Case c.in_ok-boxed.field-0) in
     let made : whole ≡ case_of c.args.line selector c.in_ok-selector.of first rest c.in_ok-end.end = search (rules, the_lemmas) in
-    case_words c.args.line c.in_ok-selector.of c.in_ok-end.end selector first rest whole _ _ _ _ _ made c.in_ok-selector.ensures.words c.in_ok-first.ensures.words c.in_ok-rest.ensures.words c.in_ok-end.ensures.taken
+    case_words c.args.line c.in_ok-selector.of c.in_ok-end.end selector first rest whole _ _ _ _ _ made
+    c.in_ok-selector.ensures.words c.in_ok-first.ensures.words c.in_ok-rest.ensures.words c.in_ok-end.ensures.taken
