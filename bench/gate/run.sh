@@ -1,45 +1,30 @@
 #!/bin/sh
-# Compares a gate with std's Mutex and Condvar: entries that nobody disturbs, and four threads on one monitor.
-# It builds a program over copies of the crates in a folder of its own, so that the repository stays as it is.
-set -eu
-alone=${1:-1000000}
-together=${2:-100000}
+# Compares a gate with std's Mutex and Condvar, on 4 processors and on 2: entries that nobody disturbs, a slot buffer
+# between two threads, and five threads in a chain of such buffers. Of three runs each, in turn, the least times.
 here=$(cd "$(dirname "$0")" && pwd)
-root=$(cd "$here/../.." && pwd)
+entries=${1:-1000000}
+items=${2:-1000000}
+chained=${3:-100000}
+cd "$here/../../crates/gate_bench" || exit 1
+[ -x out/gate_bench ] || rt run -- 1000 1000 1000 >/dev/null 2>&1 || exit 1
 work=$(mktemp -d)
 trap 'rm -rf "$work"' EXIT
+rustc --edition 2021 -O -o "$work/mutex" "$here/mutex.rs" || exit 1
 
-mkdir "$work/crates"
-for crate in solo_base monitor_gate level_monitor; do
-    cp -r "$root/crates/$crate" "$work/crates/"
-    rm -rf "$work/crates/$crate/out"
+for processors in 0-3 0,1; do
+    for _ in 1 2 3; do
+        taskset -c "$processors" ./out/gate_bench "$entries" "$items" "$chained" 2>&1 >/dev/null | sed 's/^/gate /'
+        taskset -c "$processors" "$work/mutex" "$entries" "$items" "$chained" 2>&1 | sed 's/^/std /'
+    done | awk -v processors="$processors" -v entries="$entries" -v items="$items" -v chained="$chained" '
+        { key = $1 " " $2; if (!(key in least) || $3 < least[key]) least[key] = $3 }
+        END {
+            print "processors " processors ":"
+            count["entries"] = 2 * entries; count["buffer"] = items; count["chain"] = chained
+            told["entries"] = "an entry"; told["buffer"] = "an item from thread to thread"
+            told["chain"] = "an item through five threads"
+            for (i = split("entries buffer chain", names, " "), k = 1; k <= i; k++) {
+                name = names[k]; gate = least["gate " name] / count[name]; std = least["std " name] / count[name]
+                printf "  %s: %.0f ns, std %.0f ns, %.2f times as long\n", told[name], gate, std, gate / std
+            }
+        }'
 done
-cp "$root/HANDLES" "$work/"
-git init -q "$work"
-mkdir -p "$work/crates/gate_bench/src"
-grep -E '^(solo_base|monitor_gate|level_monitor):' "$root/crates.txt" > "$work/crates.txt"
-echo 'gate_bench: level_monitor monitor_gate solo_base anyhow' >> "$work/crates.txt"
-cat > "$work/crates/gate_bench/src/main.rt" <<'PROGRAM'
-#![tactic(auto)]
-
-use level_monitor::{run_four, run_in_turn};
-use std::time::Instant;
-
-fn main(rt: HostRuntime) -> Result<(), anyhow::Error> {
-    let start = Instant::now(&rt)?;
-    let _level = run_in_turn(&rt, rt.alloc(), ALONE);
-    let taken = start.elapsed(&rt)?.as_nanos() / (2 * ALONE);
-    println!(rt; "gate, one thread: {taken} ns an entry")?;
-
-    let start = Instant::now(&rt)?;
-    let _level = run_four(&rt, rt.alloc(), TOGETHER);
-    let taken = start.elapsed(&rt)?.as_nanos() / (4 * TOGETHER);
-    println!(rt; "gate, four threads: {taken} ns an entry")?;
-    Ok(())
-}
-PROGRAM
-sed -i "s/ALONE/$alone/g; s/TOGETHER/$together/g" "$work/crates/gate_bench/src/main.rt"
-(cd "$work/crates/gate_bench" && rt run) | grep ' ns an entry'
-
-rustc --edition 2021 -O -o "$work/mutex" "$here/mutex.rs"
-"$work/mutex" "$alone" "$together"
