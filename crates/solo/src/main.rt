@@ -89,7 +89,7 @@ fn run(rt: &(impl Env + Input + Print + Files + AllocGlobal)) -> Result<Ended, N
     })
 }
 
-/// The area of so many pages of the drive, from page `first` on. Each area has the file opened for itself, as a
+/// The area of so many pages of the drive, from page `first` on. Each area opens the file for itself, since a
 /// file has one position.
 fn area<R: Files>(rt: &R, first: u16, pages: u16) -> DriveArea<R::File> {
     let drive = open_drive(rt, DRIVE, FILE_PAGES + 2 * SPOOL_PAGES);

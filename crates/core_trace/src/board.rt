@@ -1,0 +1,91 @@
+use crate::event::{Event, Told};
+use batch_procs::Action;
+use solo_base::{BufferNo, Feed, Item, ProcNo};
+use std::alloc::{AllocError, Global};
+
+/// Where a process may wait.
+#[derive(Clone, Copy, Debug, PartialEq, Eq)]
+pub enum Place {
+    Buffer(BufferNo),
+    Disk,
+}
+
+/// A process that waits.
+#[derive(Clone, Copy, Debug, PartialEq, Eq)]
+pub struct Waiting {
+    pub process: ProcNo,
+    pub place: Place,
+}
+
+/// What a network doesn't tell of itself, noted from the events so far: what the line buffers 1 and 4 hold,
+/// and who waits where, in order of arrival.
+#[derive(Debug, Drop)]
+pub struct Board {
+    pub cards: Option<Feed>,
+    pub lines: Option<Feed>,
+    pub waiting: Vec<Waiting>,
+}
+
+impl Board {
+    /// The board before the first event.
+    pub fn new(alloc: Global) -> Board {
+        Board {
+            cards: None,
+            lines: None,
+            waiting: Vec::new(alloc),
+        }
+    }
+
+    /// What the line buffer beside a process holds.
+    pub fn slot(&mut self, process: ProcNo) -> &mut Option<Feed> {
+        if process < 3 {
+            &mut self.cards
+        } else {
+            &mut self.lines
+        }
+    }
+
+    /// Notes an event.
+    pub fn note(&mut self, event: &Event) -> Result<(), AllocError> {
+        let process = event.process;
+        self.goes_on(process);
+        match (&event.action, &event.told) {
+            (action, Told::Waits) => {
+                if let Some(place) = place_of(process, action) {
+                    self.waiting.push(Waiting { process, place })?;
+                }
+            }
+            (Action::PutFeed(feed), Told::Done) => *self.slot(process) = Some(copy(feed)),
+            _ => {}
+        }
+        Ok(())
+    }
+
+    /// A process that waited goes on.
+    fn goes_on(&mut self, process: ProcNo) {
+        for at in 0..self.waiting.len() {
+            if self.waiting[at].process == process {
+                self.waiting.remove(at);
+                return;
+            }
+        }
+    }
+}
+
+/// Where a process waits that is delayed in this call.
+fn place_of(process: ProcNo, action: &Action) -> Option<Place> {
+    match action {
+        Action::PutFeed(_) | Action::AwaitRoom => Some(Place::Buffer(process)),
+        Action::TakeFeed | Action::AwaitItem => Some(Place::Buffer(process.saturating_sub(1))),
+        Action::Request => Some(Place::Disk),
+        _ => None,
+    }
+}
+
+fn copy(feed: &Feed) -> Feed {
+    match feed {
+        Feed::Item(Item::Line(line)) => Feed::Item(Item::Line(line.copy())),
+        Feed::Item(Item::Spoiled) => Feed::Item(Item::Spoiled),
+        Feed::End => Feed::End,
+    }
+}

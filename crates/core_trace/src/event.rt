@@ -1,0 +1,105 @@
+ghost use Rattle.core_law.specs.Ends.{IsProcess};
+ghost use Rattle.core_net.specs.Net.{StandsSomewhere, the_keeps};
+ghost use Rattle.core_net.specs.Shared.{telling};
+
+use crate::board::Board;
+use batch_procs::Action;
+use core_net::{Net, Stepped};
+use solo_base::{Feed, Outcome, ProcNo};
+use solo_devices::{Area, Sink, Source};
+
+/// What an action came to.
+#[derive(Debug, Drop)]
+pub enum Told {
+    /// The process waits, and makes the same call again.
+    Waits,
+    /// It is done.
+    Done,
+    /// This was read or taken.
+    Fed(Feed),
+    /// The process closes down, since it has this cause to.
+    Closes(Outcome),
+    /// It ended so.
+    Ends(Outcome),
+}
+
+/// One event of a run.
+#[derive(Debug, Drop)]
+pub struct Event {
+    pub process: ProcNo,
+    pub action: Action,
+    pub told: Told,
+}
+
+/// Lets the next action of a process happen. None: the process may not go on.
+pub fn happen<S: Source, K: Sink, A: Area, B: Area>(
+    net: &mut Net<S, K, A, B>,
+    process: ProcNo,
+    board: &mut Board,
+) -> Option<Event>
+    requires one { IsProcess process }
+    requires before { StandsSomewhere the_keeps (telling S.left S.taken K.given A.pages B.pages) net.old }
+    ensures { StandsSomewhere the_keeps (telling S.left S.taken K.given A.pages B.pages) net.new }
+{
+    let action = next_of(net, process);
+    let closed_before = cause_of(net, process).is_some();
+    let stepped = net.turn(process)?;
+    let cause = match cause_of(net, process) {
+        Some(cause) if !closed_before => Some(cause),
+        _ => None,
+    };
+    let told = match (stepped, cause) {
+        (Stepped::Delayed, _) => Told::Waits,
+        (_, Some(cause)) => Told::Closes(cause),
+        (_, None) => came_of(net, process, &action, board),
+    };
+    Some(Event {
+        process,
+        action,
+        told,
+    })
+}
+
+/// What came of an action that neither waits nor gives a cause. A card that was read is put next, and what
+/// was taken is what the line buffer held.
+fn came_of<S: Source, K: Sink, A: Area, B: Area>(
+    net: &Net<S, K, A, B>,
+    process: ProcNo,
+    action: &Action,
+    board: &mut Board,
+) -> Told {
+    match action {
+        Action::ReadCard => match net.card.next() {
+            Action::PutFeed(feed) => Told::Fed(feed),
+            _ => Told::Done,
+        },
+        Action::TakeFeed => board.slot(process).take().map_or(Told::Done, Told::Fed),
+        Action::Ended(outcome) => Told::Ends(*outcome),
+        _ => Told::Done,
+    }
+}
+
+/// What a process does next.
+fn next_of<S: Source, K: Sink, A: Area, B: Area>(net: &Net<S, K, A, B>, process: ProcNo) -> Action {
+    match process {
+        1 => net.card.next(),
+        2 => net.input.next(),
+        3 => net.job.next(),
+        4 => net.output.next(),
+        _ => net.printer.next(),
+    }
+}
+
+/// Why a process closes down, where it does.
+fn cause_of<S: Source, K: Sink, A: Area, B: Area>(
+    net: &Net<S, K, A, B>,
+    process: ProcNo,
+) -> Option<Outcome> {
+    match process {
+        1 => net.card.cause(),
+        2 => net.input.cause(),
+        3 => net.job.cause(),
+        4 => net.output.cause(),
+        _ => net.printer.cause(),
+    }
+}

@@ -1,0 +1,50 @@
+use core_net::Rule;
+use deck_format::number_within;
+
+/// What the words of the command line ask for: the rule of the run, and the numbers of the first and the last
+/// event that are shown.
+#[derive(Clone, Copy, Debug, PartialEq, Eq)]
+pub struct Asked {
+    pub rule: Rule,
+    pub from: u64,
+    pub to: u64,
+}
+
+/// What these words ask for, or `None` where they are no written form.
+pub fn asked_by(words: &[String]) -> Option<Asked> {
+    match words {
+        [option, rest @ ..] if option.as_str() == "--least" => shown(Rule::Least, rest),
+        [option, rest @ ..] if option.as_str() == "--cyclic" => shown(
+            Rule::Cyclic { last: 5 },
+            rest,
+        ),
+        [option, number, rest @ ..] if option.as_str() == "--schedule" => {
+            let number = number_within(number.as_bytes(), DIGITS, 0, MOST_SCHEDULE)?;
+            shown(Rule::Numbered { number }, rest)
+        }
+        _ => None,
+    }
+}
+
+/// How many digits a number has at most.
+const DIGITS: usize = 10;
+
+/// The greatest number of a schedule.
+const MOST_SCHEDULE: u32 = 2_147_483_647;
+
+/// A run by this rule, of which the words behind it say what is shown.
+fn shown(rule: Rule, words: &[String]) -> Option<Asked> {
+    match words {
+        [] => Some(Asked {
+            rule,
+            from: 1,
+            to: u64::MAX,
+        }),
+        [events, from, to] if events.as_str() == "--events" => Some(Asked {
+            rule,
+            from: u64::from(number_within(from.as_bytes(), DIGITS, 1, u32::MAX)?),
+            to: u64::from(number_within(to.as_bytes(), DIGITS, 1, u32::MAX)?),
+        }),
+        _ => None,
+    }
+}
