@@ -1,0 +1,65 @@
+//! Times the core on a deck of so many lines in lists, under a numbered schedule.
+#![tactic(auto)]
+
+use anyhow::{Context, Result};
+use core_net::{Net, Rule};
+use solo_devices::{SureArea, SureSink, SureSource};
+use std::alloc::Global;
+use std::env;
+use std::time::CpuClock;
+
+/// A list of ten lines, with the two cards around it.
+const LIST: &str = "#LIST A\n\
+    HERE IS A LINE OF A LIST 0\n\
+    HERE IS A LINE OF A LIST 1\n\
+    HERE IS A LINE OF A LIST 2\n\
+    HERE IS A LINE OF A LIST 3\n\
+    HERE IS A LINE OF A LIST 4\n\
+    HERE IS A LINE OF A LIST 5\n\
+    HERE IS A LINE OF A LIST 6\n\
+    HERE IS A LINE OF A LIST 7\n\
+    HERE IS A LINE OF A LIST 8\n\
+    HERE IS A LINE OF A LIST 9\n\
+    #END\n";
+
+/// The pages of each spool.
+const SPOOL_PAGES: u16 = 256;
+
+/// The number of the schedule.
+const SCHEDULE: u32 = 7;
+
+/// A deck of so many lists.
+fn deck(alloc: Global, lists: u32) -> Result<Vec<u8>> {
+    let mut deck = Vec::new(alloc);
+    for _ in 0..lists {
+        deck.extend_from_slice(LIST.as_bytes())?;
+    }
+    Ok(deck)
+}
+
+fn main(rt: HostRuntime) -> Result<()> {
+    let mut words = env::args(&rt)?;
+    let lists = words.nth(1).context("usage: core_bench LISTS")?;
+    let deck = deck(rt.alloc(), lists.as_str().parse::<u32>()?)?;
+    let source = SureSource::new(deck, 512);
+    let input = SureArea::new(rt.alloc(), SPOOL_PAGES)
+        .ok()
+        .context("no memory")?;
+    let output = SureArea::new(rt.alloc(), SPOOL_PAGES)
+        .ok()
+        .context("no memory")?;
+    let paper = SureSink::new(rt.alloc());
+    let mut net = Net::make(source, input, output, paper);
+    let began = rt.thread_cpu_time()?;
+    let counts = net.run(Rule::Numbered { number: SCHEDULE });
+    let time = rt
+        .thread_cpu_time()?
+        .as_micros()
+        .saturating_sub(began.as_micros());
+    println!(rt;
+        "{} events, {} delays, {} grants",
+        counts.events, counts.delays, counts.grants
+    )?;
+    eprintln!(rt; "{time} microseconds")?;
+    Ok(())
+}
