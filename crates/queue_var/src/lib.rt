@@ -5,6 +5,8 @@ mod fifo;
 mod queue_variable;
 mod sides;
 mod stops;
+#[cfg(test)]
+mod tests;
 mod turn;
 
 pub use fifo::Fifo;
