@@ -4,43 +4,69 @@ use std::sync::{Condvar, Mutex};
 use std::thread;
 use std::time::Instant;
 
-/// The level of the crate level_monitor: two processes, one raises it and one lowers it.
-#[derive(Default)]
+const TOP: u64 = 3;
+
+/// The level of the crate level_monitor.
 struct Level {
     level: u64,
-    waiting: [bool; 2],
+    waiting: [bool; 5],
+    turn: Option<u8>,
 }
 
 impl Level {
-    /// Changes the level, if it isn't at its end.
-    fn change(&mut self, process: usize) -> bool {
-        match process {
-            0 if self.level < 3 => self.level += 1,
-            1 if 0 < self.level => self.level -= 1,
-            _ => return false,
+    fn can_go(&self, process: u8) -> bool {
+        if process % 2 == 1 {
+            self.level < TOP
+        } else {
+            0 < self.level
         }
-        true
+    }
+
+    fn first_waiting(&self, one: u8, other: u8) -> Option<u8> {
+        [one, other]
+            .into_iter()
+            .find(|&process| self.waiting[usize::from(process)])
+    }
+
+    fn resume(&mut self, process: u8) {
+        self.waiting[usize::from(process)] = false;
+        if process % 2 == 1 {
+            self.level += 1;
+            self.turn = self.first_waiting(2, 4);
+        } else {
+            self.level -= 1;
+            self.turn = self.first_waiting(1, 3);
+        }
     }
 }
 
-#[derive(Default)]
 struct Monitor {
-    level: Mutex<Level>,
-    moved: [Condvar; 2],
+    state: Mutex<Level>,
+    moved: [Condvar; 5],
 }
 
 impl Monitor {
-    /// One entry: a process waits until the level lets it go on, and wakes the other where that one waits.
-    fn enter(&self, process: usize) {
-        let mut level = self.level.lock().unwrap();
-        while !level.change(process) {
-            level.waiting[process] = true;
-            level = self.moved[process].wait(level).unwrap();
+    fn new() -> Monitor {
+        Monitor {
+            state: Mutex::new(Level {
+                level: 0,
+                waiting: [false; 5],
+                turn: None,
+            }),
+            moved: Default::default(),
         }
-        let other = 1 - process;
-        if level.waiting[other] {
-            level.waiting[other] = false;
-            self.moved[other].notify_one();
+    }
+
+    /// One entry: a process waits in its queue until the level lets it go on.
+    fn change(&self, process: u8) {
+        let mut level = self.state.lock().unwrap();
+        while !level.can_go(process) {
+            level.waiting[usize::from(process)] = true;
+            level = self.moved[usize::from(process)].wait(level).unwrap();
+        }
+        level.resume(process);
+        if let Some(next) = level.turn {
+            self.moved[usize::from(next)].notify_one();
         }
     }
 }
@@ -135,11 +161,11 @@ fn main() {
     let words: Vec<u32> = std::env::args().skip(1).map(|word| word.parse().unwrap()).collect();
     let (entries, items, chained) = (words[0], words[1], words[2]);
 
-    let monitor = black_box(Monitor::default());
+    let monitor = black_box(Monitor::new());
     let start = Instant::now();
     for _ in 0..entries {
-        monitor.enter(0);
-        monitor.enter(1);
+        monitor.change(1);
+        monitor.change(2);
     }
     eprintln!("entries {} ns", start.elapsed().as_nanos());
     for (name, buffers, items) in [("buffer", 1, items), ("chain", 4, chained)] {

@@ -22,7 +22,8 @@ for processors in 0-3 0,1; do
             count["entries"] = 2 * entries; count["buffer"] = items; count["chain"] = chained
             told["entries"] = "an entry"; told["buffer"] = "an item from thread to thread"
             told["chain"] = "an item through five threads"
-            for (i = split("entries buffer chain", names, " "), k = 1; k <= i; k++) {
+            kinds = split("entries buffer chain", names, " ")
+            for (k = 1; k <= kinds; k++) {
                 name = names[k]; gate = least["gate " name] / count[name]; std = least["std " name] / count[name]
                 printf "  %s: %.0f ns, std %.0f ns, %.2f times as long\n", told[name], gate, std, gate / std
             }
