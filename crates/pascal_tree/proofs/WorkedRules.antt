@@ -5,7 +5,7 @@ use Rattle.pascal_tree.specs.Word.{NameAt}
 use Rattle.pascal_tree.specs.Expression.{Expr, alone, simple, no_addend, addend, term, no_multiplier, Factor, number, named, arguments, no_expr, next_expr}
 use Rattle.pascal_tree.specs.Statement.{Statement, empty, assign, call, case_of, for_do, body, sequence, no_statement, branch, no_branch, next_branch}
 use Rattle.pascal_tree.specs.Program.{Consts, Group, Vars, Routine, procedure, Program}
-use Rattle.pascal_tree.specs.ExpressionRules.{Broken}
+use Rattle.pascal_tree.specs.declared.broken.Broken.{Broken}
 use Rattle.pascal_tree.specs.DeclarationRules.{broken}
 use Rattle.pascal_tree.specs.declared.constant.Constant.TheVariants as constant
 use Rattle.pascal_tree.specs.declared.declaration.Kind.TheVariants as kind

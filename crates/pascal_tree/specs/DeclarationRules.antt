@@ -1,10 +1,18 @@
 -- What the static rules say of declarations, and the first broken rule of a program.
-use Rattle.std.specs.Prelude.{ℕ, ◌+◌, Bool, false, not, ◌&&◌, nat_le, nat_lt, List, [], ◌∷◌, ◌++◌, map, Option, Some, None, pos, int_le}
+use Rattle.std.specs.Prelude.{ℕ, ◌+◌, Bool, false, not, ◌&&◌, nat_le, nat_lt, List, [], ◌∷◌, ◌++◌, map, Option, Some, None, is_some, pos, int_le}
 use Rattle.pascal_tree.specs.Word.{NameAt}
 use Rattle.pascal_tree.specs.Program.{Names, Consts, Group, Vars, ParameterGroup, Parameters, Block, Routine, procedure, function, Program}
-use Rattle.pascal_tree.specs.Scopes.{Scalar, integer, VariableType, scalar, array, Parameter, value, variable_of, Means, constant, variable, reference, type_name, Scope, found, means_of, declare, same_scalar, words_of_list, result_words}
-use Rattle.pascal_tree.specs.Scopes as means
-use Rattle.pascal_tree.specs.ExpressionRules.{Broken, Judged, breaks, is_some}
+use Rattle.pascal_tree.specs.Scopes.{Scope, found, means_of, declare, same_scalar, words_of_means, words_of_list, result_words}
+use Rattle.pascal_tree.specs.declared.broken.Broken.{Broken}
+use Rattle.pascal_tree.specs.declared.scalar.Scalar.{Scalar}
+use Rattle.pascal_tree.specs.declared.scalar.Scalar.TheVariants as scalar
+use Rattle.pascal_tree.specs.declared.scalar.VariableType.{VariableType}
+use Rattle.pascal_tree.specs.declared.scalar.VariableType.TheVariants as variable_type
+use Rattle.pascal_tree.specs.declared.parameter.Parameter.{Parameter}
+use Rattle.pascal_tree.specs.declared.parameter.Parameter.TheVariants as parameter
+use Rattle.pascal_tree.specs.declared.means.Means.{Means}
+use Rattle.pascal_tree.specs.declared.means.Means.TheVariants as means
+use Rattle.pascal_tree.specs.ExpressionRules.{Judged, breaks}
 use Rattle.pascal_tree.specs.StatementRules.{Valued, value_of, judged_constant, judged_body}
 use Rattle.pascal_tree.specs.declared.declaration.Definition.{Definition}
 use Rattle.pascal_tree.specs.declared.declaration.Kind.{Kind}
@@ -12,8 +20,8 @@ use Rattle.pascal_tree.specs.declared.declaration.Kind.TheVariants as kind
 
 -- the scope behind a definition; a constant without a value stands for 0
 abbrev pub constant_means : Option Valued → Means
-constant_means None = constant integer (pos 0)
-constant_means (Some v) = constant v.type v.value
+constant_means None = means.Constant scalar.Integer (pos 0)
+constant_means (Some v) = means.Constant v.type v.value
 
 abbrev pub behind_definition : Scope → Definition → Scope
 behind_definition s d = declare s d.name.letters (constant_means (value_of s d.value))
@@ -40,7 +48,7 @@ judged_consts s (Some c) = judged_definition s c.first ++ judged_definitions (be
 
 -- the scalar type that a name means, if it means one
 abbrev pub type_meant : Option Means → Option Scalar
-type_meant (Some (type_name t)) = Some t
+type_meant (Some (means.TypeName t)) = Some t
 type_meant other = None
 
 abbrev pub scalar_named : Scope → NameAt → Option Scalar
@@ -48,20 +56,20 @@ scalar_named s n = type_meant (means_of s n.letters)
 
 -- the type, or INTEGER in place of none
 abbrev pub or_integer : Option Scalar → Scalar
-or_integer None = integer
+or_integer None = scalar.Integer
 or_integer (Some t) = t
 
 -- two bounds of an array, in their order
 abbrev pub are_bounds : Option Valued → Option Valued → Bool
-are_bounds (Some a) (Some b) = same_scalar a.type integer && same_scalar b.type integer && int_le a.value b.value
+are_bounds (Some a) (Some b) = same_scalar a.type scalar.Integer && same_scalar b.type scalar.Integer && int_le a.value b.value
 are_bounds a b = false
 
 abbrev pub array_between : Option Valued → Option Valued → Scalar → VariableType
-array_between (Some a) (Some b) t = array a.value b.value t
-array_between a b t = scalar t
+array_between (Some a) (Some b) t = variable_type.Array a.value b.value t
+array_between a b t = variable_type.Plain t
 
 abbrev pub type_of_kind : Scope → Kind → VariableType
-type_of_kind s (kind.Name n) = scalar (or_integer (scalar_named s n))
+type_of_kind s (kind.Name n) = variable_type.Plain (or_integer (scalar_named s n))
 type_of_kind s (kind.Array l o a u b c f n) =
     array_between (value_of s a) (value_of s b) (or_integer (scalar_named s n))
 
@@ -92,22 +100,22 @@ twice_declared s m (n ∷ more) =
 abbrev pub frame_words : Scope → ℕ
 frame_words s = words_of_list s.own + result_words s.within
 
--- names with which a frame passes so many words
-abbrev pub too_large : ℕ → ℕ → Scope → Means → List NameAt → Judged
-too_large rule most s m [] = []
-too_large rule most s m (n ∷ more) =
-    let t = declare s n.letters m in
-    breaks rule (nat_lt most (frame_words t)) n.line ∷ too_large rule most t m more
+-- names with which so many words are passed, where so many are used before them and each takes so many
+abbrev pub too_large : (rule most used each : ℕ) → List NameAt → Judged
+too_large rule most used each [] = []
+too_large rule most used each (n ∷ more) =
+    breaks rule (nat_lt most (used + each)) n.line ∷ too_large rule most (used + each) each more
 
 -- variables of one type: the type, and then the group
 abbrev pub behind_group : Scope → Group → Scope
-behind_group s g = behind_names s (variable (type_of_kind s g.kind)) (all_names g.names)
+behind_group s g = behind_names s (means.Variable (type_of_kind s g.kind)) (all_names g.names)
 
 abbrev pub judged_group : Scope → Group → Judged
 judged_group s g =
-    let m = variable (type_of_kind s g.kind) in
+    let m = means.Variable (type_of_kind s g.kind) in
     let names = all_names g.names in
-    judged_kind s g.kind ++ (twice_declared s m names ++ too_large 6 4096 s m names)
+    judged_kind s g.kind
+    ++ (twice_declared s m names ++ too_large 6 4096 (frame_words s) (words_of_means m) names)
 
 abbrev pub behind_groups : Scope → List Group → Scope
 behind_groups s [] = s
@@ -127,12 +135,12 @@ judged_vars s (Some v) = judged_groups s (v.first ∷ v.rest)
 
 -- parameters of one type
 abbrev pub parameter_means : Option ℕ → Scalar → Means
-parameter_means None t = variable (scalar t)
-parameter_means (Some line) t = reference t
+parameter_means None t = means.Variable (variable_type.Plain t)
+parameter_means (Some line) t = means.Reference t
 
 abbrev pub parameter_wants : Option ℕ → Scalar → Parameter
-parameter_wants None t = value t
-parameter_wants (Some line) t = variable_of t
+parameter_wants None t = parameter.Value t
+parameter_wants (Some line) t = parameter.VariableOf t
 
 abbrev pub group_means : Scope → ParameterGroup → Means
 group_means s g = parameter_means g.var (or_integer (scalar_named s g.kind))
@@ -144,7 +152,8 @@ abbrev pub judged_parameter_group : Scope → ParameterGroup → Judged
 judged_parameter_group s g =
     let m = group_means s g in
     let names = all_names g.names in
-    twice_declared s m names ++ (judged_type_name s g.kind ∷ (too_large 6 4096 s m names ++ too_large 7 16 s m names))
+    twice_declared s m names ++ (judged_type_name s g.kind ∷ (too_large 6 4096 (frame_words s) (words_of_means m) names
+    ++ too_large 7 16 (frame_words s) (words_of_means m) names))
 
 abbrev pub behind_parameter_groups : Scope → List ParameterGroup → Scope
 behind_parameter_groups s [] = s
@@ -178,9 +187,9 @@ behind_parameters program p = behind_parameter_groups (inside program) (all_grou
 
 -- what a routine is to the program behind its heading
 abbrev pub routine_means : Scope → Routine → Means
-routine_means program (procedure l x p c b e) = means.procedure (parameters_wanted (inside program) (all_groups p))
+routine_means program (procedure l x p c b e) = means.Procedure (parameters_wanted (inside program) (all_groups p))
 routine_means program (function l x p c t d b e) =
-    means.function (parameters_wanted (inside program) (all_groups p)) (or_integer (scalar_named (behind_parameters program p) t))
+    means.Function (parameters_wanted (inside program) (all_groups p)) (or_integer (scalar_named (behind_parameters program p) t))
 
 abbrev pub routine_name : Routine → NameAt
 routine_name (procedure l x p c b e) = x

@@ -1,19 +1,21 @@
 -- What the static rules say of expressions.
-use Rattle.std.specs.Prelude.{ℕ, ◌+◌, Bool, true, false, not, ◌&&◌, ◌||◌, ◌==◌, List, [], ◌∷◌, ◌++◌, length, Option, Some, None, if◌then◌else◌}
+use Rattle.std.specs.Prelude.{ℕ, ◌+◌, Bool, true, false, not, ◌&&◌, ◌||◌, ◌==◌, List, [], ◌∷◌, ◌++◌, length, Option, Some, None, is_some, if◌then◌else◌}
 use Rattle.pascal_tree.specs.Word.{NameAt}
 use Rattle.pascal_tree.specs.Expression.{Expr, alone, compared, Simple, simple, Addends, no_addend, addend, Term, term, Multipliers, no_multiplier, multiplier, Factor, number, character, named, element, called, group, negated, Index, index, Arguments, arguments, Exprs, no_expr, next_expr}
-use Rattle.pascal_tree.specs.Scopes.{Scalar, integer, boolean, VariableType, scalar, array, Parameter, value, variable_of, characters, Means, constant, variable, reference, procedure, function, type_name, Scope, means_of, same_scalar, is_scalar, elements}
-use Rattle.pascal_tree.specs.Scopes as kinds
+use Rattle.pascal_tree.specs.Scopes.{Scope, means_of, same_scalar, is_scalar, elements}
+use Rattle.pascal_tree.specs.declared.broken.Broken.{Broken}
+use Rattle.pascal_tree.specs.declared.scalar.Scalar.{Scalar}
+use Rattle.pascal_tree.specs.declared.scalar.Scalar.TheVariants as scalar
+use Rattle.pascal_tree.specs.declared.scalar.VariableType.TheVariants as variable_type
+use Rattle.pascal_tree.specs.declared.parameter.Parameter.{Parameter}
+use Rattle.pascal_tree.specs.declared.parameter.Parameter.TheVariants as parameter
+use Rattle.pascal_tree.specs.declared.means.Means.{Means}
+use Rattle.pascal_tree.specs.declared.means.Means.TheVariants as means
 use Rattle.pascal_tree.specs.declared.expression.Sign.{Sign}
 use Rattle.pascal_tree.specs.declared.expression.Adding.{Adding}
 use Rattle.pascal_tree.specs.declared.expression.Adding.TheVariants as adding
 use Rattle.pascal_tree.specs.declared.expression.Multiplying.{Multiplying}
 use Rattle.pascal_tree.specs.declared.expression.Multiplying.TheVariants as multiplying
-
--- a broken rule, and the line of the word that is named
-pub record Broken : Type 0 where
-  pub rule : ℕ
-  pub line : ℕ
 
 -- What is said of nodes, in the order in which they end; of one node its rules, the least first.
 abbrev pub Judged : Type 0
@@ -22,37 +24,33 @@ Judged = List (Option Broken)
 abbrev pub breaks : ℕ → Bool → ℕ → Option Broken
 breaks rule is line = if is then Some (record { rule = rule; line = line }) else None
 
-abbrev pub is_some : {A : Type 0} → Option A → Bool
-is_some None = false
-is_some (Some x) = true
-
 -- the type of the value of a name, of an element of it, and of a call of it, where it has one
 abbrev pub named_type : Option Means → Option Scalar
-named_type (Some (constant s v)) = Some s
-named_type (Some (variable (scalar s))) = Some s
-named_type (Some (reference s)) = Some s
-named_type (Some (function ps s)) = Some s
+named_type (Some (means.Constant s v)) = Some s
+named_type (Some (means.Variable (variable_type.Plain s))) = Some s
+named_type (Some (means.Reference s)) = Some s
+named_type (Some (means.Function ps s)) = Some s
 named_type other = None
 
 abbrev pub element_type : Option Means → Option Scalar
-element_type (Some (variable (array low high s))) = Some s
+element_type (Some (means.Variable (variable_type.Array low high s))) = Some s
 element_type other = None
 
 abbrev pub called_type : Option Means → Option Scalar
-called_type (Some (function ps s)) = Some s
+called_type (Some (means.Function ps s)) = Some s
 called_type other = None
 
 -- what an operator wants on both sides, and gives
 abbrev pub adding_type : Adding → Scalar
-adding_type adding.Plus = integer
-adding_type adding.Minus = integer
-adding_type adding.Or = boolean
+adding_type adding.Plus = scalar.Integer
+adding_type adding.Minus = scalar.Integer
+adding_type adding.Or = scalar.Boolean
 
 abbrev pub multiplying_type : Multiplying → Scalar
-multiplying_type multiplying.Times = integer
-multiplying_type multiplying.Div = integer
-multiplying_type multiplying.Mod = integer
-multiplying_type multiplying.And = boolean
+multiplying_type multiplying.Times = scalar.Integer
+multiplying_type multiplying.Div = scalar.Integer
+multiplying_type multiplying.Mod = scalar.Integer
+multiplying_type multiplying.And = scalar.Boolean
 
 -- the type behind the last operator, or that of the first part
 abbrev pub addends_type : Option Scalar → Addends → Option Scalar
@@ -66,13 +64,13 @@ multipliers_type first (multiplier m l f more) = multipliers_type (Some (multipl
 -- a sign gives an INTEGER
 abbrev pub signed_type : Option (Sign × ℕ) → Option Scalar → Option Scalar
 signed_type None t = t
-signed_type (Some s) t = Some integer
+signed_type (Some s) t = Some scalar.Integer
 
 -- the type of an expression in which no rule is broken
 abbrev mutual
   pub expr_type : Scope → Expr → Option Scalar
   expr_type s (alone x) = simple_type s x
-  expr_type s (compared x r l y) = Some boolean
+  expr_type s (compared x r l y) = Some scalar.Boolean
 
   pub simple_type : Scope → Simple → Option Scalar
   simple_type s (simple sign t more) = addends_type (signed_type sign (term_type s t)) more
@@ -84,13 +82,13 @@ abbrev mutual
   index_type s (index o e c) = expr_type s e
 
   pub factor_type : Scope → Factor → Option Scalar
-  factor_type s (number n) = Some integer
-  factor_type s (character c) = Some kinds.character
+  factor_type s (number n) = Some scalar.Integer
+  factor_type s (character c) = Some scalar.Character
   factor_type s (named x) = named_type (means_of s x.letters)
   factor_type s (element x i) = element_type (means_of s x.letters)
   factor_type s (called x a) = called_type (means_of s x.letters)
   factor_type s (group o e c) = expr_type s e
-  factor_type s (negated l f) = Some boolean
+  factor_type s (negated l f) = Some scalar.Boolean
 
 -- the name that an expression is, where it is nothing more
 abbrev pub plain_name : Expr → Option NameAt
@@ -103,12 +101,12 @@ plain_means s (Some x) = means_of s x.letters
 
 -- what a name means, as far as the rules ask
 abbrev pub is_value : Means → Bool
-is_value (procedure ps) = false
-is_value (type_name s) = false
+is_value (means.Procedure ps) = false
+is_value (means.TypeName s) = false
 is_value other = true
 
 abbrev pub is_array : Option Means → Bool
-is_array (Some (variable (array low high s))) = true
+is_array (Some (means.Variable (variable_type.Array low high s))) = true
 is_array other = false
 
 abbrev pub no_value : Option Means → Bool
@@ -117,8 +115,8 @@ no_value (Some m) = not (is_value m)
 
 -- the parameters of a routine, and none of what is no routine
 abbrev pub parameters_of : Option Means → List Parameter
-parameters_of (Some (procedure ps)) = ps
-parameters_of (Some (function ps s)) = ps
+parameters_of (Some (means.Procedure ps)) = ps
+parameters_of (Some (means.Function ps s)) = ps
 parameters_of other = []
 
 -- how many expressions there are
@@ -131,24 +129,24 @@ count_arguments (arguments o e more c) = count_exprs more + 1
 
 -- the place of an array argument
 abbrev pub is_for_array : Option Parameter → Bool
-is_for_array (Some (characters n)) = true
+is_for_array (Some (parameter.Characters n)) = true
 is_for_array other = false
 
 -- the variable of a type, and the array of so many characters
 abbrev pub is_variable : Option Means → Scalar → Bool
-is_variable (Some (variable (scalar s))) t = same_scalar s t
-is_variable (Some (reference s)) t = same_scalar s t
+is_variable (Some (means.Variable (variable_type.Plain s))) t = same_scalar s t
+is_variable (Some (means.Reference s)) t = same_scalar s t
 is_variable other t = false
 
 abbrev pub is_characters : Option Means → ℕ → Bool
-is_characters (Some (variable (array low high kinds.character))) n = elements low high == n
+is_characters (Some (means.Variable (variable_type.Array low high scalar.Character))) n = elements low high == n
 is_characters other n = false
 
 -- an argument is what its parameter wants
 abbrev pub suits : Scope → Expr → Parameter → Bool
-suits s e (value t) = is_scalar (expr_type s e) t
-suits s e (variable_of t) = is_variable (plain_means s (plain_name e)) t
-suits s e (characters n) = is_characters (plain_means s (plain_name e)) n
+suits s e (parameter.Value t) = is_scalar (expr_type s e) t
+suits s e (parameter.VariableOf t) = is_variable (plain_means s (plain_name e)) t
+suits s e (parameter.Characters n) = is_characters (plain_means s (plain_name e)) n
 
 abbrev pub first_parameter : List Parameter → Option Parameter
 first_parameter [] = None
@@ -179,6 +177,26 @@ judged_name s x for_array =
     ∷ breaks 12 (not (length (parameters_of m) == 0)) x.line
     ∷ []
 
+-- an element as a factor, behind an index of a type
+abbrev pub judged_element_of : Scope → NameAt → Option Scalar → Judged
+judged_element_of s x t =
+    let m = means_of s x.letters in
+    breaks 2 (not (is_some m)) x.line
+    ∷ breaks 3 (no_value m) x.line
+    ∷ breaks 11 (not (is_array m) || not (is_scalar t scalar.Integer)) x.line
+    ∷ []
+
+-- a call as a factor, behind so many arguments, that suit or don't
+abbrev pub judged_called : Scope → NameAt → (count : ℕ) → (suit : Bool) → Judged
+judged_called s x count suit =
+    let m = means_of s x.letters in
+    breaks 2 (not (is_some m)) x.line
+    ∷ breaks 3 (no_value m) x.line
+    ∷ breaks 11 (is_array m) x.line
+    ∷ breaks 12 (not (count == length (parameters_of m))) x.line
+    ∷ breaks 13 (not suit) x.line
+    ∷ []
+
 -- an argument: at the place of an array, and only there, an array may stand without an index
 abbrev pub judged_as : Scope → Option Parameter → Option NameAt → Judged → Judged
 judged_as s p None otherwise = otherwise
@@ -187,7 +205,7 @@ judged_as s p (Some x) otherwise = judged_name s x (is_for_array p)
 -- operators want their types on both sides
 abbrev pub judged_sign : Option (Sign × ℕ) → Option Scalar → Judged
 judged_sign None t = []
-judged_sign (Some s) t = breaks 8 (not (is_scalar t integer)) s.1 ∷ []
+judged_sign (Some s) t = breaks 8 (not (is_scalar t scalar.Integer)) s.1 ∷ []
 
 abbrev pub judged_adding : Scope → Option Scalar → Addends → Judged
 judged_adding s left no_addend = []
@@ -234,25 +252,12 @@ abbrev mutual
   judged_factor s (number n) = []
   judged_factor s (character c) = []
   judged_factor s (named x) = judged_name s x false
-  judged_factor s (element x i) =
-      let m = means_of s x.letters in
-      judged_index s i
-      ++ (breaks 2 (not (is_some m)) x.line
-      ∷ breaks 3 (no_value m) x.line
-      ∷ breaks 11 (not (is_array m) || not (is_scalar (index_type s i) integer)) x.line
-      ∷ [])
+  judged_factor s (element x i) = judged_index s i ++ judged_element_of s x (index_type s i)
   judged_factor s (called x a) =
-      let m = means_of s x.letters in
-      let ps = parameters_of m in
-      judged_arguments s a ps
-      ++ (breaks 2 (not (is_some m)) x.line
-      ∷ breaks 3 (no_value m) x.line
-      ∷ breaks 11 (is_array m) x.line
-      ∷ breaks 12 (not (count_arguments a == length ps)) x.line
-      ∷ breaks 13 (not (arguments_suit s a ps)) x.line
-      ∷ [])
+      let ps = parameters_of (means_of s x.letters) in
+      judged_arguments s a ps ++ judged_called s x (count_arguments a) (arguments_suit s a ps)
   judged_factor s (group o e c) = judged_expr s e
-  judged_factor s (negated l f) = judged_factor s f ++ breaks 8 (not (is_scalar (factor_type s f) boolean)) l ∷ []
+  judged_factor s (negated l f) = judged_factor s f ++ breaks 8 (not (is_scalar (factor_type s f) scalar.Boolean)) l ∷ []
 
   pub judged_index : Scope → Index → Judged
   judged_index s (index o e c) = judged_expr s e

@@ -1,31 +1,13 @@
 -- What the names of a program mean, and where each is declared.
 use Rattle.std.specs.Prelude.{ℕ, ◌+◌, Bool, true, false, List, [], ◌∷◌, Option, Some, None, if◌then◌else◌, ℤ, pos, ◌-ℤ◌, unsigned_abs, bytes_eq, codes}
-
-pub data Scalar : Type 0 where
-  integer : Scalar
-  boolean : Scalar
-  character : Scalar
-
--- the type of a variable: a scalar, or an array with its bounds and the type of its elements
-pub data VariableType : Type 0 where
-  scalar : Scalar → VariableType
-  array : (low high : ℤ) → Scalar → VariableType
-
--- What stands for a parameter in a call: a value, the name of a scalar variable, or the name of an
--- array of so many characters.
-pub data Parameter : Type 0 where
-  value : Scalar → Parameter
-  variable_of : Scalar → Parameter
-  characters : ℕ → Parameter
-
--- what a name means; a reference is a VAR parameter
-pub data Means : Type 0 where
-  constant : Scalar → ℤ → Means
-  variable : VariableType → Means
-  reference : Scalar → Means
-  procedure : List Parameter → Means
-  function : List Parameter → Scalar → Means
-  type_name : Scalar → Means
+use Rattle.pascal_tree.specs.declared.scalar.Scalar.{Scalar}
+use Rattle.pascal_tree.specs.declared.scalar.Scalar.TheVariants as scalar
+use Rattle.pascal_tree.specs.declared.scalar.VariableType.{VariableType}
+use Rattle.pascal_tree.specs.declared.scalar.VariableType.TheVariants as variable_type
+use Rattle.pascal_tree.specs.declared.parameter.Parameter.{Parameter}
+use Rattle.pascal_tree.specs.declared.parameter.Parameter.TheVariants as parameter
+use Rattle.pascal_tree.specs.declared.means.Means.{Means}
+use Rattle.pascal_tree.specs.declared.means.Means.TheVariants as means
 
 pub record Declared : Type 0 where
   pub name : List ℕ
@@ -50,35 +32,57 @@ abbrev pub or_else : {A : Type 0} → Option A → Option A → Option A
 or_else None other = other
 or_else (Some x) other = Some x
 
+-- what the predeclared routines want: values, variables that are set, arrays
+abbrev number : Parameter
+number = parameter.Value scalar.Integer
+
+abbrev letter : Parameter
+letter = parameter.Value scalar.Character
+
+abbrev to_number : Parameter
+to_number = parameter.VariableOf scalar.Integer
+
+abbrev to_letter : Parameter
+to_letter = parameter.VariableOf scalar.Character
+
+abbrev to_truth : Parameter
+to_truth = parameter.VariableOf scalar.Boolean
+
+abbrev file_name : Parameter
+file_name = parameter.Characters 12
+
+abbrev page : Parameter
+page = parameter.Characters 512
+
 -- what is declared before each program
 abbrev pub predeclared : List Declared
 predeclared =
-    named_as (codes "INTEGER") (type_name integer)
-    ∷ named_as (codes "BOOLEAN") (type_name boolean)
-    ∷ named_as (codes "CHAR") (type_name character)
-    ∷ named_as (codes "FALSE") (constant boolean (pos 0))
-    ∷ named_as (codes "TRUE") (constant boolean (pos 1))
-    ∷ named_as (codes "NL") (constant character (pos 10))
-    ∷ named_as (codes "EM") (constant character (pos 25))
-    ∷ named_as (codes "ABS") (function (value integer ∷ []) integer)
-    ∷ named_as (codes "SUCC") (function (value integer ∷ []) integer)
-    ∷ named_as (codes "PRED") (function (value integer ∷ []) integer)
-    ∷ named_as (codes "ORD") (function (value character ∷ []) integer)
-    ∷ named_as (codes "CHR") (function (value integer ∷ []) character)
-    ∷ named_as (codes "READ") (procedure (variable_of character ∷ []))
-    ∷ named_as (codes "WRITE") (procedure (value character ∷ []))
-    ∷ named_as (codes "WRITEINT") (procedure (value integer ∷ []))
-    ∷ named_as (codes "ACCEPT") (procedure (variable_of character ∷ []))
-    ∷ named_as (codes "DISPLAY") (procedure (value character ∷ []))
-    ∷ named_as (codes "OPEN") (procedure (value integer ∷ characters 12 ∷ variable_of boolean ∷ []))
-    ∷ named_as (codes "CLOSE") (procedure (value integer ∷ []))
-    ∷ named_as (codes "GET") (procedure (value integer ∷ value integer ∷ characters 512 ∷ []))
-    ∷ named_as (codes "PUT") (procedure (value integer ∷ value integer ∷ characters 512 ∷ []))
-    ∷ named_as (codes "LENGTH") (function (value integer ∷ []) integer)
-    ∷ named_as (codes "LOOKUP") (procedure (characters 12 ∷ variable_of integer ∷ variable_of boolean ∷ []))
-    ∷ named_as (codes "READARG") (procedure (variable_of integer ∷ variable_of integer ∷ characters 12 ∷ []))
-    ∷ named_as (codes "WRITEARG") (procedure (value integer ∷ value integer ∷ characters 12 ∷ []))
-    ∷ named_as (codes "RUN") (procedure (characters 12 ∷ variable_of integer ∷ variable_of integer ∷ []))
+    named_as (codes "INTEGER") (means.TypeName scalar.Integer)
+    ∷ named_as (codes "BOOLEAN") (means.TypeName scalar.Boolean)
+    ∷ named_as (codes "CHAR") (means.TypeName scalar.Character)
+    ∷ named_as (codes "FALSE") (means.Constant scalar.Boolean (pos 0))
+    ∷ named_as (codes "TRUE") (means.Constant scalar.Boolean (pos 1))
+    ∷ named_as (codes "NL") (means.Constant scalar.Character (pos 10))
+    ∷ named_as (codes "EM") (means.Constant scalar.Character (pos 25))
+    ∷ named_as (codes "ABS") (means.Function (number ∷ []) scalar.Integer)
+    ∷ named_as (codes "SUCC") (means.Function (number ∷ []) scalar.Integer)
+    ∷ named_as (codes "PRED") (means.Function (number ∷ []) scalar.Integer)
+    ∷ named_as (codes "ORD") (means.Function (letter ∷ []) scalar.Integer)
+    ∷ named_as (codes "CHR") (means.Function (number ∷ []) scalar.Character)
+    ∷ named_as (codes "READ") (means.Procedure (to_letter ∷ []))
+    ∷ named_as (codes "WRITE") (means.Procedure (letter ∷ []))
+    ∷ named_as (codes "WRITEINT") (means.Procedure (number ∷ []))
+    ∷ named_as (codes "ACCEPT") (means.Procedure (to_letter ∷ []))
+    ∷ named_as (codes "DISPLAY") (means.Procedure (letter ∷ []))
+    ∷ named_as (codes "OPEN") (means.Procedure (number ∷ file_name ∷ to_truth ∷ []))
+    ∷ named_as (codes "CLOSE") (means.Procedure (number ∷ []))
+    ∷ named_as (codes "GET") (means.Procedure (number ∷ number ∷ page ∷ []))
+    ∷ named_as (codes "PUT") (means.Procedure (number ∷ number ∷ page ∷ []))
+    ∷ named_as (codes "LENGTH") (means.Function (number ∷ []) scalar.Integer)
+    ∷ named_as (codes "LOOKUP") (means.Procedure (file_name ∷ to_number ∷ to_truth ∷ []))
+    ∷ named_as (codes "READARG") (means.Procedure (to_number ∷ to_number ∷ file_name ∷ []))
+    ∷ named_as (codes "WRITEARG") (means.Procedure (number ∷ number ∷ file_name ∷ []))
+    ∷ named_as (codes "RUN") (means.Procedure (file_name ∷ to_number ∷ to_number ∷ []))
     ∷ []
 
 -- A name means its latest declaration in its own list, or else in the program's, or else before any program.
@@ -91,9 +95,9 @@ declare scope name means = record scope { own = named_as name means ∷ scope.ow
 
 -- whether two scalar types are one
 abbrev pub same_scalar : Scalar → Scalar → Bool
-same_scalar integer integer = true
-same_scalar boolean boolean = true
-same_scalar character character = true
+same_scalar scalar.Integer scalar.Integer = true
+same_scalar scalar.Boolean scalar.Boolean = true
+same_scalar scalar.Character scalar.Character = true
 same_scalar s t = false
 
 -- whether a type is there and is this one
@@ -107,16 +111,16 @@ elements low high = unsigned_abs (high -ℤ low) + 1
 
 -- how many words of a frame a variable and a parameter take
 abbrev pub words_of_type : VariableType → ℕ
-words_of_type (scalar s) = 1
-words_of_type (array low high s) = elements low high
+words_of_type (variable_type.Plain s) = 1
+words_of_type (variable_type.Array low high s) = elements low high
 
 abbrev pub words_of_means : Means → ℕ
-words_of_means (constant s v) = 0
-words_of_means (variable t) = words_of_type t
-words_of_means (reference s) = 2
-words_of_means (procedure ps) = 0
-words_of_means (function ps s) = 0
-words_of_means (type_name s) = 0
+words_of_means (means.Constant s v) = 0
+words_of_means (means.Variable t) = words_of_type t
+words_of_means (means.Reference s) = 2
+words_of_means (means.Procedure ps) = 0
+words_of_means (means.Function ps s) = 0
+words_of_means (means.TypeName s) = 0
 
 abbrev pub words_of_list : List Declared → ℕ
 words_of_list [] = 0
