@@ -1,0 +1,3 @@
+pub mod Framed
+pub mod FramesKept
+pub mod Unbroken
