@@ -10,7 +10,8 @@ use Rattle.pascal_check.specs.Frames.{used_behind}
 use Rattle.pascal_check.proofs.Framed.{names_words}
 use Rattle.pascal_check.proofs.Unbroken.{before, behind, tested}
 
-kept : (rule most used each : ℕ) (names : List NameAt) → used ≤ most → first_broken (too_large rule most used each names) ≡ None → used_behind used each names ≤ most
+kept : (rule most used each : ℕ) (names : List NameAt) → used ≤ most → first_broken (too_large rule most used each names) ≡ None
+    → used_behind used each names ≤ most
 kept rule most used each [] fits h = fits
 kept rule most used each (n ∷ more) fits h =
     let first = tested rule n.line (nat_lt most (used + each)) (too_large rule most (used + each) each more) h in

@@ -61,7 +61,8 @@ or_integer (Some t) = t
 
 -- two bounds of an array, in their order
 abbrev pub are_bounds : Option Valued → Option Valued → Bool
-are_bounds (Some a) (Some b) = same_scalar a.type scalar.Integer && same_scalar b.type scalar.Integer && int_le a.value b.value
+are_bounds (Some a) (Some b) =
+    same_scalar a.type scalar.Integer && same_scalar b.type scalar.Integer && int_le a.value b.value
 are_bounds a b = false
 
 abbrev pub array_between : Option Valued → Option Valued → Scalar → VariableType
@@ -152,7 +153,8 @@ abbrev pub judged_parameter_group : Scope → ParameterGroup → Judged
 judged_parameter_group s g =
     let m = group_means s g in
     let names = all_names g.names in
-    twice_declared s m names ++ (judged_type_name s g.kind ∷ (too_large 6 4096 (frame_words s) (words_of_means m) names
+    twice_declared s m names ++ (judged_type_name s g.kind
+    ∷ (too_large 6 4096 (frame_words s) (words_of_means m) names
     ++ too_large 7 16 (frame_words s) (words_of_means m) names))
 
 abbrev pub behind_parameter_groups : Scope → List ParameterGroup → Scope
@@ -187,7 +189,8 @@ behind_parameters program p = behind_parameter_groups (inside program) (all_grou
 
 -- what a routine is to the program behind its heading
 abbrev pub routine_means : Scope → Routine → Means
-routine_means program (procedure l x p c b e) = means.Procedure (parameters_wanted (inside program) (all_groups p))
+routine_means program (procedure l x p c b e) =
+    means.Procedure (parameters_wanted (inside program) (all_groups p))
 routine_means program (function l x p c t d b e) =
     means.Function (parameters_wanted (inside program) (all_groups p)) (or_integer (scalar_named (behind_parameters program p) t))
 

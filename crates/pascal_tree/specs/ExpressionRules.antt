@@ -139,7 +139,8 @@ is_variable (Some (means.Reference s)) t = same_scalar s t
 is_variable other t = false
 
 abbrev pub is_characters : Option Means → ℕ → Bool
-is_characters (Some (means.Variable (variable_type.Array low high scalar.Character))) n = elements low high == n
+is_characters (Some (means.Variable (variable_type.Array low high scalar.Character))) n =
+    elements low high == n
 is_characters other n = false
 
 -- an argument is what its parameter wants
@@ -257,7 +258,8 @@ abbrev mutual
       let ps = parameters_of (means_of s x.letters) in
       judged_arguments s a ps ++ judged_called s x (count_arguments a) (arguments_suit s a ps)
   judged_factor s (group o e c) = judged_expr s e
-  judged_factor s (negated l f) = judged_factor s f ++ breaks 8 (not (is_scalar (factor_type s f) scalar.Boolean)) l ∷ []
+  judged_factor s (negated l f) =
+      judged_factor s f ++ breaks 8 (not (is_scalar (factor_type s f) scalar.Boolean)) l ∷ []
 
   pub judged_index : Scope → Index → Judged
   judged_index s (index o e c) = judged_expr s e

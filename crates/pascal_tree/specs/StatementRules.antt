@@ -76,7 +76,8 @@ is_among (Some v) earlier = list_any (int_eq v.value) earlier
 abbrev pub judged_label : Scope → Option Scalar → List ℤ → Constant → Judged
 judged_label s t earlier c =
     let v = value_of s c in
-    judged_constant s c ++ breaks 15 (not (is_valued_as v t) || is_among v earlier) (first_line_of_constant c) ∷ []
+    judged_constant s c
+    ++ breaks 15 (not (is_valued_as v t) || is_among v earlier) (first_line_of_constant c) ∷ []
 
 abbrev pub judged_more_labels : Scope → Option Scalar → List ℤ → List (ℕ × Constant) → Judged
 judged_more_labels s t earlier [] = []
@@ -173,17 +174,21 @@ abbrev mutual
       judged_arguments s a ps ++ judged_call s x (count_arguments a) (arguments_suit s a ps)
   judged_statement s (compound b) = judged_body s b
   judged_statement s (if_then l e t x) =
-      judged_expr s e ++ (judged_statement s x ++ breaks 9 (not (is_scalar (expr_type s e) scalar.Boolean)) l ∷ [])
+      judged_expr s e ++ (judged_statement s x
+      ++ breaks 9 (not (is_scalar (expr_type s e) scalar.Boolean)) l ∷ [])
   judged_statement s (if_else l e t x o y) =
       judged_expr s e ++ (judged_statement s x ++ (judged_statement s y
       ++ breaks 9 (not (is_scalar (expr_type s e) scalar.Boolean)) l ∷ []))
   judged_statement s (while_do l e d x) =
-      judged_expr s e ++ (judged_statement s x ++ breaks 9 (not (is_scalar (expr_type s e) scalar.Boolean)) l ∷ [])
+      judged_expr s e ++ (judged_statement s x
+      ++ breaks 9 (not (is_scalar (expr_type s e) scalar.Boolean)) l ∷ [])
   judged_statement s (repeat_until l x u e) =
-      judged_sequence s x ++ (judged_expr s e ++ breaks 9 (not (is_scalar (expr_type s e) scalar.Boolean)) u ∷ [])
+      judged_sequence s x ++ (judged_expr s e
+      ++ breaks 9 (not (is_scalar (expr_type s e) scalar.Boolean)) u ∷ [])
   judged_statement s (for_do l x b e w t f d y) =
       judged_expr s e ++ (judged_expr s f ++ (judged_statement s y
-      ++ judged_control s x (is_scalar (expr_type s e) scalar.Integer && is_scalar (expr_type s f) scalar.Integer) l))
+      ++ judged_control s x
+      (is_scalar (expr_type s e) scalar.Integer && is_scalar (expr_type s f) scalar.Integer) l))
   judged_statement s (case_of l e o b more c) =
       judged_expr s e ++ (judged_branch s (expr_type s e) [] b
       ++ judged_branches s (expr_type s e) (values_of_branch s [] b) more)
