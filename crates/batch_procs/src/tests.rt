@@ -168,7 +168,9 @@ fn the_output_process_puts_the_lines_of_each_page(rt: HostRuntime) -> Result<(),
         ),
         (
             Trouble::Stop(5),
-            b"AwaitItem|Request|TakePage|Release|PutFeed HELLO|PutFeed end|Stop 3|Stop 4|Ended Stopped|".as_slice(),
+            b"AwaitItem|Request|TakePage|Release|PutFeed HELLO|PutFeed end|Stop 3|Stop 4|\
+              Ended Stopped|"
+                .as_slice(),
         ),
     ] {
         let text = actions::<OutputWork>(rt.alloc(), &[b"HELLO"], trouble)?;

@@ -1,5 +1,5 @@
--- How much the core may still do: a number that falls with each event, whatever the devices tell and whichever
--- of them fails.
+-- How much the core may still do: a number that falls with each event, whatever the devices tell and
+-- whichever of them fails.
 use Rattle.std.specs.Prelude.{◌≡◌, ◌<◌, ◌+◌, ◌*◌, ◌-◌, ℕ, zero, suc, Bool, false, length, Option, None, Some}
 use Rattle.solo_base.specs.declared.outcome.Side.{Side}
 use Rattle.solo_base.specs.declared.outcome.Side.TheVariants.{Sender, Receiver}

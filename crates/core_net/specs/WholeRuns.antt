@@ -11,8 +11,8 @@ use Rattle.core_net.specs.Counting.{counts_of}
 use Rattle.core_net.specs.Ended.{EndsSo}
 use Rattle.core_net.specs.Runs.{AreByRule}
 
--- Enabled events by the rule, which come to these counts. Behind them all five have ended with these outcomes,
--- the buffers were first stopped by these sides, and the deck and the paper are as told.
+-- Enabled events by the rule, which come to these counts. Behind them all five have ended with these
+-- outcomes, the buffers were first stopped by these sides, and the deck and the paper are as told.
 pub record RunsToEnd (rule : Rule) (s : CoreState) (counts : Counts) (outcomes : Outcomes)
     (stops : List (Option Side)) (devices : Devices) : Type 0 where
   pub events : List CoreEvent

@@ -87,8 +87,8 @@ abbrev pub is_ready : {P : Type 0} → List (SpoolCall P) → Bool
 is_ready calls = ready_after false calls
 
 -- ---- the tie
--- the area, by what it was at first: its count never falls, it is above the first where a call of either side failed, and
--- where neither side put or took a page the area is as it was
+-- the area, by what it was at first: its count never falls, it is above the first where a call of either side
+-- failed, and where neither side put or took a page the area is as it was
 pub record IsTiedToArea {A : Type 0} (faults : A → ℕ) (opening now : A) (calls : Side → List (SpoolCall (List ℕ))) : Type 0 where
   pub later : faults opening ≤ faults now
   pub failed : (side : Side) → has_failure (calls side) ≡ true → Rose (faults opening) (faults now)
@@ -103,9 +103,10 @@ abbrev pub Has : Side → Ring → Type 0
 Has Sender ring = length ring.marks < ring.capacity
 Has Receiver ring = ring.marks ≢ []
 
--- The spool stands where it does after the calls of both ends: what was taken, and then what is inside, is what was put;
--- who stopped first is known, and only the other end was told so, the receiver only where nothing was left. A side whose
--- await found what it wanted finds it there until its next call. An area that told its pages goes on telling them.
+-- The spool stands where it does after the calls of both ends: what was taken, and then what is inside, is
+-- what was put; who stopped first is known, and only the other end was told so, the receiver only where
+-- nothing was left. A side whose await found what it wanted finds it there until its next call. An area that
+-- told its pages goes on telling them.
 pub record IsTied {A : Type 0} (told_by : A → Option (List (List ℕ))) (faults : A → ℕ) (opening : A) (calls : Side → List (SpoolCall (List ℕ))) (state : Spool A) : Type 0 where
   pub stops : List Side
   pub stands : StandsFor told_by (sent_of (calls Sender)) (taken_of (calls Receiver)) stops state

@@ -28,8 +28,8 @@ pub record Known (A : Type 0) : Type 0 where
 abbrev pub known : {A : Type 0} → ℕ → Opened A → Known A
 known size spool = record { name = spool.name; opening = Some (empty_spool spool.area size) }
 
--- An entry of this side finds the spool in such a state: it is tied to the calls of this side so far, and to some calls
--- of the other side.
+-- An entry of this side finds the spool in such a state: it is tied to the calls of this side so far, and to
+-- some calls of the other side.
 pub record Finds {A : Type 0} (told_by : A → Option (List (List ℕ))) (faults : A → ℕ) (opening : A) (side : Side) (own : List (SpoolCall (List ℕ))) (state : Spool A) : Type 0 where
   pub calls : Side → List (SpoolCall (List ℕ))
   pub own_calls : calls side ≡ own
@@ -59,9 +59,10 @@ take_call page Fetched.Failed = call.TakeFailed
 abbrev pub without_last : {X : Type 0} → ℕ → List X → List X
 without_last left all = take (length all - left) all
 
--- What stands when both ends have met: the marks that were taken are those of the pages that were put without the last that
--- are left, and so are the pages where the area tells them; it is known who stopped first; a receiver that was told of a stop
--- leaves nothing; the area is what the calls of both made of it, and one that told its pages tells them now.
+-- What stands when both ends have met: the marks that were taken are those of the pages that were put without
+-- the last that are left, and so are the pages where the area tells them; it is known who stopped first; a
+-- receiver that was told of a stop leaves nothing; the area is what the calls of both made of it, and one
+-- that told its pages tells them now.
 pub record Meets {A : Type 0} (told_by : A → Option (List (List ℕ))) (faults : A → ℕ) (opening area : A) (calls : Side → List (SpoolCall (List ℕ))) (left : ℕ) (stopped_by : Option Side) : Type 0 where
   pub marks : map received_mark (taken_of (calls Receiver)) ≡ map mark (without_last left (sent_of (calls Sender)))
   pub pages : (told : List (List ℕ)) → told_by area ≡ Some told → map received_page (taken_of (calls Receiver)) ≡ without_last left (sent_of (calls Sender))
