@@ -1,5 +1,5 @@
 -- Each step keeps that the faults so far were counted by their devices.
-use Rattle.std.proofs.Common.{◌≡◌, ◌≤◌, ◌<◌, ◌⊎◌, inl, inr, ℕ, ◌==◌, if◌then◌else◌, Bool, List, ◌∷◌, Option, None, Some, Result, Ok, Err, refl, sym, ◌∙◌, ap, subst, arith}
+use Rattle.std.proofs.Common.{◌≡◌, ◌≢◌, ◌≤◌, ◌<◌, ◌⊎◌, inl, inr, ℕ, ◌==◌, if◌then◌else◌, Bool, List, ◌∷◌, Option, None, Some, Result, Ok, Err, refl, sym, ◌∙◌, ap, subst, arith}
 use Rattle.std.proofs.lemmas.Bool.Decides.{eqb_tells}
 use Rattle.solo_base.specs.declared.item.Item.{Item}
 use Rattle.solo_base.specs.declared.outcome.Outcome.{Outcome}
@@ -18,7 +18,7 @@ use Rattle.batch_procs.specs.declared.actions.Reply.{Reply}
 use Rattle.batch_procs.specs.declared.actions.Reply.TheVariants as reply
 use Rattle.batch_procs.specs.Causes.{fault_at, fault_read, damage, place, given_cause, or_new, caused}
 use Rattle.batch_procs.specs.Faults.{cause_by}
-use Rattle.batch_procs.specs.Fits.{Fits}
+use Rattle.batch_procs.specs.Fits.{Fits, MayLack}
 use Rattle.batch_procs.specs.History.{Entry, Does, LacksMemory, Delays, action_of}
 use Rattle.batch_procs.specs.Process.{Process, IsFitting, Follows, next_action}
 use Rattle.batch_procs.specs.Table.{process}
@@ -116,6 +116,49 @@ event-gave s event q how =
       | inl is ↦ subst P (sym is.0) (own is.1)
       | inr not ↦ subst P (sym not.0) (λ e. inl e)
     ]
+
+-- a cause stays
+entry-keeps : (entry : Entry) (h : List Entry) (how : Outcome) → caused h ≡ Some how → caused (entry ∷ h) ≡ Some how
+entry-keeps (Does a r) h how e = rw e refl
+entry-keeps (LacksMemory a r) h how e = rw e refl
+entry-keeps (Delays a) h how e = e
+
+event-keeps : (s : CoreState) (event : CoreEvent) (q : ℕ) (how : Outcome) → caused (s.histories q) ≡ Some how
+    → caused ((happens (core process) s event).histories q) ≡ Some how
+event-keeps s event q how e =
+    let P : Bool → Type 0 = λ t. caused (if t then event.entry ∷ s.histories event.process else s.histories q) ≡ Some how in
+    elim (eqb_tells q event.process) as (λ _. P (q == event.process)) [
+      | inl is ↦ subst P (sym is.0) (entry-keeps event.entry (s.histories event.process) how (subst (λ p. caused (s.histories p) ≡ Some how) is.1 e))
+      | inr not ↦ subst P (sym not.0) e
+    ]
+
+event-own : (s : CoreState) (event : CoreEvent) (q : ℕ) (how : Outcome) → event.process ≡ q → caused (event.entry ∷ s.histories event.process) ≡ Some how
+    → caused ((happens (core process) s event).histories q) ≡ Some how
+event-own s event q how own e =
+    let P : Bool → Type 0 = λ t. caused (if t then event.entry ∷ s.histories event.process else s.histories q) ≡ Some how in
+    elim (eqb_tells q event.process) as (λ _. P (q == event.process)) [
+      | inl is ↦ subst P (sym is.0) e
+      | inr not ↦ absurd (not.1 (sym own))
+    ]
+
+-- the limit is a cause
+lack-limit : (a : Action) → MayLack a (reply.Card card_read.Limit) → ⊥
+lack-limit act.TakePage may = may
+lack-limit act.Local may = may
+lack-limit a may = may
+
+same-reply : (r s : Reply) → Some r ≡ Some s → r ≡ s
+same-reply r s e = cc
+
+limit-gives : (p : Process) (entry : Entry) (h : List Entry) → IsFitting p entry → reply_of entry ≡ Some (reply.Card card_read.Limit) → caused h ≡ None
+    → caused (entry ∷ h) ≡ Some (outcome.Fault cause.DeckLimit)
+limit-gives p (Does a r) h fits told none = let same = same-reply r (reply.Card card_read.Limit) told in rw (none, same) refl
+limit-gives p (LacksMemory a r) h fits told none = absurd (lack-limit a (subst (MayLack a) (same-reply r (reply.Card card_read.Limit) told) fits.1))
+limit-gives p (Delays a) h fits told none = absurd cc
+
+reads-or-not : (a : Action) → (a ≡ act.ReadCard) ⊎ (a ≢ act.ReadCard)
+reads-or-not act.ReadCard = inl refl
+reads-or-not a = inr (λ e. cc)
 
 -- ---- who moves a page
 moves-so : (p : ℕ) (h : List Entry) (a : Action) → IsProcess p → Follows (process p) h → next_action (process p) h ≡ Some a → IsMove a
@@ -245,6 +288,17 @@ module _ {S K A B : Type 0} (keeps : Keeps) (tells : Tells S K A B) (counts : Co
             | inr gave ↦ causes.limit gave.1
           ]
 
+      longer : counts.taken before.source ≤ byte_limit → byte_limit < counts.taken new.shared.deck.source
+          → outcome_by (caused ((happens (core process) s event).histories 1)) ≡ outcome.Fault cause.DeckLimit
+      longer few over =
+          elim (reads-or-not made) as (λ _. outcome_by (caused ((happens (core process) s event).histories 1)) ≡ outcome.Fault cause.DeckLimit) [
+            | inl reads ↦ ap outcome_by (event-own s event 1 (outcome.Fault cause.DeckLimit) (reads-deck q (s.histories q) (next ∙ ap Some reads))
+                (limit-gives (process q) event.entry (s.histories q) step.enabled.suits (causes.limit_told reads over)
+                (open-next (process q) (s.histories q) act.ReadCard (next ∙ ap Some reads) tt)))
+            | inr not ↦ ap outcome_by (event-keeps s event 1 (outcome.Fault cause.DeckLimit) (fault-of (caused (s.histories 1)) cause.DeckLimit
+                (was.longer few (subst (λ (d : Held S). byte_limit < counts.taken d.source) (causes.deck_stays not) over))))
+          ]
+
       input : outcome_by (caused ((happens (core process) s event).histories 2)) ≡ outcome.Fault cause.DiskFault → InputRose
       input is =
           elim (now-or-before 2 cause.DiskFault is) as (λ _. InputRose) [
@@ -290,6 +344,7 @@ module _ {S K A B : Type 0} (keeps : Keeps) (tells : Tells S K A B) (counts : Co
       counted = record {
         read = read;
         limit = limit;
+        longer = longer;
         input = input;
         job = job;
         output = output;
@@ -316,4 +371,5 @@ module _ {S K A B : Type 0} (keeps : Keeps) (tells : Tells S K A B) (counts : Co
       → (before : Devices S K A B) → CausesAreCounted keeps tells counts before net → AreCounted counts before now outcomes
   ended-counted net outcomes now s stands card input job output printer devices before were =
       subst (λ now. AreCounted counts before now outcomes) (sym devices)
-      (subst (AreCounted counts before (devices_of net.shared)) (sym (same-five _ _ _ _ _ _ _ _ _ _ card input job output printer outcomes refl)) (were s stands))
+      (subst (AreCounted counts before (devices_of net.shared)) (sym (same-five _ _ _ _ _ _ _ _ _ _ card input job output printer outcomes refl))
+      (were s stands))

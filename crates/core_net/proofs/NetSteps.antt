@@ -292,6 +292,7 @@ module _ {S K A B : Type 0} (keeps : Keeps) (tells : Tells S K A B) (counts : Co
         stands = stood is.gained is.after;
         causes = st.causes;
         deck = st.enters.deck;
+        total = st.enters.total;
       }
 
   pub at-card : (m : Machine CardWork) (new : Shared S K A B) (action : Action) (result : Stepped) → MayStepIn s 1 action

@@ -23,7 +23,7 @@ use Rattle.core_net.specs.Lines.{LineStands}
 use Rattle.core_net.specs.Spools.{SpoolStands}
 use Rattle.core_net.specs.Desks.{Asked, Given}
 use Rattle.core_net.specs.Devices.{ReadsCard, PrintsLine}
-use Rattle.core_net.specs.Shared.{Tells, Choice, AtNumbers, StopsAt, Performs, cards_left}
+use Rattle.core_net.specs.Shared.{Tells, Choice, AtNumbers, StopsAt, Performs, cards_left, deck_total}
 
 -- ---- numbers
 chosen : (t : Bool) (X Y : Type 0) → t ≡ true → Choice t X Y → X
@@ -118,6 +118,7 @@ module _ {S K A B : Type 0} (tells : Tells S K A B) (old : Shared S K A B) (p : 
     suits = v.suits;
     gained = [];
     deck = none-fewer action result _ quiet;
+    total = refl;
     fits = λ s st. rw e (v.fits (s.buffers 1) st.cards);
     allowed = λ s st. (silent action result quiet).allowed s.devices;
     after = λ s hs st. record {
@@ -137,6 +138,7 @@ module _ {S K A B : Type 0} (tells : Tells S K A B) (old : Shared S K A B) (p : 
     suits = v.suits;
     gained = [];
     deck = none-fewer action result _ quiet;
+    total = refl;
     fits = λ s st. rw e (v.fits (s.buffers 4) st.lines);
     allowed = λ s st. (silent action result quiet).allowed s.devices;
     after = λ s hs st. record {
@@ -156,6 +158,7 @@ module _ {S K A B : Type 0} (tells : Tells S K A B) (old : Shared S K A B) (p : 
     suits = v.suits;
     gained = [];
     deck = none-fewer action result _ quiet;
+    total = refl;
     fits = λ s st. rw e (v.fits (s.buffers 2) st.input);
     allowed = λ s st. (silent action result quiet).allowed s.devices;
     after = λ s hs st. record {
@@ -175,6 +178,7 @@ module _ {S K A B : Type 0} (tells : Tells S K A B) (old : Shared S K A B) (p : 
     suits = v.suits;
     gained = [];
     deck = none-fewer action result _ quiet;
+    total = refl;
     fits = λ s st. rw e (v.fits (s.buffers 3) st.output);
     allowed = λ s st. (silent action result quiet).allowed s.devices;
     after = λ s hs st. record {
@@ -195,6 +199,7 @@ module _ {S K A B : Type 0} (tells : Tells S K A B) (old : Shared S K A B) (p : 
     suits = a.suits;
     gained = [];
     deck = none-fewer act.Request result _ tt;
+    total = refl;
     fits = λ s st. a.fits ∙ ap (λ (c : Claims). Rattle.network_law.specs.Desk.asked c.handed c.holder) (sym st.desk);
     allowed = λ s st. (silent act.Request result tt).allowed s.devices;
     after = λ s hs st. record {
@@ -213,6 +218,7 @@ module _ {S K A B : Type 0} (tells : Tells S K A B) (old : Shared S K A B) (p : 
     suits = a.suits;
     gained = [];
     deck = refl;
+    total = refl;
     fits = λ s st. a.fits;
     allowed = λ s st. refl;
     after = λ s hs st. record {
@@ -234,11 +240,13 @@ module _ {S K A B : Type 0} (tells : Tells S K A B) (old : Shared S K A B) (p : 
   pub at-deck : (new : Held S) (r : Reply)
       → ReadsCard (items_ahead (tells.left old.deck.source) old.deck.pending) (items_ahead (tells.left new.source) new.pending) r
       → (0 < length (items_by r) → cards_left tells.taken new < cards_left tells.taken old.deck)
+      → deck_total tells new ≡ deck_total tells old.deck
       → Performs tells old (record old { deck = new }) p act.ReadCard (Some r)
-  at-deck new r reads fewer = record {
+  at-deck new r reads fewer total = record {
     suits = reads.suits;
     gained = [];
     deck = fewer;
+    total = total;
     fits = λ s st. card-fits r reads.suits;
     allowed = λ s st. reads.allowed s.devices st.deck;
     after = λ s hs st. record {
@@ -265,6 +273,7 @@ module _ {S K A B : Type 0} (tells : Tells S K A B) (old : Shared S K A B) (p : 
     suits = prints.suits;
     gained = prints.gained;
     deck = refl;
+    total = refl;
     fits = λ s st. print-fits line r prints.suits;
     allowed = λ s st. prints.allowed s.devices;
     after = λ s hs st. record {
@@ -284,6 +293,7 @@ module _ {S K A B : Type 0} (tells : Tells S K A B) (old : Shared S K A B) (p : 
     suits = tt;
     gained = [];
     deck = refl;
+    total = refl;
     fits = λ s st. refl;
     allowed = λ s st. refl;
     after = λ s hs st. record {
@@ -302,6 +312,7 @@ module _ {S K A B : Type 0} (tells : Tells S K A B) (old : Shared S K A B) (p : 
     suits = tt;
     gained = [];
     deck = refl;
+    total = refl;
     fits = λ s st. refl;
     allowed = λ s st. refl;
     after = λ s hs st. record {

@@ -16,12 +16,14 @@ use Rattle.core_net.specs.Steps.{Enters, Steps}
 
 module _ {S K A B : Type 0} (tells : Tells S K A B) (old new : Shared S K A B) (p : ℕ) where
   pub enters : (action : Action) (result : Option Reply) → Performs tells old new p action result → Enters tells old new p action (entry_of action result)
-  enters action result is = record { gained = is.gained; deck = is.deck; fits = is.fits; allowed = is.allowed; after = is.after }
+  enters action result is = record { gained = is.gained; deck = is.deck; total = is.total; fits = is.fits; allowed = is.allowed; after = is.after }
 
   pub enters-lacking : (action : Action) (r : Reply) → MayLack action r → Performs tells old new p action (Some r)
       → Enters tells old new p action (LacksMemory action r)
-  enters-lacking act.TakePage (reply.Page page last) may is = record { gained = is.gained; deck = is.deck; fits = is.fits; allowed = is.allowed; after = is.after }
-  enters-lacking act.Local reply.Done may is = record { gained = is.gained; deck = is.deck; fits = is.fits; allowed = is.allowed; after = is.after }
+  enters-lacking act.TakePage (reply.Page page last) may is =
+      record { gained = is.gained; deck = is.deck; total = is.total; fits = is.fits; allowed = is.allowed; after = is.after }
+  enters-lacking act.Local reply.Done may is =
+      record { gained = is.gained; deck = is.deck; total = is.total; fits = is.fits; allowed = is.allowed; after = is.after }
   enters-lacking action r may is = absurd may
 
 -- ---- a step of a machine

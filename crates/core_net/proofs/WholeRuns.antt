@@ -1,9 +1,10 @@
 -- A run from an opening to its end.
-use Rattle.std.proofs.Common.{◌≡◌, ◌≤◌, ℕ, List, Option, refl, sym, ◌∙◌, ap, arith}
+use Rattle.std.proofs.Common.{◌≡◌, ◌≤◌, ◌==◌, if◌then◌else◌, ℕ, Bool, true, false, List, [], ◌∷◌, ◌++◌, map, Option, None, Some, refl, sym, ◌∙◌, ap, subst, arith}
+use Rattle.solo_base.specs.Card.{lines, before_lines, card_of, cards}
 use Rattle.solo_base.specs.declared.item.Item.{Item}
 use Rattle.solo_base.specs.declared.outcome.Side.{Side}
 use Rattle.batch_procs.specs.Table.{process}
-use Rattle.solo_devices.specs.CardUnit.{Held, items_ahead}
+use Rattle.solo_devices.specs.CardUnit.{Held, items_ahead, bytes_total, IsAllTaken}
 use Rattle.solo_devices.specs.PrinterUnit.{Printing}
 use Rattle.network_law.specs.Network.{run, happens}
 use Rattle.core_law.specs.Core.{core, CoreState, Devices}
@@ -24,6 +25,37 @@ use Rattle.core_net.proofs.TurnTaken.{reached-more}
 same-told : (devices : Devices) (deck : Option (List Item)) (paper : Option (List ℕ)) → devices.deck ≡ deck → devices.paper ≡ paper
     → devices ≡ record { deck = deck; paper = paper }
 same-told devices deck paper a b = rw (sym a, sym b) refl
+
+-- ---- a deck of which no card is left was taken whole
+before-some : (code : ℕ) (others : List (List ℕ)) → before_lines code others ≡ [] → ⊥
+before-some code [] e = cc
+before-some code (first ∷ others) e = cc
+
+lines-none : (bytes : List ℕ) → lines bytes ≡ [] → bytes ≡ []
+lines-none [] e = refl
+lines-none (code ∷ rest) e =
+    absurd (let P : Bool → Type 0 = λ t. (if t then [] ∷ lines rest else before_lines code (lines rest)) ≡ [] → ⊥ in
+    elim (code == 10) as P [ true ↦ (λ e. cc) | false ↦ before-some code (lines rest) ] e)
+
+map-none : {X Y : Type 0} (f : X → Y) (xs : List X) → map f xs ≡ [] → xs ≡ []
+map-none f [] e = refl
+map-none f (x ∷ xs) e = absurd cc
+
+last-none : (front rest : List ℕ) → front ++ rest ≡ [] → rest ≡ []
+last-none [] rest e = e
+last-none (x ∷ front) rest e = absurd cc
+
+some-none : (items : List Item) → Some items ≡ Some [] → items ≡ []
+some-none items e = cc
+
+pub all-taken : (before now : Option (List ℕ)) (taken_before taken_now : ℕ) (pending : List ℕ)
+    → bytes_total taken_now now ≡ bytes_total taken_before before
+    → ((items : List Item) → items_ahead before [] ≡ Some items → items_ahead now pending ≡ Some []) → IsAllTaken now
+all-taken None None taken_before taken_now pending total reads = λ rest is. absurd cc
+all-taken None (Some bytes) taken_before taken_now pending total reads = absurd cc
+all-taken (Some bytes) now taken_before taken_now pending total reads = λ rest is.
+    let none : Some (cards (pending ++ rest)) ≡ Some [] = subst (λ now. items_ahead now pending ≡ Some []) is (reads (cards bytes) refl) in
+    last-none pending rest (lines-none (pending ++ rest) (map-none card_of (lines (pending ++ rest)) (some-none (cards (pending ++ rest)) none)))
 
 module _ {S K A B : Type 0} (keeps : Keeps) (tells : Tells S K A B) where
   -- a turn leads from a reached state to a reached state of the same opening

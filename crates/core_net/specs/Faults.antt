@@ -40,13 +40,15 @@ devices_left ran = record {
   output = ran.output;
 }
 
--- Where a process has a fault of its device, this device has counted it since, or the deck was too long. The
--- job process uses both areas. No count falls.
+-- Where a process has a fault of its device, this device has counted it since. The limit is told exactly where
+-- too many bytes were taken since. The job process uses both areas. No count falls.
 pub record AreCounted {S K A B : Type 0} (counts : Counts S K A B) (before now : Devices S K A B)
     (outcomes : Outcomes) : Type 0 where
   pub read : outcomes.card ≡ outcome.Fault cause.ReadFault
       → Rose (counts.read_faults before.source) (counts.read_faults now.source)
   pub limit : outcomes.card ≡ outcome.Fault cause.DeckLimit → byte_limit < counts.taken now.source
+  pub longer : counts.taken before.source ≤ byte_limit → byte_limit < counts.taken now.source
+      → outcomes.card ≡ outcome.Fault cause.DeckLimit
   pub input : outcomes.input ≡ outcome.Fault cause.DiskFault
       → Rose (counts.input_faults before.input) (counts.input_faults now.input)
   pub job : outcomes.job ≡ outcome.Fault cause.DiskFault

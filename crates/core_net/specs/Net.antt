@@ -26,7 +26,7 @@ use Rattle.core_law.specs.Work.{events_left, LeavesFewer}
 use Rattle.core_net.specs.declared.net.Net.{Net}
 use Rattle.core_net.specs.declared.step.Stepped.{Stepped}
 use Rattle.core_net.specs.Causes.{Counts, HasCauses}
-use Rattle.core_net.specs.Shared.{Tells, SharedStands, cards_left}
+use Rattle.core_net.specs.Shared.{Tells, SharedStands, cards_left, deck_total}
 use Rattle.core_net.specs.Steps.{reply_of, stepped_by}
 
 -- what the work of each machine keeps of what was taken and put
@@ -90,6 +90,7 @@ pub record StepsNet {S K A B : Type 0} (keeps : Keeps) (tells : Tells S K A B) (
   pub causes : HasCauses counts old.shared new.shared p action (reply_of event.entry)
   pub deck : LeavesFewer event.entry (cards_left tells.taken old.shared.deck)
       (cards_left tells.taken new.shared.deck)
+  pub total : deck_total tells new.shared.deck ≡ deck_total tells old.shared.deck
 
 -- no run from an opening has more events
 abbrev pub most_events : ℕ

@@ -2,7 +2,7 @@
 use Rattle.std.specs.Prelude.{◌≡◌, ◌≢◌, ◌<◌, ◌==◌, ℕ, Bool, true, false, List, [], length, Option, None, IsSome}
 use Rattle.solo_base.specs.declared.outcome.Side.{Side}
 use Rattle.solo_base.specs.declared.outcome.Side.TheVariants.{Sender, Receiver}
-use Rattle.solo_devices.specs.CardUnit.{Held, items_ahead, work_ahead}
+use Rattle.solo_devices.specs.CardUnit.{Held, items_ahead, bytes_total, work_ahead}
 use Rattle.queue_var.specs.Sides.{Sides, MayEnter, MayStop, has_stopped}
 use Rattle.resource_mon.specs.Claims.{MayRequest}
 use Rattle.disk_spool.specs.Spool.{Spool}
@@ -42,6 +42,10 @@ telling left taken given input_pages output_pages = record {
 -- how many cards the deck may still give: no more than this number, which falls with each
 abbrev pub cards_left : {S : Type 0} → (S → ℕ) → Held S → ℕ
 cards_left taken deck = work_ahead (taken deck.source) deck.pending deck.ended
+
+-- how many bytes a source that tells them had in all
+abbrev pub deck_total : {S K A B : Type 0} → Tells S K A B → Held S → Option ℕ
+deck_total tells deck = bytes_total (tells.taken deck.source) (tells.left deck.source)
 
 pub record SharedStands {S K A B : Type 0} (tells : Tells S K A B) (shared : Shared S K A B)
     (s : CoreState) : Type 0 where
@@ -110,6 +114,7 @@ pub record Performs {S K A B : Type 0} (tells : Tells S K A B) (old new : Shared
   pub gained : List ℕ
   pub deck : LeavesFewer (entry_of action result) (cards_left tells.taken old.deck)
       (cards_left tells.taken new.deck)
+  pub total : deck_total tells new.deck ≡ deck_total tells old.deck
   pub fits : (s : CoreState) → SharedStands tells old s
       → Fits is_last s (call p action) (went (entry_of action result))
   pub allowed : (s : CoreState) → SharedStands tells old s → Allows s.devices (entry_of action result) gained

@@ -12,7 +12,7 @@ use Rattle.core_net.specs.declared.shared.Shared.{Shared}
 use Rattle.core_net.specs.declared.step.Stepped.{Stepped}
 use Rattle.core_net.specs.declared.step.Stepped.TheVariants.{Acted, Delayed, Lacked}
 use Rattle.core_net.specs.Causes.{Counts, HasCauses}
-use Rattle.core_net.specs.Shared.{Tells, SharedStands, MayPerform, cards_left}
+use Rattle.core_net.specs.Shared.{Tells, SharedStands, MayPerform, cards_left, deck_total}
 
 -- An entry of a process goes as the law allows in each state that is stood for, and what is shared stands for
 -- the state behind it.
@@ -20,6 +20,7 @@ pub record Enters {S K A B : Type 0} (tells : Tells S K A B) (old new : Shared S
     (action : Action) (entry : Entry) : Type 0 where
   pub gained : List ℕ
   pub deck : LeavesFewer entry (cards_left tells.taken old.deck) (cards_left tells.taken new.deck)
+  pub total : deck_total tells new.deck ≡ deck_total tells old.deck
   pub fits : (s : CoreState) → SharedStands tells old s → Fits is_last s (call p action) (went entry)
   pub allowed : (s : CoreState) → SharedStands tells old s → Allows s.devices entry gained
   pub after : (s : CoreState) (histories : ℕ → List Entry) → SharedStands tells old s

@@ -2,7 +2,7 @@
 ghost use Rattle.std.specs.Prelude.{◌≡◌, ◌≤◌, ◌<◌, ℕ, List, [], Some};
 ghost use Rattle.solo_base.specs.declared.item.Item.{Item};
 ghost use Rattle.solo_base.specs.Text.{text};
-ghost use Rattle.solo_devices.specs.CardUnit.{items_ahead};
+ghost use Rattle.solo_devices.specs.CardUnit.{items_ahead, bytes_total, IsAllTaken};
 ghost use Rattle.solo_devices.specs.PrinterUnit.{Gains};
 ghost use Rattle.page_codec.specs.Items.{AreItems};
 ghost use Rattle.core_law.specs.Bound.{longest_run};
@@ -60,9 +60,12 @@ pub fn run_core<S: Source, K: Sink, A: Area, B: Area>(
     ensures reads { (items : List Item) →
         items_ahead (S.left source) [] ≡ Some items → result.0.outcomes ≡ all_done →
         items_ahead (S.left result.0.deck.source) result.0.deck.pending ≡ Some [] }
+    ensures all_taken { result.0.outcomes ≡ all_done → IsAllTaken (S.left result.0.deck.source) }
+    ensures total { bytes_total (S.taken result.0.deck.source) (S.left result.0.deck.source)
+        ≡ bytes_total (S.taken source) (S.left source) }
 
-    // Over told devices no page was damaged, and there were no more events than the cards and lines of the deck
-    // allow.
+    // Over told devices no page was damaged, and there were no more events than the cards and lines of the
+    // deck allow.
     ensures undamaged { (items : List Item) →
         items_ahead (S.left source) [] ≡ Some items → AreItems items →
         AreTold (spools_over (A.size input) (A.pages input) (B.size output) (B.pages output)) →

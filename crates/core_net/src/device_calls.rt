@@ -1,6 +1,6 @@
 ghost use Rattle.std.specs.Prelude.{◌≡◌, ◌≤◌, ◌<◌, ◌≢◌, ◌↔◌, true, Some, ℕ, length};
 ghost use Rattle.solo_devices.specs.Count.{Rose};
-ghost use Rattle.solo_devices.specs.CardUnit.{items_ahead, byte_limit, IsAllTaken};
+ghost use Rattle.solo_devices.specs.CardUnit.{items_ahead, byte_limit, bytes_total, IsAllTaken};
 ghost use Rattle.solo_devices.specs.declared.card_read.CardRead.TheVariants as card_read;
 ghost use Rattle.batch_procs.specs.declared.actions.Reply.TheVariants as reply;
 ghost use Rattle.core_law.specs.Core.{items_by};
@@ -21,6 +21,8 @@ pub fn read_card<S: Source>(deck: &mut CardUnit<S>) -> Reply
     ensures counts { S.faults deck.old.source ≤ S.faults deck.new.source }
     ensures limit { (result ≡ reply.Card card_read.Limit) ↔ (byte_limit < S.taken deck.new.source) }
     ensures falls { 0 < length (items_by result) → cards_left S.taken deck.new < cards_left S.taken deck.old }
+    ensures total { bytes_total (S.taken deck.new.source) (S.left deck.new.source)
+        ≡ bytes_total (S.taken deck.old.source) (S.left deck.old.source) }
     ensures all_taken { result ≡ reply.Card card_read.End → IsAllTaken (S.left deck.new.source) }
     ensures live { result ≢ reply.Card card_read.Failed → result ≢ reply.Card card_read.Limit
         → deck.new.live ≡ true }

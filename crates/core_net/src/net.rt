@@ -11,7 +11,7 @@ ghost use Rattle.solo_devices.specs.CardUnit.{items_ahead};
 ghost use Rattle.core_net.specs.Openings.{spools_over};
 ghost use Rattle.core_net.specs.Causes.{counting};
 ghost use Rattle.core_law.specs.Work.{events_left};
-ghost use Rattle.core_net.specs.Faults.{CausesAreCounted};
+ghost use Rattle.core_net.specs.Faults.{devices_of, CausesAreCounted};
 ghost use Rattle.core_net.specs.Shared.{cards_left, telling};
 ghost use Rattle.core_net.specs.Net.{most_events, the_keeps, NetStands, MayStepIn, MayStepNet, StepsNet, StandsReached, StandsSomewhere};
 
@@ -53,6 +53,8 @@ impl<S: Source, K: Sink, A: Area, B: Area> Net<S, K, A, B> {
             (B.pages output)) (items_ahead (S.left source) []) (K.given sink)
             (opened (spools_over (A.size input) (A.pages input) (B.size output) (B.pages output))
             (items_ahead (S.left source) []) (K.given sink)) }
+        ensures devices { devices_of result.shared
+            ≡ record { source = source; sink = sink; input = input; output = output } }
         ensures counted { CausesAreCounted the_keeps
             (telling S.left S.taken K.given A.pages B.pages)
             (counting S.faults S.taken K.faults A.faults B.faults)

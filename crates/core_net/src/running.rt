@@ -2,6 +2,7 @@ ghost use Rattle.std.specs.Prelude.{◌≡◌, ◌≤◌, ◌<◌, ◌+◌, ◌^
 ghost use Rattle.solo_base.specs.declared.item.Item.{Item};
 ghost use Rattle.page_codec.specs.Items.{AreItems};
 ghost use Rattle.core_law.specs.Bound.{longest_run};
+ghost use Rattle.solo_devices.specs.CardUnit.{bytes_total};
 ghost use Rattle.core_law.specs.Core.{CoreState};
 ghost use Rattle.core_law.specs.Holds.{AreTold};
 ghost use Rattle.core_law.specs.Opening.{Spools, IsReached};
@@ -42,8 +43,12 @@ impl<S: Source, K: Sink, A: Area, B: Area> Net<S, K, A, B> {
             AreTold spools → deck ≡ Some items →
             AreItems items → result.events ≤ longest_run items }
         ensures reached { (spools : Spools) (deck : Option (List Item)) (paper : Option (List ℕ)) →
-            StandsReached the_keeps (telling S.left S.taken K.given A.pages B.pages) self.old spools deck paper →
-            StandsReached the_keeps (telling S.left S.taken K.given A.pages B.pages) self.new spools deck paper }
+            StandsReached the_keeps (telling S.left S.taken K.given A.pages B.pages) self.old
+            spools deck paper →
+            StandsReached the_keeps (telling S.left S.taken K.given A.pages B.pages) self.new
+            spools deck paper }
+        ensures total { bytes_total (S.taken self.new.shared.deck.source) (S.left self.new.shared.deck.source)
+            ≡ bytes_total (S.taken self.old.shared.deck.source) (S.left self.old.shared.deck.source) }
         ensures counted { (before : Devices S K A B) →
             CausesAreCounted the_keeps (telling S.left S.taken K.given A.pages B.pages)
             (counting S.faults S.taken K.faults A.faults B.faults) before self.old →
@@ -79,8 +84,12 @@ impl<S: Source, K: Sink, A: Area, B: Area> Net<S, K, A, B> {
             AreTold spools → deck ≡ Some items →
             AreItems items → result.events ≤ longest_run items }
         ensures reached { (spools : Spools) (deck : Option (List Item)) (paper : Option (List ℕ)) →
-            StandsReached the_keeps (telling S.left S.taken K.given A.pages B.pages) self.old spools deck paper →
-            StandsReached the_keeps (telling S.left S.taken K.given A.pages B.pages) self.new spools deck paper }
+            StandsReached the_keeps (telling S.left S.taken K.given A.pages B.pages) self.old
+            spools deck paper →
+            StandsReached the_keeps (telling S.left S.taken K.given A.pages B.pages) self.new
+            spools deck paper }
+        ensures total { bytes_total (S.taken self.new.shared.deck.source) (S.left self.new.shared.deck.source)
+            ≡ bytes_total (S.taken self.old.shared.deck.source) (S.left self.old.shared.deck.source) }
         ensures counted { (before : Devices S K A B) →
             CausesAreCounted the_keeps (telling S.left S.taken K.given A.pages B.pages)
             (counting S.faults S.taken K.faults A.faults B.faults) before self.old →
@@ -138,6 +147,8 @@ impl<S: Source, K: Sink, A: Area, B: Area> Net<S, K, A, B> {
             NetStands the_keeps (telling S.left S.taken K.given A.pages B.pages) self.old s → MayGo s p →
             TurnTaken the_keeps (telling S.left S.taken K.given A.pages B.pages) self.old self.new s p
             counts.old counts.new }
+        ensures total { bytes_total (S.taken self.new.shared.deck.source) (S.left self.new.shared.deck.source)
+            ≡ bytes_total (S.taken self.old.shared.deck.source) (S.left self.old.shared.deck.source) }
         ensures counted { (before : Devices S K A B) →
             CausesAreCounted the_keeps (telling S.left S.taken K.given A.pages B.pages)
             (counting S.faults S.taken K.faults A.faults B.faults) before self.old →

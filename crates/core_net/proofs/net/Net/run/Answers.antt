@@ -1,4 +1,4 @@
-use Rattle.std.proofs.Common.{arith, ap, subst, sym, refl}
+use Rattle.std.proofs.Common.{arith, ◌∙◌, ap, subst, sym, refl}
 use Rattle.core_net.specs.declared.counts.Counts.{Counts}
 use Rattle.core_net.specs.Runs.{HasLeft}
 use Rattle.core_net.proofs.RunMore.{no-turn, none-left, may-picked, left-more, few-events, runs-more, run-bounded, have-ended}
@@ -16,6 +16,7 @@ running-init g c =
       omega (arith, events, grants),
       λ spools deck paper st. st,
       λ before were. were,
+      refl,
     )
 
 pub take_turn-requires-clause-may : goal.take_turn-requires-clause-may
@@ -52,6 +53,7 @@ running-preserved g c =
           turn-reaches _ _ c.running.self c.take_turn.new.self c.in-Some.p c.running.counts c.take_turn.new.counts spools deck paper at
           (c.take_turn.ensures.turn spools deck paper at.state at.reached at.stands goes),
       λ before were. c.take_turn.ensures.counted before (c.running.invariant.5 before were),
+      c.take_turn.ensures.total ∙ c.running.invariant.6,
     )
 
 pub returns-clause-runs : goal.returns-clause-runs

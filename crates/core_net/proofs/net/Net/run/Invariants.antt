@@ -1,4 +1,5 @@
-use Rattle.std.specs.Prelude.{◌≤◌, ◌-◌, ℕ, List, Option}
+use Rattle.solo_devices.specs.CardUnit.{bytes_total}
+use Rattle.std.specs.Prelude.{◌≡◌, ◌≤◌, ◌-◌, ℕ, List, Option}
 use Rattle.solo_base.specs.declared.item.Item.{Item}
 use Rattle.core_law.specs.Core.{CoreState}
 use Rattle.core_law.specs.Opening.{Spools, IsReached}
@@ -26,6 +27,8 @@ invariant-running g l =
     (counting g.S.Source.faults g.S.Source.taken g.K.Sink.faults g.A.Area.faults g.B.Area.faults) before l.fn.self
     → CausesAreCounted the_keeps (telling g.S.Source.left g.S.Source.taken g.K.Sink.given g.A.Area.pages g.B.Area.pages)
     (counting g.S.Source.faults g.S.Source.taken g.K.Sink.faults g.A.Area.faults g.B.Area.faults) before l.self)
+    × (bytes_total (g.S.Source.taken l.self.shared.deck.source) (g.S.Source.left l.self.shared.deck.source)
+    ≡ bytes_total (g.S.Source.taken l.fn.self.shared.deck.source) (g.S.Source.left l.fn.self.shared.deck.source))
 
 abbrev pub decreases-running : goal.decreases-running
 decreases-running g l = most_events - l.counts.events

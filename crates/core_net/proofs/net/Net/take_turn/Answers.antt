@@ -17,3 +17,8 @@ returns-clause-counted g c = λ before were.
     let may = c.requires.may in
     turn-counted _ _ _ c.args.self.now c.step-stepped.new.self c.args.p c.step-stepped.result may
     (c.step-stepped.ensures.steps may.spools may.deck may.paper may.state may.action may.reached may.stands may.step) before were
+
+pub returns-clause-total : goal.returns-clause-total
+returns-clause-total g c =
+    let may = c.requires.may in
+    (c.step-stepped.ensures.steps may.spools may.deck may.paper may.state may.action may.reached may.stands may.step).total

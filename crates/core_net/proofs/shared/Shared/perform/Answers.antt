@@ -6,7 +6,8 @@ use Rattle.core_net.proofs.shared.Shared.perform.Goals as goal
 pub returns-in-ReadCard-clause-performs : goal.returns-in-ReadCard-clause-performs
 returns-in-ReadCard-clause-performs g c =
     at-action _ c.args.self.now _ c.args.p c.args.action act.ReadCard (Some c.read_card.result) c.in-ReadCard.is
-    (at-deck _ c.args.self.now c.args.p c.read_card.new.deck c.read_card.result c.read_card.ensures.reads c.read_card.ensures.falls)
+    (at-deck _ c.args.self.now c.args.p c.read_card.new.deck c.read_card.result c.read_card.ensures.reads c.read_card.ensures.falls
+    c.read_card.ensures.total)
 
 pub returns-in-Request-clause-performs : goal.returns-in-Request-clause-performs
 returns-in-Request-clause-performs g c =
