@@ -18,4 +18,14 @@ pub use fault::{FileFault, FileInfo};
 pub use file_area::FileArea;
 
 #[cfg(test)]
+mod broken_tests;
+#[cfg(test)]
+mod failing_tests;
+#[cfg(test)]
+mod full_tests;
+#[cfg(test)]
+mod made_area;
+#[cfg(test)]
+mod random_tests;
+#[cfg(test)]
 mod tests;
