@@ -1,12 +1,11 @@
-//! Lists a deck of `#LIST` groups as the program `solo batch` does: a plain program on one thread, with std's
-//! buffered reader and writer. It prints each card as it comes. Here `#LIST name` and `#END` alone are control cards,
-//! and every other card that begins with `#` is a bad one.
-use std::io::{self, BufRead, BufReader, BufWriter, Read, Write};
+//! What the reports of a deck of `#LIST` groups are, in plain Rust, line by line. Here `#LIST name` and `#END` alone are control
+//! cards, and every other card that begins with `#` is a bad one.
+use std::io::{self, Write};
 
 const COLUMNS: usize = 80;
 
 /// What the deck is in: nothing, or a list with its name and how far it is.
-enum Place {
+pub enum Place {
     Outside { skipped: u32 },
     InList { name: String, cards: u32, faulty: bool },
 }
@@ -15,6 +14,12 @@ enum Control {
     List(String),
     End,
     Bad,
+}
+
+impl Place {
+    pub fn start() -> Place {
+        Place::Outside { skipped: 0 }
+    }
 }
 
 /// The card in a line, or none where the line is spoiled.
@@ -44,7 +49,7 @@ fn control_of(card: &[u8]) -> Option<Control> {
 }
 
 /// Ends what the deck is in.
-fn close(place: Place, paper: &mut impl Write) -> io::Result<()> {
+pub fn close(place: Place, paper: &mut impl Write) -> io::Result<()> {
     match place {
         Place::Outside { skipped: 0 } | Place::InList { faulty: true, .. } => Ok(()),
         Place::Outside { skipped } => writeln!(paper, "{skipped} CARDS SKIPPED"),
@@ -53,7 +58,7 @@ fn close(place: Place, paper: &mut impl Write) -> io::Result<()> {
 }
 
 /// Goes on with the next line of the deck.
-fn step(place: Place, line: &[u8], paper: &mut impl Write) -> io::Result<Place> {
+pub fn step(place: Place, line: &[u8], paper: &mut impl Write) -> io::Result<Place> {
     let card = card_of(line);
     match (place, card.and_then(control_of)) {
         (place, Some(Control::List(name))) => {
@@ -81,17 +86,4 @@ fn step(place: Place, line: &[u8], paper: &mut impl Write) -> io::Result<Place> 
             Ok(Place::InList { name, cards: number, faulty })
         }
     }
-}
-
-fn main() -> io::Result<()> {
-    let mut deck = BufReader::new(io::stdin().lock().take(16_777_216));
-    let mut paper = BufWriter::new(io::stdout().lock());
-    let mut place = Place::Outside { skipped: 0 };
-    let mut line = Vec::new();
-    while deck.read_until(b'\n', &mut line)? > 0 {
-        place = step(place, &line, &mut paper)?;
-        line.clear();
-    }
-    close(place, &mut paper)?;
-    paper.flush()
 }
