@@ -17,7 +17,7 @@ use Rattle.batch_procs.specs.declared.actions.Action.{Action}
 use Rattle.batch_procs.specs.declared.actions.Action.TheVariants as act
 use Rattle.batch_procs.specs.declared.actions.Reply.TheVariants as reply
 use Rattle.batch_procs.specs.Parcels.{Parcel, OfPage, pages}
-use Rattle.batch_procs.specs.History.{Entry, Does, LacksMemory, Delays, taken, taken_by}
+use Rattle.batch_procs.specs.History.{Entry, Does, LacksMemory, Delays, taken, taken_by, newest}
 use Rattle.batch_procs.specs.Causes.{fault_at, damage, place, caused}
 use Rattle.batch_procs.specs.Faults.{cause_by, FaultsOf, IsDamaged}
 use Rattle.batch_procs.specs.Laws.{IsNotDone}
@@ -34,7 +34,7 @@ use Rattle.core_law.proofs.Passing.{HandOver, read-part, next-part}
 use Rattle.core_law.proofs.ReportLines.{report-lines}
 use Rattle.core_law.proofs.Row.{each-process}
 use Rattle.core_law.proofs.RoundTrip.{Packs, good, as_stream, read-back, packs, line-items, input-gives, job-gives, job_reports}
-use Rattle.core_law.proofs.Streams.{deck_parcels, DevicesStand}
+use Rattle.core_law.proofs.Streams.{deck_parcels, ReadsOf, DevicesStand}
 use Rattle.core_law.proofs.Outcomes.{ended-as}
 
 -- ---- causes
@@ -42,24 +42,28 @@ cause-of : (c : Option Outcome) (how : Outcome) → outcome_by c ≡ how → IsN
 cause-of (Some c) how e not = ap Some e
 cause-of None how e not = absurd (subst (λ how. IsNotDone (Some how)) (sym e) not)
 
+module _ (histories : ℕ → List Entry) (follows : (p : ℕ) → Follows (process p) (histories p)) where
+  caused-so : (p : ℕ) (how : Outcome) → newest (histories p) ≡ Some (act.Ended how) → IsNotDone (Some how) → caused (histories p) ≡ Some how
+  caused-so p how ended not = cause-of (caused (histories p)) how (ended-as (process p) (histories p) how (the-five.relays p) (follows p) ended) not
+
+  fault-so : (Fault : Cause → Type 0) (p : ℕ) → FaultsOf (process p) Fault → (c : Cause) → newest (histories p) ≡ Some (act.Ended (outcome.Fault c)) → Fault c
+  fault-so Fault p faults c ended = faults (histories p) c (follows p) (caused-so p (outcome.Fault c) ended tt)
+
 module _ (opening s : CoreState) (st : Stands (core process) opening s) where
-  follows : (p : ℕ) → Follows (process p) (s.histories p)
-  follows p = follows-of process p (s.histories p) (st.follows p)
+  follows-row : (p : ℕ) → Follows (process p) (s.histories p)
+  follows-row p = follows-of process p (s.histories p) (st.follows p)
 
-  caused-so : (p : ℕ) (how : Outcome) → HasEndedSo s how p → IsNotDone (Some how) → caused (s.histories p) ≡ Some how
-  caused-so p how ended not = cause-of (caused (s.histories p)) how (ended-as (process p) (s.histories p) how (the-five.relays p) (follows p) ended) not
-
-  fault-so : (Fault : Cause → Type 0) (p : ℕ) → FaultsOf (process p) Fault → (c : Cause) → HasEndedSo s (outcome.Fault c) p → Fault c
-  fault-so Fault p faults c ended = faults (s.histories p) c (follows p) (caused-so p (outcome.Fault c) ended tt)
+  fault-of : (Fault : Cause → Type 0) (p : ℕ) → FaultsOf (process p) Fault → (c : Cause) → HasEndedSo s (outcome.Fault c) p → Fault c
+  fault-of = fault-so s.histories follows-row
 
   pub have-causes : HaveCauses s
   have-causes = record {
-    given = λ p how one ended not. each_cause_is_given (s.histories p) how (caused-so p how ended not);
-    card = fault-so _ 1 faults_of_the_five.card;
-    input = fault-so _ 2 faults_of_the_five.input;
-    job = fault-so _ 3 faults_of_the_five.job;
-    output = fault-so _ 4 faults_of_the_five.output;
-    printer = fault-so _ 5 faults_of_the_five.printer;
+    given = λ p how one ended not. each_cause_is_given (s.histories p) how (caused-so s.histories follows-row p how ended not);
+    card = fault-of _ 1 faults_of_the_five.card;
+    input = fault-of _ 2 faults_of_the_five.input;
+    job = fault-of _ 3 faults_of_the_five.job;
+    output = fault-of _ 4 faults_of_the_five.output;
+    printer = fault-of _ 5 faults_of_the_five.printer;
   }
 
 -- ---- the entry that gives a damaged page
@@ -166,46 +170,50 @@ no-damage h parcels all c is (rest, part) fault damaged =
     let no : Some (outcome.Fault c) ≡ None = sym gives.damaged ∙ ap (λ n. damage (page_read n gives.last gives.page)) (sym at) ∙ none in
     cc
 
-module _ (opening s : CoreState) (st : Stands (core process) opening s) (d : DevicesStand process opening s)
-    (hand_over : HandOver s.histories) (items : List Item) (deck : opening.devices.deck ≡ Some items) (are : AreItems items) where
-  first : IsPrefixOf (taken (s.histories 1)) (deck_parcels items)
-  first = read-part items s.devices.deck (taken (s.histories 1)) _ refl (d.read items deck)
+-- ---- five histories side by side
+module _ (histories : ℕ → List Entry) (follows : (p : ℕ) → Follows (process p) (histories p)) (hand_over : HandOver histories) (items : List Item)
+    (deck : Option (List Item)) (read : ReadsOf items deck (taken (histories 1))) (are : AreItems items) where
+  first : IsPrefixOf (taken (histories 1)) (deck_parcels items)
+  first = read-part items deck (taken (histories 1)) _ refl read
 
-  third : IsPrefixOf (taken (s.histories 3)) (input_sends (card_sends (deck_parcels items)))
-  third = next-part the-five s.histories (follows opening s st) hand_over 2 _ (lit≤ tt, lit≤ tt) (next-part the-five s.histories
-      (follows opening s st) hand_over 1 _ (lit≤ tt, lit≤ tt) first)
+  third : IsPrefixOf (taken (histories 3)) (input_sends (card_sends (deck_parcels items)))
+  third = next-part the-five histories follows hand_over 2 _ (lit≤ tt, lit≤ tt) (next-part the-five histories follows hand_over 1 _ (lit≤ tt, lit≤ tt) first)
 
-  fourth : IsPrefixOf (taken (s.histories 4)) (job_sends (input_sends (card_sends (deck_parcels items))))
-  fourth = next-part the-five s.histories (follows opening s st) hand_over 3 _ (lit≤ tt, lit≤ tt) third
+  fourth : IsPrefixOf (taken (histories 4)) (job_sends (input_sends (card_sends (deck_parcels items))))
+  fourth = next-part the-five histories follows hand_over 3 _ (lit≤ tt, lit≤ tt) third
 
-  job-undamaged : (c : Cause) → caused (s.histories 3) ≡ Some (outcome.Fault c) → IsDamaged c → ⊥
+  job-undamaged : (c : Cause) → caused (histories 3) ≡ Some (outcome.Fault c) → IsDamaged c → ⊥
   job-undamaged c =
-      no-damage (s.histories 3) _ items c (subst (λ ps. Packs ps items) (sym (input-gives items are)) (packs items are)) third
+      no-damage (histories 3) _ items c (subst (λ ps. Packs ps items) (sym (input-gives items are)) (packs items are)) third
 
-  output-undamaged : (c : Cause) → caused (s.histories 4) ≡ Some (outcome.Fault c) → IsDamaged c → ⊥
+  output-undamaged : (c : Cause) → caused (histories 4) ≡ Some (outcome.Fault c) → IsDamaged c → ⊥
   output-undamaged c =
       let lines = map Line (job_reports items) in
-      no-damage (s.histories 4) _ lines c
+      no-damage (histories 4) _ lines c
       (subst (λ ps. Packs ps lines) (sym (job-gives items are)) (packs lines (line-items (job_reports items) (report-lines items are)))) fourth
 
   not-disk : (c : Cause) (other : Cause) → (IsDamaged other → ⊥) → c ≡ other → IsDamaged c → ⊥
   not-disk c other not e is = not (subst IsDamaged e is)
 
-  pub undamaged : (p : ℕ) (c : Cause) → IsProcess p → HasEndedSo s (outcome.Fault c) p → IsDamaged c → ⊥
-  undamaged p c one ended damaged =
-      let causes = have-causes opening s st in
-      each-process (λ p. HasEndedSo s (outcome.Fault c) p → ⊥) p one
-      (λ e. elim (causes.card c e) as (λ _. ⊥) [
+  pub none-damaged : (p : ℕ) (c : Cause) → IsProcess p → newest (histories p) ≡ Some (act.Ended (outcome.Fault c)) → IsDamaged c → ⊥
+  none-damaged p c one ended damaged =
+      each-process (λ p. newest (histories p) ≡ Some (act.Ended (outcome.Fault c)) → ⊥) p one
+      (λ e. elim (fault-so histories follows _ 1 faults_of_the_five.card c e) as (λ _. ⊥) [
         | inl a ↦ not-disk c cause.ReadFault (λ no. no) a damaged
         | inr a ↦ not-disk c cause.DeckLimit
             (λ no. no) a damaged
       ])
-      (λ e. not-disk c cause.DiskFault (λ no. no) (causes.input c e) damaged)
-      (λ e. job-undamaged c (caused-so opening s st 3 (outcome.Fault c) e tt) damaged)
-      (λ e. output-undamaged c (caused-so opening s st 4 (outcome.Fault c) e tt) damaged)
-      (λ e. elim (causes.printer c e) as (λ _. ⊥) [
+      (λ e. not-disk c cause.DiskFault (λ no. no) (fault-so histories follows _ 2 faults_of_the_five.input c e) damaged)
+      (λ e. job-undamaged c (caused-so histories follows 3 (outcome.Fault c) e tt) damaged)
+      (λ e. output-undamaged c (caused-so histories follows 4 (outcome.Fault c) e tt) damaged)
+      (λ e. elim (fault-so histories follows _ 5 faults_of_the_five.printer c e) as (λ _. ⊥) [
         | inl a ↦ not-disk c cause.PrintFault (λ no. no) a damaged
         | inr a ↦ not-disk c cause.NoMemory
             (λ no. no) a damaged
       ])
       ended
+
+module _ (opening s : CoreState) (st : Stands (core process) opening s) (d : DevicesStand process opening s)
+    (hand_over : HandOver s.histories) (items : List Item) (deck : opening.devices.deck ≡ Some items) (are : AreItems items) where
+  pub undamaged : (p : ℕ) (c : Cause) → IsProcess p → HasEndedSo s (outcome.Fault c) p → IsDamaged c → ⊥
+  undamaged = none-damaged s.histories (follows-row opening s st) hand_over items s.devices.deck (d.read items deck) are
