@@ -39,9 +39,10 @@ use Rattle.core_law.proofs.Passing.{EndDone, gains-of, reads-all}
 use Rattle.core_law.proofs.Row.{each-buffer}
 use Rattle.core_law.proofs.Stopping.{done-none, none-done, stopped-by}
 use Rattle.core_law.proofs.Streams.{ReadsOf, Gained}
+use Rattle.core_law.proofs.Undamaged.{none-damaged}
 use Rattle.core_net.specs.declared.finish.Outcomes.{Outcomes}
 use Rattle.core_net.specs.Causes.{Counts}
-use Rattle.core_net.specs.Ended.{outcome_at, all_done, none_stopped, stopped_at, StoppedBeside, SomeFault, EndTogether, FaultsAre}
+use Rattle.core_net.specs.Ended.{outcome_at, all_done, none_stopped, stopped_at, StoppedBeside, SomeFault, EndTogether, FaultsAre, NoneDamaged}
 use Rattle.batch_run.specs.declared.batch.Parted.{Parted}
 use Rattle.batch_run.specs.declared.desk.Desk.{Desk as Place}
 use Rattle.batch_run.specs.declared.gates.AllMet.{AllMet as Met}
@@ -280,6 +281,13 @@ module _ {S K A B : Type 0} (left : S → Option (List ℕ)) (taken source_fault
     pub reads : (items : List Item) → items_ahead (left deck.source) deck.pending ≡ Some items → outcomes ≡ all_done
         → items_ahead (left parted.deck.source) parted.deck.pending ≡ Some []
     reads items told e = reads-all the-five (histories five) (follows five) items _ (deck-read items told) (end-done e)
+
+    -- over told areas no page was damaged
+    pub undamaged : is_some (input_told gates.input.area) ≡ true → is_some (output_told gates.output.area) ≡ true → (items : List Item)
+        → items_ahead (left deck.source) deck.pending ≡ Some items → AreItems items → NoneDamaged outcomes
+    undamaged input_is output_is items told valid p c one e =
+        none-damaged (histories five) (follows five) (hand-over five input_is output_is) items _ (deck-read items told) valid p c one
+        (ended-at p one ∙ ap (λ how. Some (act.Ended how)) e)
 
     pub taken-all : outcomes ≡ all_done → IsAllTaken (left parted.deck.source)
     taken-all e =

@@ -9,7 +9,7 @@ ghost use Rattle.solo_devices.specs.PrinterUnit.{Gains};
 ghost use Rattle.page_codec.specs.Items.{AreItems};
 ghost use Rattle.batch_job.specs.OneThread.{one_thread_lines};
 ghost use Rattle.core_law.specs.Holds.{AreTold};
-ghost use Rattle.core_net.specs.Ended.{all_done, EndTogether, FaultsAre};
+ghost use Rattle.core_net.specs.Ended.{all_done, EndTogether, FaultsAre, NoneDamaged};
 ghost use Rattle.core_net.specs.Openings.{spools_over};
 ghost use Rattle.batch_run.specs.Batch.{FaultsAreCounted};
 ghost use Rattle.batch_run.specs.Begun.{AreFresh};
@@ -77,6 +77,13 @@ pub fn run_batch<
         items_ahead (S.left ran.deck.source) ran.deck.pending ≡ Some []) }
     ensures all_taken { IfOk result (λ ran. ran.outcomes ≡ all_done → IsAllTaken (S.left ran.deck.source)) }
 
+    // Over areas that tell their pages no page was damaged.
+    ensures undamaged { IfOk result (λ ran. (items : List Item) →
+        items_ahead (S.left units.deck.source) units.deck.pending ≡ Some items → AreItems items →
+        AreTold (spools_over (A.size units.input) (A.pages units.input)
+        (B.size units.output) (B.pages units.output)) →
+        NoneDamaged ran.outcomes) }
+
     // The limit comes wherever too many bytes were taken, and all that the source had was taken or is left.
     ensures longer { IfOk result (λ ran. S.taken units.deck.source ≤ byte_limit →
         byte_limit < S.taken ran.deck.source → ran.outcomes.card ≡ outcome.Fault cause.DeckLimit) }
@@ -141,6 +148,10 @@ fn run_made<
     ensures reads { (items : List Item) →
         items_ahead (S.left deck.source) deck.pending ≡ Some items → result.outcomes ≡ all_done →
         items_ahead (S.left result.deck.source) result.deck.pending ≡ Some [] }
+    ensures undamaged { (items : List Item) →
+        items_ahead (S.left deck.source) deck.pending ≡ Some items → AreItems items →
+        IsSome (A.pages gates.input.area) → IsSome (B.pages gates.output.area) →
+        NoneDamaged result.outcomes }
     ensures all_taken { result.outcomes ≡ all_done → IsAllTaken (S.left result.deck.source) }
     ensures longer { S.taken deck.source ≤ byte_limit → byte_limit < S.taken result.deck.source →
         result.outcomes.card ≡ outcome.Fault cause.DeckLimit }

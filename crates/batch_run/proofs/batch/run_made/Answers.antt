@@ -1,6 +1,6 @@
 use Rattle.std.proofs.Common.{refl}
 use Rattle.batch_run.proofs.Beginning.{row-begins}
-use Rattle.batch_run.proofs.Promise.{together, faults, counted, prints, reads, taken-all, longer, total}
+use Rattle.batch_run.proofs.Promise.{together, faults, counted, prints, reads, undamaged, taken-all, longer, total}
 use Rattle.batch_run.proofs.batch.run_made.Goals as goal
 
 pub run_five-ended-requires-after_bounds : goal.run_five-ended-requires-after_bounds
@@ -40,6 +40,13 @@ returns-clause-reads g c items ahead done =
     c.args.gates c.args.ends c.args.deck c.args.paper c.row.result c.run_five-ended.result c.take_apart-ends.result c.requires.fresh c.row.ensures
     c.run_five-ended.ensures c.take_apart-ends.ensures g.A.Area.pages g.A.Area.faults g.B.Area.pages g.B.Area.faults c.meet-input.result c.meet-input.ensures
     items ahead done
+
+pub returns-clause-undamaged : goal.returns-clause-undamaged
+returns-clause-undamaged g c items ahead valid input_told output_told =
+    undamaged g.S.Source.left g.S.Source.taken g.S.Source.faults g.K.Sink.given g.K.Sink.faults g.A.Area.size g.B.Area.size
+    c.args.gates c.args.ends c.args.deck c.args.paper c.row.result c.run_five-ended.result c.take_apart-ends.result c.requires.fresh c.row.ensures
+    c.run_five-ended.ensures c.take_apart-ends.ensures g.A.Area.pages g.A.Area.faults g.B.Area.pages g.B.Area.faults c.meet-input.result c.meet-input.ensures
+    input_told output_told items ahead valid
 
 pub returns-clause-all_taken : goal.returns-clause-all_taken
 returns-clause-all_taken g c done =
