@@ -41,8 +41,9 @@ use Rattle.core_law.proofs.Stopping.{done-none, none-done, stopped-by}
 use Rattle.core_law.proofs.Streams.{ReadsOf, Gained}
 use Rattle.core_law.proofs.Undamaged.{none-damaged}
 use Rattle.core_net.specs.declared.finish.Outcomes.{Outcomes}
-use Rattle.core_net.specs.Causes.{Counts}
+use Rattle.core_net.specs.Causes.{Counts, counting}
 use Rattle.core_net.specs.Ended.{outcome_at, all_done, none_stopped, stopped_at, StoppedBeside, SomeFault, EndTogether, FaultsAre, NoneDamaged}
+use Rattle.core_net.specs.Faults.{FaultsAreCounted}
 use Rattle.batch_run.specs.declared.batch.Parted.{Parted}
 use Rattle.batch_run.specs.declared.desk.Desk.{Desk as Place}
 use Rattle.batch_run.specs.declared.gates.AllMet.{AllMet as Met}
@@ -50,8 +51,6 @@ use Rattle.batch_run.specs.declared.gates.Gates.{Gates}
 use Rattle.batch_run.specs.declared.gates.Ends.{Ends}
 use Rattle.batch_run.specs.declared.row.Row.{Row}
 use Rattle.batch_run.specs.declared.row.RowEnded.{RowEnded}
-use Rattle.batch_run.specs.declared.units.Units.{Units}
-use Rattle.batch_run.specs.Batch.{FaultsAreCounted}
 use Rattle.batch_run.specs.Begun.{AreFresh, BeginsBy}
 use Rattle.batch_run.specs.Desks.{DeskRan}
 use Rattle.batch_run.specs.DoesOnly.{card-does, input-does, job-does, output-does, printer-does}
@@ -95,10 +94,6 @@ rose-by {a} {c} {b} {d} x y rose = subst (λ n. Rose n d) x (subst (λ m. Rose a
 
 later-by : {a c b d : ℕ} → a ≡ c → b ≡ d → a ≤ b → c ≤ d
 later-by {a} {c} {b} {d} x y later = subst (λ n. n ≤ d) x (subst (λ m. a ≤ m) y later)
-
-either-rose : {a c b d e f : ℕ} → a ≡ c → b ≡ d → Rose a e ⊎ Rose b f → Rose c e ⊎ Rose d f
-either-rose x y (inl rose) = inl (rose-by x refl rose)
-either-rose x y (inr rose) = inr (rose-by y refl rose)
 
 seat-after : (desk : Desk) (number : ℕ) (start now : Place) (h : List Entry) → DeskRan start now h
     → start.resource.now ≡ desk → start.seat.number ≡ number → IsSeatAt desk number now.seat
@@ -371,28 +366,23 @@ module _ {S K A B : Type 0} (left : S → Option (List ℕ)) (taken source_fault
         (λ line later before at does. absurd does) failed.later failed.before failed.is failed.does_it
 
     abbrev pub counts : Counts S K A B
-    counts = record {
-      read_faults = source_faults;
-      taken = taken;
-      print_faults = sink_faults;
-      input_faults = input_faults;
-      output_faults = output_faults;
-    }
+    counts = counting source_faults taken sink_faults input_faults output_faults
 
-    pub counted : (units : Units S K A B) → deck ≡ units.deck → paper ≡ units.paper → gates.input.area ≡ units.input → gates.output.area ≡ units.output
-        → FaultsAreCounted counts units
+    pub counted : FaultsAreCounted counts
+        record { source = deck.source; sink = paper.sink; input = gates.input.area; output = gates.output.area }
         record { outcomes = outcomes; stopped_by = met.stopped_by; deck = parted.deck; input = met.input; output = met.output; paper = parted.paper }
-    counted units deck_is paper_is input_is output_is = record {
-      read = λ e. rose-by (ap (λ d. source_faults d.source) deck_is) refl (deck-rose e);
+    counted = record {
+      read = deck-rose;
       limit = deck-long;
-      input = λ e. rose-by (ap input_faults input_is) refl (input-rose e);
-      job = λ e. either-rose (ap input_faults input_is) (ap output_faults output_is) (job-rose e);
-      output = λ e. rose-by (ap output_faults output_is) refl (output-rose e);
-      print = λ e. rose-by (ap (λ p. sink_faults p.sink) paper_is) refl (paper-rose e);
-      read_on = later-by (ap (λ d. source_faults d.source) (begins.deck_is ∙ deck_is)) (ap (λ d. source_faults d.source) (sym is.deck))
+      longer = longer;
+      input = input-rose;
+      job = job-rose;
+      output = output-rose;
+      print = paper-rose;
+      read_on = later-by (ap (λ d. source_faults d.source) begins.deck_is) (ap (λ d. source_faults d.source) (sym is.deck))
           ran.front_ended.cards_ended.stands.deck.counts;
-      input_on = later-by (ap input_faults input_is) refl five.input_meets.of_area.later;
-      output_on = later-by (ap output_faults output_is) refl five.output_meets.of_area.later;
-      print_on = later-by (ap (λ p. sink_faults p.sink) (begins.paper_is ∙ paper_is)) (ap (λ p. sink_faults p.sink) (sym is.paper))
+      input_on = five.input_meets.of_area.later;
+      output_on = five.output_meets.of_area.later;
+      print_on = later-by (ap (λ p. sink_faults p.sink) begins.paper_is) (ap (λ p. sink_faults p.sink) (sym is.paper))
           ran.rest_ended.back_ended.paper_ended.stands.paper.counts;
     }

@@ -8,4 +8,3 @@ pub mod Row
 pub mod DoesOnly
 pub mod Begun
 pub mod Met
-pub mod Batch

@@ -9,9 +9,10 @@ ghost use Rattle.solo_devices.specs.PrinterUnit.{Gains};
 ghost use Rattle.page_codec.specs.Items.{AreItems};
 ghost use Rattle.batch_job.specs.OneThread.{one_thread_lines};
 ghost use Rattle.core_law.specs.Holds.{AreTold};
+ghost use Rattle.core_net.specs.Causes.{counting};
 ghost use Rattle.core_net.specs.Ended.{all_done, EndTogether, FaultsAre, NoneDamaged};
+ghost use Rattle.core_net.specs.Faults.{FaultsAreCounted};
 ghost use Rattle.core_net.specs.Openings.{spools_over};
-ghost use Rattle.batch_run.specs.Batch.{FaultsAreCounted};
 ghost use Rattle.batch_run.specs.Begun.{AreFresh};
 ghost use Rattle.batch_run.specs.Met.{IsParted};
 
@@ -56,13 +57,13 @@ pub fn run_batch<
     // How the five ended together, and where their faults come from.
     ensures together { IfOk result (λ ran. EndTogether ran.outcomes ran.stopped_by) }
     ensures faults { IfOk result (λ ran. FaultsAre ran.outcomes) }
-    ensures counted { IfOk result (λ ran. FaultsAreCounted record {
-      read_faults = S.faults;
-      taken = S.taken;
-      print_faults = K.faults;
-      input_faults = A.faults;
-      output_faults = B.faults;
-    } units ran) }
+    ensures counted { IfOk result (λ ran.
+        FaultsAreCounted (counting S.faults S.taken K.faults A.faults B.faults) record {
+          source = units.deck.source;
+          sink = units.paper.sink;
+          input = units.input;
+          output = units.output;
+        } ran) }
 
     // The paper gained what one thread prints or a part of it, all of it where all are done, and then
     // nothing is left of the deck.
@@ -128,17 +129,11 @@ fn run_made<
     requires fresh { AreFresh (A.size gates.input.area) (B.size gates.output.area) gates ends }
     ensures together { EndTogether result.outcomes result.stopped_by }
     ensures faults { FaultsAre result.outcomes }
-    ensures counted { FaultsAreCounted record {
-      read_faults = S.faults;
-      taken = S.taken;
-      print_faults = K.faults;
-      input_faults = A.faults;
-      output_faults = B.faults;
-    } record {
-      deck = deck;
+    ensures counted { FaultsAreCounted (counting S.faults S.taken K.faults A.faults B.faults) record {
+      source = deck.source;
+      sink = paper.sink;
       input = gates.input.area;
       output = gates.output.area;
-      paper = paper;
     } result }
     ensures prints { (items : List Item) →
         items_ahead (S.left deck.source) deck.pending ≡ Some items → AreItems items →

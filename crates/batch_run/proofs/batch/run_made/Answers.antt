@@ -1,4 +1,3 @@
-use Rattle.std.proofs.Common.{refl}
 use Rattle.batch_run.proofs.Beginning.{row-begins}
 use Rattle.batch_run.proofs.Promise.{together, faults, counted, prints, reads, undamaged, taken-all, longer, total}
 use Rattle.batch_run.proofs.batch.run_made.Goals as goal
@@ -25,7 +24,6 @@ returns-clause-counted g c =
     counted g.S.Source.left g.S.Source.taken g.S.Source.faults g.K.Sink.given g.K.Sink.faults g.A.Area.size g.B.Area.size
     c.args.gates c.args.ends c.args.deck c.args.paper c.row.result c.run_five-ended.result c.take_apart-ends.result c.requires.fresh c.row.ensures
     c.run_five-ended.ensures c.take_apart-ends.ensures g.A.Area.pages g.A.Area.faults g.B.Area.pages g.B.Area.faults c.meet-input.result c.meet-input.ensures
-    record { deck = c.args.deck; input = c.args.gates.input.area; output = c.args.gates.output.area; paper = c.args.paper } refl refl refl refl
 
 pub returns-clause-prints : goal.returns-clause-prints
 returns-clause-prints g c items ahead valid input_told output_told =
