@@ -44,8 +44,10 @@ pub record DeckRan {S : Type 0} (left : S → Option (List ℕ)) (taken faults :
   pub counts : faults start.source ≤ faults now.source
   pub failed : newest_read h ≡ Some read.Failed → Rose (faults start.source) (faults now.source)
   pub limit : newest_read h ≡ Some read.Limit → byte_limit < taken now.source
-  pub longer : taken start.source ≤ byte_limit → byte_limit < taken now.source → newest_read h ≡ Some read.Limit
-  pub total : bytes_total (taken now.source) (left now.source) ≡ bytes_total (taken start.source) (left start.source)
+  pub longer : taken start.source ≤ byte_limit → byte_limit < taken now.source
+      → newest_read h ≡ Some read.Limit
+  pub total : bytes_total (taken now.source) (left now.source)
+      ≡ bytes_total (taken start.source) (left start.source)
   pub live : caused h ≡ None → now.live ≡ true
 
 -- ---- the connections of the card process

@@ -22,7 +22,8 @@ module _ {S A : Type 0} (left : S → Option (List ℕ)) (taken faults : S → �
   pub record FrontRan (cards : CardConnections S) (pages : InputEnds A)
       (ended : (CardConnections S × Outcome) × (InputEnds A × Outcome)) : Type 0 where
     pub cards_ended : EndsSo card (CardRan left taken faults cards ended.0.0) ended.0.1
-    pub pages_ended : EndsSo input (InputRan size (input_connected pages) (input_connected ended.1.0)) ended.1.1
+    pub pages_ended : EndsSo input
+        (InputRan size (input_connected pages) (input_connected ended.1.0)) ended.1.1
 
 module _ {K B : Type 0} (given : K → Option (List ℕ)) (faults : K → ℕ) (size : B → ℕ) where
   pub record BackBegins (lines : OutputEnds B) (paper : PrinterConnections K) : Type 0 where
@@ -31,7 +32,8 @@ module _ {K B : Type 0} (given : K → Option (List ℕ)) (faults : K → ℕ) (
 
   pub record BackRan (lines : OutputEnds B) (paper : PrinterConnections K)
       (ended : (OutputEnds B × Outcome) × (PrinterConnections K × Outcome)) : Type 0 where
-    pub lines_ended : EndsSo output (OutputRan size (output_connected lines) (output_connected ended.0.0)) ended.0.1
+    pub lines_ended : EndsSo output
+        (OutputRan size (output_connected lines) (output_connected ended.0.0)) ended.0.1
     pub paper_ended : EndsSo printer (PrinterRan given faults paper ended.1.0) ended.1.1
 
 module _ {K A B : Type 0} (given : K → Option (List ℕ)) (faults : K → ℕ) (from_size : A → ℕ)
@@ -44,7 +46,8 @@ module _ {K A B : Type 0} (given : K → Option (List ℕ)) (faults : K → ℕ)
   pub record RestRan (jobs : JobEnds A B) (lines : OutputEnds B) (paper : PrinterConnections K)
       (ended : (JobEnds A B × Outcome)
       × ((OutputEnds B × Outcome) × (PrinterConnections K × Outcome))) : Type 0 where
-    pub jobs_ended : EndsSo job (JobRan from_size to_size (job_connected jobs) (job_connected ended.0.0)) ended.0.1
+    pub jobs_ended : EndsSo job
+        (JobRan from_size to_size (job_connected jobs) (job_connected ended.0.0)) ended.0.1
     pub back_ended : BackRan given faults to_size lines paper ended.1
 
 -- The ends have had no call, no process has the disk, and the devices may be used.

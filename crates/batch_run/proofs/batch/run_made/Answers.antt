@@ -50,13 +50,15 @@ pub returns-clause-all_taken : goal.returns-clause-all_taken
 returns-clause-all_taken g c done =
     taken-all g.S.Source.left g.S.Source.taken g.S.Source.faults g.K.Sink.given g.K.Sink.faults g.A.Area.size g.B.Area.size
     c.args.gates c.args.ends c.args.deck c.args.paper c.row.result c.run_five-ended.result c.take_apart-ends.result c.requires.fresh c.row.ensures
-    c.run_five-ended.ensures c.take_apart-ends.ensures g.A.Area.pages g.A.Area.faults g.B.Area.pages g.B.Area.faults c.meet-input.result c.meet-input.ensures done
+    c.run_five-ended.ensures c.take_apart-ends.ensures g.A.Area.pages g.A.Area.faults g.B.Area.pages g.B.Area.faults c.meet-input.result c.meet-input.ensures
+    done
 
 pub returns-clause-longer : goal.returns-clause-longer
 returns-clause-longer g c few over =
     longer g.S.Source.left g.S.Source.taken g.S.Source.faults g.K.Sink.given g.K.Sink.faults g.A.Area.size g.B.Area.size
     c.args.gates c.args.ends c.args.deck c.args.paper c.row.result c.run_five-ended.result c.take_apart-ends.result c.requires.fresh c.row.ensures
-    c.run_five-ended.ensures c.take_apart-ends.ensures g.A.Area.pages g.A.Area.faults g.B.Area.pages g.B.Area.faults c.meet-input.result c.meet-input.ensures few over
+    c.run_five-ended.ensures c.take_apart-ends.ensures g.A.Area.pages g.A.Area.faults g.B.Area.pages g.B.Area.faults c.meet-input.result c.meet-input.ensures
+    few over
 
 pub returns-clause-total : goal.returns-clause-total
 returns-clause-total g c =
