@@ -51,7 +51,8 @@ pub next_part : (taken now after : Pages) (pages : List (List ℕ)) (i k q count
     → after ≡ without_parts taken (disk_of pages) i (k + 1)
 unfolding without_parts
 next_part taken now after pages i k q count before freed part many =
-    freed ∙ ap (λ s. without_part s (disk_of pages) q count) before ∙ ap (λ x. without_part (without_parts taken (disk_of pages) i k) (disk_of pages) x count) part
+    freed ∙ ap (λ s. without_part s (disk_of pages) q count) before
+    ∙ ap (λ x. without_part (without_parts taken (disk_of pages) i k) (disk_of pages) x count) part
     ∙ ap (λ c. without_part (without_parts taken (disk_of pages) i k) (disk_of pages) (number_of pages i (k + 1)) c) many
     ∙ ap (without_parts taken (disk_of pages) i) (suc_is k)
   where

@@ -62,7 +62,8 @@ name_found kept (Some p) = Some (name_at kept p)
 
 pub next_name : (kept : List Entry) (taken : Pages) (pages : List (List ℕ)) → IsLaidOut kept taken pages → (after : Option (List ℕ)) (n : ℕ) (next : Option ℕ)
     → n ≡ length kept → IsNextBelow kept after n next → IsNameAfter (files pages) after (name_found kept next)
-next_name kept taken pages laid after n None size is = none_after kept taken pages laid after (subst (λ m. IsNextBelow kept after m None) (size ∙ laid.places) is)
+next_name kept taken pages laid after n None size is = none_after kept taken pages laid after
+    (subst (λ m. IsNextBelow kept after m None) (size ∙ laid.places) is)
 next_name kept taken pages laid after n (Some p) size is =
     name_after kept taken pages laid after p (name_at kept p) refl (subst (λ m. IsNextBelow kept after m (Some p)) (size ∙ laid.places) is)
 

@@ -88,7 +88,8 @@ module _ (kept : List Entry) (taken : Pages) (pages : List (List ℕ)) (laid : I
   searched =
       let is = laid.entries p below in
       let passes : has_key (disk_of pages) s p ≡ true =
-      ap (λ e. not (e.kind == 0) && e.key == s + 1) (sym is) ∙ ap (λ b. not b && (at kept p).key == s + 1) (ne_eqb (at kept p).kind 0 used) ∙ eq-eqb (at kept p).key (s + 1) key_is in
+      ap (λ e. not (e.kind == 0) && e.key == s + 1) (sym is) ∙ ap (λ b. not b && (at kept p).key == s + 1) (ne_eqb (at kept p).kind 0 used)
+      ∙ eq-eqb (at kept p).key (s + 1) key_is in
       let counted = one_counted (has_key (disk_of pages) s) 240 p below passes in
       let searches = ap (λ e. e.searches) (laid.entries s s_below) ∙ (laid.right s s_below).searches in
       omega (arith, counted, searches)
@@ -96,7 +97,8 @@ module _ (kept : List Entry) (taken : Pages) (pages : List (List ℕ)) (laid : I
   pub deleted_now : (kept_now : List Entry) (taken_now : Pages) (now : Option (List (List ℕ))) (two three after : List (List ℕ)) → now ≡ Some after
       → taken_now ≡ without_file taken (disk_of pages) (at kept p).address → ClearsName kept kept_now p
       → EntryWritten pages two p (at kept_now p) → EntryWritten two three s (at kept_now s) → SavesMap three after taken_now
-      → LaidNow now kept_now taken_now (fin.remove (files pages) (at kept p).name) × (set.len taken_now + pages_held (number_of pages (at kept p).address 0) ≡ set.len taken)
+      → LaidNow now kept_now taken_now (fin.remove (files pages) (at kept p).name)
+      × (set.len taken_now + pages_held (number_of pages (at kept p).address 0) ≡ set.len taken)
   deleted_now kept_now taken_now now two three after told freed cleared first second saved =
       let has = kept_has kept taken pages laid p below used in
       let is = laid.entries p below in

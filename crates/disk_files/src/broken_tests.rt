@@ -18,8 +18,8 @@ struct Damage {
     value: u8,
 }
 
-// An area with the files A, of the pages 20 to 22 with the index page 18 and the part 19, and B, of page 25 with
-// the index page 23 and the part 24. Their entries stand in page 5 at the bytes 32 and 64.
+// An area with the files A, of the pages 20 to 22 with the index page 18 and the part 19, and B, of page 25
+// with the index page 23 and the part 24. Their entries stand in page 5 at the bytes 32 and 64.
 fn two_files(rt: &impl Abort, alloc: Global) -> SureArea
     ensures { ⟦<SureArea as Area>⟧.size result ≡ AREA_PAGES }
 {
@@ -84,7 +84,8 @@ fn each_byte_that_breaks_the_catalogue_names_its_page(rt: HostRuntime) {
         (0, 9, 1),
         (0, 11, 0),
         (0, 511, 1),
-        // of A: the name, no kind and one too many, the address, the protection, the spare bytes, the key, the search length
+        // of A: the name, no kind and one too many, the address, the protection, the spare bytes, the key, the search
+        // length
         (5, 32, b'a'),
         (5, 45, 0),
         (5, 45, 5),

@@ -146,7 +146,8 @@ impl<A: Area> FileArea<A> {
             → fin.get (files pages) name.now ≡ Some file
             → OnOk result (Holds (A.pages self.new.area) (fin.remove (files pages) name.now)
             (free_count pages + pages_held (length file.pages))) }
-        ensures refusals { IfErr result (λ fault. (fault ≡ NoFile) ⊎ (fault ≡ Protected) ⊎ (fault ≡ DiskFault)) }
+        ensures refusals { IfErr result (λ fault.
+            (fault ≡ NoFile) ⊎ (fault ≡ Protected) ⊎ (fault ≡ DiskFault)) }
         ensures refused { IfErr result (λ fault. (fault ≡ DiskFault)
             ⊎ (A.pages self.new.area ≡ A.pages self.old.area)) }
         ensures sound { self.new.sound ≡ stays_sound result }

@@ -96,7 +96,8 @@ module _ (kept : List Entry) (taken : Pages) (pages : List (List ℕ)) (laid : I
       → EntryWritten two three to (slice_index_or kept_now to blank_entry) → EntryWritten three after s_now (slice_index_or kept_now s_now blank_entry)
       → CatalogueWrites pages after kept_now taken
   rename_writes kept_then kept_now one two three after p s to s_now new below s_below to_below now_below cleared key put new_key w1 w2 w3 w4 =
-      let only = only_then pages three after (only_then pages two three (only_then pages one two (entry_only pages one p _ below w1) (entry_only one two s _ s_below w2))
+      let only = only_then pages three after (only_then pages two three
+      (only_then pages one two (entry_only pages one p _ below w1) (entry_only one two s _ s_below w2))
       (entry_only two three to _ to_below w3)) (entry_only three after s_now _ now_below w4) in
       let before : SavedBut (λ k. (k ≡ p) ⊎ ((k ≡ s) ⊎ ((k ≡ to) ⊎ ((k ≡ s_now) ⊎ ⊥)))) pages kept_now = λ k inside unsaved.
       sym (laid.entries k inside)

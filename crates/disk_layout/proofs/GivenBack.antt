@@ -67,7 +67,8 @@ module _ (d : Disk) (owner : ℕ → Option Use) (o : Owns d owner) (p : ℕ) (h
           | inl before ↦ lt-ltb (rank v) (rank u + 1) (omega (arith, before)) ∙ sym (lt-ltb (rank v) (rank u) before)
           | inr behind ↦ le-ltb (rank v) (rank u + 1) (omega (arith, behind, other)) ∙ sym (le-ltb (rank v) (rank u) behind)
         ])
-    | inr other ↦ ap (λ b. b && nat_lt (rank v) (rank u + 1)) (ne_eqb (place v) p other) ∙ sym (ap (λ b. b && nat_lt (rank v) (rank u)) (ne_eqb (place v) p other))
+    | inr other ↦ ap (λ b. b && nat_lt (rank v) (rank u + 1)) (ne_eqb (place v) p other)
+        ∙ sym (ap (λ b. b && nat_lt (rank v) (rank u)) (ne_eqb (place v) p other))
   ]
 
   gone_here : (u : Use) → place u ≡ p → is_gone p (rank u + 1) (Some u) ≡ true
@@ -124,7 +125,8 @@ module _ (d : Disk) (owner : ℕ → Option Use) (o : Owns d owner) (p : ℕ) (h
       → Freed (251 * k + c) (count + c) (given_back now (d.number (part_at d p k)) c)
   unfolding given_back
   numbers_freed k below zero count now small f =
-      subst (λ t. Freed t (count + 0) now) (let e : 251 * k ≡ 251 * k + 0 = omega arith in e) (subst (λ m. Freed (251 * k) m now) (let e : count ≡ count + 0 = omega arith in e) f)
+      subst (λ t. Freed t (count + 0) now) (let e : 251 * k ≡ 251 * k + 0 = omega arith in e)
+      (subst (λ m. Freed (251 * k) m now) (let e : count ≡ count + 0 = omega arith in e) f)
   numbers_freed k below (suc c) count now small f =
       let j : ℕ = 250 * k + c in
       let part_is : j / 250 ≡ k = omega (arith, small) in
@@ -134,8 +136,10 @@ module _ (d : Disk) (owner : ℕ → Option Use) (o : Owns d owner) (p : ℕ) (h
       let before = numbers_freed k below c count now (omega (arith, small)) f in
       let done = one_freed (Page p j) (count + c) (given_back now (d.number (part_at d p k)) c) its refl
       (subst (λ t. Freed t (count + c) (given_back now (d.number (part_at d p k)) c)) (sym turn_is) before) in
-      let address : address_of d (Page p j) ≡ d.number (part_at d p k) c = ap (λ x. d.number (part_at d p x) (j % 250)) part_is ∙ ap (d.number (part_at d p k)) number_is in
-      subst (λ t. Freed t (count + suc c) (given_back now (d.number (part_at d p k)) (suc c))) (let e : rank (Page p j) + 1 ≡ 251 * k + suc c = omega (arith, turn_is) in e)
+      let address : address_of d (Page p j) ≡ d.number (part_at d p k) c = ap (λ x. d.number (part_at d p x) (j % 250)) part_is
+      ∙ ap (d.number (part_at d p k)) number_is in
+      subst (λ t. Freed t (count + suc c) (given_back now (d.number (part_at d p k)) (suc c)))
+      (let e : rank (Page p j) + 1 ≡ 251 * k + suc c = omega (arith, turn_is) in e)
       (subst (λ m. Freed (rank (Page p j) + 1) m (given_back now (d.number (part_at d p k)) (suc c))) (let e : count + c + 1 ≡ count + suc c = omega arith in e)
       (subst (λ a. Freed (rank (Page p j) + 1) (count + c + 1) (set.remove (given_back now (d.number (part_at d p k)) c) a)) address done))
 
@@ -183,9 +187,11 @@ module _ (d : Disk) (owner : ℕ → Option Use) (o : Owns d owner) (p : ℕ) (h
   file_freed =
       let short = o.short p has in
       let all = parts_freed (part_count L) (omega arith) in
-      let ready = turns_pass (251 * part_count L) 4016 (min (250 * part_count L) L + part_count L) (without_parts taken d (index_at d p) (part_count L)) (omega (arith, short)) no_turn all in
+      let ready = turns_pass (251 * part_count L) 4016 (min (250 * part_count L) L + part_count L) (without_parts taken d (index_at d p) (part_count L))
+      (omega (arith, short)) no_turn all in
       let done = one_freed (Index p) (min (250 * part_count L) L + part_count L) (without_parts taken d (index_at d p) (part_count L)) has refl ready in
-      subst (λ m. Freed 4017 m (without_file taken d (index_at d p))) (let e : min (250 * part_count L) L + part_count L + 1 ≡ pages_held L = omega arith in e) done
+      subst (λ m. Freed 4017 m (without_file taken d (index_at d p))) (let e : min (250 * part_count L) L + part_count L + 1 ≡ pages_held L = omega arith in e)
+      done
     where
       no_turn : (u : Use) → InUse d u → place u ≡ p → (rank u < 251 * part_count L) ⊎ (4016 ≤ rank u)
       no_turn (Index a) its own = inr (omega arith)

@@ -43,8 +43,10 @@ module _ (kept : List Entry) (taken : Pages) (pages : List (List ℕ)) (laid : I
       → Grown after taken_then page (slice_index_or kept p blank_entry)
   grown used after taken_then page =
       let its : Grown after taken_then page (entry_of pages p) = (λ room a. (
-        laid_then kept taken pages laid p a.part_page a.file_page after a.with_part taken_then a.part page (in_use used) room a.part_free a.file_free a.part_for a.least a.taken_is a.writes,
-        files_then kept taken pages laid p a.part_page a.file_page after a.with_part taken_then a.part page (in_use used) room a.part_free a.file_free a.part_for a.least a.taken_is a.writes,
+        laid_then kept taken pages laid p a.part_page a.file_page after a.with_part taken_then a.part page (in_use used) room a.part_free a.file_free a.part_for
+            a.least a.taken_is a.writes,
+        files_then kept taken pages laid p a.part_page a.file_page after a.with_part taken_then a.part page (in_use used) room a.part_free a.file_free
+            a.part_for a.least a.taken_is a.writes,
       )) in
       subst (Grown after taken_then page) (sym (laid.entries p below)) its
 

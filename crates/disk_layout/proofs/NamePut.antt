@@ -151,7 +151,9 @@ named_put kept now p s n m new size below s_below is = ap (λ x. (at x p).name) 
   | inl here ↦
       let same = length-set kept p (with_searches n new) in
       ap (λ k. (at (set (put_first kept p n new) s (with_searches m (at (put_first kept p n new) s))) k).name) here
-      ∙ ap (λ e. e.name) (get_or-set_same (put_first kept p n new) s _ blank_entry (omega (arith, size, same, s_below))) ∙ ap (λ k. (at (put_first kept p n new) k).name) (sym here)
+      ∙ ap (λ e. e.name) (get_or-set_same (put_first kept p n new) s _ blank_entry (omega (arith, size, same, s_below)))
+      ∙ ap (λ k. (at (put_first kept p n new) k).name) (sym here)
       ∙ ap (λ e. e.name) (get_or-set_same kept p _ blank_entry (omega (arith, size, below)))
-  | inr apart ↦ ap (λ e. e.name) (get_or-set_other (put_first kept p n new) s p _ blank_entry apart ∙ get_or-set_same kept p _ blank_entry (omega (arith, size, below)))
+  | inr apart ↦ ap (λ e. e.name) (get_or-set_other (put_first kept p n new) s p _ blank_entry apart
+      ∙ get_or-set_same kept p _ blank_entry (omega (arith, size, below)))
 ]

@@ -117,7 +117,8 @@ module _ (kept : List Entry) (taken : Pages) (pages : List (List ℕ)) (laid : I
   named_at_some : (q : List ℕ) (file : File) → fin.get (files pages) q ≡ Some file → (k : ℕ) × (k < 240) × IsUsed kept k × (name_at kept k ≡ q)
   named_at_some q file is = elim (named_or_none kept q 240) [
     | inl w ↦ w
-    | inr none ↦ absurd (none_is_some (sym (no_file kept taken pages laid q (λ p below used. none p (let places = laid.places in omega (arith, below, places)) used)) ∙ is))
+    | inr none ↦ absurd (none_is_some (sym (no_file kept taken pages laid q
+        (λ p below used. none p (let places = laid.places in omega (arith, below, places)) used)) ∙ is))
   ]
     where
       none_is_some : ◌≡◌ {A = Option File} None (Some file) → ⊥

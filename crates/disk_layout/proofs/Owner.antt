@@ -212,8 +212,10 @@ module _ (d : Disk) (w : IsWhole d) where
           (w.index _ (index_page p has)).once k k' (below_is p k has below)
               (subst (λ n. k' < part_count (file_length d n)) (sym same) (below_is p' k' has' below')) own,
         )
-    | inr (inl lesser) ↦ absurd ((w.index _ (index_page p' has')).no_lesser k' (index_at d p) k (below_is p' k' has' below') lesser (subst (UsesPart d (index_at d p) k) e (part_use p k has below)))
-    | inr (inr greater) ↦ absurd ((w.index _ (index_page p has)).no_lesser k (index_at d p') k' (below_is p k has below) greater (subst (UsesPart d (index_at d p') k') (sym e) (part_use p' k' has' below')))
+    | inr (inl lesser) ↦ absurd ((w.index _ (index_page p' has')).no_lesser k' (index_at d p) k (below_is p' k' has' below') lesser
+        (subst (UsesPart d (index_at d p) k) e (part_use p k has below)))
+    | inr (inr greater) ↦ absurd ((w.index _ (index_page p has)).no_lesser k (index_at d p') k' (below_is p k has below) greater
+        (subst (UsesPart d (index_at d p') k') (sym e) (part_use p' k' has' below')))
   ]
 
   part_page : (p k : ℕ) → HasFile d p → k < part_count (length_at d p) → IsPartPage d (part_at d p k)
@@ -267,8 +269,10 @@ module _ (d : Disk) (w : IsWhole d) where
             (subst (λ n. j' % 250 < count_in_part (file_length d (index_at d p')) n) (sym part.1) x'.1) in
             let at = (right_part p (j / 250) has x.0).once (j % 250) (j' % 250) x.1 here (e ∙ ap (λ n. d.number n (j' % 250)) (sym same)) in
             (part.0, omega (arith, part.1, at))
-        | inr (inl lesser) ↦ absurd ((right_part p' (j' / 250) has' x'.0).no_lesser (j' % 250) _ (j % 250) x'.1 lesser (subst (UsesPage d (part_at d p (j / 250)) (j % 250)) e (page_use p j has below)))
-        | inr (inr greater) ↦ absurd ((right_part p (j / 250) has x.0).no_lesser (j % 250) _ (j' % 250) x.1 greater (subst (UsesPage d (part_at d p' (j' / 250)) (j' % 250)) (sym e) (page_use p' j' has' below')))
+        | inr (inl lesser) ↦ absurd ((right_part p' (j' / 250) has' x'.0).no_lesser (j' % 250) _ (j % 250) x'.1 lesser
+            (subst (UsesPage d (part_at d p (j / 250)) (j % 250)) e (page_use p j has below)))
+        | inr (inr greater) ↦ absurd ((right_part p (j / 250) has x.0).no_lesser (j % 250) _ (j' % 250) x.1 greater
+            (subst (UsesPage d (part_at d p' (j' / 250)) (j' % 250)) (sym e) (page_use p' j' has' below')))
       ]
 
   part_not_page : (p k p' j : ℕ) → HasFile d p → k < part_count (length_at d p) → HasFile d p' → j < length_at d p' → part_at d p k ≡ page_number d p' j → ⊥

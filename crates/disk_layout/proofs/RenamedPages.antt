@@ -270,7 +270,8 @@ module _ (kept : List Entry) (taken : Pages) (pages : List (List ℕ)) (laid : I
       files_with others (named_at after) to 240 to_below others_stay new.name (λ k inside apart. new_beside k inside) (file_at pages (entry_of pages p))
       (λ x e. absurd (none_is_some (sym nothing_there ∙ e)))
       (named_used after to used_now ∙ ap (λ n. Some (n, file_at after (entry_of after to))) (ap (λ x. x.name) now_here)
-      ∙ ap (λ x. Some (new.name, x)) (content_stays to file_now p (before_of_to to refl) has (ap (λ x. x.kind) now_here ∙ kind) (ap (λ x. x.protection) now_here ∙ protection)))
+      ∙ ap (λ x. Some (new.name, x)) (content_stays to file_now p (before_of_to to refl) has (ap (λ x. x.kind) now_here ∙ kind)
+      (ap (λ x. x.protection) now_here ∙ protection)))
       ∙ ap (λ all. fin.insert all new.name (file_at pages (entry_of pages p))) without_old
     where
       none_is_some : {x : List ℕ × File} → ◌≡◌ {A = Named} None (Some x) → ⊥

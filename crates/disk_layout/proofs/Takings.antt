@@ -36,7 +36,8 @@ takes_next kept taken taken_now pages after i count old_index page name laid a i
   where
     fresh : {q : ℕ} {part : List ℕ} {others : Pages} → PartFor pages taken i count q part others → count % 250 ≡ 0
         → TakesLeast (marked_of pages) (set.contains others) q
-    fresh {q} {part} {others} (Fresh none least is zeros) e = takes_least taken others (marked_of pages) (set.contains others) q least is laid.taken (λ m inside. refl)
+    fresh {q} {part} {others} (Fresh none least is zeros) e = takes_least taken others (marked_of pages) (set.contains others) q least is laid.taken
+        (λ m inside. refl)
     fresh {q} {part} {others} (There some q_is is bytes) e = absurd (some e)
 
     there : {q : ℕ} {part : List ℕ} {others : Pages} → PartFor pages taken i count q part others → count % 250 ≢ 0

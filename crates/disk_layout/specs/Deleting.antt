@@ -17,7 +17,8 @@ without_part taken d q count = set.remove (given_back taken (d.number q) count) 
 -- without the first k parts of the file with this index page
 unfoldable pub without_parts : Pages → Disk → ℕ → ℕ → Pages
 without_parts taken d i zero = taken
-without_parts taken d i (suc k) = without_part (without_parts taken d i k) d (d.number i (k + 1)) (count_in_part (d.number i 0) k)
+without_parts taken d i (suc k) = without_part (without_parts taken d i k) d (d.number i (k + 1))
+    (count_in_part (d.number i 0) k)
 
 abbrev pub without_file : Pages → Disk → ℕ → Pages
 without_file taken d i = set.remove (without_parts taken d i (part_count (d.number i 0))) i

@@ -33,7 +33,8 @@ IsUsed entries p = (slice_index_or entries p blank_entry).kind ≢ 0
 
 -- the place of the name that comes next among those of the first n entries
 abbrev pub IsNextBelow : List Entry → Option (List ℕ) → ℕ → Option ℕ → Type 0
-IsNextBelow entries after n None = (k : ℕ) → k < n → IsUsed entries k → is_past after (name_at entries k) ≡ false
+IsNextBelow entries after n None =
+    (k : ℕ) → k < n → IsUsed entries k → is_past after (name_at entries k) ≡ false
 IsNextBelow entries after n (Some p) =
     (p < n) × IsUsed entries p × (is_past after (name_at entries p) ≡ true)
     × ((k : ℕ) → k < n → IsUsed entries k → is_past after (name_at entries k) ≡ true

@@ -24,7 +24,8 @@ pub record TakesIndex (pages after : List (List ℕ)) (name : List ℕ) : Type 0
   pub indexed : HasIndex after name index
   pub taken : TakesLeast (marked_of pages) (marked_of after) index
 
--- A new page of a file with so many: every 250 pages the part for it is taken first, and then the page itself.
+-- A new page of a file with so many: every 250 pages the part for it is taken first, and then the page
+-- itself.
 pub record TakesNext (pages after : List (List ℕ)) (name : List ℕ) (count : ℕ) : Type 0 where
   pub index : ℕ
   pub indexed : HasIndex after name index

@@ -41,7 +41,8 @@ pub record PutsName (kept kept_now : List Entry) (p : ℕ) (new : Entry) : Type 
 
 -- the entry of no file, at a place with this search length
 abbrev pub unnamed : ℕ → Entry
-unnamed searches = record { name = replicate 12 0; kind = 0; address = 0; protection = 0; key = 0; searches = searches }
+unnamed searches =
+    record { name = replicate 12 0; kind = 0; address = 0; protection = 0; key = 0; searches = searches }
 
 -- the entries in memory after the name at the place p was cleared: no file is there, and the search length at
 -- the place of its key is one less
@@ -55,7 +56,8 @@ pub record ClearsName (kept kept_now : List Entry) (p : ℕ) : Type 0 where
       }
   pub searches : (k : ℕ) → k < 240
       → (slice_index_or kept k blank_entry).searches
-      ≡ (slice_index_or kept_now k blank_entry).searches + cond ((slice_index_or kept p blank_entry).key == k + 1) 1 0
+      ≡ (slice_index_or kept_now k blank_entry).searches
+      + cond ((slice_index_or kept p blank_entry).key == k + 1) 1 0
 
 -- the pages after writes to the catalogue and the bit map: the entries and the bits are those in memory
 pub record CatalogueWrites (pages after : List (List ℕ)) (kept : List Entry) (taken : Pages) : Type 0 where
@@ -83,7 +85,8 @@ pub record CreateWrites (pages after : List (List ℕ)) (kept : List Entry) (tak
 pub record IsFirstEmpty (entries : List Entry) (from p : ℕ) : Type 0 where
   pub empty : (slice_index_or entries p blank_entry).kind ≡ 0
   pub behind : from ≤ p → (k : ℕ) → from ≤ k → k < p → (slice_index_or entries k blank_entry).kind ≢ 0
-  pub round : p < from → (k : ℕ) → k < length entries → (k < p) ⊎ (from ≤ k) → (slice_index_or entries k blank_entry).kind ≢ 0
+  pub round : p < from → (k : ℕ) → k < length entries → (k < p) ⊎ (from ≤ k)
+      → (slice_index_or entries k blank_entry).kind ≢ 0
 
 -- the entries in memory after the file at the place p was renamed: its name is cleared, and then the new one
 -- is put into the first empty place from that of its key on
@@ -92,4 +95,5 @@ pub record IsRenamed (kept kept_now : List Entry) (p : ℕ) (name : List ℕ) : 
   pub cleared : ClearsName kept between p
   pub to : ℕ
   pub first : IsFirstEmpty between (key_of name - 1) to
-  pub put : PutsName between kept_now to (record (slice_index_or kept p blank_entry) { name = name; key = key_of name })
+  pub put : PutsName between kept_now to
+      (record (slice_index_or kept p blank_entry) { name = name; key = key_of name })

@@ -25,5 +25,6 @@ returns-clause-wrote g c = λ pages told laid.
     let second = c.in_ok-save_entry-2.ensures.wrote first.0 first.1 (first.2.as_many ∙ laid.as_many) in
     on_ok c.save_map.result _ _
     (λ saved. deleted_now c.args.entries.now c.args.map.now pages laid c.args.place below c.requires.used c.requires.kept _ _ _ first.0 second.0 saved.0 saved.1
-    freed (c.clear_name.ensures.clears (searched c.args.entries.now c.args.map.now pages laid c.args.place below c.requires.used c.requires.kept)) first.2 second.2 saved.2)
+    freed (c.clear_name.ensures.clears (searched c.args.entries.now c.args.map.now pages laid c.args.place below c.requires.used c.requires.kept)) first.2
+    second.2 saved.2)
     (c.save_map.ensures.saved second.0 second.1 (second.2.as_many ∙ first.2.as_many ∙ laid.as_many))

@@ -9,4 +9,5 @@ returns-clause-freed g c = λ pages told all.
     let bytes = c.in_ok-read.ensures.page pages told in
     c.free_page.ensures
     ∙ ap (λ s. set.remove s c.args.part)
-    (c.free_numbers.ensures (λ j below. subst IsAddress (sym (number_is pages c.args.part j _ bytes)) (all j below)) ∙ numbers_given_back pages c.args.part c.args.count _ _ bytes)
+    (c.free_numbers.ensures (λ j below. subst IsAddress (sym (number_is pages c.args.part j _ bytes)) (all j below))
+    ∙ numbers_given_back pages c.args.part c.args.count _ _ bytes)

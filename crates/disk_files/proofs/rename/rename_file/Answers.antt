@@ -19,19 +19,23 @@ save_entry-requires-2-clause-place g c =
 
 pub returns-in_err-save_entry-clause-kept : goal.returns-in_err-save_entry-clause-kept
 returns-in_err-save_entry-clause-kept g c = λ all.
-    c.put_name.ensures.kept (c.clear_name.ensures.kept all) (renamed_kept _ c.args.name c.key_of-key.result c.requires.kept c.requires.used c.requires.ident c.key_of-key.ensures.key)
+    c.put_name.ensures.kept (c.clear_name.ensures.kept all)
+    (renamed_kept _ c.args.name c.key_of-key.result c.requires.kept c.requires.used c.requires.ident c.key_of-key.ensures.key)
 
 pub returns-in_err-save_entry-2-clause-kept : goal.returns-in_err-save_entry-2-clause-kept
 returns-in_err-save_entry-2-clause-kept g c = λ all.
-    c.put_name.ensures.kept (c.clear_name.ensures.kept all) (renamed_kept _ c.args.name c.key_of-key.result c.requires.kept c.requires.used c.requires.ident c.key_of-key.ensures.key)
+    c.put_name.ensures.kept (c.clear_name.ensures.kept all)
+    (renamed_kept _ c.args.name c.key_of-key.result c.requires.kept c.requires.used c.requires.ident c.key_of-key.ensures.key)
 
 pub returns-in_err-save_entry-3-clause-kept : goal.returns-in_err-save_entry-3-clause-kept
 returns-in_err-save_entry-3-clause-kept g c = λ all.
-    c.put_name.ensures.kept (c.clear_name.ensures.kept all) (renamed_kept _ c.args.name c.key_of-key.result c.requires.kept c.requires.used c.requires.ident c.key_of-key.ensures.key)
+    c.put_name.ensures.kept (c.clear_name.ensures.kept all)
+    (renamed_kept _ c.args.name c.key_of-key.result c.requires.kept c.requires.used c.requires.ident c.key_of-key.ensures.key)
 
 pub returns-clause-kept : goal.returns-clause-kept
 returns-clause-kept g c = λ all.
-    c.put_name.ensures.kept (c.clear_name.ensures.kept all) (renamed_kept _ c.args.name c.key_of-key.result c.requires.kept c.requires.used c.requires.ident c.key_of-key.ensures.key)
+    c.put_name.ensures.kept (c.clear_name.ensures.kept all)
+    (renamed_kept _ c.args.name c.key_of-key.result c.requires.kept c.requires.used c.requires.ident c.key_of-key.ensures.key)
 
 pub returns-clause-wrote : goal.returns-clause-wrote
 returns-clause-wrote g c = λ pages taken told laid fresh.

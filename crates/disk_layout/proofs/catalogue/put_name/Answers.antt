@@ -9,4 +9,5 @@ returns-clause-kept c =
 
 pub returns-clause-named : goal.returns-clause-named
 returns-clause-named c =
-    named_put _ _ c.args.place (c.args.entry.now.key - 1) _ _ c.args.entry.now c.requires.places c.requires.place (omega (arith, c.requires.some, c.requires.last)) c.raise_searches.ensures
+    named_put _ _ c.args.place (c.args.entry.now.key - 1) _ _ c.args.entry.now c.requires.places c.requires.place
+    (omega (arith, c.requires.some, c.requires.last)) c.raise_searches.ensures

@@ -81,7 +81,8 @@ returns-clause-least g c = λ pages file told is.
     (λ w. (
       w.2.0,
       w.2.1,
-      subst (λ n. TakesNext pages w.2.0 n (length file.pages)) named (subst (TakesNext pages w.2.0 (slice_index_or c.self.inside.entries c.in-Some.place blank_entry).name) count w.2.2),
+      subst (λ n. TakesNext pages w.2.0 n (length file.pages)) named
+          (subst (TakesNext pages w.2.0 (slice_index_or c.self.inside.entries c.in-Some.place blank_entry).name) count w.2.2),
     ))
     (grown_by _ _ pages laid c.in-Some.place below c.in-Some.ensures.used c.append_page-answer.result _ _ c.args.page.now.0
     (c.append_page-answer.ensures.wrote pages told_inside grow))

@@ -84,7 +84,8 @@ returns-clause-place g c =
   where
     first_of_view : IsFirstEmpty c.args.self.now.entries (key_of c.args.name.now - 1) c.in-Some.place
     first_of_view = subst (λ entries. IsFirstEmpty entries (key_of c.args.name.now - 1) c.in-Some.place) (ap (λ v. v.entries) c.self.view_is)
-        (subst (λ from. IsFirstEmpty c.self.inside.entries from c.in-Some.place) (ap (λ n. n - 1) (c.key_of.ensures.key ∙ ap key_of c.bytes-2.ensures.bytes)) c.in-Some.ensures.first)
+        (subst (λ from. IsFirstEmpty c.self.inside.entries from c.in-Some.place) (ap (λ n. n - 1) (c.key_of.ensures.key ∙ ap key_of c.bytes-2.ensures.bytes))
+        c.in-Some.ensures.first)
 
 pub returns-clause-least : goal.returns-clause-least
 returns-clause-least g c = λ pages told.

@@ -27,7 +27,8 @@ returns-then-entry-eq1-clause-answer g c = λ pages told.
 
 pub invariant_of-self : goal.invariant_of-self
 invariant_of-self g c =
-    area_after _ _ _ _ _ _ _ _ _ _ c.delete_file-answer.result c.self.invariant (ap (λ v. v.sound) c.self.view_is ∙ c.requires) c.delete_file-answer.ensures.size
+    area_after _ _ _ _ _ _ _ _ _ _ c.delete_file-answer.result c.self.invariant (ap (λ v. v.sound) c.self.view_is ∙ c.requires)
+    c.delete_file-answer.ensures.size
     c.delete_file-answer.ensures.stays c.stays_sound-self-inside.ensures c.delete_file-answer.ensures.places
     (c.delete_file-answer.ensures.kept c.self.invariant.entries)
     (if_err c.delete_file-answer.result _ _ (λ fault. inl) c.delete_file-answer.ensures.fault)
@@ -51,7 +52,8 @@ returns-clause-file g c = λ pages file told is.
     let found = found_file _ _ pages laid c.in-Some.place c.args.name.now below c.in-Some.ensures.used named in
     let count = ap pages_held (sym (file_length_at pages _) ∙ ap (λ f. length f.pages) (the_file (sym found ∙ is))) in
     on_ok c.delete_file-answer.result _ _
-    (λ w. subst (λ n. Holds (g.A.Area.pages c.delete_file-answer.new.area) (fin.remove (files pages) n) (free_count pages + pages_held (length file.pages))) named
+    (λ w. subst (λ n. Holds (g.A.Area.pages c.delete_file-answer.new.area) (fin.remove (files pages) n) (free_count pages + pages_held (length file.pages)))
+    named
     (holds_now _ _ _ _ (free_count pages + pages_held (length file.pages))
     (let free = free_and_taken _ pages laid.taken laid.within in omega (arith, free, w.1, count)) w.0))
     (c.delete_file-answer.ensures.wrote pages told_inside laid)

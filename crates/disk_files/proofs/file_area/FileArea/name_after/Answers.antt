@@ -20,7 +20,8 @@ returns-clause-answer g c = λ pages told.
           let p = w.in-Some.place in
           let its = subst (IsNextBelow kept (option_copied c.args.after) (length kept)) w.in-Some.is next in
           let below : p < 240 = omega (arith, its.0, laid.places) in
-          let name = w.of.ensures ∙ ap identifier w.trim_end.ensures ∙ ident_kept (slice_index_or kept p blank_entry) (c.self.invariant.entries p below) its.1 in
+          let name = w.of.ensures ∙ ap identifier w.trim_end.ensures
+          ∙ ident_kept (slice_index_or kept p blank_entry) (c.self.invariant.entries p below) its.1 in
           subst (λ r. IfOk r (IsNameAfter (files pages) (option_copied c.args.after))) (sym (w.result-is ∙ ap Ok name))
           (subst (λ n. IsNameAfter (files pages) (option_copied c.args.after) (name_found kept n)) w.in-Some.is found)
       | in-None w ↦ subst (λ r. IfOk r (IsNameAfter (files pages) (option_copied c.args.after))) (sym w.result-is)

@@ -35,13 +35,15 @@ returns-then-entry-eq1-clause-answer g c = λ pages told.
     let below : c.in-Some.place < 240 = omega (arith, c.in-Some.ensures.inside, laid.places) in
     let named = c.in-Some.ensures.name ∙ c.bytes.ensures.bytes in
     let found = found_file _ _ pages laid c.in-Some.place c.args.old.now below c.in-Some.ensures.used named in
-    let none = no_file _ _ _ laid c.args.new.now (λ p below used e. c.is_named.ensures.not c.if-is_named.false p below used (e ∙ sym c.bytes-2.ensures.bytes)) in
+    let none = no_file _ _ _ laid c.args.new.now
+    (λ p below used e. c.is_named.ensures.not c.if-is_named.false p below used (e ∙ sym c.bytes-2.ensures.bytes)) in
     inr (sym (rename_at _ _ _ _ found none
     ∙ kept_from pages _ (Ok tt) c.if-entry-eq1.true))
 
 pub invariant_of-self : goal.invariant_of-self
 invariant_of-self g c =
-    area_after _ _ _ _ _ _ _ _ _ _ c.rename_file-answer.result c.self.invariant (ap (λ v. v.sound) c.self.view_is ∙ c.requires) c.rename_file-answer.ensures.size
+    area_after _ _ _ _ _ _ _ _ _ _ c.rename_file-answer.result c.self.invariant (ap (λ v. v.sound) c.self.view_is ∙ c.requires)
+    c.rename_file-answer.ensures.size
     c.rename_file-answer.ensures.stays c.stays_sound-self-inside.ensures c.rename_file-answer.ensures.places
     (c.rename_file-answer.ensures.kept c.self.invariant.entries)
     (if_err c.rename_file-answer.result _ _ (λ fault. inl) c.rename_file-answer.ensures.fault)
@@ -57,7 +59,8 @@ returns-clause-answer g c = λ pages told.
     let below : c.in-Some.place < 240 = omega (arith, c.in-Some.ensures.inside, laid.places) in
     let named = c.in-Some.ensures.name ∙ c.bytes.ensures.bytes in
     let found = found_file _ _ pages laid c.in-Some.place c.args.old.now below c.in-Some.ensures.used named in
-    let none = no_file _ _ _ laid c.args.new.now (λ p below used e. c.is_named.ensures.not c.if-is_named.false p below used (e ∙ sym c.bytes-2.ensures.bytes)) in
+    let none = no_file _ _ _ laid c.args.new.now
+    (λ p below used e. c.is_named.ensures.not c.if-is_named.false p below used (e ∙ sym c.bytes-2.ensures.bytes)) in
     answers_ok _ _ c.rename_file-answer.ensures.fault
     (rename_at _ _ _ _ found none ∙ unprotected_at pages _ (Ok tt) c.if-entry-eq1.false)
 
