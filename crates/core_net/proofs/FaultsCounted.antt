@@ -33,7 +33,7 @@ use Rattle.core_net.specs.declared.finish.Outcomes.{Outcomes}
 use Rattle.core_net.specs.declared.net.Net.{Net}
 use Rattle.core_net.specs.declared.step.Stepped.{Stepped}
 use Rattle.core_net.specs.Causes.{Counts, HasCauses, IsPrint, MovesInput, MovesOutput}
-use Rattle.core_net.specs.Faults.{Devices, devices_of, AreCounted, outcomes_in, CausesAreCounted}
+use Rattle.core_net.specs.Faults.{Peripherals, devices_of, AreCounted, outcomes_in, CausesAreCounted}
 use Rattle.core_net.specs.Net.{Keeps, NetStands, MayStepNet, StepsNet}
 use Rattle.core_net.specs.Shared.{Tells}
 use Rattle.core_net.specs.Steps.{reply_of}
@@ -192,7 +192,7 @@ same-five : (a b c d e x y z v w : Outcome) → a ≡ x → b ≡ y → c ≡ z 
     → the_five ≡ record { card = x; input = y; job = z; output = v; printer = w }
 same-five a b c d e x y z v w i j k l m the_five is = cc
 
-abbrev these : {S K A B : Type 0} → S → K → A → B → Devices S K A B
+abbrev these : {S K A B : Type 0} → S → K → A → B → Peripherals S K A B
 these source sink input output = record { source = source; sink = sink; input = input; output = output }
 
 pub same-devices : {S K A B : Type 0} (source : S) (sink : K) (a c : A) (b d : B) → a ≡ c → b ≡ d → these source sink a b ≡ these source sink c d
@@ -207,7 +207,7 @@ module _ {S K A B : Type 0} (keeps : Keeps) (tells : Tells S K A B) (counts : Co
       (ap outcome_by (sym a.printer.cause ∙ b.printer.cause)) (outcomes_in s) refl
 
   -- what is counted in one state that it stands for is in each
-  counted-each : (net : Net S K A B) (before : Devices S K A B) (s : CoreState) → NetStands keeps tells net s
+  counted-each : (net : Net S K A B) (before : Peripherals S K A B) (s : CoreState) → NetStands keeps tells net s
       → AreCounted counts before (devices_of net.shared) (outcomes_in s) → CausesAreCounted keeps tells counts before net
   counted-each net before s stands are = λ t other. subst (AreCounted counts before (devices_of net.shared)) (same-outcomes net s t stands other) are
 
@@ -253,7 +253,7 @@ module _ {S K A B : Type 0} (keeps : Keeps) (tells : Tells S K A B) (counts : Co
         let here : caused (s.histories 1) ≡ None = subst (λ p. caused (s.histories p) ≡ None) (reads-deck q (s.histories q) asked) none in
         let both = sym here ∙ is in cc)
 
-    module _ (before : Devices S K A B) (was : AreCounted counts before (devices_of old.shared) (outcomes_in s)) where
+    module _ (before : Peripherals S K A B) (was : AreCounted counts before (devices_of old.shared) (outcomes_in s)) where
       moves : IsMove made → MovesInput q made ⊎ MovesOutput q made
       moves is = moves-so q (s.histories q) made step.enabled.one follows next is
 
@@ -358,17 +358,17 @@ module _ {S K A B : Type 0} (keeps : Keeps) (tells : Tells S K A B) (counts : Co
   -- A turn keeps that they were counted.
   pub turn-counted : (old new : Net S K A B) (p : ℕ) (stepped : Stepped) (may : MayStepNet keeps tells old p)
       → StepsNet keeps tells counts old new may.state p may.action stepped
-      → (before : Devices S K A B) → CausesAreCounted keeps tells counts before old → CausesAreCounted keeps tells counts before new
+      → (before : Peripherals S K A B) → CausesAreCounted keeps tells counts before old → CausesAreCounted keeps tells counts before new
   turn-counted old new p stepped may step before were =
       counted-each new before (happens (core process) may.state step.event) step.stands
       (counted old new may.spools may.deck may.paper may.state p may.action stepped may.reached step before (were may.state may.stands))
 
   -- What was counted until all ended is what the run tells.
-  pub ended-counted : (net : Net S K A B) (outcomes : Outcomes) (now : Devices S K A B) (s : CoreState) → NetStands keeps tells net s
+  pub ended-counted : (net : Net S K A B) (outcomes : Outcomes) (now : Peripherals S K A B) (s : CoreState) → NetStands keeps tells net s
       → outcomes.card ≡ outcome_by (caused (s.histories 1)) → outcomes.input ≡ outcome_by (caused (s.histories 2))
       → outcomes.job ≡ outcome_by (caused (s.histories 3)) → outcomes.output ≡ outcome_by (caused (s.histories 4))
       → outcomes.printer ≡ outcome_by (caused (s.histories 5)) → now ≡ devices_of net.shared
-      → (before : Devices S K A B) → CausesAreCounted keeps tells counts before net → AreCounted counts before now outcomes
+      → (before : Peripherals S K A B) → CausesAreCounted keeps tells counts before net → AreCounted counts before now outcomes
   ended-counted net outcomes now s stands card input job output printer devices before were =
       subst (λ now. AreCounted counts before now outcomes) (sym devices)
       (subst (AreCounted counts before (devices_of net.shared)) (sym (same-five _ _ _ _ _ _ _ _ _ _ card input job output printer outcomes refl))

@@ -16,14 +16,14 @@ use Rattle.core_net.specs.Net.{Keeps, NetStands}
 use Rattle.core_net.specs.Shared.{Tells}
 
 -- what the deck is read from, what the paper is printed on, and the areas of the two spools
-pub record Devices (S K A B : Type 0) : Type 0 where
+pub record Peripherals (S K A B : Type 0) : Type 0 where
   pub source : S
   pub sink : K
   pub input : A
   pub output : B
 
 -- those that the five share
-abbrev pub devices_of : {S K A B : Type 0} → Shared S K A B → Devices S K A B
+abbrev pub devices_of : {S K A B : Type 0} → Shared S K A B → Peripherals S K A B
 devices_of shared = record {
   source = shared.deck.source;
   sink = shared.paper.sink;
@@ -32,7 +32,7 @@ devices_of shared = record {
 }
 
 -- those that a run left
-abbrev pub devices_left : {S K A B : Type 0} → Ran S K A B → Devices S K A B
+abbrev pub devices_left : {S K A B : Type 0} → Ran S K A B → Peripherals S K A B
 devices_left ran = record {
   source = ran.deck.source;
   sink = ran.paper.sink;
@@ -40,9 +40,9 @@ devices_left ran = record {
   output = ran.output;
 }
 
--- Where a process has a fault of its device, this device has counted it since. The limit is told exactly where
--- too many bytes were taken since. The job process uses both areas. No count falls.
-pub record AreCounted {S K A B : Type 0} (counts : Counts S K A B) (before now : Devices S K A B)
+-- Where a process has a fault of its device, this device has counted it since. The limit is told exactly
+-- where too many bytes were taken since. The job process uses both areas. No count falls.
+pub record AreCounted {S K A B : Type 0} (counts : Counts S K A B) (before now : Peripherals S K A B)
     (outcomes : Outcomes) : Type 0 where
   pub read : outcomes.card ≡ outcome.Fault cause.ReadFault
       → Rose (counts.read_faults before.source) (counts.read_faults now.source)
@@ -64,7 +64,8 @@ pub record AreCounted {S K A B : Type 0} (counts : Counts S K A B) (before now :
   pub print_on : counts.print_faults before.sink ≤ counts.print_faults now.sink
 
 -- ---- once all five have ended
-abbrev pub FaultsAreCounted : {S K A B : Type 0} → Counts S K A B → Devices S K A B → Ran S K A B → Type 0
+abbrev pub FaultsAreCounted : {S K A B : Type 0} → Counts S K A B → Peripherals S K A B → Ran S K A B
+    → Type 0
 FaultsAreCounted counts before ran = AreCounted counts before (devices_left ran) ran.outcomes
 
 -- ---- on the way there
@@ -79,7 +80,7 @@ outcomes_in s = record {
 }
 
 -- The faults of each state that the network stands for were counted since.
-abbrev pub CausesAreCounted : {S K A B : Type 0} → Keeps → Tells S K A B → Counts S K A B → Devices S K A B
-    → Net S K A B → Type 0
+abbrev pub CausesAreCounted : {S K A B : Type 0} → Keeps → Tells S K A B → Counts S K A B
+    → Peripherals S K A B → Net S K A B → Type 0
 CausesAreCounted keeps tells counts before net = (s : CoreState) → NetStands keeps tells net s
     → AreCounted counts before (devices_of net.shared) (outcomes_in s)

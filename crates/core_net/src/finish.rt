@@ -13,7 +13,7 @@ ghost use Rattle.batch_job.specs.OneThread.{one_thread_lines};
 ghost use Rattle.core_law.specs.Holds.{AreTold};
 ghost use Rattle.core_law.specs.Opening.{Spools};
 ghost use Rattle.core_net.specs.Causes.{counting};
-ghost use Rattle.core_net.specs.Faults.{Devices, CausesAreCounted, FaultsAreCounted};
+ghost use Rattle.core_net.specs.Faults.{Peripherals, CausesAreCounted, FaultsAreCounted};
 ghost use Rattle.core_net.specs.Net.{NetStands, StandsReached, the_keeps};
 ghost use Rattle.core_net.specs.Shared.{telling};
 ghost use Rattle.core_net.specs.Ended.{HaveEnded, EndsSo, EndTogether, FaultsAre, NoneDamaged, all_done};
@@ -58,7 +58,7 @@ impl<S: Source, K: Sink, A: Area, B: Area> Net<S, K, A, B> {
             EndsSo s result.outcomes result.stopped_by }
         ensures together { EndTogether result.outcomes result.stopped_by }
         ensures faults { FaultsAre result.outcomes }
-        ensures counted { (before : Devices S K A B) →
+        ensures counted { (before : Peripherals S K A B) →
             CausesAreCounted the_keeps (telling S.left S.taken K.given A.pages B.pages)
             (counting S.faults S.taken K.faults A.faults B.faults) before self →
             FaultsAreCounted (counting S.faults S.taken K.faults A.faults B.faults) before result }

@@ -10,7 +10,7 @@ ghost use Rattle.core_net.specs.declared.rules.Rule.TheVariants as rule;
 ghost use Rattle.core_net.specs.Causes.{counting};
 ghost use Rattle.core_net.specs.Counting.{counted_by};
 ghost use Rattle.core_net.specs.Ended.{AllEnded, HaveEnded};
-ghost use Rattle.core_net.specs.Faults.{Devices, CausesAreCounted};
+ghost use Rattle.core_net.specs.Faults.{Peripherals, CausesAreCounted};
 ghost use Rattle.core_net.specs.Going.{MayGo};
 ghost use Rattle.core_net.specs.Net.{MayStepNet, NetStands, StandsReached, StandsSomewhere, the_keeps};
 ghost use Rattle.core_net.specs.Rules.{behind};
@@ -49,7 +49,7 @@ impl<S: Source, K: Sink, A: Area, B: Area> Net<S, K, A, B> {
             spools deck paper }
         ensures total { bytes_total (S.taken self.new.shared.deck.source) (S.left self.new.shared.deck.source)
             ≡ bytes_total (S.taken self.old.shared.deck.source) (S.left self.old.shared.deck.source) }
-        ensures counted { (before : Devices S K A B) →
+        ensures counted { (before : Peripherals S K A B) →
             CausesAreCounted the_keeps (telling S.left S.taken K.given A.pages B.pages)
             (counting S.faults S.taken K.faults A.faults B.faults) before self.old →
             CausesAreCounted the_keeps (telling S.left S.taken K.given A.pages B.pages)
@@ -90,7 +90,7 @@ impl<S: Source, K: Sink, A: Area, B: Area> Net<S, K, A, B> {
             spools deck paper }
         ensures total { bytes_total (S.taken self.new.shared.deck.source) (S.left self.new.shared.deck.source)
             ≡ bytes_total (S.taken self.old.shared.deck.source) (S.left self.old.shared.deck.source) }
-        ensures counted { (before : Devices S K A B) →
+        ensures counted { (before : Peripherals S K A B) →
             CausesAreCounted the_keeps (telling S.left S.taken K.given A.pages B.pages)
             (counting S.faults S.taken K.faults A.faults B.faults) before self.old →
             CausesAreCounted the_keeps (telling S.left S.taken K.given A.pages B.pages)
@@ -149,7 +149,7 @@ impl<S: Source, K: Sink, A: Area, B: Area> Net<S, K, A, B> {
             counts.old counts.new }
         ensures total { bytes_total (S.taken self.new.shared.deck.source) (S.left self.new.shared.deck.source)
             ≡ bytes_total (S.taken self.old.shared.deck.source) (S.left self.old.shared.deck.source) }
-        ensures counted { (before : Devices S K A B) →
+        ensures counted { (before : Peripherals S K A B) →
             CausesAreCounted the_keeps (telling S.left S.taken K.given A.pages B.pages)
             (counting S.faults S.taken K.faults A.faults B.faults) before self.old →
             CausesAreCounted the_keeps (telling S.left S.taken K.given A.pages B.pages)

@@ -84,8 +84,8 @@ fn each_byte_that_breaks_the_catalogue_names_its_page(rt: HostRuntime) {
         (0, 9, 1),
         (0, 11, 0),
         (0, 511, 1),
-        // of A: the name, no kind and one too many, the address, the protection, the spare bytes, the key, the search
-        // length
+        // of A: the name, no kind and one too many, the address, the protection, the spare bytes, the key,
+        // the search length
         (5, 32, b'a'),
         (5, 45, 0),
         (5, 45, 5),

@@ -1,6 +1,6 @@
 use Rattle.std.proofs.Common.{◌∙◌, ap}
 use Rattle.solo_devices.specs.CardUnit.{Held, bytes_total}
-use Rattle.core_net.specs.Faults.{Devices}
+use Rattle.core_net.specs.Faults.{Peripherals}
 use Rattle.core_net.proofs.WholeRuns.{all-taken, reached-first, runs-to-end}
 use Rattle.core_net.proofs.core_run.run_core.Goals as goal
 
@@ -41,14 +41,14 @@ returns-clause-bound g c = λ items is valid told.
 pub returns-clause-total : goal.returns-clause-total
 returns-clause-total g c =
     ap (λ (d : Held _). bytes_total (g.S.Source.taken d.source) (g.S.Source.left d.source)) c.finish.ensures.units.0 ∙ c.run-counts.ensures.total
-    ∙ ap (λ (d : Devices _ _ _ _). bytes_total (g.S.Source.taken d.source) (g.S.Source.left d.source)) c.make-net.ensures.devices
+    ∙ ap (λ (d : Peripherals _ _ _ _). bytes_total (g.S.Source.taken d.source) (g.S.Source.left d.source)) c.make-net.ensures.devices
 
 pub returns-clause-all_taken : goal.returns-clause-all_taken
 returns-clause-all_taken g c = λ done.
     all-taken (g.S.Source.left c.args.source) (g.S.Source.left c.finish.result.deck.source) (g.S.Source.taken c.args.source)
     (g.S.Source.taken c.finish.result.deck.source) c.finish.result.deck.pending
     (ap (λ (d : Held _). bytes_total (g.S.Source.taken d.source) (g.S.Source.left d.source)) c.finish.ensures.units.0 ∙ c.run-counts.ensures.total
-    ∙ ap (λ (d : Devices _ _ _ _). bytes_total (g.S.Source.taken d.source) (g.S.Source.left d.source)) c.make-net.ensures.devices)
+    ∙ ap (λ (d : Peripherals _ _ _ _). bytes_total (g.S.Source.taken d.source) (g.S.Source.left d.source)) c.make-net.ensures.devices)
     (λ items is. c.finish.ensures.reads _ _ _
     (c.run-counts.ensures.reached _ _ _
     (reached-first _ _ c.make-net.result _ _ _ _ c.make-net.ensures.reached c.make-net.ensures.stands c.make-net.ensures.within))

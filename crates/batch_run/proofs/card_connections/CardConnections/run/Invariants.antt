@@ -8,4 +8,5 @@ use Rattle.batch_run.proofs.card_connections.CardConnections.run.Given as goal
 
 abbrev pub invariant-loop : goal.invariant-loop
 invariant-loop g l =
-    Going card (λ work. KeepsDue card (as_parcels (option_to_list work.due)) work.ended) l.machine (CardRan g.S.Source.left g.S.Source.taken g.S.Source.faults l.initial.self l.self)
+    Going card (λ work. KeepsDue card (as_parcels (option_to_list work.due)) work.ended) l.machine
+    (CardRan g.S.Source.left g.S.Source.taken g.S.Source.faults l.initial.self l.self)

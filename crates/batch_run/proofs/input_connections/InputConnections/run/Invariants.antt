@@ -8,4 +8,5 @@ use Rattle.batch_run.proofs.input_connections.InputConnections.run.Given as goal
 
 abbrev pub invariant-loop : goal.invariant-loop
 invariant-loop g l =
-    Going input (λ work. KeepsInput (marked work.ended (option_to_list work.due)) work.ended work.packer) l.machine (InputRan g.A.Area.size l.initial.self l.self)
+    Going input (λ work. KeepsInput (marked work.ended (option_to_list work.due)) work.ended work.packer) l.machine
+    (InputRan g.A.Area.size l.initial.self l.self)

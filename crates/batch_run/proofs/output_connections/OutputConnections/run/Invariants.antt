@@ -7,4 +7,5 @@ use Rattle.batch_run.proofs.output_connections.OutputConnections.run.Given as go
 
 abbrev pub invariant-loop : goal.invariant-loop
 invariant-loop g l =
-    Going output (λ work. KeepsOutput work.pages work.due (lines_left (items_left work.items) work.ending)) l.machine (OutputRan g.B.Area.size l.initial.self l.self)
+    Going output (λ work. KeepsOutput work.pages work.due (lines_left (items_left work.items) work.ending)) l.machine
+    (OutputRan g.B.Area.size l.initial.self l.self)

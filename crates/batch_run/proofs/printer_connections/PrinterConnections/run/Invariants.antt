@@ -8,4 +8,5 @@ use Rattle.batch_run.proofs.printer_connections.PrinterConnections.run.Given as 
 
 abbrev pub invariant-loop : goal.invariant-loop
 invariant-loop g l =
-    Going printer (λ work. KeepsDue printer (as_lines (option_to_list work.due)) work.ended) l.machine (PrinterRan g.K.Sink.given g.K.Sink.faults l.initial.self l.self)
+    Going printer (λ work. KeepsDue printer (as_lines (option_to_list work.due)) work.ended) l.machine
+    (PrinterRan g.K.Sink.given g.K.Sink.faults l.initial.self l.self)

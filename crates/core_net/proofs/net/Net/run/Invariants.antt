@@ -4,7 +4,7 @@ use Rattle.solo_base.specs.declared.item.Item.{Item}
 use Rattle.core_law.specs.Core.{CoreState}
 use Rattle.core_law.specs.Opening.{Spools, IsReached}
 use Rattle.core_net.specs.Causes.{counting}
-use Rattle.core_net.specs.Faults.{Devices, CausesAreCounted}
+use Rattle.core_net.specs.Faults.{Peripherals, CausesAreCounted}
 use Rattle.core_net.specs.Net.{NetStands, StandsReached, the_keeps, most_events}
 use Rattle.core_net.specs.Runs.{HasLeft}
 use Rattle.core_net.specs.Shared.{telling}
@@ -22,7 +22,7 @@ invariant-running g l =
     × ((spools : Spools) (deck : Option (List Item)) (paper : Option (List ℕ))
     → StandsReached the_keeps (telling g.S.Source.left g.S.Source.taken g.K.Sink.given g.A.Area.pages g.B.Area.pages) l.fn.self spools deck paper
     → StandsReached the_keeps (telling g.S.Source.left g.S.Source.taken g.K.Sink.given g.A.Area.pages g.B.Area.pages) l.self spools deck paper)
-    × ((before : Devices _ _ _ _)
+    × ((before : Peripherals _ _ _ _)
     → CausesAreCounted the_keeps (telling g.S.Source.left g.S.Source.taken g.K.Sink.given g.A.Area.pages g.B.Area.pages)
     (counting g.S.Source.faults g.S.Source.taken g.K.Sink.faults g.A.Area.faults g.B.Area.faults) before l.fn.self
     → CausesAreCounted the_keeps (telling g.S.Source.left g.S.Source.taken g.K.Sink.given g.A.Area.pages g.B.Area.pages)

@@ -18,7 +18,8 @@ step_machine-requires-else-p-eq4 g c =
     record {
       may =
           may-step _ _ c.args.self.now c.args.p 5 _
-          (last-number c.args.p c.requires.may.step.one c.if-p-eq1.false c.if-p-eq2.false c.if-p-eq3.false c.if-p-eq4.false) c.requires.may c.requires.may.stands.printer;
+          (last-number c.args.p c.requires.may.step.one c.if-p-eq1.false c.if-p-eq2.false c.if-p-eq3.false c.if-p-eq4.false) c.requires.may
+          c.requires.may.stands.printer;
     }
 
 pub returns-then-p-eq1 : goal.returns-then-p-eq1
@@ -42,7 +43,8 @@ returns-then-p-eq2 g c = record {
         shared =
             c.step_machine-then-p-eq2.new.shared;
       }) s _ c.args.p 2 action c.step_machine-then-p-eq2.result (s.histories 2) c.if-p-eq2.true
-      (at-input _ _ _ c.args.self.now spools deck paper s reached stands c.step_machine-then-p-eq2.new.machine c.step_machine-then-p-eq2.new.shared action c.step_machine-then-p-eq2.result) step
+      (at-input _ _ _ c.args.self.now spools deck paper s reached stands c.step_machine-then-p-eq2.new.machine c.step_machine-then-p-eq2.new.shared action
+      c.step_machine-then-p-eq2.result) step
       (c.step_machine-then-p-eq2.ensures (s.histories 2) action stands.input (next-at s c.args.p 2 action c.if-p-eq2.true step));
 }
 
@@ -55,7 +57,8 @@ returns-then-p-eq3 g c = record {
         shared =
             c.step_machine-then-p-eq3.new.shared;
       }) s _ c.args.p 3 action c.step_machine-then-p-eq3.result (s.histories 3) c.if-p-eq3.true
-      (at-job _ _ _ c.args.self.now spools deck paper s reached stands c.step_machine-then-p-eq3.new.machine c.step_machine-then-p-eq3.new.shared action c.step_machine-then-p-eq3.result) step
+      (at-job _ _ _ c.args.self.now spools deck paper s reached stands c.step_machine-then-p-eq3.new.machine c.step_machine-then-p-eq3.new.shared action
+      c.step_machine-then-p-eq3.result) step
       (c.step_machine-then-p-eq3.ensures (s.histories 3) action stands.job (next-at s c.args.p 3 action c.if-p-eq3.true step));
 }
 
@@ -68,7 +71,8 @@ returns-then-p-eq4 g c = record {
         shared =
             c.step_machine-then-p-eq4.new.shared;
       }) s _ c.args.p 4 action c.step_machine-then-p-eq4.result (s.histories 4) c.if-p-eq4.true
-      (at-output _ _ _ c.args.self.now spools deck paper s reached stands c.step_machine-then-p-eq4.new.machine c.step_machine-then-p-eq4.new.shared action c.step_machine-then-p-eq4.result) step
+      (at-output _ _ _ c.args.self.now spools deck paper s reached stands c.step_machine-then-p-eq4.new.machine c.step_machine-then-p-eq4.new.shared action
+      c.step_machine-then-p-eq4.result) step
       (c.step_machine-then-p-eq4.ensures (s.histories 4) action stands.output (next-at s c.args.p 4 action c.if-p-eq4.true step));
 }
 
@@ -82,7 +86,8 @@ returns-else-p-eq4 g c = record {
             c.step_machine-else-p-eq4.new.shared;
       }) s _ c.args.p 5 action c.step_machine-else-p-eq4.result (s.histories 5)
       (last-number c.args.p step.one c.if-p-eq1.false c.if-p-eq2.false c.if-p-eq3.false c.if-p-eq4.false)
-      (at-printer _ _ _ c.args.self.now spools deck paper s reached stands c.step_machine-else-p-eq4.new.machine c.step_machine-else-p-eq4.new.shared action c.step_machine-else-p-eq4.result) step
+      (at-printer _ _ _ c.args.self.now spools deck paper s reached stands c.step_machine-else-p-eq4.new.machine c.step_machine-else-p-eq4.new.shared action
+      c.step_machine-else-p-eq4.result) step
       (c.step_machine-else-p-eq4.ensures (s.histories 5) action stands.printer
       (next-at s c.args.p 5 action (last-number c.args.p step.one c.if-p-eq1.false c.if-p-eq2.false c.if-p-eq3.false c.if-p-eq4.false) step));
 }

@@ -6,7 +6,8 @@ use Rattle.core_net.proofs.net.Net.take_turn.Goals as goal
 
 pub returns-clause-turn : goal.returns-clause-turn
 returns-clause-turn g c = λ spools deck paper s reached stands may.
-    turn-taken _ _ _ c.args.self.now c.step-stepped.new.self spools deck paper s c.args.p c.step-stepped.result c.args.counts.now c.with.result reached stands may
+    turn-taken _ _ _ c.args.self.now c.step-stepped.new.self spools deck paper s c.args.p c.step-stepped.result c.args.counts.now c.with.result reached stands
+    may
     (c.step-stepped.ensures.steps spools deck paper s may.0 reached stands may.1)
     (c.with.ensures.counted
     ∙ ap (λ h. counted_by c.args.counts.now c.step-stepped.result h c.holder-after.result) c.holder-before.ensures

@@ -15,11 +15,13 @@ step-requires g c = record {
             λ x. 0;
         output_faults =
             λ x. 0;
-      } c.args.self.now c.args.p c.has_ended.result c.enabled.result c.has_ended.ensures.ended c.enabled.ensures.turn c.if-has_ended.false c.if-enabled.true c.requires.reached;
+      } c.args.self.now c.args.p c.has_ended.result c.enabled.result c.has_ended.ensures.ended c.enabled.ensures.turn c.if-has_ended.false c.if-enabled.true
+      c.requires.reached;
 }
 
 pub returns-then-enabled : goal.returns-then-enabled
 returns-then-enabled g c = record {
   reached =
-      turned _ _ _ c.args.self.now c.args.p c.has_ended.result c.enabled.result c.has_ended.ensures.ended c.enabled.ensures.turn c.if-has_ended.false c.if-enabled.true c.step.new.self c.step.result c.step.ensures.steps;
+      turned _ _ _ c.args.self.now c.args.p c.has_ended.result c.enabled.result c.has_ended.ensures.ended c.enabled.ensures.turn c.if-has_ended.false
+      c.if-enabled.true c.step.new.self c.step.result c.step.ensures.steps;
 }
