@@ -3,16 +3,20 @@
 
 mod fault;
 
+ghost use Rattle.std.specs.Prelude.{◌≡◌};
+
 use fault::Fault;
 use solo_base::NoMemory;
 use solo_cli::{Finished, top};
-use solo_devices::{SureSink, SureSource};
+use solo_devices::{Area, SureSink, SureSource};
 use solo_edge::{DriveArea, ReaderSource, WriterSink, open_drive};
 use std::env;
 use std::fs::Files;
 use std::io::{self, BufWriter, ErrorKind};
 use std::process::ExitCode;
 use std::rt::Env;
+use std::sync::Wait;
+use std::thread::Threads;
 
 /// The file that is the drive. It stands where the program runs.
 const DRIVE: &str = "solo.disk";
@@ -51,7 +55,13 @@ impl Ended {
 }
 
 /// Runs the command of the words over standard input and standard output.
-fn run(rt: &(impl Env + Input + Print + Files + AllocGlobal)) -> Result<Ended, NoMemory> {
+fn run<R: Env + Input + Print + Files + AllocGlobal + Threads + Wait + Sync>(
+    rt: &R,
+) -> Result<Ended, NoMemory>
+where
+    R::Reader: Send + Drop,
+    R::File: Send + Drop,
+{
     let Some(words) = words(rt)? else {
         return Ok(Ended::with(1, Fault::Usage));
     };
@@ -69,6 +79,7 @@ fn run(rt: &(impl Env + Input + Print + Files + AllocGlobal)) -> Result<Ended, N
         input: _,
         output: _,
     } = top(
+        rt,
         rt.alloc(),
         &words,
         ReaderSource::new(rt.reader()),
@@ -91,7 +102,9 @@ fn run(rt: &(impl Env + Input + Print + Files + AllocGlobal)) -> Result<Ended, N
 
 /// The area of so many pages of the drive, from page `first` on. Each area opens the file for itself, since a
 /// file has one position.
-fn area<R: Files>(rt: &R, first: u16, pages: u16) -> DriveArea<R::File> {
+fn area<R: Files>(rt: &R, first: u16, pages: u16) -> DriveArea<R::File>
+    ensures { ⟦<DriveArea<R::File> as Area>⟧.size result ≡ pages }
+{
     let drive = open_drive(rt, DRIVE, FILE_PAGES + 2 * SPOOL_PAGES);
     DriveArea::new(drive, first, pages)
 }

@@ -1,2 +1,8 @@
-mod Complete
 mod Statuses
+mod Complete
+mod Printing
+mod Lowest
+mod AllDone
+mod CardItems
+mod Reasons
+mod Adding

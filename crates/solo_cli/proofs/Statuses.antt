@@ -1,9 +1,14 @@
--- Status 0 means that there is no cause.
-use Rattle.std.proofs.Common.{◌≡◌, ℕ, List, Option, Some, None, refl, ◌∙◌, sym}
+-- What a status says of the cause.
+use Rattle.std.proofs.Common.{◌≡◌, ℕ, List, [], ◌∷◌, ◌++◌, Option, Some, None, refl, ◌∙◌, sym, ap, ◌⊎◌, inl, inr}
 use Rattle.solo_base.specs.declared.outcome.Cause.{Cause}
 use Rattle.solo_base.specs.declared.outcome.Cause.TheVariants.{Usage, ReadFault, DiskFault, PrintFault, ConsoleFault, DeckLimit, NotSolo, Damaged, NoMemory}
 use Rattle.solo_devices.specs.PrinterUnit.{Gains}
+use Rattle.solo_base.specs.Text.{text}
+use Rattle.core_law.specs.Core.{CoreState}
+use Rattle.core_net.specs.declared.rules.Rule.{Rule}
 use Rattle.solo_cli.specs.Status.{status_of}
+use Rattle.solo_cli.specs.CountsLine.{counts_line}
+use Rattle.solo_cli.specs.CountsPaper.{GainsCounted}
 
 pub no_cause : (cause : Option Cause) → status_of cause ≡ 0 → cause ≡ None
 no_cause None zero = refl
@@ -27,4 +32,84 @@ gains_at_zero before now whole cause status is gains = record {
     all_is = λ zero. (gains.told given told).all_is (no_cause cause (sym is ∙ zero));
   };
   untold = gains.untold;
+}
+
+-- each status tells its cause
+pub by_one : (cause : Option Cause) → status_of cause ≡ 1 → cause ≡ Some Usage
+by_one None is = cc
+by_one (Some Usage) is = refl
+by_one (Some ReadFault) is = cc
+by_one (Some DiskFault) is = cc
+by_one (Some PrintFault) is = cc
+by_one (Some ConsoleFault) is = cc
+by_one (Some DeckLimit) is = cc
+by_one (Some (NotSolo page)) is = cc
+by_one (Some (Damaged expected found at)) is = cc
+by_one (Some NoMemory) is = cc
+
+pub by_two : (cause : Option Cause) → status_of cause ≡ 2 → cause ≡ Some ReadFault
+by_two None is = cc
+by_two (Some Usage) is = cc
+by_two (Some ReadFault) is = refl
+by_two (Some DiskFault) is = cc
+by_two (Some PrintFault) is = cc
+by_two (Some ConsoleFault) is = cc
+by_two (Some DeckLimit) is = cc
+by_two (Some (NotSolo page)) is = cc
+by_two (Some (Damaged expected found at)) is = cc
+by_two (Some NoMemory) is = cc
+
+pub by_three : (cause : Option Cause) → status_of cause ≡ 3 → cause ≡ Some DiskFault
+by_three None is = cc
+by_three (Some Usage) is = cc
+by_three (Some ReadFault) is = cc
+by_three (Some DiskFault) is = refl
+by_three (Some PrintFault) is = cc
+by_three (Some ConsoleFault) is = cc
+by_three (Some DeckLimit) is = cc
+by_three (Some (NotSolo page)) is = cc
+by_three (Some (Damaged expected found at)) is = cc
+by_three (Some NoMemory) is = cc
+
+pub by_four : (cause : Option Cause) → status_of cause ≡ 4 → cause ≡ Some PrintFault
+by_four None is = cc
+by_four (Some Usage) is = cc
+by_four (Some ReadFault) is = cc
+by_four (Some DiskFault) is = cc
+by_four (Some PrintFault) is = refl
+by_four (Some ConsoleFault) is = cc
+by_four (Some DeckLimit) is = cc
+by_four (Some (NotSolo page)) is = cc
+by_four (Some (Damaged expected found at)) is = cc
+by_four (Some NoMemory) is = cc
+
+pub by_six : (cause : Option Cause) → status_of cause ≡ 6 → cause ≡ Some DeckLimit
+by_six None is = cc
+by_six (Some Usage) is = cc
+by_six (Some ReadFault) is = cc
+by_six (Some DiskFault) is = cc
+by_six (Some PrintFault) is = cc
+by_six (Some ConsoleFault) is = cc
+by_six (Some DeckLimit) is = refl
+by_six (Some (NotSolo page)) is = cc
+by_six (Some (Damaged expected found at)) is = cc
+by_six (Some NoMemory) is = cc
+
+-- where the deck was too long the status is that of the disk, of the printer or of the limit
+pub beyond_is : (cause : Option Cause) (status : ℕ) → status ≡ status_of cause
+    → (cause ≡ Some DiskFault) ⊎ ((cause ≡ Some PrintFault) ⊎ (cause ≡ Some DeckLimit)) → (status ≡ 3) ⊎ ((status ≡ 4) ⊎ (status ≡ 6))
+beyond_is cause status is (inl disk) = inl (is ∙ ap status_of disk)
+beyond_is cause status is (inr (inl print)) = inr (inl (is ∙ ap status_of print))
+beyond_is cause status is (inr (inr limit)) = inr (inr (is ∙ ap status_of limit))
+
+pub counted_at_zero : (rule : Rule) (s : CoreState) (before now : Option (List ℕ)) (lines : List (List ℕ)) (cause : Option Cause) (status : ℕ)
+    → status ≡ status_of cause → GainsCounted rule s before now lines (cause ≡ None) → GainsCounted rule s before now lines (status ≡ 0)
+counted_at_zero rule s before now lines cause status is gains = record {
+  counts = gains.counts;
+  outcomes = gains.outcomes;
+  stops = gains.stops;
+  devices = gains.devices;
+  runs = gains.runs;
+  gains = gains_at_zero before now (text (lines ++ counts_line gains.counts.events gains.counts.delays gains.counts.grants ∷ [])) cause status is gains.gains;
+  done = λ zero. gains.done (no_cause cause (sym is ∙ zero));
 }

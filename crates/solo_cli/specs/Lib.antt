@@ -4,3 +4,7 @@ pub use Rattle.solo_devices.specs.CardUnit
 pub use Rattle.solo_devices.specs.PrinterUnit
 pub mod Words
 pub mod Status
+pub mod Decides
+pub mod CountsLine
+pub mod Causes
+pub mod CountsPaper

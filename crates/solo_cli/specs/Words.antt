@@ -1,11 +1,61 @@
 -- The command that words are.
-use Rattle.std.specs.Prelude.{ℕ, List, [], ◌∷◌, Option, Some, None, codes, if◌then◌else◌}
+use Rattle.std.specs.Prelude.{ℕ, List, [], ◌∷◌, ◌++◌, ◌==◌, Option, Some, None, codes, option_map, option_and_then, if◌then◌else◌}
+use Rattle.std.specs.Option.{option_or}
 use Rattle.std.specs.Str.{bytes_eq}
+use Rattle.deck_format.specs.Numeral.{number_within}
 use Rattle.solo_cli.specs.declared.words.Command.{Command}
-use Rattle.solo_cli.specs.declared.words.Command.TheVariants.{Batch}
+use Rattle.solo_cli.specs.declared.words.Command.TheVariants as command
+use Rattle.solo_cli.specs.declared.words.Numbered.{Numbered}
+use Rattle.solo_cli.specs.declared.words.Numbered.TheVariants as numbered
 
--- the one word `batch`, and no other list of words
+-- the commands that stand alone
+abbrev pub alone : List ℕ → Option Command
+alone word = if bytes_eq word (codes "batch") then Some command.Batch else None
+
+-- the commands that take a number
+abbrev pub takes_number : List ℕ → Option Numbered
+takes_number word = if bytes_eq word (codes "core") then Some numbered.Core else None
+
+-- the option that names the number
+abbrev pub option_of : Numbered → List ℕ
+option_of numbered.Core = codes "--schedule"
+
+-- the greatest number
+abbrev pub greatest_number : Numbered → ℕ
+greatest_number numbered.Core = 2147483647
+
+-- the command with its number
+abbrev pub with_number : Numbered → ℕ → Command
+with_number numbered.Core schedule = command.Core schedule
+
+-- a number of one to ten digits behind a beginning of a word: behind `--schedule=`, `--schedule=07` has 7
+abbrev pub number_behind : List ℕ → ℕ → List ℕ → Option ℕ
+number_behind [] most word = number_within 10 0 most word
+number_behind (code ∷ beginning) most [] = None
+number_behind (code ∷ beginning) most (first ∷ rest) =
+    if first == code then number_behind beginning most rest else None
+
+-- the option and the number as two words
+abbrev pub apart_of : List ℕ → List ℕ → Numbered → Option Command
+apart_of option digits kind =
+    if bytes_eq option (option_of kind)
+    then option_map (with_number kind) (number_within 10 0 (greatest_number kind) digits) else None
+
+abbrev pub apart : List ℕ → List ℕ → List ℕ → Option Command
+apart word option digits = option_and_then (apart_of option digits) (takes_number word)
+
+-- the option and the number as one word, with `=` between them
+abbrev pub joined_of : List ℕ → Numbered → Option Command
+joined_of option kind =
+    option_map (with_number kind) (number_behind (option_of kind ++ 61 ∷ []) (greatest_number kind) option)
+
+abbrev pub joined : List ℕ → List ℕ → Option Command
+joined word option = option_and_then (joined_of option) (takes_number word)
+
+-- the command alone, or with its option before it or behind it, and no other word
 abbrev pub form : List (List ℕ) → Option Command
 form [] = None
-form (word ∷ []) = if bytes_eq word (codes "batch") then Some Batch else None
-form (word ∷ more ∷ others) = None
+form (word ∷ []) = alone word
+form (first ∷ second ∷ []) = option_or (joined first second) (joined second first)
+form (first ∷ second ∷ third ∷ []) = option_or (apart first second third) (apart third first second)
+form (first ∷ second ∷ third ∷ fourth ∷ others) = None

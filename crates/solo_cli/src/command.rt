@@ -1,19 +1,25 @@
-ghost use Rattle.std.specs.Prelude.{◌≡◌, ◌≢◌, ◌↔◌, ◌⊎◌, ◌<◌, ◌≤◌, ℕ, List, [], None, Some, length, map, string_bytes, IfSome};
+ghost use Rattle.std.specs.Prelude.{◌≡◌, ◌≢◌, ◌↔◌, ◌⊎◌, ◌<◌, ◌≤◌, ℕ, List, [], None, Some, IsSome, length, map, string_bytes};
 ghost use Rattle.solo_base.specs.Text.{text};
+ghost use Rattle.solo_base.specs.Card.{cards};
 ghost use Rattle.solo_devices.specs.Count.{Rose, Stayed};
-ghost use Rattle.solo_devices.specs.CardUnit.{byte_limit, bytes_total, IsAllTaken};
+ghost use Rattle.solo_devices.specs.CardUnit.{byte_limit};
 ghost use Rattle.solo_devices.specs.PrinterUnit.{Gains};
 ghost use Rattle.batch_job.specs.OneThread.{one_thread_output};
-ghost use Rattle.net_core.specs.Turns.{IsListCause};
+ghost use Rattle.core_law.specs.Opening.{opened};
+ghost use Rattle.core_net.specs.Openings.{spools_over};
 ghost use Rattle.solo_cli.specs.Words.{form};
 ghost use Rattle.solo_cli.specs.Status.{status_of};
+ghost use Rattle.solo_cli.specs.CountsPaper.{GainsCounted};
 
+use crate::runs::{Done, run_command};
 use crate::status::status_of;
-use crate::words::{Command, command_of};
-use net_core::run_lists;
+use crate::words::Command;
+use core_net::Rule;
 use solo_base::Cause;
-use solo_devices::{Area, CardUnit, PrinterUnit, Sink, Source};
+use solo_devices::{Area, Sink, Source};
 use std::alloc::Global;
+use std::sync::Wait;
+use std::thread::Threads;
 
 /// How a command ended, and its devices. The cause is there except at status 0.
 #[derive(Debug, Drop)]
@@ -29,9 +35,20 @@ pub struct Finished<S, Y, K, T, F, I, O> {
     pub output: O,
 }
 
-/// Runs the command that the words are, over these devices. `batch` runs the card deck and prints the
-/// report of each of its jobs. Where the words are no command, nothing is done.
-pub fn top<S: Source, Y: Source, K: Sink, T: Sink, F: Area, I: Area, O: Area>(
+/// Runs the command that the words are, over these devices. `batch` and `core` run the card deck and print the
+/// report of each of its jobs: `batch` on threads, `core` under the schedule of a number, and behind the
+/// reports it prints what it counted. Where the words are no command, nothing is done.
+pub fn top<
+    S: Source + Drop + Send,
+    Y: Source,
+    K: Sink + Drop + Send,
+    T: Sink,
+    F: Area,
+    I: Area + Send,
+    O: Area + Send,
+    R: Threads + Wait + Sync,
+>(
+    rt: &R,
     alloc: Global,
     words: &[String],
     deck: S,
@@ -44,35 +61,67 @@ pub fn top<S: Source, Y: Source, K: Sink, T: Sink, F: Area, I: Area, O: Area>(
 ) -> Finished<S, Y, K, T, F, I, O>
     requires deck { S.taken deck ≡ 0 }
     requires keys { Y.taken keys ≡ 0 }
+    requires input { (0 < I.size input) × (I.size input ≤ 256) }
+    requires output { (0 < O.size output) × (O.size output ≤ 256) }
 
     // The paper gains the one-thread output of the deck's jobs, or a prefix of it; at status 0 all of it,
-    // and the deck still tells what it has left: nothing.
-    ensures output { (bytes : List ℕ) → S.left deck ≡ Some bytes → form (map (λ word. string_bytes word) words.now) ≡ Some Command.Batch →
+    // and the deck still tells what it has left: nothing. Behind it `core` prints the counts of the run of its
+    // schedule.
+    ensures output { (bytes : List ℕ) → S.left deck ≡ Some bytes →
+        IsSome (I.pages input) → IsSome (O.pages output) →
+        form (map (λ word. string_bytes word) words.now) ≡ Some Command.Batch →
         Gains (K.given paper) (K.given result.paper) (text (one_thread_output bytes)) (result.status ≡ 0) }
-    ensures emptied { (bytes : List ℕ) → S.left deck ≡ Some bytes → result.status ≡ 0 → S.left result.deck ≡ Some [] }
+    ensures core_output { (bytes : List ℕ) → S.left deck ≡ Some bytes →
+        IsSome (I.pages input) → IsSome (O.pages output) → (schedule : ℕ) →
+        form (map (λ word. string_bytes word) words.now) ≡ Some (Command.Core schedule) →
+        GainsCounted (Rule.Numbered schedule)
+        (opened (spools_over (I.size input) (I.pages input) (O.size output) (O.pages output))
+        (Some (cards bytes)) (K.given paper))
+        (K.given paper) (K.given result.paper) (one_thread_output bytes) (result.status ≡ 0) }
+    ensures emptied { (bytes : List ℕ) → S.left deck ≡ Some bytes → result.status ≡ 0 →
+        S.left result.deck ≡ Some [] }
 
-    // Of a deck that tells its bytes and is within the limit the whole work is done where no count rose, unless
-    // memory was refused; of a longer one never.
+    // Of a deck that tells its bytes and is within the limit the whole work is done where no count rose and both
+    // areas tell their pages, unless memory was refused; of a longer one never.
     ensures complete { (bytes : List ℕ) → S.left deck ≡ Some bytes → length bytes ≤ byte_limit →
+        IsSome (I.pages input) → IsSome (O.pages output) →
         Stayed (S.faults deck) (S.faults result.deck) → Stayed (K.faults paper) (K.faults result.paper) →
-        form (map (λ word. string_bytes word) words.now) ≡ Some Command.Batch → (result.status ≡ 0) ⊎ (result.status ≡ 9) }
-    ensures longer { (bytes : List ℕ) → S.left deck ≡ Some bytes → byte_limit < length bytes → result.status ≢ 0 }
+        Stayed (I.faults input) (I.faults result.input) →
+        Stayed (O.faults output) (O.faults result.output) →
+        form (map (λ word. string_bytes word) words.now) ≢ None →
+        (result.status ≡ 0) ⊎ (result.status ≡ 9) }
+    ensures longer { (bytes : List ℕ) → S.left deck ≡ Some bytes → byte_limit < length bytes →
+        result.status ≢ 0 }
 
     // The words are no command, and then each device is as it came.
     ensures usage { (result.status ≡ 1) ↔ (form (map (λ word. string_bytes word) words.now) ≡ None) }
-    ensures unasked { form (map (λ word. string_bytes word) words.now) ≡ None → (result.deck ≡ deck) × (result.paper ≡ paper) }
+    ensures unasked { form (map (λ word. string_bytes word) words.now) ≡ None →
+        (result.deck ≡ deck) × (result.paper ≡ paper) × (result.input ≡ input) × (result.output ≡ output) }
 
     // Each fault has its cause.
     ensures read { result.status ≡ 2 → Rose (S.faults deck) (S.faults result.deck) }
+    ensures disk { result.status ≡ 3 →
+        Rose (I.faults input) (I.faults result.input) ⊎ Rose (O.faults output) (O.faults result.output) }
     ensures print { result.status ≡ 4 → Rose (K.faults paper) (K.faults result.paper) }
-    ensures limit { (result.status ≡ 6) ↔ (byte_limit < S.taken result.deck) }
-    ensures known { (result.status ≡ 0) ⊎ (result.status ≡ 1) ⊎ (result.status ≡ 2) ⊎ (result.status ≡ 4) ⊎ (result.status ≡ 6) ⊎ (result.status ≡ 9) }
+    ensures limit { result.status ≡ 6 → byte_limit < S.taken result.deck }
+    ensures beyond { byte_limit < S.taken result.deck →
+        (result.status ≡ 3) ⊎ (result.status ≡ 4) ⊎ (result.status ≡ 6) }
+    ensures damaged { (bytes : List ℕ) → S.left deck ≡ Some bytes →
+        IsSome (I.pages input) → IsSome (O.pages output) → result.status ≢ 8 }
+    ensures known { (result.status ≡ 0) ⊎ (result.status ≡ 1) ⊎ (result.status ≡ 2) ⊎ (result.status ≡ 3)
+        ⊎ (result.status ≡ 4) ⊎ (result.status ≡ 6) ⊎ (result.status ≡ 8) ⊎ (result.status ≡ 9) }
     ensures status { result.status ≡ status_of result.cause }
 
     // No command uses these devices yet.
-    ensures unused { (result.keys ≡ keys) × (result.console ≡ console) × (result.files ≡ files) × (result.input ≡ input) × (result.output ≡ output) }
+    ensures unused { (result.keys ≡ keys) × (result.console ≡ console) × (result.files ≡ files) }
 {
-    let (cause, deck, paper) = run_command(alloc, words, deck, paper);
+    let Done {
+        cause,
+        deck,
+        paper,
+        input,
+        output,
+    } = run_command(rt, alloc, words, deck, paper, input, output);
     Finished {
         status: status_of(cause),
         cause,
@@ -83,37 +132,5 @@ pub fn top<S: Source, Y: Source, K: Sink, T: Sink, F: Area, I: Area, O: Area>(
         files,
         input,
         output,
-    }
-}
-
-/// Runs the command over the devices that it uses.
-fn run_command<S: Source, K: Sink>(
-    alloc: Global,
-    words: &[String],
-    deck: S,
-    paper: K,
-) -> (Option<Cause>, S, K)
-    requires { S.taken deck ≡ 0 }
-    ensures output { (bytes : List ℕ) → S.left deck ≡ Some bytes → form (map (λ word. string_bytes word) words.now) ≡ Some Command.Batch →
-        Gains (K.given paper) (K.given result.2) (text (one_thread_output bytes)) (result.0 ≡ None) }
-    ensures all_taken { result.0 ≡ None → IsAllTaken (S.left result.1) }
-    ensures total { bytes_total (S.taken result.1) (S.left result.1) ≡ bytes_total (S.taken deck) (S.left deck) }
-    ensures usage { (result.0 ≡ Some Cause.Usage) ↔ (form (map (λ word. string_bytes word) words.now) ≡ None) }
-    ensures unasked { form (map (λ word. string_bytes word) words.now) ≡ None → (result.1 ≡ deck) × (result.2 ≡ paper) }
-    ensures read { result.0 ≡ Some Cause.ReadFault → Rose (S.faults deck) (S.faults result.1) }
-    ensures print { result.0 ≡ Some Cause.PrintFault → Rose (K.faults paper) (K.faults result.2) }
-    ensures limit { (result.0 ≡ Some Cause.DeckLimit) ↔ (byte_limit < S.taken result.1) }
-    ensures known { IfSome result.0 (λ cause. (cause ≡ Cause.Usage) ⊎ IsListCause cause) }
-{
-    match command_of(words) {
-        None => (Some(Cause::Usage), deck, paper),
-        Some(Command::Batch) => {
-            let listed = run_lists(alloc, CardUnit::new(deck), PrinterUnit::new(paper));
-            (
-                listed.cause,
-                listed.deck.into_inner(),
-                listed.paper.into_inner(),
-            )
-        }
     }
 }

@@ -2,11 +2,22 @@
 #![tactic(auto)]
 
 mod command;
+mod counts;
+mod deciding;
+mod runs;
 mod status;
 mod words;
 
 pub use command::{Finished, top};
-pub use words::Command;
+pub use words::{Command, Numbered};
 
 #[cfg(test)]
+mod device_tests;
+#[cfg(test)]
+mod held;
+#[cfg(test)]
+mod part_tests;
+#[cfg(test)]
 mod tests;
+#[cfg(test)]
+mod word_tests;

@@ -13,7 +13,7 @@ pub fn status_of(cause: Option<Cause>) -> u8
     }
 }
 
-fn number_of(cause: Cause) -> u8
+pub fn number_of(cause: Cause) -> u8
     ensures { result ≡ number_of cause }
 {
     match cause {

@@ -1,11 +1,14 @@
-ghost use Rattle.std.specs.Prelude.{◌≡◌, ◌<◌};
+ghost use Rattle.std.specs.Prelude.{◌≡◌, ◌<◌, IfOk};
 
 use crate::{Finished, top};
-use solo_devices::{BlankArea, MemSink, MemSource, Source, Took};
+use solo_base::Cause;
+use solo_devices::{Area, BlankArea, MemSink, MemSource, Source, SureArea, Took};
 use std::alloc::Global;
+use std::sync::Wait;
 use std::test::Fail;
+use std::thread::Threads;
 
-type Ended = Finished<MemSource, MemSource, MemSink, MemSink, BlankArea, BlankArea, BlankArea>;
+type Ended = Finished<MemSource, MemSource, MemSink, MemSink, BlankArea, SureArea, SureArea>;
 
 /// A card of 81 columns.
 const WIDE: &str =
@@ -119,27 +122,44 @@ fn words(alloc: Global, texts: &[&str]) -> Result<Vec<String>, Fail> {
 
 /// Runs the command over a deck that comes in pieces of so many bytes, where the listed reads of the
 /// deck and writes of the paper fail.
-fn ended(alloc: Global, texts: &[&str], deck: MemSource, failing: Vec<u64>) -> Result<Ended, Fail>
+fn ended(
+    rt: &(impl Threads + Wait + Sync + AllocGlobal),
+    texts: &[&str],
+    deck: MemSource,
+    failing: Vec<u64>,
+) -> Result<Ended, Fail>
     requires { ⟦<MemSource as Source>⟧.taken deck ≡ 0 }
 {
+    let alloc = rt.alloc();
     let words = words(alloc, texts)?;
-    let keys = MemSource::new(Vec::new(alloc), 1, Vec::new(alloc));
     Ok(top(
+        rt,
         alloc,
         words.as_slice(),
         deck,
-        keys,
+        MemSource::new(Vec::new(alloc), 1, Vec::new(alloc)),
         MemSink::new(alloc, failing),
         MemSink::new(alloc, Vec::new(alloc)),
         BlankArea::new(0),
-        BlankArea::new(0),
-        BlankArea::new(0),
+        spool(rt)?,
+        spool(rt)?,
     ))
 }
 
-/// Runs `batch` over a deck, where the listed reads of it and writes of the paper fail.
-fn batch(
-    alloc: Global,
+/// An area of 256 pages.
+fn spool(rt: &impl AllocGlobal) -> Result<SureArea, Fail>
+    ensures { IfOk result (λ area. ⟦<SureArea as Area>⟧.size area ≡ 256) }
+{
+    match SureArea::new(rt.alloc(), 256) {
+        Ok(area) => Ok(area),
+        Err(_) => Err("no memory".into()),
+    }
+}
+
+/// Runs these words over a deck, where the listed reads of it and writes of the paper fail.
+fn run(
+    rt: &(impl Threads + Wait + Sync + AllocGlobal),
+    texts: &[&str],
     deck: &[u8],
     piece: usize,
     failing_reads: &[u64],
@@ -147,23 +167,40 @@ fn batch(
 ) -> Result<Ended, Fail>
     requires { 0 < piece }
 {
+    let alloc = rt.alloc();
     let deck = MemSource::new(deck.to_vec(alloc)?, piece, failing_reads.to_vec(alloc)?);
-    ended(alloc, &["batch"], deck, failing_writes.to_vec(alloc)?)
+    ended(rt, texts, deck, failing_writes.to_vec(alloc)?)
+}
+
+/// Runs `batch` so.
+fn batch(
+    rt: &(impl Threads + Wait + Sync + AllocGlobal),
+    deck: &[u8],
+    piece: usize,
+    failing_reads: &[u64],
+    failing_writes: &[u64],
+) -> Result<Ended, Fail>
+    requires { 0 < piece }
+{
+    run(rt, &["batch"], deck, piece, failing_reads, failing_writes)
 }
 
 /// The deck, however it is cut into pieces.
-fn in_pieces(alloc: Global, deck: &[u8]) -> Result<[Ended; 4], Fail> {
+fn in_pieces(
+    rt: &(impl Threads + Wait + Sync + AllocGlobal),
+    deck: &[u8],
+) -> Result<[Ended; 4], Fail> {
     Ok([
-        batch(alloc, deck, 1, &[], &[])?,
-        batch(alloc, deck, 2, &[], &[])?,
-        batch(alloc, deck, 7, &[], &[])?,
-        batch(alloc, deck, 512, &[], &[])?,
+        batch(rt, deck, 1, &[], &[])?,
+        batch(rt, deck, 2, &[], &[])?,
+        batch(rt, deck, 7, &[], &[])?,
+        batch(rt, deck, 512, &[], &[])?,
     ])
 }
 
 #[test]
 fn a_listing_is_printed(rt: HostRuntime) -> Result<(), Fail> {
-    let ended = batch(rt.alloc(), b"#LIST A\nHELLO\n#END\n", 512, &[], &[])?;
+    let ended = batch(&rt, b"#LIST A\nHELLO\n#END\n", 512, &[], &[])?;
     assert_eq!(rt; ended.status, 0);
     assert_eq!(rt;
         ended.paper.bytes(),
@@ -175,7 +212,7 @@ fn a_listing_is_printed(rt: HostRuntime) -> Result<(), Fail> {
 #[test]
 fn each_deck_has_its_paper(rt: HostRuntime) -> Result<(), Fail> {
     for (deck, paper) in PAPERS {
-        for ended in in_pieces(rt.alloc(), deck.as_bytes())? {
+        for ended in in_pieces(&rt, deck.as_bytes())? {
             assert_eq!(rt; ended.status, 0);
             assert_eq!(rt; ended.paper.bytes(), paper.as_bytes(), "{deck}");
         }
@@ -188,7 +225,7 @@ fn a_wide_card_is_spoiled(rt: HostRuntime) -> Result<(), Fail> {
     let mut deck = b"#LIST A\nONE\n".to_vec(rt.alloc())?;
     deck.extend_from_slice(WIDE.as_bytes())?;
     deck.extend_from_slice(b"\nTHREE\n#END\n")?;
-    for ended in in_pieces(rt.alloc(), deck.as_slice())? {
+    for ended in in_pieces(&rt, deck.as_slice())? {
         assert_eq!(rt; ended.status, 0);
         assert_eq!(rt;
             ended.paper.bytes(),
@@ -200,7 +237,7 @@ fn a_wide_card_is_spoiled(rt: HostRuntime) -> Result<(), Fail> {
 
 #[test]
 fn the_paper_ends_where_a_write_fails(rt: HostRuntime) -> Result<(), Fail> {
-    let ended = batch(rt.alloc(), b"#LIST A\nHELLO\n#END\n", 512, &[], &[3])?;
+    let ended = batch(&rt, b"#LIST A\nHELLO\n#END\n", 512, &[], &[3])?;
     assert_eq!(rt; ended.status, 4);
     assert_eq!(rt; ended.paper.bytes(), b"JOB A\nHELLO\n".as_slice());
     assert_eq!(rt; ended.paper.faults(), 1);
@@ -216,7 +253,7 @@ const PAPER: &[u8] =
 #[test]
 fn each_read_may_fail(rt: HostRuntime) -> Result<(), Fail> {
     for call in 1..100 {
-        let ended = batch(rt.alloc(), DECK, 7, &[call], &[])?;
+        let ended = batch(&rt, DECK, 7, &[call], &[])?;
         if ended.deck.faults() == 0 {
             assert_eq!(rt; ended.status, 0);
             assert_eq!(rt; ended.paper.bytes(), PAPER);
@@ -231,7 +268,7 @@ fn each_read_may_fail(rt: HostRuntime) -> Result<(), Fail> {
 #[test]
 fn each_write_may_fail(rt: HostRuntime) -> Result<(), Fail> {
     for call in 1..100 {
-        let ended = batch(rt.alloc(), DECK, 7, &[], &[call])?;
+        let ended = batch(&rt, DECK, 7, &[], &[call])?;
         if ended.paper.faults() == 0 {
             assert_eq!(rt; ended.status, 0);
             assert_eq!(rt; ended.paper.bytes(), PAPER);
@@ -249,20 +286,24 @@ fn a_deck_has_16777216_bytes_at_most(rt: HostRuntime) -> Result<(), Fail> {
     for _ in 0..32768u16 {
         deck.extend_from_slice([b'X'; 512].as_slice())?;
     }
-    let whole = batch(rt.alloc(), deck.as_slice(), 512, &[], &[])?;
+    let whole = batch(&rt, deck.as_slice(), 512, &[], &[])?;
     assert_eq!(rt; whole.status, 0);
     assert_eq!(rt; whole.paper.bytes(), b"1 CARDS SKIPPED\n".as_slice());
     deck.push(b'X')?;
-    let longer = batch(rt.alloc(), deck.as_slice(), 512, &[], &[])?;
+    let longer = batch(&rt, deck.as_slice(), 512, &[], &[])?;
     assert_eq!(rt; longer.status, 6);
     assert_eq!(rt; longer.paper.bytes(), b"".as_slice());
     Ok(())
 }
 
 /// The words are no command, and nothing was read or printed.
-fn is_refused(alloc: Global, texts: &[&str]) -> Result<bool, Fail> {
+fn is_refused(
+    rt: &(impl Threads + Wait + Sync + AllocGlobal),
+    texts: &[&str],
+) -> Result<bool, Fail> {
+    let alloc = rt.alloc();
     let deck = MemSource::new(b"X\n".to_vec(alloc)?, 512, Vec::new(alloc));
-    let mut ended = ended(alloc, texts, deck, Vec::new(alloc))?;
+    let mut ended = ended(rt, texts, deck, Vec::new(alloc))?;
     let mut rest = [0; 512];
     Ok(
         ended.status == 1
@@ -273,11 +314,68 @@ fn is_refused(alloc: Global, texts: &[&str]) -> Result<bool, Fail> {
 
 #[test]
 fn other_words_are_no_command(rt: HostRuntime) -> Result<(), Fail> {
-    let alloc = rt.alloc();
-    assert!(rt; is_refused(alloc, &[])?);
-    assert!(rt; is_refused(alloc, &[""])?);
-    assert!(rt; is_refused(alloc, &["BATCH"])?);
-    assert!(rt; is_refused(alloc, &["batch "])?);
-    assert!(rt; is_refused(alloc, &["batch", "batch"])?);
+    assert!(rt; is_refused(&rt, &[])?);
+    assert!(rt; is_refused(&rt, &["core"])?);
+    assert!(rt; is_refused(&rt, &["batch", "--schedule", "7"])?);
+    assert!(rt; is_refused(&rt, &["core", "--schedule", "2147483648"])?);
+    assert!(rt; is_refused(&rt, &["--", "batch"])?);
+    Ok(())
+}
+
+/// A deck of one list, its paper, and the numbers of events, delays and grants under some schedules, as a plain
+/// simulation counts them.
+const LISTING: &[u8] = b"#LIST A\nHELLO\n#END\n";
+
+const COUNTED: [(&str, &str); 6] = [
+    ("0", "51 EVENTS, 6 DELAYS, 4 GRANTS"),
+    ("1", "52 EVENTS, 7 DELAYS, 4 GRANTS"),
+    ("3", "53 EVENTS, 8 DELAYS, 4 GRANTS"),
+    ("5", "51 EVENTS, 6 DELAYS, 4 GRANTS"),
+    ("7", "54 EVENTS, 9 DELAYS, 4 GRANTS"),
+    ("0000000009", "54 EVENTS, 9 DELAYS, 4 GRANTS"),
+];
+
+#[test]
+fn the_core_prints_what_it_counted(rt: HostRuntime) -> Result<(), Fail> {
+    for (schedule, counts) in COUNTED {
+        let ended = run(
+            &rt,
+            &["core", "--schedule", schedule],
+            LISTING,
+            512,
+            &[],
+            &[],
+        )?;
+        let paper = format!(in rt.alloc(); "JOB A\nHELLO\nA: LISTED 1 CARDS\nCOUNTS: {counts}\n")?;
+        assert_eq!(rt; ended.status, 0);
+        assert_eq!(rt; ended.paper.bytes(), paper.as_bytes(), "{schedule}");
+    }
+    Ok(())
+}
+
+#[test]
+fn an_option_stands_before_or_behind_its_command(rt: HostRuntime) -> Result<(), Fail> {
+    for words in [
+        &["core", "--schedule=7"].as_slice(),
+        &["--schedule", "7", "core"].as_slice(),
+    ] {
+        let ended = run(&rt, words, LISTING, 512, &[], &[])?;
+        assert_eq!(rt; ended.status, 0);
+    }
+    Ok(())
+}
+
+#[test]
+fn a_failed_write_ends_the_core_without_counts(rt: HostRuntime) -> Result<(), Fail> {
+    let words = &["core", "--schedule", "7"];
+    let ended = run(&rt, words, LISTING, 512, &[], &[3])?;
+    assert_eq!(rt; ended.status, 4);
+    assert_eq!(rt; ended.paper.bytes(), b"JOB A\nHELLO\n".as_slice());
+    let counts = run(&rt, words, LISTING, 512, &[], &[4])?;
+    assert_eq!(rt; counts.status, 4);
+    assert_eq!(rt;
+        counts.paper.bytes(),
+        b"JOB A\nHELLO\nA: LISTED 1 CARDS\n".as_slice()
+    );
     Ok(())
 }

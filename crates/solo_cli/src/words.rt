@@ -1,19 +1,134 @@
-ghost use Rattle.std.specs.Prelude.{◌≡◌, map, string_bytes};
-ghost use Rattle.solo_cli.specs.Words.{form};
+ghost use Rattle.std.specs.Prelude.{◌≡◌, ◌++◌, ◌∷◌, [], length, map, string_bytes};
+ghost use Rattle.solo_cli.specs.Words.{form, alone, takes_number, option_of, greatest_number, with_number, number_behind, apart, joined};
+
+use deck_format::number_within;
 
 /// What the words of a command line ask for.
 #[derive(Clone, Copy, Debug, PartialEq, Eq)]
 pub enum Command {
-    /// Runs a card deck.
+    /// Runs a card deck on threads.
     Batch,
+    /// Runs a card deck on the core, under the schedule of a number.
+    Core { schedule: u32 },
 }
+
+/// A command that takes a number.
+#[derive(Clone, Copy, Debug, PartialEq, Eq)]
+pub enum Numbered {
+    Core,
+}
+
+/// How many digits a number has at most.
+const DIGITS: usize = 10;
 
 /// The command that the words are, or `None` where they are no written form.
 pub fn command_of(words: &[String]) -> Option<Command>
     ensures { result ≡ form (map (λ word. string_bytes word) words.now) }
 {
     match words {
-        [word] if word.as_str() == "batch" => Some(Command::Batch),
+        [word] => alone(word.as_str()),
+        [first, second] => {
+            let (first, second) = (first.as_str(), second.as_str());
+            joined(first, second).or(joined(second, first))
+        }
+        [first, second, third] => {
+            let (first, second, third) = (first.as_str(), second.as_str(), third.as_str());
+            apart(first, second, third).or(apart(third, first, second))
+        }
         _ => None,
+    }
+}
+
+/// The command that stands alone.
+fn alone(word: &str) -> Option<Command>
+    ensures { result ≡ alone word.now }
+{
+    if word == "batch" {
+        Some(Command::Batch)
+    } else {
+        None
+    }
+}
+
+/// The command whose option and number are two words.
+fn apart(word: &str, option: &str, digits: &str) -> Option<Command>
+    ensures { result ≡ apart word.now option.now digits.now }
+{
+    let kind = takes_number(word)?;
+    if option != kind.option() {
+        return None;
+    }
+    let number = number_within(digits.as_bytes(), DIGITS, 0, kind.most())?;
+    Some(kind.with_number(number))
+}
+
+/// The command whose option and number are one word, with `=` between them.
+fn joined(word: &str, option: &str) -> Option<Command>
+    ensures { result ≡ joined word.now option.now }
+{
+    let kind = takes_number(word)?;
+    let number = number_behind(kind.option_before_number(), kind.most(), option.as_bytes())?;
+    Some(kind.with_number(number))
+}
+
+/// The command of this word that takes a number.
+fn takes_number(word: &str) -> Option<Numbered>
+    ensures { result ≡ takes_number word.now }
+{
+    if word == "core" {
+        Some(Numbered::Core)
+    } else {
+        None
+    }
+}
+
+/// The number behind this beginning of a word.
+fn number_behind(beginning: &[u8], most: u32, word: &[u8]) -> Option<u32>
+    ensures { result ≡ number_behind beginning.now most word.now }
+{
+    match beginning {
+        [] => number_within(word, DIGITS, 0, most),
+        [code, later @ ..] => match word {
+            [first, rest @ ..] if first == code => number_behind(later, most, rest),
+            _ => None,
+        },
+    }
+}
+
+impl Numbered {
+    /// The option that names the number.
+    fn option(self) -> &'static str
+        ensures { result.now ≡ option_of self }
+    {
+        match self {
+            Numbered::Core => "--schedule",
+        }
+    }
+
+    /// The option with the `=` behind it.
+    fn option_before_number(self) -> &'static [u8]
+        ensures { result.now ≡ option_of self ++ 61 ∷ [] }
+    {
+        match self {
+            Numbered::Core => b"--schedule=",
+        }
+    }
+
+    /// The greatest number.
+    fn most(self) -> u32
+        ensures { result ≡ greatest_number self }
+    {
+        match self {
+            Numbered::Core => 2_147_483_647,
+        }
+    }
+
+    /// The command with its number.
+    fn with_number(self, number: u32) -> Command
+        ensures { result ≡ with_number self number }
+    {
+        match self {
+            Numbered::Core => Command::Core { schedule: number },
+        }
     }
 }

@@ -1,0 +1,34 @@
+-- What ended a run, told by the devices.
+use Rattle.std.specs.Prelude.{◌≡◌, ◌<◌, ◌⊎◌, ℕ, List, Option, Some, None}
+use Rattle.solo_base.specs.declared.outcome.Cause.{Cause}
+use Rattle.solo_base.specs.declared.outcome.Cause.TheVariants as cause
+use Rattle.solo_devices.specs.Count.{Rose}
+use Rattle.solo_devices.specs.CardUnit.{byte_limit, bytes_total, IsAllTaken}
+use Rattle.batch_procs.specs.Faults.{IsDamaged}
+use Rattle.core_net.specs.Causes.{Counts}
+use Rattle.core_net.specs.Faults.{Peripherals}
+
+-- what may end a run of the five processes
+abbrev pub IsRunCause : Cause → Type 0
+IsRunCause c =
+    (c ≡ cause.ReadFault) ⊎ ((c ≡ cause.DiskFault) ⊎ ((c ≡ cause.PrintFault) ⊎ ((c ≡ cause.DeckLimit)
+    ⊎ (IsDamaged c ⊎ (c ≡ cause.NoMemory)))))
+
+-- A fault of a device that ended the run was counted by that device since, and the limit came where too many
+-- bytes were taken; then only a fault of the disk or of the printer ends the run in its place. No byte of the
+-- deck is lost, and where there is no cause all were taken.
+pub record HasItsCause {S K A B : Type 0} (counts : Counts S K A B) (left : S → Option (List ℕ))
+    (before now : Peripherals S K A B) (why : Option Cause) : Type 0 where
+  pub read : why ≡ Some cause.ReadFault
+      → Rose (counts.read_faults before.source) (counts.read_faults now.source)
+  pub disk : why ≡ Some cause.DiskFault
+      → Rose (counts.input_faults before.input) (counts.input_faults now.input)
+      ⊎ Rose (counts.output_faults before.output) (counts.output_faults now.output)
+  pub print : why ≡ Some cause.PrintFault
+      → Rose (counts.print_faults before.sink) (counts.print_faults now.sink)
+  pub limit : why ≡ Some cause.DeckLimit → byte_limit < counts.taken now.source
+  pub beyond : byte_limit < counts.taken now.source
+      → (why ≡ Some cause.DiskFault) ⊎ ((why ≡ Some cause.PrintFault) ⊎ (why ≡ Some cause.DeckLimit))
+  pub total : bytes_total (counts.taken now.source) (left now.source)
+      ≡ bytes_total (counts.taken before.source) (left before.source)
+  pub all_taken : why ≡ None → IsAllTaken (left now.source)

@@ -1,0 +1,82 @@
+use crate::words::{Command, command_of};
+use std::alloc::Global;
+use std::test::Fail;
+
+/// The command that these words are.
+fn command(alloc: Global, texts: &[&str]) -> Result<Option<Command>, Fail> {
+    let mut words = Vec::new(alloc);
+    for text in texts {
+        words.push(String::from_str(alloc, text)?)?;
+    }
+    Ok(command_of(words.as_slice()))
+}
+
+/// Each written form of the core with this number.
+fn is_core(alloc: Global, digits: &str, schedule: u32) -> Result<bool, Fail> {
+    let joined = format!(in alloc; "--schedule={digits}")?;
+    let core = Some(Command::Core { schedule });
+    Ok(
+        command(alloc, &["core", "--schedule", digits])? == core
+            && command(alloc, &["--schedule", digits, "core"])? == core
+            && command(alloc, &["core", joined.as_str()])? == core
+            && command(alloc, &[joined.as_str(), "core"])? == core,
+    )
+}
+
+#[test]
+fn each_written_form_is_a_command(rt: HostRuntime) -> Result<(), Fail> {
+    let alloc = rt.alloc();
+    assert_eq!(rt; command(alloc, &["batch"])?, Some(Command::Batch));
+    assert!(rt; is_core(alloc, "0", 0)?);
+    assert!(rt; is_core(alloc, "7", 7)?);
+    assert!(rt; is_core(alloc, "0000000007", 7)?);
+    assert!(rt; is_core(alloc, "0000000000", 0)?);
+    assert!(rt; is_core(alloc, "2147483647", 2_147_483_647)?);
+    Ok(())
+}
+
+/// Words that are no written form.
+const OTHERS: [&[&str]; 34] = [
+    &[],
+    &[""],
+    &["BATCH"],
+    &["batch "],
+    &["batch", "batch"],
+    &["batch", ""],
+    &["--", "batch"],
+    &["batch", "--"],
+    &["batch", "--schedule", "7"],
+    &["--schedule", "7", "batch"],
+    &["batch", "--schedule=7"],
+    &["core"],
+    &["--schedule", "7"],
+    &["--schedule=7"],
+    &["core", "7"],
+    &["core", "--schedule"],
+    &["core", "--schedule="],
+    &["core", "--schedule", ""],
+    &["core", "--schedule", "-1"],
+    &["core", "--schedule", "+7"],
+    &["core", "--schedule", " 7"],
+    &["core", "--schedule", "7 "],
+    &["core", "--schedule", "0x7"],
+    &["core", "--schedule", "2147483648"],
+    &["core", "--schedule=2147483648"],
+    &["core", "--schedule", "9999999999"],
+    &["core", "--schedule", "00000000007"],
+    &["--schedule", "core", "7"],
+    &["core", "7", "--schedule"],
+    &["core", "--SCHEDULE", "7"],
+    &["core", "--number", "7"],
+    &["core", "--schedule", "=7"],
+    &["core", "--schedule", "7", "7"],
+    &["core", "--schedule=7", "--schedule=7"],
+];
+
+#[test]
+fn other_words_are_no_command(rt: HostRuntime) -> Result<(), Fail> {
+    for texts in OTHERS {
+        assert!(rt; command(rt.alloc(), texts)?.is_none(), "{texts:?}");
+    }
+    Ok(())
+}
