@@ -70,6 +70,7 @@ impl Source for HeldSource {
     ghost faults = { λ source. source.faults };
 
     fn take(&mut self, piece: &mut [u8]) -> Took {
+        let taken = self.taken;
         let (line, is_last) = self.next_line();
         if is_last {
             mark(&self.marks, ASKED);
@@ -80,7 +81,7 @@ impl Source for HeldSource {
         }
         let count = copy(line, piece);
         self.place = self.place.saturating_add(count);
-        self.taken = self.taken.saturating_add(count as u64);
+        self.taken = taken.saturating_add(count as u64);
         Took::Bytes(count)
     }
 }
