@@ -38,6 +38,7 @@ struct Parted<S: Source, K: Sink, A: Area + Send, B: Area + Send> {
 
 /// Runs the deck to the paper on five threads. Where memory is refused, no process has begun, and the
 /// units come back as they were.
+#[inline(never)]
 pub fn run_batch<
     S: Source + Drop + Send,
     K: Sink + Drop + Send,

@@ -155,7 +155,10 @@ fn each_call_of_an_area_may_fail(rt: HostRuntime) -> Result<(), Fail> {
                 area(alloc, 1, output_reads, output_writes)?,
             )?;
             assert_eq!(rt; ended.status, 3);
-            assert_eq!(rt; ended.input.faults() + ended.output.faults(), 1);
+            assert_eq!(rt;
+                ended.input.faults().saturating_add(ended.output.faults()),
+                1
+            );
             assert!(rt; ended.paper.bytes().is_empty());
         }
     }

@@ -94,6 +94,7 @@ pub fn run_command<
 }
 
 // Runs the deck on five threads.
+#[inline(never)]
 fn batch<
     S: Source + Drop + Send,
     K: Sink + Drop + Send,
@@ -128,6 +129,7 @@ fn batch<
 }
 
 // Gives back what a batch was to run on that memory was refused for.
+#[inline(never)]
 fn refused<S: Source, K: Sink, I: Area, O: Area>(units: Units<S, K, I, O>) -> Done<S, K, I, O>
     ensures cause { result.cause ≡ Some Cause.NoMemory }
     ensures units { (result.deck ≡ units.deck.source) × (result.paper ≡ units.paper.sink) }
@@ -149,6 +151,7 @@ fn refused<S: Source, K: Sink, I: Area, O: Area>(units: Units<S, K, I, O>) -> Do
 }
 
 // Runs the deck on the core, under the schedule of this number, and prints what it counted.
+#[inline(never)]
 fn core<S: Source, K: Sink, I: Area, O: Area>(
     schedule: u32,
     deck: S,
@@ -183,6 +186,7 @@ fn core<S: Source, K: Sink, I: Area, O: Area>(
 }
 
 // Prints what a run counted, behind its reports.
+#[inline(never)]
 fn with_counts<S: Source, K: Sink, I: Area, O: Area>(
     done: Done<S, K, I, O>,
     counts: Counts,
@@ -238,6 +242,7 @@ fn cause_of(printed: Result<(), PrintFault>) -> Option<Cause>
 }
 
 // What a run of the five processes came to.
+#[inline(never)]
 fn came_to<S: Source, K: Sink, I: Area, O: Area>(ran: Ran<S, K, I, O>) -> Done<S, K, I, O>
     ensures decided { result.cause ≡ decides (list_of ran.outcomes) }
     ensures units { (result.deck ≡ ran.deck.source) × (result.paper ≡ ran.paper.sink) }
