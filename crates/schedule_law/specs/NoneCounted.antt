@@ -1,0 +1,24 @@
+-- Devices that counted no failure.
+use Rattle.std.specs.Prelude.{◌≡◌, ◌≤◌, ℕ}
+use Rattle.solo_base.specs.declared.outcome.Outcome.TheVariants as outcome
+use Rattle.solo_base.specs.declared.outcome.Cause.TheVariants as cause
+use Rattle.solo_devices.specs.Count.{Stayed}
+use Rattle.solo_devices.specs.CardUnit.{byte_limit}
+use Rattle.core_law.specs.Ends.{IsProcess}
+use Rattle.core_net.specs.declared.finish.Outcomes.{Outcomes}
+use Rattle.core_net.specs.Causes.{Counts}
+use Rattle.core_net.specs.Ended.{outcome_at}
+use Rattle.core_net.specs.Faults.{Peripherals}
+
+-- No count rose, and no more bytes were taken than the limit allows.
+pub record NoneCounted {S K A B : Type 0} (counts : Counts S K A B) (before now : Peripherals S K A B)
+    : Type 0 where
+  pub read : Stayed (counts.read_faults before.source) (counts.read_faults now.source)
+  pub print : Stayed (counts.print_faults before.sink) (counts.print_faults now.sink)
+  pub input : Stayed (counts.input_faults before.input) (counts.input_faults now.input)
+  pub output : Stayed (counts.output_faults before.output) (counts.output_faults now.output)
+  pub within : counts.taken now.source ≤ byte_limit
+
+-- Memory was refused to none of the five.
+abbrev pub NoneLacked : Outcomes → Type 0
+NoneLacked outcomes = (p : ℕ) → IsProcess p → outcome_at outcomes p ≡ outcome.Fault cause.NoMemory → ⊥

@@ -1,0 +1,100 @@
+// Each law is in a contract.
+
+ghost use Rattle.std.specs.Prelude.{◌≡◌, ℕ, List, Option, Some};
+ghost use Rattle.solo_base.specs.declared.item.Item.{Item};
+ghost use Rattle.solo_base.specs.declared.outcome.Side.{Side};
+ghost use Rattle.page_codec.specs.Items.{AreItems};
+ghost use Rattle.batch_procs.specs.Table.{process};
+ghost use Rattle.network_law.specs.Network.{IsEnabled};
+ghost use Rattle.core_law.specs.Core.{core, CoreState, CoreEvent, Devices};
+ghost use Rattle.core_law.specs.Ends.{IsSmooth};
+ghost use Rattle.core_law.specs.Holds.{AreTold};
+ghost use Rattle.core_law.specs.Opening.{Spools, AreInBounds, opened, IsReached};
+ghost use Rattle.core_net.specs.declared.counts.Counts.{Counts};
+ghost use Rattle.core_net.specs.declared.finish.Outcomes.{Outcomes};
+ghost use Rattle.core_net.specs.declared.finish.Ran.{Ran};
+ghost use Rattle.core_net.specs.declared.net.Net.{Net};
+ghost use Rattle.core_net.specs.declared.rules.Rule.{Rule};
+ghost use Rattle.core_net.specs.declared.rules.Rule.TheVariants as rule;
+ghost use Rattle.core_net.specs.Causes.{counting};
+ghost use Rattle.core_net.specs.Ended.{EndsSo, all_done};
+ghost use Rattle.core_net.specs.Faults.{Peripherals, AreCounted, FaultsAreCounted, devices_left};
+ghost use Rattle.core_net.specs.Net.{NetStands, the_keeps};
+ghost use Rattle.core_net.specs.Runs.{RunsBy};
+ghost use Rattle.core_net.specs.Shared.{telling};
+ghost use Rattle.core_net.specs.WholeRuns.{RunsToEnd};
+ghost use Rattle.schedule_law.specs.NoneCounted.{NoneCounted, NoneLacked};
+ghost use Rattle.schedule_law.specs.Undisturbed.{IsUndisturbed, TheRun, AreItsCounts};
+
+use solo_devices::{Area, Sink, Source};
+
+/// In each state that is reached over told devices a process has at most one event in which no device fails
+/// and no memory is refused. Nothing is done here: the contract is the law.
+pub fn one_event()
+    ensures { (spools : Spools) (deck : Option (List Item)) (paper : Option (List ℕ)) (s : CoreState)
+        (items : List Item) (event other : CoreEvent) → IsReached spools deck paper s → AreTold spools
+        → deck ≡ Some items → IsEnabled (core process) s event → IsEnabled (core process) s other
+        → IsSmooth event.entry → IsSmooth other.entry → other.process ≡ event.process → other ≡ event }
+{}
+
+/// Over told devices there is, under each rule, one run to the end in which no device fails and no memory is
+/// refused: some run, and no other. So its counts are one. Nothing is done here: the contract is the law.
+pub fn one_run()
+    ensures some { (spools : Spools) (deck : Option (List Item)) (paper : Option (List ℕ)) (s : CoreState)
+        (items : List Item) (rule : Rule) → IsReached spools deck paper s → AreTold spools
+        → deck ≡ Some items → AreItems items → TheRun rule s }
+    ensures only { (spools : Spools) (deck : Option (List Item)) (paper : Option (List ℕ)) (s : CoreState)
+        (items : List Item) (rule : Rule) (events others : List CoreEvent) → IsReached spools deck paper s
+        → AreTold spools → deck ≡ Some items → IsUndisturbed rule s events → IsUndisturbed rule s others
+        → others ≡ events }
+    ensures counts { (s : CoreState) (rule : Rule) (some others : Counts) → AreItsCounts rule s some
+        → AreItsCounts rule s others → others ≡ some }
+{}
+
+/// What `run_core` answers over told devices are the counts of the one run of its rule from the opening. That
+/// no device failed and no memory was refused is seen from the outcomes, or from the counts of the devices.
+/// Nothing is done here: the contract is the law.
+pub fn counts_of_a_whole_run<S: Source, K: Sink, A: Area, B: Area>()
+    // where all five are done
+    ensures done { (spools : Spools) (deck : Option (List Item)) (paper : Option (List ℕ)) (items : List Item)
+        (rule : Rule) (counts : Counts) (outcomes : Outcomes) (stops : List (Option Side)) (devices : Devices)
+        → AreInBounds spools → AreTold spools → deck ≡ Some items
+        → RunsToEnd rule (opened spools deck paper) counts outcomes stops devices → outcomes ≡ all_done
+        → AreItsCounts rule (opened spools deck paper) counts }
+    // where no count rose and memory was refused to none
+    ensures uncounted { (spools : Spools) (deck : Option (List Item)) (paper : Option (List ℕ))
+        (items : List Item) (rule : Rule) (counts : Counts) (outcomes : Outcomes) (stops : List (Option Side))
+        (devices : Devices) (before now : Peripherals S K A B)
+        → AreInBounds spools → AreTold spools → deck ≡ Some items → AreItems items
+        → RunsToEnd rule (opened spools deck paper) counts outcomes stops devices
+        → AreCounted (counting S.faults S.taken K.faults A.faults B.faults) before now outcomes
+        → NoneCounted (counting S.faults S.taken K.faults A.faults B.faults) before now
+        → NoneLacked outcomes → AreItsCounts rule (opened spools deck paper) counts }
+{}
+
+/// What `run_numbered` answers over told devices are the counts of the one run of the schedule of its number.
+/// That no device failed and no memory was refused is seen from what `finish` answers behind it. Nothing is
+/// done here: the contract is the law.
+pub fn counts_of_a_schedule<S: Source, K: Sink, A: Area, B: Area>()
+    // where all five are done
+    ensures done { (spools : Spools) (deck : Option (List Item)) (paper : Option (List ℕ)) (s : CoreState)
+        (items : List Item) (number : ℕ) (counts : Counts) (net : Net S K A B) (ran : Ran S K A B)
+        → IsReached spools deck paper s → AreTold spools → deck ≡ Some items
+        → RunsBy the_keeps (telling S.left S.taken K.given A.pages B.pages) (rule.Numbered number) net s
+        counts
+        → ((t : CoreState) → NetStands the_keeps (telling S.left S.taken K.given A.pages B.pages) net t
+        → EndsSo t ran.outcomes ran.stopped_by)
+        → ran.outcomes ≡ all_done → AreItsCounts (rule.Numbered number) s counts }
+    // where no count rose and memory was refused to none
+    ensures uncounted { (spools : Spools) (deck : Option (List Item)) (paper : Option (List ℕ))
+        (s : CoreState) (items : List Item) (number : ℕ) (counts : Counts) (net : Net S K A B)
+        (ran : Ran S K A B) (before : Peripherals S K A B)
+        → IsReached spools deck paper s → AreTold spools → deck ≡ Some items → AreItems items
+        → RunsBy the_keeps (telling S.left S.taken K.given A.pages B.pages) (rule.Numbered number) net s
+        counts
+        → ((t : CoreState) → NetStands the_keeps (telling S.left S.taken K.given A.pages B.pages) net t
+        → EndsSo t ran.outcomes ran.stopped_by)
+        → FaultsAreCounted (counting S.faults S.taken K.faults A.faults B.faults) before ran
+        → NoneCounted (counting S.faults S.taken K.faults A.faults B.faults) before (devices_left ran)
+        → NoneLacked ran.outcomes → AreItsCounts (rule.Numbered number) s counts }
+{}
