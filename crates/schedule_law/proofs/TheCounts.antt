@@ -5,20 +5,24 @@ use Rattle.solo_base.specs.declared.outcome.Side.{Side}
 use Rattle.solo_base.specs.declared.outcome.Outcome.TheVariants as outcome
 use Rattle.page_codec.specs.Items.{AreItems}
 use Rattle.batch_procs.specs.Table.{process}
-use Rattle.network_law.specs.Network.{AreEnabled, run}
-use Rattle.core_law.specs.Core.{core, CoreState, CoreEvent}
+use Rattle.network_law.specs.Network.{run}
+use Rattle.core_law.specs.Core.{core, CoreState, Devices}
 use Rattle.core_law.specs.Ends.{AllDone}
 use Rattle.core_law.specs.Holds.{AreTold}
 use Rattle.core_law.specs.Opening.{Spools, AreInBounds, opened, IsReached}
 use Rattle.core_law.proofs.Reached.{Centre, centre-run, reached-centre}
 use Rattle.core_net.specs.declared.counts.Counts.{Counts}
 use Rattle.core_net.specs.declared.finish.Outcomes.{Outcomes}
+use Rattle.core_net.specs.declared.net.Net.{Net}
 use Rattle.core_net.specs.declared.rules.Rule.{Rule}
 use Rattle.core_net.specs.Causes as device
 use Rattle.core_net.specs.Counting.{counts_of}
 use Rattle.core_net.specs.Ended.{EndsSo, all_done}
 use Rattle.core_net.specs.Faults.{Peripherals, AreCounted}
-use Rattle.core_net.specs.Runs.{AreByRule}
+use Rattle.core_net.specs.Net.{Keeps, NetStands}
+use Rattle.core_net.specs.Runs.{RunsBy}
+use Rattle.core_net.specs.Shared.{Tells}
+use Rattle.core_net.specs.WholeRuns.{RunsToEnd}
 use Rattle.schedule_law.specs.NoneCounted.{NoneCounted, NoneLacked}
 use Rattle.schedule_law.specs.Undisturbed.{IsUndisturbed, AreItsCounts}
 use Rattle.schedule_law.proofs.AllDone.{done-so, all-done}
@@ -30,33 +34,56 @@ pub opening-reached : (spools : Spools) (deck : Option (List Item)) (paper : Opt
     → IsReached spools deck paper (opened spools deck paper)
 opening-reached spools deck paper bounds = record { bounds = bounds; reached = record { events = []; enabled = tt; leads = refl } }
 
-module _ (spools : Spools) (deck : Option (List Item)) (paper : Option (List ℕ)) (s : CoreState) (items : List Item) (rule : Rule) (counts : Counts)
-    (outcomes : Outcomes) (stops : List (Option Side)) (r : IsReached spools deck paper s) (are : AreTold spools) (deck_is : deck ≡ Some items)
-    (events : List CoreEvent) (enabled : AreEnabled (core process) s events) (by_rule : AreByRule rule s events) (counts_are : counts ≡ counts_of s events)
-    (ends : EndsSo (run (core process) s events) outcomes stops) where
-  first : Centre (opened spools deck paper) s
+module _ {spools : Spools} {deck : Option (List Item)} {paper : Option (List ℕ)} {s : CoreState} {items : List Item} {rule : Rule} {counts : Counts}
+    {outcomes : Outcomes} {stops : List (Option Side)} {devices : Devices} (r : IsReached spools deck paper s) (are : AreTold spools)
+    (deck_is : deck ≡ Some items) (ran : RunsToEnd rule s counts outcomes stops devices) where
+  abbrev opening : CoreState
+  opening = opened spools deck paper
+
+  abbrev end : CoreState
+  end = run (core process) s ran.events
+
+  first : Centre opening s
   first = reached-centre spools deck paper s r
 
-  last : Centre (opened spools deck paper) (run (core process) s events)
-  last = centre-run (opened spools deck paper) s events enabled first
+  last : Centre opening end
+  last = centre-run opening s ran.events ran.enabled first
 
-  of-done : AllDone (run (core process) s events) → AreItsCounts rule s counts
+  of-done : AllDone end → AreItsCounts rule s counts
   of-done done =
-      let smooth = done-smooth (opened spools deck paper) s events enabled last done in
-      let is : IsUndisturbed rule s events = record { enabled = enabled; by_rule = by_rule; smooth = smooth; ends = λ p one. (outcome.Done, done p one) } in
+      let smooth = done-smooth opening s ran.events ran.enabled last done in
+      let is : IsUndisturbed rule s ran.events
+      = record { enabled = ran.enabled; by_rule = ran.by_rule; smooth = smooth; ends = λ p one. (outcome.Done, done p one) } in
       record {
-        the_run = record { events = events; is = is; only = λ others too. one-run spools deck paper items are deck_is rule s events others first is too };
-        counts_are = counts_are;
+        the_run = record {
+          events = ran.events;
+          is = is;
+          only = λ others too. one-run spools deck paper items are deck_is rule s ran.events others first is too;
+        };
+        counts_are = ran.counts_are;
       }
 
   pub where-done : outcomes ≡ all_done → AreItsCounts rule s counts
-  where-done all = of-done (done-so (run (core process) s events) outcomes stops ends all)
+  where-done all = of-done (done-so end outcomes stops ran.ends all)
 
-  pub where-none_counted : AreItems items → {S K A B : Type 0} (counting : device.Counts S K A B) (before now : Peripherals S K A B)
+  pub where-none_counted : AreItems items → {S K A B : Type 0} {counting : device.Counts S K A B} {before now : Peripherals S K A B}
       → AreCounted counting before now outcomes → NoneCounted counting before now → NoneLacked outcomes → AreItsCounts rule s counts
-  where-none_counted valid counting before now counted none lacked =
-      of-done (all-done spools deck paper items are deck_is valid (run (core process) s events) last counting before now outcomes stops ends counted none
-      lacked)
+  where-none_counted valid {counting = counting} {before = before} {now = now} counted none lacked =
+      of-done (all-done spools deck paper items are deck_is valid end last counting before now outcomes stops ran.ends counted none lacked)
+
+-- a run of a network whose end is told, without the network
+pub to-end : {S K A B : Type 0} {keeps : Keeps} {tells : Tells S K A B} {rule : Rule} {net : Net S K A B} {s : CoreState} {counts : Counts}
+    {outcomes : Outcomes} {stops : List (Option Side)} → (by : RunsBy keeps tells rule net s counts)
+    → ((t : CoreState) → NetStands keeps tells net t → EndsSo t outcomes stops)
+    → RunsToEnd rule s counts outcomes stops (run (core process) s by.events).devices
+to-end by ends = record {
+  events = by.events;
+  enabled = by.enabled;
+  by_rule = by.by_rule;
+  counts_are = by.counts_are;
+  ends = ends (run (core process) _ by.events) by.stands;
+  devices_are = refl;
+}
 
 -- The one run has one count.
 pub counts-are_one : (s : CoreState) (rule : Rule) (some others : Counts) → AreItsCounts rule s some → AreItsCounts rule s others → others ≡ some

@@ -1,0 +1,33 @@
+// A run by its schedule over memory. The counts are those of `bench/simulate`.
+use crate::run_schedule;
+use core_net::{Counts, Outcomes};
+use solo_base::Outcome;
+use solo_devices::{MemSink, MemSource, SureArea};
+use std::test::*;
+
+const DONE: Outcomes = Outcomes {
+    card: Outcome::Done,
+    input: Outcome::Done,
+    job: Outcome::Done,
+    output: Outcome::Done,
+    printer: Outcome::Done,
+};
+
+#[test]
+fn a_listing_is_counted(rt: HostRuntime) -> Result<(), Fail> {
+    let alloc = rt.alloc();
+    let deck = "#LIST A\nHELLO\n#END\n".as_bytes().to_vec(alloc)?;
+    let source = MemSource::new(deck, 7, Vec::new(alloc));
+    let input = SureArea::new(alloc, 256).ok().expect(&rt, "ample memory");
+    let output = SureArea::new(alloc, 256).ok().expect(&rt, "ample memory");
+    let paper = MemSink::new(alloc, Vec::new(alloc));
+    let (ran, counts) = run_schedule(source, input, output, paper, 7);
+    assert_eq!(rt; ran.outcomes, DONE);
+    let wanted = Counts {
+        events: 54,
+        delays: 9,
+        grants: 4,
+    };
+    assert_eq!(rt; counts, wanted);
+    Ok(())
+}
