@@ -15,9 +15,9 @@ ghost use Rattle.schedule_law.specs.Undisturbed.{AreItsCounts};
 use core_net::{Counts, Net, Ran};
 use solo_devices::{Area, Sink, Source};
 
-/// Runs a deck of which nothing was read to the paper under the schedule of a number, over an area of 1 to 256
-/// pages for each spool. Over told devices the answer has the counts of the one run of this schedule, where no
-/// device failed and no memory was refused.
+/// Runs a deck of which nothing was read to the paper under the schedule of a number, over an area of 1 to
+/// 256 pages for each spool. Over told devices the answer has the counts of the one run of this schedule,
+/// where no device failed and no memory was refused.
 pub fn run_schedule<S: Source, K: Sink, A: Area, B: Area>(
     source: S,
     input: A,
@@ -39,7 +39,7 @@ pub fn run_schedule<S: Source, K: Sink, A: Area, B: Area>(
         (items_ahead (S.left source) [])
         (K.given sink)) result.1 }
 
-    // or from the devices, none of which counted a failure, and from no process that ended for want of memory.
+    // or from the devices, none of which counted a failure, where no process ended for want of memory.
     ensures uncounted { (items : List Item) → items_ahead (S.left source) [] ≡ Some items → AreItems items →
         AreTold (spools_over (A.size input) (A.pages input) (B.size output) (B.pages output)) →
         NoneCounted (counting S.faults S.taken K.faults A.faults B.faults)
