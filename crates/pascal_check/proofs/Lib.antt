@@ -1,3 +1,16 @@
+pub mod Expressed
+pub mod Faulty
+pub mod Firsts
 pub mod Framed
 pub mod FramesKept
+pub mod Headings
+pub mod JudgedStatements
+pub mod Judging
+pub mod Named
+pub mod ParameterTurns
+pub mod Plain
+pub mod SeenParts
+pub mod Turns
 pub mod Unbroken
+pub mod Wants
+pub mod Wholes

@@ -1,2 +1,7 @@
+pub mod Listed
+pub mod Entered
+pub mod Faults
 pub mod Frames
+pub mod Holds
+pub mod Parts
 pub mod Has
