@@ -5,10 +5,10 @@ mod Order
 mod Edges
 mod Rows
 mod InBatch
-mod Steady
+pub mod Steady
 mod SteadyCalls
 mod SteadyExpressions
 mod SteadyStatements
-mod Answering
+pub mod Answering
 mod BatchReplies
 mod CardsRead

@@ -1,0 +1,9 @@
+mod Inputs
+mod Printed
+mod Bytes
+mod Onward
+mod Steps
+mod Fitting
+mod Courses
+mod Source
+mod MoreCards

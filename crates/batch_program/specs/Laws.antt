@@ -1,0 +1,77 @@
+-- The laws of a program that is under way in the batch.
+use Rattle.std.specs.Prelude.{◌≡◌, ℕ, Bool, true, false, List, [], ◌∷◌, ◌++◌}
+use Rattle.solo_base.specs.declared.outcome.ProgResult.{ProgResult}
+use Rattle.solo_base.specs.declared.system_call.SysReply.{SysReply}
+use Rattle.solo_base.specs.LineList.{AreLines}
+use Rattle.solo_base.specs.RunOutcome.{RunOutcome}
+use Rattle.solo_base.specs.Text.{text}
+use Rattle.pascal_tree.specs.Program.{Program}
+use Rattle.pascal_mean.specs.Meaning.{meaning, meaning_with}
+use Rattle.pascal_mean.specs.MoreReplies.{GoesOn, FitTheMeaning}
+use Rattle.pascal_mean.specs.Batch.{Ending, ending_of, ending_in_batch}
+use Rattle.stack_code.specs.CodeLists.{CodeLists, IsCode}
+use Rattle.stack_code.specs.Rules.{IsGood}
+use Rattle.stack_machine.specs.Run.{Runs}
+use Rattle.batch_program.specs.Input.{answers_so_far}
+use Rattle.batch_program.specs.Outcome.{Work, ComesTo, lines_of}
+use Rattle.batch_program.specs.Progress.{Progress}
+use Rattle.batch_program.specs.Told.{IsAt}
+
+-- ---- What comes of it
+
+-- with cards that are lines, good code comes to something
+abbrev pub SomeOutcome : Type 0
+SomeOutcome =
+    (w : Work) → IsCode w.code → IsGood w.code → AreLines w.cards → (outcome : RunOutcome) × ComesTo w outcome
+
+-- and to one thing only
+abbrev pub OneOutcome : Type 0
+OneOutcome = (w : Work) (outcome other : RunOutcome) → ComesTo w outcome → ComesTo w other → outcome ≡ other
+
+-- ---- More cards
+
+-- some lines that go on
+abbrev pub IsPrefix : List (List ℕ) → List (List ℕ) → Type 0
+IsPrefix first all = (rest : List (List ℕ)) × (all ≡ first ++ rest)
+
+-- the same program with more cards, or with no further one
+abbrev pub with_more : Work → List (List ℕ) → Bool → Work
+with_more w more closed = record w { cards = w.cards ++ more; closed = closed }
+
+-- a run that ended is the same with more cards, and one that waits makes the same calls first
+abbrev pub MoreCardsGoOn : Type 0
+MoreCardsGoOn =
+    (w : Work) (more : List (List ℕ)) (closed : Bool) (outcome later : RunOutcome) → w.closed ≡ false
+    → ComesTo w outcome → ComesTo (with_more w more closed) later → GoesOn outcome later
+
+-- and its lines are the first of those that come then
+abbrev pub MoreCardsMoreLines : Type 0
+MoreCardsMoreLines =
+    (w : Work) (more : List (List ℕ)) (closed : Bool) (outcome later : RunOutcome) → w.closed ≡ false
+    → ComesTo w outcome → ComesTo (with_more w more closed) later → IsPrefix (lines_of outcome) (lines_of later)
+
+-- the lines that were given are the first of what the program comes to
+abbrev pub GivenLinesAreFirst : Type 0
+GivenLinesAreFirst =
+    (p : Progress) (w : Work) (given : List (List ℕ)) (outcome : RunOutcome) → IsAt p w given → ComesTo w outcome
+    → IsPrefix given (lines_of outcome)
+
+-- ---- By its source
+
+-- the code does what the program means, for each limit and whatever replies fit it
+abbrev pub MeansItsSource : CodeLists → Program → Type 0
+MeansItsSource c p =
+    (limit : ℕ) (replies : List SysReply) → FitTheMeaning p limit replies
+    → Runs c limit replies (meaning p limit replies)
+
+-- it comes to what its source means with the replies of the same cards
+abbrev pub ComesToItsMeaning : Type 0
+ComesToItsMeaning =
+    (w : Work) (p : Program) (outcome : RunOutcome) → MeansItsSource w.code p → AreLines w.cards
+    → ComesTo w outcome → outcome ≡ meaning_with (answers_so_far (text w.cards) w.closed) p w.limit
+
+-- and with all cards, to the ending in the batch: its result, its line, its ticks and its whole output
+abbrev pub ComesToItsEnding : Type 0
+ComesToItsEnding =
+    (w : Work) (p : Program) (outcome : RunOutcome) → MeansItsSource w.code p → AreLines w.cards
+    → w.closed ≡ true → ComesTo w outcome → ending_of outcome ≡ ending_in_batch p w.limit w.cards

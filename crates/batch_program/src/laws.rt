@@ -1,0 +1,24 @@
+// The laws of programs under way. Nothing is done here: the contracts are the laws.
+
+ghost use Rattle.batch_program.specs.Laws.{SomeOutcome, OneOutcome, MoreCardsGoOn, MoreCardsMoreLines, GivenLinesAreFirst, ComesToItsMeaning, ComesToItsEnding};
+
+/// With its cards so far a program of good code comes to one thing: it has ended, or it waits for a card.
+pub fn each_program_comes_to_one_thing()
+    ensures some { SomeOutcome }
+    ensures one { OneOutcome }
+{}
+
+/// More cards only go on with a run: the lines that are complete with some cards are the first of those with
+/// more. What was given is the first of what the program comes to.
+pub fn more_cards_only_add_lines()
+    ensures goes_on { MoreCardsGoOn }
+    ensures lines { MoreCardsMoreLines }
+    ensures given { GivenLinesAreFirst }
+{}
+
+/// Code that does what its source means comes to what the source means with the same cards; with all of them,
+/// to its ending in the batch.
+pub fn code_comes_to_what_its_source_means()
+    ensures meaning { ComesToItsMeaning }
+    ensures ending { ComesToItsEnding }
+{}

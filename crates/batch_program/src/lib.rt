@@ -1,0 +1,19 @@
+//! A compiled program that runs in the batch, card by card and line by line.
+#![tactic(auto)]
+
+mod card_input;
+mod laws;
+mod printing;
+mod program;
+mod told;
+
+pub use laws::{
+    code_comes_to_what_its_source_means, each_program_comes_to_one_thing, more_cards_only_add_lines,
+};
+pub use program::BatchProgram;
+pub use told::Told;
+
+#[cfg(test)]
+mod test_code;
+#[cfg(test)]
+mod tests;
