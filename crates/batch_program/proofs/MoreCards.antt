@@ -26,7 +26,7 @@ more_cards w more closed outcome later is_open first second =
     runs_go_on w.code w.limit (text w.cards) w.closed (text (w.cards ++ more)) closed outcome later (inr (text more, is_open, text_append w.cards more)) first second
 
 -- a run that goes on only adds lines
-lines_go_on : (outcome later : RunOutcome) → GoesOn outcome later → IsPrefix (lines_of outcome) (lines_of later)
+pub lines_go_on : (outcome later : RunOutcome) → GoesOn outcome later → IsPrefix (lines_of outcome) (lines_of later)
 lines_go_on (Ends r line ticks made) later is = ([], ap lines_of is ∙ sym (append-nil (output_of made)))
 lines_go_on (Waits made) later (rest, is) = lines_first later made rest is
 

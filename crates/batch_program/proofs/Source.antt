@@ -1,5 +1,5 @@
 -- Code that does what its source means comes to what the source means with the same cards.
-use Rattle.std.proofs.Common.{◌≡◌, ℕ, zero, suc, ◌+◌, ◌-◌, ◌≤◌, ◌<◌, Bool, true, ◌⊎◌, inl, inr, Option, Some, None, List, [], ◌∷◌, ◌++◌, length, refl, sym, ◌∙◌, ap, subst, append_assoc, arith}
+use Rattle.std.proofs.Common.{◌≡◌, ℕ, zero, suc, ◌+◌, ◌-◌, ◌≤◌, ◌<◌, Bool, true, false, ◌⊎◌, inl, inr, Option, Some, None, List, [], ◌∷◌, ◌++◌, length, refl, sym, ◌∙◌, ap, subst, append_assoc, arith}
 use Rattle.std.specs.Prelude.{slice_get}
 use Rattle.std.proofs.lemmas.List.{append-nil, length-append, nil_from_length, same_from_push}
 use Rattle.solo_base.specs.declared.outcome.ProgResult.{ProgResult}
@@ -19,9 +19,9 @@ use Rattle.pascal_mean.specs.Batch.{batch_reply, batch_replies, input_after, End
 use Rattle.pascal_mean.proofs.Steady.{IsAnswered, Follows, Agree, AgreeBefore, Extends, Begins}
 use Rattle.pascal_mean.proofs.Answering.{program_steady, more_replies, each_call, one_ending}
 use Rattle.batch_program.specs.Input.{reply_so_far, AreAnswered, input_behind, if_answered, answers_so_far}
-use Rattle.batch_program.specs.Outcome.{RunsOn}
+use Rattle.batch_program.specs.Outcome.{RunsOn, meaning_so_far, EndsAs}
 use Rattle.batch_program.specs.Laws.{MeansItsSource}
-use Rattle.batch_program.proofs.Inputs.{reply_is, reply_closed}
+use Rattle.batch_program.proofs.Inputs.{reply_is, reply_closed, all_answered, reply_kept, text_append}
 use Rattle.batch_program.proofs.Bytes.{AreCodes, fits_bytes, after_is_bytes}
 use Rattle.batch_program.proofs.Courses.{one_outcome}
 
@@ -82,6 +82,8 @@ pub record MeansOn (p : Program) (limit : ℕ) (input : List ℕ) (closed : Bool
   pub means : meaning p limit (batch_replies input made) ≡ outcome
   pub calls : calls_of outcome ≡ made ++ rest
   pub all : (r : ProgResult) (line ticks : ℕ) (calls : List SysCall) → outcome ≡ Ends r line ticks calls → made ≡ calls
+  pub last : (calls : List SysCall) → outcome ≡ Waits calls → (before : List SysCall) × (call : SysCall) × (calls ≡ before ++ call ∷ [])
+  pub none : (calls : List SysCall) → outcome ≡ Waits calls → answers_so_far input closed calls ≡ None
   pub comes : (c : CodeLists) → Runs c limit (batch_replies input made) outcome → RunsOn c limit input closed outcome
 
 ends_on : (p : Program) (limit : ℕ) (input : List ℕ) (closed : Bool) (r : ProgResult) (line ticks : ℕ) (made : List SysCall) → AreAnswered input closed made
@@ -93,6 +95,8 @@ ends_on p limit input closed r line ticks made all means =
       means = means;
       calls = sym (append-nil made);
       all = λ r' line' ticks' calls same. cc;
+      last = λ calls same. absurd cc;
+      none = λ calls same. absurd cc;
       comes = λ c runs. (all, runs);
     }
 
@@ -118,6 +122,8 @@ waits_on p limit input closed calls made call is all none rest begins =
       means = waits_so (meaning p limit (batch_replies input made)) (batch_replies input made) calls rest (each_call p limit (batch_replies input made)) one begins;
       calls = is;
       all = λ r line ticks others same. absurd cc;
+      last = λ others same. let alike : others ≡ calls = cc in (made, call, alike ∙ is);
+      none = λ others same. let alike : calls ≡ others = cc in subst (λ l. answers_so_far input closed l ≡ None) alike none;
       comes = λ c runs. (made, call, is, all, nothing, runs);
     }
 
@@ -182,18 +188,82 @@ comes_to_meaning c p limit input closed outcome means bytes runs =
     let so : Runs c limit (batch_replies input m.made) meant = subst (Runs c limit (batch_replies input m.made)) m.means (means limit (batch_replies input m.made) (replies_fit p limit input closed meant bytes m)) in
     one_outcome c limit input closed outcome meant runs (m.comes c so)
 
-comes_to_end : (p : Program) (limit : ℕ) (cards : List (List ℕ)) (c : CodeLists) (outcome : RunOutcome) → RunsOn c limit (text cards) true outcome
-    → (m : MeansOn p limit (text cards) true outcome) → ending_of outcome ≡ ending_in_batch p limit cards
-comes_to_end p limit cards c (Ends r line ticks calls) runs m =
+-- once no further card comes, each call has an answer
+never_none : (input : List ℕ) (made : List SysCall) (call : SysCall) → answers_so_far input true (made ++ call ∷ []) ≡ None → ⊥
+never_none input made call none =
+    let left = input_behind input made in
+    let some : None ≡ Some (batch_reply left call) = sym none ∙ answer_behind input true made call (all_answered input made) ∙ reply_closed left call in
+    cc
+
+pub means_its_end : (p : Program) (limit : ℕ) (cards : List (List ℕ)) (outcome : RunOutcome) → MeansOn p limit (text cards) true outcome → EndsAs outcome (ending_in_batch p limit cards)
+means_its_end p limit cards (Ends r line ticks calls) m =
     let same = m.all r line ticks calls refl in
     one_ending p limit cards (ending_of (Ends r line ticks calls))
     (record { calls = calls; means = ap (λ l. meaning p limit (batch_replies (text cards) l)) (sym same) ∙ m.means; prints = refl })
-comes_to_end p limit cards c (Waits calls) (before, last, is, all, none, runs) m =
-    let never : None ≡ Some (batch_reply (input_behind (text cards) before) last) = sym none ∙ reply_closed (input_behind (text cards) before) last in
-    absurd cc
+means_its_end p limit cards (Waits calls) m =
+    let last = m.last calls refl in
+    never_none (text cards) last.0 last.1 (subst (λ l. answers_so_far (text cards) true l ≡ None) last.2 (m.none calls refl))
 
 pub comes_to_ending : (c : CodeLists) (p : Program) (limit : ℕ) (cards : List (List ℕ)) (outcome : RunOutcome) → MeansItsSource c p → AreCodes (text cards)
-    → RunsOn c limit (text cards) true outcome → ending_of outcome ≡ ending_in_batch p limit cards
+    → RunsOn c limit (text cards) true outcome → EndsAs outcome (ending_in_batch p limit cards)
 comes_to_ending c p limit cards outcome means bytes runs =
     let same = comes_to_meaning c p limit (text cards) true outcome means bytes runs in
-    comes_to_end p limit cards c outcome runs (subst (MeansOn p limit (text cards) true) (sym same) (means_on p limit (text cards) true))
+    means_its_end p limit cards outcome (subst (MeansOn p limit (text cards) true) (sym same) (means_on p limit (text cards) true))
+
+pub meaning_ends : (p : Program) (limit : ℕ) (cards : List (List ℕ)) → EndsAs (meaning_so_far p limit cards true) (ending_in_batch p limit cards)
+meaning_ends p limit cards = means_its_end p limit cards (meaning_so_far p limit cards true) (means_on p limit (text cards) true)
+
+-- ---- More cards
+
+-- an answered call in front
+abbrev answers_behind : List ℕ → Bool → SysCall → List SysCall → Option SysReply
+answers_behind input closed first calls = if_answered (reply_so_far input closed first) (answers_so_far (input_after input first) closed calls)
+
+front_answered : (input : List ℕ) (closed : Bool) (first : SysCall) (calls : List SysCall) → reply_so_far input closed first ≡ Some (batch_reply input first)
+    → answers_behind input closed first calls ≡ answers_so_far (input_after input first) closed calls
+front_answered input closed first calls is = ap (λ o. if_answered o (answers_so_far (input_after input first) closed calls)) is
+
+more_answers : (input more : List ℕ) (closed : Bool) (before after : List SysCall) (call : SysCall) → AreAnswered input false (before ++ call ∷ after)
+    → answers_so_far input false (before ++ call ∷ []) ≡ answers_so_far (input ++ more) closed (before ++ call ∷ [])
+more_answers input more closed [] after call all =
+    let kept = reply_kept input more closed call all.0 in
+    all.0 ∙ ap (λ r. Some r) (sym kept.reply) ∙ sym kept.answered
+more_answers input more closed (first ∷ []) after call all =
+    let kept = reply_kept input more closed first all.0 in
+    let calls : List SysCall = call ∷ [] in
+    front_answered input false first calls all.0 ∙ more_answers (input_after input first) more closed [] after call all.1
+    ∙ ap (λ i. answers_so_far i closed calls) (sym kept.after) ∙ sym (front_answered (input ++ more) closed first calls kept.answered)
+more_answers input more closed (first ∷ next ∷ before) after call all =
+    let kept = reply_kept input more closed first all.0 in
+    let calls : List SysCall = (next ∷ before) ++ call ∷ [] in
+    front_answered input false first calls all.0 ∙ more_answers (input_after input first) more closed (next ∷ before) after call all.1
+    ∙ ap (λ i. answers_so_far i closed calls) (sym kept.after) ∙ sym (front_answered (input ++ more) closed first calls kept.answered)
+
+agree_with_more : (input more : List ℕ) (closed : Bool) (made : List SysCall) → AreAnswered input false made
+    → Agree (answers_so_far input false) (answers_so_far (input ++ more) closed) made
+agree_with_more input more closed made all before after call is = more_answers input more closed before after call (subst (AreAnswered input false) is all)
+
+course_goes_on : (input more : List ℕ) (closed : Bool) (k other : Course (Unit {0})) → Follows (answers_so_far input false) opening k
+    → Extends (answers_so_far input false) (answers_so_far (input ++ more) closed) k other → GoesOn (outcome_of k) (outcome_of other)
+course_goes_on input more closed (Gives v then_is) other follows extends =
+    ap outcome_of (extends (agree_with_more input more closed then_is.made (answered_so_far input false then_is.made (follows.answered (inl refl)))))
+course_goes_on input more closed (Over (Ends r line ticks made)) other follows extends =
+    ap outcome_of (extends (agree_with_more input more closed made (answered_so_far input false made (follows.answered (inl refl)))))
+course_goes_on input more closed (Over (Waits calls)) other follows extends =
+    begun_by calls other (extends (λ before call is.
+    subst (Agree (answers_so_far input false) (answers_so_far (input ++ more) closed)) (same_from_push follows.rest before follows.call call (sym follows.made ∙ is)).0
+    (agree_with_more input more closed follows.rest (answered_so_far input false follows.rest (follows.answered (inl refl))))))
+
+with_more_input : (p : Program) (limit : ℕ) (input more : List ℕ) (closed : Bool)
+    → GoesOn (meaning_with (answers_so_far input false) p limit) (meaning_with (answers_so_far (input ++ more) closed) p limit)
+unfolding meaning_with
+with_more_input p limit input more closed =
+    let a = answers_so_far input false in
+    let b = answers_so_far (input ++ more) closed in
+    let steady = program_steady a b limit (all_declared p) in
+    course_goes_on input more closed (program_part a limit (all_declared p) opening) (program_part b limit (all_declared p) opening) (steady.follows opening) (steady.extends opening)
+
+pub meaning_goes_on : (p : Program) (limit : ℕ) (cards more : List (List ℕ)) (closed : Bool) → GoesOn (meaning_so_far p limit cards false) (meaning_so_far p limit (cards ++ more) closed)
+meaning_goes_on p limit cards more closed =
+    subst (λ i. GoesOn (meaning_so_far p limit cards false) (meaning_with (answers_so_far i closed) p limit)) (sym (text_append cards more))
+    (with_more_input p limit (text cards) (text more) closed)

@@ -17,12 +17,13 @@ use Rattle.stack_machine.specs.declared.state.Finish.{Finish}
 use Rattle.stack_machine.specs.declared.state.State.{State}
 use Rattle.stack_machine.specs.State.{Asks}
 use Rattle.stack_machine.specs.Machine.{next, start_state, answered}
-use Rattle.stack_machine.specs.Run.{LeadsToCall, Pauses, Runs}
+use Rattle.stack_machine.specs.Run.{Moves, LeadsToCall, Pauses, Runs}
 use Rattle.stack_machine.specs.Standing.{Standing, StandsWell}
 use Rattle.stack_machine.specs.History.{StandsFor, outcome_at}
 use Rattle.stack_machine.proofs.Onward.{has_ended}
 use Rattle.stack_machine.proofs.Pauses.{no_call_at_end}
-use Rattle.stack_machine.proofs.Reply.{left_by, left_until_end}
+use Rattle.stack_machine.proofs.Reply.{asks_running, goes_running, left_by, left_until_end}
+use Rattle.stack_machine.proofs.Measure.{goes_less}
 use Rattle.stack_machine.proofs.Weights.{left_to_run}
 use Rattle.stack_machine.proofs.Rounds.{round_less}
 use Rattle.pascal_mean.specs.Batch.{batch_reply, batch_replies, input_after, characters_of, Printed, last_line, output_of}
@@ -31,7 +32,7 @@ use Rattle.batch_program.specs.Outcome.{Work, RunsOn, ComesTo, printed_by, lines
 use Rattle.batch_program.specs.Printing.{completed, Prints}
 use Rattle.batch_program.specs.Progress.{Progress, NeedsCard, most_lines_left}
 use Rattle.batch_program.specs.Told.{IsTold, Tells, line_in, HasGiven, GoesOn, IsOver, IsAt}
-use Rattle.batch_program.specs.Steps.{last_told, told_of, TellsIf, lines_in_told, IsLessIf}
+use Rattle.batch_program.specs.Steps.{last_told, told_of, TellsIf, lines_in_told, lowers}
 use Rattle.batch_program.specs.declared.told.Told.{Told}
 use Rattle.batch_program.specs.declared.told.Told.TheVariants as told
 use Rattle.batch_program.proofs.Inputs.{reply_is, HasNoReply, no_reply, behind_more, replies_more, answered_more, all_answered, replies_kept, text_append}
@@ -297,7 +298,7 @@ last_is_one [] = omega arith
 last_is_one (code ∷ rest) = omega arith
 
 pub less_past : (p : Progress) (call : SysCall) (reply : SysReply) (m n : Standing) (line : Option (List ℕ)) (after : List ℕ) → Passed p call reply m n line after
-    → most_lines_left (record { machine = n; input = input_after p.input call; closed = p.closed; line = after }) < most_lines_left p
+    → most_lines_left (record { machine = n; input = input_after p.input call; closed = p.closed; line = after }) + lowers (told_of line) ≤ most_lines_left p
 less_past p call reply m n line after past =
     let c = p.machine.code in
     let same : left_until_end n.code n.limit n.state ≡ left_until_end c p.machine.limit (answered c m.state reply) =
@@ -305,20 +306,53 @@ less_past p call reply m n line after past =
     ∙ ap (λ d. left_until_end d m.limit (answered d m.state reply)) past.went.code
     ∙ ap (λ l. left_until_end c l (answered c m.state reply)) past.went.limit in
     let good = subst (λ d. IsGood d) past.went.code past.went.well.good in
-    omega (arith, same, round_less c p.machine.limit p.machine.state m.state call reply good past.went.pauses, last_is_one after)
+    omega (arith, same, round_less c p.machine.limit p.machine.state m.state call reply good past.went.pauses, last_is_one after, lowers_one line)
+  where
+    lowers_one : (some : Option (List ℕ)) → lowers (told_of some) ≡ 1
+    lowers_one None = refl
+    lowers_one (Some l) = refl
 
-pub less_if_past : (line : Option (List ℕ)) (less : Type 0) → less → IsLessIf (told_of line) less
-less_if_past None less is = is
-less_if_past (Some line) less is = inr is
+none_left : (left : ℕ) (ended : Option Finish) (finish : Finish) → ended ≡ Some finish → left_by ended left ≡ 0
+none_left left ended finish is = ap (λ o. left_by o left) is
 
-none_left : (s : State) (left : ℕ) (ended : Option Finish) (finish : Finish) → ended ≡ Some finish → left_by ended left ≡ 0
-none_left s left ended finish is = ap (λ o. left_by o left) is
+last_lowers : (line : List ℕ) (finish : Finish) → length (line_in (last_told line finish)) ≡ length (last_line line)
+last_lowers [] finish = refl
+last_lowers (code ∷ rest) finish = refl
 
 pub less_at_end : (p : Progress) (finish : Finish) (n : Standing) → WentTo p.machine (pause.Finished finish) n
-    → IsLessIf (Some (last_told p.line finish)) (most_lines_left (record p { machine = n; line = [] }) < most_lines_left p)
-less_at_end p finish n went = by_line p.line refl
-  where
-    by_line : (line : List ℕ) → p.line ≡ line → IsLessIf (Some (last_told line finish)) (most_lines_left (record p { machine = n; line = [] }) < most_lines_left p)
-    by_line [] is = inl refl
-    by_line (code ∷ rest) is =
-        inr (omega (arith, none_left n.state (left_to_run n.code n.limit n.state) n.state.ended finish went.pauses.1, ap (λ l. length (last_line l)) is))
+    → most_lines_left (record p { machine = n; line = [] }) + length (line_in (last_told p.line finish)) ≤ most_lines_left p
+less_at_end p finish n went =
+    omega (arith, none_left (left_to_run n.code n.limit n.state) n.state.ended finish went.pauses.1, last_lowers p.line finish)
+
+-- ---- What is left where it waits
+
+moves_left : (c : CodeLists) (limit steps : ℕ) (s t : State) → IsGood c → Moves c limit steps s t → left_to_run c limit t ≤ left_to_run c limit s
+moves_left c limit zero s t good same = omega (arith, ap (left_to_run c limit) same)
+moves_left c limit (suc steps) s t good (mid, first, others) =
+    omega (arith, goes_less c limit s mid good (goes_running c limit s mid first) first, moves_left c limit steps mid t good others)
+
+begins_running : (c : CodeLists) (limit steps : ℕ) (s t : State) → Moves c limit steps s t → t.ended ≡ None → s.ended ≡ None
+begins_running c limit zero s t same runs = ap (λ (v : State). v.ended) same ∙ runs
+begins_running c limit (suc steps) s t (mid, first, others) runs = goes_running c limit s mid first
+
+left_running : (left : ℕ) (ended : Option Finish) → ended ≡ None → left_by ended left ≡ left + 1
+left_running left ended runs = ap (λ o. left_by o left) runs
+
+pub less_waiting : (p : Progress) (call : SysCall) (n : Standing) → WentTo p.machine (pause.Call call) n
+    → most_lines_left (record p { machine = n; input = input_after p.input call }) ≤ most_lines_left p
+less_waiting p call n went =
+    let m = p.machine in
+    let c = m.code in
+    let leads = went.pauses in
+    let runs = asks_running c m.limit n.state call n.state leads.asks in
+    let begins = begins_running c m.limit leads.steps m.state n.state leads.moves runs in
+    let good = subst (λ d. IsGood d) went.code went.well.good in
+    let same : left_until_end n.code n.limit n.state ≡ left_until_end c m.limit n.state =
+    ap (λ d. left_until_end d n.limit n.state) went.code ∙ ap (λ l. left_until_end c l n.state) went.limit in
+    omega (
+      arith,
+      same,
+      left_running (left_to_run c m.limit n.state) n.state.ended runs,
+      left_running (left_to_run c m.limit m.state) m.state.ended begins,
+      moves_left c m.limit leads.steps m.state n.state good leads.moves,
+    )

@@ -1,19 +1,16 @@
 -- The laws of a program that is under way in the batch.
-use Rattle.std.specs.Prelude.{◌≡◌, ℕ, Bool, true, false, List, [], ◌∷◌, ◌++◌}
-use Rattle.solo_base.specs.declared.outcome.ProgResult.{ProgResult}
+use Rattle.std.specs.Prelude.{◌≡◌, ℕ, Bool, true, false, List, ◌++◌}
 use Rattle.solo_base.specs.declared.system_call.SysReply.{SysReply}
 use Rattle.solo_base.specs.LineList.{AreLines}
 use Rattle.solo_base.specs.RunOutcome.{RunOutcome}
-use Rattle.solo_base.specs.Text.{text}
 use Rattle.pascal_tree.specs.Program.{Program}
-use Rattle.pascal_mean.specs.Meaning.{meaning, meaning_with}
+use Rattle.pascal_mean.specs.Meaning.{meaning}
 use Rattle.pascal_mean.specs.MoreReplies.{GoesOn, FitTheMeaning}
-use Rattle.pascal_mean.specs.Batch.{Ending, ending_of, ending_in_batch}
+use Rattle.pascal_mean.specs.Batch.{ending_in_batch}
 use Rattle.stack_code.specs.CodeLists.{CodeLists, IsCode}
 use Rattle.stack_code.specs.Rules.{IsGood}
 use Rattle.stack_machine.specs.Run.{Runs}
-use Rattle.batch_program.specs.Input.{answers_so_far}
-use Rattle.batch_program.specs.Outcome.{Work, ComesTo, lines_of}
+use Rattle.batch_program.specs.Outcome.{Work, ComesTo, lines_of, meaning_so_far, EndsAs}
 use Rattle.batch_program.specs.Progress.{Progress}
 use Rattle.batch_program.specs.Told.{IsAt}
 
@@ -64,14 +61,34 @@ MeansItsSource c p =
     (limit : ℕ) (replies : List SysReply) → FitTheMeaning p limit replies
     → Runs c limit replies (meaning p limit replies)
 
--- it comes to what its source means with the replies of the same cards
+-- it comes to what its source means with the same cards
 abbrev pub ComesToItsMeaning : Type 0
 ComesToItsMeaning =
     (w : Work) (p : Program) (outcome : RunOutcome) → MeansItsSource w.code p → AreLines w.cards
-    → ComesTo w outcome → outcome ≡ meaning_with (answers_so_far (text w.cards) w.closed) p w.limit
+    → ComesTo w outcome → outcome ≡ meaning_so_far p w.limit w.cards w.closed
 
--- and with all cards, to the ending in the batch: its result, its line, its ticks and its whole output
+-- and with all cards to the ending in the batch: its result, its line, its ticks and its whole output
 abbrev pub ComesToItsEnding : Type 0
 ComesToItsEnding =
     (w : Work) (p : Program) (outcome : RunOutcome) → MeansItsSource w.code p → AreLines w.cards
-    → w.closed ≡ true → ComesTo w outcome → ending_of outcome ≡ ending_in_batch p w.limit w.cards
+    → w.closed ≡ true → ComesTo w outcome → EndsAs outcome (ending_in_batch p w.limit w.cards)
+
+-- ---- What programs mean while their cards come
+
+-- with more cards a meaning goes on as a run does
+abbrev pub MeaningsGoOn : Type 0
+MeaningsGoOn =
+    (p : Program) (limit : ℕ) (cards more : List (List ℕ)) (closed : Bool)
+    → GoesOn (meaning_so_far p limit cards false) (meaning_so_far p limit (cards ++ more) closed)
+
+-- and its lines are the first of those that come then
+abbrev pub MeaningsAddLines : Type 0
+MeaningsAddLines =
+    (p : Program) (limit : ℕ) (cards more : List (List ℕ)) (closed : Bool)
+    → IsPrefix (lines_of (meaning_so_far p limit cards false)) (lines_of (meaning_so_far p limit (cards ++ more) closed))
+
+-- with all cards it is the ending in the batch
+abbrev pub MeaningsEnd : Type 0
+MeaningsEnd =
+    (p : Program) (limit : ℕ) (cards : List (List ℕ))
+    → EndsAs (meaning_so_far p limit cards true) (ending_in_batch p limit cards)

@@ -3,10 +3,12 @@ use Rattle.std.specs.Prelude.{◌≡◌, ℕ, Bool, List, [], ◌∷◌, ◌++�
 use Rattle.solo_base.specs.declared.system_call.SysCall.{SysCall}
 use Rattle.solo_base.specs.RunOutcome.{RunOutcome, Ends, Waits}
 use Rattle.solo_base.specs.Text.{text}
+use Rattle.pascal_tree.specs.Program.{Program}
 use Rattle.stack_code.specs.CodeLists.{CodeLists}
 use Rattle.stack_machine.specs.Run.{Runs}
-use Rattle.pascal_mean.specs.Batch.{batch_replies, characters_of, Printed, nothing_printed, with_characters, output_of}
-use Rattle.batch_program.specs.Input.{reply_so_far, AreAnswered, input_behind}
+use Rattle.pascal_mean.specs.Meaning.{meaning_with}
+use Rattle.pascal_mean.specs.Batch.{batch_replies, characters_of, Printed, nothing_printed, with_characters, output_of, Ending, ending_of}
+use Rattle.batch_program.specs.Input.{reply_so_far, AreAnswered, input_behind, answers_so_far}
 
 -- a compiled program, its limit of ticks, the cards that it was given so far, and whether no further one comes
 pub record Work : Type 0 where
@@ -39,3 +41,14 @@ printed_by calls = with_characters nothing_printed (flat_map characters_of calls
 abbrev pub lines_of : RunOutcome → List (List ℕ)
 lines_of (Ends r line ticks calls) = output_of calls
 lines_of (Waits calls) = (printed_by calls).lines
+
+-- ---- By its source
+
+-- what a program means with the cards so far
+abbrev pub meaning_so_far : Program → ℕ → List (List ℕ) → Bool → RunOutcome
+meaning_so_far p limit cards closed = meaning_with (answers_so_far (text cards) closed) p limit
+
+-- it has ended, in this way
+abbrev pub EndsAs : RunOutcome → Ending → Type 0
+EndsAs (Ends r line ticks calls) e = ending_of (Ends r line ticks calls) ≡ e
+EndsAs (Waits calls) e = ⊥

@@ -16,7 +16,8 @@ pub record NeedsCard (p : Progress) : Type 0 where
   pub input : p.input ≡ []
   pub closed : p.closed ≡ false
 
--- No more lines than these are still to come, whatever cards follow.
+-- No more lines than these are still to come, whatever cards follow: a call completes one at most, and of
+-- what is left to run each call takes some.
 abbrev pub most_lines_left : Progress → ℕ
 most_lines_left p =
     2 * left_until_end p.machine.code p.machine.limit p.machine.state + length (last_line p.line)

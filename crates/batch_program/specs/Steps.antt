@@ -1,5 +1,5 @@
 -- What a program tells at a pause of its machine.
-use Rattle.std.specs.Prelude.{◌≡◌, ◌⊎◌, ℕ, List, [], ◌∷◌, Option, Some, None}
+use Rattle.std.specs.Prelude.{ℕ, List, [], ◌∷◌, length, Option, Some, None}
 use Rattle.stack_machine.specs.declared.state.Finish.{Finish}
 use Rattle.batch_program.specs.Outcome.{Work}
 use Rattle.batch_program.specs.Told.{Tells, line_in}
@@ -25,7 +25,7 @@ abbrev pub lines_in_told : Option Told → List (List ℕ)
 lines_in_told None = []
 lines_in_told (Some t) = line_in t
 
--- this is less, where the program went on or gave a line
-abbrev pub IsLessIf : Option Told → Type 0 → Type 0
-IsLessIf None less = less
-IsLessIf (Some t) less = line_in t ≡ [] ⊎ less
+-- by how much a step lowers the most lines that are left: by one, unless it tells only why it stops
+abbrev pub lowers : Option Told → ℕ
+lowers None = 1
+lowers (Some t) = length (line_in t)

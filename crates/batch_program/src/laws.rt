@@ -1,6 +1,6 @@
 // The laws of programs under way. Nothing is done here: the contracts are the laws.
 
-ghost use Rattle.batch_program.specs.Laws.{SomeOutcome, OneOutcome, MoreCardsGoOn, MoreCardsMoreLines, GivenLinesAreFirst, ComesToItsMeaning, ComesToItsEnding};
+ghost use Rattle.batch_program.specs.Laws.{SomeOutcome, OneOutcome, MoreCardsGoOn, MoreCardsMoreLines, GivenLinesAreFirst, ComesToItsMeaning, ComesToItsEnding, MeaningsGoOn, MeaningsAddLines, MeaningsEnd};
 
 /// With its cards so far a program of good code comes to one thing: it has ended, or it waits for a card.
 pub fn each_program_comes_to_one_thing()
@@ -21,4 +21,12 @@ pub fn more_cards_only_add_lines()
 pub fn code_comes_to_what_its_source_means()
     ensures meaning { ComesToItsMeaning }
     ensures ending { ComesToItsEnding }
+{}
+
+/// What a program means with its cards so far goes on with more of them; with all of them it has ended, as in
+/// the batch.
+pub fn meanings_go_on_with_more_cards()
+    ensures goes_on { MeaningsGoOn }
+    ensures lines { MeaningsAddLines }
+    ensures ending { MeaningsEnd }
 {}

@@ -1,4 +1,4 @@
-ghost use Rattle.std.specs.Prelude.{◌≡◌, ◌<◌, ◌≢◌, ℕ, List, [], ◌∷◌, ◌++◌, false, true, None, Some, IfOk, IfSome};
+ghost use Rattle.std.specs.Prelude.{◌≡◌, ◌+◌, ◌≤◌, ℕ, List, [], ◌∷◌, ◌++◌, length, false, true, Some, IfOk};
 ghost use Rattle.batch_program.specs.Outcome.{Work};
 ghost use Rattle.batch_program.specs.declared.told.Told.{Told as ToldOf};
 ghost use Rattle.batch_program.specs.declared.told.Told.TheVariants as told;
@@ -40,7 +40,7 @@ impl Model for BatchProgram {
 impl BatchProgram {
     ghost use Rattle.batch_program.specs.Progress.{NeedsCard, most_lines_left};
     ghost use Rattle.batch_program.specs.Told.{IsAt, Tells, line_in};
-    ghost use Rattle.batch_program.specs.Steps.{TellsIf, lines_in_told, IsLessIf};
+    ghost use Rattle.batch_program.specs.Steps.{TellsIf, lines_in_told, lowers};
 
     /// The program before its first card, under a limit of ticks. A refusal drops the code.
     pub fn make(alloc: Global, code: Verified, limit: u32) -> Result<BatchProgram, NoMemory>
@@ -61,6 +61,7 @@ impl BatchProgram {
         requires { NeedsCard self.old }
         ensures stands { (w : Work) (given : List (List ℕ)) → IsAt self.old w given
             → IsAt self.new (record w { cards = w.cards ++ card.now ∷ [] }) given }
+        ensures left { most_lines_left self.new ≡ most_lines_left self.old }
     {
         self.input.feed(card);
     }
@@ -69,6 +70,7 @@ impl BatchProgram {
     pub fn close(&mut self)
         ensures stands { (w : Work) (given : List (List ℕ)) → IsAt self.old w given
             → IsAt self.new (record w { closed = true }) given }
+        ensures left { most_lines_left self.new ≡ most_lines_left self.old }
     {
         self.input.close();
     }
@@ -80,9 +82,9 @@ impl BatchProgram {
         ensures stands { (w : Work) (given : List (List ℕ)) → IsAt self.old w given
             → IsAt self.new w (given ++ line_in result) }
 
-        // A card may be fed exactly then; and lines don't come for ever.
+        // Then a card may be fed; and lines don't come for ever.
         ensures needs { result ≡ told.WaitsForCard → NeedsCard self.new }
-        ensures less { line_in result ≢ [] → most_lines_left self.new < most_lines_left self.old }
+        ensures left { most_lines_left self.new + length (line_in result) ≤ most_lines_left self.old }
     {
         loop {
             if let Some(told) = self.step() {
@@ -97,7 +99,7 @@ impl BatchProgram {
         ensures stands { (w : Work) (given : List (List ℕ)) → IsAt self.old w given
             → IsAt self.new w (given ++ lines_in_told result) }
         ensures needs { result ≡ Some told.WaitsForCard → NeedsCard self.new }
-        ensures less { IsLessIf result (most_lines_left self.new < most_lines_left self.old) }
+        ensures left { most_lines_left self.new + lowers result ≤ most_lines_left self.old }
     {
         match self.machine.go() {
             Pause::Finished(finish) => Some(last_told(&mut self.line, finish)),

@@ -5,10 +5,8 @@ use Rattle.batch_program.specs.Told.{IsAt}
 use Rattle.batch_program.proofs.Steps.{stands_fed}
 use Rattle.batch_program.proofs.program.BatchProgram.feed.Goals as goal
 
-pub returns : goal.returns
-returns c =
+pub returns-clause-stands : goal.returns-clause-stands
+returns-clause-stands c =
     let needs = subst NeedsCard (sym c.self.view_is) c.requires in
-    record {
-      stands = λ w given at.
-          rw c.feed.ensures.fed (stands_fed (the_view c.self.inside) w given c.args.card.now needs c.feed.ensures.line (subst (λ p. IsAt p w given) (sym c.self.view_is) at));
-    }
+    λ w given at.
+    rw c.feed.ensures.fed (stands_fed (the_view c.self.inside) w given c.args.card.now needs c.feed.ensures.line (subst (λ p. IsAt p w given) (sym c.self.view_is) at))
