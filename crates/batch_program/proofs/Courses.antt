@@ -1,5 +1,5 @@
 -- Two runs of a code with inputs of which one goes on where the other ends.
-use Rattle.std.proofs.Common.{◌≡◌, ℕ, zero, suc, ◌+◌, Bool, true, false, ◌⊎◌, inl, inr, Option, Some, None, List, [], ◌∷◌, ◌++◌, length, refl, sym, ◌∙◌, ap, subst, append_assoc, arith}
+use Rattle.std.proofs.Common.{◌≡◌, ℕ, Bool, false, ◌⊎◌, inl, inr, Some, None, List, [], ◌∷◌, ◌++◌, length, refl, sym, ◌∙◌, ap, subst, arith}
 use Rattle.std.proofs.lemmas.List.{append-nil, length-append, nil_from_length, same_from_push}
 use Rattle.solo_base.specs.declared.outcome.ProgResult.{ProgResult}
 use Rattle.solo_base.specs.declared.system_call.SysCall.{SysCall}
@@ -43,7 +43,8 @@ pub record HasCourse (c : CodeLists) (limit : ℕ) (input : List ℕ) (closed : 
   pub is : outcome ≡ outcome_by tail made
   pub course : Course c limit (start_state c) input closed made tail
 
-as_many : (c : CodeLists) (limit : ℕ) (s t : State) (replies : List SysReply) (made : List SysCall) → Replied c limit s replies made t → length replies ≡ length made
+as_many : (c : CodeLists) (limit : ℕ) (s t : State) (replies : List SysReply) (made : List SysCall) → Replied c limit s replies made t
+    → length replies ≡ length made
 as_many c limit s t [] [] replied = refl
 as_many c limit s t (reply ∷ replies) (call ∷ made) (asked, leads, others) =
     let same = as_many c limit (answered c asked reply) t replies made others in omega (arith, same)
@@ -54,9 +55,17 @@ replies_as_many : (input : List ℕ) (made : List SysCall) → length (batch_rep
 replies_as_many input [] = refl
 replies_as_many input (call ∷ made) = let same = replies_as_many (input_after input call) made in omega (arith, same)
 
-pub course_of : (c : CodeLists) (limit : ℕ) (input : List ℕ) (closed : Bool) (outcome : RunOutcome) → RunsOn c limit input closed outcome → HasCourse c limit input closed outcome
+pub course_of : (c : CodeLists) (limit : ℕ) (input : List ℕ) (closed : Bool) (outcome : RunOutcome) → RunsOn c limit input closed outcome
+    → HasCourse c limit input closed outcome
 course_of c limit input closed (Ends r line ticks made) (all, (used, unused, t, split, replied, leads)) =
-    let none : unused ≡ [] = nil_from_length unused (omega (arith, as_many c limit (start_state c) t used made replied, replies_as_many input made, ap length split, length-append used unused)) in
+    let none : unused ≡ [] = nil_from_length unused (omega (
+      arith,
+      as_many c limit
+          (start_state c) t used made replied,
+      replies_as_many input made,
+      ap length split,
+      length-append used unused,
+    )) in
     let same : used ≡ batch_replies input made = sym (append-nil used) ∙ ap (λ (l : List SysReply). used ++ l) (sym none) ∙ sym split in
     record {
       made = made;
@@ -93,7 +102,8 @@ same_reply : (input : List ℕ) (closed : Bool) (later : List ℕ) (closed_later
     → reply_so_far input closed call ≡ Some (batch_reply input call) → SameReply input closed later closed_later call
 same_reply input closed later closed_later call (inl (same, alike)) is =
     record {
-      answered = subst (λ i. reply_so_far i closed_later call ≡ Some (batch_reply i call)) same (subst (λ b. reply_so_far input b call ≡ Some (batch_reply input call)) alike is);
+      answered = subst (λ i. reply_so_far i closed_later call ≡ Some (batch_reply i call)) same
+          (subst (λ b. reply_so_far input b call ≡ Some (batch_reply input call)) alike is);
       reply = ap (λ i. batch_reply i call) (sym same);
       after = inl (ap (λ i. input_after i call) same, alike);
     }
@@ -140,31 +150,40 @@ at_one_place c limit t input closed later closed_later (AtCall call) (AtCall oth
 goes_past : (c : CodeLists) (limit : ℕ) (t asked : State) (input : List ℕ) (closed : Bool) (tail later : Tail) (call : SysCall) (more : List SysCall)
     → ComesBehind c limit input closed t tail → LeadsToCall c limit t call asked → GoesOn (outcome_by tail []) (outcome_by later (call ∷ more))
 goes_past c limit t asked input closed (AtEnd r line ticks) later call more first leads = absurd (no_call_at_end c limit t asked call r line ticks leads first)
-goes_past c limit t asked input closed (AtCall last) later call more (asked_too, first, none) leads =
-    (calls_of (outcome_by later more), one_call_more call later more ∙ ap (λ (d : SysCall). d ∷ calls_of (outcome_by later more)) (sym (one_call c limit t asked_too asked last call first leads).1))
+goes_past c limit t asked input closed (AtCall last) later call more (asked_too, first, none) leads = (
+  calls_of (outcome_by later more),
+  one_call_more call later more ∙ ap (λ (d : SysCall). d ∷ calls_of (outcome_by later more))
+      (sym (one_call c limit t asked_too asked last call first leads).1),
+)
 
 -- a call that was answered, where the other ends or waits with more input
-never_less : (c : CodeLists) (limit : ℕ) (t asked : State) (input : List ℕ) (closed : Bool) (later : List ℕ) (closed_later : Bool) (tail : Tail) (call : SysCall)
+never_less : (c : CodeLists) (limit : ℕ) (t asked : State) (input : List ℕ) (closed : Bool) (later : List ℕ) (closed_later : Bool) (tail : Tail)
+    (call : SysCall)
     → SameReply input closed later closed_later call → LeadsToCall c limit t call asked → ComesBehind c limit later closed_later t tail → ⊥
-never_less c limit t asked input closed later closed_later (AtEnd r line ticks) call same leads there = no_call_at_end c limit t asked call r line ticks leads there
+never_less c limit t asked input closed later closed_later (AtEnd r line ticks) call same leads there =
+    no_call_at_end c limit t asked call r line ticks leads there
 never_less c limit t asked input closed later closed_later (AtCall last) call same leads (asked_too, there, none) =
     let is : call ≡ last = (one_call c limit t asked asked_too call last leads there).1 in
-    let some : reply_so_far later closed_later last ≡ Some (batch_reply later call) = subst (λ d. reply_so_far later closed_later d ≡ Some (batch_reply later call)) is same.answered in
+    let some : reply_so_far later closed_later last ≡ Some (batch_reply later call) =
+    subst (λ d. reply_so_far later closed_later d ≡ Some (batch_reply later call)) is same.answered in
     let never : None ≡ Some (batch_reply later call) = sym none ∙ some in
     cc
 
-pub goes_on : (c : CodeLists) (limit : ℕ) (s : State) (input : List ℕ) (closed : Bool) (later : List ℕ) (closed_later : Bool) (made more : List SysCall) (tail other : Tail)
+pub goes_on : (c : CodeLists) (limit : ℕ) (s : State) (input : List ℕ) (closed : Bool) (later : List ℕ) (closed_later : Bool) (made more : List SysCall)
+    (tail other : Tail)
     → MoreInput input closed later closed_later → Course c limit s input closed made tail → Course c limit s later closed_later more other
     → GoesOn (outcome_by tail made) (outcome_by other more)
 goes_on c limit s input closed later closed_later [] [] tail other longer first second =
     at_one_place c limit s input closed later closed_later tail other
-    (subst (λ t. ComesBehind c limit input closed t tail) (sym first.replied) first.comes) (subst (λ t. ComesBehind c limit later closed_later t other) (sym second.replied) second.comes)
+    (subst (λ t. ComesBehind c limit input closed t tail) (sym first.replied) first.comes)
+    (subst (λ t. ComesBehind c limit later closed_later t other) (sym second.replied) second.comes)
 goes_on c limit s input closed later closed_later [] (call ∷ more) tail other longer first second =
     let there = second.replied in
     goes_past c limit s there.0 input closed tail other call more (subst (λ t. ComesBehind c limit input closed t tail) (sym first.replied) first.comes) there.1
 goes_on c limit s input closed later closed_later (call ∷ made) [] tail other longer first second =
     let here = first.replied in
-    absurd (never_less c limit s here.0 input closed later closed_later other call (same_reply input closed later closed_later call longer first.answered.0) here.1
+    absurd (never_less c limit s here.0 input closed later closed_later other call
+    (same_reply input closed later closed_later call longer first.answered.0) here.1
     (subst (λ t. ComesBehind c limit later closed_later t other) (sym second.replied) second.comes))
 goes_on c limit s input closed later closed_later (call ∷ made) (next ∷ more) tail other longer first second =
     let here = first.replied in
@@ -174,12 +193,18 @@ goes_on c limit s input closed later closed_later (call ∷ made) (next ∷ more
     let left = input_after input call in
     let left_later = input_after later next in
     let state : answered c there.0 (batch_reply later next) ≡ answered c here.0 (batch_reply input call) =
-    ap (λ t. answered c t (batch_reply later next)) (sym same.0) ∙ ap (λ d. answered c here.0 (batch_reply later d)) (sym same.1) ∙ ap (answered c here.0) reply.reply in
+    ap (λ t. answered c t (batch_reply later next)) (sym same.0) ∙ ap (λ d. answered c here.0 (batch_reply later d)) (sym same.1)
+    ∙ ap (answered c here.0) reply.reply in
     goes_on_behind call next tail other made more same.1
     (goes_on c limit (answered c here.0 (batch_reply input call)) left closed left_later closed_later made more tail other
     (subst (λ d. MoreInput left closed (input_after later d) closed_later) same.1 reply.after)
     (record { answered = first.answered.1; behind = first.behind; replied = here.2; comes = first.comes })
-    (record { answered = second.answered.1; behind = second.behind; replied = subst (λ t. Replied c limit t (batch_replies left_later more) more second.behind) state there.2; comes = second.comes }))
+    (record {
+      answered = second.answered.1;
+      behind = second.behind;
+      replied = subst (λ t. Replied c limit t (batch_replies left_later more) more second.behind) state there.2;
+      comes = second.comes;
+    }))
 
 pub runs_go_on : (c : CodeLists) (limit : ℕ) (input : List ℕ) (closed : Bool) (later : List ℕ) (closed_later : Bool) (outcome other : RunOutcome)
     → MoreInput input closed later closed_later → RunsOn c limit input closed outcome → RunsOn c limit later closed_later other → GoesOn outcome other

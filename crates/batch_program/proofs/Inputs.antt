@@ -1,5 +1,5 @@
 -- The replies of the input so far, with a call more and with a card more.
-use Rattle.std.proofs.Common.{◌≡◌, ℕ, Bool, true, false, Option, Some, None, List, [], ◌∷◌, ◌++◌, refl, sym, ◌∙◌, ap, subst, append_assoc}
+use Rattle.std.proofs.Common.{◌≡◌, ℕ, Bool, true, false, Some, None, List, [], ◌∷◌, ◌++◌, refl, sym, ◌∙◌, ap, subst, append_assoc}
 use Rattle.solo_base.specs.declared.system_call.SysCall.{SysCall}
 use Rattle.solo_base.specs.declared.system_call.SysCall.TheVariants as calls
 use Rattle.solo_base.specs.declared.system_call.SysReply.{SysReply}
@@ -10,7 +10,8 @@ use Rattle.batch_program.specs.Input.{reply_so_far, AreAnswered, input_behind}
 -- ---- One call
 
 -- where there is a reply, it is the batch's
-pub reply_is : (input : List ℕ) (closed : Bool) (call : SysCall) (reply : SysReply) → reply_so_far input closed call ≡ Some reply → reply ≡ batch_reply input call
+pub reply_is : (input : List ℕ) (closed : Bool) (call : SysCall) (reply : SysReply) → reply_so_far input closed call ≡ Some reply
+    → reply ≡ batch_reply input call
 reply_is [] false calls.Read reply is = absurd cc
 reply_is [] true calls.Read reply is = cc
 reply_is (code ∷ rest) closed calls.Read reply is = cc
@@ -40,7 +41,8 @@ pub record KeepsReply (input more : List ℕ) (closed : Bool) (call : SysCall) :
   pub reply : batch_reply (input ++ more) call ≡ batch_reply input call
   pub after : input_after (input ++ more) call ≡ input_after input call ++ more
 
-pub reply_kept : (input more : List ℕ) (closed : Bool) (call : SysCall) → reply_so_far input false call ≡ Some (batch_reply input call) → KeepsReply input more closed call
+pub reply_kept : (input more : List ℕ) (closed : Bool) (call : SysCall) → reply_so_far input false call ≡ Some (batch_reply input call)
+    → KeepsReply input more closed call
 reply_kept [] more closed calls.Read is = absurd cc
 reply_kept (code ∷ rest) more closed calls.Read is = record { answered = refl; reply = refl; after = refl }
 reply_kept input more closed other is = record { answered = refl; reply = refl; after = refl }

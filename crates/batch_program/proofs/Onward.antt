@@ -1,6 +1,6 @@
 -- Each program under way comes to something.
-use Rattle.std.proofs.Common.{◌≡◌, ℕ, zero, suc, ◌+◌, ◌<◌, Bool, ◌⊎◌, inl, inr, Option, Some, None, List, [], ◌∷◌, ◌++◌, refl, sym, ◌∙◌, ap, subst, append_assoc, arith}
-use Rattle.std.specs.Prelude.{All, nat_le, ◌&&◌}
+use Rattle.std.proofs.Common.{◌≡◌, ℕ, zero, suc, ◌+◌, ◌<◌, Bool, inl, inr, Option, Some, None, List, [], ◌∷◌, ◌++◌, refl, sym, ◌∙◌, ap, subst, append_assoc, arith}
+use Rattle.std.specs.Prelude.{All}
 use Rattle.std.proofs.lemmas.List.{append-nil}
 use Rattle.solo_base.specs.declared.system_call.SysCall.{SysCall}
 use Rattle.solo_base.specs.declared.system_call.SysReply.{SysReply}
@@ -12,7 +12,6 @@ use Rattle.stack_machine.specs.declared.running.Pause.TheVariants as pause
 use Rattle.stack_machine.specs.declared.state.Finish.{Finish}
 use Rattle.stack_machine.specs.declared.state.State.{State}
 use Rattle.stack_machine.specs.Machine.{start_state, answered}
-use Rattle.stack_machine.specs.Run.{LeadsToCall}
 use Rattle.stack_machine.specs.Standing.{Standing, StandsWell}
 use Rattle.stack_machine.specs.History.{RunsOn as WentBy, StandsFor}
 use Rattle.stack_machine.proofs.Histories.{stands_on_pause, stands_answered}
@@ -21,7 +20,7 @@ use Rattle.stack_machine.proofs.Reply.{asks_running, left_until_end}
 use Rattle.stack_machine.proofs.Rounds.{round_less}
 use Rattle.stack_machine.proofs.Safety.{answered_is_sound, begins_sound}
 use Rattle.pascal_mean.specs.MoreReplies.{calls_of}
-use Rattle.pascal_mean.specs.Batch.{batch_reply, batch_replies, input_after}
+use Rattle.pascal_mean.specs.Batch.{batch_reply, batch_replies}
 use Rattle.batch_program.specs.Input.{reply_so_far, AreAnswered, input_behind}
 use Rattle.batch_program.specs.Outcome.{RunsOn}
 use Rattle.batch_program.proofs.Inputs.{reply_is, replies_more, answered_more}
@@ -64,7 +63,8 @@ record StandsBehind (m : Standing) (input : List ℕ) (closed : Bool) (made : Li
   pub stands : StandsFor m (batch_replies input made) made
   pub answered : AreAnswered input closed made
 
-past_call : (m : Standing) (input : List ℕ) (closed : Bool) (made : List SysCall) (reply : SysReply) → All (λ code. code < 256) input → StandsBehind m input closed made
+past_call : (m : Standing) (input : List ℕ) (closed : Bool) (made : List SysCall) (reply : SysReply) → All (λ code. code < 256) input
+    → StandsBehind m input closed made
     → (call : IsCall m.code m.limit m.state) → reply_so_far (input_behind input made) closed call.call ≡ Some reply
     → StandsBehind (behind_call m call.asked reply) input closed (made ++ call.call ∷ [])
 past_call m input closed made reply bytes so call is =
@@ -77,15 +77,19 @@ past_call m input closed made reply bytes so call is =
     let replies : batch_replies input made ++ reply ∷ []
     ≡ batch_replies input (made ++ call.call ∷ []) = ap (λ r. batch_replies input made ++ r ∷ []) same ∙ sym (replies_more input made call.call) in
     record {
-      well = answered_is_sound m.code m.limit call.asked call.call reply call.asked (asks_running m.code m.limit call.asked call.call call.asked call.leads.asks) call.sound call.leads.asks fits;
+      well = answered_is_sound m.code m.limit call.asked call.call reply call.asked
+          (asks_running m.code m.limit call.asked call.call call.asked call.leads.asks) call.sound call.leads.asks fits;
       stands = subst (λ l. StandsFor (behind_call m call.asked reply) l (made ++ call.call ∷ [])) replies more;
       answered = answered_more input closed made call.call so.answered (is ∙ ap (λ r. Some r) same);
     }
 
-by_reply : (n : ℕ) (m : Standing) (input : List ℕ) (closed : Bool) (made : List SysCall) → left_until_end m.code m.limit m.state < suc n → All (λ code. code < 256) input
+by_reply : (n : ℕ) (m : Standing) (input : List ℕ) (closed : Bool) (made : List SysCall) → left_until_end m.code m.limit m.state < suc n
+    → All (λ code. code < 256) input
     → StandsBehind m input closed made
-    → ((k : Standing) (more : List SysCall) → left_until_end k.code k.limit k.state < n → StandsBehind k input closed more → RunsFurther k.code k.limit input closed more)
-    → (call : IsCall m.code m.limit m.state) (reply : Option SysReply) → reply_so_far (input_behind input made) closed call.call ≡ reply → RunsFurther m.code m.limit input closed made
+    → ((k : Standing) (more : List SysCall) → left_until_end k.code k.limit k.state < n → StandsBehind k input closed more
+    → RunsFurther k.code k.limit input closed more)
+    → (call : IsCall m.code m.limit m.state) (reply : Option SysReply) → reply_so_far (input_behind input made) closed call.call ≡ reply
+    → RunsFurther m.code m.limit input closed made
 by_reply n m input closed made less bytes so later call None is = at_wait m input closed made so.stands so.answered call is
 by_reply n m input closed made less bytes so later call (Some reply) is =
     one_fewer m.code m.limit input closed made call.call
@@ -93,7 +97,8 @@ by_reply n m input closed made less bytes so later call (Some reply) is =
     (omega (arith, less, round_less m.code m.limit m.state call.asked call.call reply so.well.good call.leads))
     (past_call m input closed made reply bytes so call is))
 
-comes_within : (n : ℕ) (m : Standing) (input : List ℕ) (closed : Bool) (made : List SysCall) → left_until_end m.code m.limit m.state < n → All (λ code. code < 256) input
+comes_within : (n : ℕ) (m : Standing) (input : List ℕ) (closed : Bool) (made : List SysCall) → left_until_end m.code m.limit m.state < n
+    → All (λ code. code < 256) input
     → StandsBehind m input closed made → RunsFurther m.code m.limit input closed made
 comes_within zero m input closed made less bytes so = absurd (omega (arith, less))
 comes_within (suc n) m input closed made less bytes so =
@@ -113,5 +118,6 @@ comes_further m input closed made bytes well stands all =
 pub some_outcome : SomeOutcome
 some_outcome w code good lines =
     let m : Standing = record { code = w.code; limit = w.limit; state = start_state w.code } in
-    let further = comes_further m (text w.cards) w.closed [] (text_is_bytes w.cards lines) (begins_sound w.code w.limit code good) (record { begun = start_state w.code; replied = refl; went_on = WentBy 0 refl }) tt in
+    let further = comes_further m (text w.cards) w.closed [] (text_is_bytes w.cards lines) (begins_sound w.code w.limit code good)
+    (record { begun = start_state w.code; replied = refl; went_on = WentBy 0 refl }) tt in
     (further.outcome, further.runs)

@@ -1,5 +1,5 @@
 -- Code that does what its source means comes to what the source means with the same cards.
-use Rattle.std.proofs.Common.{◌≡◌, ℕ, zero, suc, ◌+◌, ◌-◌, ◌≤◌, ◌<◌, Bool, true, false, ◌⊎◌, inl, inr, Option, Some, None, List, [], ◌∷◌, ◌++◌, length, refl, sym, ◌∙◌, ap, subst, append_assoc, arith}
+use Rattle.std.proofs.Common.{◌≡◌, ℕ, ◌+◌, ◌-◌, Bool, true, false, inl, inr, Option, Some, None, List, [], ◌∷◌, ◌++◌, length, refl, sym, ◌∙◌, ap, subst, append_assoc, arith}
 use Rattle.std.specs.Prelude.{slice_get}
 use Rattle.std.proofs.lemmas.List.{append-nil, length-append, nil_from_length, same_from_push}
 use Rattle.solo_base.specs.declared.outcome.ProgResult.{ProgResult}
@@ -11,12 +11,12 @@ use Rattle.solo_base.specs.Text.{text}
 use Rattle.stack_code.specs.CodeLists.{CodeLists}
 use Rattle.stack_machine.specs.Run.{Runs}
 use Rattle.pascal_tree.specs.Program.{Program}
-use Rattle.pascal_mean.specs.Situation.{Answers, Course, Gives, Over}
+use Rattle.pascal_mean.specs.Situation.{Course, Gives, Over}
 use Rattle.pascal_mean.specs.Declarations.{all_declared}
 use Rattle.pascal_mean.specs.Meaning.{outcome_of, opening, program_part, in_order, meaning_with, meaning}
 use Rattle.pascal_mean.specs.MoreReplies.{calls_of, GoesOn, AreAnswered as TakeReplies, FitTheMeaning}
-use Rattle.pascal_mean.specs.Batch.{batch_reply, batch_replies, input_after, Ending, ending_of, EndsInBatch, ending_in_batch}
-use Rattle.pascal_mean.proofs.Steady.{IsAnswered, Follows, Agree, AgreeBefore, Extends, Begins}
+use Rattle.pascal_mean.specs.Batch.{batch_reply, batch_replies, input_after, ending_of, ending_in_batch}
+use Rattle.pascal_mean.proofs.Steady.{IsAnswered, Follows, Agree, Extends, Begins}
 use Rattle.pascal_mean.proofs.Answering.{program_steady, more_replies, each_call, one_ending}
 use Rattle.batch_program.specs.Input.{reply_so_far, AreAnswered, input_behind, if_answered, answers_so_far}
 use Rattle.batch_program.specs.Outcome.{RunsOn, meaning_so_far, EndsAs}
@@ -32,7 +32,8 @@ if_some None later reply is = absurd cc
 if_some (Some x) later reply is = ((x, refl), is)
 
 -- where the last call has an answer, each has one
-all_have : (input : List ℕ) (closed : Bool) (made : List SysCall) (reply : SysReply) → answers_so_far input closed made ≡ Some reply → AreAnswered input closed made
+all_have : (input : List ℕ) (closed : Bool) (made : List SysCall) (reply : SysReply) → answers_so_far input closed made ≡ Some reply
+    → AreAnswered input closed made
 all_have input closed [] reply is = absurd cc
 all_have input closed (call ∷ []) reply is = (is ∙ ap (λ r. Some r) (reply_is input closed call reply is), tt)
 all_have input closed (call ∷ next ∷ more) reply is =
@@ -63,7 +64,8 @@ answer_at input closed (first ∷ next ∷ more) after call all =
     ap (λ o. if_answered o (answers_so_far (input_after input first) closed ((next ∷ more) ++ call ∷ []))) all.0
     ∙ answer_at (input_after input first) closed (next ∷ more) after call all.1
 
-agree_so_far : (input : List ℕ) (closed : Bool) (made : List SysCall) → AreAnswered input closed made → Agree (answers_so_far input closed) (in_order (batch_replies input made)) made
+agree_so_far : (input : List ℕ) (closed : Bool) (made : List SysCall) → AreAnswered input closed made
+    → Agree (answers_so_far input closed) (in_order (batch_replies input made)) made
 agree_so_far input closed made all before after call is =
     let place : length before ≡ length (before ++ call ∷ []) - 1 = omega (arith, length-append before (call ∷ [])) in
     answer_at input closed before after call (subst (AreAnswered input closed) is all) ∙ ap (λ l. slice_get (batch_replies input l) (length before)) (sym is)
@@ -104,22 +106,26 @@ begun_by : (calls : List SysCall) (k : Course (Unit {0})) → Begins calls k →
 begun_by calls (Gives v then_is) begins = begins
 begun_by calls (Over outcome) begins = begins
 
-waits_so : (outcome : RunOutcome) (replies : List SysReply) (calls rest : List SysCall) → TakeReplies outcome replies → length calls ≡ length replies + 1 → calls_of outcome ≡ calls ++ rest
+waits_so : (outcome : RunOutcome) (replies : List SysReply) (calls rest : List SysCall) → TakeReplies outcome replies → length calls ≡ length replies + 1
+    → calls_of outcome ≡ calls ++ rest
     → outcome ≡ Waits calls
 waits_so (Ends r line ticks made) replies calls rest few one is = absurd (omega (arith, few, one, ap length is, length-append calls rest))
 waits_so (Waits made) replies calls rest few one is =
     let none : rest ≡ [] = nil_from_length rest (omega (arith, few, one, ap length is, length-append calls rest)) in
     ap Waits (is ∙ ap (λ (l : List SysCall). calls ++ l) none ∙ append-nil calls)
 
-waits_on : (p : Program) (limit : ℕ) (input : List ℕ) (closed : Bool) (calls made : List SysCall) (call : SysCall) → calls ≡ made ++ call ∷ [] → AreAnswered input closed made
-    → answers_so_far input closed calls ≡ None → (rest : List SysCall) → calls_of (meaning p limit (batch_replies input made)) ≡ calls ++ rest → MeansOn p limit input closed (Waits calls)
+waits_on : (p : Program) (limit : ℕ) (input : List ℕ) (closed : Bool) (calls made : List SysCall) (call : SysCall) → calls ≡ made ++ call ∷ []
+    → AreAnswered input closed made
+    → answers_so_far input closed calls ≡ None → (rest : List SysCall) → calls_of (meaning p limit (batch_replies input made)) ≡ calls ++ rest
+    → MeansOn p limit input closed (Waits calls)
 waits_on p limit input closed calls made call is all none rest begins =
     let one : length calls ≡ length (batch_replies input made) + 1 = omega (arith, ap length is, length-append made (call ∷ []), replies_count input made) in
     let nothing = sym (answer_behind input closed made call all) ∙ ap (answers_so_far input closed) (sym is) ∙ none in
     record {
       made = made;
       rest = call ∷ [];
-      means = waits_so (meaning p limit (batch_replies input made)) (batch_replies input made) calls rest (each_call p limit (batch_replies input made)) one begins;
+      means = waits_so (meaning p limit (batch_replies input made)) (batch_replies input made) calls rest
+          (each_call p limit (batch_replies input made)) one begins;
       calls = is;
       all = λ r line ticks others same. absurd cc;
       last = λ others same. let alike : others ≡ calls = cc in (made, call, alike ∙ is);
@@ -133,15 +139,18 @@ by_course : (p : Program) (limit : ℕ) (input : List ℕ) (closed : Bool) (k : 
 unfolding meaning meaning_with
 by_course p limit input closed (Gives v then_is) follows extends =
     let all = answered_so_far input closed then_is.made (follows.answered (inl refl)) in
-    ends_on p limit input closed _ _ _ then_is.made all (ap outcome_of (extends (batch_replies input then_is.made) (agree_so_far input closed then_is.made all)))
+    ends_on p limit input closed _ _ _ then_is.made all (ap outcome_of
+    (extends (batch_replies input then_is.made) (agree_so_far input closed then_is.made all)))
 by_course p limit input closed (Over (Ends r line ticks made)) follows extends =
     let all = answered_so_far input closed made (follows.answered (inl refl)) in
     ends_on p limit input closed r line ticks made all (ap outcome_of (extends (batch_replies input made) (agree_so_far input closed made all)))
 by_course p limit input closed (Over (Waits calls)) follows extends =
     let made = follows.rest in
     let all = answered_so_far input closed made (follows.answered (inl refl)) in
-    let begins = begun_by calls (program_part (in_order (batch_replies input made)) limit (all_declared p) opening) (extends (batch_replies input made) (λ before call is.
-    subst (Agree (answers_so_far input closed) (in_order (batch_replies input made))) (same_from_push made before follows.call call (sym follows.made ∙ is)).0 (agree_so_far input closed made all))) in
+    let begins = begun_by calls (program_part (in_order (batch_replies input made)) limit (all_declared p) opening)
+    (extends (batch_replies input made) (λ before call is.
+    subst (Agree (answers_so_far input closed) (in_order (batch_replies input made))) (same_from_push made before follows.call call (sym follows.made
+    ∙ is)).0 (agree_so_far input closed made all))) in
     waits_on p limit input closed calls made follows.call follows.made all follows.none begins.0 begins.1
 
 pub means_on : (p : Program) (limit : ℕ) (input : List ℕ) (closed : Bool) → MeansOn p limit input closed (meaning_with (answers_so_far input closed) p limit)
@@ -153,8 +162,10 @@ means_on p limit input closed =
 
 -- ---- Its replies fit
 
-fits_there : (input : List ℕ) (made rest before_calls after_calls : List SysCall) (call : SysCall) (before after : List SysReply) (reply : SysReply) → AreCodes input
-    → made ++ rest ≡ before_calls ++ call ∷ after_calls → length before_calls ≡ length before → batch_replies input made ≡ before ++ reply ∷ after → Fits call reply
+fits_there : (input : List ℕ) (made rest before_calls after_calls : List SysCall) (call : SysCall) (before after : List SysReply) (reply : SysReply)
+    → AreCodes input
+    → made ++ rest ≡ before_calls ++ call ∷ after_calls → length before_calls ≡ length before → batch_replies input made ≡ before ++ reply ∷ after
+    → Fits call reply
 fits_there input [] rest before_calls after_calls call [] after reply bytes calls same is = absurd cc
 fits_there input [] rest before_calls after_calls call (b ∷ before) after reply bytes calls same is = absurd cc
 fits_there input (c ∷ made) rest [] after_calls call [] after reply bytes calls same is =
@@ -164,7 +175,8 @@ fits_there input (c ∷ made) rest [] after_calls call [] after reply bytes call
 fits_there input (c ∷ made) rest (d ∷ before_calls) after_calls call (b ∷ before) after reply bytes calls same is =
     let others : made ++ rest ≡ before_calls ++ call ∷ after_calls = cc in
     let replies : batch_replies (input_after input c) made ≡ before ++ reply ∷ after = cc in
-    fits_there (input_after input c) made rest before_calls after_calls call before after reply (after_is_bytes input c bytes) others (omega (arith, same)) replies
+    fits_there (input_after input c) made rest before_calls after_calls call before after reply (after_is_bytes input c bytes) others
+    (omega (arith, same)) replies
 fits_there input (c ∷ made) rest [] after_calls call (b ∷ before) after reply bytes calls same is = absurd (omega (arith, same))
 fits_there input (c ∷ made) rest (d ∷ before_calls) after_calls call [] after reply bytes calls same is = absurd (omega (arith, same))
 
@@ -180,13 +192,19 @@ replies_fit p limit input closed outcome bytes m before after reply calls call s
 
 -- ---- The laws
 
-pub comes_to_meaning : (c : CodeLists) (p : Program) (limit : ℕ) (input : List ℕ) (closed : Bool) (outcome : RunOutcome) → MeansItsSource c p → AreCodes input
-    → RunsOn c limit input closed outcome → outcome ≡ meaning_with (answers_so_far input closed) p limit
-comes_to_meaning c p limit input closed outcome means bytes runs =
+pub reaches_meaning : (c : CodeLists) (p : Program) (limit : ℕ) (input : List ℕ) (closed : Bool) → MeansItsSource c p → AreCodes input
+    → RunsOn c limit input closed (meaning_with (answers_so_far input closed) p limit)
+reaches_meaning c p limit input closed means bytes =
     let m = means_on p limit input closed in
     let meant = meaning_with (answers_so_far input closed) p limit in
-    let so : Runs c limit (batch_replies input m.made) meant = subst (Runs c limit (batch_replies input m.made)) m.means (means limit (batch_replies input m.made) (replies_fit p limit input closed meant bytes m)) in
-    one_outcome c limit input closed outcome meant runs (m.comes c so)
+    m.comes c (subst (Runs c limit (batch_replies input m.made)) m.means
+    (means limit (batch_replies input m.made) (replies_fit p limit input closed meant bytes m)))
+
+pub comes_to_meaning : (c : CodeLists) (p : Program) (limit : ℕ) (input : List ℕ) (closed : Bool) (outcome : RunOutcome) → MeansItsSource c p
+    → AreCodes input → RunsOn c limit input closed outcome → outcome ≡ meaning_with (answers_so_far input closed) p limit
+comes_to_meaning c p limit input closed outcome means bytes runs =
+    one_outcome c limit input closed outcome (meaning_with (answers_so_far input closed) p limit) runs
+    (reaches_meaning c p limit input closed means bytes)
 
 -- once no further card comes, each call has an answer
 never_none : (input : List ℕ) (made : List SysCall) (call : SysCall) → answers_so_far input true (made ++ call ∷ []) ≡ None → ⊥
@@ -195,7 +213,8 @@ never_none input made call none =
     let some : None ≡ Some (batch_reply left call) = sym none ∙ answer_behind input true made call (all_answered input made) ∙ reply_closed left call in
     cc
 
-pub means_its_end : (p : Program) (limit : ℕ) (cards : List (List ℕ)) (outcome : RunOutcome) → MeansOn p limit (text cards) true outcome → EndsAs outcome (ending_in_batch p limit cards)
+pub means_its_end : (p : Program) (limit : ℕ) (cards : List (List ℕ)) (outcome : RunOutcome) → MeansOn p limit (text cards) true outcome
+    → EndsAs outcome (ending_in_batch p limit cards)
 means_its_end p limit cards (Ends r line ticks calls) m =
     let same = m.all r line ticks calls refl in
     one_ending p limit cards (ending_of (Ends r line ticks calls))
@@ -251,7 +270,8 @@ course_goes_on input more closed (Over (Ends r line ticks made)) other follows e
     ap outcome_of (extends (agree_with_more input more closed made (answered_so_far input false made (follows.answered (inl refl)))))
 course_goes_on input more closed (Over (Waits calls)) other follows extends =
     begun_by calls other (extends (λ before call is.
-    subst (Agree (answers_so_far input false) (answers_so_far (input ++ more) closed)) (same_from_push follows.rest before follows.call call (sym follows.made ∙ is)).0
+    subst (Agree (answers_so_far input false) (answers_so_far (input ++ more) closed))
+    (same_from_push follows.rest before follows.call call (sym follows.made ∙ is)).0
     (agree_with_more input more closed follows.rest (answered_so_far input false follows.rest (follows.answered (inl refl))))))
 
 with_more_input : (p : Program) (limit : ℕ) (input more : List ℕ) (closed : Bool)
@@ -261,9 +281,11 @@ with_more_input p limit input more closed =
     let a = answers_so_far input false in
     let b = answers_so_far (input ++ more) closed in
     let steady = program_steady a b limit (all_declared p) in
-    course_goes_on input more closed (program_part a limit (all_declared p) opening) (program_part b limit (all_declared p) opening) (steady.follows opening) (steady.extends opening)
+    course_goes_on input more closed (program_part a limit (all_declared p) opening) (program_part b limit (all_declared p) opening)
+    (steady.follows opening) (steady.extends opening)
 
-pub meaning_goes_on : (p : Program) (limit : ℕ) (cards more : List (List ℕ)) (closed : Bool) → GoesOn (meaning_so_far p limit cards false) (meaning_so_far p limit (cards ++ more) closed)
+pub meaning_goes_on : (p : Program) (limit : ℕ) (cards more : List (List ℕ)) (closed : Bool)
+    → GoesOn (meaning_so_far p limit cards false) (meaning_so_far p limit (cards ++ more) closed)
 meaning_goes_on p limit cards more closed =
     subst (λ i. GoesOn (meaning_so_far p limit cards false) (meaning_with (answers_so_far i closed) p limit)) (sym (text_append cards more))
     (with_more_input p limit (text cards) (text more) closed)

@@ -1,13 +1,11 @@
 -- A program from pause to pause.
-use Rattle.std.proofs.Common.{◌≡◌, ◌≢◌, ℕ, zero, suc, ◌+◌, ◌*◌, ◌<◌, ◌≤◌, Bool, true, false, ◌⊎◌, inl, inr, Option, Some, None, List, [], ◌∷◌, ◌++◌, length, refl, sym, ◌∙◌, ap, subst, append_assoc, arith}
-use Rattle.std.specs.Prelude.{All}
+use Rattle.std.proofs.Common.{◌≡◌, ℕ, zero, suc, ◌+◌, ◌≤◌, Bool, true, false, Option, Some, None, List, [], ◌∷◌, ◌++◌, length, refl, sym, ◌∙◌, ap, subst, append_assoc, arith}
 use Rattle.std.proofs.lemmas.List.{append-nil}
 use Rattle.solo_base.specs.declared.system_call.SysCall.{SysCall}
 use Rattle.solo_base.specs.declared.system_call.SysCall.TheVariants as calls
 use Rattle.solo_base.specs.declared.system_call.SysReply.{SysReply}
 use Rattle.solo_base.specs.RunOutcome.{RunOutcome, Ends, Waits}
 use Rattle.solo_base.specs.Line.{IsLine}
-use Rattle.solo_base.specs.LineList.{AreLines}
 use Rattle.solo_base.specs.Text.{line_text, text}
 use Rattle.stack_code.specs.CodeLists.{CodeLists}
 use Rattle.stack_code.specs.Rules.{IsGood}
@@ -17,7 +15,7 @@ use Rattle.stack_machine.specs.declared.state.Finish.{Finish}
 use Rattle.stack_machine.specs.declared.state.State.{State}
 use Rattle.stack_machine.specs.State.{Asks}
 use Rattle.stack_machine.specs.Machine.{next, start_state, answered}
-use Rattle.stack_machine.specs.Run.{Moves, LeadsToCall, Pauses, Runs}
+use Rattle.stack_machine.specs.Run.{Moves, Pauses, Runs}
 use Rattle.stack_machine.specs.Standing.{Standing, StandsWell}
 use Rattle.stack_machine.specs.History.{StandsFor, outcome_at}
 use Rattle.stack_machine.proofs.Onward.{has_ended}
@@ -28,16 +26,15 @@ use Rattle.stack_machine.proofs.Weights.{left_to_run}
 use Rattle.stack_machine.proofs.Rounds.{round_less}
 use Rattle.pascal_mean.specs.Batch.{batch_reply, batch_replies, input_after, characters_of, Printed, last_line, output_of}
 use Rattle.batch_program.specs.Input.{reply_so_far, AreAnswered, input_behind}
-use Rattle.batch_program.specs.Outcome.{Work, RunsOn, ComesTo, printed_by, lines_of}
+use Rattle.batch_program.specs.Outcome.{Work, RunsOn, printed_by}
 use Rattle.batch_program.specs.Printing.{completed, Prints}
 use Rattle.batch_program.specs.Progress.{Progress, NeedsCard, most_lines_left}
 use Rattle.batch_program.specs.Told.{IsTold, Tells, line_in, HasGiven, GoesOn, IsOver, IsAt}
 use Rattle.batch_program.specs.Steps.{last_told, told_of, TellsIf, lines_in_told, lowers}
-use Rattle.batch_program.specs.declared.told.Told.{Told}
 use Rattle.batch_program.specs.declared.told.Told.TheVariants as told
 use Rattle.batch_program.proofs.Inputs.{reply_is, HasNoReply, no_reply, behind_more, replies_more, answered_more, all_answered, replies_kept, text_append}
 use Rattle.batch_program.proofs.Bytes.{text_is_bytes, lines_more}
-use Rattle.batch_program.proofs.Printed.{printed_call, lines_first}
+use Rattle.batch_program.proofs.Printed.{printed, printed_call, lines_first}
 use Rattle.batch_program.proofs.Onward.{comes_further}
 
 -- ---- What a machine's `go` and `answer` say
@@ -58,13 +55,15 @@ pub record WasAnswered (m : Standing) (reply : SysReply) (n : Standing) : Type 0
 
 -- ---- Moving a run to its work
 
-pub moved_run : (c d : CodeLists) (limit other : ℕ) (input : List ℕ) (closed : Bool) (outcome : RunOutcome) → c ≡ d → limit ≡ other → RunsOn c limit input closed outcome → RunsOn d other input closed outcome
+pub moved_run : (c d : CodeLists) (limit other : ℕ) (input : List ℕ) (closed : Bool) (outcome : RunOutcome) → c ≡ d → limit ≡ other
+    → RunsOn c limit input closed outcome → RunsOn d other input closed outcome
 moved_run c d limit other input closed outcome code same runs =
     subst (λ e. RunsOn e other input closed outcome) code (subst (λ n. RunsOn c n input closed outcome) same runs)
 
 -- ---- Before the first card
 
-pub stands_new : (m : Standing) (code : CodeLists) (limit : ℕ) → m ≡ record { code = code; limit = limit; state = start_state code } → StandsFor m [] [] → StandsWell m
+pub stands_new : (m : Standing) (code : CodeLists) (limit : ℕ) → m ≡ record { code = code; limit = limit; state = start_state code } → StandsFor m [] []
+    → StandsWell m
     → IsAt (record { machine = m; input = []; closed = false; line = [] }) (record { code = code; limit = limit; cards = []; closed = false }) []
 stands_new m code limit is stands well =
     record {
@@ -82,9 +81,11 @@ stands_new m code limit is stands well =
 
 -- ---- A card more, or none
 
-same_lines_given : (p q : Progress) (made : List SysCall) (given : List (List ℕ)) → q.machine ≡ p.machine → q.line ≡ p.line → HasGiven p made given → HasGiven q made given
-same_lines_given p q made given machine line (GoesOn is) = GoesOn (is ∙ ap (λ l. let r : Printed = record { lines = given; line = l } in r) (sym line))
-same_lines_given p q made given machine line (IsOver finish ended all none) = IsOver finish (ap (λ (m : Standing). m.state.ended) machine ∙ ended) all (line ∙ none)
+same_lines_given : (p q : Progress) (made : List SysCall) (given : List (List ℕ)) → q.machine ≡ p.machine → q.line ≡ p.line → HasGiven p made given
+    → HasGiven q made given
+same_lines_given p q made given machine line (GoesOn is) = GoesOn (is ∙ ap (λ l. printed given l) (sym line))
+same_lines_given p q made given machine line (IsOver finish ended all none) =
+    IsOver finish (ap (λ (m : Standing). m.state.ended) machine ∙ ended) all (line ∙ none)
 
 pub stands_fed : (p : Progress) (w : Work) (given : List (List ℕ)) (card : List ℕ) → NeedsCard p → IsLine card → IsAt p w given
     → IsAt (record p { input = line_text card }) (record w { cards = w.cards ++ card ∷ [] }) given
@@ -141,17 +142,20 @@ last_is_told : (made : List SysCall) (given : List (List ℕ)) (finish : Finish)
 last_is_told made given finish [] all = (all ∙ append-nil given, refl, refl)
 last_is_told made given finish (code ∷ rest) all = ([], all)
 
-pub told_at_end : (p : Progress) (w : Work) (given : List (List ℕ)) (finish : Finish) (n : Standing) → WentTo p.machine (pause.Finished finish) n → IsAt p w given
+pub told_at_end : (p : Progress) (w : Work) (given : List (List ℕ)) (finish : Finish) (n : Standing) → WentTo p.machine (pause.Finished finish) n
+    → IsAt p w given
     → Tells w given (last_told p.line finish)
 told_at_end p w given finish n went at =
     let outcome = Ends finish.result finish.line finish.ticks at.calls in
     record {
       outcome = outcome;
-      comes = moved_run p.machine.code w.code p.machine.limit w.limit (text w.cards) w.closed outcome at.code at.limit (at.answered, went.runs (batch_replies (text w.cards) at.calls) at.calls at.machine);
+      comes = moved_run p.machine.code w.code p.machine.limit w.limit (text w.cards) w.closed outcome at.code at.limit
+          (at.answered, went.runs (batch_replies (text w.cards) at.calls) at.calls at.machine);
       is_told = last_is_told at.calls given finish p.line (all_given p at.calls given finish p.line refl at.lines);
     }
 
-pub stands_at_end : (p : Progress) (w : Work) (given : List (List ℕ)) (finish : Finish) (n : Standing) → WentTo p.machine (pause.Finished finish) n → IsAt p w given
+pub stands_at_end : (p : Progress) (w : Work) (given : List (List ℕ)) (finish : Finish) (n : Standing) → WentTo p.machine (pause.Finished finish) n
+    → IsAt p w given
     → IsAt (record p { machine = n; line = [] }) w (given ++ line_in (last_told p.line finish))
 stands_at_end p w given finish n went at =
     record {
@@ -170,7 +174,8 @@ stands_at_end p w given finish n went at =
 -- ---- At a call
 
 -- a program that has given its last line asks for nothing
-still_given : (p : Progress) (made : List SysCall) (given : List (List ℕ)) (call : SysCall) (n : Standing) → WentTo p.machine (pause.Call call) n → HasGiven p made given
+still_given : (p : Progress) (made : List SysCall) (given : List (List ℕ)) (call : SysCall) (n : Standing) → WentTo p.machine (pause.Call call) n
+    → HasGiven p made given
     → printed_by made ≡ record { lines = given; line = p.line }
 still_given p made given call n went (GoesOn is) = is
 still_given p made given call n went (IsOver finish ended all none) =
@@ -178,12 +183,14 @@ still_given p made given call n went (IsOver finish ended all none) =
     (has_ended p.machine.code p.machine.limit p.machine.state finish ended))
 
 -- the reply by the input that the code keeps
-reply_there : (p : Progress) (w : Work) (given : List (List ℕ)) (call : SysCall) (reply : Option SysReply) → (at : IsAt p w given) → reply_so_far p.input p.closed call ≡ reply
+reply_there : (p : Progress) (w : Work) (given : List (List ℕ)) (call : SysCall) (reply : Option SysReply) → (at : IsAt p w given)
+    → reply_so_far p.input p.closed call ≡ reply
     → reply_so_far (input_behind (text w.cards) at.calls) w.closed call ≡ reply
 reply_there p w given call reply at is =
     ap (λ i. reply_so_far i w.closed call) (sym at.input) ∙ ap (λ b. reply_so_far p.input b call) (sym at.closed) ∙ is
 
-pub told_waits : (p : Progress) (w : Work) (given : List (List ℕ)) (call : SysCall) (n : Standing) → WentTo p.machine (pause.Call call) n → reply_so_far p.input p.closed call ≡ None
+pub told_waits : (p : Progress) (w : Work) (given : List (List ℕ)) (call : SysCall) (n : Standing) → WentTo p.machine (pause.Call call) n
+    → reply_so_far p.input p.closed call ≡ None
     → IsAt p w given → Tells w given told.WaitsForCard
 told_waits p w given call n went none at =
     let outcome = Waits (at.calls ++ call ∷ []) in
@@ -194,7 +201,8 @@ told_waits p w given call n went none at =
     let printed = printed_call at.calls call given p.line p.line None (still_given p at.calls given call n went at.lines) silent in
     record {
       outcome = outcome;
-      comes = moved_run p.machine.code w.code p.machine.limit w.limit (text w.cards) w.closed outcome at.code at.limit (at.calls, call, refl, at.answered, none_there, runs);
+      comes = moved_run p.machine.code w.code p.machine.limit w.limit (text w.cards) w.closed outcome at.code at.limit
+          (at.calls, call, refl, at.answered, none_there, runs);
       is_told = ap (λ (q : Printed). q.lines) printed ∙ append-nil given;
     }
 
@@ -203,7 +211,8 @@ nothing_read : (input : List ℕ) (closed : Bool) (call : SysCall) → HasNoRepl
 nothing_read input closed call waits =
     ap (λ c. input_after input c) waits.is_read ∙ ap (λ i. input_after i calls.Read) waits.nothing_left ∙ sym waits.nothing_left
 
-pub stands_waiting : (p : Progress) (w : Work) (given : List (List ℕ)) (call : SysCall) (n : Standing) → WentTo p.machine (pause.Call call) n → reply_so_far p.input p.closed call ≡ None
+pub stands_waiting : (p : Progress) (w : Work) (given : List (List ℕ)) (call : SysCall) (n : Standing) → WentTo p.machine (pause.Call call) n
+    → reply_so_far p.input p.closed call ≡ None
     → IsAt p w given → IsAt (record p { machine = n; input = input_after p.input call }) w (given ++ [])
 stands_waiting p w given call n went none at =
     let waits = no_reply p.input p.closed call none in
@@ -220,7 +229,8 @@ stands_waiting p w given call n went none at =
       lines = GoesOn (still_given p at.calls given call n went at.lines);
     })
 
-pub waits_for_card : (p : Progress) (call : SysCall) (n : Standing) → reply_so_far p.input p.closed call ≡ None → NeedsCard (record p { machine = n; input = input_after p.input call })
+pub waits_for_card : (p : Progress) (call : SysCall) (n : Standing) → reply_so_far p.input p.closed call ≡ None
+    → NeedsCard (record p { machine = n; input = input_after p.input call })
 waits_for_card p call n none =
     let waits = no_reply p.input p.closed call none in
     record { input = nothing_read p.input p.closed call waits ∙ waits.nothing_left; closed = waits.is_open }
@@ -238,13 +248,16 @@ given_is : (line : Option (List ℕ)) → lines_in_told (told_of line) ≡ compl
 given_is None = refl
 given_is (Some line) = refl
 
-code_after : (p : Progress) (call : SysCall) (reply : SysReply) (m n : Standing) (line : Option (List ℕ)) (after : List ℕ) → Passed p call reply m n line after → n.code ≡ p.machine.code
+code_after : (p : Progress) (call : SysCall) (reply : SysReply) (m n : Standing) (line : Option (List ℕ)) (after : List ℕ)
+    → Passed p call reply m n line after → n.code ≡ p.machine.code
 code_after p call reply m n line after past = ap (λ (s : Standing). s.code) past.was_answered.is ∙ past.went.code
 
-limit_after : (p : Progress) (call : SysCall) (reply : SysReply) (m n : Standing) (line : Option (List ℕ)) (after : List ℕ) → Passed p call reply m n line after → n.limit ≡ p.machine.limit
+limit_after : (p : Progress) (call : SysCall) (reply : SysReply) (m n : Standing) (line : Option (List ℕ)) (after : List ℕ)
+    → Passed p call reply m n line after → n.limit ≡ p.machine.limit
 limit_after p call reply m n line after past = ap (λ (s : Standing). s.limit) past.was_answered.is ∙ past.went.limit
 
-stands_behind : (p : Progress) (w : Work) (given : List (List ℕ)) (call : SysCall) (reply : SysReply) (m n : Standing) (line : Option (List ℕ)) (after : List ℕ) → Passed p call reply m n line after
+stands_behind : (p : Progress) (w : Work) (given : List (List ℕ)) (call : SysCall) (reply : SysReply) (m n : Standing) (line : Option (List ℕ))
+    (after : List ℕ) → Passed p call reply m n line after
     → IsAt p w given → IsAt (record { machine = n; input = input_after p.input call; closed = p.closed; line = after }) w (given ++ completed line)
 stands_behind p w given call reply m n line after past at =
     let input = text w.cards in
@@ -253,7 +266,8 @@ stands_behind p w given call reply m n line after past at =
     let same : reply ≡ batch_reply left call = reply_is left w.closed call reply there in
     let before = past.went.history (batch_replies input at.calls) at.calls at.machine in
     let asks : next m.code m.limit m.state ≡ Asks call m.state =
-    subst (λ l. next m.code l m.state ≡ Asks call m.state) (sym past.went.limit) (subst (λ c. next c p.machine.limit m.state ≡ Asks call m.state) (sym past.went.code) past.went.pauses.asks) in
+    subst (λ l. next m.code l m.state ≡ Asks call m.state) (sym past.went.limit)
+    (subst (λ c. next c p.machine.limit m.state ≡ Asks call m.state) (sym past.went.code) past.went.pauses.asks) in
     let more = past.was_answered.history (batch_replies input at.calls) at.calls call asks before in
     let replies : batch_replies input at.calls ++ reply ∷ []
     ≡ batch_replies input (at.calls ++ call ∷ []) = ap (λ r. batch_replies input at.calls ++ r ∷ []) same ∙ sym (replies_more input at.calls call) in
@@ -270,13 +284,16 @@ stands_behind p w given call reply m n line after past at =
       lines = GoesOn (printed_call at.calls call given p.line after line (still_given p at.calls given call m past.went at.lines) past.prints);
     }
 
-pub stands_past : (p : Progress) (w : Work) (given : List (List ℕ)) (call : SysCall) (reply : SysReply) (m n : Standing) (line : Option (List ℕ)) (after : List ℕ) → Passed p call reply m n line after
-    → IsAt p w given → IsAt (record { machine = n; input = input_after p.input call; closed = p.closed; line = after }) w (given ++ lines_in_told (told_of line))
+pub stands_past : (p : Progress) (w : Work) (given : List (List ℕ)) (call : SysCall) (reply : SysReply) (m n : Standing) (line : Option (List ℕ))
+    (after : List ℕ) → Passed p call reply m n line after
+    → IsAt p w given → IsAt (record { machine = n; input = input_after p.input call; closed = p.closed; line = after }) w
+    (given ++ lines_in_told (told_of line))
 stands_past p w given call reply m n line after past at =
     rw (given_is line) (stands_behind p w given call reply m n line after past at)
 
 -- a line is the next one of what the program comes to
-pub told_past : (p : Progress) (w : Work) (given : List (List ℕ)) (call : SysCall) (reply : SysReply) (m n : Standing) (line : Option (List ℕ)) (after : List ℕ) → Passed p call reply m n line after
+pub told_past : (p : Progress) (w : Work) (given : List (List ℕ)) (call : SysCall) (reply : SysReply) (m n : Standing) (line : Option (List ℕ))
+    (after : List ℕ) → Passed p call reply m n line after
     → IsAt p w given → TellsIf w given (told_of line)
 unfolding stands_behind
 told_past p w given call reply m n None after past at = tt
@@ -297,7 +314,8 @@ last_is_one : (line : List ℕ) → length (last_line line) ≤ 1
 last_is_one [] = omega arith
 last_is_one (code ∷ rest) = omega arith
 
-pub less_past : (p : Progress) (call : SysCall) (reply : SysReply) (m n : Standing) (line : Option (List ℕ)) (after : List ℕ) → Passed p call reply m n line after
+pub less_past : (p : Progress) (call : SysCall) (reply : SysReply) (m n : Standing) (line : Option (List ℕ)) (after : List ℕ)
+    → Passed p call reply m n line after
     → most_lines_left (record { machine = n; input = input_after p.input call; closed = p.closed; line = after }) + lowers (told_of line) ≤ most_lines_left p
 less_past p call reply m n line after past =
     let c = p.machine.code in

@@ -44,4 +44,5 @@ abbrev pub answers_so_far : List ℕ → Bool → Answers
 answers_so_far input closed [] = None
 answers_so_far input closed (call ∷ []) = reply_so_far input closed call
 answers_so_far input closed (call ∷ next ∷ more) =
-    if_answered (reply_so_far input closed call) (answers_so_far (input_after input call) closed (next ∷ more))
+    if_answered (reply_so_far input closed call)
+    (answers_so_far (input_after input call) closed (next ∷ more))

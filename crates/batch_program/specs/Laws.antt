@@ -12,7 +12,8 @@ use Rattle.stack_code.specs.Rules.{IsGood}
 use Rattle.stack_machine.specs.Run.{Runs}
 use Rattle.batch_program.specs.Outcome.{Work, ComesTo, lines_of, meaning_so_far, EndsAs}
 use Rattle.batch_program.specs.Progress.{Progress}
-use Rattle.batch_program.specs.Told.{IsAt}
+use Rattle.batch_program.specs.Told.{IsTold, Tells, IsAt}
+use Rattle.batch_program.specs.declared.told.Told.{Told}
 
 -- ---- What comes of it
 
@@ -45,13 +46,14 @@ MoreCardsGoOn =
 abbrev pub MoreCardsMoreLines : Type 0
 MoreCardsMoreLines =
     (w : Work) (more : List (List ℕ)) (closed : Bool) (outcome later : RunOutcome) → w.closed ≡ false
-    → ComesTo w outcome → ComesTo (with_more w more closed) later → IsPrefix (lines_of outcome) (lines_of later)
+    → ComesTo w outcome → ComesTo (with_more w more closed) later
+    → IsPrefix (lines_of outcome) (lines_of later)
 
 -- the lines that were given are the first of what the program comes to
 abbrev pub GivenLinesAreFirst : Type 0
 GivenLinesAreFirst =
-    (p : Progress) (w : Work) (given : List (List ℕ)) (outcome : RunOutcome) → IsAt p w given → ComesTo w outcome
-    → IsPrefix given (lines_of outcome)
+    (p : Progress) (w : Work) (given : List (List ℕ)) (outcome : RunOutcome)
+    → IsAt p w given → ComesTo w outcome → IsPrefix given (lines_of outcome)
 
 -- ---- By its source
 
@@ -62,12 +64,29 @@ MeansItsSource c p =
     → Runs c limit replies (meaning p limit replies)
 
 -- it comes to what its source means with the same cards
+abbrev pub ReachesItsMeaning : Type 0
+ReachesItsMeaning =
+    (w : Work) (p : Program) → MeansItsSource w.code p → AreLines w.cards
+    → ComesTo w (meaning_so_far p w.limit w.cards w.closed)
+
+-- and to nothing else
 abbrev pub ComesToItsMeaning : Type 0
 ComesToItsMeaning =
     (w : Work) (p : Program) (outcome : RunOutcome) → MeansItsSource w.code p → AreLines w.cards
     → ComesTo w outcome → outcome ≡ meaning_so_far p w.limit w.cards w.closed
 
--- and with all cards to the ending in the batch: its result, its line, its ticks and its whole output
+-- so that what is told is told of this meaning, and what was given are its first lines
+abbrev pub TellsItsMeaning : Type 0
+TellsItsMeaning =
+    (w : Work) (p : Program) (given : List (List ℕ)) (t : Told) → MeansItsSource w.code p → AreLines w.cards
+    → Tells w given t → IsTold given (meaning_so_far p w.limit w.cards w.closed) t
+
+abbrev pub GivenAreItsLines : Type 0
+GivenAreItsLines =
+    (r : Progress) (w : Work) (p : Program) (given : List (List ℕ)) → MeansItsSource w.code p → IsAt r w given
+    → IsPrefix given (lines_of (meaning_so_far p w.limit w.cards w.closed))
+
+-- with all cards it comes to the ending in the batch: its result, its line, its ticks and its whole output
 abbrev pub ComesToItsEnding : Type 0
 ComesToItsEnding =
     (w : Work) (p : Program) (outcome : RunOutcome) → MeansItsSource w.code p → AreLines w.cards
@@ -85,7 +104,8 @@ MeaningsGoOn =
 abbrev pub MeaningsAddLines : Type 0
 MeaningsAddLines =
     (p : Program) (limit : ℕ) (cards more : List (List ℕ)) (closed : Bool)
-    → IsPrefix (lines_of (meaning_so_far p limit cards false)) (lines_of (meaning_so_far p limit (cards ++ more) closed))
+    → IsPrefix (lines_of (meaning_so_far p limit cards false))
+    (lines_of (meaning_so_far p limit (cards ++ more) closed))
 
 -- with all cards it is the ending in the batch
 abbrev pub MeaningsEnd : Type 0

@@ -10,7 +10,8 @@ use Rattle.pascal_mean.specs.Meaning.{meaning_with}
 use Rattle.pascal_mean.specs.Batch.{batch_replies, characters_of, Printed, nothing_printed, with_characters, output_of, Ending, ending_of}
 use Rattle.batch_program.specs.Input.{reply_so_far, AreAnswered, input_behind, answers_so_far}
 
--- a compiled program, its limit of ticks, the cards that it was given so far, and whether no further one comes
+-- a compiled program, its limit of ticks, the cards that it was given so far, and whether no further one
+-- comes
 pub record Work : Type 0 where
   pub code : CodeLists
   pub limit : ℕ
@@ -23,7 +24,8 @@ abbrev pub RunsOn : CodeLists → ℕ → List ℕ → Bool → RunOutcome → T
 RunsOn c limit input closed (Ends r line ticks calls) =
     AreAnswered input closed calls × Runs c limit (batch_replies input calls) (Ends r line ticks calls)
 RunsOn c limit input closed (Waits calls) =
-    (before : List SysCall) × (last : SysCall) × (calls ≡ before ++ last ∷ []) × AreAnswered input closed before
+    (before : List SysCall) × (last : SysCall) × (calls ≡ before ++ last ∷ [])
+    × AreAnswered input closed before
     × (reply_so_far (input_behind input before) closed last ≡ None)
     × Runs c limit (batch_replies input before) (Waits calls)
 

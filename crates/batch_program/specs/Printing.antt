@@ -10,4 +10,5 @@ completed (Some line) = line ∷ []
 -- these characters complete this line or none, and leave that one in hand
 abbrev pub Prints : List ℕ → List ℕ → Option (List ℕ) → List ℕ → Type 0
 Prints before codes line after =
-    with_characters (record { lines = []; line = before }) codes ≡ record { lines = completed line; line = after }
+    with_characters (record { lines = []; line = before }) codes
+    ≡ record { lines = completed line; line = after }

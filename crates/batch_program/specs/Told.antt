@@ -1,5 +1,5 @@
 -- What a program that is under way tells, and what it stands for.
-use Rattle.std.specs.Prelude.{◌≡◌, ℕ, ◌+◌, ◌*◌, ◌<◌, Bool, true, false, List, [], ◌∷◌, ◌++◌, length, Option, Some, None}
+use Rattle.std.specs.Prelude.{◌≡◌, ℕ, List, [], ◌∷◌, ◌++◌, Some}
 use Rattle.solo_base.specs.declared.system_call.SysCall.{SysCall}
 use Rattle.solo_base.specs.RunOutcome.{RunOutcome, Ends, Waits}
 use Rattle.solo_base.specs.Text.{text}
@@ -7,7 +7,7 @@ use Rattle.solo_base.specs.LineList.{AreLines}
 use Rattle.stack_machine.specs.declared.state.Finish.{Finish}
 use Rattle.stack_machine.specs.Standing.{StandsWell}
 use Rattle.stack_machine.specs.History.{StandsFor}
-use Rattle.pascal_mean.specs.Batch.{batch_replies, last_line, output_of}
+use Rattle.pascal_mean.specs.Batch.{batch_replies, output_of}
 use Rattle.batch_program.specs.Input.{AreAnswered, input_behind}
 use Rattle.batch_program.specs.Outcome.{Work, ComesTo, printed_by, lines_of}
 use Rattle.batch_program.specs.Progress.{Progress}

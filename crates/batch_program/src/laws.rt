@@ -1,6 +1,10 @@
 // The laws of programs under way. Nothing is done here: the contracts are the laws.
 
-ghost use Rattle.batch_program.specs.Laws.{SomeOutcome, OneOutcome, MoreCardsGoOn, MoreCardsMoreLines, GivenLinesAreFirst, ComesToItsMeaning, ComesToItsEnding, MeaningsGoOn, MeaningsAddLines, MeaningsEnd};
+ghost use Rattle.batch_program.specs.Laws.{SomeOutcome, OneOutcome};
+ghost use Rattle.batch_program.specs.Laws.{MoreCardsGoOn, MoreCardsMoreLines, GivenLinesAreFirst};
+ghost use Rattle.batch_program.specs.Laws.{ReachesItsMeaning, ComesToItsMeaning, ComesToItsEnding};
+ghost use Rattle.batch_program.specs.Laws.{TellsItsMeaning, GivenAreItsLines};
+ghost use Rattle.batch_program.specs.Laws.{MeaningsGoOn, MeaningsAddLines, MeaningsEnd};
 
 /// With its cards so far a program of good code comes to one thing: it has ended, or it waits for a card.
 pub fn each_program_comes_to_one_thing()
@@ -16,10 +20,13 @@ pub fn more_cards_only_add_lines()
     ensures given { GivenLinesAreFirst }
 {}
 
-/// Code that does what its source means comes to what the source means with the same cards; with all of them,
-/// to its ending in the batch.
+/// Code that does what its source means comes to what the source means with the same cards, and tells of
+/// that; with all of them, it comes to its ending in the batch.
 pub fn code_comes_to_what_its_source_means()
+    ensures reaches { ReachesItsMeaning }
     ensures meaning { ComesToItsMeaning }
+    ensures tells { TellsItsMeaning }
+    ensures given { GivenAreItsLines }
     ensures ending { ComesToItsEnding }
 {}
 

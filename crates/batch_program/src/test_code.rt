@@ -1,3 +1,5 @@
+ghost use Rattle.batch_program.specs.Progress.{NeedsCard};
+
 use crate::{BatchProgram, Told};
 use solo_base::{Line, ProgResult};
 use stack_code::{Op, Verified, decode, verify};
@@ -73,26 +75,58 @@ pub(crate) fn told(
     let mut all = Vec::new(alloc);
     let mut fed = 0;
     for _ in 0..1000 {
-        match program.next() {
-            Told::Line(line) => {
-                all.push(b'"')?;
-                all.extend_from_slice(line.bytes())?;
-                all.extend_from_slice(b"\" ")?;
-            }
-            Told::WaitsForCard => {
-                all.extend_from_slice(b"card ")?;
-                match cards.get(fed) {
-                    Some(card) => program.feed(&Line::of(card).ok_or("no card")?),
-                    None => program.close(),
-                }
-                fed = (fed + 1) % 1000;
-            }
-            Told::Ended { how, line } => {
-                all.extend_from_slice(end_text(how))?;
-                all.push((line % 10) as u8 + b'0')?;
-                return Ok(all);
-            }
+        match tell(&mut program, &mut all, cards, fed)? {
+            Some(next) => fed = next,
+            None => return Ok(all),
         }
     }
     Ok(all)
+}
+
+// What is told next, and which card is needed then, unless the program has ended.
+fn tell(
+    program: &mut BatchProgram,
+    all: &mut Vec<u8>,
+    cards: &[&[u8]],
+    fed: usize,
+) -> Result<Option<usize>, Fail> {
+    match program.next() {
+        Told::Line(line) => {
+            put_line(all, &line)?;
+            Ok(Some(fed))
+        }
+        Told::WaitsForCard => {
+            give(program, cards.get(fed).copied())?;
+            all.extend_from_slice(b"card ")?;
+            Ok(Some(fed.saturating_add(1)))
+        }
+        Told::Ended { how, line } => {
+            all.extend_from_slice(end_text(how))?;
+            all.push((line % 10) as u8 + b'0')?;
+            Ok(None)
+        }
+    }
+}
+
+fn put_line(all: &mut Vec<u8>, line: &Line) -> Result<(), Fail> {
+    all.push(b'"')?;
+    all.extend_from_slice(line.bytes())?;
+    all.extend_from_slice(b"\" ")?;
+    Ok(())
+}
+
+// A card for a program that needs one, or that no further one comes.
+fn give(program: &mut BatchProgram, card: Option<&[u8]>) -> Result<(), Fail>
+    requires { NeedsCard program.old }
+{
+    match card {
+        Some(bytes) => {
+            program.feed(&Line::of(bytes).ok_or("no card")?);
+            Ok(())
+        }
+        None => {
+            program.close();
+            Ok(())
+        }
+    }
 }

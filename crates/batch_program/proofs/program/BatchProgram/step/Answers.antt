@@ -1,7 +1,6 @@
-use Rattle.std.proofs.Common.{List, ℕ, sym, subst, arith}
+use Rattle.std.proofs.Common.{sym, subst, arith}
 use Rattle.stack_machine.specs.declared.running.Pause.TheVariants.{Call}
 use Rattle.batch_program.specs.contracts.program.BatchProgram.{the_view}
-use Rattle.batch_program.specs.Outcome.{Work}
 use Rattle.batch_program.specs.Told.{IsAt}
 use Rattle.batch_program.proofs.Steps.{WentTo, Passed, told_at_end, stands_at_end, told_waits, stands_waiting, stands_past, told_past, less_past, less_at_end, less_waiting}
 use Rattle.batch_program.proofs.program.BatchProgram.step.Goals as goal
@@ -59,19 +58,22 @@ passed c =
 pub returns-in-Some-clause-tells : goal.returns-in-Some-clause-tells
 returns-in-Some-clause-tells c =
     λ w given at.
-    rw c.told_of.ensures (told_past (the_view c.self.inside) w given c.in-Call.call c.in-Some.reply c.go.new.self c.answer-in-Some.new.self c.print_call.result c.print_call.new.line (passed c)
+    rw c.told_of.ensures (told_past (the_view c.self.inside) w given c.in-Call.call c.in-Some.reply c.go.new.self c.answer-in-Some.new.self
+    c.print_call.result c.print_call.new.line (passed c)
     (subst (λ p. IsAt p w given) (sym c.self.view_is) at))
 
 pub returns-in-Some-clause-stands : goal.returns-in-Some-clause-stands
 returns-in-Some-clause-stands c =
     λ w given at.
-    rw (c.answer.ensures.rest, c.told_of.ensures) (stands_past (the_view c.self.inside) w given c.in-Call.call c.in-Some.reply c.go.new.self c.answer-in-Some.new.self c.print_call.result c.print_call.new.line (passed c)
+    rw (c.answer.ensures.rest, c.told_of.ensures) (stands_past (the_view c.self.inside) w given c.in-Call.call c.in-Some.reply c.go.new.self
+    c.answer-in-Some.new.self c.print_call.result c.print_call.new.line (passed c)
     (subst (λ p. IsAt p w given) (sym c.self.view_is) at))
 
 pub returns-in-Some-clause-left : goal.returns-in-Some-clause-left
 returns-in-Some-clause-left c =
     rw (c.told_of.ensures, ← c.self.view_is)
-    (less_past (the_view c.self.inside) c.in-Call.call c.in-Some.reply c.go.new.self c.answer-in-Some.new.self c.print_call.result c.print_call.new.line (passed c))
+    (less_past (the_view c.self.inside) c.in-Call.call c.in-Some.reply c.go.new.self c.answer-in-Some.new.self c.print_call.result c.print_call.new.line
+    (passed c))
 
 -- ---- Less is left
 
