@@ -1,4 +1,4 @@
-mod Trees
+pub mod Trees
 mod WorkedPrograms
 mod Sentences
 mod Order

@@ -14,7 +14,7 @@ abbrev pub found : List Item → List ℕ → Option Means
 found [] x = None
 found (i ∷ earlier) x = if bytes_eq i.letters x then Some i.means else found earlier x
 
-abbrev first_of_three : Option Means → Option Means → Option Means → Means
+abbrev pub first_of_three : Option Means → Option Means → Option Means → Means
 first_of_three (Some own) program outermost = own
 first_of_three None (Some program) outermost = program
 first_of_three None None (Some predeclared) = predeclared

@@ -1,0 +1,9 @@
+pub mod Frames
+pub mod Senses
+pub mod Instructions
+pub mod Names
+pub mod Calls
+pub mod Expressions
+pub mod Statements
+pub mod Code
+pub mod Size
