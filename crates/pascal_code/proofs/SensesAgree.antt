@@ -1,13 +1,15 @@
 -- What a name is to the code is what it means, with a first word.
-use Rattle.std.proofs.Common.{◌≡◌, ℕ, Bool, true, false, List, [], ◌∷◌, Option, Some, None, refl}
+use Rattle.std.proofs.Common.{◌≡◌, ℕ, Bool, true, false, List, [], ◌∷◌, Option, Some, None, refl, ap, ◌∙◌}
 use Rattle.std.specs.Prelude.{bytes_eq, if◌then◌else◌}
+use Rattle.pascal_tree.specs.declared.constant.Constant.{Constant}
+use Rattle.pascal_tree.specs.declared.constant.Constant.TheVariants as constant
 use Rattle.pascal_mean.specs.Means.{Means}
 use Rattle.pascal_mean.specs.Means as meant
 use Rattle.pascal_mean.specs.Predeclared.{Item, predeclared}
-use Rattle.pascal_mean.specs.Scope.{Scope, found, first_of_three, scope_of}
+use Rattle.pascal_mean.specs.Scope.{Scope, found, first_of_three, scope_of, number_named, constant_number}
 use Rattle.pascal_mean.specs.Calls.{passing_named}
 use Rattle.pascal_code.specs.Frames.{Frame, place_behind, plain_frame}
-use Rattle.pascal_code.specs.Senses.{Sense, sense, sense_among, sense_in, first_sense, names_in}
+use Rattle.pascal_code.specs.Senses.{Sense, sense, sense_among, sense_in, first_sense, names_in, number_of, constant_value}
 use Rattle.pascal_code.specs.Calls.{passing_of}
 
 -- the same declaration was found, or none
@@ -64,3 +66,25 @@ passing_alike (meant.Function f) a = refl
 passing_alike (meant.Interface p) a = refl
 passing_alike (meant.TypeName t) a = refl
 passing_alike meant.Nothing a = refl
+
+-- ---- Constants
+
+number_alike : (m : Means) (a : ℕ) → number_of (sense m a) ≡ number_named m
+number_alike (meant.Constant t v) a = refl
+number_alike (meant.Variable owner t) a = refl
+number_alike (meant.Array owner t bounds) a = refl
+number_alike (meant.Reference t) a = refl
+number_alike (meant.Routine k signature) a = refl
+number_alike (meant.Function f) a = refl
+number_alike (meant.Interface p) a = refl
+number_alike (meant.TypeName t) a = refl
+number_alike meant.Nothing a = refl
+
+-- a constant stands for the number that it means
+pub constants_alike : (scope : Scope) (names : List ℕ → Sense) → AreSenses scope names → (c : Constant)
+    → constant_value names c ≡ constant_number scope c
+constants_alike scope names are (constant.Name n) =
+    ap number_of (are n.letters).1 ∙ number_alike (scope n.letters) (are n.letters).0
+constants_alike scope names are (constant.Number n) = refl
+constants_alike scope names are (constant.Negative line n) = refl
+constants_alike scope names are (constant.Character c) = refl

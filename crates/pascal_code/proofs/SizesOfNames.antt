@@ -6,6 +6,7 @@ use Rattle.pascal_mean.specs.Means.{Means, Standard, Abs, Succ, Pred, Ord, Chr}
 use Rattle.pascal_mean.specs.Means as meant
 use Rattle.pascal_mean.specs.Calls.{Passing, ByValue, ByVariable, ByArray, row_passing, passing_named}
 use Rattle.pascal_mean.specs.Expressions.{name_in}
+use Rattle.pascal_mean.specs.Scope.{Scope}
 use Rattle.pascal_code.specs.Senses.{Sense, sense, Site}
 use Rattle.pascal_code.specs.Names.{name_code, store_code, reference_code, test_code, element_code, store_element_code}
 use Rattle.pascal_code.specs.Calls.{standard_code, passing_of, variable_code, passed_code, given_exprs, given_arguments, variables_among, arrays_among, stores_code, call_code}
@@ -105,9 +106,9 @@ standard_sized Pred = refl
 standard_sized Ord = refl
 standard_sized Chr = refl
 
-module _ (site : Site) (are : AreSenses site.scope site.names) where
+module _ (site : Site) (scope : Scope) (are : AreSenses scope site.names) where
   stores_sized : (passing : List Passing) (e : Exprs)
-      → length (stores_code site.result (variables_among passing (given_exprs site e))) ≡ set_size site.scope passing e
+      → length (stores_code site.result (variables_among passing (given_exprs site e))) ≡ set_size scope passing e
   stores_sized [] no_expr = refl
   stores_sized (p ∷ others) no_expr = refl
   stores_sized [] (next_expr comma e more) = refl
@@ -115,8 +116,8 @@ module _ (site : Site) (are : AreSenses site.scope site.names) where
   stores_sized (ByArray ∷ others) (next_expr comma e more) = stores_sized others more
   stores_sized (ByVariable ∷ others) (next_expr comma e more) =
       let x = name_in e in
-      let first : length (store_code site.result (site.names x)) ≡ store_size (site.scope x) =
-      ap (λ s. length (store_code site.result s)) (are x).1 ∙ store_sized site.result (site.scope x) (are x).0 in
+      let first : length (store_code site.result (site.names x)) ≡ store_size (scope x) =
+      ap (λ s. length (store_code site.result s)) (are x).1 ∙ store_sized site.result (scope x) (are x).0 in
       let later = stores_code site.result (variables_among others (given_exprs site more)) in
       omega (arith, length-append later (store_code site.result (site.names x)), first, stores_sized others more)
 
@@ -126,12 +127,12 @@ module _ (site : Site) (are : AreSenses site.scope site.names) where
   -- a call behind its arguments
   pub call_sized : (m : Means) (a : ℕ) (given : Arguments)
       → length (call_code site.result (sense m a) (given_arguments site given))
-      ≡ call_size m (set_size site.scope (passing_named m) (exprs_of given))
+      ≡ call_size m (set_size scope (passing_named m) (exprs_of given))
   call_sized (meant.Routine k signature) a given = refl
   call_sized (meant.Function f) a given = standard_sized f
   call_sized (meant.Interface p) a given =
       let here = variables_among (row_passing p) (given_arguments site given) in
-      let same : length (stores_code site.result here) ≡ set_size site.scope (row_passing p) (exprs_of given) =
+      let same : length (stores_code site.result here) ≡ set_size scope (row_passing p) (exprs_of given) =
       ap (λ g. length (stores_code site.result (variables_among (row_passing p) g))) (given_again given)
       ∙ stores_sized (row_passing p) (exprs_of given) in
       omega (arith, same)

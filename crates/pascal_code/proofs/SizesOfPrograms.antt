@@ -18,7 +18,7 @@ routine_sized r are start =
     omega (
       arith,
       length-append code (ending r.owner ∷ []),
-      body_sized (site_of r) are (r.declared).body (declared_words r.frame) start,
+      body_sized (site_of r) (r.declared).scope are (r.declared).body (declared_words r.frame) start,
     )
 
 routines_sized : (k : ℕ) (known : List Item) (routines : List Routine) (start : ℕ)

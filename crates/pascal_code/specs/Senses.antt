@@ -1,12 +1,13 @@
 -- What names are to the code.
-use Rattle.std.specs.Prelude.{ℕ, ◌+◌, List, [], ◌∷◌, Option, Some, None, ℤ, bytes_eq, if◌then◌else◌}
+use Rattle.std.specs.Prelude.{ℕ, ◌+◌, List, [], ◌∷◌, Option, Some, None, ℤ, pos, neg_ℤ, bytes_eq, if◌then◌else◌}
 use Rattle.solo_base.specs.declared.interface.Procedure.{Procedure}
+use Rattle.pascal_tree.specs.declared.constant.Constant as constants
+use Rattle.pascal_tree.specs.declared.constant.Constant.TheVariants as constant
 use Rattle.pascal_tree.specs.Program.{Block, Program}
 use Rattle.pascal_tree.specs.Program as tree
 use Rattle.pascal_mean.specs.Means.{Means, Owner, OfProgram, OfRoutine, Bounds, Signature, Standard}
 use Rattle.pascal_mean.specs.Means as meant
 use Rattle.pascal_mean.specs.Predeclared.{Item, predeclared}
-use Rattle.pascal_mean.specs.Scope.{Scope}
 use Rattle.pascal_mean.specs.Calls.{Passing, passing_named}
 use Rattle.pascal_mean.specs.Declarations.{Declared, declared_routine, block_of, signature_of, heading_item, declared_headings, global_items, program_itself}
 use Rattle.pascal_code.specs.Frames.{Frame, place_behind, plain_frame, routine_frame}
@@ -92,14 +93,32 @@ framed_after k known (r ∷ more) =
 abbrev pub all_framed : Program → List Framed
 all_framed p = framed_program p ∷ framed_after 1 (global_items p) p.routines
 
--- Where statements stand: what names mean there, what they are to the code, whose frame the own one is, and the
--- word of a function's result.
+-- Where statements stand: what names are to the code, whose frame the own one is, and the word of a function's
+-- result.
 pub record Site : Type 0 where
-  pub scope : Scope
   pub names : List ℕ → Sense
   pub owner : Owner
   pub result : ℕ
 
 abbrev pub site_of : Framed → Site
-site_of r =
-    record { scope = (r.declared).scope; names = r.names; owner = r.owner; result = (r.frame).parameters }
+site_of r = record { names = r.names; owner = r.owner; result = (r.frame).parameters }
+
+-- ---- Constants
+
+-- the number of a constant's name, and 0 for any other
+abbrev pub number_of : Sense → ℤ
+number_of (Constant v) = v
+number_of (Variable owner a) = pos 0
+number_of (Array owner a bounds) = pos 0
+number_of (Reference a) = pos 0
+number_of (Routine k passing) = pos 0
+number_of (Function f) = pos 0
+number_of (Interface p) = pos 0
+number_of Nothing = pos 0
+
+-- what a constant of the program stands for
+abbrev pub constant_value : (List ℕ → Sense) → constants.Constant → ℤ
+constant_value names (constant.Name n) = number_of (names n.letters)
+constant_value names (constant.Number n) = pos n.value
+constant_value names (constant.Negative line n) = neg_ℤ (pos n.value)
+constant_value names (constant.Character c) = pos c.code

@@ -9,9 +9,8 @@ use Rattle.pascal_tree.specs.declared.statement.Direction.TheVariants as directi
 use Rattle.pascal_tree.specs.Word.{NameAt}
 use Rattle.pascal_tree.specs.Expression.{Arguments}
 use Rattle.pascal_tree.specs.Statement.{Labels, Statement, empty, assign, call, compound, if_then, if_else, while_do, repeat_until, for_do, case_of, Body, body, Sequence, sequence, Statements, no_statement, next_statement, Branch, branch, Branches, no_branch, next_branch}
-use Rattle.pascal_mean.specs.Scope.{constant_number}
 use Rattle.pascal_code.specs.Instructions.{bare, with_a, push, tick, test_index, load_word, store_word}
-use Rattle.pascal_code.specs.Senses.{Site}
+use Rattle.pascal_code.specs.Senses.{Site, constant_value}
 use Rattle.pascal_code.specs.Names.{store_code, store_element_code}
 use Rattle.pascal_code.specs.Calls.{passing_of, given_arguments, call_code}
 use Rattle.pascal_code.specs.Expressions.{expr_code, index_code, arguments_code}
@@ -67,7 +66,7 @@ counter_step site way counter turn =
 -- the selector's word is compared with a label: where they are one, the statement is done
 abbrev pub label_test : Site → ℕ → ℕ → Constant → List Instr
 label_test site selector found label =
-    load_own site selector ∷ push (constant_number site.scope label) ∷ bare op.Ne ∷ jump_if_false found ∷ []
+    load_own site selector ∷ push (constant_value site.names label) ∷ bare op.Ne ∷ jump_if_false found ∷ []
 
 abbrev pub more_label_tests : Site → ℕ → ℕ → List (ℕ × Constant) → List Instr
 more_label_tests site selector found [] = []
