@@ -50,8 +50,8 @@ passing_of (Array owner a bounds) = []
 passing_of (Reference a) = []
 passing_of Nothing = []
 
--- A variable that is passed to what is called: a routine gets a reference to it, and the interface sets it behind
--- the call.
+-- A variable that is passed to what is called: a routine gets a reference to it, and the interface sets it
+-- behind the call.
 abbrev pub variable_code : Sense → Sense → List Instr
 variable_code (Routine k passing) given = reference_code given
 variable_code (Interface p) given = []

@@ -103,8 +103,8 @@ infos_from calling (r ∷ more) start =
     let code = routine_code r start in
     routine_info calling r start code ∷ infos_from calling more (start + length code)
 
--- The code of a program: the program is routine 0, and its routines follow in their order. `BEGIN END.` is the one
--- instruction HALT.
+-- The code of a program: the program is routine 0, and its routines follow in their order. `BEGIN END.` is
+-- the one instruction HALT.
 unfoldable pub code_of : Program → CodeLists
 code_of p =
     let all = all_framed p in

@@ -47,7 +47,8 @@ sign_code (Some (sign.Minus, line)) = bare op.Neg ∷ []
 abbrev mutual
   pub expr_code : Site → Expr → List Instr
   expr_code site (alone s) = simple_code site s
-  expr_code site (compared s r line t) = simple_code site s ++ (simple_code site t ++ bare (relation_op r) ∷ [])
+  expr_code site (compared s r line t) =
+      simple_code site s ++ (simple_code site t ++ bare (relation_op r) ∷ [])
 
   -- the sign applies to the first term
   pub simple_code : Site → Simple → List Instr

@@ -1,5 +1,5 @@
--- The code of names: what each is to those who load it, store into it or pass it on. What breaks no static rule
--- has a name with code wherever it has one.
+-- The code of names: what each is to those who load it, store into it or pass it on. In what breaks no static
+-- rule each name has code.
 use Rattle.std.specs.Prelude.{ℕ, ◌+◌, List, [], ◌∷◌}
 use Rattle.stack_code.specs.declared.table.Op.TheVariants as op
 use Rattle.stack_code.specs.declared.instr.Instr.{Instr}
@@ -8,8 +8,8 @@ use Rattle.pascal_mean.specs.Variables.{size_of}
 use Rattle.pascal_code.specs.Instructions.{with_a, push, test_index, load_word, store_word, load_element, store_element, refer}
 use Rattle.pascal_code.specs.Senses.{Sense, Constant, Variable, Array, Reference, Routine, Function, Interface, Nothing}
 
--- A name as a factor: a constant is pushed, a variable loaded, a VAR parameter loaded through its two words, a
--- function called.
+-- A name as a factor: a constant is pushed, a variable loaded, a VAR parameter loaded through its two words,
+-- a function called.
 abbrev pub name_code : Sense → List Instr
 name_code (Constant v) = push v ∷ []
 name_code (Variable owner a) = load_word owner a ∷ []
@@ -20,8 +20,8 @@ name_code (Function f) = []
 name_code (Interface p) = []
 name_code Nothing = []
 
--- A name that is set, where a function's result has this word: the name of a function, in its own body, is its
--- result.
+-- A name that is set, where a function's result has this word: the name of a function, in its own body, is
+-- its result.
 abbrev pub store_code : ℕ → Sense → List Instr
 store_code result (Variable owner a) = store_word owner a ∷ []
 store_code result (Reference a) = with_a op.StoreR a ∷ []

@@ -13,8 +13,8 @@ use Rattle.pascal_mean.specs.Declarations.{Declared, declared_routine, block_of,
 use Rattle.pascal_code.specs.Frames.{Frame, place_behind, plain_frame, routine_frame}
 
 -- A constant with its value; a variable and an array in the frame of its owner, with its first word; a VAR
--- parameter in the own frame, with its first word; a routine with its number, and how its arguments are passed; a
--- standard function; a row of the interface; and what has no code of its own, as a type.
+-- parameter in the own frame, with its first word; a routine with its number, and how its arguments are
+-- passed; a standard function; a row of the interface; and what has no code of its own, as a type.
 pub data Sense : Type 0 where
   Constant : ℤ → Sense
   Variable : Owner → ℕ → Sense
@@ -59,8 +59,8 @@ names_in own program x =
 
 -- ---- Routines
 
--- A routine, or the program itself: what its declarations leave, whose frame its own words lie in, that frame,
--- and what names are to the code of its statements.
+-- A routine, or the program itself: what its declarations leave, whose frame its own words lie in, that
+-- frame, and what names are to the code of its statements.
 pub record Framed : Type 0 where
   pub declared : Declared
   pub owner : Owner
@@ -70,7 +70,8 @@ pub record Framed : Type 0 where
 abbrev pub framed_program : Program → Framed
 framed_program p =
     let frame = plain_frame (declared_headings 1 p.routines (global_items p)) in
-    record { declared = program_itself p; owner = OfProgram; frame = frame; names = names_in (plain_frame []) frame }
+    let names = names_in (plain_frame []) frame in
+    record { declared = program_itself p; owner = OfProgram; frame = frame; names = names }
 
 abbrev pub framed_routine : List Item → Signature → Block → Framed
 framed_routine known signature b =
@@ -93,8 +94,8 @@ framed_after k known (r ∷ more) =
 abbrev pub all_framed : Program → List Framed
 all_framed p = framed_program p ∷ framed_after 1 (global_items p) p.routines
 
--- Where statements stand: what names are to the code, whose frame the own one is, and the word of a function's
--- result.
+-- Where statements stand: what names are to the code, whose frame the own one is, and the word of a
+-- function's result.
 pub record Site : Type 0 where
   pub names : List ℕ → Sense
   pub owner : Owner

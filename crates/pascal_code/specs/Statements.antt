@@ -88,9 +88,9 @@ no_branch_code out =
 
 -- ---- Statements
 
--- The code of a part that stands from a place on, where the words of the frame from a number on are free for FOR
--- and CASE: a FOR takes two for what stands inside it, a CASE one, and what follows takes them again. `out` is
--- the place behind the statement's code.
+-- The code of a part that stands from a place on, where the words of the frame from a number on are free for
+-- FOR and CASE: a FOR takes two for what stands inside it, a CASE one, and what follows takes them again.
+-- `out` is the place behind the statement's code.
 abbrev mutual
   pub statement_code : Site → ℕ → Statement → ℕ → List Instr
   statement_code site free empty place = []
