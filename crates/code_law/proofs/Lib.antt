@@ -1,1 +1,4 @@
 pub mod Regions
+pub mod Words
+pub mod Indexes
+pub mod Tied
