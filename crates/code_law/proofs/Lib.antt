@@ -4,3 +4,7 @@ pub mod Indexes
 pub mod Tied
 pub mod Lists
 pub mod Agreeing
+pub mod Reached
+pub mod Here
+pub mod Steps
+pub mod Loads
