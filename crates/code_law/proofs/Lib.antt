@@ -8,3 +8,5 @@ pub mod Reached
 pub mod Here
 pub mod Steps
 pub mod Loads
+pub mod Elements
+pub mod Stores

@@ -33,7 +33,7 @@ pub word_of : {c : CodeLists} {limit : ℕ} {all : List SysReply} {f : Fixed} {p
 word_of h d g x o a is at = (h.agree.tied d g is).scalars x o a at
 
 -- the own words are the last
-own_words : {c : CodeLists} {limit : ℕ} {all : List SysReply} {f : Fixed} {p : ℕ} {operands : List ℤ} {now : Situation} (h : Here c limit all f p operands now) → words_from h.below h.words (own_number f) ≡ h.words
+pub own_words : {c : CodeLists} {limit : ℕ} {all : List SysReply} {f : Fixed} {p : ℕ} {operands : List ℤ} {now : Situation} (h : Here c limit all f p operands now) → words_from h.below h.words (own_number f) ≡ h.words
 own_words h = last_frame h.below h.words _ (number_of h)
 
 module _ {c : CodeLists} {limit : ℕ} {all : List SysReply} {f : Fixed} where

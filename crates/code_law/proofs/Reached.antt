@@ -48,6 +48,10 @@ module _ {c : CodeLists} {limit : ℕ} {all : List SysReply} {s : State} {made :
       let on = stays_running c limit s t r.good r.runs r.here e in
       record { good = r.good; used = r.used; left = r.left; begun = r.begun; steps = suc r.steps; split = r.split; count = r.count; replied = r.replied; moves = moves_more c limit r.steps r.begun s t r.moves e; runs = on.0; here = on.1; fitting = r.fitting }
 
+  -- nothing is lacking
+  pub never : Reached c limit all s made → next c limit s ≡ Lacks → ⊥
+  never r e = never_lacks c limit s r.good r.runs r.here e
+
   -- what would be lacking is there
   pub goes_if : (b : Bool) (t : State) → Reached c limit all s made → next c limit s ≡ (if b then Goes t else Lacks) → Reached c limit all t made
   goes_if true t r e = goes t r e
