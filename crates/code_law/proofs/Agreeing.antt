@@ -158,7 +158,7 @@ referred_less {frames} g {d} {words} {a} {p} low is = record {
   placed = is.placed;
 }
 
-tied_more : {frames : List Frame} (g : Frame) {d : ℕ} {f : Frame} {m : Map} {words : List ℤ} → d ≤ length frames → AreTied frames d f m words → AreTied (frames ++ g ∷ []) d f m words
+pub tied_more : {frames : List Frame} (g : Frame) {d : ℕ} {f : Frame} {m : Map} {words : List ℤ} → d ≤ length frames → AreTied frames d f m words → AreTied (frames ++ g ∷ []) d f m words
 tied_more g low tied = record { scalars = tied.scalars; arrays = tied.arrays; references = λ x a at. referred_more g low (tied.references x a at); answer = tied.answer }
 
 tied_less : {frames : List Frame} (g : Frame) {d : ℕ} {f : Frame} {m : Map} {words : List ℤ} → d ≤ length frames → AreTied (frames ++ g ∷ []) d f m words → AreTied frames d f m words

@@ -10,3 +10,5 @@ pub mod Steps
 pub mod Loads
 pub mod Elements
 pub mod Stores
+pub mod Opening
+pub mod Entry

@@ -1,2 +1,3 @@
 pub mod Regions
 pub mod Ties
+pub mod Arguments
