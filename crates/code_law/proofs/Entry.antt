@@ -1,7 +1,7 @@
 -- An activation begins, and ends.
 use Rattle.std.proofs.Common.{◌≡◌, ℕ, zero, suc, ◌+◌, ◌-◌, ◌<◌, ◌≤◌, Bool, true, false, Option, Some, None, List, [], ◌∷◌, ◌++◌, length, take, drop, map, ℤ, pos, refl, sym, ◌∙◌, ap, subst, arith}
-use Rattle.std.specs.Prelude.{slice_get, if◌then◌else◌, nat_le, reverse, replicate}
-use Rattle.std.proofs.lemmas.Bool.{lt-leb, le-leb}
+use Rattle.std.specs.Prelude.{slice_get, if◌then◌else◌, nat_le, nat_lt, reverse, replicate}
+use Rattle.std.proofs.lemmas.Bool.{lt-leb, le-leb, lt-ltb, ltb-true, ltb-false}
 use Rattle.std.proofs.lemmas.Option.{none-some, slice_get_within}
 use Rattle.std.proofs.lemmas.List.{map-append, length-map, length-append, take_at, drop_at, reverse-reverse, length-reverse}
 use Rattle.solo_base.specs.declared.outcome.ProgResult.TheVariants as result
@@ -17,7 +17,7 @@ use Rattle.stack_machine.specs.Machine.{effect, next}
 use Rattle.stack_machine.specs.Run.{Runs}
 use Rattle.stack_machine.proofs.Last.{leave_from}
 use Rattle.pascal_mean.specs.Means.{Parameter}
-use Rattle.pascal_mean.specs.Situation.{Situation, Map}
+use Rattle.pascal_mean.specs.Situation.{Situation, Map, Place}
 use Rattle.pascal_mean.specs.Variables.{map_at}
 use Rattle.pascal_mean.specs.Calls.{Given, begun_map}
 use Rattle.pascal_code.specs.Frames.{Frame, declared_words}
@@ -26,7 +26,7 @@ use Rattle.pascal_code.specs.Instructions.{bare, with_a}
 use Rattle.code_law.specs.Regions.{AreApart}
 use Rattle.code_law.specs.Ties.{Held, AreTied, Agree}
 use Rattle.code_law.specs.Arguments.{AreWords, Suit, LieFrom}
-use Rattle.code_law.proofs.Lists.{first_of_more, last_of_more, last_frame}
+use Rattle.code_law.proofs.Lists.{last_of_more, last_frame, first_map, last_map, map_below}
 use Rattle.code_law.proofs.Agreeing.{agree_more, agree_less, tied_more}
 use Rattle.code_law.proofs.Opening.{on_top, top_reversed, parameter_words, begun_is_tied}
 use Rattle.code_law.proofs.Reached.{Reached, does, goes, goes_if, stops}
@@ -50,11 +50,12 @@ abbrev pub held_below : ℕ → Held → Held
 held_below n held d i = if nat_le n d then None else held d i
 
 -- the activation of a called routine
-abbrev pub inner : Fixed → Frame → ℕ → ℕ → ℕ → List ℤ → Fixed
-inner f g k p line operands = record {
+abbrev pub inner : Fixed → Frame → (List ℕ → Place) → ℕ → ℕ → ℕ → List ℤ → Fixed
+inner f g references k p line operands = record {
   routine = k;
   callers = f.callers ++ caller_at f p line operands ∷ [];
   frames = f.frames ++ g ∷ [];
+  references = λ d. if nat_lt d (length f.frames) then f.references d else references;
   held = held_below (length f.frames) f.held;
   floor = f.floor;
 }
@@ -107,7 +108,7 @@ still_held n held d i v low is = ap (λ b. if b then None else held d i) (lt-leb
 module _ {c : CodeLists} {limit : ℕ} {all : List SysReply} where
   pub begins : (f : Fixed) (g : Frame) (parameters : List Parameter) (k : ℕ) (given : List Given) (passed under : List ℤ) (p : ℕ) (now : Situation) → IsRoutine c k g parameters
       → Here c limit all f p (on_top passed under) now → slice_get c.instrs p ≡ Some (with_a op.Call k) → Suit parameters given → AreWords f.frames (length f.frames) given passed → length f.callers < 63
-      → Here c limit all (inner f g k p now.line under) (routine_at c k).start [] (record now { maps = now.maps ++ begun_map parameters given ∷ []; line = 0 })
+      → Here c limit all (inner f g (begun_map parameters given).references k p now.line under) (routine_at c k).start [] (record now { maps = now.maps ++ begun_map parameters given ∷ []; line = 0 })
   unfolding effect
   begins f g parameters k given passed under p now is h found suit are low =
       let r = routine_at c k in
@@ -135,8 +136,19 @@ module _ {c : CodeLists} {limit : ℕ} {all : List SysReply} where
         waiting = map-append at_rest h.below (caller under ∷ []) ∙ ap (λ (l : List Activation). l ++ caller_at f p now.line under ∷ []) h.waiting;
         agree = agree_more (caller under) h.agree g (begun_map parameters given) words (held_below (length f.frames) f.held) is.apart (λ d i v before held. held_there (length f.frames) f.held d i v held)
             (λ i v held. none_here (length f.frames) f.held i v held) tied;
+        named = λ d low. by_number d (nat_lt d (length f.frames)) refl low;
         risen = h.risen;
       }
+    where
+      by_number : (d : ℕ) (b : Bool) → nat_lt d (length f.frames) ≡ b → d < length (f.frames ++ g ∷ [])
+          → (map_at (now.maps ++ begun_map parameters given ∷ []) d).references ≡ (if b then f.references d else (begun_map parameters given).references)
+      by_number d true e low =
+          let before : d < length f.frames = ltb-true d (length f.frames) e in
+          ap (λ (m : Map). m.references) (first_map now.maps (begun_map parameters given) d (omega (arith, before, h.agree.as_many))) ∙ h.named d before
+      by_number d false e low =
+          let after : length f.frames ≤ d = ltb-false d (length f.frames) e in
+          let last : d ≡ length now.maps = omega (arith, after, low, h.agree.as_many, length-append f.frames (g ∷ [])) in
+          ap (λ (m : Map). m.references) (last_map now.maps (begun_map parameters given) d last)
 
   -- too many are open
   pub refuses : (f : Fixed) (k p : ℕ) (operands : List ℤ) (now : Situation) → Here c limit all f p operands now → slice_get c.instrs p ≡ Some (with_a op.Call k) → 63 ≤ length f.callers → Runs c limit all (Ends result.StackLimit now.line now.ticks now.made)
@@ -147,7 +159,7 @@ module _ {c : CodeLists} {limit : ℕ} {all : List SysReply} where
       stops result.StackLimit now.line now.ticks h.reached (does h.reached (with_a op.Call k) found ∙ ap (λ b. if b then stop s result.StackLimit else enter s (routine_at c k) k) (le-leb 63 (length h.below) many))
 
   -- what is left when the current activation has ended
-  module _ (f : Fixed) (g : Frame) (k p q line : ℕ) (operands : List ℤ) (now : Situation) (h : Here c limit all (inner f g k p line operands) q [] now) where
+  module _ (f : Fixed) (g : Frame) (references : List ℕ → Place) (k p q line : ℕ) (operands : List ℤ) (now : Situation) (h : Here c limit all (inner f g references k p line operands) q [] now) where
     abbrev outer : Latest h.below f.callers (caller_at f p line operands)
     outer = latest h.below f.callers (caller_at f p line operands) h.waiting
 
@@ -169,6 +181,11 @@ module _ {c : CodeLists} {limit : ℕ} {all : List SysReply} where
           holds = λ d i r v at is. agree.holds d i r v at (still_held (length f.frames) f.held d i v (slice_get_within f.frames d r at) is);
         }
 
+    named_outside : (d : ℕ) → d < length f.frames → (map_at (take (length f.frames) now.maps) d).references ≡ f.references d
+    named_outside d low =
+        ap (λ (m : Map). m.references) (map_below now.maps (length f.frames) d low) ∙ h.named d (omega (arith, low, length-append f.frames (g ∷ [])))
+        ∙ ap (λ b. if b then f.references d else references) (lt-ltb d (length f.frames) low)
+
     pub returns : slice_get c.instrs q ≡ Some (bare op.Return) → (routine_at c k).function ≡ false
         → Here c limit all f (p + 1) operands (record now { maps = take (length f.frames) now.maps; line = line })
     unfolding effect
@@ -185,6 +202,7 @@ module _ {c : CodeLists} {limit : ℕ} {all : List SysReply} where
           reached = goes (state_at f.routine l.others (p + 1) line l.last.words operands now.ticks) h.reached back;
           waiting = l.waiting;
           agree = agree_outside;
+          named = named_outside;
           risen = h.risen;
         }
 
@@ -214,5 +232,6 @@ module _ {c : CodeLists} {limit : ℕ} {all : List SysReply} where
           reached = goes_if room (state_at f.routine l.others (p + 1) line l.last.words (word ∷ operands) now.ticks) h.reached back;
           waiting = l.waiting;
           agree = agree_outside;
+          named = named_outside;
           risen = h.risen;
         }

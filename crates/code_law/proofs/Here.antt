@@ -1,5 +1,5 @@
 -- Where the machine stands in the code of an activation, and in which situation.
-use Rattle.std.proofs.Common.{◌≡◌, ℕ, ◌+◌, ◌≤◌, Some, None, List, [], ◌∷◌, map, length, ℤ, sym, ap, ◌∙◌}
+use Rattle.std.proofs.Common.{◌≡◌, ℕ, ◌+◌, ◌≤◌, ◌<◌, Some, None, List, [], ◌∷◌, map, length, ℤ, sym, ap, ◌∙◌}
 use Rattle.std.specs.Prelude.{slice_get}
 use Rattle.std.proofs.lemmas.List.{length-map}
 use Rattle.solo_base.specs.declared.system_call.SysReply.{SysReply}
@@ -7,19 +7,21 @@ use Rattle.stack_code.specs.CodeLists.{CodeLists}
 use Rattle.stack_machine.specs.declared.activation.Activation.{Activation}
 use Rattle.stack_machine.specs.declared.state.State.{State}
 use Rattle.stack_machine.specs.Run.{Runs}
-use Rattle.pascal_mean.specs.Situation.{Situation, Course, Gives, Over, and_then}
+use Rattle.pascal_mean.specs.Situation.{Situation, Place, Course, Gives, Over, and_then}
+use Rattle.pascal_mean.specs.Variables.{map_at}
 use Rattle.pascal_code.specs.Frames.{Frame}
 use Rattle.code_law.specs.Ties.{Held, Agree}
 use Rattle.code_law.proofs.Reached.{Reached}
 use Rattle.code_law.proofs.Agreeing.{agree_weaker}
 
 -- What stays while an activation runs: its routine, the activations that wait below it but for their words, the
--- frames of all, what is held in them, and a number of ticks that were taken. The activation's own number is that
--- of its callers.
+-- frames of all, what the VAR parameters of each name, what is held in them, and a number of ticks that were taken.
+-- The activation's own number is that of its callers.
 pub record Fixed : Type 0 where
   pub routine : ℕ
   pub callers : List Activation
   pub frames : List Frame
+  pub references : ℕ → List ℕ → Place
   pub held : Held
   pub floor : ℕ
 
@@ -40,6 +42,7 @@ pub record Here (c : CodeLists) (limit : ℕ) (all : List SysReply) (f : Fixed) 
   pub reached : Reached c limit all (state_at f.routine below p now.line words operands now.ticks) now.made
   pub waiting : map at_rest below ≡ f.callers
   pub agree : Agree f.frames f.held now.maps below words
+  pub named : (d : ℕ) → d < length f.frames → (map_at now.maps d).references ≡ f.references d
   pub risen : f.floor ≤ now.ticks
 
 -- the number of the activation is that of those that wait
@@ -49,7 +52,7 @@ number_of h = ap length (sym h.waiting) ∙ length-map h.below at_rest
 -- the same frames, further on
 pub further : {c : CodeLists} {limit : ℕ} {all : List SysReply} {f : Fixed} {p : ℕ} {operands : List ℤ} {now : Situation} (q : ℕ) (others : List ℤ) → (h : Here c limit all f p operands now)
     → Reached c limit all (state_at f.routine h.below q now.line h.words others now.ticks) now.made → Here c limit all f q others now
-further q others h reached = record { below = h.below; words = h.words; reached = reached; waiting = h.waiting; agree = h.agree; risen = h.risen }
+further q others h reached = record { below = h.below; words = h.words; reached = reached; waiting = h.waiting; agree = h.agree; named = h.named; risen = h.risen }
 
 -- what a part comes to: the situation behind it, or the outcome of the whole run
 abbrev pub Comes : {A : Type 0} → CodeLists → ℕ → List SysReply → (A → Situation → Type 0) → Course A → Type 0
@@ -81,7 +84,7 @@ from f k = record f { floor = k.floor; held = k.held }
 -- less is held
 pub on_less : {c : CodeLists} {limit : ℕ} {all : List SysReply} {f : Fixed} {p : ℕ} {operands : List ℤ} {now : Situation} (k : Kept) → Here c limit all f p operands now → k.floor ≤ now.ticks
     → ((d i : ℕ) (v : ℤ) → k.held d i ≡ Some v → f.held d i ≡ Some v) → Here c limit all (from f k) p operands now
-on_less {f = f} k h low less = record { below = h.below; words = h.words; reached = h.reached; waiting = h.waiting; agree = agree_weaker h.agree k.held less; risen = low }
+on_less {f = f} k h low less = record { below = h.below; words = h.words; reached = h.reached; waiting = h.waiting; agree = agree_weaker h.agree k.held less; named = h.named; risen = low }
 
 pub on_floor : {c : CodeLists} {limit : ℕ} {all : List SysReply} {f : Fixed} {p : ℕ} {operands : List ℤ} {now : Situation} (floor : ℕ) → Here c limit all f p operands now → floor ≤ now.ticks → Here c limit all (record f { floor = floor }) p operands now
-on_floor floor h low = record { below = h.below; words = h.words; reached = h.reached; waiting = h.waiting; agree = h.agree; risen = low }
+on_floor floor h low = record { below = h.below; words = h.words; reached = h.reached; waiting = h.waiting; agree = h.agree; named = h.named; risen = low }

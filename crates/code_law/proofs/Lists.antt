@@ -25,6 +25,14 @@ as_many_maps [] k change = refl
 as_many_maps (m ∷ more) zero change = refl
 as_many_maps (m ∷ more) (suc k) change = ap suc (as_many_maps more k change)
 
+-- a change that keeps references keeps them all
+pub references_kept : (maps : List Map) (k : ℕ) (change : Map → Map) → ((m : Map) → (change m).references ≡ m.references) → (d : ℕ) → (map_at (with_map k change maps) d).references ≡ (map_at maps d).references
+references_kept [] k change keeps d = refl
+references_kept (m ∷ more) zero change keeps zero = keeps m
+references_kept (m ∷ more) zero change keeps (suc d) = refl
+references_kept (m ∷ more) (suc k) change keeps zero = refl
+references_kept (m ∷ more) (suc k) change keeps (suc d) = references_kept more k change keeps d
+
 pub this_frame : (below : List Activation) (own : List ℤ) (k : ℕ) (words : List ℤ) → k ≤ length below → words_from (waiting_with below k words) (own_with below own k words) k ≡ words
 this_frame [] own zero words low = refl
 this_frame [] own (suc k) words low = absurd (omega (arith, low))

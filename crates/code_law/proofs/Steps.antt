@@ -74,6 +74,7 @@ module _ {c : CodeLists} {limit : ℕ} {all : List SysReply} {f : Fixed} where
           reached = goes (state_at f.routine h.below (p + 1) line h.words operands (now.ticks + 1)) h.reached (e ∙ ap (λ n. Goes (state_at f.routine h.below (p + 1) n h.words operands (now.ticks + 1))) same);
           waiting = h.waiting;
           agree = h.agree;
+          named = h.named;
           risen = omega arith;
         };
       }

@@ -25,6 +25,7 @@ use Rattle.pascal_code.specs.Instructions as code
 use Rattle.code_law.specs.Regions.{region_found}
 use Rattle.code_law.specs.Ties.{IsReferred, AreTied, Held, Agree}
 use Rattle.code_law.proofs.Words.{other_word}
+use Rattle.code_law.proofs.Lists.{references_kept}
 use Rattle.code_law.proofs.Tied.{tied_value, tied_element, tied_answer}
 use Rattle.code_law.proofs.Agreeing.{agree_on, agree_hold, hold}
 use Rattle.code_law.proofs.Reached.{Reached, does, goes, goes_if, is_there}
@@ -42,16 +43,17 @@ module _ {c : CodeLists} {limit : ℕ} {all : List SysReply} {f : Fixed} where
     abbrev words_there : List ℤ
     words_there = words_from h.below h.words d
 
-    pub written : (change : Map → Map) (a : ℕ) (v : ℤ) (q : ℕ) (rest : List ℤ) → a < declared_words g → AreTied f.frames d g (change (map_at now.maps d)) (slice_set words_there a v)
+    pub written : (change : Map → Map) → ((m : Map) → (change m).references ≡ m.references) → (a : ℕ) (v : ℤ) (q : ℕ) (rest : List ℤ) → a < declared_words g → AreTied f.frames d g (change (map_at now.maps d)) (slice_set words_there a v)
         → (let ws = slice_set words_there a v in Reached c limit all (state_at f.routine (waiting_with h.below d ws) q now.line (own_with h.below h.words d ws) rest now.ticks) now.made)
         → Here c limit all f q rest (set_map d change now)
-    written change a v q rest low tied reached = record {
+    written change keeps a v q rest low tied reached = record {
       below = waiting_with h.below d (slice_set words_there a v);
       words = own_with h.below h.words d (slice_set words_there a v);
       reached = reached;
       waiting = rest_of_waiting h.below d (slice_set words_there a v) ∙ h.waiting;
       agree = agree_on h.agree d g is change (slice_set words_there a v) f.held (λ e i u apart held. held)
           (λ i u held. other_word words_there a (declared_words g + i) v (λ same. omega (arith, same, low)) ∙ h.agree.holds d i g u is held) tied;
+      named = λ e low. references_kept now.maps d change keeps e ∙ h.named e low;
       risen = h.risen;
     }
 
@@ -70,18 +72,18 @@ module _ {c : CodeLists} {limit : ℕ} {all : List SysReply} {f : Fixed} where
     pub value_written : (x : List ℕ) (o : Owner) (a : ℕ) (v : ℤ) (q : ℕ) (rest : List ℤ) → sense_in g x ≡ Some (Variable o a) → StoredAt a v q rest → Here c limit all f q rest (set_map d (put_value x v) now)
     value_written x o a v q rest at reached =
         let apart = h.agree.apart d g is in
-        written (put_value x v) a v q rest (omega (arith, apart.inside x (record { first = a; count = 1 }) (ap region_found at))) (tied_value apart (h.agree.tied d g is) x o a v at) reached
+        written (put_value x v) (λ m. refl) a v q rest (omega (arith, apart.inside x (record { first = a; count = 1 }) (ap region_found at))) (tied_value apart (h.agree.tied d g is) x o a v at) reached
 
     pub element_written : (x : List ℕ) (o : Owner) (a : ℕ) (bounds : Bounds) (k : ℕ) (v : ℤ) (q : ℕ) (rest : List ℤ) → sense_in g x ≡ Some (Array o a bounds) → k < size_of bounds → StoredAt (a + k) v q rest
         → Here c limit all f q rest (set_map d (put_element x (bounds.low +ℤ pos k) v) now)
     element_written x o a bounds k v q rest at low reached =
         let apart = h.agree.apart d g is in
-        written (put_element x (bounds.low +ℤ pos k) v) (a + k) v q rest (omega (arith, low, apart.inside x (record { first = a; count = size_of bounds }) (ap region_found at)))
+        written (put_element x (bounds.low +ℤ pos k) v) (λ m. refl) (a + k) v q rest (omega (arith, low, apart.inside x (record { first = a; count = size_of bounds }) (ap region_found at)))
         (tied_element apart (h.agree.tied d g is) x o a bounds k v at low) reached
 
     pub answer_written : (v : ℤ) (q : ℕ) (rest : List ℤ) → g.result ≡ 1 → g.parameters + g.result ≤ declared_words g → StoredAt g.parameters v q rest → Here c limit all f q rest (set_map d (put_answer v) now)
     answer_written v q rest has low reached =
-        written (put_answer v) g.parameters v q rest (omega (arith, has, low)) (tied_answer (h.agree.apart d g is) (h.agree.tied d g is) v has) reached
+        written (put_answer v) (λ m. refl) g.parameters v q rest (omega (arith, has, low)) (tied_answer (h.agree.apart d g is) (h.agree.tied d g is) v has) reached
 
   -- ---- Stores
   -- into a word of the program's frame or of the own one, which is there
@@ -168,6 +170,7 @@ module _ {c : CodeLists} {limit : ℕ} {all : List SysReply} {f : Fixed} where
         waiting = h.waiting;
         agree = subst (λ n. Agree f.frames (hold n i v f.held) now.maps h.below (slice_set h.words a v)) (sym (number_of h))
             (agree_hold h.agree g i v (ap (slice_get f.frames) (sym (number_of h)) ∙ is) wide low);
+        named = h.named;
         risen = h.risen;
       }
   held_stored p v rest now g i OfProgram own low h is found = alone h.below h.words h.reached h.waiting h.agree
@@ -191,5 +194,6 @@ module _ {c : CodeLists} {limit : ℕ} {all : List SysReply} {f : Fixed} where
             waiting = waiting;
             agree = subst (λ n. Agree f.frames (hold n i v f.held) now.maps [] (slice_set words a v)) (sym number)
                 (agree_hold agree g i v (ap (slice_get f.frames) (sym number) ∙ is) wide low);
+            named = h.named;
             risen = h.risen;
           }
