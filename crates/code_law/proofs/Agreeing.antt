@@ -94,7 +94,7 @@ this_hold number i v held j u is = by_test (number == number) refl is
     by_test true e is = is
     by_test false e is = absurd (eqb-false number number e refl)
 
-same_maps : (maps : List Map) (k : ℕ) → with_map k (λ m. m) maps ≡ maps
+pub same_maps : (maps : List Map) (k : ℕ) → with_map k (λ m. m) maps ≡ maps
 same_maps [] k = refl
 same_maps (m ∷ more) zero = refl
 same_maps (m ∷ more) (suc k) = ap (λ (ms : List Map). m ∷ ms) (same_maps more k)

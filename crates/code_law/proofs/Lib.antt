@@ -12,3 +12,5 @@ pub mod Elements
 pub mod Stores
 pub mod Opening
 pub mod Entry
+pub mod ArraySet
+pub mod Requests
