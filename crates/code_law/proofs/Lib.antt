@@ -14,3 +14,4 @@ pub mod Opening
 pub mod Entry
 pub mod ArraySet
 pub mod Requests
+pub mod Asking

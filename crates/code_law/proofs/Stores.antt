@@ -43,27 +43,36 @@ module _ {c : CodeLists} {limit : ℕ} {all : List SysReply} {f : Fixed} where
     abbrev words_there : List ℤ
     words_there = words_from h.below h.words d
 
+    -- its words are others, behind so many ticks and calls
+    pub rewritten_at : (ticks : ℕ) (calls : List SysCall) → now.ticks ≤ ticks → (change : Map → Map) → ((m : Map) → (change m).references ≡ m.references) → (ws : List ℤ) (q : ℕ) (rest : List ℤ)
+        → ((b : ℕ) → declared_words g ≤ b → slice_get ws b ≡ slice_get words_there b) → AreTied f.frames d g (change (map_at now.maps d)) ws
+        → Reached c limit all (state_at f.routine (waiting_with h.below d ws) q now.line (own_with h.below h.words d ws) rest ticks) calls
+        → Here c limit all f q rest (set_map d change (record now { ticks = ticks; made = calls }))
+    rewritten_at ticks calls later change keeps ws q rest behind tied reached = record {
+      below = waiting_with h.below d ws;
+      words = own_with h.below h.words d ws;
+      reached = reached;
+      waiting = rest_of_waiting h.below d ws ∙ h.waiting;
+      agree = agree_on h.agree d g is change ws f.held (λ e i u apart held. held)
+          (λ i u held. behind (declared_words g + i) (omega arith) ∙ h.agree.holds d i g u is held) tied;
+      named = λ e low. references_kept now.maps d change keeps e ∙ h.named e low;
+      risen = omega (arith, h.risen, later);
+    }
+
+    -- one of its words is another
     pub written : (change : Map → Map) → ((m : Map) → (change m).references ≡ m.references) → (a : ℕ) (v : ℤ) (q : ℕ) (rest : List ℤ) → a < declared_words g → AreTied f.frames d g (change (map_at now.maps d)) (slice_set words_there a v)
         → (let ws = slice_set words_there a v in Reached c limit all (state_at f.routine (waiting_with h.below d ws) q now.line (own_with h.below h.words d ws) rest now.ticks) now.made)
         → Here c limit all f q rest (set_map d change now)
-    written change keeps a v q rest low tied reached = record {
-      below = waiting_with h.below d (slice_set words_there a v);
-      words = own_with h.below h.words d (slice_set words_there a v);
-      reached = reached;
-      waiting = rest_of_waiting h.below d (slice_set words_there a v) ∙ h.waiting;
-      agree = agree_on h.agree d g is change (slice_set words_there a v) f.held (λ e i u apart held. held)
-          (λ i u held. other_word words_there a (declared_words g + i) v (λ same. omega (arith, same, low)) ∙ h.agree.holds d i g u is held) tied;
-      named = λ e low. references_kept now.maps d change keeps e ∙ h.named e low;
-      risen = h.risen;
-    }
+    written change keeps a v q rest low tied reached =
+        rewritten_at now.ticks now.made (omega arith) change keeps (slice_set words_there a v) q rest (λ b far. other_word words_there a b v (λ same. omega (arith, same, low, far))) tied reached
 
     -- the same in the state of a store into the own words
-    own_reached : (new : List ℤ) (q : ℕ) (rest : List ℤ) → d ≡ own_number f → Reached c limit all (state_at f.routine h.below q now.line new rest now.ticks) now.made
-        → Reached c limit all (state_at f.routine (waiting_with h.below d new) q now.line (own_with h.below h.words d new) rest now.ticks) now.made
-    own_reached new q rest own reached =
+    pub own_reached : (ticks : ℕ) (calls : List SysCall) (new : List ℤ) (q : ℕ) (rest : List ℤ) → d ≡ own_number f → Reached c limit all (state_at f.routine h.below q now.line new rest ticks) calls
+        → Reached c limit all (state_at f.routine (waiting_with h.below d new) q now.line (own_with h.below h.words d new) rest ticks) calls
+    own_reached ticks calls new q rest own reached =
         let last : d ≡ length h.below = own ∙ number_of h in
-        subst (λ (b : List Activation). Reached c limit all (state_at f.routine b q now.line (own_with h.below h.words d new) rest now.ticks) now.made) (sym (waiting_stay h.below d new (omega (arith, last))))
-        (subst (λ (w : List ℤ). Reached c limit all (state_at f.routine h.below q now.line w rest now.ticks) now.made) (sym (own_written h.below h.words d new last)) reached)
+        subst (λ (b : List Activation). Reached c limit all (state_at f.routine b q now.line (own_with h.below h.words d new) rest ticks) calls) (sym (waiting_stay h.below d new (omega (arith, last))))
+        (subst (λ (w : List ℤ). Reached c limit all (state_at f.routine h.below q now.line w rest ticks) calls) (sym (own_written h.below h.words d new last)) reached)
 
     -- what is stored in a place of these words
     abbrev pub StoredAt : ℕ → ℤ → ℕ → List ℤ → Type 0
@@ -95,7 +104,7 @@ module _ {c : CodeLists} {limit : ℕ} {all : List SysReply} {f : Fixed} where
       goes_if (nat_lt a (length (words_from h.below h.words 0))) (state_at f.routine (waiting_with h.below 0 ws) (p + 1) now.line (own_with h.below h.words 0 ws) rest now.ticks) h.reached (does h.reached (with_a op.StoreG a) found)
   word_stored OfRoutine p v rest now a h g is found =
       let d = own_number f in
-      own_reached h d g is (slice_set (words_from h.below h.words d) a v) (p + 1) rest refl
+      own_reached h d g is now.ticks now.made (slice_set (words_from h.below h.words d) a v) (p + 1) rest refl
       (subst (λ (w : List ℤ). Reached c limit all (state_at f.routine h.below (p + 1) now.line (slice_set w a v) rest now.ticks) now.made) (sym (own_words h))
       (goes_if (nat_lt a (length h.words)) (state_at f.routine h.below (p + 1) now.line (slice_set h.words a v) rest now.ticks) h.reached (does h.reached (with_a op.StoreL a) found)))
 
@@ -121,7 +130,7 @@ module _ {c : CodeLists} {limit : ℕ} {all : List SysReply} {f : Fixed} where
   element_reached OfRoutine p v k rest now a count h g is low found =
       let s = state_at f.routine h.below p now.line h.words (v ∷ pos k ∷ rest) now.ticks in
       let d = own_number f in
-      own_reached h d g is (slice_set (words_from h.below h.words d) (a + k) v) (p + 1) rest refl
+      own_reached h d g is now.ticks now.made (slice_set (words_from h.below h.words d) (a + k) v) (p + 1) rest refl
       (subst (λ (w : List ℤ). Reached c limit all (state_at f.routine h.below (p + 1) now.line (slice_set w (a + k) v) rest now.ticks) now.made) (sym (own_words h))
       (goes_if (nat_lt (a + k) (length h.words)) (state_at f.routine h.below (p + 1) now.line (slice_set h.words (a + k) v) rest now.ticks) h.reached
       (does h.reached (with_both op.StoreLX a count) found ∙ ap (λ b. store_element false s a v rest (if b then Some k else None)) (lt-ltb k count low))))
