@@ -1,3 +1,5 @@
 pub mod Regions
 pub mod Ties
 pub mod Arguments
+pub mod Named
+pub mod Suits
