@@ -15,3 +15,6 @@ pub mod Entry
 pub mod ArraySet
 pub mod Requests
 pub mod Asking
+pub mod Standing
+pub mod Variables
+pub mod Given

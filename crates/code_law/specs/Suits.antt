@@ -100,9 +100,9 @@ variable_count (ByValue ∷ more) = variable_count more
 variable_count (ByVariable ∷ more) = variable_count more + 1
 variable_count (ByArray ∷ more) = variable_count more
 
--- a row gives a result behind those that its variables take
+-- a row gives one result and sets no variable, or its variables take all results
 abbrev pub RowGives : Procedure → Bool → Type 0
-RowGives p true = (call_row_of p).results ≡ variable_count (row_passing p) + 1
+RowGives p true = ((call_row_of p).results ≡ 1) × (variable_count (row_passing p) ≡ 0)
 RowGives p false = (call_row_of p).results ≡ variable_count (row_passing p)
 
 -- what is called in an expression gives a value, and elsewhere none
@@ -127,11 +127,32 @@ array_size (Array o a b) = 0
 array_size (Reference a) = 0
 array_size Nothing = 0
 
+-- what takes variables, and arrays
+abbrev pub TakesVariables : Sense → Type 0
+TakesVariables (Routine k passing) = Unit {0}
+TakesVariables (Interface p) = Unit {0}
+TakesVariables (Function f) = ⊥
+TakesVariables (IsConstant v) = ⊥
+TakesVariables (Variable o a) = ⊥
+TakesVariables (Array o a b) = ⊥
+TakesVariables (Reference a) = ⊥
+TakesVariables Nothing = ⊥
+
+abbrev pub TakesArrays : Sense → Type 0
+TakesArrays (Interface p) = Unit {0}
+TakesArrays (Routine k passing) = ⊥
+TakesArrays (Function f) = ⊥
+TakesArrays (IsConstant v) = ⊥
+TakesArrays (Variable o a) = ⊥
+TakesArrays (Array o a b) = ⊥
+TakesArrays (Reference a) = ⊥
+TakesArrays Nothing = ⊥
+
 -- an argument, with what suits its value
 abbrev pub CanPass : Sense → Passing → Sense → Type 0 → Type 0
 CanPass callee ByValue given value = value
-CanPass callee ByVariable given value = IsScalar given
-CanPass callee ByArray given value = IsArrayOf (array_size callee) given
+CanPass callee ByVariable given value = TakesVariables callee × IsScalar given
+CanPass callee ByArray given value = TakesArrays callee × IsArrayOf (array_size callee) given
 
 -- ---- Expressions
 
