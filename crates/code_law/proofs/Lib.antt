@@ -18,3 +18,4 @@ pub mod Asking
 pub mod Standing
 pub mod Variables
 pub mod Given
+pub mod Rows
