@@ -19,3 +19,4 @@ pub mod Standing
 pub mod Variables
 pub mod Given
 pub mod Rows
+pub mod Expressions
