@@ -20,3 +20,4 @@ pub mod Variables
 pub mod Given
 pub mod Rows
 pub mod Expressions
+pub mod Statements

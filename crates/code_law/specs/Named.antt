@@ -1,10 +1,10 @@
 -- What the names at a place of a program have in the frames of the open activations.
-use Rattle.std.specs.Prelude.{◌≡◌, ℕ, List, Some, slice_get, pos}
+use Rattle.std.specs.Prelude.{◌≡◌, ℕ, ◌+◌, ◌≤◌, List, Some, slice_get, pos}
 use Rattle.std.specs.Int.{w16, cast_signed}
 use Rattle.pascal_mean.specs.Means.{Owner, Bounds}
 use Rattle.pascal_mean.specs.Scope.{Scope}
 use Rattle.pascal_mean.specs.Variables.{owner_number}
-use Rattle.pascal_code.specs.Frames.{Frame}
+use Rattle.pascal_code.specs.Frames.{Frame, declared_words}
 use Rattle.pascal_code.specs.Senses.{Sense, sense, Variable, Array, Reference, sense_in, Site}
 
 -- a scalar variable has its word in the frame of its owner
@@ -34,4 +34,5 @@ pub record Named (frames : List Frame) (number : ℕ) (site : Site) (scope : Sco
       → HasWords frames (owner_number o number) x a bounds
   pub references : (x : List ℕ) (a : ℕ) → site.names x ≡ Reference a → sense_in frame x ≡ Some (Reference a)
   pub owner : owner_number site.owner number ≡ number
+  pub low : frame.parameters + frame.result ≤ declared_words frame
   pub result : site.result ≡ frame.parameters
