@@ -341,3 +341,274 @@ module _ (c : CodeLists) (limit : ℕ) (all : List SysReply) (f : Fixed) (site :
         let one = parted c p (label_test site (base + n) found labels.first) (more_label_tests site (base + n) found labels.rest) q stand in
         both (int_eq (constant_number scope labels.first) v) (list_any (λ e. int_eq (constant_number scope e.1) v) labels.rest)
         (one_label labels.first p one.0 now small.0 one.1.0 h (if list_any (λ e. int_eq (constant_number scope e.1) v) labels.rest then then_course else else_course) hit (λ there. more_labels labels.rest one.0 q now small.1 one.1.1 there hit miss))
+
+  -- ---- Tests
+  true_runs : (k : Kept) (e : Expr) (p q : ℕ) (now : Situation) → SuitsExpr rs site.names e → Stand c p (expr_code site e) q → Here c limit all (from f k) p [] now → After c limit all (λ b n. Decided c limit all (from f k) q b n) (is_true (here_setting) e now)
+  true_runs k e p q now suits stand h = after (expr_value (here_setting) e now) _ (value_runs k e p q [] now suits stand h) (λ v n at. record { comes = record { word = v; is = refl; here = at } })
+
+  false_runs : (k : Kept) (e : Expr) (p q : ℕ) (now : Situation) → SuitsExpr rs site.names e → Stand c p (expr_code site e) q → slice_get c.instrs q ≡ Some (bare op.Not) → Here c limit all (from f k) p [] now
+      → After c limit all (λ b n. Decided c limit all (from f k) (q + 1) b n) (is_false (here_setting) e now)
+  false_runs k e p q now suits stand found h = after (expr_value (here_setting) e now) _ (value_runs k e p q [] now suits stand h) (λ v n at.
+      let there = (operated {f = from f k} q (v ∷ []) [] n (bare op.Not) (Some (truth (not (holds v)))) at found (negated_by c limit f.routine at.below q n.line at.words v [] n.ticks)).comes in
+      record { comes = record { word = truth (not (holds v)); is = truth_holds (not (holds v)); here = there } })
+
+  labels_size : (labels : Labels) (found n : ℕ) → length (label_tests site n found labels) ≡ label_tests_size labels
+  labels_size labels found n = first_and_more (constant_value site.names labels.first) labels.rest
+    where
+      more_size : (ls : List (ℕ × Constant)) → length (more_label_tests site n found ls) ≡ 4 * length ls
+      more_size [] = refl
+      more_size (l ∷ ls) = omega (arith, more_size ls)
+
+      first_and_more : (v : ℤ) (ls : List (ℕ × Constant)) → length (load_own site n ∷ push v ∷ bare op.Ne ∷ jump_if_false found ∷ more_label_tests site n found ls) ≡ 4 * (length ls + 1)
+      first_and_more v ls = omega (arith, more_size ls)
+
+  abbrev called : NameAt → Option Arguments → Situation → Course (Unit {0})
+  called x None now = and_then (call_value (here_setting) (scope x.letters) [] now) (λ _ then_is. Gives tt then_is)
+  called x (Some a) now = and_then (arguments_given (here_setting) (passing_named (scope x.letters)) a now) (λ given mid. and_then (call_value (here_setting) (scope x.letters) given mid) (λ _ then_is. Gives tt then_is))
+
+  -- ---- Calls
+  call_runs : (k : Kept) (x : NameAt) (a : Option Arguments) (p q : ℕ) (now : Situation) → SuitsCall rs site.names x a → Stand c p (call_statement_code site x a) q → Here c limit all (from f k) p [] now
+      → (part : Course (Unit {0})) → part ≡ called x a now → Leads k q part
+  call_runs k x None p q now suits stand h part same =
+      let there = names.senses x.letters in
+      let none : passing_of (sense (scope x.letters) there.0) ≡ [] = ap passing_of (sym there.1) ∙ suits.1 in
+      subst (λ (d : Course (Unit {0})). Leads k q d) (sym same)
+      (after (call_value (here_setting) (scope x.letters) [] now) _
+      (called_by {f = from f k} names rs does (calls k) (scope x.letters) there.0 false [] [] [] [] p q now (subst (CanCall rs false) there.1 suits.0)
+      (subst (λ by. AreGiven (from f k) site (sense (scope x.letters) there.0) by [] [] []) (sym none) tt)
+      (subst (λ s. Stand c p (call_code site.result s []) q) there.1 stand) h)
+      (λ v n at. record { comes = at }))
+  call_runs k x (Some a) p q now suits stand h part same =
+      let there = names.senses x.letters in
+      let one = parted c p (arguments_code site (site.names x.letters) (passing_of (site.names x.letters)) a) (call_code site.result (site.names x.letters) (given_arguments site a)) q stand in
+      let passing : passing_of (site.names x.letters) ≡ passing_named (scope x.letters) = ap passing_of there.1 ∙ passing_alike (scope x.letters) there.0 in
+      subst (λ (d : Course (Unit {0})). Leads k q d) (sym same)
+      (subst (λ by. Leads k q (and_then (arguments_given (here_setting) by a now) (λ given mid. and_then (call_value (here_setting) (scope x.letters) given mid) (λ _ then_is. Gives tt then_is)))) passing
+      (after (arguments_given (here_setting) (passing_of (site.names x.letters)) a now) _ (arguments_run {f = from f k} names rs does (calls k) (site.names x.letters) (passing_of (site.names x.letters)) a p one.0 [] now suits.1 one.1.0 h) (λ given mid at.
+      after (call_value (here_setting) (scope x.letters) given mid) _
+      (called_by {f = from f k} names rs does (calls k) (scope x.letters) there.0 false (arguments_names a) given at.words [] one.0 q mid (subst (CanCall rs false) there.1 suits.0)
+      (subst (λ s. AreGiven (from f k) site s (passing_of s) (arguments_names a) given at.words) there.1 at.are)
+      (subst (λ s. Stand c one.0 (call_code site.result s (map site.names (arguments_names a))) q) there.1 (subst (λ (l : List Sense). Stand c one.0 (call_code site.result (site.names x.letters) l) q) (arguments_are site a) one.1.1)) at.here)
+      (λ v n done. record { comes = done }))))
+
+  -- ---- The family of statements
+  mutual
+    pub statement_runs : (s : Statement) (free n place p q : ℕ) (k : Kept) (now : Situation) → free ≡ base + n → Shallow number n k → place ≡ p → SuitsStatement rs site.names inside s → Stand c p (statement_code site free s place) q → Here c limit all (from f k) p [] now
+        → Leads k q (after_statement (here_setting) s now)
+    statement_runs empty free n place p q k now word shallow same suits stand here = at_end p q k now stand here
+    statement_runs (assign x None becomes e) free n place p q k now word shallow same suits stand here =
+        let there = names.senses x.letters in
+        let one = parted c (p + 1) (expr_code site e) (store_code site.result (site.names x.letters)) q stand.1 in
+        after (take_tick limit x.line now) _ (ticked {f = from f k} p [] now x.line here stand.0) (λ _ mid at.
+        after (expr_value (here_setting) e mid) _ (value_runs k e (p + 1) one.0 [] mid suits.1 one.1.0 at) (λ v then_is value.
+        record { comes = name_set k (scope x.letters) there.0 x.letters one.0 q v then_is there.1 (subst (CanStore inside) there.1 suits.0) (subst (λ s. Stand c one.0 (store_code site.result s) q) there.1 one.1.1) value }))
+    statement_runs (assign x (Some i) becomes e) free n place p q k now word shallow same suits stand here =
+        let there = names.senses x.letters in
+        let one = parted c (p + 1) (index_code site (site.names x.letters) i) (expr_code site e ++ store_element_code (site.names x.letters)) q stand.1 in
+        let two = parted c one.0 (expr_code site e) (store_element_code (site.names x.letters)) q one.1.1 in
+        let bounds = (array_named (scope x.letters) number x.letters).bounds in
+        after (take_tick limit x.line now) _ (ticked {f = from f k} p [] now x.line here stand.0) (λ _ begun at.
+        after (index_value (here_setting) bounds i begun) _ (index_runs {f = from f k} names rs does (calls k) x.letters i (p + 1) one.0 [] begun suits.0 suits.1 one.1.0 at) (λ index mid indexed.
+        after (expr_value (here_setting) e mid) _ (value_runs k e one.0 two.0 (pos (indexed.inside).place ∷ []) mid suits.2 two.1.0 indexed.here) (λ v then_is value.
+        record { comes = element_set k (scope x.letters) there.0 x.letters two.0 q v index then_is there.1 (subst CanIndex there.1 suits.0) (subst (λ s. Stand c two.0 (store_element_code s) q) there.1 two.1.1) indexed.inside value })))
+    statement_runs (call x None) free n place p q k now word shallow same suits stand here =
+        after (take_tick limit x.line now) _ (ticked {f = from f k} p [] now x.line here stand.0) (λ _ mid at. call_runs k x None (p + 1) q mid suits stand.1 at _ refl)
+    statement_runs (call x (Some a)) free n place p q k now word shallow same suits stand here =
+        after (take_tick limit x.line now) _ (ticked {f = from f k} p [] now x.line here stand.0) (λ _ mid at. call_runs k x (Some a) (p + 1) q mid suits stand.1 at _ refl)
+    statement_runs (compound b) free n place p q k now word shallow same suits stand here = body_runs b free n place p q k now word shallow same suits stand here
+    statement_runs (if_then line e then_line s) free n place p q k now word shallow same suits stand here =
+        let test = expr_code site e in
+        let first = place + length test + 2 in
+        let code = statement_code site free s first in
+        let out = first + length code in
+        let one = parted c (p + 1) test (jump_if_false out ∷ code) q stand.1 in
+        let m : one.0 ≡ p + 1 + length test = stands_to c (p + 1) test one.0 one.1.0 in
+        let ends : out ≡ q = omega (arith, same, m, stands_to c (one.0 + 1) code q one.1.1.1) in
+        after (take_tick limit line now) _ (ticked {f = from f k} p [] now line here stand.0) (λ _ begun at.
+        after (is_true (here_setting) e begun) _ (true_runs k e (p + 1) one.0 begun suits.0 one.1.0 at) (λ b tested there.
+        subst (λ (part : Course (Unit {0})). Leads k q part) (sym (choose_is b (after_statement (here_setting) s) (Gives tt) tested))
+        (subst (λ d. Leads k q (if d then after_statement (here_setting) s tested else Gives tt tested)) there.is
+        (decided {f = from f k} one.0 out there.word [] tested _ _ there.here one.1.1.0
+        (λ on. statement_runs s free n first (one.0 + 1) q k tested word shallow (omega (arith, same, m)) suits.1 one.1.1.1 on)
+        (λ away. at_end out q k tested ends away)))))
+    statement_runs (if_else line e then_line s else_line t) free n place p q k now word shallow same suits stand here =
+        let test = expr_code site e in
+        let first = place + length test + 2 in
+        let code = statement_code site free s first in
+        let otherwise = first + length code + 1 in
+        let others = statement_code site free t otherwise in
+        let out = otherwise + length others in
+        let one = parted c (p + 1) test (jump_if_false otherwise ∷ (code ++ (jump out ∷ others))) q stand.1 in
+        let two = parted c (one.0 + 1) code (jump out ∷ others) q one.1.1.1 in
+        let m : one.0 ≡ p + 1 + length test = stands_to c (p + 1) test one.0 one.1.0 in
+        let m' : two.0 ≡ one.0 + 1 + length code = stands_to c (one.0 + 1) code two.0 two.1.0 in
+        let ends : out ≡ q = omega (arith, same, m, m', stands_to c (two.0 + 1) others q two.1.1.1) in
+        after (take_tick limit line now) _ (ticked {f = from f k} p [] now line here stand.0) (λ _ begun at.
+        after (is_true (here_setting) e begun) _ (true_runs k e (p + 1) one.0 begun suits.0 one.1.0 at) (λ b tested there.
+        subst (λ (part : Course (Unit {0})). Leads k q part) (sym (choose_is b (after_statement (here_setting) s) (after_statement (here_setting) t) tested))
+        (subst (λ d. Leads k q (if d then after_statement (here_setting) s tested else after_statement (here_setting) t tested)) there.is
+        (decided {f = from f k} one.0 otherwise there.word [] tested _ _ there.here one.1.1.0
+        (λ on. so _ (statement_runs s free n first (one.0 + 1) two.0 k tested word shallow (omega (arith, same, m)) suits.1 two.1.0 on)
+        (λ _ last end. subst (λ place_now. Here c limit all (from f k) place_now [] last) ends (jumped {f = from f k} two.0 out [] last end two.1.1.0)))
+        (λ away. statement_runs t free n otherwise (two.0 + 1) q k tested word shallow (omega (arith, same, m, m')) suits.2 two.1.1.1
+        (subst (λ place_now. Here c limit all (from f k) place_now [] tested) (omega (arith, same, m, m')) away))))))
+    statement_runs (while_do line e do_line s) free n place p q k now word shallow same suits stand here =
+        let test = expr_code site e in
+        let first = place + 1 + length test + 2 in
+        let code = statement_code site free s first in
+        let out = first + length code + 1 in
+        let top = p + 1 in
+        let one = parted c (top + 1) test (jump_if_false out ∷ (code ++ jump (place + 1) ∷ [])) q stand.1.1 in
+        let two = parted c (one.0 + 1) code (jump (place + 1) ∷ []) q one.1.1.1 in
+        let m : one.0 ≡ top + 1 + length test = stands_to c (top + 1) test one.0 one.1.0 in
+        let m' : two.0 ≡ one.0 + 1 + length code = stands_to c (one.0 + 1) code two.0 two.1.0 in
+        let ends : out ≡ q = omega (arith, same, m, m', two.1.1.1) in
+        let back : slice_get c.instrs two.0 ≡ Some (jump top) = subst (λ to. slice_get c.instrs two.0 ≡ Some (jump to)) (ap (λ to. to + 1) same) two.1.1.0 in
+        after (take_tick limit line now) _ (ticked {f = from f k} p [] now line here stand.0) (λ _ begun at.
+        subst (λ place_now. Leads k place_now (after_loop limit (limit - begun.ticks) line (is_true (here_setting) e) (after_statement (here_setting) s) begun)) ends
+        (loop_runs line top one.0 two.0 out n (is_true (here_setting) e) (after_statement (here_setting) s) stand.1.0 one.1.1.0 back
+        (λ j then_is there. true_runs j e (top + 1) one.0 then_is suits.0 one.1.0 there)
+        (λ j then_is few there. statement_runs s free n first (one.0 + 1) two.0 j then_is word few (omega (arith, same, m)) suits.1 two.1.0 there)
+        (limit - begun.ticks) k begun shallow (omega arith) at))
+    statement_runs (repeat_until line s until_line e) free n place p q k now word shallow same suits stand here =
+        let test = expr_code site e in
+        let first = place + 2 + length test + 3 in
+        let code = sequence_code site free s first in
+        let out = first + length code + 1 in
+        let top = p + 1 + 1 in
+        let one = parted c (top + 1) test (bare op.Not ∷ (jump_if_false out ∷ (code ++ jump (place + 2) ∷ []))) q stand.1.1.1 in
+        let two = parted c (one.0 + 1 + 1) code (jump (place + 2) ∷ []) q one.1.1.1.1 in
+        let m : one.0 ≡ top + 1 + length test = stands_to c (top + 1) test one.0 one.1.0 in
+        let m' : two.0 ≡ one.0 + 1 + 1 + length code = stands_to c (one.0 + 1 + 1) code two.0 two.1.0 in
+        let ends : out ≡ q = omega (arith, same, m, m', two.1.1.1) in
+        let begins : first ≡ one.0 + 1 + 1 = omega (arith, same, m) in
+        let back : slice_get c.instrs two.0 ≡ Some (jump top) = subst (λ to. slice_get c.instrs two.0 ≡ Some (jump to)) (omega (arith, same)) two.1.1.0 in
+        after (take_tick limit line now) _ (ticked {f = from f k} p [] now line here stand.0) (λ _ begun at.
+        let inside_at : Here c limit all (from f k) (one.0 + 1 + 1) [] begun = subst (λ place_now. Here c limit all (from f k) place_now [] begun) begins (jumped {f = from f k} (p + 1) first [] begun at stand.1.0) in
+        after (after_sequence (here_setting) s begun) _ (sequence_runs s free n first (one.0 + 1 + 1) two.0 k begun word shallow begins suits.1 two.1.0 inside_at) (λ _ turned end.
+        subst (λ place_now. Leads k place_now (after_loop limit (limit - turned.ticks) line (is_false (here_setting) e) (after_sequence (here_setting) s) turned)) ends
+        (loop_runs line top (one.0 + 1) two.0 out n (is_false (here_setting) e) (after_sequence (here_setting) s) stand.1.1.0 one.1.1.1.0 back
+        (λ j then_is there. false_runs j e (top + 1) one.0 then_is suits.0 one.1.0 one.1.1.0 there)
+        (λ j then_is few there. sequence_runs s free n first (one.0 + 1 + 1) two.0 j then_is word few begins suits.1 two.1.0 there)
+        (limit - turned.ticks) k turned shallow (omega arith) (jumped {f = from f k} two.0 top [] turned end back))))
+    statement_runs (for_do line x becomes first_e way way_line last_e do_line s) free n place p q k now word shallow same suits stand_there here =
+        let w = base + n in
+        let lower = expr_code site first_e in
+        let upper = expr_code site last_e in
+        let control = store_code site.result (site.names x.letters) in
+        let top = place + length lower + length upper + 7 in
+        let turn_at = top + length control + 2 in
+        let code = statement_code site (w + 2) s turn_at in
+        let out = turn_at + length code + 8 in
+        let stand : Stand c p (statement_code site w (for_do line x becomes first_e way way_line last_e do_line s) place) q = subst (λ v. Stand c p (statement_code site v (for_do line x becomes first_e way way_line last_e do_line s) place) q) word stand_there in
+        let tail : ℕ → ℕ → List Instr = λ t o. counter_test site (before_op way) w o ++ counter_step site way w t in
+        let one = parted c (p + 1) lower _ q stand.1 in
+        let two = parted c (one.0 + 1) upper _ q one.1.1.1 in
+        let begin = two.0 + 1 + 1 + 1 + 1 + 1 in
+        let three = parted c (begin + 1 + 1) control _ q two.1.1.1.1.1.1.1.1.1 in
+        let four = parted c three.0 code (tail top out) q three.1.1 in
+        let m1 : one.0 ≡ p + 1 + length lower = stands_to c (p + 1) lower one.0 one.1.0 in
+        let m2 : two.0 ≡ one.0 + 1 + length upper = stands_to c (one.0 + 1) upper two.0 two.1.0 in
+        let m3 : three.0 ≡ begin + 1 + 1 + length control = stands_to c (begin + 1 + 1) control three.0 three.1.0 in
+        let m4 : four.0 ≡ three.0 + length code = stands_to c three.0 code four.0 four.1.0 in
+        let begins : top ≡ begin = omega (arith, same, m1, m2) in
+        let ends : out ≡ q = omega (arith, same, m1, m2, m3, m4, stands_to c four.0 (tail top out) q four.1.1) in
+        let again : Stand c four.0 (tail begin q) q = subst (λ o. Stand c four.0 (tail begin o) q) ends (subst (λ t. Stand c four.0 (tail t out) q) begins four.1.1) in
+        let beside : w + 1 ≡ base + (n + 1) = omega arith in
+        after (take_tick limit line now) _ (ticked {f = from f k} p [] now line here stand.0) (λ _ begun at.
+        after (expr_value (here_setting) first_e begun) _ (value_runs k first_e (p + 1) one.0 [] begun suits.1 one.1.0 at) (λ low mid there.
+        let k1 : Kept = record { floor = k.floor; held = hold number n low k.held } in
+        let counts = held_set k one.0 low mid n there one.1.1.0 in
+        after (expr_value (here_setting) last_e mid) _ (value_runs k1 last_e (one.0 + 1) two.0 [] mid suits.2 two.1.0 counts) (λ high then_is behind.
+        let k2 : Kept = record { floor = k.floor; held = hold number (n + 1) high k1.held } in
+        let bounds = held_set k1 two.0 high then_is (n + 1) behind (subst (λ a. slice_get c.instrs two.0 ≡ Some (store_own site a)) beside two.1.1.0) in
+        let lower_is : k2.held number n ≡ Some low = hold_other number (n + 1) n high k1.held (λ e. omega (arith, e)) ∙ hold_here number n low k.held in
+        let upper_is : k2.held number (n + 1) ≡ Some high = hold_here number (n + 1) high k1.held in
+        let shallow1 : Shallow number (n + 1) k1 = shallow_more number n low k.held (n + 1) (omega arith) (deeper n (n + 1) (omega arith) k.held number shallow) in
+        let outer1 : Still k.held k1.held = still_more number n low k.held k.held shallow (λ d i v held. held) in
+        let outer : Still k.held k2.held = still_more number (n + 1) high k.held k1.held (deeper n (n + 1) (omega arith) k.held number shallow) outer1 in
+        let few : Shallow number (n + 2) k2 = shallow_more number (n + 1) high k1.held (n + 2) (omega arith) (deeper (n + 1) (n + 2) (omega arith) k1.held number shallow1) in
+        let loaded = held_loaded k2 (two.0 + 1) [] then_is n low bounds two.1.1.1.0 lower_is in
+        let both_there = held_loaded k2 (two.0 + 1 + 1) (low ∷ []) then_is (n + 1) high loaded (subst (λ a. slice_get c.instrs (two.0 + 1 + 1) ≡ Some (load_own site a)) beside two.1.1.1.1.0) upper_is in
+        let tested = (operated {f = from f k2} (two.0 + 1 + 1 + 1) (high ∷ low ∷ []) [] then_is (bare (reach_op way)) (Some (truth (within_reach way low high))) both_there two.1.1.1.1.1.0 (reach_by c limit way f.routine both_there.below (two.0 + 1 + 1 + 1) then_is.line both_there.words low high [] then_is.ticks)).comes in
+        let turns : Part (Unit {0}) = λ m. after_turns limit (limit - m.ticks) line way (assigned (scope x.letters) number x.letters) (after_statement (here_setting) s) high low m in
+        subst (λ (part : Course (Unit {0})). Leads k q part) (sym (choose_is (within_reach way low high) turns (Gives tt) then_is))
+        (subst (λ b. Leads k q (if b then turns then_is else Gives tt then_is)) (truth_holds (within_reach way low high))
+        (decided {f = from f k2} (two.0 + 1 + 1 + 1 + 1) out (truth (within_reach way low high)) [] then_is _ _ tested two.1.1.1.1.1.1.0
+        (λ on. turns_run line begin three.0 four.0 q n way high x.letters suits.0 (after_statement (here_setting) s) k shallow
+        two.1.1.1.1.1.1.1.0 two.1.1.1.1.1.1.1.1.0 three.1.0 again
+        (λ j u few_there there_too. statement_runs s (w + 2) (n + 2) turn_at three.0 four.0 j u (omega arith) few_there (omega (arith, begins, m3)) suits.3 four.1.0 there_too)
+        (limit - then_is.ticks) k2 low then_is (omega arith) lower_is upper_is few outer on.risen on)
+        (λ away. record { comes = subst (λ m. Here c limit all (from f k) m [] then_is) ends (on_less {f = from f k2} k away away.risen outer) }))))))
+    statement_runs (case_of line e of_line b more end_line) free n place p q k now word shallow same suits stand_there here =
+        let w = base + n in
+        let selector = expr_code site e in
+        let first = place + length selector + 2 in
+        let stand : Stand c p (statement_code site w (case_of line e of_line b more end_line) place) q = subst (λ v. Stand c p (statement_code site v (case_of line e of_line b more end_line) place) q) word stand_there in
+        let one = parted c (p + 1) selector (store_own site w ∷ branch_code site w b (branches_code site w more) first) q stand.1 in
+        let m : one.0 ≡ p + 1 + length selector = stands_to c (p + 1) selector one.0 one.1.0 in
+        after (take_tick limit line now) _ (ticked {f = from f k} p [] now line here stand.0) (λ _ begun at.
+        after (expr_value (here_setting) e begun) _ (value_runs k e (p + 1) one.0 [] begun suits.0 one.1.0 at) (λ v selected there.
+        let k1 : Kept = record { floor = k.floor; held = hold number n v k.held } in
+        let kept = held_set k one.0 v selected n there one.1.1.0 in
+        let outer : Still k.held k1.held = still_more number n v k.held k.held shallow (λ d i u held. held) in
+        let few : Shallow number (n + 1) k1 = shallow_more number n v k.held (n + 1) (omega arith) (deeper n (n + 1) (omega arith) k.held number shallow) in
+        so _ (branch_runs b n k1 v (hold_here number n v k.held) few (branches_code site w more) (after_branches (here_setting) v more)
+        (λ place_too r to u at_place later_stand later_here. branches_run more n place_too r to k1 v u (hold_here number n v k.held) few at_place suits.2 later_stand later_here)
+        first (one.0 + 1) q selected (omega (arith, same, m)) suits.1 one.1.1.1 kept)
+        (λ _ last end. on_less {f = from f k1} k end end.risen outer)))
+
+    pub body_runs : (b : Body) (free n place p q : ℕ) (k : Kept) (now : Situation) → free ≡ base + n → Shallow number n k → place ≡ p → SuitsBody rs site.names inside b → Stand c p (body_code site free b place) q → Here c limit all (from f k) p [] now
+        → Leads k q (after_body (here_setting) b now)
+    body_runs (body begin s end) free n place p q k now word shallow same suits stand here = sequence_runs s free n place p q k now word shallow same suits stand here
+
+    sequence_runs : (s : Sequence) (free n place p q : ℕ) (k : Kept) (now : Situation) → free ≡ base + n → Shallow number n k → place ≡ p → SuitsSequence rs site.names inside s → Stand c p (sequence_code site free s place) q → Here c limit all (from f k) p [] now
+        → Leads k q (after_sequence (here_setting) s now)
+    sequence_runs (sequence s more) free n place p q k now word shallow same suits stand here =
+        let code = statement_code site free s place in
+        let one = parted c p code (statements_code site free more (place + length code)) q stand in
+        after (after_statement (here_setting) s now) _ (statement_runs s free n place p one.0 k now word shallow same suits.0 one.1.0 here) (λ _ mid at.
+        statements_run more free n (place + length code) one.0 q k mid word shallow (omega (arith, same, stands_to c p code one.0 one.1.0)) suits.1 one.1.1 at)
+
+    statements_run : (ss : Statements) (free n place p q : ℕ) (k : Kept) (now : Situation) → free ≡ base + n → Shallow number n k → place ≡ p → SuitsStatements rs site.names inside ss → Stand c p (statements_code site free ss place) q → Here c limit all (from f k) p [] now
+        → Leads k q (after_statements (here_setting) ss now)
+    statements_run no_statement free n place p q k now word shallow same suits stand here = at_end p q k now stand here
+    statements_run (next_statement line s more) free n place p q k now word shallow same suits stand here =
+        let code = statement_code site free s place in
+        let one = parted c p code (statements_code site free more (place + length code)) q stand in
+        after (after_statement (here_setting) s now) _ (statement_runs s free n place p one.0 k now word shallow same suits.0 one.1.0 here) (λ _ mid at.
+        statements_run more free n (place + length code) one.0 q k mid word shallow (omega (arith, same, stands_to c p code one.0 one.1.0)) suits.1 one.1.1 at)
+
+    -- a branch, with what stands behind it
+    branch_runs : (b : Branch) (n : ℕ) (k : Kept) (v : ℤ) → k.held number n ≡ Some v → Shallow number (n + 1) k → (later : ℕ → List Instr) (otherwise : Part (Unit {0}))
+        → ((place p q : ℕ) (now : Situation) → place ≡ p → Stand c p (later place) q → Here c limit all (from f k) p [] now → Leads k q (otherwise now))
+        → (place p q : ℕ) (now : Situation) → place ≡ p → SuitsBranch rs site.names inside b → Stand c p (branch_code site (base + n) b later place) q → Here c limit all (from f k) p [] now
+        → Leads k q (after_branch (here_setting) v b otherwise now)
+    branch_runs (branch labels colon s) n k v held few later otherwise later_runs place p q now same suits stand here =
+        let found = place + label_tests_size labels + 1 in
+        let code = statement_code site (base + n + 1) s found in
+        let next = found + length code + 1 in
+        let others = later next in
+        let out = next + length others in
+        let tests = label_tests site (base + n) found labels in
+        let one = parted c p tests (jump next ∷ (code ++ (jump out ∷ others))) q stand in
+        let two = parted c (one.0 + 1) code (jump out ∷ others) q one.1.1.1 in
+        let m : one.0 ≡ p + label_tests_size labels = stands_to c p tests one.0 one.1.0 ∙ ap (λ z. p + z) (labels_size labels found (base + n)) in
+        let m' : two.0 ≡ one.0 + 1 + length code = stands_to c (one.0 + 1) code two.0 two.1.0 in
+        let ends : out ≡ q = omega (arith, same, m, m', stands_to c (two.0 + 1) others q two.1.1.1) in
+        subst (λ (part : Course (Unit {0})). Leads k q part) (sym (choose_is (is_labelled scope labels v) (after_statement (here_setting) s) otherwise now))
+        (labels_run k n v held found q (after_statement (here_setting) s now) (otherwise now) labels p one.0 now suits.0 one.1.0 here
+        (λ at. so _ (statement_runs s (base + n + 1) (n + 1) found (one.0 + 1) two.0 k now (omega arith) few (omega (arith, same, m)) suits.1 two.1.0
+        (subst (λ place_now. Here c limit all (from f k) place_now [] now) (omega (arith, same, m)) at))
+        (λ _ last end. subst (λ place_now. Here c limit all (from f k) place_now [] last) ends (jumped {f = from f k} two.0 out [] last end two.1.1.0)))
+        (λ at. later_runs next (two.0 + 1) q now (omega (arith, same, m, m')) two.1.1.1
+        (subst (λ place_now. Here c limit all (from f k) place_now [] now) (omega (arith, same, m, m')) (jumped {f = from f k} one.0 next [] now at one.1.1.0))))
+
+    branches_run : (bs : Branches) (n place p q : ℕ) (k : Kept) (v : ℤ) (now : Situation) → k.held number n ≡ Some v → Shallow number (n + 1) k → place ≡ p → SuitsBranches rs site.names inside bs → Stand c p (branches_code site (base + n) bs place) q → Here c limit all (from f k) p [] now
+        → Leads k q (after_branches (here_setting) v bs now)
+    branches_run no_branch n place p q k v now held few same suits stand here =
+        let one = number_pushed {f = from f k} p [] now _ (negsuc 0) here stand.0 refl in
+        record { comes = (indexed {f = from f k} (p + 1) (negsuc 0) [] now (record { low = pos 0; high = pos 0 }) (record { low = refl; high = refl }) one stand.1.0).comes }
+    branches_run (next_branch line b more) n place p q k v now held few same suits stand here =
+        branch_runs b n k v held few (branches_code site (base + n) more) (after_branches (here_setting) v more)
+        (λ place_too r to u at_place later_stand later_here. branches_run more n place_too r to k v u held few at_place suits.1 later_stand later_here) place p q now same suits.0 stand here
