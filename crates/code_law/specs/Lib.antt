@@ -3,3 +3,4 @@ pub mod Ties
 pub mod Arguments
 pub mod Named
 pub mod Suits
+pub mod Suited
