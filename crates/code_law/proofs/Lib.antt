@@ -21,3 +21,5 @@ pub mod Given
 pub mod Rows
 pub mod Expressions
 pub mod Statements
+pub mod Compiled
+pub mod Sites
