@@ -23,3 +23,4 @@ pub mod Expressions
 pub mod Statements
 pub mod Compiled
 pub mod Sites
+pub mod Naming

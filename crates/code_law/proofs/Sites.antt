@@ -2,7 +2,6 @@
 use Rattle.std.proofs.Common.{◌≡◌, ℕ, zero, suc, ◌+◌, ◌<◌, ◌≤◌, Bool, true, false, List, [], ◌∷◌, length, Option, Some, None, pos, refl, sym, ◌∙◌, ap, subst, arith}
 use Rattle.std.specs.Prelude.{slice_get, bytes_eq, nat_lt, if◌then◌else◌, is_some}
 use Rattle.std.specs.Int.{w16, cast_signed}
-use Rattle.std.proofs.lemmas.Int.{to_z_pos}
 use Rattle.std.proofs.lemmas.Bool.{lt-ltb}
 use Rattle.std.proofs.lemmas.Bool.Decides.{nat_tests}
 use Rattle.std.proofs.lemmas.Option.{none-some, same_Some}
@@ -71,7 +70,7 @@ parameters_own (p ∷ more) items are = parameters_own more (record { letters = 
     own true = refl
     own false = refl
 
-own_are : (known : List Item) (signature : Signature) (b : Block) → AllItems (OfOwner OfRoutine true) (own_items known signature b)
+pub own_are : (known : List Item) (signature : Signature) (b : Block) → AllItems (OfOwner OfRoutine true) (own_items known signature b)
 own_are known signature b =
     let scope : List Item → Scope = λ own. scope_of own known in
     variables_have (OfOwner OfRoutine true) OfRoutine scope (variable_owner OfRoutine true) b.vars _
@@ -116,14 +115,146 @@ owner_among owner refs f (i ∷ earlier) x s are is = by_name (bytes_eq i.letter
     by_name true later is = subst (SenseOf owner refs) (same_Some _ s is) (sense_owner owner refs i.means (place_behind f earlier) are.0)
     by_name false later is = later is
 
--- what is declared before any program has no words
-abbrev NoWords : Means → Type 0
-NoWords (meant.Variable o t) = ⊥
-NoWords (meant.Array o t b) = ⊥
-NoWords (meant.Reference t) = ⊥
-NoWords (meant.Constant t v) = Unit {0}
-NoWords (meant.Routine k s) = Unit {0}
-NoWords (meant.Function f) = Unit {0}
-NoWords (meant.Interface p) = Unit {0}
-NoWords (meant.TypeName t) = Unit {0}
-NoWords meant.Nothing = Unit {0}
+-- what is declared before any program is of either owner
+pub predeclared_are : (owner : Owner) → AllItems (OfOwner owner false) predeclared
+predeclared_are owner = (tt, (tt, (tt, (tt, (tt, (tt, (tt, (tt, (tt, (tt, (tt, (tt, (tt, (tt, (tt, (tt, (tt, (tt, (tt, (tt, (tt, (tt, (tt, (tt, (tt, (tt, tt))))))))))))))))))))))))))
+
+-- ---- Where a name was found
+pub data FoundAs (own program : Frame) (x : List ℕ) (s : Sense) : Type 0 where
+  OfOwn : sense_in own x ≡ Some s → FoundAs own program x s
+  OfOuter : sense_in program x ≡ Some s → FoundAs own program x s
+  Before : sense_in (plain_frame predeclared) x ≡ Some s → FoundAs own program x s
+  Nowhere : to_code.Nothing ≡ s → FoundAs own program x s
+
+pub found_as : (own program : Frame) (x : List ℕ) (s : Sense) → names_in own program x ≡ s → FoundAs own program x s
+found_as own program x s is = by_cases (sense_in own x) (sense_in program x) (sense_in (plain_frame predeclared) x) refl refl refl is
+  where
+    by_cases : (a b d : Option Sense) → sense_in own x ≡ a → sense_in program x ≡ b → sense_in (plain_frame predeclared) x ≡ d → first_sense a b d ≡ s → FoundAs own program x s
+    by_cases (Some t) b d e e2 e3 is = OfOwn (e ∙ ap Some is)
+    by_cases None (Some t) d e e2 e3 is = OfOuter (e2 ∙ ap Some is)
+    by_cases None None (Some t) e e2 e3 is = Before (e3 ∙ ap Some is)
+    by_cases None None None e e2 e3 is = Nowhere is
+
+-- ---- The program's names, with headings over them
+pub data Over (base : List Item) : List Item → Type 0 where
+  Itself : Over base base
+  Heading : (k : ℕ) (known : List Item) (r : Routine) → Over base known → Over base (heading_item k known r ∷ known)
+
+-- a sense with words
+abbrev pub HasRegion : Sense → Type 0
+HasRegion (Variable o a) = Unit {0}
+HasRegion (Array o a b) = Unit {0}
+HasRegion (Reference a) = Unit {0}
+HasRegion (to_code.Constant v) = ⊥
+HasRegion (to_code.Routine k passing) = ⊥
+HasRegion (to_code.Function f) = ⊥
+HasRegion (to_code.Interface p) = ⊥
+HasRegion to_code.Nothing = ⊥
+
+same_plain : (one two items : List Item) (x : List ℕ) → sense_among (plain_frame one) items x ≡ sense_among (plain_frame two) items x
+same_plain one two [] x = refl
+same_plain one two (i ∷ earlier) x = ap (λ (o : Option Sense). if bytes_eq i.letters x then Some (sense i.means (place_behind (plain_frame one) earlier)) else o) (same_plain one two earlier x)
+
+pub through_headings : (base known : List Item) → Over base known → (x : List ℕ) (s : Sense) → HasRegion s → sense_in (plain_frame known) x ≡ Some s → sense_in (plain_frame base) x ≡ Some s
+through_headings base known Itself x s has is = is
+through_headings base (i ∷ items) (Heading k known r over) x s has is =
+    through_headings base known over x s has (sym (same_plain (heading_item k known r ∷ known) known known x) ∙ by_name (bytes_eq (heading_item k known r).letters x) is)
+  where
+    by_name : (same : Bool) → (if same then Some (sense (heading_item k known r).means (place_behind (plain_frame (heading_item k known r ∷ known)) known)) else sense_among (plain_frame (heading_item k known r ∷ known)) known x) ≡ Some s
+        → sense_among (plain_frame (heading_item k known r ∷ known)) known x ≡ Some s
+    by_name true e = absurd (subst HasRegion (sym (same_Some _ s e)) has)
+    by_name false e = e
+
+pub over_are : (base known : List Item) → Over base known → AllItems (OfOwner OfProgram false) base → AllItems (OfOwner OfProgram false) known
+over_are base known Itself are = are
+over_are base (i ∷ items) (Heading k known r over) are = (tt, over_are base known over are)
+
+pub over_words : (base known : List Item) → Over base known → words_in known ≡ words_in base
+over_words base known Itself = refl
+over_words base (i ∷ items) (Heading k known r over) = omega (arith, over_words base known over)
+
+pub headings_over : (base : List Item) (k : ℕ) (rs : List Routine) (known : List Item) → Over base known → Over base (declared_headings k rs known)
+headings_over base k [] known over = over
+headings_over base k (r ∷ more) known over = headings_over base (k + 1) more (heading_item k known r ∷ known) (Heading k known r over)
+
+-- ---- References are parameters
+RefsBelow : Frame → List Item → Type 0
+RefsBelow f items = (x : List ℕ) (a : ℕ) → sense_among f items x ≡ Some (Reference a) → a < f.parameters
+
+NoReference : Means → Type 0
+NoReference m = (a b : ℕ) → sense m a ≡ Reference b → ⊥
+
+refs_more : (f : Frame) (i : Item) (items : List Item) → NoReference i.means → RefsBelow f items → RefsBelow f (i ∷ items)
+unfolding RefsBelow NoReference
+refs_more f i items lacks below x a is = by_name (bytes_eq i.letters x) is
+  where
+    by_name : (same : Bool) → (if same then Some (sense i.means (place_behind f items)) else sense_among f items x) ≡ Some (Reference a) → a < f.parameters
+    by_name true e = absurd (lacks (place_behind f items) a (same_Some _ _ e))
+    by_name false e = below x a e
+
+constant_no : (s : Scope) (d : Definition) → NoReference (constant_item s d).means
+unfolding NoReference
+constant_no s d a b e = cc
+
+variable_no : (s : Scope) (k : Kind) → NoReference (variable_of OfRoutine s k)
+unfolding NoReference
+variable_no s (kind.Name n) a b e = cc
+variable_no s (kind.Array line opening low up_to high closing of element) a b e = cc
+
+refs_names : (f : Frame) (means : Means) (xs : List (List ℕ)) (items : List Item) → NoReference means → RefsBelow f items → RefsBelow f (declared_names means xs items)
+refs_names f means [] items lacks below = below
+refs_names f means (x ∷ more) items lacks below = refs_names f means more (record { letters = x; means = means } ∷ items) lacks (refs_more f (record { letters = x; means = means }) items lacks below)
+
+refs_definitions : (f : Frame) (scope : List Item → Scope) (ds : List Definition) (items : List Item) → RefsBelow f items → RefsBelow f (declared_definitions scope ds items)
+refs_definitions f scope [] items below = below
+refs_definitions f scope (d ∷ more) items below = refs_definitions f scope more (constant_item (scope items) d ∷ items) (refs_more f (constant_item (scope items) d) items (constant_no (scope items) d) below)
+
+refs_constants : (f : Frame) (scope : List Item → Scope) (c : Option Consts) (items : List Item) → RefsBelow f items → RefsBelow f (declared_constants scope c items)
+refs_constants f scope None items below = below
+refs_constants f scope (Some c) items below = refs_definitions f scope (c.first ∷ c.rest) items below
+
+refs_groups : (f : Frame) (scope : List Item → Scope) (gs : List Group) (items : List Item) → RefsBelow f items → RefsBelow f (declared_groups OfRoutine scope gs items)
+refs_groups f scope [] items below = below
+refs_groups f scope (g ∷ more) items below =
+    let means = variable_of OfRoutine (scope items) g.kind in
+    refs_groups f scope more (declared_names means (name_list g.names) items) (refs_names f means (name_list g.names) items (variable_no (scope items) g.kind) below)
+
+refs_variables : (f : Frame) (scope : List Item → Scope) (v : Option Vars) (items : List Item) → RefsBelow f items → RefsBelow f (declared_variables OfRoutine scope v items)
+refs_variables f scope None items below = below
+refs_variables f scope (Some v) items below = refs_groups f scope (v.first ∷ v.rest) items below
+
+-- among parameters, which have the first words
+refs_parameters : (f : Frame) (items : List Item) → words_in items ≤ f.parameters → RefsBelow f items
+unfolding RefsBelow
+refs_parameters f [] low x a is = absurd (none-some _ is)
+refs_parameters f (i ∷ earlier) low x a is = by_name (bytes_eq i.letters x) (λ e. refs_parameters f earlier (omega (arith, low)) x a e) is
+  where
+    by_means : (m : Means) → words_of m + words_in earlier ≤ f.parameters → sense m (place_behind f earlier) ≡ Reference a → a < f.parameters
+    by_means (meant.Reference t) low e =
+        let here : place_behind f earlier ≡ a = reference_place (place_behind f earlier) a e in
+        let near : words_in earlier < f.parameters = omega (arith, low) in
+        let first : place_behind f earlier ≡ words_in earlier = ap (λ b. if b then words_in earlier else words_in earlier + f.result) (lt-ltb (words_in earlier) f.parameters near) in
+        omega (arith, here, first, near)
+      where
+        reference_place : (c d : ℕ) → Reference c ≡ Reference d → c ≡ d
+        reference_place c d e = cc
+    by_means (meant.Variable o t) low e = cc
+    by_means (meant.Array o t b) low e = cc
+    by_means (meant.Constant t v) low e = cc
+    by_means (meant.Routine k s) low e = cc
+    by_means (meant.Function g) low e = cc
+    by_means (meant.Interface p) low e = cc
+    by_means (meant.TypeName t) low e = cc
+    by_means meant.Nothing low e = cc
+
+    by_name : (same : Bool) → (sense_among f earlier x ≡ Some (Reference a) → a < f.parameters) → (if same then Some (sense i.means (place_behind f earlier)) else sense_among f earlier x) ≡ Some (Reference a) → a < f.parameters
+    by_name true later e = by_means i.means low (same_Some _ _ e)
+    by_name false later e = later e
+
+pub references_low : (known : List Item) (signature : Signature) (b : Block) (x : List ℕ) (a : ℕ) → let f = routine_frame known signature b in sense_in f x ≡ Some (Reference a) → a < f.parameters
+unfolding RefsBelow
+references_low known signature b x a is =
+    let f = routine_frame known signature b in
+    let scope : List Item → Scope = λ own. scope_of own known in
+    let these = declared_parameters signature.parameters [] in
+    refs_variables f scope b.vars (declared_constants scope b.consts these) (refs_constants f scope b.consts these (refs_parameters f these (omega arith))) x a is
