@@ -86,3 +86,8 @@ compiled_at p k r is =
       function = ap (λ (i : RoutineInfo). i.function) info;
       words = omega (arith, ap (λ (i : RoutineInfo). i.words) info);
     }
+
+-- the program's own code is the first
+pub first_starts : (p : Program) → (routine_at (code_of p) 0).start ≡ 0
+unfolding code_of
+first_starts p = refl

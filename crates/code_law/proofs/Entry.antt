@@ -99,7 +99,7 @@ held_there n held d i v is = by_test (nat_le n d) is
     by_test true e = absurd (none-some v e)
     by_test false e = e
 
-none_here : (n : ℕ) (held : Held) (i : ℕ) (v : ℤ) → held_below n held n i ≡ Some v → ⊥
+pub none_here : (n : ℕ) (held : Held) (i : ℕ) (v : ℤ) → held_below n held n i ≡ Some v → ⊥
 none_here n held i v is = none-some v (sym (ap (λ b. if b then None else held n i) (le-leb n n (omega arith))) ∙ is)
 
 still_held : (n : ℕ) (held : Held) (d i : ℕ) (v : ℤ) → d < n → held d i ≡ Some v → held_below n held d i ≡ Some v

@@ -24,3 +24,6 @@ pub mod Statements
 pub mod Compiled
 pub mod Sites
 pub mod Naming
+pub mod Calls
+pub mod Whole
+pub mod Fitting
