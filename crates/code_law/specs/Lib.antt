@@ -4,3 +4,4 @@ pub mod Arguments
 pub mod Named
 pub mod Suits
 pub mod Suited
+pub mod Law

@@ -1,2 +1,7 @@
-//! That compiled code does what its source means: laws over the code's schemes and the machine.
+//! That compiled code does what its source means: the law over the code's schemes, the meaning of programs
+//! and the machine.
 #![tactic(auto)]
+
+mod laws;
+
+pub use laws::compiled_code_does_what_its_source_means;

@@ -1,0 +1,22 @@
+-- Compiled code does what its source means.
+use Rattle.std.specs.Prelude.{ℕ, List}
+use Rattle.solo_base.specs.declared.system_call.SysReply.{SysReply}
+use Rattle.stack_code.specs.CodeLists.{IsCode}
+use Rattle.stack_code.specs.Rules.{IsGood}
+use Rattle.stack_machine.specs.Run.{Runs}
+use Rattle.pascal_tree.specs.Program.{Program}
+use Rattle.pascal_mean.specs.Meaning.{meaning}
+use Rattle.pascal_mean.specs.MoreReplies.{FitTheMeaning}
+use Rattle.pascal_code.specs.Code.{code_of}
+use Rattle.code_law.specs.Suited.{AreSuited}
+
+-- Whatever the limit of ticks and the replies to the program's calls, provided that each reply fits the call at which
+-- the program waits: the run of the code is what the program means, its ticks, its last line and all its calls.
+abbrev pub DoesWhatItMeans : Type 0
+DoesWhatItMeans =
+    (p : Program) (limit : ℕ) (replies : List SysReply)
+    → AreSuited p
+    → IsCode (code_of p)
+    → IsGood (code_of p)
+    → FitTheMeaning p limit replies
+    → Runs (code_of p) limit replies (meaning p limit replies)
