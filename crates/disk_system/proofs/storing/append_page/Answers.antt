@@ -1,0 +1,15 @@
+use Rattle.std.proofs.Common.{refl}
+use Rattle.disk_system.specs.Contents.{cut}
+use Rattle.disk_system.proofs.Stores.{appends, grown, its_file, only_fault}
+use Rattle.disk_system.proofs.storing.append_page.Goals as goal
+
+pub returns-clause-appended : goal.returns-clause-appended
+returns-clause-appended g c = λ others file unused h loose short room.
+    grown others c.args.name.now file c.args.bytes.now c.args.k unused _ h loose short room c.append.result _ c.page_at.result.0 c.page_at.ensures
+    (c.append.ensures.file h.pages (record file { pages = cut c.args.bytes.now c.args.k }) h.told
+    (its_file others c.args.name.now file c.args.bytes.now c.args.k unused _ h loose short room))
+
+pub returns-clause-fault : goal.returns-clause-fault
+returns-clause-fault g c = λ others file unused h loose short room.
+    only_fault c.append.result _ (appends others c.args.name.now file c.args.bytes.now c.args.k unused _ h loose short room)
+    (c.append.ensures.answer h.pages h.told)
