@@ -4,8 +4,8 @@ use Rattle.std.specs.List.{All, concat, before_first, position_or_len, prefix_le
 use Rattle.std.proofs.lemmas.List.{take_all, take_at, take_more, append-nil, length-take, length_push, length-replicate, drop-take, take-append-drop, take-take, drop_at}
 use Rattle.std.proofs.lemmas.List.Folds.{concat-append}
 use Rattle.std.specs.Option.{unwrap_or}
-use Rattle.std.proofs.lemmas.Bool.{ne_eqb, cases_Bool}
-use Rattle.std.proofs.lemmas.List.Sums.{position_or_len_is}
+use Rattle.std.proofs.lemmas.Bool.{cases_Bool, eq-eqb, false≢true, ne_eqb}
+use Rattle.std.proofs.lemmas.List.Sums.{fails_before_first, position_or_len_is}
 use Rattle.memchr.specs.Find.{IsFirstByte, is_byte}
 use Rattle.stack_code.specs.CodeLists.{CodeLists}
 use Rattle.stack_code.specs.CodeFile.{code_bytes, padding, text_bytes as code_text}
@@ -129,3 +129,12 @@ text_ends bytes (Some i) found = sym (position_or_len_is (λ byte. byte == 25) b
   where
     fails : (k : ℕ) → (get_or bytes k 0 == 25 ≡ true → ⊥) → (get_or bytes k 0 == 25) ≡ false
     fails k none = elim (cases_Bool (get_or bytes k 0 == 25)) [ inl is ↦ absurd (none is) | inr other ↦ other ]
+
+-- a text is what has no byte 25, so it ends where its bytes end
+pub ends_nowhere : (text : List ℕ) → IsText text → position_or_len (λ byte. byte == 25) text ≡ length text
+ends_nowhere text is = position_or_len_is (λ byte. byte == 25) text (length text) 0 (omega arith)
+    (λ k below. ne_eqb (get_or text k 0) 25 (is k 0 below)) (λ past. absurd (omega (arith, past)))
+
+pub ends_late : (text : List ℕ) → position_or_len (λ byte. byte == 25) text ≡ length text → IsText text
+ends_late text e = λ k default below is.
+    false≢true (sym (fails_before_first (λ byte. byte == 25) text k default (omega (arith, e, below))) ∙ eq-eqb (get_or text k default) 25 is)

@@ -1,7 +1,7 @@
 ghost use Rattle.std.specs.Prelude.{◌≡◌, true};
 
 use crate::made_area::{blank_area, bytes, mounted, name};
-use crate::{SystemFault, load_code, store_code, store_text};
+use crate::{SystemFault, is_text, load_code, store_code, store_text};
 use disk_files::{FileArea, FileFault};
 use disk_layout::FileKind;
 use solo_base::Page;
@@ -55,6 +55,7 @@ fn code_is_loaded_as_it_was_stored(rt: HostRuntime) {
         Some(SystemFault::File(FileFault::Exists))
     );
     assert!(rt; files.sound());
+    assert!(rt; is_text(b"A"));
     assert!(rt; store_text(rt.alloc(), &mut files, &name(&rt, b"text"), b"A").is_ok());
     assert!(rt; files.sound());
     assert_eq!(rt;

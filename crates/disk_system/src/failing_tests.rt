@@ -1,10 +1,9 @@
 ghost use Rattle.std.specs.Prelude.{◌≡◌};
 
 use crate::made_area::{failing_area, name};
-use crate::{DiskFault, SystemFault, format, list, load_code, store_code, store_text, text_of};
+use crate::{DiskFault, SystemFault, format, is_text, list, store_text, text_of};
 use disk_files::{FileArea, FileFault};
 use solo_devices::{Area, MemArea};
-use stack_code::Verified;
 use std::alloc::Global;
 use std::process::Abort;
 use std::test::Fail;
@@ -29,7 +28,9 @@ fn script(rt: &impl Abort, alloc: Global, mut area: MemArea) -> Result<(), Syste
 fn calls(rt: &impl Abort, alloc: Global, files: &mut FileArea<MemArea>) -> Result<(), SystemFault> {
     let text = name(rt, b"text");
     assert!(rt; files.sound());
-    store_text(alloc, files, &text, &[b'A'; 600])?;
+    let stored = [b'A'; 600];
+    assert!(rt; is_text(&stored));
+    store_text(alloc, files, &text, &stored)?;
     assert!(rt; files.sound());
     let read = text_of(alloc, files, &text)?;
     assert!(rt; read.as_slice() == [b'A'; 600].as_slice());

@@ -14,7 +14,7 @@ pub use code_files::{load_code, store_code};
 pub use fault::{DiskFault, SystemFault};
 pub use formatting::format;
 pub use listing::list;
-pub use texts::{store_text, text_of};
+pub use texts::{is_text, store_text, text_of};
 
 #[cfg(test)]
 mod code_tests;

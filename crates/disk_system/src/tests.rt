@@ -1,7 +1,7 @@
 ghost use Rattle.std.specs.Prelude.{◌≡◌, true};
 
-use crate::made_area::{blank_area, bytes, mounted, name, page_of};
-use crate::{SystemFault, format, list, store_text, text_of};
+use crate::made_area::{blank_area, bytes, mounted, name, page_of, put_page};
+use crate::{SystemFault, format, is_text, list, store_text, text_of};
 use disk_files::{FileArea, FileFault};
 use disk_layout::{FileKind, label};
 use disk_pages::{AREA_PAGES, name_bytes, number};
@@ -17,7 +17,7 @@ fn an_area_of_ones_is_formatted(rt: HostRuntime) {
         .ok()
         .expect(&rt, "ample memory");
     for n in 0..40u16 {
-        area.write(n, &Page([1; 512]));
+        put_page(&mut area, n, &Page([1; 512]));
     }
     assert!(rt; format(&mut area).is_ok());
     assert!(rt; page_of(&mut area, 0).0 == label().0);
@@ -43,6 +43,7 @@ fn an_area_of_ones_is_formatted(rt: HostRuntime) {
 fn a_text_stands_in_its_pages(rt: HostRuntime) {
     let mut files = mounted(&rt, rt.alloc(), blank_area(&rt, rt.alloc()));
     let text = name(&rt, b"text");
+    assert!(rt; is_text(b"HI\n"));
     assert!(rt; store_text(rt.alloc(), &mut files, &text, b"HI\n").is_ok());
     let mut area = files.into_inner();
     // its key is 37
@@ -72,6 +73,7 @@ fn is_read_again(
 ) {
     let text = name(rt, b"text");
     let stored = bytes(rt, alloc, count, b'A');
+    assert!(rt; is_text(&stored));
     assert!(rt; files.sound());
     let answer = store_text(alloc, files, &text, &stored);
     assert!(rt; answer.is_ok(), "of {count} bytes");
@@ -102,6 +104,7 @@ fn a_text_of_any_length_is_read_again(rt: HostRuntime) {
         is_read_again(&rt, rt.alloc(), &mut files, count, pages);
     }
     let long = bytes(&rt, rt.alloc(), 2_048_000, b'A');
+    assert!(rt; is_text(&long));
     assert!(rt; files.sound());
     assert_eq!(rt;
         store_text(rt.alloc(), &mut files, &name(&rt, b"text"), &long).err(),
@@ -119,14 +122,10 @@ fn refused(
     letters: &[u8],
     count: usize,
 ) -> Option<SystemFault> {
+    let text = bytes(rt, alloc, count, b'B');
+    assert!(rt; is_text(&text));
     assert!(rt; files.sound());
-    store_text(
-        alloc,
-        files,
-        &name(rt, letters),
-        &bytes(rt, alloc, count, b'B'),
-    )
-    .err()
+    store_text(alloc, files, &name(rt, letters), &text).err()
 }
 
 #[test]
@@ -197,6 +196,13 @@ fn files_are_listed_by_name(rt: HostRuntime) {
     has_line(&rt, &lines, 1, b"PROG SEQCODE 0 PAGES");
     has_line(&rt, &lines, 2, b"TEX2 SCRATCH 0 PAGES");
     has_line(&rt, &lines, 3, b"TEXT ASCII 2 PAGES PROTECTED");
+}
+
+#[test]
+fn a_byte_25_is_in_no_text(rt: HostRuntime) {
+    assert!(rt; is_text(b""));
+    assert!(rt; is_text(b"A\x18\x1a"));
+    assert!(rt; !is_text(b"A\x19"));
 }
 
 #[test]

@@ -1,4 +1,4 @@
-ghost use Rattle.std.specs.Prelude.{◌≡◌, ℕ, ◌+◌, ◌-◌, ◌⊎◌, ◌==◌, List, Some, Ok, Err, IsTrue, length, IfErr, IfOk, OnOk, MatchResult};
+ghost use Rattle.std.specs.Prelude.{◌≡◌, ℕ, ◌+◌, ◌-◌, ◌⊎◌, ◌==◌, List, Some, Ok, Err, IsTrue, true, false, length, IfErr, IfOk, OnOk, MatchResult};
 ghost use Rattle.std.specs.FinMap as fin;
 ghost use Rattle.std.specs.List.{position_or_len};
 ghost use Rattle.disk_layout.specs.Files.{File, files as file_map, free_count, name_count};
@@ -88,6 +88,14 @@ fn text_length(bytes: &[u8]) -> usize
     ensures { result ≡ position_or_len (λ byte. byte == 25) bytes.now }
 {
     memchr(TEXT_END, bytes).unwrap_or(bytes.len())
+}
+
+/// Whether these bytes are a text: none of them is the byte 25.
+pub fn is_text(text: &[u8]) -> bool
+    ensures yes { result ≡ true → IsText text.now }
+    ensures not { result ≡ false → IsText text.now → ⊥ }
+{
+    text_length(text) == text.len()
 }
 
 /// Makes a file of a text. All refusals but a fault of the area come before anything is written.
