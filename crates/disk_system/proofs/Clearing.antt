@@ -19,7 +19,8 @@ use Rattle.disk_system.specs.Formatted.{IsCleared, IsFormatted, KeepsFilePages}
 pub cleared_none : (pages : List (List ℕ)) → IsCleared pages 0 pages
 cleared_none pages = record { as_many = refl; cleared = λ n below. absurd (omega (arith, below)); others = λ n apart. refl }
 
-pub cleared_next : (pages now : List (List ℕ)) (n : ℕ) → n < 15 → length pages ≡ 4288 → IsCleared pages n now → IsCleared pages (n + 1) (set now (1 + n) zero_page)
+pub cleared_next : (pages now : List (List ℕ)) (n : ℕ) → n < 15 → length pages ≡ 4288 → IsCleared pages n now
+    → IsCleared pages (n + 1) (set now (1 + n) zero_page)
 cleared_next pages now n few size was = record {
   as_many = length-set now (1 + n) zero_page ∙ was.as_many;
   cleared = λ k below. elim (cases_eq k n) [
@@ -45,14 +46,17 @@ formatted pages first cleared taken low high size first_is was bits format fresh
     let saved = saves_map cleared low high taken (as_many ∙ size) bits format in
     record {
       as_many = saved.as_many ∙ as_many;
-      first = saved.others 0 (λ e. absurd (omega (arith, e))) (λ e. absurd (omega (arith, e))) ∙ was.others 0 (inl (omega arith)) ∙ ap (λ x. page_at x 0) first_is
+      first = saved.others 0 (λ e. absurd (omega (arith, e))) (λ e. absurd (omega (arith, e))) ∙ was.others 0 (inl (omega arith))
+          ∙ ap (λ x. page_at x 0) first_is
           ∙ page_written pages 0 label (omega (arith, size));
       catalogue = λ n some last.
-          saved.others n (λ e. omega (arith, e, last)) (λ e. omega (arith, e, last)) ∙ ap (page_at cleared) (back n some) ∙ was.cleared (n - 1) (omega (arith, some, last));
+          saved.others n (λ e. omega (arith, e, last)) (λ e. omega (arith, e, last))
+          ∙ ap (page_at cleared) (back n some) ∙ was.cleared (n - 1) (omega (arith, some, last));
       marked = λ n within. saved.marked n within ∙ fresh n;
       zeros = saved.zeros;
       others = λ n past.
-          saved.others n (λ e. omega (arith, e, past)) (λ e. omega (arith, e, past)) ∙ was.others n (inr (omega (arith, past))) ∙ ap (λ x. page_at x n) first_is
+          saved.others n (λ e. omega (arith, e, past)) (λ e. omega (arith, e, past))
+          ∙ was.others n (inr (omega (arith, past))) ∙ ap (λ x. page_at x n) first_is
           ∙ page_beside pages 0 n label (λ e. omega (arith, e, past));
     }
   where
@@ -60,7 +64,8 @@ formatted pages first cleared taken low high size first_is was bits format fresh
     back n some = omega (arith, some)
 
 -- a write of a page that is no file's
-pub wrote_apart : (before now : Option (List (List ℕ))) (n : ℕ) (answer : Moved) (page : List ℕ) → n < 18 → Writes before now n answer page → KeepsFilePages before now
+pub wrote_apart : (before now : Option (List (List ℕ))) (n : ℕ) (answer : Moved) (page : List ℕ) → n < 18
+    → Writes before now n answer page → KeepsFilePages before now
 wrote_apart before now n Moved.Done page apart w = record {
   told = λ pages told. (slice_set pages n page, w.told pages told, λ m past. page_beside pages n m page (λ e. omega (arith, e, apart, past)));
   untold = w.untold;

@@ -27,15 +27,21 @@ zeros_within n at fits = ap (take n) (drop-replicate at 512 0) ∙ take-replicat
 number_zero : (at : ℕ) → number_at zero_page at ≡ 0
 number_zero at = ap (λ x. x * 256 + get_or zero_page (at + 1) 0) (zeros_at 512 at) ∙ ap (λ x. 0 * 256 + x) (zeros_at 512 (at + 1))
 
+-- an entry with these fields
+with_fields : List ℕ → ℕ → ℕ → ℕ → ℕ → ℕ → Entry
+with_fields name kind address protection key searches =
+    record { name = name; kind = kind; address = address; protection = protection; key = key; searches = searches }
+
 entry_zero : (at : ℕ) → at ≤ 480 → entry_in zero_page at ≡ unnamed 0
-unfolding entry_in
+unfolding entry_in with_fields
 entry_zero at fits =
-    ap (λ n. record { name = n; kind = number_at zero_page (at + 12); address = number_at zero_page (at + 14); protection = number_at zero_page (at + 16); key = number_at zero_page (at + 28); searches = number_at zero_page (at + 30) }) (zeros_within 12 at (omega (arith, fits)))
-    ∙ ap (λ k. record { name = replicate 12 0; kind = k; address = number_at zero_page (at + 14); protection = number_at zero_page (at + 16); key = number_at zero_page (at + 28); searches = number_at zero_page (at + 30) }) (number_zero (at + 12))
-    ∙ ap (λ k. record { name = replicate 12 0; kind = 0; address = k; protection = number_at zero_page (at + 16); key = number_at zero_page (at + 28); searches = number_at zero_page (at + 30) }) (number_zero (at + 14))
-    ∙ ap (λ k. record { name = replicate 12 0; kind = 0; address = 0; protection = k; key = number_at zero_page (at + 28); searches = number_at zero_page (at + 30) }) (number_zero (at + 16))
-    ∙ ap (λ k. record { name = replicate 12 0; kind = 0; address = 0; protection = 0; key = k; searches = number_at zero_page (at + 30) }) (number_zero (at + 28))
-    ∙ ap (λ k. record { name = replicate 12 0; kind = 0; address = 0; protection = 0; key = 0; searches = k }) (number_zero (at + 30))
+    let n : ℕ → ℕ = λ k. number_at zero_page (at + k) in
+    ap (λ name. with_fields name (n 12) (n 14) (n 16) (n 28) (n 30)) (zeros_within 12 at (omega (arith, fits)))
+    ∙ ap (λ k. with_fields (replicate 12 0) k (n 14) (n 16) (n 28) (n 30)) (number_zero (at + 12))
+    ∙ ap (λ k. with_fields (replicate 12 0) 0 k (n 16) (n 28) (n 30)) (number_zero (at + 14))
+    ∙ ap (λ k. with_fields (replicate 12 0) 0 0 k (n 28) (n 30)) (number_zero (at + 16))
+    ∙ ap (λ k. with_fields (replicate 12 0) 0 0 0 k (n 30)) (number_zero (at + 28))
+    ∙ ap (with_fields (replicate 12 0) 0 0 0 0) (number_zero (at + 30))
 
 -- ---- Counts
 

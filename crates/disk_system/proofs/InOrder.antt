@@ -185,7 +185,8 @@ module _ (m : Files) where
       record {
         last = some.4 ∙ ap (λ x. Some x) (w.1 ∙ ap (key es) k_is) ∙ ap (last_of es) (next_place j inside);
         lines =
-            some.5 ∙ ap (λ ls. ls ++ file_line some.0 some.1 ∷ []) was.lines ∙ ap (λ x. map line (take j es) ++ file_line x some.1 ∷ []) (w.1 ∙ ap (key es) k_is)
+            some.5 ∙ ap (λ ls. ls ++ file_line some.0 some.1 ∷ []) was.lines
+            ∙ ap (λ x. map line (take j es) ++ file_line x some.1 ∷ []) (w.1 ∙ ap (key es) k_is)
             ∙ ap (λ x. map line (take j es) ++ file_line (key es j) x ∷ []) (w.2 ∙ ap (λ x. (get_or es x none).1) k_is) ∙ sym (map_more line es j none inside);
       }
     where

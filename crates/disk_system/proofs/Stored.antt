@@ -86,7 +86,8 @@ text_whole text = let is = length-text_bytes text in omega (arith, is)
 text_end : (text rest : List ℕ) → IsText text → position_or_len (λ byte. byte == 25) (text ++ 25 ∷ rest) ≡ length text
 text_end [] rest is = refl
 text_end (byte ∷ text) rest is =
-    ap (λ b. cond (not b) (1 + position_or_len (λ byte. byte == 25) (text ++ 25 ∷ rest)) 0) (ne_eqb byte 25 (is 0 0 (omega arith))) ∙ next (text_end text rest (λ k d below. is (suc k) d (omega (arith, below))))
+    ap (λ b. cond (not b) (1 + position_or_len (λ byte. byte == 25) (text ++ 25 ∷ rest)) 0) (ne_eqb byte 25 (is 0 0 (omega arith)))
+    ∙ next (text_end text rest (λ k d below. is (suc k) d (omega (arith, below))))
   where
     next : {n m : ℕ} → n ≡ m → 1 + n ≡ suc m
     next e = omega (arith, e)

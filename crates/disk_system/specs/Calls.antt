@@ -47,8 +47,8 @@ text_answer (Some file) = text_by file.kind (file_bytes file)
 
 -- ---- Stores
 
--- the answer of a store of so many pages under a new name, where there are so many names and so many pages are
--- free
+-- the answer of a store of so many pages under a new name, where there are so many names and so many pages
+-- are free
 abbrev pub room_answer : ℕ → ℕ → ℕ → Result (Unit {0}) FileFault
 room_answer names unused count =
     if nat_le 240 names then Err CatalogFull
@@ -69,7 +69,8 @@ abbrev pub StoreAnswers : Result (Unit {0}) SystemFault → Result (Unit {0}) Fi
 StoreAnswers result expected =
     (result ≡ Err (OfFiles DiskFault)) ⊎ (result ≡ Err (OfFiles NoMemory)) ⊎ (result ≡ as_system expected)
 
--- Whatever the area tells. That there is no file, or a protected one, comes only of an area that tells nothing.
+-- Whatever the area tells. That there is no file, or a protected one, comes only of an area that tells
+-- nothing.
 abbrev pub MayRefuse : FileFault → Type 0
 MayRefuse fault =
     (fault ≡ Exists) ⊎ (fault ≡ CatalogFull) ⊎ (fault ≡ FileFull) ⊎ (fault ≡ DiskFull) ⊎ (fault ≡ DiskFault)

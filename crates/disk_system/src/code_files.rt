@@ -21,8 +21,8 @@ use solo_devices::Area;
 use stack_code::{Verified, decode, encode, verify};
 use std::alloc::Global;
 
-/// The code of a file, verified. It is refused at its first byte that is wrong, or else at the first record that
-/// breaks a rule.
+/// The code of a file, verified. It is refused at its first byte that is wrong, or else at the first record
+/// that breaks a rule.
 pub fn load_code<A: Area>(
     alloc: Global,
     files: &mut FileArea<A>,
@@ -77,7 +77,8 @@ fn code_by<A: Area>(
 // The code of these bytes, verified.
 fn verified(alloc: Global, bytes: &[u8]) -> Result<Verified, SystemFault>
     ensures loads { LoadsAs bytes.now result }
-    ensures only { (c : CodeLists) → IsCode c → FitsItsFields c → bytes.now ≡ code_bytes c → LoadsCode c result }
+    ensures only { (c : CodeLists) → IsCode c → FitsItsFields c → bytes.now ≡ code_bytes c
+        → LoadsCode c result }
     ensures no_fault { of_files result ≡ Err DiskFault → ⊥ }
     ensures refusals { IfErr result MayRefuseLoad }
 {

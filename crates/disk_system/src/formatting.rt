@@ -44,7 +44,7 @@ fn write_first_pages<A: Area>(area: &mut A) -> Result<(), DiskFault>
 }
 
 // Writes an empty catalogue.
-#[tactic(auto, using(crate::proofs::Failing::failed_then, crate::proofs::Failing::kept_then, crate::proofs::Failing::kept_so_far))]
+#[tactic(auto, using(crate::proofs::Failing::failed_then, crate::proofs::Failing::kept_then))]
 fn clear_catalogue<A: Area>(area: &mut A) -> Result<(), DiskFault>
     requires { A.size area.old ≡ AREA_PAGES }
     ensures cleared { (pages : List (List ℕ)) → A.pages area.old ≡ Some pages → length pages ≡ AREA_PAGES

@@ -62,12 +62,3 @@ pub fn page_of<A: Area>(area: &mut A, n: u16) -> Page
     area.read(n, &mut page);
     page
 }
-
-/// Writes page n of an area.
-pub fn put_page<A: Area>(area: &mut A, n: u16, page: &Page)
-    requires size { A.size area.old ≡ AREA_PAGES }
-    requires within { n < AREA_PAGES }
-    ensures { A.size area.new ≡ AREA_PAGES }
-{
-    area.write(n, page);
-}

@@ -13,7 +13,8 @@ use disk_layout::FileKind;
 use solo_base::{Ident, PAGE_LENGTH, Page};
 use solo_devices::Area;
 
-/// Makes a file of whole pages of bytes. All refusals but a fault of the area come before anything is written.
+/// Makes a file of whole pages of bytes. All refusals but a fault of the area come before anything is
+/// written.
 pub fn store<A: Area>(
     files: &mut FileArea<A>,
     name: &Ident,

@@ -1,9 +1,17 @@
 use Rattle.std.proofs.Common.{◌+◌, ◌∙◌, ap, subst, sym, set}
-use Rattle.disk_files.proofs.Kept.{faults_then}
+use Rattle.disk_files.proofs.Kept.{faults_then, no_faults}
 use Rattle.disk_system.specs.Formatted.{IsCleared}
-use Rattle.disk_system.proofs.Failing.{kept_then}
-use Rattle.disk_system.proofs.Clearing.{cleared_next}
+use Rattle.disk_system.proofs.Failing.{kept_so_far, kept_then}
+use Rattle.disk_system.proofs.Clearing.{cleared_next, cleared_none}
 use Rattle.disk_system.proofs.formatting.clear_catalogue.Goals as goal
+
+pub loop-n-init : goal.loop-n-init
+loop-n-init g c = record {
+  size = c.requires;
+  kept = kept_so_far _;
+  faults = no_faults _ tt;
+  cleared = λ pages told size. (pages, told, cleared_none pages);
+}
 
 pub loop-n-preserved : goal.loop-n-preserved
 loop-n-preserved g c = record {

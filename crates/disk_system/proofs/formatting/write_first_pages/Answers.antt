@@ -12,7 +12,8 @@ returns-clause-formatted g c = λ pages told size.
     (λ high. (
       set (set cleared.0 16 c.to_pages.result.0.0) 17 c.to_pages.result.1.0,
       high,
-      formatted pages _ cleared.0 c.fresh.result c.to_pages.result.0 c.to_pages.result.1 size (ap (set pages 0) c.label.ensures) cleared.2 c.to_pages.ensures.bits
+      formatted pages _ cleared.0 c.fresh.result c.to_pages.result.0 c.to_pages.result.1 size
+          (ap (set pages 0) c.label.ensures) cleared.2 c.to_pages.ensures.bits
           c.to_pages.ensures.format c.fresh.ensures,
     ))
     (c.write-3.ensures.page _ low)

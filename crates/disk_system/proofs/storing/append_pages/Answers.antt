@@ -22,7 +22,8 @@ loop-k-preserved g c = record {
   faults = faults_then _ _ _ _ _ c.loop-k.invariant.faults c.in_ok-append_page.ensures.cause;
   appended = λ others file unused h loose few room.
       let was = c.loop-k.invariant.appended others file unused h loose few room in
-      subst (Holds (g.A.Area.pages c.append_page.new.files.area) (fin.insert others c.args.name.now (record file { pages = cut c.args.bytes.now (c.loop-k.k + 1) })))
+      subst (Holds (g.A.Area.pages c.append_page.new.files.area)
+      (fin.insert others c.args.name.now (record file { pages = cut c.args.bytes.now (c.loop-k.k + 1) })))
       (left_then c.loop-k.k unused)
       (c.in_ok-append_page.ensures.appended others file _ was loose (omega (arith, c.loop-k-test.true, few))
       (room_for c.loop-k.k c.args.count unused c.loop-k-test.true room));
