@@ -34,7 +34,8 @@ module _ {frames : List Frame} {held : Held} {maps : List Map} {below : List Act
         let one : k ≡ d = sym (eqb-true d k e) in
         let frame : f ≡ g = same_Some f g (sym is ∙ ap (slice_get frames) one ∙ at) in
         subst (λ n. AreTied frames n g (map_at (with_map k change maps) n) (words_from (waiting_with below k words) (own_with below own k words) n)) one
-        (subst (λ (h : Frame). AreTied frames k h (map_at (with_map k change maps) k) (words_from (waiting_with below k words) (own_with below own k words) k)) frame
+        (subst (λ (h : Frame). AreTied frames k h (map_at (with_map k change maps) k) (words_from (waiting_with below k words) (own_with below own k words) k))
+            frame
         (subst (λ (w : List ℤ). AreTied frames k f (map_at (with_map k change maps) k) w) (sym (this_frame below own k words number_low))
         (subst (λ (m : Map). AreTied frames k f m words) (sym (this_map maps k change map_there)) new)))
     tied_by new d g false e at =
@@ -44,7 +45,8 @@ module _ {frames : List Frame} {held : Held} {maps : List Map} {below : List Act
     module _ (now : Held) (others : (d i : ℕ) (v : ℤ) → (d ≡ k → ⊥) → now d i ≡ Some v → held d i ≡ Some v)
         (kept : (i : ℕ) (v : ℤ) → now k i ≡ Some v → slice_get words (declared_words f + i) ≡ Some v) where
       holds_by : (d i : ℕ) (g : Frame) (v : ℤ) (same : Bool) → (d == k) ≡ same
-          → slice_get frames d ≡ Some g → now d i ≡ Some v → slice_get (words_from (waiting_with below k words) (own_with below own k words) d) (declared_words g + i) ≡ Some v
+          → slice_get frames d ≡ Some g → now d i ≡ Some v → slice_get (words_from (waiting_with below k words) (own_with below own k words) d)
+              (declared_words g + i) ≡ Some v
       holds_by d i g v true e at is_held =
           let one : k ≡ d = sym (eqb-true d k e) in
           let frame : f ≡ g = same_Some f g (sym is ∙ ap (slice_get frames) one ∙ at) in
@@ -55,7 +57,8 @@ module _ {frames : List Frame} {held : Held} {maps : List Map} {below : List Act
           ap (λ (w : List ℤ). slice_get w (declared_words g + i)) (other_frame below own k d words (eqb-false d k e))
           ∙ agree.holds d i g v at (others d i v (eqb-false d k e) is_held)
 
-      pub agree_on : AreTied frames k f (change (map_at maps k)) words → Agree frames now (with_map k change maps) (waiting_with below k words) (own_with below own k words)
+      pub agree_on : AreTied frames k f (change (map_at maps k)) words → Agree frames now (with_map k change maps) (waiting_with below k words)
+          (own_with below own k words)
       agree_on new = record {
         as_many = as_many_maps maps k change ∙ agree.as_many;
         all_open = omega (arith, agree.all_open, as_many_wait below k words);
@@ -90,7 +93,8 @@ other_hold number i v held d j u apart is = by_test (d == number) refl is
 this_hold : (number i : ℕ) (v : ℤ) (held : Held) (j : ℕ) (u : ℤ) → hold number i v held number j ≡ Some u → (if j == i then Some v else held number j) ≡ Some u
 this_hold number i v held j u is = by_test (number == number) refl is
   where
-    by_test : (same : Bool) → (number == number) ≡ same → (if same then (if j == i then Some v else held number j) else held number j) ≡ Some u → (if j == i then Some v else held number j) ≡ Some u
+    by_test : (same : Bool) → (number == number) ≡ same → (if same then (if j == i then Some v else held number j) else held number j) ≡ Some u
+        → (if j == i then Some v else held number j) ≡ Some u
     by_test true e is = is
     by_test false e is = absurd (eqb-false number number e refl)
 
@@ -101,10 +105,13 @@ same_maps (m ∷ more) (suc k) = ap (λ (ms : List Map). m ∷ ms) (same_maps mo
 
 module _ {frames : List Frame} {held : Held} {maps : List Map} {below : List Activation} {own : List ℤ} (agree : Agree frames held maps below own) where
   pub own_tied : (f : Frame) → slice_get frames (length below) ≡ Some f → AreTied frames (length below) f (map_at maps (length below)) own
-  own_tied f is = subst (λ (w : List ℤ). AreTied frames (length below) f (map_at maps (length below)) w) (last_frame below own (length below) refl) (agree.tied (length below) f is)
+  own_tied f is = subst (λ (w : List ℤ). AreTied frames (length below) f (map_at maps (length below)) w) (last_frame below own (length below) refl)
+      (agree.tied (length below) f is)
 
-  pub own_holds : (f : Frame) (i : ℕ) (v : ℤ) → slice_get frames (length below) ≡ Some f → held (length below) i ≡ Some v → slice_get own (declared_words f + i) ≡ Some v
-  own_holds f i v is is_held = ap (λ (w : List ℤ). slice_get w (declared_words f + i)) (sym (last_frame below own (length below) refl)) ∙ agree.holds (length below) i f v is is_held
+  pub own_holds : (f : Frame) (i : ℕ) (v : ℤ) → slice_get frames (length below) ≡ Some f → held (length below) i ≡ Some v
+      → slice_get own (declared_words f + i) ≡ Some v
+  own_holds f i v is is_held = ap (λ (w : List ℤ). slice_get w (declared_words f + i)) (sym (last_frame below own (length below) refl))
+      ∙ agree.holds (length below) i f v is is_held
 
   -- the current activation's words and map change
   pub own_agree : (f : Frame) → slice_get frames (length below) ≡ Some f → (change : Map → Map) (words : List ℤ) (now : Held)
@@ -113,10 +120,12 @@ module _ {frames : List Frame} {held : Held} {maps : List Map} {below : List Act
       → AreTied frames (length below) f (change (map_at maps (length below))) words → Agree frames now (with_map (length below) change maps) below words
   own_agree f is change words now others kept new =
       subst (λ (b : List Activation). Agree frames now (with_map (length below) change maps) b words) (waiting_stay below (length below) words (omega arith))
-      (subst (λ (w : List ℤ). Agree frames now (with_map (length below) change maps) (waiting_with below (length below) words) w) (own_written below own (length below) words refl)
+      (subst (λ (w : List ℤ). Agree frames now (with_map (length below) change maps) (waiting_with below (length below) words) w)
+          (own_written below own (length below) words refl)
       (agree_on agree (length below) f is change words now others kept new))
 
-  pub agree_hold : (f : Frame) (i : ℕ) (v : ℤ) → slice_get frames (length below) ≡ Some f → declared_words f + i < length own → f.parameters + f.result ≤ declared_words f
+  pub agree_hold : (f : Frame) (i : ℕ) (v : ℤ) → slice_get frames (length below) ≡ Some f → declared_words f + i < length own
+      → f.parameters + f.result ≤ declared_words f
       → Agree frames (hold (length below) i v held) maps below (slice_set own (declared_words f + i) v)
   agree_hold f i v is wide low =
       subst (λ (ms : List Map). Agree frames (hold (length below) i v held) ms below (slice_set own (declared_words f + i) v)) (same_maps maps (length below))
@@ -125,16 +134,20 @@ module _ {frames : List Frame} {held : Held} {maps : List Map} {below : List Act
       (λ j u at. by_depth j u (j == i) refl (this_hold (length below) i v held j u at))
       (tied_beside (agree.apart (length below) f is) (own_tied f is) (declared_words f + i) v (omega arith) low))
     where
-      by_depth : (j : ℕ) (u : ℤ) (same : Bool) → (j == i) ≡ same → (if same then Some v else held (length below) j) ≡ Some u → slice_get (slice_set own (declared_words f + i) v) (declared_words f + j) ≡ Some u
-      by_depth j u true e at = subst (λ n. slice_get (slice_set own (declared_words f + i) v) (declared_words f + n) ≡ Some u) (sym (eqb-true j i e)) (written_word own (declared_words f + i) v wide ∙ at)
-      by_depth j u false e at = other_word own (declared_words f + i) (declared_words f + j) v (λ same. eqb-false j i e (omega (arith, same))) ∙ own_holds f j u is at
+      by_depth : (j : ℕ) (u : ℤ) (same : Bool) → (j == i) ≡ same → (if same then Some v else held (length below) j) ≡ Some u
+          → slice_get (slice_set own (declared_words f + i) v) (declared_words f + j) ≡ Some u
+      by_depth j u true e at = subst (λ n. slice_get (slice_set own (declared_words f + i) v) (declared_words f + n) ≡ Some u) (sym (eqb-true j i e))
+          (written_word own (declared_words f + i) v wide ∙ at)
+      by_depth j u false e at = other_word own (declared_words f + i) (declared_words f + j) v (λ same. eqb-false j i e (omega (arith, same)))
+          ∙ own_holds f j u is at
 
 -- ---- One activation more, and one less
 
 below_last : (count n : ℕ) → (n ≡ count → ⊥) → n < count + 1 → n < count
 below_last count n differ low = omega (arith, differ, low)
 
-referred_more : {frames : List Frame} (g : Frame) {d : ℕ} {words : List ℤ} {a : ℕ} {p : Place} → d ≤ length frames → IsReferred frames d words a p → IsReferred (frames ++ g ∷ []) d words a p
+referred_more : {frames : List Frame} (g : Frame) {d : ℕ} {words : List ℤ} {a : ℕ} {p : Place} → d ≤ length frames → IsReferred frames d words a p
+    → IsReferred (frames ++ g ∷ []) d words a p
 referred_more {frames} g {d} {words} {a} {p} low is = record {
   below = is.below;
   numbered = is.numbered;
@@ -146,7 +159,8 @@ referred_more {frames} g {d} {words} {a} {p} low is = record {
   placed = is.placed;
 }
 
-referred_less : {frames : List Frame} (g : Frame) {d : ℕ} {words : List ℤ} {a : ℕ} {p : Place} → d ≤ length frames → IsReferred (frames ++ g ∷ []) d words a p → IsReferred frames d words a p
+referred_less : {frames : List Frame} (g : Frame) {d : ℕ} {words : List ℤ} {a : ℕ} {p : Place} → d ≤ length frames → IsReferred (frames ++ g ∷ []) d words a p
+    → IsReferred frames d words a p
 referred_less {frames} g {d} {words} {a} {p} low is = record {
   below = is.below;
   numbered = is.numbered;
@@ -158,15 +172,21 @@ referred_less {frames} g {d} {words} {a} {p} low is = record {
   placed = is.placed;
 }
 
-pub tied_more : {frames : List Frame} (g : Frame) {d : ℕ} {f : Frame} {m : Map} {words : List ℤ} → d ≤ length frames → AreTied frames d f m words → AreTied (frames ++ g ∷ []) d f m words
-tied_more g low tied = record { scalars = tied.scalars; arrays = tied.arrays; references = λ x a at. referred_more g low (tied.references x a at); answer = tied.answer }
+pub tied_more : {frames : List Frame} (g : Frame) {d : ℕ} {f : Frame} {m : Map} {words : List ℤ} → d ≤ length frames → AreTied frames d f m words
+    → AreTied (frames ++ g ∷ []) d f m words
+tied_more g low tied = record { scalars = tied.scalars; arrays = tied.arrays; references = λ x a at. referred_more g low (tied.references x a at); answer =
+    tied.answer }
 
-tied_less : {frames : List Frame} (g : Frame) {d : ℕ} {f : Frame} {m : Map} {words : List ℤ} → d ≤ length frames → AreTied (frames ++ g ∷ []) d f m words → AreTied frames d f m words
-tied_less g low tied = record { scalars = tied.scalars; arrays = tied.arrays; references = λ x a at. referred_less g low (tied.references x a at); answer = tied.answer }
+tied_less : {frames : List Frame} (g : Frame) {d : ℕ} {f : Frame} {m : Map} {words : List ℤ} → d ≤ length frames → AreTied (frames ++ g ∷ []) d f m words
+    → AreTied frames d f m words
+tied_less g low tied = record { scalars = tied.scalars; arrays = tied.arrays; references = λ x a at. referred_less g low (tied.references x a at); answer =
+    tied.answer }
 
-module _ {frames : List Frame} {held : Held} {maps : List Map} {below : List Activation} (caller : Activation) (agree : Agree frames held maps below caller.words) where
+module _ {frames : List Frame} {held : Held} {maps : List Map} {below : List Activation} (caller : Activation)
+    (agree : Agree frames held maps below caller.words) where
   -- an activation begins, in which nothing is held
-  pub agree_more : (g : Frame) (m : Map) (words : List ℤ) (now : Held) → AreApart g → ((d i : ℕ) (v : ℤ) → d < length frames → now d i ≡ Some v → held d i ≡ Some v)
+  pub agree_more : (g : Frame) (m : Map) (words : List ℤ) (now : Held) → AreApart g
+      → ((d i : ℕ) (v : ℤ) → d < length frames → now d i ≡ Some v → held d i ≡ Some v)
       → ((i : ℕ) (v : ℤ) → now (length frames) i ≡ Some v → ⊥) → AreTied (frames ++ g ∷ []) (length frames) g m words
       → Agree (frames ++ g ∷ []) now (maps ++ m ∷ []) (below ++ caller ∷ []) words
   agree_more g m words now g_apart less none new = record {
@@ -177,35 +197,44 @@ module _ {frames : List Frame} {held : Held} {maps : List Map} {below : List Act
     holds = λ d i f v at is. holds_at d i f v at is;
   }
     where
-      by_number : (P : Frame → Type 0) (d : ℕ) (f : Frame) → (d < length frames → slice_get frames d ≡ Some f → P f) → (d ≡ length frames → P g) → slice_get (frames ++ g ∷ []) d ≡ Some f → P f
+      by_number : (P : Frame → Type 0) (d : ℕ) (f : Frame) → (d < length frames → slice_get frames d ≡ Some f → P f) → (d ≡ length frames → P g)
+          → slice_get (frames ++ g ∷ []) d ≡ Some f → P f
       by_number P d f first last at = by_test (d == length frames) refl
         where
           by_test : (same : Bool) → (d == length frames) ≡ same → P f
           by_test true e = subst P (same_Some g f (sym (last_of_more frames g d (eqb-true d (length frames) e)) ∙ at)) (last (eqb-true d (length frames) e))
           by_test false e =
               let inside : d < length (frames ++ g ∷ []) = slice_get_within (frames ++ g ∷ []) d f at in
-              let low : d < length frames = below_last (length frames) d (eqb-false d (length frames) e) (omega (arith, inside, length-append frames (g ∷ []))) in
+              let low : d < length frames = below_last (length frames) d (eqb-false d (length frames) e)
+                  (omega (arith, inside, length-append frames (g ∷ []))) in
               first low (sym (first_of_more frames g d low) ∙ at)
 
-      tied_at : (d : ℕ) (f : Frame) → slice_get (frames ++ g ∷ []) d ≡ Some f → AreTied (frames ++ g ∷ []) d f (map_at (maps ++ m ∷ []) d) (words_from (below ++ caller ∷ []) words d)
+      tied_at : (d : ℕ) (f : Frame) → slice_get (frames ++ g ∷ []) d ≡ Some f → AreTied (frames ++ g ∷ []) d f (map_at (maps ++ m ∷ []) d)
+          (words_from (below ++ caller ∷ []) words d)
       tied_at d f at = by_number (λ h. AreTied (frames ++ g ∷ []) d h (map_at (maps ++ m ∷ []) d) (words_from (below ++ caller ∷ []) words d)) d f
           (λ low before.
-          subst (λ (w : List ℤ). AreTied (frames ++ g ∷ []) d f (map_at (maps ++ m ∷ []) d) w) (sym (first_frames below caller words d (omega (arith, low, agree.all_open))))
-          (subst (λ (n : Map). AreTied (frames ++ g ∷ []) d f n (words_from below caller.words d)) (sym (first_map maps m d (omega (arith, low, agree.as_many))))
+          subst (λ (w : List ℤ). AreTied (frames ++ g ∷ []) d f (map_at (maps ++ m ∷ []) d) w)
+              (sym (first_frames below caller words d (omega (arith, low, agree.all_open))))
+          (subst (λ (n : Map). AreTied (frames ++ g ∷ []) d f n (words_from below caller.words d))
+              (sym (first_map maps m d (omega (arith, low, agree.as_many))))
           (tied_more g (omega (arith, low)) (agree.tied d f before))))
           (λ last.
-          subst (λ (w : List ℤ). AreTied (frames ++ g ∷ []) d g (map_at (maps ++ m ∷ []) d) w) (sym (last_frame (below ++ caller ∷ []) words d (omega (arith, last, agree.all_open, length-append below (caller ∷ [])))))
+          subst (λ (w : List ℤ). AreTied (frames ++ g ∷ []) d g (map_at (maps ++ m ∷ []) d) w)
+              (sym (last_frame (below ++ caller ∷ []) words d (omega (arith, last, agree.all_open, length-append below (caller ∷ [])))))
           (subst (λ (n : Map). AreTied (frames ++ g ∷ []) d g n words) (sym (last_map maps m d (omega (arith, last, agree.as_many))))
           (subst (λ n. AreTied (frames ++ g ∷ []) n g m words) (sym last) new)))
           at
 
-      holds_at : (d i : ℕ) (f : Frame) (v : ℤ) → slice_get (frames ++ g ∷ []) d ≡ Some f → now d i ≡ Some v → slice_get (words_from (below ++ caller ∷ []) words d) (declared_words f + i) ≡ Some v
+      holds_at : (d i : ℕ) (f : Frame) (v : ℤ) → slice_get (frames ++ g ∷ []) d ≡ Some f → now d i ≡ Some v
+          → slice_get (words_from (below ++ caller ∷ []) words d) (declared_words f + i) ≡ Some v
       holds_at d i f v at is = by_number (λ h. slice_get (words_from (below ++ caller ∷ []) words d) (declared_words h + i) ≡ Some v) d f
-          (λ low before. ap (λ (w : List ℤ). slice_get w (declared_words f + i)) (first_frames below caller words d (omega (arith, low, agree.all_open))) ∙ agree.holds d i f v before (less d i v low is))
+          (λ low before. ap (λ (w : List ℤ). slice_get w (declared_words f + i)) (first_frames below caller words d (omega (arith, low, agree.all_open)))
+              ∙ agree.holds d i f v before (less d i v low is))
           (λ last. absurd (none i v (ap (λ n. now n i) (sym last) ∙ is)))
           at
 
-module _ {frames : List Frame} {held : Held} {maps : List Map} {below : List Activation} {own : List ℤ} (caller : Activation) (g : Frame) (agree : Agree (frames ++ g ∷ []) held maps (below ++ caller ∷ []) own) where
+module _ {frames : List Frame} {held : Held} {maps : List Map} {below : List Activation} {own : List ℤ} (caller : Activation) (g : Frame)
+    (agree : Agree (frames ++ g ∷ []) held maps (below ++ caller ∷ []) own) where
   -- the current activation ends
   pub agree_less : Agree frames held (take (length frames) maps) below caller.words
   agree_less =

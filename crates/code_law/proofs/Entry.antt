@@ -78,7 +78,8 @@ pub latest : (below callers : List Activation) (caller : Activation) → map at_
 latest [] [] caller waiting = absurd (nothing caller [] waiting)
 latest [] (d ∷ callers) caller waiting = absurd (nothing d (callers ++ caller ∷ []) waiting)
 latest (b ∷ []) [] caller waiting = record { others = []; last = b; parts = refl; waiting = refl; rests = (heads (at_rest b) caller [] [] waiting).0 }
-latest (b ∷ a ∷ below) [] caller waiting = absurd (nothing (at_rest a) (map at_rest below) (sym (heads (at_rest b) caller (at_rest a ∷ map at_rest below) [] waiting).1))
+latest (b ∷ a ∷ below) [] caller waiting = absurd (nothing (at_rest a) (map at_rest below)
+    (sym (heads (at_rest b) caller (at_rest a ∷ map at_rest below) [] waiting).1))
 latest (b ∷ below) (d ∷ callers) caller waiting =
     let parts = heads (at_rest b) d (map at_rest below) (callers ++ caller ∷ []) waiting in
     before b d parts.0 (latest below callers caller parts.1)
@@ -106,9 +107,12 @@ still_held : (n : ℕ) (held : Held) (d i : ℕ) (v : ℤ) → d < n → held d 
 still_held n held d i v low is = ap (λ b. if b then None else held d i) (lt-leb n d low) ∙ is
 
 module _ {c : CodeLists} {limit : ℕ} {all : List SysReply} where
-  pub begins : (f : Fixed) (g : Frame) (parameters : List Parameter) (k : ℕ) (given : List Given) (passed under : List ℤ) (p : ℕ) (now : Situation) → IsRoutine c k g parameters
-      → Here c limit all f p (on_top passed under) now → slice_get c.instrs p ≡ Some (with_a op.Call k) → Suit parameters given → AreWords f.frames (length f.frames) given passed → length f.callers < 63
-      → Here c limit all (inner f g (begun_map parameters given).references k p now.line under) (routine_at c k).start [] (record now { maps = now.maps ++ begun_map parameters given ∷ []; line = 0 })
+  pub begins : (f : Fixed) (g : Frame) (parameters : List Parameter) (k : ℕ) (given : List Given) (passed under : List ℤ) (p : ℕ) (now : Situation)
+      → IsRoutine c k g parameters
+      → Here c limit all f p (on_top passed under) now → slice_get c.instrs p ≡ Some (with_a op.Call k) → Suit parameters given
+          → AreWords f.frames (length f.frames) given passed → length f.callers < 63
+      → Here c limit all (inner f g (begun_map parameters given).references k p now.line under) (routine_at c k).start []
+          (record now { maps = now.maps ++ begun_map parameters given ∷ []; line = 0 })
   unfolding effect
   begins f g parameters k given passed under p now is h found suit are low =
       let r = routine_at c k in
@@ -121,20 +125,30 @@ module _ {c : CodeLists} {limit : ℕ} {all : List SysReply} where
       let count : length passed ≡ g.parameters = omega (arith, parameter_words f.frames (length f.frames) g parameters given passed 0 is.lie suit are) in
       let many : r.params ≡ length (reverse passed) = omega (arith, is.params, count, length-reverse passed) in
       let caller : List ℤ → Activation = λ left. record { routine = f.routine; place = p + 1; line = now.line; words = h.words; operands = left } in
-      let t : List ℤ → List ℤ → State = λ left frame. record { below = h.below ++ caller left ∷ []; current = record { routine = k; place = r.start; line = 0; words = frame; operands = [] }; ticks = now.ticks; ended = None } in
+      let t : List ℤ → List ℤ → State = λ left frame. record
+          { below = h.below ++ caller left ∷ []; current = record { routine = k; place = r.start; line = 0; words = frame; operands = [] }; ticks =
+          now.ticks; ended = None } in
       let frame : reverse (take r.params operands) ++ replicate size (pos 0) ≡ words =
-      ap (λ (l : List ℤ). reverse l ++ replicate size (pos 0)) (ap (take r.params) over ∙ take_at (reverse passed) under r.params (sym many)) ∙ ap (λ (l : List ℤ). l ++ replicate size (pos 0)) (reverse-reverse passed) in
+      ap (λ (l : List ℤ). reverse l ++ replicate size (pos 0)) (ap (take r.params) over ∙ take_at (reverse passed) under r.params (sym many))
+          ∙ ap (λ (l : List ℤ). l ++ replicate size (pos 0)) (reverse-reverse passed) in
       let state : t (drop r.params operands) (reverse (take r.params operands) ++ replicate size (pos 0)) ≡ t under words =
-      ap (λ (l : List ℤ). t l (reverse (take r.params operands) ++ replicate size (pos 0))) (ap (drop r.params) over ∙ drop_at (reverse passed) under r.params (sym many)) ∙ ap (t under) frame in
-      let entered : next c limit s ≡ enter s r k = does h.reached (with_a op.Call k) found ∙ ap (λ b. if b then stop s result.StackLimit else enter s r k) (lt-leb 63 (length h.below) few) in
+      ap (λ (l : List ℤ). t l (reverse (take r.params operands) ++ replicate size (pos 0)))
+          (ap (drop r.params) over ∙ drop_at (reverse passed) under r.params (sym many)) ∙ ap (t under) frame in
+      let entered : next c limit s ≡ enter s r k = does h.reached (with_a op.Call k) found
+          ∙ ap (λ b. if b then stop s result.StackLimit else enter s r k) (lt-leb 63 (length h.below) few) in
       let number : length f.frames ≡ length h.below + 1 = h.agree.all_open in
-      let tied : AreTied (f.frames ++ g ∷ []) (length f.frames) g (begun_map parameters given) words = tied_more g (omega arith) (begun_is_tied f.frames (length f.frames) g is.apart is.among parameters given passed size is.lie suit are (omega (arith, count, is.params, is.words)) is.low) in
+      let tied : AreTied (f.frames ++ g ∷ []) (length f.frames) g (begun_map parameters given) words =
+          tied_more g (omega arith) (begun_is_tied f.frames (length f.frames) g is.apart is.among parameters given passed size is.lie suit are
+          (omega (arith, count, is.params, is.words)) is.low) in
       record {
         below = h.below ++ caller under ∷ [];
         words = words;
-        reached = subst (λ (u : State). Reached c limit all u now.made) state (goes_if (nat_le r.params (length operands)) (t (drop r.params operands) (reverse (take r.params operands) ++ replicate size (pos 0))) h.reached entered);
+        reached = subst (λ (u : State). Reached c limit all u now.made) state
+            (goes_if (nat_le r.params (length operands)) (t (drop r.params operands) (reverse (take r.params operands) ++ replicate size (pos 0))) h.reached
+            entered);
         waiting = map-append at_rest h.below (caller under ∷ []) ∙ ap (λ (l : List Activation). l ++ caller_at f p now.line under ∷ []) h.waiting;
-        agree = agree_more (caller under) h.agree g (begun_map parameters given) words (held_below (length f.frames) f.held) is.apart (λ d i v before held. held_there (length f.frames) f.held d i v held)
+        agree = agree_more (caller under) h.agree g (begun_map parameters given) words (held_below (length f.frames) f.held) is.apart
+            (λ d i v before held. held_there (length f.frames) f.held d i v held)
             (λ i v held. none_here (length f.frames) f.held i v held) tied;
         named = λ d low. by_number d (nat_lt d (length f.frames)) refl low;
         risen = h.risen;
@@ -151,15 +165,19 @@ module _ {c : CodeLists} {limit : ℕ} {all : List SysReply} where
           ap (λ (m : Map). m.references) (last_map now.maps (begun_map parameters given) d last)
 
   -- too many are open
-  pub refuses : (f : Fixed) (k p : ℕ) (operands : List ℤ) (now : Situation) → Here c limit all f p operands now → slice_get c.instrs p ≡ Some (with_a op.Call k) → 63 ≤ length f.callers → Runs c limit all (Ends result.StackLimit now.line now.ticks now.made)
+  pub refuses : (f : Fixed) (k p : ℕ) (operands : List ℤ) (now : Situation) → Here c limit all f p operands now → slice_get c.instrs p ≡ Some (with_a op.Call k)
+      → 63 ≤ length f.callers → Runs c limit all (Ends result.StackLimit now.line now.ticks now.made)
   unfolding effect
   refuses f k p operands now h found full =
       let s = state_at f.routine h.below p now.line h.words operands now.ticks in
       let many : 63 ≤ length h.below = omega (arith, full, number_of h) in
-      stops result.StackLimit now.line now.ticks h.reached (does h.reached (with_a op.Call k) found ∙ ap (λ b. if b then stop s result.StackLimit else enter s (routine_at c k) k) (le-leb 63 (length h.below) many))
+      stops result.StackLimit now.line now.ticks h.reached
+          (does h.reached (with_a op.Call k) found ∙ ap (λ b. if b then stop s result.StackLimit else enter s (routine_at c k) k)
+          (le-leb 63 (length h.below) many))
 
   -- what is left when the current activation has ended
-  module _ (f : Fixed) (g : Frame) (references : List ℕ → Place) (k p q line : ℕ) (operands : List ℤ) (now : Situation) (h : Here c limit all (inner f g references k p line operands) q [] now) where
+  module _ (f : Fixed) (g : Frame) (references : List ℕ → Place) (k p q line : ℕ) (operands : List ℤ) (now : Situation)
+      (h : Here c limit all (inner f g references k p line operands) q [] now) where
     abbrev outer : Latest h.below f.callers (caller_at f p line operands)
     outer = latest h.below f.callers (caller_at f p line operands) h.waiting
 
@@ -172,7 +190,8 @@ module _ {c : CodeLists} {limit : ℕ} {all : List SysReply} where
         subst (λ (b : List Activation). Agree (f.frames ++ g ∷ []) (held_below (length f.frames) f.held) now.maps b h.words) (outer).parts h.agree in
         held_again (agree_less (outer).last g before)
       where
-        held_again : {maps : List Map} {below : List Activation} {words : List ℤ} → Agree f.frames (held_below (length f.frames) f.held) maps below words → Agree f.frames f.held maps below words
+        held_again : {maps : List Map} {below : List Activation} {words : List ℤ} → Agree f.frames (held_below (length f.frames) f.held) maps below words
+            → Agree f.frames f.held maps below words
         held_again agree = record {
           as_many = agree.as_many;
           all_open = agree.all_open;
@@ -194,8 +213,10 @@ module _ {c : CodeLists} {limit : ℕ} {all : List SysReply} where
         let l = outer in
         let left : next c limit s ≡ Goes (record s { below = l.others; current = l.last }) =
         does h.reached (bare op.Return) found ∙ leave_from c s l.others l.last l.parts
-        ∙ ap (λ b. if b then give_back c s l.others l.last (slice_get h.words (routine_at c k).params) else Goes (record s { below = l.others; current = l.last })) procedure in
-        let back : next c limit s ≡ Goes (state_at f.routine l.others (p + 1) line l.last.words operands now.ticks) = left ∙ ap (λ (a : Activation). Goes (record s { below = l.others; current = a })) last_is in
+        ∙ ap (λ b. if b then give_back c s l.others l.last (slice_get h.words (routine_at c k).params) else Goes
+            (record s { below = l.others; current = l.last })) procedure in
+        let back : next c limit s ≡ Goes (state_at f.routine l.others (p + 1) line l.last.words operands now.ticks) =
+            left ∙ ap (λ (a : Activation). Goes (record s { below = l.others; current = a })) last_is in
         record {
           below = l.others;
           words = l.last.words;
@@ -208,7 +229,8 @@ module _ {c : CodeLists} {limit : ℕ} {all : List SysReply} where
 
     -- a function's result is pushed
     pub returns_value : slice_get c.instrs q ≡ Some (bare op.Return) → (routine_at c k).function ≡ true → (routine_at c k).params ≡ g.parameters → g.result ≡ 1
-        → Here c limit all f (p + 1) ((map_at now.maps (length f.frames)).answer ∷ operands) (record now { maps = take (length f.frames) now.maps; line = line })
+        → Here c limit all f (p + 1) ((map_at now.maps (length f.frames)).answer ∷ operands)
+            (record now { maps = take (length f.frames) now.maps; line = line })
     unfolding effect
     returns_value found procedure params has =
         let s = state_at k h.below q now.line h.words [] now.ticks in
@@ -216,16 +238,19 @@ module _ {c : CodeLists} {limit : ℕ} {all : List SysReply} where
         let word = (map_at now.maps (length f.frames)).answer in
         let number : length f.frames ≡ length h.below = omega (arith, h.agree.all_open, length-append f.frames (g ∷ [])) in
         let tied : AreTied (f.frames ++ g ∷ []) (length f.frames) g (map_at now.maps (length f.frames)) h.words =
-        subst (λ (w : List ℤ). AreTied (f.frames ++ g ∷ []) (length f.frames) g (map_at now.maps (length f.frames)) w) (last_frame h.below h.words (length f.frames) number)
+        subst (λ (w : List ℤ). AreTied (f.frames ++ g ∷ []) (length f.frames) g (map_at now.maps (length f.frames)) w)
+            (last_frame h.below h.words (length f.frames) number)
         (h.agree.tied (length f.frames) g (last_of_more f.frames g (length f.frames) refl)) in
         let found_word : slice_get h.words (routine_at c k).params ≡ Some word = ap (slice_get h.words) params ∙ tied.answer has in
         let room = has_room c l.last in
         let t : Activation → State = λ a. record s { below = l.others; current = record a { operands = word ∷ a.operands } } in
         let left : next c limit s ≡ (if room then Goes (t l.last) else Lacks) =
         does h.reached (bare op.Return) found ∙ leave_from c s l.others l.last l.parts
-        ∙ ap (λ b. if b then give_back c s l.others l.last (slice_get h.words (routine_at c k).params) else Goes (record s { below = l.others; current = l.last })) procedure
+        ∙ ap (λ b. if b then give_back c s l.others l.last (slice_get h.words (routine_at c k).params) else Goes
+            (record s { below = l.others; current = l.last })) procedure
         ∙ ap (give_back c s l.others l.last) found_word in
-        let back : next c limit s ≡ (if room then Goes (t (record (caller_at f p line operands) { words = l.last.words })) else Lacks) = left ∙ ap (λ (a : Activation). if room then Goes (t a) else Lacks) last_is in
+        let back : next c limit s ≡ (if room then Goes (t (record (caller_at f p line operands) { words = l.last.words })) else Lacks) =
+            left ∙ ap (λ (a : Activation). if room then Goes (t a) else Lacks) last_is in
         record {
           below = l.others;
           words = l.last.words;

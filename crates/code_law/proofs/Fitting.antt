@@ -21,25 +21,30 @@ use Rattle.code_law.specs.Suited.{AreSuited}
 use Rattle.code_law.proofs.Whole.{compiled_runs}
 
 -- a list that fits, and one reply more that fits where it ends
-fitting_more : (c : CodeLists) (limit : ℕ) (s t : State) (used : List SysReply) (made : List SysCall) (reply : SysReply) → AreFitting c limit s used → Replied c limit s used made t
+fitting_more : (c : CodeLists) (limit : ℕ) (s t : State) (used : List SysReply) (made : List SysCall) (reply : SysReply) → AreFitting c limit s used
+    → Replied c limit s used made t
     → ((call : SysCall) (u : State) → LeadsToCall c limit t call u → Fits call reply) → AreFitting c limit s (used ++ reply ∷ [])
 fitting_more c limit s t [] [] reply fitting same fits = λ call u leads. (fits call u (subst (λ v. LeadsToCall c limit v call u) same leads), tt)
 fitting_more c limit s t [] (d ∷ made) reply fitting replied fits = absurd replied
 fitting_more c limit s t (r ∷ used) [] reply fitting replied fits = absurd replied
 fitting_more c limit s t (r ∷ used) (d ∷ made) reply fitting replied fits = λ call u leads.
     let same = one_call c limit s replied.0 u d call replied.1 leads in
-    ((fitting call u leads).0, fitting_more c limit (answered c u r) t used made reply (fitting call u leads).1 (subst (λ v. Replied c limit (answered c v r) used made t) same.0 replied.2) fits)
+    ((fitting call u leads).0, fitting_more c limit (answered c u r) t used made reply (fitting call u leads).1
+        (subst (λ v. Replied c limit (answered c v r) used made t) same.0 replied.2) fits)
 
-module _ (p : Program) (limit : ℕ) (suited : AreSuited p) (code : IsCode (code_of p)) (good : IsGood (code_of p)) (all : List SysReply) (fit : FitTheMeaning p limit all) where
+module _ (p : Program) (limit : ℕ) (suited : AreSuited p) (code : IsCode (code_of p)) (good : IsGood (code_of p)) (all : List SysReply)
+    (fit : FitTheMeaning p limit all) where
   abbrev c : CodeLists
   c = code_of p
 
   -- what is left of the replies fits the machine that got the others
-  from_there : (left used : List SysReply) (made : List SysCall) (s : State) → all ≡ used ++ left → AreFitting c limit (start_state c) used → Replied c limit (start_state c) used made s → AreFitting c limit s left
+  from_there : (left used : List SysReply) (made : List SysCall) (s : State) → all ≡ used ++ left → AreFitting c limit (start_state c) used
+      → Replied c limit (start_state c) used made s → AreFitting c limit s left
   from_there [] used made s split fitting replied = tt
   from_there (reply ∷ left) used made s split fitting replied = λ call t leads.
       let means : (d : SysCall) (u : State) → LeadsToCall c limit s d u → Fits d reply = λ d u there.
-      fit used left reply made d split (one_run c limit used (meaning p limit used) (Waits (made ++ d ∷ [])) (compiled_runs p limit used suited code good fitting) (made, d, s, u, refl, replied, there)) in (
+      fit used left reply made d split (one_run c limit used (meaning p limit used) (Waits (made ++ d ∷ []))
+          (compiled_runs p limit used suited code good fitting) (made, d, s, u, refl, replied, there)) in (
         means call t leads,
         from_there left (used ++ reply ∷ []) (made ++ call ∷ []) (answered c t reply) (split ∙ sym (append_assoc used (reply ∷ []) left))
             (fitting_more c limit (start_state c) s used made reply fitting replied means)

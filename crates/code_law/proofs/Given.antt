@@ -53,7 +53,8 @@ IsGiven f callee ByVariable x s (Alias at) words = IsVariable f callee x s at wo
 IsGiven f callee ByArray x s (Elements e) words = (words ≡ []) × IsWhole f (array_size callee) x s e
 IsGiven f callee by x s given words = ⊥
 
-pub record OneGiven (c : CodeLists) (limit : ℕ) (all : List SysReply) (f : Fixed) (callee : Sense) (by : Passing) (x : List ℕ) (s : Sense) (q : ℕ) (rest : List ℤ) (given : Given) (now : Situation) : Type 0 where
+pub record OneGiven (c : CodeLists) (limit : ℕ) (all : List SysReply) (f : Fixed) (callee : Sense) (by : Passing) (x : List ℕ) (s : Sense) (q : ℕ)
+    (rest : List ℤ) (given : Given) (now : Situation) : Type 0 where
   pub words : List ℤ
   pub is : IsGiven f callee by x s given words
   pub here : Here c limit all f q (on_top words rest) now
@@ -70,7 +71,8 @@ array_is f size x (meant.TypeName t) a can = absurd can
 array_is f size x meant.Nothing a can = absurd can
 
 module _ {c : CodeLists} {limit : ℕ} {all : List SysReply} {f : Fixed} {site : Site} {scope : Scope} (names : Named f.frames (own_number f) site scope) where
-  variable_given : (callee : Sense) (x : List ℕ) (m : Means) (a p q : ℕ) (rest : List ℤ) (now : Situation) (code : List Instr) → site.names x ≡ sense m a → CanPass callee ByVariable (sense m a) (Unit {0}) → Stand c p (passed_code callee ByVariable (sense m a) code) q → Here c limit all f p rest now
+  variable_given : (callee : Sense) (x : List ℕ) (m : Means) (a p q : ℕ) (rest : List ℤ) (now : Situation) (code : List Instr) → site.names x ≡ sense m a
+      → CanPass callee ByVariable (sense m a) (Unit {0}) → Stand c p (passed_code callee ByVariable (sense m a) code) q → Here c limit all f p rest now
       → OneGiven c limit all f callee ByVariable x (sense m a) q rest (Alias (place_named m (own_number f) x now)) now
   variable_given (Routine k passing) x m a p q rest now code is can stand h =
       let on = passed_on names x m a p q rest now is can.1 stand h in
@@ -85,7 +87,8 @@ module _ {c : CodeLists} {limit : ℕ} {all : List SysReply} {f : Fixed} {site :
   variable_given Nothing x m a p q rest now code is can stand h = absurd can.0
 
   -- an argument whose code, where it is a value, gives it
-  pub one_given : (callee : Sense) (by : Passing) (x : List ℕ) (p q : ℕ) (rest : List ℤ) (now : Situation) (value : Part ℤ) (code : List Instr) (SuitsIt : Type 0)
+  pub one_given : (callee : Sense) (by : Passing) (x : List ℕ) (p q : ℕ) (rest : List ℤ) (now : Situation) (value : Part ℤ) (code : List Instr)
+      (SuitsIt : Type 0)
       → ((m : ℕ) → SuitsIt → Stand c p code m → Here c limit all f p rest now → After c limit all (λ v n. Here c limit all f m (v ∷ rest) n) (value now))
       → CanPass callee by (site.names x) SuitsIt → Stand c p (passed_code callee by (site.names x) code) q → Here c limit all f p rest now
       → After c limit all (λ g n. OneGiven c limit all f callee by x (site.names x) q rest g n) (passed by (scope x) (own_number f) x value now)
@@ -94,12 +97,14 @@ module _ {c : CodeLists} {limit : ℕ} {all : List SysReply} {f : Fixed} {site :
   one_given callee ByVariable x p q rest now value code SuitsIt runs can stand h =
       let there = names.senses x in
       record { comes = subst (λ s. OneGiven c limit all f callee ByVariable x s q rest (Alias (place_named (scope x) (own_number f) x now)) now) (sym there.1)
-          (variable_given callee x (scope x) there.0 p q rest now code there.1 (can.0, subst IsScalar there.1 can.1) (subst (λ s. Stand c p (passed_code callee ByVariable s code) q) there.1 stand) h) }
+          (variable_given callee x (scope x) there.0 p q rest now code there.1 (can.0, subst IsScalar there.1 can.1)
+              (subst (λ s. Stand c p (passed_code callee ByVariable s code) q) there.1 stand) h) }
   one_given callee ByArray x p q rest now value code SuitsIt runs can stand h =
       let there = names.senses x in
       record { comes = record {
         words = [];
-        is = (refl, subst (λ s. IsWhole f (array_size callee) x s (array_named (scope x) (own_number f) x)) (sym there.1) (array_is f (array_size callee) x (scope x) there.0 (subst (IsArrayOf (array_size callee)) there.1 can.1)));
+        is = (refl, subst (λ s. IsWhole f (array_size callee) x s (array_named (scope x) (own_number f) x)) (sym there.1)
+            (array_is f (array_size callee) x (scope x) there.0 (subst (IsArrayOf (array_size callee)) there.1 can.1)));
         here = subst (λ n. Here c limit all f n rest now) stand h;
       } }
 
@@ -107,7 +112,8 @@ module _ {c : CodeLists} {limit : ℕ} {all : List SysReply} {f : Fixed} {site :
 
 abbrev pub AreGiven : Fixed → Site → Sense → List Passing → List (List ℕ) → List Given → List (List ℤ) → Type 0
 AreGiven f site callee [] [] [] [] = Unit {0}
-AreGiven f site callee (by ∷ others) (x ∷ xs) (g ∷ given) (ws ∷ words) = IsGiven f callee by x (site.names x) g ws × AreGiven f site callee others xs given words
+AreGiven f site callee (by ∷ others) (x ∷ xs) (g ∷ given) (ws ∷ words) = IsGiven f callee by x (site.names x) g ws × AreGiven f site callee others xs given
+    words
 AreGiven f site callee passing xs given words = ⊥
 
 abbrev pub joined : List (List ℤ) → List ℤ
@@ -119,12 +125,15 @@ top_of_both [] next rest = refl
 top_of_both (w ∷ first) next rest = top_of_both first next (w ∷ rest)
 
 -- ---- Of a routine
-pub routine_words : (f : Fixed) (site : Site) (k : ℕ) (passing : List Passing) → (by : List Passing) (xs : List (List ℕ)) (given : List Given) (words : List (List ℤ)) → AreGiven f site (Routine k passing) by xs given words → AreWords f.frames (length f.frames) given (joined words)
+pub routine_words : (f : Fixed) (site : Site) (k : ℕ) (passing : List Passing) → (by : List Passing) (xs : List (List ℕ)) (given : List Given)
+    (words : List (List ℤ)) → AreGiven f site (Routine k passing) by xs given words → AreWords f.frames (length f.frames) given (joined words)
 routine_words f site k passing [] [] [] [] are = tt
 routine_words f site k passing (ByValue ∷ by) (x ∷ xs) (Value v ∷ given) (ws ∷ words) are =
-    subst (λ (u : List ℤ). AreWords f.frames (length f.frames) (Value v ∷ given) (u ++ joined words)) (sym are.0) (refl, routine_words f site k passing by xs given words are.1)
+    subst (λ (u : List ℤ). AreWords f.frames (length f.frames) (Value v ∷ given) (u ++ joined words)) (sym are.0)
+        (refl, routine_words f site k passing by xs given words are.1)
 routine_words f site k passing (ByVariable ∷ by) (x ∷ xs) (Alias at ∷ given) (ws ∷ words) are =
-    subst (λ (u : List ℤ). AreWords f.frames (length f.frames) (Alias at ∷ given) (u ++ joined words)) (sym are.0.1.1.0) (are.0.1.1.1, routine_words f site k passing by xs given words are.1)
+    subst (λ (u : List ℤ). AreWords f.frames (length f.frames) (Alias at ∷ given) (u ++ joined words)) (sym are.0.1.1.0)
+        (are.0.1.1.1, routine_words f site k passing by xs given words are.1)
 routine_words f site k passing (ByArray ∷ by) (x ∷ xs) (Elements e ∷ given) (ws ∷ words) are = no_elements (site.names x) are.0.1
   where
     no_elements : (s : Sense) → IsWhole f 0 x s e → AreWords f.frames (length f.frames) (Elements e ∷ given) (ws ++ joined words)
@@ -150,7 +159,8 @@ routine_words f site k passing (by ∷ others) (x ∷ xs) [] words are = absurd 
 routine_words f site k passing (by ∷ others) (x ∷ xs) (g ∷ given) [] are = absurd are
 
 -- they are as its parameters ask
-suits_one : (f : Fixed) (site : Site) (k : ℕ) (passing : List Passing) (p : Parameter) (by : Passing) (x : List ℕ) (g : Given) (words : List ℤ) → by ≡ mean.passing_of p → IsGiven f (Routine k passing) by x (site.names x) g words → Suits p g
+suits_one : (f : Fixed) (site : Site) (k : ℕ) (passing : List Passing) (p : Parameter) (by : Passing) (x : List ℕ) (g : Given) (words : List ℤ)
+    → by ≡ mean.passing_of p → IsGiven f (Routine k passing) by x (site.names x) g words → Suits p g
 suits_one f site k passing p ByValue x (Value v) words by is = sym by
 suits_one f site k passing p ByVariable x (Alias at) words by is = sym by
 suits_one f site k passing p ByArray x (Elements e) words by is = no_array p (sym by)
@@ -174,7 +184,8 @@ first_passing by by' more more' e = (cc, cc)
 none_passing : (by : Passing) (more : List Passing) → [] ≡ by ∷ more → ⊥
 none_passing by more e = cc
 
-pub routine_suits : (f : Fixed) (site : Site) (k : ℕ) (passing : List Passing) → (parameters : List Parameter) (by : List Passing) (xs : List (List ℕ)) (given : List Given) (words : List (List ℤ)) → by ≡ map mean.passing_of parameters
+pub routine_suits : (f : Fixed) (site : Site) (k : ℕ) (passing : List Passing) → (parameters : List Parameter) (by : List Passing) (xs : List (List ℕ))
+    (given : List Given) (words : List (List ℤ)) → by ≡ map mean.passing_of parameters
     → AreGiven f site (Routine k passing) by xs given words → Suit parameters given
 routine_suits f site k passing [] [] [] [] [] same are = tt
 routine_suits f site k passing (p ∷ parameters) (by ∷ others) (x ∷ xs) (g ∷ given) (ws ∷ words) same are =
@@ -229,7 +240,8 @@ array_count (ByValue ∷ more) = array_count more
 array_count (ByVariable ∷ more) = array_count more
 array_count (ByArray ∷ more) = array_count more + 1
 
-pub record IsRowGiven (f : Fixed) (site : Site) (p : Procedure) (by : List Passing) (xs : List (List ℕ)) (given : List Given) (words : List (List ℤ)) : Type 0 where
+pub record IsRowGiven (f : Fixed) (site : Site) (p : Procedure) (by : List Passing) (xs : List (List ℕ)) (given : List Given)
+    (words : List (List ℤ)) : Type 0 where
   pub values : joined words ≡ values_in given
   pub value_count_is : length (values_in given) ≡ value_count by
   pub variable_count_is : length (variables_in given) ≡ variable_count by
@@ -237,7 +249,8 @@ pub record IsRowGiven (f : Fixed) (site : Site) (p : Procedure) (by : List Passi
   pub places : ArePlaces f (variable_names by xs) (variables_among by (map site.names xs)) (variables_in given)
   pub wholes : AreWhole f (call_row_of p).array (array_names by xs) (arrays_among by (map site.names xs)) (arrays_in given)
 
-pub row_given : (f : Fixed) (site : Site) (p : Procedure) (by : List Passing) (xs : List (List ℕ)) (given : List Given) (words : List (List ℤ)) → AreGiven f site (Interface p) by xs given words → IsRowGiven f site p by xs given words
+pub row_given : (f : Fixed) (site : Site) (p : Procedure) (by : List Passing) (xs : List (List ℕ)) (given : List Given) (words : List (List ℤ))
+    → AreGiven f site (Interface p) by xs given words → IsRowGiven f site p by xs given words
 row_given f site p [] [] [] [] are = record { values = refl; value_count_is = refl; variable_count_is = refl; array_count_is = refl; places = tt; wholes = tt }
 row_given f site p (ByValue ∷ by) (x ∷ xs) (Value v ∷ given) (ws ∷ words) are =
     let more = row_given f site p by xs given words are.1 in

@@ -46,13 +46,16 @@ pub record Here (c : CodeLists) (limit : ℕ) (all : List SysReply) (f : Fixed) 
   pub risen : f.floor ≤ now.ticks
 
 -- the number of the activation is that of those that wait
-pub number_of : {c : CodeLists} {limit : ℕ} {all : List SysReply} {f : Fixed} {p : ℕ} {operands : List ℤ} {now : Situation} → (h : Here c limit all f p operands now) → own_number f ≡ length h.below
+pub number_of : {c : CodeLists} {limit : ℕ} {all : List SysReply} {f : Fixed} {p : ℕ} {operands : List ℤ} {now : Situation}
+    → (h : Here c limit all f p operands now) → own_number f ≡ length h.below
 number_of h = ap length (sym h.waiting) ∙ length-map h.below at_rest
 
 -- the same frames, further on
-pub further : {c : CodeLists} {limit : ℕ} {all : List SysReply} {f : Fixed} {p : ℕ} {operands : List ℤ} {now : Situation} (q : ℕ) (others : List ℤ) → (h : Here c limit all f p operands now)
+pub further : {c : CodeLists} {limit : ℕ} {all : List SysReply} {f : Fixed} {p : ℕ} {operands : List ℤ} {now : Situation} (q : ℕ) (others : List ℤ)
+    → (h : Here c limit all f p operands now)
     → Reached c limit all (state_at f.routine h.below q now.line h.words others now.ticks) now.made → Here c limit all f q others now
-further q others h reached = record { below = h.below; words = h.words; reached = reached; waiting = h.waiting; agree = h.agree; named = h.named; risen = h.risen }
+further q others h reached = record { below = h.below; words = h.words; reached = reached; waiting = h.waiting; agree = h.agree; named = h.named; risen =
+    h.risen }
 
 -- what a part comes to: the situation behind it, or the outcome of the whole run
 abbrev pub Comes : {A : Type 0} → CodeLists → ℕ → List SysReply → (A → Situation → Type 0) → Course A → Type 0
@@ -63,13 +66,15 @@ pub record After {A : Type 0} (c : CodeLists) (limit : ℕ) (all : List SysReply
   pub comes : Comes c limit all P part
 
 -- one part behind another
-pub after : {A B : Type 0} {c : CodeLists} {limit : ℕ} {all : List SysReply} {P : A → Situation → Type 0} {Q : B → Situation → Type 0} (part : Course A) (go : A → Situation → Course B)
+pub after : {A B : Type 0} {c : CodeLists} {limit : ℕ} {all : List SysReply} {P : A → Situation → Type 0} {Q : B → Situation → Type 0} (part : Course A)
+    (go : A → Situation → Course B)
     → After c limit all P part → ((value : A) (now : Situation) → P value now → After c limit all Q (go value now)) → After c limit all Q (and_then part go)
 after (Gives value now) go first rest = rest value now first.comes
 after (Over outcome) go first rest = record { comes = first.comes }
 
 -- said otherwise
-pub so : {A : Type 0} {c : CodeLists} {limit : ℕ} {all : List SysReply} {P Q : A → Situation → Type 0} (part : Course A) → After c limit all P part → ((value : A) (now : Situation) → P value now → Q value now) → After c limit all Q part
+pub so : {A : Type 0} {c : CodeLists} {limit : ℕ} {all : List SysReply} {P Q : A → Situation → Type 0} (part : Course A) → After c limit all P part
+    → ((value : A) (now : Situation) → P value now → Q value now) → After c limit all Q part
 so (Gives value now) first rest = record { comes = rest value now first.comes }
 so (Over outcome) first rest = record { comes = first.comes }
 
@@ -82,9 +87,12 @@ abbrev pub from : Fixed → Kept → Fixed
 from f k = record f { floor = k.floor; held = k.held }
 
 -- less is held
-pub on_less : {c : CodeLists} {limit : ℕ} {all : List SysReply} {f : Fixed} {p : ℕ} {operands : List ℤ} {now : Situation} (k : Kept) → Here c limit all f p operands now → k.floor ≤ now.ticks
+pub on_less : {c : CodeLists} {limit : ℕ} {all : List SysReply} {f : Fixed} {p : ℕ} {operands : List ℤ} {now : Situation} (k : Kept)
+    → Here c limit all f p operands now → k.floor ≤ now.ticks
     → ((d i : ℕ) (v : ℤ) → k.held d i ≡ Some v → f.held d i ≡ Some v) → Here c limit all (from f k) p operands now
-on_less {f = f} k h low less = record { below = h.below; words = h.words; reached = h.reached; waiting = h.waiting; agree = agree_weaker h.agree k.held less; named = h.named; risen = low }
+on_less {f = f} k h low less = record { below = h.below; words = h.words; reached = h.reached; waiting = h.waiting; agree =
+    agree_weaker h.agree k.held less; named = h.named; risen = low }
 
-pub on_floor : {c : CodeLists} {limit : ℕ} {all : List SysReply} {f : Fixed} {p : ℕ} {operands : List ℤ} {now : Situation} (floor : ℕ) → Here c limit all f p operands now → floor ≤ now.ticks → Here c limit all (record f { floor = floor }) p operands now
+pub on_floor : {c : CodeLists} {limit : ℕ} {all : List SysReply} {f : Fixed} {p : ℕ} {operands : List ℤ} {now : Situation} (floor : ℕ)
+    → Here c limit all f p operands now → floor ≤ now.ticks → Here c limit all (record f { floor = floor }) p operands now
 on_floor floor h low = record { below = h.below; words = h.words; reached = h.reached; waiting = h.waiting; agree = h.agree; named = h.named; risen = low }

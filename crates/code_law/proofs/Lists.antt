@@ -26,20 +26,23 @@ as_many_maps (m ∷ more) zero change = refl
 as_many_maps (m ∷ more) (suc k) change = ap suc (as_many_maps more k change)
 
 -- a change that keeps references keeps them all
-pub references_kept : (maps : List Map) (k : ℕ) (change : Map → Map) → ((m : Map) → (change m).references ≡ m.references) → (d : ℕ) → (map_at (with_map k change maps) d).references ≡ (map_at maps d).references
+pub references_kept : (maps : List Map) (k : ℕ) (change : Map → Map) → ((m : Map) → (change m).references ≡ m.references) → (d : ℕ)
+    → (map_at (with_map k change maps) d).references ≡ (map_at maps d).references
 references_kept [] k change keeps d = refl
 references_kept (m ∷ more) zero change keeps zero = keeps m
 references_kept (m ∷ more) zero change keeps (suc d) = refl
 references_kept (m ∷ more) (suc k) change keeps zero = refl
 references_kept (m ∷ more) (suc k) change keeps (suc d) = references_kept more k change keeps d
 
-pub this_frame : (below : List Activation) (own : List ℤ) (k : ℕ) (words : List ℤ) → k ≤ length below → words_from (waiting_with below k words) (own_with below own k words) k ≡ words
+pub this_frame : (below : List Activation) (own : List ℤ) (k : ℕ) (words : List ℤ) → k ≤ length below
+    → words_from (waiting_with below k words) (own_with below own k words) k ≡ words
 this_frame [] own zero words low = refl
 this_frame [] own (suc k) words low = absurd (omega (arith, low))
 this_frame (a ∷ above) own zero words low = refl
 this_frame (a ∷ above) own (suc k) words low = this_frame above own k words (omega (arith, low))
 
-pub other_frame : (below : List Activation) (own : List ℤ) (k d : ℕ) (words : List ℤ) → (d ≡ k → ⊥) → words_from (waiting_with below k words) (own_with below own k words) d ≡ words_from below own d
+pub other_frame : (below : List Activation) (own : List ℤ) (k d : ℕ) (words : List ℤ) → (d ≡ k → ⊥)
+    → words_from (waiting_with below k words) (own_with below own k words) d ≡ words_from below own d
 other_frame [] own zero zero words apart = absurd (apart refl)
 other_frame [] own zero (suc d) words apart = refl
 other_frame [] own (suc k) zero words apart = refl
@@ -78,7 +81,8 @@ last_map [] m (suc k) is = absurd (omega (arith, is))
 last_map (n ∷ more) m zero is = absurd (omega (arith, is))
 last_map (n ∷ more) m (suc k) is = last_map more m k (omega (arith, is))
 
-pub first_frames : (below : List Activation) (a : Activation) (own : List ℤ) (k : ℕ) → k ≤ length below → words_from (below ++ a ∷ []) own k ≡ words_from below a.words k
+pub first_frames : (below : List Activation) (a : Activation) (own : List ℤ) (k : ℕ) → k ≤ length below
+    → words_from (below ++ a ∷ []) own k ≡ words_from below a.words k
 first_frames [] a own zero low = refl
 first_frames [] a own (suc k) low = absurd (omega (arith, low))
 first_frames (b ∷ above) a own zero low = refl

@@ -33,7 +33,8 @@ top_reversed words operands =
 -- ---- Words that are 0
 
 pub zeros : (size b : ℕ) → b < size → slice_get (replicate size (pos 0)) b ≡ Some (pos 0)
-zeros size b inside = slice_get-get_or (replicate size (pos 0)) b (pos 0) (omega (arith, inside, length-replicate size (pos 0))) ∙ ap Some (get_or-replicate size b (pos 0) (pos 0) inside)
+zeros size b inside = slice_get-get_or (replicate size (pos 0)) b (pos 0) (omega (arith, inside, length-replicate size (pos 0)))
+    ∙ ap Some (get_or-replicate size b (pos 0) (pos 0) inside)
 
 -- ---- The new frame, with the words of the arguments and so many zeros
 module _ (frames : List Frame) (number : ℕ) (g : Frame) (apart : AreApart g) (size : ℕ) where
@@ -54,7 +55,8 @@ module _ (frames : List Frame) (number : ℕ) (g : Frame) (apart : AreApart g) (
   param_region n x ByArray lies = absurd lies
 
   -- what isn't this parameter lies behind it, where it doesn't lie before
-  behind : (n : ℕ) (x y : List ℕ) (by : Passing) (r : Region) → Lies g n x by → region_in g y ≡ Some r → (x ≡ y → ⊥) → n ≤ r.first → 1 ≤ r.count → n + words_by by ≤ r.first
+  behind : (n : ℕ) (x y : List ℕ) (by : Passing) (r : Region) → Lies g n x by → region_in g y ≡ Some r → (x ≡ y → ⊥) → n ≤ r.first → 1 ≤ r.count
+      → n + words_by by ≤ r.first
   behind n x y by r lies at differ low some = by_order (apart.names x y (record { first = n; count = words_by by }) r (param_region n x by lies) at differ)
     where
       by_order : Apart (record { first = n; count = words_by by }) r → n + words_by by ≤ r.first
@@ -83,7 +85,8 @@ module _ (frames : List Frame) (number : ℕ) (g : Frame) (apart : AreApart g) (
   same_reference a b e = cc
 
   -- ---- scalar variables
-  pub scalars_from : (parameters : List Parameter) (given : List Given) (words : List ℤ) (n : ℕ) → LieFrom g n parameters → Suit parameters given → AreWords frames number given words
+  pub scalars_from : (parameters : List Parameter) (given : List Given) (words : List ℤ) (n : ℕ) → LieFrom g n parameters → Suit parameters given
+      → AreWords frames number given words
       → (x : List ℕ) (o : Owner) (a : ℕ) → sense_in g x ≡ Some (Variable o a) → n ≤ a → a - n < length words + size
       → slice_get (all_words words) (a - n) ≡ Some ((begun_map parameters given).values x)
   scalars_from [] [] [] n lie suit are x o a at low inside = zeros size (a - n) (omega (arith, inside))
@@ -97,26 +100,31 @@ module _ (frames : List Frame) (number : ℕ) (g : Frame) (apart : AreApart g) (
       let next : LieFrom g (n + 1) parameters = subst (λ by. LieFrom g (n + words_by by) parameters) suit.0 lie.1 in
       by_name is (λ far. scalars_from parameters given words (n + 1) next suit.1 are.1 x o a at far (omega (arith, inside, far))) (bytes_eq p.letters x) refl
     where
-      by_name : sense_in g p.letters ≡ Some (Variable OfRoutine n) → (n + 1 ≤ a → slice_get (all_words words) (a - (n + 1)) ≡ Some ((begun_map parameters given).values x)) → (same : Bool) → bytes_eq p.letters x ≡ same
+      by_name : sense_in g p.letters ≡ Some (Variable OfRoutine n)
+          → (n + 1 ≤ a → slice_get (all_words words) (a - (n + 1)) ≡ Some ((begun_map parameters given).values x)) → (same : Bool) → bytes_eq p.letters x ≡ same
           → slice_get (all_words (w ∷ words)) (a - n) ≡ Some (if same then v else (begun_map parameters given).values x)
       by_name is later true e =
           let here : n ≡ a = same_variable n a OfRoutine o (same_Some _ _ (sym is ∙ ap (sense_in g) ((bytes_eq-Decides p.letters x).0 e) ∙ at)) in
           let first : a - n ≡ 0 = omega (arith, here) in
           ap (slice_get (all_words (w ∷ words))) first ∙ ap Some are.0
       by_name is later false e =
-          let far : n + 1 ≤ a = behind n p.letters x ByValue (record { first = a; count = 1 }) is (ap region_found at) (false_name p.letters x e) low (omega arith) in
+          let far : n + 1 ≤ a = behind n p.letters x ByValue (record { first = a; count = 1 }) is (ap region_found at) (false_name p.letters x e) low
+              (omega arith) in
           one_on w words n a far ∙ later far
   scalars_from (p ∷ parameters) (Alias v ∷ given) [] n lie suit are x o a at low inside = absurd are
   scalars_from (p ∷ parameters) (Alias v ∷ given) (w ∷ []) n lie suit are x o a at low inside = absurd are
   scalars_from (p ∷ parameters) (Alias v ∷ given) (w ∷ u ∷ words) n lie suit are x o a at low inside =
       let is : sense_in g p.letters ≡ Some (Reference n) = subst (Lies g n p.letters) suit.0 lie.0 in
       let next : LieFrom g (n + 2) parameters = subst (λ by. LieFrom g (n + words_by by) parameters) suit.0 lie.1 in
-      let far : n + 2 ≤ a = behind n p.letters x ByVariable (record { first = a; count = 1 }) is (ap region_found at) (λ same. no_reference a n o (same_Some _ _ (sym at ∙ ap (sense_in g) (sym same) ∙ is))) low (omega arith) in
+      let far : n + 2 ≤ a = behind n p.letters x ByVariable (record { first = a; count = 1 }) is (ap region_found at)
+          (λ same. no_reference a n o (same_Some _ _ (sym at ∙ ap (sense_in g) (sym same) ∙ is))) low (omega arith) in
       two_on w u words n a far ∙ scalars_from parameters given words (n + 2) next suit.1 are.1 x o a at far (omega (arith, inside, far))
 
   -- ---- arrays
-  pub arrays_from : (parameters : List Parameter) (given : List Given) (words : List ℤ) (n : ℕ) → LieFrom g n parameters → Suit parameters given → AreWords frames number given words
-      → (x : List ℕ) (o : Owner) (a : ℕ) (bounds : Bounds) (i : ℕ) → sense_in g x ≡ Some (Array o a bounds) → i < size_of bounds → n ≤ a → a + i - n < length words + size
+  pub arrays_from : (parameters : List Parameter) (given : List Given) (words : List ℤ) (n : ℕ) → LieFrom g n parameters → Suit parameters given
+      → AreWords frames number given words
+      → (x : List ℕ) (o : Owner) (a : ℕ) (bounds : Bounds) (i : ℕ) → sense_in g x ≡ Some (Array o a bounds) → i < size_of bounds → n ≤ a
+          → a + i - n < length words + size
       → slice_get (all_words words) (a + i - n) ≡ Some ((begun_map parameters given).elements x (bounds.low +ℤ pos i))
   arrays_from [] [] [] n lie suit are x o a bounds i at within low inside = zeros size (a + i - n) (omega (arith, inside))
   arrays_from [] [] (w ∷ words) n lie suit are x o a bounds i at within low inside = absurd are
@@ -127,15 +135,19 @@ module _ (frames : List Frame) (number : ℕ) (g : Frame) (apart : AreApart g) (
   arrays_from (p ∷ parameters) (Value v ∷ given) (w ∷ words) n lie suit are x o a bounds i at within low inside =
       let is : sense_in g p.letters ≡ Some (Variable OfRoutine n) = subst (Lies g n p.letters) suit.0 lie.0 in
       let next : LieFrom g (n + 1) parameters = subst (λ by. LieFrom g (n + words_by by) parameters) suit.0 lie.1 in
-      let far : n + 1 ≤ a = behind n p.letters x ByValue (record { first = a; count = size_of bounds }) is (ap region_found at) (λ same. no_array n a OfRoutine o bounds (same_Some _ _ (sym is ∙ ap (sense_in g) same ∙ at))) low (omega (arith, within)) in
-      one_on w words n (a + i) (omega (arith, far)) ∙ arrays_from parameters given words (n + 1) next suit.1 are.1 x o a bounds i at within far (omega (arith, inside, far))
+      let far : n + 1 ≤ a = behind n p.letters x ByValue (record { first = a; count = size_of bounds }) is (ap region_found at)
+          (λ same. no_array n a OfRoutine o bounds (same_Some _ _ (sym is ∙ ap (sense_in g) same ∙ at))) low (omega (arith, within)) in
+      one_on w words n (a + i) (omega (arith, far)) ∙ arrays_from parameters given words (n + 1) next suit.1 are.1 x o a bounds i at within far
+          (omega (arith, inside, far))
   arrays_from (p ∷ parameters) (Alias v ∷ given) [] n lie suit are x o a bounds i at within low inside = absurd are
   arrays_from (p ∷ parameters) (Alias v ∷ given) (w ∷ []) n lie suit are x o a bounds i at within low inside = absurd are
   arrays_from (p ∷ parameters) (Alias v ∷ given) (w ∷ u ∷ words) n lie suit are x o a bounds i at within low inside =
       let is : sense_in g p.letters ≡ Some (Reference n) = subst (Lies g n p.letters) suit.0 lie.0 in
       let next : LieFrom g (n + 2) parameters = subst (λ by. LieFrom g (n + words_by by) parameters) suit.0 lie.1 in
-      let far : n + 2 ≤ a = behind n p.letters x ByVariable (record { first = a; count = size_of bounds }) is (ap region_found at) (λ same. array_no_reference a n o bounds (same_Some _ _ (sym at ∙ ap (sense_in g) (sym same) ∙ is))) low (omega (arith, within)) in
-      two_on w u words n (a + i) (omega (arith, far)) ∙ arrays_from parameters given words (n + 2) next suit.1 are.1 x o a bounds i at within far (omega (arith, inside, far))
+      let far : n + 2 ≤ a = behind n p.letters x ByVariable (record { first = a; count = size_of bounds }) is (ap region_found at)
+          (λ same. array_no_reference a n o bounds (same_Some _ _ (sym at ∙ ap (sense_in g) (sym same) ∙ is))) low (omega (arith, within)) in
+      two_on w u words n (a + i) (omega (arith, far)) ∙ arrays_from parameters given words (n + 2) next suit.1 are.1 x o a bounds i at within far
+          (omega (arith, inside, far))
 
   -- ---- VAR parameters: none is another name that no argument has
   pub record RefersFrom (words : List ℤ) (n a : ℕ) (at : Place) : Type 0 where
@@ -145,7 +157,8 @@ module _ (frames : List Frame) (number : ℕ) (g : Frame) (apart : AreApart g) (
     pub first : slice_get (all_words words) (a - n) ≡ Some one
     pub second : slice_get (all_words words) (a + 1 - n) ≡ Some two
 
-  pub references_from : (parameters : List Parameter) (given : List Given) (words : List ℤ) (n : ℕ) → LieFrom g n parameters → Suit parameters given → AreWords frames number given words
+  pub references_from : (parameters : List Parameter) (given : List Given) (words : List ℤ) (n : ℕ) → LieFrom g n parameters → Suit parameters given
+      → AreWords frames number given words
       → (x : List ℕ) (a : ℕ) → sense_in g x ≡ Some (Reference a) → n ≤ a → a < g.parameters → RefersFrom words n a ((begun_map parameters given).references x)
   references_from [] given words n lie suit are x a at low parameter = absurd (omega (arith, low, parameter, lie))
   references_from (p ∷ parameters) [] words n lie suit are x a at low parameter = absurd suit
@@ -154,9 +167,11 @@ module _ (frames : List Frame) (number : ℕ) (g : Frame) (apart : AreApart g) (
   references_from (p ∷ parameters) (Value v ∷ given) (w ∷ words) n lie suit are x a at low parameter =
       let is : sense_in g p.letters ≡ Some (Variable OfRoutine n) = subst (Lies g n p.letters) suit.0 lie.0 in
       let next : LieFrom g (n + 1) parameters = subst (λ by. LieFrom g (n + words_by by) parameters) suit.0 lie.1 in
-      let far : n + 1 ≤ a = behind n p.letters x ByValue (record { first = a; count = 2 }) is (ap region_found at) (λ same. no_reference n a OfRoutine (same_Some _ _ (sym is ∙ ap (sense_in g) same ∙ at))) low (omega arith) in
+      let far : n + 1 ≤ a = behind n p.letters x ByValue (record { first = a; count = 2 }) is (ap region_found at)
+          (λ same. no_reference n a OfRoutine (same_Some _ _ (sym is ∙ ap (sense_in g) same ∙ at))) low (omega arith) in
       let more = references_from parameters given words (n + 1) next suit.1 are.1 x a at far parameter in
-      record { one = more.one; two = more.two; alias = more.alias; first = one_on w words n a far ∙ more.first; second = one_on w words n (a + 1) (omega (arith, far)) ∙ more.second }
+      record { one = more.one; two = more.two; alias = more.alias; first = one_on w words n a far ∙ more.first; second =
+          one_on w words n (a + 1) (omega (arith, far)) ∙ more.second }
   references_from (p ∷ parameters) (Alias v ∷ given) [] n lie suit are x a at low parameter = absurd are
   references_from (p ∷ parameters) (Alias v ∷ given) (w ∷ []) n lie suit are x a at low parameter = absurd are
   references_from (p ∷ parameters) (Alias v ∷ given) (w ∷ u ∷ words) n lie suit are x a at low parameter =
@@ -164,20 +179,25 @@ module _ (frames : List Frame) (number : ℕ) (g : Frame) (apart : AreApart g) (
       let next : LieFrom g (n + 2) parameters = subst (λ by. LieFrom g (n + words_by by) parameters) suit.0 lie.1 in
       by_name is (λ far. references_from parameters given words (n + 2) next suit.1 are.1 x a at far parameter) (bytes_eq p.letters x) refl
     where
-      by_name : sense_in g p.letters ≡ Some (Reference n) → (n + 2 ≤ a → RefersFrom words (n + 2) a ((begun_map parameters given).references x)) → (same : Bool) → bytes_eq p.letters x ≡ same
+      by_name : sense_in g p.letters ≡ Some (Reference n) → (n + 2 ≤ a → RefersFrom words (n + 2) a ((begun_map parameters given).references x)) → (same : Bool)
+          → bytes_eq p.letters x ≡ same
           → RefersFrom (w ∷ u ∷ words) n a (if same then v else (begun_map parameters given).references x)
       by_name is later true e =
           let here : n ≡ a = same_reference n a (same_Some _ _ (sym is ∙ ap (sense_in g) ((bytes_eq-Decides p.letters x).0 e) ∙ at)) in
           let first : a - n ≡ 0 = omega (arith, here) in
           let second : a + 1 - n ≡ 1 = omega (arith, here) in
-          record { one = w; two = u; alias = are.0; first = ap (slice_get (all_words (w ∷ u ∷ words))) first; second = ap (slice_get (all_words (w ∷ u ∷ words))) second }
+          record { one = w; two = u; alias = are.0; first = ap (slice_get (all_words (w ∷ u ∷ words))) first; second =
+              ap (slice_get (all_words (w ∷ u ∷ words))) second }
       by_name is later false e =
-          let far : n + 2 ≤ a = behind n p.letters x ByVariable (record { first = a; count = 2 }) is (ap region_found at) (false_name p.letters x e) low (omega arith) in
+          let far : n + 2 ≤ a = behind n p.letters x ByVariable (record { first = a; count = 2 }) is (ap region_found at) (false_name p.letters x e) low
+              (omega arith) in
           let more = later far in
-          record { one = more.one; two = more.two; alias = more.alias; first = two_on w u words n a far ∙ more.first; second = two_on w u words n (a + 1) (omega (arith, far)) ∙ more.second }
+          record { one = more.one; two = more.two; alias = more.alias; first = two_on w u words n a far ∙ more.first; second =
+              two_on w u words n (a + 1) (omega (arith, far)) ∙ more.second }
 
 -- as many words as the parameters take
-pub parameter_words : (frames : List Frame) (number : ℕ) (g : Frame) (parameters : List Parameter) (given : List Given) (words : List ℤ) (n : ℕ) → LieFrom g n parameters → Suit parameters given → AreWords frames number given words → n + length words ≡ g.parameters
+pub parameter_words : (frames : List Frame) (number : ℕ) (g : Frame) (parameters : List Parameter) (given : List Given) (words : List ℤ) (n : ℕ)
+    → LieFrom g n parameters → Suit parameters given → AreWords frames number given words → n + length words ≡ g.parameters
 parameter_words frames number g [] [] [] n lie suit are = omega (arith, lie)
 parameter_words frames number g [] [] (w ∷ words) n lie suit are = absurd are
 parameter_words frames number g [] (h ∷ given) words n lie suit are = absurd suit
@@ -185,11 +205,13 @@ parameter_words frames number g (p ∷ parameters) [] words n lie suit are = abs
 parameter_words frames number g (p ∷ parameters) (Elements e ∷ given) words n lie suit are = absurd suit.0
 parameter_words frames number g (p ∷ parameters) (Value v ∷ given) [] n lie suit are = absurd are
 parameter_words frames number g (p ∷ parameters) (Value v ∷ given) (w ∷ words) n lie suit are =
-    omega (arith, parameter_words frames number g parameters given words (n + 1) (subst (λ by. LieFrom g (n + words_by by) parameters) suit.0 lie.1) suit.1 are.1)
+    omega (arith, parameter_words frames number g parameters given words (n + 1)
+        (subst (λ by. LieFrom g (n + words_by by) parameters) suit.0 lie.1) suit.1 are.1)
 parameter_words frames number g (p ∷ parameters) (Alias v ∷ given) [] n lie suit are = absurd are
 parameter_words frames number g (p ∷ parameters) (Alias v ∷ given) (w ∷ []) n lie suit are = absurd are
 parameter_words frames number g (p ∷ parameters) (Alias v ∷ given) (w ∷ u ∷ words) n lie suit are =
-    omega (arith, parameter_words frames number g parameters given words (n + 2) (subst (λ by. LieFrom g (n + words_by by) parameters) suit.0 lie.1) suit.1 are.1)
+    omega (arith, parameter_words frames number g parameters given words (n + 2)
+        (subst (λ by. LieFrom g (n + words_by by) parameters) suit.0 lie.1) suit.1 are.1)
 
 answer_is_zero : (parameters : List Parameter) (given : List Given) → (begun_map parameters given).answer ≡ pos 0
 answer_is_zero [] given = refl
@@ -208,18 +230,24 @@ from_zero b = omega arith
 
 -- The whole frame of an activation that begins. Each VAR parameter is one of its parameters.
 pub begun_is_tied : (frames : List Frame) (number : ℕ) (g : Frame) → AreApart g → ((x : List ℕ) (a : ℕ) → sense_in g x ≡ Some (Reference a) → a < g.parameters)
-    → (parameters : List Parameter) (given : List Given) (words : List ℤ) (size : ℕ) → LieFrom g 0 parameters → Suit parameters given → AreWords frames number given words
-    → declared_words g ≤ length words + size → g.parameters + g.result ≤ declared_words g → AreTied frames number g (begun_map parameters given) (words ++ replicate size (pos 0))
+    → (parameters : List Parameter) (given : List Given) (words : List ℤ) (size : ℕ) → LieFrom g 0 parameters → Suit parameters given
+        → AreWords frames number given words
+    → declared_words g ≤ length words + size → g.parameters + g.result ≤ declared_words g
+        → AreTied frames number g (begun_map parameters given) (words ++ replicate size (pos 0))
 begun_is_tied frames number g apart among parameters given words size lie suit are wide low = record {
-  scalars = λ x o a at. ap (slice_get (words ++ replicate size (pos 0))) (from_zero a) ∙ scalars_from frames number g apart size parameters given words 0 lie suit are x o a at (omega arith) (omega (arith, wide, apart.inside x (record { first = a; count = 1 }) (ap region_found at)));
-  arrays = λ x o a bounds i at within. ap (slice_get (words ++ replicate size (pos 0))) (from_zero (a + i)) ∙ arrays_from frames number g apart size parameters given words 0 lie suit are x o a bounds i at within (omega arith)
+  scalars = λ x o a at. ap (slice_get (words ++ replicate size (pos 0))) (from_zero a)
+      ∙ scalars_from frames number g apart size parameters given words 0 lie suit are x o a at (omega arith)
+      (omega (arith, wide, apart.inside x (record { first = a; count = 1 }) (ap region_found at)));
+  arrays = λ x o a bounds i at within. ap (slice_get (words ++ replicate size (pos 0))) (from_zero (a + i))
+      ∙ arrays_from frames number g apart size parameters given words 0 lie suit are x o a bounds i at within (omega arith)
       (omega (arith, wide, within, apart.inside x (record { first = a; count = size_of bounds }) (ap region_found at)));
   references = λ x a at. refers x a (references_from frames number g apart size parameters given words 0 lie suit are x a at (omega arith) (among x a at));
   answer = λ has. behind_words words size g.parameters (omega (arith, parameter_words frames number g parameters given words 0 lie suit are))
       (omega (arith, parameter_words frames number g parameters given words 0 lie suit are, wide, has, low)) ∙ ap Some (sym (answer_is_zero parameters given));
 }
   where
-    refers : (x : List ℕ) (a : ℕ) → RefersFrom frames number g apart size words 0 a ((begun_map parameters given).references x) → IsReferred frames number (words ++ replicate size (pos 0)) a ((begun_map parameters given).references x)
+    refers : (x : List ℕ) (a : ℕ) → RefersFrom frames number g apart size words 0 a ((begun_map parameters given).references x)
+        → IsReferred frames number (words ++ replicate size (pos 0)) a ((begun_map parameters given).references x)
     refers x a r = record {
       below = (r.alias).below;
       numbered = ap (slice_get (words ++ replicate size (pos 0))) (from_zero a) ∙ r.first ∙ ap Some (r.alias).first;

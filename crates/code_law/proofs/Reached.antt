@@ -46,7 +46,8 @@ module _ {c : CodeLists} {limit : ℕ} {all : List SysReply} {s : State} {made :
   pub goes : (t : State) → Reached c limit all s made → next c limit s ≡ Goes t → Reached c limit all t made
   goes t r e =
       let on = stays_running c limit s t r.good r.runs r.here e in
-      record { good = r.good; used = r.used; left = r.left; begun = r.begun; steps = suc r.steps; split = r.split; count = r.count; replied = r.replied; moves = moves_more c limit r.steps r.begun s t r.moves e; runs = on.0; here = on.1; fitting = r.fitting }
+      record { good = r.good; used = r.used; left = r.left; begun = r.begun; steps = suc r.steps; split = r.split; count = r.count; replied = r.replied; moves =
+          moves_more c limit r.steps r.begun s t r.moves e; runs = on.0; here = on.1; fitting = r.fitting }
 
   -- nothing is lacking
   pub never : Reached c limit all s made → next c limit s ≡ Lacks → ⊥
@@ -65,11 +66,13 @@ module _ {c : CodeLists} {limit : ℕ} {all : List SysReply} {s : State} {made :
   asks_if true call r e = e
   asks_if false call r e = absurd (never_lacks c limit s r.good r.runs r.here e)
 
-  pub stops_if : (b : Bool) (how : ProgResult) (line ticks : ℕ) → Reached c limit all s made → next c limit s ≡ (if b then Stops how line ticks else Lacks) → next c limit s ≡ Stops how line ticks
+  pub stops_if : (b : Bool) (how : ProgResult) (line ticks : ℕ) → Reached c limit all s made → next c limit s ≡ (if b then Stops how line ticks else Lacks)
+      → next c limit s ≡ Stops how line ticks
   stops_if true how line ticks r e = e
   stops_if false how line ticks r e = absurd (never_lacks c limit s r.good r.runs r.here e)
 
-  pub stops : (how : ProgResult) (line ticks : ℕ) → Reached c limit all s made → next c limit s ≡ Stops how line ticks → Runs c limit all (Ends how line ticks made)
+  pub stops : (how : ProgResult) (line ticks : ℕ) → Reached c limit all s made → next c limit s ≡ Stops how line ticks
+      → Runs c limit all (Ends how line ticks made)
   stops how line ticks r e = (r.used, r.left, r.begun, r.split, r.replied, record { last = s; steps = r.steps; moves = r.moves; stops = e })
 
   leads : (call : SysCall) → (r : Reached c limit all s made) → next c limit s ≡ Asks call s → LeadsToCall c limit r.begun call s

@@ -38,7 +38,8 @@ names_keep : (b : ℕ) (means : Means) (xs : List (List ℕ)) (items : List Item
 names_keep b means [] items is = is
 names_keep b means (x ∷ more) items is = names_keep b means more (record { letters = x; means = means } ∷ items) (inr is)
 
-definitions_keep : (b : ℕ) (scope : List Item → Scope) (ds : List Definition) (items : List Item) → IsBorder b items → IsBorder b (declared_definitions scope ds items)
+definitions_keep : (b : ℕ) (scope : List Item → Scope) (ds : List Definition) (items : List Item) → IsBorder b items
+    → IsBorder b (declared_definitions scope ds items)
 definitions_keep b scope [] items is = is
 definitions_keep b scope (d ∷ more) items is = definitions_keep b scope more (constant_item (scope items) d ∷ items) (inr is)
 
@@ -46,13 +47,15 @@ constants_keep : (b : ℕ) (scope : List Item → Scope) (c : Option Consts) (it
 constants_keep b scope None items is = is
 constants_keep b scope (Some c) items is = definitions_keep b scope (c.first ∷ c.rest) items is
 
-groups_keep : (b : ℕ) (owner : Owner) (scope : List Item → Scope) (gs : List Group) (items : List Item) → IsBorder b items → IsBorder b (declared_groups owner scope gs items)
+groups_keep : (b : ℕ) (owner : Owner) (scope : List Item → Scope) (gs : List Group) (items : List Item) → IsBorder b items
+    → IsBorder b (declared_groups owner scope gs items)
 groups_keep b owner scope [] items is = is
 groups_keep b owner scope (g ∷ more) items is =
     let means = variable_of owner (scope items) g.kind in
     groups_keep b owner scope more (declared_names means (name_list g.names) items) (names_keep b means (name_list g.names) items is)
 
-variables_keep : (b : ℕ) (owner : Owner) (scope : List Item → Scope) (v : Option Vars) (items : List Item) → IsBorder b items → IsBorder b (declared_variables owner scope v items)
+variables_keep : (b : ℕ) (owner : Owner) (scope : List Item → Scope) (v : Option Vars) (items : List Item) → IsBorder b items
+    → IsBorder b (declared_variables owner scope v items)
 variables_keep b owner scope None items is = is
 variables_keep b owner scope (Some v) items is = groups_keep b owner scope (v.first ∷ v.rest) items is
 
@@ -83,7 +86,8 @@ words_there (meant.Interface p) a r is = absurd (none-some r is)
 words_there (meant.TypeName t) a r is = absurd (none-some r is)
 words_there meant.Nothing a r is = absurd (none-some r is)
 
-latest_stands : (f : Frame) (i : Item) (earlier : List Item) (r : Region) → region_of (sense i.means (place_behind f earlier)) ≡ Some r → Stands f (i ∷ earlier) r
+latest_stands : (f : Frame) (i : Item) (earlier : List Item) (r : Region) → region_of (sense i.means (place_behind f earlier)) ≡ Some r
+    → Stands f (i ∷ earlier) r
 latest_stands f i earlier r is =
     let there = words_there i.means (place_behind f earlier) r is in
     record { at = words_in earlier; first = there.0; low = omega (arith, there.1); border = λ b at. by_border b at }
@@ -103,7 +107,8 @@ pub stands : (f : Frame) (items : List Item) (x : List ℕ) (r : Region) → reg
 stands f [] x r is = absurd (none-some r is)
 stands f (i ∷ earlier) x r is = by_name (stands f earlier x r) (bytes_eq i.letters x) is
   where
-    by_name : (region_found (sense_among f earlier x) ≡ Some r → Stands f earlier r) → (same : Bool) → region_found (if same then Some (sense i.means (place_behind f earlier)) else sense_among f earlier x) ≡ Some r → Stands f (i ∷ earlier) r
+    by_name : (region_found (sense_among f earlier x) ≡ Some r → Stands f earlier r) → (same : Bool)
+        → region_found (if same then Some (sense i.means (place_behind f earlier)) else sense_among f earlier x) ≡ Some r → Stands f (i ∷ earlier) r
     by_name later true is = latest_stands f i earlier r is
     by_name later false is = earlier_stands f i earlier r (later is)
 
@@ -112,15 +117,18 @@ stands f (i ∷ earlier) x r is = by_name (stands f earlier x r) (bytes_eq i.let
 abbrev InOrder : (f : Frame) (a b : List Item) (r s : Region) → Type 0
 InOrder f a b r s = (p : Stands f a r) × ((q : Stands f b s) × ((p.at + r.count ≤ q.at) ⊎ (q.at + s.count ≤ p.at)))
 
-both_stand : (f : Frame) (items : List Item) (x y : List ℕ) (r s : Region) → (x ≡ y → ⊥) → region_found (sense_among f items x) ≡ Some r → region_found (sense_among f items y) ≡ Some s
+both_stand : (f : Frame) (items : List Item) (x y : List ℕ) (r s : Region) → (x ≡ y → ⊥) → region_found (sense_among f items x) ≡ Some r
+    → region_found (sense_among f items y) ≡ Some s
     → InOrder f items items r s
 unfolding earlier_stands latest_stands
 both_stand f [] x y r s differ is is_too = absurd (none-some r is)
 both_stand f (i ∷ earlier) x y r s differ is is_too =
     by_names (both_stand f earlier x y r s differ) (bytes_eq i.letters x) (bytes_eq i.letters y) refl refl is is_too
   where
-    by_names : (region_found (sense_among f earlier x) ≡ Some r → region_found (sense_among f earlier y) ≡ Some s → InOrder f earlier earlier r s) → (one other : Bool) → bytes_eq i.letters x ≡ one → bytes_eq i.letters y ≡ other
-        → region_found (if one then Some (sense i.means (place_behind f earlier)) else sense_among f earlier x) ≡ Some r → region_found (if other then Some (sense i.means (place_behind f earlier)) else sense_among f earlier y) ≡ Some s
+    by_names : (region_found (sense_among f earlier x) ≡ Some r → region_found (sense_among f earlier y) ≡ Some s → InOrder f earlier earlier r s)
+        → (one other : Bool) → bytes_eq i.letters x ≡ one → bytes_eq i.letters y ≡ other
+        → region_found (if one then Some (sense i.means (place_behind f earlier)) else sense_among f earlier x) ≡ Some r
+            → region_found (if other then Some (sense i.means (place_behind f earlier)) else sense_among f earlier y) ≡ Some s
         → InOrder f (i ∷ earlier) (i ∷ earlier) r s
     by_names later true true e e_too is is_too = absurd (differ (sym ((bytes_eq-Decides i.letters x).0 e) ∙ (bytes_eq-Decides i.letters y).0 e_too))
     by_names later true false e e_too is is_too =
@@ -155,11 +163,13 @@ behind_order f m n c low = by_tests (nat_lt m f.parameters) (nat_lt n f.paramete
         → (if one then m else m + f.result) + c ≤ (if other then n else n + f.result)
     by_tests true true e e_too = low
     by_tests true false e e_too = omega (arith, low)
-    by_tests false true e e_too = let far : f.parameters ≤ m = grind (arith, nat_tests) in let near : n < f.parameters = grind (arith, nat_tests) in absurd (omega (arith, low, far, near))
+    by_tests false true e e_too = let far : f.parameters ≤ m = grind (arith, nat_tests) in let near : n < f.parameters =
+        grind (arith, nat_tests) in absurd (omega (arith, low, far, near))
     by_tests false false e e_too = omega (arith, low)
 
 -- beside the result
-beside_result : (f : Frame) (n c : ℕ) → (n + c ≤ f.parameters) ⊎ (f.parameters ≤ n) → (behind_result f n + c ≤ f.parameters) ⊎ (f.parameters + f.result ≤ behind_result f n)
+beside_result : (f : Frame) (n c : ℕ) → (n + c ≤ f.parameters) ⊎ (f.parameters ≤ n)
+    → (behind_result f n + c ≤ f.parameters) ⊎ (f.parameters + f.result ≤ behind_result f n)
 beside_result f n c border = by_test (nat_lt n f.parameters) refl border
   where
     by_test : (b : Bool) → nat_lt n f.parameters ≡ b → (n + c ≤ f.parameters) ⊎ (f.parameters ≤ n)

@@ -49,7 +49,8 @@ put_is true call = refl
 put_is false call = refl
 
 -- with as many values as the row takes it is the meaning's
-pub request_is : (p : Procedure) (values rest array : List ℤ) (left : ℕ) → length values ≡ (call_row_of p).values → request p (on_top values rest) array left ≡ requested (call_for p values array left)
+pub request_is : (p : Procedure) (values rest array : List ℤ) (left : ℕ) → length values ≡ (call_row_of p).values
+    → request p (on_top values rest) array left ≡ requested (call_for p values array left)
 request_is row.Read values rest array left count = refl
 request_is row.Accept values rest array left count = refl
 request_is row.Lookup values rest array left count = refl
@@ -104,7 +105,8 @@ row_of calls.ReadArg = row.ReadArg
 row_of (calls.WriteArg tag number name) = row.WriteArg
 row_of (calls.Run name left) = row.Run
 
-of_byte : (p : Procedure) (made : ℕ → SysCall) → ((b : ℕ) → row_of (made b) ≡ p) → (byte : Option ℕ) (call : SysCall) → option_map made byte ≡ Some call → row_of call ≡ p
+of_byte : (p : Procedure) (made : ℕ → SysCall) → ((b : ℕ) → row_of (made b) ≡ p) → (byte : Option ℕ) (call : SysCall) → option_map made byte ≡ Some call
+    → row_of call ≡ p
 of_byte p made is None call e = absurd (none-some call e)
 of_byte p made is (Some b) call e = ap row_of (sym (same_Some (made b) call e)) ∙ is b
 

@@ -17,7 +17,8 @@ use Rattle.code_law.proofs.Indexes.{same_place}
 
 -- the words of two names whose senses differ are apart
 module _ {f : Frame} (apart : AreApart f) where
-  beside : (x y : List ℕ) (r s : Region) (i j : ℕ) → region_in f x ≡ Some r → region_in f y ≡ Some s → (x ≡ y → ⊥) → i < r.count → j < s.count → (r.first + i ≡ s.first + j → ⊥)
+  beside : (x y : List ℕ) (r s : Region) (i j : ℕ) → region_in f x ≡ Some r → region_in f y ≡ Some s → (x ≡ y → ⊥) → i < r.count → j < s.count
+      → (r.first + i ≡ s.first + j → ⊥)
   beside x y r s i j is is_too differ low low_too same = by_order (apart.names x y r s is is_too differ)
     where
       by_order : Apart r s → ⊥
@@ -54,7 +55,8 @@ false_name : (x y : List ℕ) → bytes_eq x y ≡ false → (x ≡ y → ⊥)
 false_name x y e same = let t : true ≡ false = sym ((bytes_eq-Decides x y).1 same) ∙ e in cc
 
 -- the two words of a reference stay
-referred_beside : {frames : List Frame} {d : ℕ} {words : List ℤ} {a : ℕ} {p : Place} (at : ℕ) (v : ℤ) → (at ≡ a → ⊥) → (at ≡ a + 1 → ⊥) → IsReferred frames d words a p → IsReferred frames d (slice_set words at v) a p
+referred_beside : {frames : List Frame} {d : ℕ} {words : List ℤ} {a : ℕ} {p : Place} (at : ℕ) (v : ℤ) → (at ≡ a → ⊥) → (at ≡ a + 1 → ⊥)
+    → IsReferred frames d words a p → IsReferred frames d (slice_set words at v) a p
 referred_beside {frames} {d} {words} {a} at v apart apart_too is = record {
   below = is.below;
   numbered = other_word words at a v apart ∙ is.numbered;
@@ -78,13 +80,15 @@ module _ {frames : List Frame} {d : ℕ} {f : Frame} {m : Map} {words : List ℤ
         let here : a ≡ b = same_first o p a b (one_sense f (Variable o a) (Variable p b) is at ((bytes_eq-Decides x y).0 e)) in
         subst (λ n. slice_get (slice_set words a v) n ≡ Some v) here (same_word words a (m.values x) v (tied.scalars x o a is))
     scalar_beside y p b false e at =
-        other_word words a b v (λ same. beside apart x y (record { first = a; count = 1 }) (record { first = b; count = 1 }) 0 0 region_here (ap region_found at) (false_name x y e) (omega arith) (omega arith) (omega (arith, same)))
+        other_word words a b v (λ same. beside apart x y (record { first = a; count = 1 }) (record { first = b; count = 1 }) 0 0 region_here
+            (ap region_found at) (false_name x y e) (omega arith) (omega arith) (omega (arith, same)))
         ∙ tied.scalars y p b at
 
     array_beside : (y : List ℕ) (p : Owner) (b : ℕ) (bounds : Bounds) (i : ℕ) → sense_in f y ≡ Some (Array p b bounds) → i < size_of bounds
         → slice_get (slice_set words a v) (b + i) ≡ Some (m.elements y (bounds.low +ℤ pos i))
     array_beside y p b bounds i at low =
-        other_word words a (b + i) v (λ same. beside apart x y (record { first = a; count = 1 }) (record { first = b; count = size_of bounds }) 0 i region_here (ap region_found at)
+        other_word words a (b + i) v (λ same. beside apart x y (record { first = a; count = 1 }) (record { first = b; count = size_of bounds }) 0 i region_here
+            (ap region_found at)
         (λ one. no_array o p a b bounds (one_sense f (Variable o a) (Array p b bounds) is at one)) (omega arith) low (omega (arith, same)))
         ∙ tied.arrays y p b bounds i at low
 
@@ -93,13 +97,16 @@ module _ {frames : List Frame} {d : ℕ} {f : Frame} {m : Map} {words : List ℤ
         let differ : x ≡ y → ⊥ = λ one. no_reference o a b (one_sense f (Variable o a) (Reference b) is at one) in
         let there : region_in f y ≡ Some (record { first = b; count = 2 }) = ap region_found at in
         referred_beside a v
-        (λ same. beside apart x y (record { first = a; count = 1 }) (record { first = b; count = 2 }) 0 0 region_here there differ (omega arith) (omega arith) (omega (arith, same)))
-        (λ same. beside apart x y (record { first = a; count = 1 }) (record { first = b; count = 2 }) 0 1 region_here there differ (omega arith) (omega arith) (omega (arith, same)))
+        (λ same. beside apart x y (record { first = a; count = 1 }) (record { first = b; count = 2 }) 0 0 region_here there differ (omega arith) (omega arith)
+            (omega (arith, same)))
+        (λ same. beside apart x y (record { first = a; count = 1 }) (record { first = b; count = 2 }) 0 1 region_here there differ (omega arith) (omega arith)
+            (omega (arith, same)))
         (tied.references y b at)
 
     answer_beside : f.result ≡ 1 → slice_get (slice_set words a v) f.parameters ≡ Some m.answer
     answer_beside has =
-        other_word words a f.parameters v (λ same. beside_result apart x (record { first = a; count = 1 }) 0 0 region_here (omega arith) (omega (arith, has)) (omega (arith, same)))
+        other_word words a f.parameters v (λ same. beside_result apart x (record { first = a; count = 1 }) 0 0 region_here (omega arith) (omega (arith, has))
+            (omega (arith, same)))
         ∙ tied.answer has
 
     pub tied_value : AreTied frames d f (put_value x v m) (slice_set words a v)
@@ -117,7 +124,8 @@ module _ {frames : List Frame} {d : ℕ} {f : Frame} {m : Map} {words : List ℤ
 
     value_stays : (y : List ℕ) (p : Owner) (b : ℕ) → sense_in f y ≡ Some (Variable p b) → slice_get (slice_set words (a + k) v) b ≡ Some (m.values y)
     value_stays y p b at =
-        other_word words (a + k) b v (λ same. beside apart x y (record { first = a; count = size_of bounds }) (record { first = b; count = 1 }) k 0 array_here (ap region_found at)
+        other_word words (a + k) b v (λ same. beside apart x y (record { first = a; count = size_of bounds }) (record { first = b; count = 1 }) k 0 array_here
+            (ap region_found at)
         (λ one. no_array p o b a bounds (one_sense f (Variable p b) (Array o a bounds) at is (sym one))) inside (omega arith) (omega (arith, same)))
         ∙ tied.scalars y p b at
 
@@ -126,23 +134,29 @@ module _ {frames : List Frame} {d : ℕ} {f : Frame} {m : Map} {words : List ℤ
         let differ : x ≡ y → ⊥ = λ one. array_no_reference o a b bounds (one_sense f (Array o a bounds) (Reference b) is at one) in
         let there : region_in f y ≡ Some (record { first = b; count = 2 }) = ap region_found at in
         referred_beside (a + k) v
-        (λ same. beside apart x y (record { first = a; count = size_of bounds }) (record { first = b; count = 2 }) k 0 array_here there differ inside (omega arith) (omega (arith, same)))
-        (λ same. beside apart x y (record { first = a; count = size_of bounds }) (record { first = b; count = 2 }) k 1 array_here there differ inside (omega arith) (omega (arith, same)))
+        (λ same. beside apart x y (record { first = a; count = size_of bounds }) (record { first = b; count = 2 }) k 0 array_here there differ inside
+            (omega arith) (omega (arith, same)))
+        (λ same. beside apart x y (record { first = a; count = size_of bounds }) (record { first = b; count = 2 }) k 1 array_here there differ inside
+            (omega arith) (omega (arith, same)))
         (tied.references y b at)
 
     answer_stays : f.result ≡ 1 → slice_get (slice_set words (a + k) v) f.parameters ≡ Some m.answer
     answer_stays has =
-        other_word words (a + k) f.parameters v (λ same. beside_result apart x (record { first = a; count = size_of bounds }) k 0 array_here inside (omega (arith, has)) (omega (arith, same)))
+        other_word words (a + k) f.parameters v (λ same. beside_result apart x (record { first = a; count = size_of bounds }) k 0 array_here inside
+            (omega (arith, has)) (omega (arith, same)))
         ∙ tied.answer has
 
     -- another array, another index, or this element
-    other_array : (y : List ℕ) (p : Owner) (b : ℕ) (limits : Bounds) (i : ℕ) → bytes_eq x y ≡ false → sense_in f y ≡ Some (Array p b limits) → i < size_of limits
+    other_array : (y : List ℕ) (p : Owner) (b : ℕ) (limits : Bounds) (i : ℕ) → bytes_eq x y ≡ false → sense_in f y ≡ Some (Array p b limits)
+        → i < size_of limits
         → slice_get (slice_set words (a + k) v) (b + i) ≡ Some (m.elements y (limits.low +ℤ pos i))
     other_array y p b limits i e at low =
-        other_word words (a + k) (b + i) v (λ same. beside apart x y (record { first = a; count = size_of bounds }) (record { first = b; count = size_of limits }) k i array_here (ap region_found at) (false_name x y e) inside low same)
+        other_word words (a + k) (b + i) v (λ same. beside apart x y (record { first = a; count = size_of bounds })
+            (record { first = b; count = size_of limits }) k i array_here (ap region_found at) (false_name x y e) inside low same)
         ∙ tied.arrays y p b limits i at low
 
-    this_array : (y : List ℕ) (p : Owner) (b : ℕ) (limits : Bounds) (i : ℕ) (same : Bool) → bytes_eq x y ≡ true → int_eq (bounds.low +ℤ pos k) (limits.low +ℤ pos i) ≡ same
+    this_array : (y : List ℕ) (p : Owner) (b : ℕ) (limits : Bounds) (i : ℕ) (same : Bool) → bytes_eq x y ≡ true
+        → int_eq (bounds.low +ℤ pos k) (limits.low +ℤ pos i) ≡ same
         → sense_in f y ≡ Some (Array p b limits) → i < size_of limits
         → slice_get (slice_set words (a + k) v) (b + i) ≡ Some (if same then v else m.elements y (limits.low +ℤ pos i))
     this_array y p b limits i true e int at low =
@@ -158,9 +172,11 @@ module _ {frames : List Frame} {d : ℕ} {f : Frame} {m : Map} {words : List ℤ
       where
         apart_index : k ≡ i → bounds ≡ limits → ⊥
         apart_index place limits_are =
-            let t : true ≡ false = sym ((Decides-int_eq _ _).1 (ap (λ n. bounds.low +ℤ pos n) place ∙ ap (λ (n : Bounds). n.low +ℤ pos i) limits_are)) ∙ int in cc
+            let t : true ≡ false = sym ((Decides-int_eq _ _).1 (ap (λ n. bounds.low +ℤ pos n) place ∙ ap (λ (n : Bounds). n.low +ℤ pos i) limits_are))
+                ∙ int in cc
 
-    element_stays : (y : List ℕ) (p : Owner) (b : ℕ) (limits : Bounds) (i : ℕ) (same : Bool) → bytes_eq x y ≡ same → sense_in f y ≡ Some (Array p b limits) → i < size_of limits
+    element_stays : (y : List ℕ) (p : Owner) (b : ℕ) (limits : Bounds) (i : ℕ) (same : Bool) → bytes_eq x y ≡ same → sense_in f y ≡ Some (Array p b limits)
+        → i < size_of limits
         → slice_get (slice_set words (a + k) v) (b + i)
         ≡ Some (if same && int_eq (bounds.low +ℤ pos k) (limits.low +ℤ pos i) then v else m.elements y (limits.low +ℤ pos i))
     element_stays y p b limits i true e at low = this_array y p b limits i (int_eq (bounds.low +ℤ pos k) (limits.low +ℤ pos i)) e refl at low
@@ -189,8 +205,10 @@ module _ {frames : List Frame} {d : ℕ} {f : Frame} {m : Map} {words : List ℤ
 
     pub tied_answer : AreTied frames d f (put_answer v m) (slice_set words f.parameters v)
     tied_answer = record {
-      scalars = λ y p b at. other_word words f.parameters b v (λ same. apart_from_result y (record { first = b; count = 1 }) 0 (ap region_found at) (omega arith) (omega (arith, same))) ∙ tied.scalars y p b at;
-      arrays = λ y p b limits i at low. other_word words f.parameters (b + i) v (λ same. apart_from_result y (record { first = b; count = size_of limits }) i (ap region_found at) low same) ∙ tied.arrays y p b limits i at low;
+      scalars = λ y p b at. other_word words f.parameters b v
+          (λ same. apart_from_result y (record { first = b; count = 1 }) 0 (ap region_found at) (omega arith) (omega (arith, same))) ∙ tied.scalars y p b at;
+      arrays = λ y p b limits i at low. other_word words f.parameters (b + i) v
+          (λ same. apart_from_result y (record { first = b; count = size_of limits }) i (ap region_found at) low same) ∙ tied.arrays y p b limits i at low;
       references = λ y b at. reference_behind y b at;
       answer = λ is. same_word words f.parameters m.answer v (tied.answer is);
     }
@@ -210,8 +228,10 @@ module _ {frames : List Frame} {d : ℕ} {f : Frame} {m : Map} {words : List ℤ
 
     pub tied_beside : f.parameters + f.result ≤ declared_words f → AreTied frames d f m (slice_set words at v)
     tied_beside low = record {
-      scalars = λ y p b is. other_word words at b v (λ same. behind_all y (record { first = b; count = 1 }) 0 (ap region_found is) (omega arith) (omega (arith, same))) ∙ tied.scalars y p b is;
-      arrays = λ y p b limits i is inside. other_word words at (b + i) v (λ same. behind_all y (record { first = b; count = size_of limits }) i (ap region_found is) inside same) ∙ tied.arrays y p b limits i is inside;
+      scalars = λ y p b is. other_word words at b v (λ same. behind_all y (record { first = b; count = 1 }) 0 (ap region_found is) (omega arith)
+          (omega (arith, same))) ∙ tied.scalars y p b is;
+      arrays = λ y p b limits i is inside. other_word words at (b + i) v
+          (λ same. behind_all y (record { first = b; count = size_of limits }) i (ap region_found is) inside same) ∙ tied.arrays y p b limits i is inside;
       references = λ y b is. reference_before y b is;
       answer = λ has. other_word words at f.parameters v (λ same. omega (arith, same, has, low, far)) ∙ tied.answer has;
     }

@@ -40,30 +40,36 @@ use Rattle.code_law.proofs.Sites.{globals_are, owner_among, over_words, headings
 use Rattle.code_law.proofs.Naming.{frame_of_program, program_is_named}
 use Rattle.code_law.proofs.Calls.{program_few, calls_run}
 
-halts : (c : CodeLists) (limit : ℕ) (replies : List SysReply) (f : Fixed) (q : ℕ) (course : Course (Unit {0})) → slice_get c.instrs q ≡ Some (bare op.Halt) → After c limit replies (λ _ n. Here c limit replies f q [] n) course → Runs c limit replies (outcome_of course)
+halts : (c : CodeLists) (limit : ℕ) (replies : List SysReply) (f : Fixed) (q : ℕ) (course : Course (Unit {0})) → slice_get c.instrs q ≡ Some (bare op.Halt)
+    → After c limit replies (λ _ n. Here c limit replies f q [] n) course → Runs c limit replies (outcome_of course)
 unfolding effect
-halts c limit replies f q (Gives done now) found after = stops result.Terminated now.line now.ticks after.comes.reached (does after.comes.reached (bare op.Halt) found)
+halts c limit replies f q (Gives done now) found after = stops result.Terminated now.line now.ticks after.comes.reached
+    (does after.comes.reached (bare op.Halt) found)
 halts c limit replies f q (Over outcome) found after = after.comes
 
 -- the program has no VAR parameter
 no_references : (p : Program) (x : List ℕ) (a : ℕ) → sense_in (frame_of_program p) x ≡ Some (Reference a) → a < 0
 no_references p x a is = let e = owner_among OfProgram false (frame_of_program p) (global_items p) x (Reference a) (globals_are p) is in cc
 
-pub compiled_runs : (p : Program) (limit : ℕ) (replies : List SysReply) → AreSuited p → IsCode (code_of p) → IsGood (code_of p) → AreFitting (code_of p) limit (start_state (code_of p)) replies → Runs (code_of p) limit replies (meaning p limit replies)
+pub compiled_runs : (p : Program) (limit : ℕ) (replies : List SysReply) → AreSuited p → IsCode (code_of p) → IsGood (code_of p)
+    → AreFitting (code_of p) limit (start_state (code_of p)) replies → Runs (code_of p) limit replies (meaning p limit replies)
 unfolding meaning meaning_with
 compiled_runs p limit replies suited code good fitting =
     let c = code_of p in
     let r = framed_program p in
     let frame = frame_of_program p in
     let size = (routine_at c 0).words in
-    let f : Fixed = record { routine = 0; callers = []; frames = frame ∷ []; references = λ d x. record { activation = 0; letters = [] }; held = λ d i. None; floor = 0 } in
+    let f : Fixed = record { routine = 0; callers = []; frames = frame ∷ []; references = λ d x. record { activation = 0; letters = [] }; held = λ d i.
+        None; floor = 0 } in
     let compiled = compiled_at p 0 r refl in
     let start : (routine_at c 0).start ≡ 0 = first_starts p in
-    let words : declared_words frame ≤ 0 + size = omega (arith, compiled.words, over_words (global_items p) (declared_headings 1 p.routines (global_items p)) (headings_over (global_items p) 1 p.routines (global_items p) Itself)) in
+    let words : declared_words frame ≤ 0 + size = omega (arith, compiled.words, over_words (global_items p) (declared_headings 1 p.routines (global_items p))
+        (headings_over (global_items p) 1 p.routines (global_items p) Itself)) in
     let here : Here c limit replies f 0 [] opening = record {
       below = [];
       words = replicate size (pos 0);
-      reached = record { good = good; used = []; left = replies; begun = start_state c; steps = 0; split = refl; count = refl; replied = refl; moves = refl; runs = refl; here = begins_running c limit code good; fitting = fitting };
+      reached = record { good = good; used = []; left = replies; begun = start_state c; steps = 0; split = refl; count = refl; replied = refl; moves =
+          refl; runs = refl; here = begins_running c limit code good; fitting = fitting };
       waiting = refl;
       agree = record {
         as_many = refl;
@@ -79,11 +85,17 @@ compiled_runs p limit replies suited code good fitting =
     } in
     let names : Named f.frames (own_number f) (site_of r) (r.declared).scope = program_is_named p (suited 0 r refl).few in
     let k : Kept = record { floor = 0; held = λ d i. None } in
-    let two = parted c 0 (body_code (site_of r) (declared_words r.frame) (r.declared).body 0) (ending r.owner ∷ []) compiled.end (subst (λ n. Stand c n (body_code (site_of r) (declared_words r.frame) (r.declared).body n ++ ending r.owner ∷ []) compiled.end) start compiled.stands) in
+    let two = parted c 0 (body_code (site_of r) (declared_words r.frame) (r.declared).body 0) (ending r.owner ∷ []) compiled.end
+        (subst (λ n. Stand c n (body_code (site_of r) (declared_words r.frame) (r.declared).body n ++ ending r.owner ∷ []) compiled.end) start
+        compiled.stands) in
     halts c limit replies f two.0 (program_part (in_order replies) limit (all_declared p) opening) two.1.1.0
-    (body_runs c limit replies f (site_of r) (r.declared).scope names false (λ e. cc) (routines_of p) (called_value (in_order replies) limit (all_declared p) 63)
+    (body_runs c limit replies f (site_of r) (r.declared).scope names false (λ e. cc) (routines_of p)
+        (called_value (in_order replies) limit (all_declared p) 63)
     (λ m. calls_run p suited limit replies 63 (from f m) refl refl refl)
-    (r.declared).body (declared_words r.frame) 0 0 0 two.0 k opening (omega (arith, ap declared_words (same_Some frame names.frame names.own_at), over_words (global_items p) (declared_headings 1 p.routines (global_items p)) (headings_over (global_items p) 1 p.routines (global_items p) Itself))) (λ i v none. absurd (none-some v none)) refl
+    (r.declared).body (declared_words r.frame) 0 0 0 two.0 k opening
+        (omega (arith, ap declared_words (same_Some frame names.frame names.own_at), over_words (global_items p)
+        (declared_headings 1 p.routines (global_items p)) (headings_over (global_items p) 1 p.routines (global_items p) Itself)))
+        (λ i v none. absurd (none-some v none)) refl
     (suited 0 r refl).suits two.1.0 here)
   where
     only : (d : ℕ) (g : Frame) → slice_get (frame_of_program p ∷ []) d ≡ Some g → (d ≡ 0) × (frame_of_program p ≡ g)

@@ -10,8 +10,9 @@ use Rattle.pascal_mean.specs.MoreReplies.{FitTheMeaning}
 use Rattle.pascal_code.specs.Code.{code_of}
 use Rattle.code_law.specs.Suited.{AreSuited}
 
--- Whatever the limit of ticks and the replies to the program's calls, provided that each reply fits the call at which
--- the program waits: the run of the code is what the program means, its ticks, its last line and all its calls.
+-- Whatever the limit of ticks and the replies to the program's calls, provided that each reply fits the call
+-- at which the program waits: the run of the code is what the program means, its ticks, its last line and all
+-- its calls.
 abbrev pub DoesWhatItMeans : Type 0
 DoesWhatItMeans =
     (p : Program) (limit : ℕ) (replies : List SysReply)

@@ -22,8 +22,8 @@ pub record HasWords (frames : List Frame) (number : ℕ) (x : List ℕ) (a : ℕ
   pub owner : Owner
   pub is : sense_in frame x ≡ Some (Array owner a bounds)
 
--- In the activation with a number, whose names mean what the scope says, they are to the code what they mean; and
--- what has words has them in these frames.
+-- In the activation with a number, whose names mean what the scope says, they are to the code what they mean;
+-- and what has words has them in these frames.
 pub record Named (frames : List Frame) (number : ℕ) (site : Site) (scope : Scope) : Type 0 where
   pub frame : Frame
   pub own_at : slice_get frames number ≡ Some frame

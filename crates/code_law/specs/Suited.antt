@@ -16,8 +16,8 @@ routines_of p = record {
   gives = λ k. is_some ((declared_at (all_declared p) k).signature).answer;
 }
 
--- In a routine, or the program itself, each statement suits its names; a function may be set in its own body; the
--- parameters lie one behind another from word 0, and a frame has at most 4,096 declared words.
+-- In a routine, or the program itself, each statement suits its names; a function may be set in its own body;
+-- the parameters lie one behind another from word 0, and a frame has at most 4,096 declared words.
 pub record IsSuited (p : Program) (r : Framed) : Type 0 where
   pub suits : SuitsBody (routines_of p) r.names (is_some ((r.declared).signature).answer) (r.declared).body
   pub lie : LieFrom r.frame 0 ((r.declared).signature).parameters

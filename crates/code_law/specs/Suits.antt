@@ -1,4 +1,5 @@
--- What a program that breaks no static rule has at each name, expression and statement, as far as its code asks.
+-- What a program that breaks no static rule has at each name, expression and statement, as far as its code
+-- asks.
 use Rattle.std.specs.Prelude.{◌≡◌, ℕ, ◌+◌, ◌<◌, ◌≤◌, Bool, true, false, List, [], ◌∷◌, map, Option, Some, None, ℤ, pos}
 use Rattle.std.specs.Int.{w16, cast_signed}
 use Rattle.solo_base.specs.declared.interface.Procedure.{Procedure}
@@ -247,7 +248,8 @@ module _ (rs : Routines) (names : List ℕ → Sense) where
 
     pub SuitsStatements : Bool → Statements → Type 0
     SuitsStatements inside no_statement = Unit {0}
-    SuitsStatements inside (next_statement line s more) = SuitsStatement inside s × SuitsStatements inside more
+    SuitsStatements inside (next_statement line s more) =
+        SuitsStatement inside s × SuitsStatements inside more
 
     pub SuitsBranch : Bool → Branch → Type 0
     SuitsBranch inside (branch labels colon s) = SuitsLabels labels × SuitsStatement inside s

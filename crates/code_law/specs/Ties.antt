@@ -9,8 +9,8 @@ use Rattle.pascal_code.specs.Frames.{Frame, declared_words}
 use Rattle.pascal_code.specs.Senses.{Sense, Variable, Array, Reference, sense_in}
 use Rattle.code_law.specs.Regions.{AreApart}
 
--- In the activation with a number two words name a place: the number of an activation below it, and the word of a
--- scalar variable there.
+-- In the activation with a number two words name a place: the number of an activation below it, and the word
+-- of a scalar variable there.
 pub record IsReferred (frames : List Frame) (number : ℕ) (words : List ℤ) (a : ℕ) (p : Place) : Type 0 where
   pub below : p.activation < number
   pub numbered : slice_get words a ≡ Some (pos p.activation)
@@ -35,9 +35,10 @@ pub record AreTied (frames : List Frame) (number : ℕ) (f : Frame) (m : Map) (w
 abbrev pub Held : Type 0
 Held = ℕ → ℕ → Option ℤ
 
--- The activations below, and the current one with its own words, have these frames, and their words hold what the
--- maps tell and what is held, behind the declared words.
-pub record Agree (frames : List Frame) (held : Held) (maps : List Map) (below : List Activation) (own : List ℤ)
+-- The activations below, and the current one with its own words, have these frames, and their words hold what
+-- the maps tell and what is held, behind the declared words.
+pub record Agree (frames : List Frame) (held : Held) (maps : List Map) (below : List Activation)
+    (own : List ℤ)
     : Type 0 where
   pub as_many : length maps ≡ length frames
   pub all_open : length frames ≡ length below + 1
