@@ -36,8 +36,12 @@ fn add_card(program: &mut LineList, card: &str) -> Result<()> {
 
 fn main(rt: HostRuntime) -> Result<()> {
     let mut words = env::args(&rt)?;
-    let constants = words.nth(1).context("usage: check_bench CONSTANTS STATEMENTS")?;
-    let statements = words.next().context("usage: check_bench CONSTANTS STATEMENTS")?;
+    let constants = words
+        .nth(1)
+        .context("usage: check_bench CONSTANTS STATEMENTS")?;
+    let statements = words
+        .next()
+        .context("usage: check_bench CONSTANTS STATEMENTS")?;
     let program = program(
         rt.alloc(),
         constants.as_str().parse::<u32>()?,
