@@ -1,0 +1,14 @@
+pub mod Numbers
+pub mod Parts
+pub mod Replaced
+pub mod Activations
+pub mod Answered
+pub mod Declared
+pub mod Opened
+pub mod Tables
+pub mod Loops
+pub mod Ended
+pub mod Operands
+pub mod Openings
+pub mod Counts
+pub mod Turned

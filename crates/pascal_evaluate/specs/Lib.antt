@@ -1,0 +1,6 @@
+pub mod SeenNames
+pub mod SeenStore
+pub mod SeenSetting
+pub mod Ran
+pub mod Rows
+pub mod Turns
