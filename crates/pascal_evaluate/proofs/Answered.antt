@@ -132,7 +132,8 @@ pub done : (input : List ℕ) (call : SysCall) (given : List Given) (now : Situa
     → after_call (batch_answers input) (Some call) given now ≡ Gives (pos 0) (with_call call now)
 done input call given now is =
     answered input call given now replies.Done (is (left input now.made))
-    ∙ ap (Gives (pos 0)) (no_variable (reverse (variables_in given)) (set_array (arrays_in given) [] (record now { made = now.made ++ call ∷ []; ticks = now.ticks + 0 }))
+    ∙ ap (Gives (pos 0)) (no_variable (reverse (variables_in given)) (set_array (arrays_in given) []
+    (record now { made = now.made ++ call ∷ []; ticks = now.ticks + 0 }))
     ∙ no_element (arrays_in given) (record now { made = now.made ++ call ∷ []; ticks = now.ticks + 0 }) ∙ same_ticks (with_call call now))
 
 -- the next character, which the last variable gets
@@ -147,9 +148,11 @@ character_read input before given now is =
     answered input calls.Read given now (replies.Char code) (ap (λ l. replies.Char (next_character l)) there)
     ∙ ap set (no_element (arrays_in given) (record now { made = now.made ++ calls.Read ∷ []; ticks = now.ticks + 0 }) ∙ same_ticks (with_call calls.Read now))
 
-no_characters : (before : List SysCall) (call : SysCall) → characters_of call ≡ [] → flat_map characters_of (before ++ call ∷ []) ≡ flat_map characters_of before
+no_characters : (before : List SysCall) (call : SysCall) → characters_of call ≡ [] → flat_map characters_of (before ++ call ∷ [])
+    ≡ flat_map characters_of before
 no_characters before call quiet =
-    flat_map-append characters_of before (call ∷ []) ∙ ap (λ l. flat_map characters_of before ++ (l ++ [])) quiet ∙ nothing_behind (flat_map characters_of before) where
+    flat_map-append characters_of before (call ∷ []) ∙ ap (λ l. flat_map characters_of before ++ (l ++ [])) quiet
+    ∙ nothing_behind (flat_map characters_of before) where
       nothing_behind : (xs : List ℕ) → xs ++ [] ≡ xs
       nothing_behind [] = refl
       nothing_behind (x ∷ more) = ap (λ l. x ∷ l) (nothing_behind more)
@@ -180,7 +183,8 @@ IsRefused row.ReadArg = Unit {0}
 IsRefused row.WriteArg = Unit {0}
 IsRefused row.Run = Unit {0}
 
-pub are_refused : (p : Procedure) → (p ≡ row.Accept) ⊎ ((p ≡ row.Open) ⊎ ((p ≡ row.Close) ⊎ ((p ≡ row.Get) ⊎ ((p ≡ row.Length) ⊎ ((p ≡ row.Lookup) ⊎ ((p ≡ row.ReadArg) ⊎ ((p ≡ row.WriteArg) ⊎ (p ≡ row.Run))))))))
+pub are_refused : (p : Procedure) → (p ≡ row.Accept) ⊎ ((p ≡ row.Open) ⊎ ((p ≡ row.Close) ⊎ ((p ≡ row.Get) ⊎ ((p ≡ row.Length) ⊎ ((p
+    ≡ row.Lookup) ⊎ ((p ≡ row.ReadArg) ⊎ ((p ≡ row.WriteArg) ⊎ (p ≡ row.Run))))))))
     → IsRefused p
 are_refused p (inl is) = rw is tt
 are_refused p (inr (inl is)) = rw is tt

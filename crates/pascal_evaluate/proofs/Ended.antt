@@ -33,7 +33,8 @@ pub part_is : (p : Program) (limit : ℕ) (input known : List ℕ) (all : List D
 part_is p limit input known all c statements first last begins all_is input_is body_is opens stands =
     ap (λ n. after_sequence c statements n) opens
     ∙ ap (λ e. after_sequence e statements opening) stands
-    ∙ ap (λ l. after_sequence (setting_of (batch_answers input) limit (declared_at l 0) 0 (called_value (batch_answers input) limit l 63)) statements opening) all_is
+    ∙ ap (λ l. after_sequence (setting_of (batch_answers input) limit (declared_at l 0) 0 (called_value
+    (batch_answers input) limit l 63)) statements opening) all_is
     ∙ ap (λ i. after_sequence (setting_of (batch_answers i) limit (declared_at (all_declared p) 0) 0
     (called_value (batch_answers i) limit (all_declared p) 63)) statements opening) input_is
     ∙ ap (λ b. after_body (setting_of (batch_answers known) limit (declared_at (all_declared p) 0) 0
@@ -64,7 +65,8 @@ characters_behind p (code ∷ first) more = characters_behind (with_character p 
 
 pub printed_behind : (p q : Printed) (those : List Made) (i : ℕ) (d : Made) → i < length those
     → q ≡ with_characters p (characters_of (seen_made (get_or those i d)))
-    → with_characters q (flat_map characters_of (map seen_made (drop (i + 1) those))) ≡ with_characters p (flat_map characters_of (map seen_made (drop i those)))
+    → with_characters q (flat_map characters_of (map seen_made (drop (i + 1) those)))
+    ≡ with_characters p (flat_map characters_of (map seen_made (drop i those)))
 printed_behind p q those i d within is =
     let first = characters_of (seen_made (get_or those i d)) in
     let more = flat_map characters_of (map seen_made (drop (i + 1) those)) in

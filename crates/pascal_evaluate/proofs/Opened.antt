@@ -34,7 +34,8 @@ without_last [] m = refl
 without_last (n ∷ more) m = ap (λ l. n ∷ l) (without_last more m)
 
 -- a routine that is there is called
-pub called_one : (free : ℕ) (s : setting_type.Setting) (k : ℕ) (given : List Given) (now : Situation) (r : Declared) (answer : Result ℤ Stop) (then_is : Situation)
+pub called_one : (free : ℕ) (s : setting_type.Setting) (k : ℕ) (given : List Given) (now : Situation) (r : Declared) (answer : Result ℤ Stop)
+    (then_is : Situation)
     → slice_get (all_in s) k ≡ Some r → Ran (opened_in free s r given now) answer then_is → Ran (does_in (suc free) s k given now) answer then_is
 called_one free s k given now r answer then_is found ran =
     subst (λ (o : Option Declared). Ran (opened_in free s (unwrap_or o no_routine) given now) answer then_is) (sym found) ran
@@ -69,7 +70,8 @@ module _ (free : ℕ) (s : setting_type.Setting) (r : Declared) (given : List Gi
       → IsStopped (opened_in free s r given now) why then_is
   unfolding inside leaving
   opened_stopped why then_is stopped =
-      stopped_then (after_body inside r.body (begun r given now)) leaving why then_is (subst (λ (course : Course (Unit {0})). IsStopped course why then_is) same stopped)
+      stopped_then (after_body inside r.body (begun r given now)) leaving why then_is (subst (λ (course : Course
+      (Unit {0})). IsStopped course why then_is) same stopped)
 
   pub opened_gives : (after : Situation) → after_sequence c all begins ≡ Gives tt after
       → opened_in free s r given now ≡ Gives ((map_at after.maps number).answer) (ended number now.line after)

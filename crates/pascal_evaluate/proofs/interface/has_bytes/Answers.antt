@@ -10,7 +10,8 @@ pub returns-then-not-is_byte_at : goal.returns-then-not-is_byte_at
 returns-then-not-is_byte_at c =
     let a = seen_array c.args.array.now in
     let within : c.loop-place.place < size_of a.bounds = omega (arith, c.size_of-place-end.ensures.size) in
-    sym (no_byte_at a (a.bounds).low c.loop-place.place (size_of a.bounds) (situation c.args.run.now) within (sym c.if-not-is_byte_at.ensures)) ∙ c.loop-place.invariant
+    sym (no_byte_at a (a.bounds).low c.loop-place.place (size_of a.bounds) (situation c.args.run.now) within (sym c.if-not-is_byte_at.ensures))
+    ∙ c.loop-place.invariant
 
 pub loop-place-preserved : goal.loop-place-preserved
 loop-place-preserved c =

@@ -26,7 +26,8 @@ returns-in-Ok g c =
     let fits : FitsSigned w16 c.end.result = record { sfits = c.end.type_inv } in
     let value = to_z w16 (of_z w16 c.end.result) in
     opened_gives g.L.Level.free c.args.setting.now (seen_declared c.args.declared.now) (all_given c.args.given.now) (situation c.args.run.now)
-    (seen_setting g.L.Level.free c.inside-inside.result) c.len-number.result (situation c.begin.new.run) (seen_sequence b.statements) b.begin b.end made counted (c.inside-inside.ensures g.L.Level.free) c.in_ok-begin.ensures
+    (seen_setting g.L.Level.free c.inside-inside.result) c.len-number.result (situation c.begin.new.run)
+    (seen_sequence b.statements) b.begin b.end made counted (c.inside-inside.ensures g.L.Level.free) c.in_ok-begin.ensures
     after c.in-Ok.ensures
     ∙ ap (λ (v : ℤ). Gives v (ended c.len-number.result line after)) (sym (to_z-of_z w16 c.end.result fits ∙ c.end.ensures.answer))
     ∙ ap (Gives value) (sym c.end.ensures.run)
@@ -38,5 +39,6 @@ returns-in-Err g c =
     let counted : c.len-number.result ≡ length (map seen_activation c.args.run.now.activations.items) =
     omega (arith, c.len-number.ensures, c.args.run.now.activations.ok.0, length-map c.args.run.now.activations.items seen_activation) in
     opened_stopped g.L.Level.free c.args.setting.now (seen_declared c.args.declared.now) (all_given c.args.given.now) (situation c.args.run.now)
-    (seen_setting g.L.Level.free c.inside-inside.result) c.len-number.result (situation c.begin.new.run) (seen_sequence b.statements) b.begin b.end made counted (c.inside-inside.ensures g.L.Level.free) c.in_ok-begin.ensures
+    (seen_setting g.L.Level.free c.inside-inside.result) c.len-number.result (situation c.begin.new.run)
+    (seen_sequence b.statements) b.begin b.end made counted (c.inside-inside.ensures g.L.Level.free) c.in_ok-begin.ensures
     c.in-Err.stop (situation c.sequence.new.run) c.in-Err.ensures

@@ -8,4 +8,5 @@ use Rattle.pascal_evaluate.proofs.operators.standard.Goals as goal
 pub returns-in-Chr : goal.returns-in-Chr
 returns-in-Chr c now =
     rw c.in-Chr.is
-    (subst (λ (v : ℤ). Ran (within (record { low = pos 0; high = pos 127 }) v now) c.within.result now) (to_z-of_z w16 c.args.value c.ranges.value) (c.within.ensures now))
+    (subst (λ (v : ℤ). Ran (within (record { low = pos 0; high = pos 127 }) v now) c.within.result now) (to_z-of_z w16 c.args.value c.ranges.value)
+    (c.within.ensures now))

@@ -23,8 +23,10 @@ returns c =
     let all = ap (map seen_declared) c.deref-2.ensures.value ∙ c.in_ok-routines.ensures in
     let input = c.deref-3.ensures.value ∙ c.in_ok-text.ensures in
     let setting = seen_setting 63 c.outermost-setting.result in
-    let part = part_is p c.args.limit c.deref-3.result.now (text cards) (map seen_declared c.deref-2.result.now) setting (seen_sequence b.statements) b.begin b.end begins
+    let part = part_is p c.args.limit c.deref-3.result.now (text cards) (map seen_declared c.deref-2.result.now) setting
+    (seen_sequence b.statements) b.begin b.end begins
     all input made c.in_ok-run.ensures c.outermost-setting.ensures in
     let course = after_sequence setting (seen_sequence b.statements) begins in
     let lines = c.in_ok-output.ensures ∙ ap (λ calls. output_of (map seen_made calls)) c.deref-4.ensures.value in
-    batch_ending p c.args.limit cards course c.in_ok-result.result then_is c.in_ok-output.output part (c.in_ok-result.ensures course then_is c.sequence.ensures) lines
+    batch_ending p c.args.limit cards course c.in_ok-result.result then_is c.in_ok-output.output part
+    (c.in_ok-result.ensures course then_is c.sequence.ensures) lines

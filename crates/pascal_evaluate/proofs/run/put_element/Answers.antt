@@ -12,9 +12,12 @@ returns-then-number-activations c =
     let found = c.index-activations-number.result in
     on_ok c.put_element.result _ _ c.put_element.ensures (λ is. with_map-here seen_activation c.args.activations.now c.args.number found c.put_element.new.self
     (put_element c.args.letters.now c.args.index c.args.value) c.if-number-activations.true
-    (is ∙ ap (λ (v : ℤ). put_element c.args.letters.now (to_z w32 (of_z w32 c.args.index)) v (seen_activation (get_or c.args.activations.now c.args.number found))) (to_z-of_z w16 c.args.value c.ranges.value)
-    ∙ ap (λ (i : ℤ). put_element c.args.letters.now i c.args.value (seen_activation (get_or c.args.activations.now c.args.number found))) (to_z-of_z w32 c.args.index c.ranges.index)))
+    (is ∙ ap (λ (v : ℤ). put_element c.args.letters.now (to_z w32 (of_z w32 c.args.index)) v (seen_activation
+    (get_or c.args.activations.now c.args.number found))) (to_z-of_z w16 c.args.value c.ranges.value)
+    ∙ ap (λ (i : ℤ). put_element c.args.letters.now i c.args.value (seen_activation (get_or c.args.activations.now c.args.number found)))
+    (to_z-of_z w32 c.args.index c.ranges.index)))
 
 pub returns-else-number-activations : goal.returns-else-number-activations
 returns-else-number-activations c =
-    sym (with_map-past seen_activation c.args.activations.now c.args.number (put_element c.args.letters.now c.args.index c.args.value) c.if-number-activations.false)
+    sym (with_map-past seen_activation c.args.activations.now c.args.number
+    (put_element c.args.letters.now c.args.index c.args.value) c.if-number-activations.false)

@@ -11,7 +11,8 @@ returns-then-number-activations c =
     let found = c.index-activations-number.result in
     on_ok c.put_value.result _ _ c.put_value.ensures (λ is. with_map-here seen_activation c.args.activations.now c.args.number found c.put_value.new.self
     (put_value c.args.letters.now c.args.value) c.if-number-activations.true
-    (is ∙ ap (λ (v : ℤ). put_value c.args.letters.now v (seen_activation (get_or c.args.activations.now c.args.number found))) (to_z-of_z w16 c.args.value c.ranges.value)))
+    (is ∙ ap (λ (v : ℤ). put_value c.args.letters.now v (seen_activation (get_or c.args.activations.now c.args.number found)))
+    (to_z-of_z w16 c.args.value c.ranges.value)))
 
 pub returns-else-number-activations : goal.returns-else-number-activations
 returns-else-number-activations c =
