@@ -5,3 +5,4 @@ pub mod Named
 pub mod Suits
 pub mod Suited
 pub mod Law
+pub mod Heights
