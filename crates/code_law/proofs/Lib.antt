@@ -27,3 +27,4 @@ pub mod Naming
 pub mod Calls
 pub mod Whole
 pub mod Fitting
+pub mod Fine
