@@ -28,3 +28,4 @@ pub mod Calls
 pub mod Whole
 pub mod Fitting
 pub mod Fine
+pub mod StatementLifts
