@@ -29,3 +29,4 @@ pub mod Whole
 pub mod Fitting
 pub mod Fine
 pub mod StatementLifts
+pub mod StatementPlaces

@@ -175,23 +175,23 @@ module _ (c : CodeLists) (rs : Routines) (site : Site) (inside : Bool) (rise : R
         ticks_more line _ (kept_more e free _ suits.0 fits.1
             (branch_lifts b free (branches_code site free more) first (n - 1) suits.1 fits.2 (λ m. branches_lift more free m (n - 1) suits.2 fits.3)))
 
-    body_lifts : (b : Body) (free place n : ℕ) → SuitsBody rs site.names inside b → BodyFits b n → Level c (body_code site free b place)
+    pub body_lifts : (b : Body) (free place n : ℕ) → SuitsBody rs site.names inside b → BodyFits b n → Level c (body_code site free b place)
     body_lifts (body begin s end) free place n suits fits = sequence_lifts s free place n suits fits
 
-    sequence_lifts : (s : Sequence) (free place n : ℕ) → SuitsSequence rs site.names inside s → SequenceFits s n → Level c (sequence_code site free s place)
+    pub sequence_lifts : (s : Sequence) (free place n : ℕ) → SuitsSequence rs site.names inside s → SequenceFits s n → Level c (sequence_code site free s place)
     sequence_lifts (sequence s more) free place n suits fits =
         let code = statement_code site free s place in
         lifted_more c 0 1500 code (statements_code site free more (place + length code)) 0 0 0 (statement_lifts s free place n suits.0 fits.0)
             (statements_lift more free (place + length code) n suits.1 fits.1)
 
-    statements_lift : (ss : Statements) (free place n : ℕ) → SuitsStatements rs site.names inside ss → StatementsFit ss n → Level c (statements_code site free ss place)
+    pub statements_lift : (ss : Statements) (free place n : ℕ) → SuitsStatements rs site.names inside ss → StatementsFit ss n → Level c (statements_code site free ss place)
     statements_lift no_statement free place n suits fits = refl
     statements_lift (next_statement line s more) free place n suits fits =
         let code = statement_code site free s place in
         lifted_more c 0 1500 code (statements_code site free more (place + length code)) 0 0 0 (statement_lifts s free place n suits.0 fits.0)
             (statements_lift more free (place + length code) n suits.1 fits.1)
 
-    branch_lifts : (b : Branch) (free : ℕ) (later : ℕ → List Instr) (place n : ℕ) → SuitsBranch rs site.names inside b → BranchFits b n → ((m : ℕ) → Level c (later m))
+    pub branch_lifts : (b : Branch) (free : ℕ) (later : ℕ → List Instr) (place n : ℕ) → SuitsBranch rs site.names inside b → BranchFits b n → ((m : ℕ) → Level c (later m))
         → Level c (branch_code site free b later place)
     branch_lifts (branch labels colon s) free later place n suits fits lift =
         let found = place + label_tests_size labels + 1 in
@@ -202,7 +202,7 @@ module _ (c : CodeLists) (rs : Routines) (site : Site) (inside : Bool) (rise : R
         lifted_more c 0 1500 (label_tests site free found labels) (jump next ∷ (code ++ (jump out ∷ others))) 0 0 0 (labels_lift c site free found labels)
         (jumps_more next _ (lifted_more c 0 1500 code (jump out ∷ others) 0 0 0 (statement_lifts s (free + 1) found n suits.1 fits) (jumps_more out others (lift next))))
 
-    branches_lift : (bs : Branches) (free place n : ℕ) → SuitsBranches rs site.names inside bs → BranchesFit bs n → Level c (branches_code site free bs place)
+    pub branches_lift : (bs : Branches) (free place n : ℕ) → SuitsBranches rs site.names inside bs → BranchesFit bs n → Level c (branches_code site free bs place)
     branches_lift no_branch free place n suits fits = no_branch_lifts c (place + 3)
     branches_lift (next_branch line b more) free place n suits fits =
         branch_lifts b free (branches_code site free more) place n suits.0 fits.0 (λ m. branches_lift more free m n suits.1 fits.1)
