@@ -30,3 +30,4 @@ pub mod Fitting
 pub mod Fine
 pub mod StatementLifts
 pub mod StatementPlaces
+pub mod Lifts
