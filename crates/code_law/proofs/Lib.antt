@@ -31,3 +31,4 @@ pub mod Fine
 pub mod StatementLifts
 pub mod StatementPlaces
 pub mod Lifts
+pub mod Plain
