@@ -32,3 +32,4 @@ pub mod StatementLifts
 pub mod StatementPlaces
 pub mod Lifts
 pub mod Plain
+pub mod Firsts
