@@ -41,10 +41,6 @@ use Rattle.code_law.proofs.Standing.{Stand}
 use Rattle.code_law.proofs.Requests.{row_is}
 use Rattle.code_law.proofs.Given.{array_count}
 
--- each of these instructions is plain
-abbrev pub ArePlain : CodeLists → ℕ → List Instr → Type 0
-ArePlain c k code = AllByRecursion (IsPlain c k) code
-
 pub plain_more : (c : CodeLists) (k : ℕ) (first rest : List Instr) → AllByRecursion (IsPlain c k) first → AllByRecursion (IsPlain c k) rest
     → AllByRecursion (IsPlain c k) (first ++ rest)
 plain_more c k [] rest one two = two
