@@ -33,3 +33,10 @@ pub mod StatementPlaces
 pub mod Lifts
 pub mod Plain
 pub mod Firsts
+pub mod Numbers
+pub mod Tests
+pub mod Senses
+pub mod PredeclaredSenses
+pub mod Constants
+pub mod Declared
+pub mod Declarations
