@@ -38,6 +38,15 @@ pub record Stands (rs : Routines) (routines : Bool) (outer : List Declared) (wit
   pub later : List Item
   pub behind : items ≡ later ++ first
 
+-- a constant has no words, and is no function
+pub no_function : (v : Option Valued) → is_function (Some (constant_means v)) ≡ false
+no_function None = refl
+no_function (Some v) = refl
+
+pub no_words : (v : Option Valued) → words_of_means (constant_means v) ≡ 0
+no_words None = refl
+no_words (Some v) = refl
+
 module _ (rs : Routines) where
   none_too : (o : Option Means) (p : Option meant.Means) → IsFound rs o p → o ≡ None → p ≡ None
   none_too None None h e = refl
@@ -48,14 +57,6 @@ module _ (rs : Routines) where
   pub constant_sense : (v : Option Valued) (t : meant.Scalar) (w : ℤ) → IsNumber v w → IsMeant rs (Some (constant_means v)) (meant.Constant t w)
   constant_sense None t w h = absurd h
   constant_sense (Some v) t w h = λ a. (h.0, (h.1, h.1))
-
-  pub no_function : (v : Option Valued) → is_function (Some (constant_means v)) ≡ false
-  no_function None = refl
-  no_function (Some v) = refl
-
-  pub no_words : (v : Option Valued) → words_of_means (constant_means v) ≡ 0
-  no_words None = refl
-  no_words (Some v) = refl
 
   pub array_sense : (v w : Option Valued) (t : Scalar) (owner : Owner) (u : meant.Scalar) (low high : ℤ) → IsNumber v low → IsNumber w high
       → IsMeant rs (Some (means.Variable (array_between v w t))) (meant.Array owner u (record { low = low; high = high }))

@@ -40,3 +40,8 @@ pub mod PredeclaredSenses
 pub mod Constants
 pub mod Declared
 pub mod Declarations
+pub mod Parameters
+pub mod Places
+pub mod SuitedExpressions
+pub mod FrameWords
+pub mod SuitedStatements
