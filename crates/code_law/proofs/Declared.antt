@@ -48,7 +48,7 @@ no_words None = refl
 no_words (Some v) = refl
 
 module _ (rs : Routines) where
-  none_too : (o : Option Means) (p : Option meant.Means) → IsFound rs o p → o ≡ None → p ≡ None
+  pub none_too : (o : Option Means) (p : Option meant.Means) → IsFound rs o p → o ≡ None → p ≡ None
   none_too None None h e = refl
   none_too None (Some n) h e = absurd h
   none_too (Some m) None h e = absurd h

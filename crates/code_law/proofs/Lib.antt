@@ -45,3 +45,6 @@ pub mod Places
 pub mod SuitedExpressions
 pub mod FrameWords
 pub mod SuitedStatements
+pub mod Headings
+pub mod SuitedRoutines
+pub mod SuitedPrograms
