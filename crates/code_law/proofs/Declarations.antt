@@ -40,7 +40,8 @@ number_is rs s scope are c words none =
     subst (IsNumber (value_of s c)) (constants_alike scope names (λ x. (0, refl)) c) (constant_is rs s names (λ x. are x 0) c words none)
 
 -- the names of a group are those that the rules see
-pub letters_of : (more : List (ℕ × NameAt)) → map (λ (n : NameAt). n.letters) (map (λ (l : ℕ × NameAt). l.1) more) ≡ map (λ (m : ℕ × NameAt). (m.1).letters) more
+pub letters_of : (more : List (ℕ × NameAt))
+    → map (λ (n : NameAt). n.letters) (map (λ (l : ℕ × NameAt). l.1) more) ≡ map (λ (m : ℕ × NameAt). (m.1).letters) more
 letters_of [] = refl
 letters_of (n ∷ more) = ap (λ (xs : List (List ℕ)). (n.1).letters ∷ xs) (letters_of more)
 
@@ -55,13 +56,16 @@ module _ {rs : Routines} {routines : Bool} {outer : List Declared} {within : Opt
   definition_declared s items d st words none =
       let w = constant_number (scope items) d.value in
       let rule = breaks 1 (is_some (rules.found s.own (d.name).letters)) (d.name).line in
-      let v = number_is rs s (scope items) (scope_is s items st) d.value (words_before (spelled_constant d.value) (symbol_at symbol.Semicolon d.semicolon ∷ []) words.1.1)
+      let v = number_is rs s (scope items) (scope_is s items st) d.value
+      (words_before (spelled_constant d.value) (symbol_at symbol.Semicolon d.semicolon ∷ []) words.1.1)
       (before (judged_constant s d.value) (rule ∷ []) none) in
       one_declared s items (d.name).letters (d.name).line (constant_means (value_of s d.value)) (meant.Constant (constant_scalar (scope items) d.value) w) st
       (parted rule [] (behind (judged_constant s d.value) (rule ∷ []) none)).0
-      (constant_sense rs (value_of s d.value) (constant_scalar (scope items) d.value) w v) (no_words (value_of s d.value)) (λ no. no_function (value_of s d.value))
+      (constant_sense rs (value_of s d.value) (constant_scalar (scope items) d.value) w v) (no_words (value_of s d.value))
+      (λ no. no_function (value_of s d.value))
 
-  definitions_declared : (ds : List Definition) (s : rules.Scope) (items : List Item) → Stands rs routines outer within first s items → AreWords (spelled_definitions ds)
+  definitions_declared : (ds : List Definition) (s : rules.Scope) (items : List Item) → Stands rs routines outer within first s items
+      → AreWords (spelled_definitions ds)
       → first_broken (judged_definitions s ds) ≡ None → Stands rs routines outer within first (behind_definitions s ds) (declared_definitions scope ds items)
   definitions_declared [] s items st words none = st
   definitions_declared (d ∷ more) s items st words none =
@@ -71,7 +75,8 @@ module _ {rs : Routines} {routines : Bool} {outer : List Declared} {within : Opt
       (words_behind (spelled_definition d) (spelled_definitions more) words)
       (behind (judged_definition s d) (judged_definitions (behind_definition s d) more) none)
 
-  pub constants_declared : (c : Option Consts) (s : rules.Scope) (items : List Item) → Stands rs routines outer within first s items → AreWords (spelled_consts c)
+  pub constants_declared : (c : Option Consts) (s : rules.Scope) (items : List Item) → Stands rs routines outer within first s items
+      → AreWords (spelled_consts c)
       → first_broken (judged_consts s c) ≡ None → Stands rs routines outer within first (behind_consts s c) (declared_constants scope c items)
   constants_declared None s items st words none = st
   constants_declared (Some c) s items st words none = definitions_declared (c.first ∷ c.rest) s items st words.1 none
@@ -96,7 +101,8 @@ module _ {rs : Routines} {routines : Bool} {outer : List Declared} {within : Opt
         array_words rs (value_of s a) (value_of s b) t low high one two,
       )
 
-  group_declared : (owner : Owner) (s : rules.Scope) (items : List Item) (g : Group) → Stands rs routines outer within first s items → AreWords (spelled_group g)
+  group_declared : (owner : Owner) (s : rules.Scope) (items : List Item) (g : Group) → Stands rs routines outer within first s items
+      → AreWords (spelled_group g)
       → first_broken (judged_group s g) ≡ None
       → Stands rs routines outer within first (behind_group s g) (declared_names (variable_of owner (scope items) g.kind) (name_list g.names) items)
   group_declared owner s items g st words none =
@@ -112,7 +118,8 @@ module _ {rs : Routines} {routines : Bool} {outer : List Declared} {within : Opt
       (names_declared m n k.0 k.1 (λ no. refl) names s items st
       (before (twice_declared s m names) large (behind (judged_kind s g.kind) (twice_declared s m names ++ large) none)))
 
-  groups_declared : (owner : Owner) (gs : List Group) (s : rules.Scope) (items : List Item) → Stands rs routines outer within first s items → AreWords (spelled_groups gs)
+  groups_declared : (owner : Owner) (gs : List Group) (s : rules.Scope) (items : List Item) → Stands rs routines outer within first s items
+      → AreWords (spelled_groups gs)
       → first_broken (judged_groups s gs) ≡ None → Stands rs routines outer within first (behind_groups s gs) (declared_groups owner scope gs items)
   groups_declared owner [] s items st words none = st
   groups_declared owner (g ∷ more) s items st words none =
@@ -122,7 +129,8 @@ module _ {rs : Routines} {routines : Bool} {outer : List Declared} {within : Opt
       (words_behind (spelled_group g) (spelled_groups more) words)
       (behind (judged_group s g) (judged_groups (behind_group s g) more) none)
 
-  pub variables_declared : (owner : Owner) (v : Option Vars) (s : rules.Scope) (items : List Item) → Stands rs routines outer within first s items → AreWords (spelled_vars v)
+  pub variables_declared : (owner : Owner) (v : Option Vars) (s : rules.Scope) (items : List Item) → Stands rs routines outer within first s items
+      → AreWords (spelled_vars v)
       → first_broken (judged_vars s v) ≡ None → Stands rs routines outer within first (behind_vars s v) (declared_variables owner scope v items)
   variables_declared owner None s items st words none = st
   variables_declared owner (Some v) s items st words none = groups_declared owner (v.first ∷ v.rest) s items st words.1 none

@@ -29,7 +29,8 @@ AreOnce (i ∷ earlier) = (found earlier i.letters ≡ None) × AreOnce earlier
 
 -- What a list of the rules and one of the meaning keep: behind some items first, no name twice, each alike, and where
 -- no routines are declared no function; the outer list and the name of the function stay.
-pub record Stands (rs : Routines) (routines : Bool) (outer : List Declared) (within : Option (List ℕ)) (first : List Item) (s : rules.Scope) (items : List Item) : Type 0 where
+pub record Stands (rs : Routines) (routines : Bool) (outer : List Declared) (within : Option (List ℕ)) (first : List Item) (s : rules.Scope)
+    (items : List Item) : Type 0 where
   pub outer_is : s.outer ≡ outer
   pub within_is : s.within ≡ within
   pub alike : AreAlike rs s.own items
@@ -80,13 +81,18 @@ module _ {rs : Routines} {routines : Bool} {outer : List Declared} {within : Opt
     outer_is = st.outer_is;
     within_is = st.within_is;
     alike = (record { name = refl; is = is; words = words }, st.alike);
-    once = (none_too rs (rules.found s.own x) (found items x) (found_alike rs s.own items x st.alike) (is_none (rules.found s.own x) (unbroken (is_some (rules.found s.own x)) new)), st.once);
+    once = (
+      none_too rs (rules.found s.own x) (found items x) (found_alike rs s.own items x st.alike)
+          (is_none (rules.found s.own x) (unbroken (is_some (rules.found s.own x)) new)),
+      st.once,
+    );
     plain = λ no y. plain_if (bytes_eq y x) m (rules.found s.own y) (plain no) (st.plain no y);
     later = record { letters = x; means = n } ∷ st.later;
     behind = ap (λ (is : List Item). record { letters = x; means = n } ∷ is) st.behind;
   }
     where
-      plain_if : (b : Bool) (m : Means) (o : Option Means) → is_function (Some m) ≡ false → is_function o ≡ false → is_function (if b then Some m else o) ≡ false
+      plain_if : (b : Bool) (m : Means) (o : Option Means) → is_function (Some m) ≡ false → is_function o ≡ false
+          → is_function (if b then Some m else o) ≡ false
       plain_if true m o h i = h
       plain_if false m o h i = i
 
@@ -96,7 +102,8 @@ module _ {rs : Routines} {routines : Bool} {outer : List Declared} {within : Opt
 
   -- ---- Names of one meaning
   pub names_declared : (m : Means) (n : meant.Means) → IsMeant rs (Some m) n → words_of_means m ≡ words_of n → (routines ≡ false → is_function (Some m) ≡ false)
-      → (names : List NameAt) (s : rules.Scope) (items : List Item) → Stands rs routines outer within first s items → first_broken (twice_declared s m names) ≡ None
+      → (names : List NameAt) (s : rules.Scope) (items : List Item) → Stands rs routines outer within first s items
+      → first_broken (twice_declared s m names) ≡ None
       → Stands rs routines outer within first (behind_names s m names) (declared_names n (map (λ x. x.letters) names) items)
   names_declared m n is words plain [] s items st none = st
   names_declared m n is words plain (x ∷ more) s items st none =

@@ -27,7 +27,8 @@ words_alike rs (d ∷ ds) (i ∷ is) are = ap (λ (n : ℕ). n + words_of_list d
 -- ---- Constants have no words
 definition_words : (s : rules.Scope) (d : Definition) → words_of_list (behind_definition s d).own ≡ words_of_list s.own
 definition_words s d =
-    let same : words_of_means (constant_means (value_of s d.value)) + words_of_list s.own ≡ words_of_list s.own = omega (arith, no_words (value_of s d.value)) in
+    let same : words_of_means (constant_means (value_of s d.value)) + words_of_list s.own ≡ words_of_list s.own =
+    omega (arith, no_words (value_of s d.value)) in
     same
 
 definitions_words : (ds : List Definition) (s : rules.Scope) → words_of_list (behind_definitions s ds).own ≡ words_of_list s.own
@@ -45,7 +46,8 @@ kept used each (n ∷ more) fits none =
     let first = tested 7 n.line (nat_lt 16 (used + each)) (too_large 7 16 (used + each) each more) none in
     kept (used + each) each more (ltb-false 16 (used + each) first.0) first.1
 
-group_kept : (s : rules.Scope) (g : ParameterGroup) → frame_words s ≤ 16 → first_broken (judged_parameter_group s g) ≡ None → frame_words (behind_parameter_group s g) ≤ 16
+group_kept : (s : rules.Scope) (g : ParameterGroup) → frame_words s ≤ 16 → first_broken (judged_parameter_group s g) ≡ None
+    → frame_words (behind_parameter_group s g) ≤ 16
 group_kept s g fits none =
     let m = group_means s g in
     let names = all_names g.names in
@@ -55,7 +57,8 @@ group_kept s g fits none =
     let some = behind (judged_type_name s g.kind ∷ large) larger (behind (twice_declared s m names) rest none) in
     subst (λ (n : ℕ). n ≤ 16) (names_words s m names) (kept (frame_words s) (words_of_means m) names fits some)
 
-pub groups_kept : (gs : List ParameterGroup) (s : rules.Scope) → frame_words s ≤ 16 → first_broken (judged_parameter_groups s gs) ≡ None → frame_words (behind_parameter_groups s gs) ≤ 16
+pub groups_kept : (gs : List ParameterGroup) (s : rules.Scope) → frame_words s ≤ 16 → first_broken (judged_parameter_groups s gs) ≡ None
+    → frame_words (behind_parameter_groups s gs) ≤ 16
 groups_kept [] s fits none = fits
 groups_kept (g ∷ more) s fits none =
     groups_kept more (behind_parameter_group s g)

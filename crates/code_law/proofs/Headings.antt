@@ -64,7 +64,8 @@ module _ (rs : Routines) where
       let rest : Judged = breaks 7 (nat_le 254 count) x.line ∷ judged_block (block_scope s r p None) b in
       let new = breaks 1 (is_some (rules.found s.own x.letters)) x.line in
       one_declared s known x.letters x.line (routine_means s r) (meant.Routine k (signature_of known r)) st
-      (parted new rest (behind (judged_parameter_groups (inside s) (all_groups p)) (new ∷ rest) none)).0 (heading_meant s known k r is) refl (λ no. absurd (true≢false no))
+      (parted new rest (behind (judged_parameter_groups (inside s) (all_groups p)) (new ∷ rest) none)).0 (heading_meant s known k r is) refl
+      (λ no. absurd (true≢false no))
   heading_declared s known k count (function l x p c t d b e) st is none =
       let r = function l x p c t d b e in
       let rest : Judged =
@@ -72,10 +73,12 @@ module _ (rs : Routines) where
       ∷ (breaks 7 (nat_le 254 count) x.line ∷ judged_block (block_scope s r p (Some x.letters)) b) in
       let new = breaks 1 (is_some (rules.found s.own x.letters)) x.line in
       one_declared s known x.letters x.line (routine_means s r) (meant.Routine k (signature_of known r)) st
-      (parted new rest (behind (judged_parameter_groups (inside s) (all_groups p)) (new ∷ rest) none)).0 (heading_meant s known k r is) refl (λ no. absurd (true≢false no))
+      (parted new rest (behind (judged_parameter_groups (inside s) (all_groups p)) (new ∷ rest) none)).0 (heading_meant s known k r is) refl
+      (λ no. absurd (true≢false no))
 
 -- all headings of a program
-pub headings_declared : (p : Program) (routines : List Routine) (k count : ℕ) (s : rules.Scope) (known : List Item) → Stands (routines_of p) true [] None [] s known
+pub headings_declared : (p : Program) (routines : List Routine) (k count : ℕ) (s : rules.Scope) (known : List Item)
+    → Stands (routines_of p) true [] None [] s known
     → AreNumbered (all_declared p) k (routines_after k known routines) → first_broken (judged_routines s count routines) ≡ None
     → Stands (routines_of p) true [] None [] (behind_routines s routines) (declared_headings k routines known)
 headings_declared p [] k count s known st n none = st

@@ -23,14 +23,17 @@ use Rattle.code_law.proofs.Senses.{AreWanted}
 use Rattle.code_law.proofs.Declared.{Stands, one_declared}
 use Rattle.code_law.proofs.Declarations.{group_letters}
 
-declared_both : (these more : List Parameter) (items : List Item) → declared_parameters (these ++ more) items ≡ declared_parameters more (declared_parameters these items)
+declared_both : (these more : List Parameter) (items : List Item)
+    → declared_parameters (these ++ more) items ≡ declared_parameters more (declared_parameters these items)
 declared_both [] more items = refl
 declared_both (p ∷ these) more items = declared_both these more _
 
 module _ {rs : Routines} {routines : Bool} {outer : List Declared} {within : Option (List ℕ)} {first : List Item} where
-  names_passed : (v : Option ℕ) (t : Scalar) (u : meant.Scalar) (names : List NameAt) (s : rules.Scope) (items : List Item) → Stands rs routines outer within first s items
+  names_passed : (v : Option ℕ) (t : Scalar) (u : meant.Scalar) (names : List NameAt) (s : rules.Scope) (items : List Item)
+      → Stands rs routines outer within first s items
       → first_broken (twice_declared s (parameter_means v t) names) ≡ None
-      → Stands rs routines outer within first (behind_names s (parameter_means v t) names) (declared_parameters (map (parameter_of v u) (map (λ (n : NameAt). n.letters) names)) items)
+      → Stands rs routines outer within first (behind_names s (parameter_means v t) names)
+      (declared_parameters (map (parameter_of v u) (map (λ (n : NameAt). n.letters) names)) items)
   names_passed None t u [] s items st none = st
   names_passed (Some l) t u [] s items st none = st
   names_passed None t u (x ∷ more) s items st none =
@@ -44,9 +47,11 @@ module _ {rs : Routines} {routines : Bool} {outer : List Declared} {within : Opt
       names_passed (Some l) t u more (declare s x.letters m) (record { letters = x.letters; means = meant.Reference u } ∷ items)
       (one_declared s items x.letters x.line m (meant.Reference u) st p.0 (λ a. tt) refl (λ no. refl)) p.1
 
-  pub groups_passed : (program : List Item) (gs : List (ℕ × ParameterGroup)) (s : rules.Scope) (items : List Item) → Stands rs routines outer within first s items
+  pub groups_passed : (program : List Item) (gs : List (ℕ × ParameterGroup)) (s : rules.Scope) (items : List Item)
+      → Stands rs routines outer within first s items
       → first_broken (judged_parameter_groups s (map (λ (g : ℕ × ParameterGroup). g.1) gs)) ≡ None
-      → Stands rs routines outer within first (behind_parameter_groups s (map (λ (g : ℕ × ParameterGroup). g.1) gs)) (declared_parameters (parameters_after items program gs) items)
+      → Stands rs routines outer within first (behind_parameter_groups s (map (λ (g : ℕ × ParameterGroup). g.1) gs))
+      (declared_parameters (parameters_after items program gs) items)
   groups_passed program [] s items st none = st
   groups_passed program (g ∷ more) s items st none =
       let scope = scope_of items program in
@@ -56,8 +61,10 @@ module _ {rs : Routines} {routines : Bool} {outer : List Declared} {within : Opt
       let names = all_names (g.1).names in
       let t = or_integer (scalar_named s (g.1).kind) in
       let u = meaning.scalar_named (scope ((g.1).kind).letters) in
-      let rest : Judged = judged_type_name s (g.1).kind ∷ (too_large 6 4096 (frame_words s) (words_of_means m) names ++ too_large 7 16 (frame_words s) (words_of_means m) names) in
-      let one = subst (λ (xs : List (List ℕ)). Stands rs routines outer within first (behind_parameter_group s g.1) (declared_parameters (map (parameter_of (g.1).var u) xs) items)) (group_letters (g.1).names)
+      let rest : Judged = judged_type_name s (g.1).kind
+      ∷ (too_large 6 4096 (frame_words s) (words_of_means m) names ++ too_large 7 16 (frame_words s) (words_of_means m) names) in
+      let one = subst (λ (xs : List (List ℕ)). Stands rs routines outer within first (behind_parameter_group s g.1)
+      (declared_parameters (map (parameter_of (g.1).var u) xs) items)) (group_letters (g.1).names)
       (names_passed (g.1).var t u names s items st
       (before (twice_declared s m names) rest (before (judged_parameter_group s g.1) (judged_parameter_groups (behind_parameter_group s g.1) later) none))) in
       subst (λ (is : List Item). Stands rs routines outer within first (behind_parameter_groups (behind_parameter_group s g.1) later) is)
@@ -66,7 +73,8 @@ module _ {rs : Routines} {routines : Bool} {outer : List Declared} {within : Opt
       (behind (judged_parameter_group s g.1) (judged_parameter_groups (behind_parameter_group s g.1) later) none))
 
 -- ---- What parameters want
-both_wanted : (callee : Sense) (ps qs : List wanted.Parameter) (bs cs : List Passing) → AreWanted callee ps bs → AreWanted callee qs cs → AreWanted callee (ps ++ qs) (bs ++ cs)
+both_wanted : (callee : Sense) (ps qs : List wanted.Parameter) (bs cs : List Passing) → AreWanted callee ps bs → AreWanted callee qs cs
+    → AreWanted callee (ps ++ qs) (bs ++ cs)
 both_wanted callee [] qs [] cs h i = i
 both_wanted callee [] qs (b ∷ bs) cs h i = absurd h
 both_wanted callee (p ∷ ps) qs [] cs h i = absurd h
@@ -107,7 +115,8 @@ list_wanted callee takes program None s = tt
 list_wanted callee takes program (Some p) s = groups_wanted callee takes program ((p.opening, p.first) ∷ p.rest) s []
 
 module _ {rs : Routines} {routines : Bool} {outer : List Declared} {within : Option (List ℕ)} where
-  pub list_passed : (program : List Item) (p : Option Parameters) (s : rules.Scope) → Stands rs routines outer within [] s [] → first_broken (judged_parameter_groups s (all_groups p)) ≡ None
+  pub list_passed : (program : List Item) (p : Option Parameters) (s : rules.Scope) → Stands rs routines outer within [] s []
+      → first_broken (judged_parameter_groups s (all_groups p)) ≡ None
       → Stands rs routines outer within [] (behind_parameter_groups s (all_groups p)) (declared_parameters (parameter_list program p) [])
   list_passed program None s st none = st
   list_passed program (Some p) s st none = groups_passed program ((p.opening, p.first) ∷ p.rest) s [] st none

@@ -29,18 +29,22 @@ there (j ∷ more) i earlier h = by (bytes_eq j.letters i.letters) h (there more
     by false g later = later g
 
 -- where no name stands twice, each is itself
-itself : (f : Frame) (more : List Item) (i : Item) (earlier : List Item) → AreOnce (more ++ i ∷ earlier) → sense_among f (more ++ i ∷ earlier) i.letters ≡ Some (sense i.means (place_behind f earlier))
+itself : (f : Frame) (more : List Item) (i : Item) (earlier : List Item) → AreOnce (more ++ i ∷ earlier)
+    → sense_among f (more ++ i ∷ earlier) i.letters ≡ Some (sense i.means (place_behind f earlier))
 itself f [] i earlier once = by (bytes_eq i.letters i.letters) ((bytes_eq-Decides i.letters i.letters).1 refl)
   where
-    by : (b : Bool) → b ≡ true → (if b then Some (sense i.means (place_behind f earlier)) else sense_among f earlier i.letters) ≡ Some (sense i.means (place_behind f earlier))
+    by : (b : Bool) → b ≡ true → (if b then Some (sense i.means (place_behind f earlier)) else sense_among f earlier i.letters)
+        ≡ Some (sense i.means (place_behind f earlier))
     by true e = refl
     by false e = absurd (true≢false (sym e))
 itself f (j ∷ more) i earlier once = by (bytes_eq j.letters i.letters) refl (itself f more i earlier once.1)
   where
     by : (b : Bool) → bytes_eq j.letters i.letters ≡ b
         → sense_among f (more ++ i ∷ earlier) i.letters ≡ Some (sense i.means (place_behind f earlier))
-        → (if b then Some (sense j.means (place_behind f (more ++ i ∷ earlier))) else sense_among f (more ++ i ∷ earlier) i.letters) ≡ Some (sense i.means (place_behind f earlier))
-    by true e later = absurd (there more i earlier (subst (λ (x : List ℕ). found (more ++ i ∷ earlier) x ≡ None) ((bytes_eq-Decides j.letters i.letters).0 e) once.0))
+        → (if b then Some (sense j.means (place_behind f (more ++ i ∷ earlier))) else sense_among f (more ++ i ∷ earlier) i.letters)
+        ≡ Some (sense i.means (place_behind f earlier))
+    by true e later = absurd (there more i earlier
+        (subst (λ (x : List ℕ). found (more ++ i ∷ earlier) x ≡ None) ((bytes_eq-Decides j.letters i.letters).0 e) once.0))
     by false e later = later
 
 -- declarations of parameters stand behind earlier ones
@@ -80,7 +84,8 @@ more_words : (ps : List Parameter) (earlier : List Item) → words_in earlier �
 more_words [] earlier = omega arith
 more_words (p ∷ ps) earlier = omega (arith, more_words ps (item_of p ∷ earlier))
 
-lies_by : (f : Frame) (n : ℕ) (x : List ℕ) (t : Scalar) (b : Bool) → sense_in f x ≡ Some (sense (if b then meant.Reference t else meant.Variable OfRoutine t) n) → Lies f n x (if b then ByVariable else ByValue)
+lies_by : (f : Frame) (n : ℕ) (x : List ℕ) (t : Scalar) (b : Bool)
+    → sense_in f x ≡ Some (sense (if b then meant.Reference t else meant.Variable OfRoutine t) n) → Lies f n x (if b then ByVariable else ByValue)
 lies_by f n x t true h = h
 lies_by f n x t false h = h
 
@@ -92,7 +97,8 @@ before_result f words low = by (nat_lt words f.parameters) refl
     by true e = refl
     by false e = absurd (omega (arith, low, ltb-false words f.parameters e))
 
-pub lie : (f : Frame) (ps : List Parameter) (earlier more : List Item) → f.items ≡ more ++ declared_parameters ps earlier → AreOnce f.items → f.parameters ≡ words_in (declared_parameters ps earlier) → LieFrom f (words_in earlier) ps
+pub lie : (f : Frame) (ps : List Parameter) (earlier more : List Item) → f.items ≡ more ++ declared_parameters ps earlier → AreOnce f.items
+    → f.parameters ≡ words_in (declared_parameters ps earlier) → LieFrom f (words_in earlier) ps
 lie f [] earlier more is once words = words
 lie f (p ∷ ps) earlier more is once words =
     let i = item_of p in

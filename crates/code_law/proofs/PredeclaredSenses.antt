@@ -1,6 +1,6 @@
 -- Names that every program may use, to the rules and to the code.
-use Rattle.std.proofs.Common.{◌≡◌, ℕ, Bool, true, false, List, [], ◌∷◌, ◌++◌, Option, Some, pos, refl, sym, subst, true≢false, ◌∙◌, arith}
-use Rattle.std.specs.Prelude.{bytes_eq, codes, if◌then◌else◌}
+use Rattle.std.proofs.Common.{◌≡◌, ℕ, Bool, true, false, List, [], ◌∷◌, Option, Some, pos, refl, sym, subst, true≢false, ◌∙◌, arith}
+use Rattle.std.specs.Prelude.{drop, bytes_eq, codes, if◌then◌else◌}
 use Rattle.std.proofs.lemmas.Slice.Eq.{bytes_eq-Decides}
 use Rattle.pascal_tree.specs.Scopes as rules
 use Rattle.pascal_tree.specs.Scopes.{Declared, named_as}
@@ -15,7 +15,7 @@ use Rattle.code_law.specs.Suits.{Routines}
 use Rattle.code_law.proofs.Numbers.{held}
 use Rattle.code_law.proofs.Senses.{IsMeant, IsAlike, IsFound, AreAlike, turned, found_before, found_alike}
 
--- from its place on, a list in which only FALSE and TRUE stand the other way round
+-- FALSE and TRUE, which stand the other way round in the meaning
 abbrev false_declared : Declared
 false_declared = named_as (codes "FALSE") (means.Constant scalar.Boolean (pos 0))
 
@@ -28,28 +28,17 @@ false_item = record { letters = codes "FALSE"; means = meant.Constant meant.Bool
 abbrev true_item : Item
 true_item = record { letters = codes "TRUE"; means = meant.Constant meant.Boolean (pos 1) }
 
--- the lists behind their types, and behind FALSE and TRUE
+-- the types before these two, and what stands behind them
 abbrev rule_types : List Declared
 rule_types =
     named_as (codes "INTEGER") (means.TypeName scalar.Integer) ∷ named_as (codes "BOOLEAN") (means.TypeName scalar.Boolean)
     ∷ named_as (codes "CHAR") (means.TypeName scalar.Character) ∷ []
 
-abbrev behind_five : List Declared → List Declared
-behind_five [] = []
-behind_five (a ∷ []) = []
-behind_five (a ∷ b ∷ []) = []
-behind_five (a ∷ b ∷ c ∷ []) = []
-behind_five (a ∷ b ∷ c ∷ d ∷ []) = []
-behind_five (a ∷ b ∷ c ∷ d ∷ e ∷ more) = more
-
 abbrev rule_others : List Declared
-rule_others = behind_five rules.predeclared
+rule_others = drop 5 rules.predeclared
 
 abbrev other_items : List Item
-other_items =
-    record { letters = codes "NL"; means = meant.Constant meant.Char (pos 10) }
-    ∷ (record { letters = codes "EM"; means = meant.Constant meant.Char (pos 25) }
-    ∷ (meaning.predeclared_functions ++ meaning.predeclared_procedures))
+other_items = drop 5 meaning.predeclared
 
 module _ (rs : Routines) where
   false_alike : IsAlike rs false_declared false_item

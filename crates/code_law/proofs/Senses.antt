@@ -87,14 +87,16 @@ turned x y = by (bytes_eq x y) refl (bytes_eq y x) refl
     by false e false f = refl
 
 module _ (rs : Routines) where
-  pub found_if : (b c : Bool) → b ≡ c → (m : Means) (n : meant.Means) → IsMeant rs (Some m) n → (o : Option Means) (p : Option meant.Means) → IsFound rs o p → IsFound rs (if b then Some m else o) (if c then Some n else p)
+  pub found_if : (b c : Bool) → b ≡ c → (m : Means) (n : meant.Means) → IsMeant rs (Some m) n → (o : Option Means) (p : Option meant.Means)
+      → IsFound rs o p → IsFound rs (if b then Some m else o) (if c then Some n else p)
   found_if true true e m n is o p h = is
   found_if false false e m n is o p h = h
   found_if true false e m n is o p h = absurd (true≢false e)
   found_if false true e m n is o p h = absurd (true≢false (sym e))
 
   -- one list is found in before another
-  pub found_before : (ds more : List Declared) (is others : List Item) (x : List ℕ) → AreAlike rs ds is → IsFound rs (rules.found more x) (meaning.found others x) → IsFound rs (rules.found (ds ++ more) x) (meaning.found (is ++ others) x)
+  pub found_before : (ds more : List Declared) (is others : List Item) (x : List ℕ) → AreAlike rs ds is
+      → IsFound rs (rules.found more x) (meaning.found others x) → IsFound rs (rules.found (ds ++ more) x) (meaning.found (is ++ others) x)
   found_before [] more [] others x are h = h
   found_before [] more (i ∷ is) others x are h = absurd are
   found_before (d ∷ ds) more [] others x are h = absurd are
@@ -111,7 +113,8 @@ module _ (rs : Routines) where
       (rules.found ds x) (meaning.found is x) (found_alike ds is x are.1)
 
   -- in the own list, in the program's, before any program
-  pub first_found : (o1 o2 o3 : Option Means) (p1 p2 p3 : Option meant.Means) → IsFound rs o1 p1 → IsFound rs o2 p2 → IsFound rs o3 p3 → IsMeant rs (or_else o1 (or_else o2 o3)) (first_of_three p1 p2 p3)
+  pub first_found : (o1 o2 o3 : Option Means) (p1 p2 p3 : Option meant.Means) → IsFound rs o1 p1 → IsFound rs o2 p2 → IsFound rs o3 p3
+      → IsMeant rs (or_else o1 (or_else o2 o3)) (first_of_three p1 p2 p3)
   first_found (Some m) o2 o3 (Some n) p2 p3 h i j = h
   first_found (Some m) o2 o3 None p2 p3 h i j = absurd h
   first_found None o2 o3 (Some n) p2 p3 h i j = absurd h
@@ -123,7 +126,8 @@ module _ (rs : Routines) where
   first_found None None None None None p3 h i j = λ a. tt
 
   -- the program's own list is the meaning's second
-  pub program_found : (o1 o3 : Option Means) (p1 p3 : Option meant.Means) → IsFound rs o1 p1 → IsFound rs o3 p3 → IsMeant rs (or_else o1 (or_else None o3)) (first_of_three None p1 p3)
+  pub program_found : (o1 o3 : Option Means) (p1 p3 : Option meant.Means) → IsFound rs o1 p1 → IsFound rs o3 p3
+      → IsMeant rs (or_else o1 (or_else None o3)) (first_of_three None p1 p3)
   program_found (Some m) o3 (Some n) p3 h j = h
   program_found (Some m) o3 None p3 h j = absurd h
   program_found None o3 (Some n) p3 h j = absurd h

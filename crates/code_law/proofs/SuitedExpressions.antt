@@ -102,7 +102,8 @@ module _ (rs : Routines) where
   name_loads (Some (means.Reference t)) n l is h = scalar_loads n is
   name_loads (Some (means.Procedure ps)) n l is h = never h
   name_loads (Some (means.Function [] t)) n l is h = function_loads n is.0 is.1
-  name_loads (Some (means.Function (p ∷ ps) t)) n l is h = absurd (omega (arith, eqb-true (length (p ∷ ps)) 0 (is_so (length (p ∷ ps) == 0) (tested 12 l (not (length (p ∷ ps) == 0)) [] h).0)))
+  name_loads (Some (means.Function (p ∷ ps) t)) n l is h =
+      absurd (omega (arith, eqb-true (length (p ∷ ps)) 0 (is_so (length (p ∷ ps) == 0) (tested 12 l (not (length (p ∷ ps) == 0)) [] h).0)))
   name_loads (Some (means.TypeName t)) n l is h = never h
 
   name_indexes : (m : Option Means) (n : Sense) (t : Option Scalar) (l : ℕ) → IsNamed rs m n
@@ -154,10 +155,12 @@ module _ (rs : Routines) where
   -- ---- Nodes
   module _ (s : rules.Scope) (names : List ℕ → Sense) (are : (x : List ℕ) → IsNamed rs (means_of s x) (names x)) where
     -- an argument that is judged as a value is judged as an expression
-    value_judged : (e : Expr) (t : Scalar) → first_broken (judged_as s (Some (parameter.Value t)) (plain_name e) (judged_expr s e)) ≡ None → first_broken (judged_expr s e) ≡ None
+    value_judged : (e : Expr) (t : Scalar) → first_broken (judged_as s (Some (parameter.Value t)) (plain_name e) (judged_expr s e)) ≡ None
+        → first_broken (judged_expr s e) ≡ None
     value_judged e t h = by (plain_name e) (plain s e) h
       where
-        by : (o : Option NameAt) → IsPlain s e o → first_broken (judged_as s (Some (parameter.Value t)) o (judged_expr s e)) ≡ None → first_broken (judged_expr s e) ≡ None
+        by : (o : Option NameAt) → IsPlain s e o → first_broken (judged_as s (Some (parameter.Value t)) o (judged_expr s e)) ≡ None
+            → first_broken (judged_expr s e) ≡ None
         by None p g = g
         by (Some x) p g = ap first_broken p.1 ∙ g
 
@@ -219,16 +222,19 @@ module _ (rs : Routines) where
       term_suits : (t : Term) → AreWords (spelled_term t) → first_broken (judged_term s t) ≡ None → SuitsTerm rs names t
       term_suits (term f more) words none =
           let rest = judged_multiplying s (factor_type s f) more in (
-            factor_suits f (words_before (spelled_factor f) (spelled_multipliers more) words) (before (judged_factor s f) (judged_multipliers s more ++ rest) none),
+            factor_suits f (words_before (spelled_factor f) (spelled_multipliers more) words)
+                (before (judged_factor s f) (judged_multipliers s more ++ rest) none),
             multipliers_suit more (words_behind (spelled_factor f) (spelled_multipliers more) words)
                 (before (judged_multipliers s more) rest (behind (judged_factor s f) (judged_multipliers s more ++ rest) none)),
           )
 
-      multipliers_suit : (more : Multipliers) → AreWords (spelled_multipliers more) → first_broken (judged_multipliers s more) ≡ None → SuitsMultipliers rs names more
+      multipliers_suit : (more : Multipliers) → AreWords (spelled_multipliers more) → first_broken (judged_multipliers s more) ≡ None
+          → SuitsMultipliers rs names more
       multipliers_suit no_multiplier words none = tt
       multipliers_suit (multiplier m l f more) words none = (
         factor_suits f (words_before (spelled_factor f) (spelled_multipliers more) words.1) (before (judged_factor s f) (judged_multipliers s more) none),
-        multipliers_suit more (words_behind (spelled_factor f) (spelled_multipliers more) words.1) (behind (judged_factor s f) (judged_multipliers s more) none),
+        multipliers_suit more (words_behind (spelled_factor f) (spelled_multipliers more) words.1)
+            (behind (judged_factor s f) (judged_multipliers s more) none),
       )
 
       factor_suits : (f : Factor) → AreWords (spelled_factor f) → first_broken (judged_factor s f) ≡ None → SuitsFactor rs names f
@@ -236,7 +242,8 @@ module _ (rs : Routines) where
       factor_suits (character c) words none = omega (arith, words.0)
       factor_suits (named x) words none = name_loads (means_of s x.letters) (names x.letters) x.line (are x.letters) none
       factor_suits (element x i) words none = (
-        name_indexes (means_of s x.letters) (names x.letters) (index_type s i) x.line (are x.letters) (behind (judged_index s i) (judged_element_of s x (index_type s i)) none),
+        name_indexes (means_of s x.letters) (names x.letters) (index_type s i) x.line (are x.letters)
+            (behind (judged_index s i) (judged_element_of s x (index_type s i)) none),
         index_suits i words.1 (before (judged_index s i) (judged_element_of s x (index_type s i)) none),
       )
       factor_suits (called x a) words none =
@@ -276,7 +283,8 @@ module _ (rs : Routines) where
       exprs_suit callee (next_expr l e more) (p ∷ ps) (b ∷ bs) wanted words none suit count =
           let first = judged_as s (Some p) (plain_name e) (judged_expr s e) in
           let both = both_so (suits s e p) (all_suit s more ps) suit in (
-            can_pass callee p b e wanted.0 both.0 (before first (judged_exprs s more ps) none) (expr_suits e (words_before (spelled_expr e) (spelled_exprs more) words.1)),
+            can_pass callee p b e wanted.0 both.0 (before first (judged_exprs s more ps) none)
+                (expr_suits e (words_before (spelled_expr e) (spelled_exprs more) words.1)),
             exprs_suit callee more ps bs wanted.1 (words_behind (spelled_expr e) (spelled_exprs more) words.1)
                 (behind first (judged_exprs s more ps) none) both.1 (omega (arith, count)),
           )

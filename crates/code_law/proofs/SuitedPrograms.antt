@@ -81,9 +81,11 @@ module _ (p : Program) (words : AreWords (spelled p)) (none : first_broken (judg
   -- ---- Declarations
   scope_is : (t : rules.Scope) (is : List Item) → Stands rs true [] None [] t is → AreMeant rs t (scope is)
   scope_is t is st x =
-      subst (λ (o : List rules.Declared). IsMeant rs (or_else (rules.found t.own x) (or_else (rules.found o x) (rules.found rules.predeclared x))) (first_of_three None (found is x) (found meaning.predeclared x)))
+      subst (λ (o : List rules.Declared). IsMeant rs (or_else (rules.found t.own x) (or_else (rules.found o x) (rules.found rules.predeclared x)))
+      (first_of_three None (found is x) (found meaning.predeclared x)))
       (sym st.outer_is)
-      (program_found rs (rules.found t.own x) (rules.found rules.predeclared x) (found is x) (found meaning.predeclared x) (found_alike rs t.own is x st.alike) (predeclared_found rs x))
+      (program_found rs (rules.found t.own x) (rules.found rules.predeclared x) (found is x) (found meaning.predeclared x)
+      (found_alike rs t.own is x st.alike) (predeclared_found rs x))
 
   constants : Stands rs true [] None [] second (declared_constants scope p.consts [])
   constants = constants_declared scope scope_is p.consts empty_scope []
@@ -104,7 +106,8 @@ module _ (p : Program) (words : AreWords (spelled p)) (none : first_broken (judg
   }
 
   headings : Stands rs true [] None [] last items
-  headings = headings_declared p p.routines 1 0 third (global_items p) variables numbered (before (judged_routines third 0 p.routines) (judged_body last p.body) routines_none)
+  headings = headings_declared p p.routines 1 0 third (global_items p) variables numbered
+      (before (judged_routines third 0 p.routines) (judged_body last p.body) routines_none)
 
   -- ---- The program itself
   abbrev names : List ℕ → Sense

@@ -40,7 +40,8 @@ use Rattle.code_law.proofs.SuitedStatements.{body_suits}
 use Rattle.code_law.proofs.Headings.{AreNumbered, next_numbered, this_routine, heading_declared}
 
 -- a function is in no list without routines
-not_own : (rs : Routines) (o : Option Means) (p : Option meant.Means) (others : Option Means) → IsFound rs o p → is_function o ≡ false → is_function (or_else o others) ≡ true → p ≡ None
+not_own : (rs : Routines) (o : Option Means) (p : Option meant.Means) (others : Option Means) → IsFound rs o p → is_function o ≡ false
+    → is_function (or_else o others) ≡ true → p ≡ None
 not_own rs None None others h plain is = refl
 not_own rs None (Some n) others h plain is = absurd h
 not_own rs (Some m) None others h plain is = absurd h
@@ -57,7 +58,8 @@ module _ (p : Program) (s : rules.Scope) (known : List Item) (program_stands : S
   block_suited : (ps : Option Parameters) → first_broken (judged_parameter_groups (inside s) (all_groups ps)) ≡ None
       → (answer : Option meant.Scalar) (within : Option (List ℕ)) → rules.result_words within ≡ code.result_words answer
       → (k : ℕ) (own : Signature) → ((x : List ℕ) → is_within within x ≡ true → (found these x ≡ Some (meant.Routine k own)) × (is_some answer ≡ true))
-      → (b : Block) → AreWords (spelled_block b) → first_broken (judged_block (record { own = (behind_parameters s ps).own; outer = outer; within = within }) b) ≡ None
+      → (b : Block) → AreWords (spelled_block b)
+      → first_broken (judged_block (record { own = (behind_parameters s ps).own; outer = outer; within = within }) b) ≡ None
       → IsSuited p (framed_routine these (record { parameters = parameter_list known ps; answer = answer }) b)
   block_suited ps fit answer within result k own set b words none = record {
     suits = body_suits rs last names are (is_some answer) stores b.body
@@ -109,7 +111,8 @@ module _ (p : Program) (s : rules.Scope) (known : List Item) (program_stands : S
 
       scope_is : (t : rules.Scope) (is : List Item) → Stands rs false outer within first t is → AreMeant rs t (scope is)
       scope_is t is st x =
-          first_found rs (rules.found t.own x) (rules.found t.outer x) (rules.found rules.predeclared x) (found is x) (found these x) (found meaning.predeclared x)
+          first_found rs (rules.found t.own x) (rules.found t.outer x) (rules.found rules.predeclared x) (found is x) (found these x)
+          (found meaning.predeclared x)
           (found_alike rs t.own is x st.alike)
           (subst (λ (o : List rules.Declared). IsFound rs (rules.found o x) (found these x)) (sym st.outer_is) (found_alike rs outer these x alike))
           (predeclared_found rs x)
@@ -155,7 +158,8 @@ routine_suited p s known k count (procedure l x ps c b e) st next words none =
     let new = breaks 1 (is_some (rules.found s.own x.letters)) x.line in
     let seven = breaks 7 (nat_le 254 count) x.line in
     let groups = judged_parameter_groups (inside s) (all_groups ps) in
-    block_suited p s known st (behind_heading s r).own (heading_item k known r ∷ known) next.alike ps (before groups (new ∷ (seven ∷ block)) none) None None refl
+    block_suited p s known st (behind_heading s r).own (heading_item k known r ∷ known) next.alike ps (before groups (new ∷ (seven ∷ block)) none) None
+    None refl
     k (signature_of known r) (λ y h. not_so h) b
     (words_before (spelled_block b) _ (words_behind (spelled_parameters ps) _ words.1.1).1)
     (behind (new ∷ (seven ∷ [])) block (behind groups (new ∷ (seven ∷ block)) none))
@@ -167,14 +171,17 @@ routine_suited p s known k count (function l x ps c t d b e) st next words none 
     let seven = breaks 7 (nat_le 254 count) x.line in
     let groups = judged_parameter_groups (inside s) (all_groups ps) in
     let own = signature_of known r in
-    block_suited p s known st (behind_heading s r).own (heading_item k known r ∷ known) next.alike ps (before groups (new ∷ (type ∷ (seven ∷ block))) none) own.answer (Some x.letters) refl
+    block_suited p s known st (behind_heading s r).own (heading_item k known r ∷ known) next.alike ps
+    (before groups (new ∷ (type ∷ (seven ∷ block))) none) own.answer (Some x.letters) refl
     k own (λ y h. (ap (λ (same : Bool). if same then Some (meant.Routine k own) else found known y) h, refl)) b
     (words_before (spelled_block b) _ (words_behind (spelled_parameters ps) _ words.1.1).1.1.1)
     (behind (new ∷ (type ∷ (seven ∷ []))) block (behind groups (new ∷ (type ∷ (seven ∷ block))) none))
 
 -- all routines of a program
-pub routines_suited : (p : Program) (routines : List Routine) (k count : ℕ) (s : rules.Scope) (known : List Item) → Stands (routines_of p) true [] None [] s known
-    → AreNumbered (all_declared p) k (routines_after k known routines) → AreWords (spelled_routines routines) → first_broken (judged_routines s count routines) ≡ None
+pub routines_suited : (p : Program) (routines : List Routine) (k count : ℕ) (s : rules.Scope) (known : List Item)
+    → Stands (routines_of p) true [] None [] s known
+    → AreNumbered (all_declared p) k (routines_after k known routines) → AreWords (spelled_routines routines)
+    → first_broken (judged_routines s count routines) ≡ None
     → (j : ℕ) (f : Framed) → slice_get (framed_after k known routines) j ≡ Some f → IsSuited p f
 routines_suited p [] k count s known st n words none j f found = absurd (none-some f found)
 routines_suited p (r ∷ more) k count s known st n words none zero f found =

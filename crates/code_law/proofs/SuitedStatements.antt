@@ -102,27 +102,35 @@ module _ (rs : Routines) where
   -- ---- Nodes
   module _ (s : rules.Scope) (names : List ℕ → Sense) (are : (x : List ℕ) → IsNamed rs (means_of s x) (names x)) (inside : Bool)
       (own : (x : List ℕ) → is_function (means_of s x) ≡ true → is_within s.within x ≡ true → CanStore inside (names x)) where
-    label_held : (t : Option Scalar) (earlier : List ℤ) (c : Constant) → AreWords (spelled_constant c) → first_broken (judged_label s t earlier c) ≡ None → IsHeld (constant_value names c)
+    label_held : (t : Option Scalar) (earlier : List ℤ) (c : Constant) → AreWords (spelled_constant c) → first_broken (judged_label s t earlier c) ≡ None
+        → IsHeld (constant_value names c)
     label_held t earlier c words none =
         let rest : Judged = breaks 15 (not (is_valued_as (value_of s c) t) || is_among (value_of s c) earlier) (first_line_of_constant c) ∷ [] in
         held_number (value_of s c) (constant_value names c) (constant_is rs s names are c words (before (judged_constant s c) rest none))
 
-    more_held : (t : Option Scalar) (earlier : List ℤ) (more : List (ℕ × Constant)) → AreWords (spelled_more_labels more) → first_broken (judged_more_labels s t earlier more) ≡ None → AreHeld rs names more
+    more_held : (t : Option Scalar) (earlier : List ℤ) (more : List (ℕ × Constant)) → AreWords (spelled_more_labels more)
+        → first_broken (judged_more_labels s t earlier more) ≡ None → AreHeld rs names more
     more_held t earlier [] words none = tt
     more_held t earlier (l ∷ more) words none =
         let next = with_value (value_of s l.1) earlier in (
-          label_held t earlier l.1 (words_before (spelled_constant l.1) (spelled_more_labels more) words.1) (before (judged_label s t earlier l.1) (judged_more_labels s t next more) none),
-          more_held t next more (words_behind (spelled_constant l.1) (spelled_more_labels more) words.1) (behind (judged_label s t earlier l.1) (judged_more_labels s t next more) none),
+          label_held t earlier l.1 (words_before (spelled_constant l.1) (spelled_more_labels more) words.1)
+              (before (judged_label s t earlier l.1) (judged_more_labels s t next more) none),
+          more_held t next more (words_behind (spelled_constant l.1) (spelled_more_labels more) words.1)
+              (behind (judged_label s t earlier l.1) (judged_more_labels s t next more) none),
         )
 
-    labels_suit : (t : Option Scalar) (earlier : List ℤ) (l : Labels) → AreWords (spelled_labels l) → first_broken (judged_labels s t earlier l) ≡ None → SuitsLabels rs names l
+    labels_suit : (t : Option Scalar) (earlier : List ℤ) (l : Labels) → AreWords (spelled_labels l) → first_broken (judged_labels s t earlier l) ≡ None
+        → SuitsLabels rs names l
     labels_suit t earlier l words none =
         let next = with_value (value_of s l.first) earlier in (
-          label_held t earlier l.first (words_before (spelled_constant l.first) (spelled_more_labels l.rest) words) (before (judged_label s t earlier l.first) (judged_more_labels s t next l.rest) none),
-          more_held t next l.rest (words_behind (spelled_constant l.first) (spelled_more_labels l.rest) words) (behind (judged_label s t earlier l.first) (judged_more_labels s t next l.rest) none),
+          label_held t earlier l.first (words_before (spelled_constant l.first) (spelled_more_labels l.rest) words)
+              (before (judged_label s t earlier l.first) (judged_more_labels s t next l.rest) none),
+          more_held t next l.rest (words_behind (spelled_constant l.first) (spelled_more_labels l.rest) words)
+              (behind (judged_label s t earlier l.first) (judged_more_labels s t next l.rest) none),
         )
 
-    call_suits : (x : NameAt) (a : Option Arguments) → AreWords (spelled_statement (call x a)) → first_broken (judged_statement s (call x a)) ≡ None → SuitsCall rs names x a
+    call_suits : (x : NameAt) (a : Option Arguments) → AreWords (spelled_statement (call x a)) → first_broken (judged_statement s (call x a)) ≡ None
+        → SuitsCall rs names x a
     call_suits x None words none =
         let m = means_of s x.letters in
         let c = name_runs m (names x.letters) 0 (are x.letters) (procedure_called m x.line 0 true none).1 in
@@ -133,21 +141,26 @@ module _ (rs : Routines) where
         let suit = arguments_suit s a ps in
         let node = judged_call s x (count_arguments a) suit in
         let h = procedure_called m x.line (count_arguments a) suit (behind (judged_arguments s a ps) node none) in
-        let c = name_runs m (names x.letters) (count_arguments a) (are x.letters) h.1 in
-        (c.0, arguments_suits rs s names are (names x.letters) a ps (passing_of (names x.letters)) c.1.0 words.1 (before (judged_arguments s a ps) node none) h.0 c.1.1)
+        let c = name_runs m (names x.letters) (count_arguments a) (are x.letters) h.1 in (
+          c.0,
+          arguments_suits rs s names are (names x.letters) a ps (passing_of (names x.letters)) c.1.0 words.1
+              (before (judged_arguments s a ps) node none) h.0 c.1.1,
+        )
 
     mutual
       statement_suits : (t : Statement) → AreWords (spelled_statement t) → first_broken (judged_statement s t) ≡ None → SuitsStatement rs names inside t
       statement_suits empty words none = tt
       statement_suits (assign x None b e) words none =
           let node = judged_target s x (expr_type s e) b in (
-            name_stores inside (means_of s x.letters) (names x.letters) (is_within s.within x.letters) (expr_type s e) x.line b (are x.letters) (own x.letters) (behind (judged_expr s e) node none),
+            name_stores inside (means_of s x.letters) (names x.letters) (is_within s.within x.letters) (expr_type s e) x.line b (are x.letters)
+                (own x.letters) (behind (judged_expr s e) node none),
             expr_suits rs s names are e words.1.1 (before (judged_expr s e) node none),
           )
       statement_suits (assign x (Some i) b e) words none =
           let node = judged_element s x i (expr_type s e) b in
           let later = behind (judged_index s i) (judged_expr s e ++ node) none in (
-            name_sets (means_of s x.letters) (names x.letters) (may_be_set s x) (expr_type s e) (index_type s i) x.line b (are x.letters) (behind (judged_expr s e) node later),
+            name_sets (means_of s x.letters) (names x.letters) (may_be_set s x) (expr_type s e) (index_type s i) x.line b (are x.letters)
+                (behind (judged_expr s e) node later),
             index_suits rs s names are i (words_before (spelled_index i) _ words.1) (before (judged_index s i) (judged_expr s e ++ node) none),
             expr_suits rs s names are e (words_behind (spelled_index i) _ words.1).1 (before (judged_expr s e) node later),
           )
@@ -156,24 +169,29 @@ module _ (rs : Routines) where
       statement_suits (if_then l e k t) words none =
           let node : Judged = breaks 9 (not (is_scalar (expr_type s e) scalar.Boolean)) l ∷ [] in (
             expr_suits rs s names are e (words_before (spelled_expr e) _ words.1) (before (judged_expr s e) (judged_statement s t ++ node) none),
-            statement_suits t (words_behind (spelled_expr e) _ words.1).1 (before (judged_statement s t) node (behind (judged_expr s e) (judged_statement s t ++ node) none)),
+            statement_suits t (words_behind (spelled_expr e) _ words.1).1
+                (before (judged_statement s t) node (behind (judged_expr s e) (judged_statement s t ++ node) none)),
           )
       statement_suits (if_else l e k t o u) words none =
           let node : Judged = breaks 9 (not (is_scalar (expr_type s e) scalar.Boolean)) l ∷ [] in
           let first = behind (judged_expr s e) (judged_statement s t ++ (judged_statement s u ++ node)) none in
           let inner = (words_behind (spelled_expr e) _ words.1).1 in (
-            expr_suits rs s names are e (words_before (spelled_expr e) _ words.1) (before (judged_expr s e) (judged_statement s t ++ (judged_statement s u ++ node)) none),
+            expr_suits rs s names are e (words_before (spelled_expr e) _ words.1)
+                (before (judged_expr s e) (judged_statement s t ++ (judged_statement s u ++ node)) none),
             statement_suits t (words_before (spelled_statement t) _ inner) (before (judged_statement s t) (judged_statement s u ++ node) first),
-            statement_suits u (words_behind (spelled_statement t) _ inner).1 (before (judged_statement s u) node (behind (judged_statement s t) (judged_statement s u ++ node) first)),
+            statement_suits u (words_behind (spelled_statement t) _ inner).1
+                (before (judged_statement s u) node (behind (judged_statement s t) (judged_statement s u ++ node) first)),
           )
       statement_suits (while_do l e k t) words none =
           let node : Judged = breaks 9 (not (is_scalar (expr_type s e) scalar.Boolean)) l ∷ [] in (
             expr_suits rs s names are e (words_before (spelled_expr e) _ words.1) (before (judged_expr s e) (judged_statement s t ++ node) none),
-            statement_suits t (words_behind (spelled_expr e) _ words.1).1 (before (judged_statement s t) node (behind (judged_expr s e) (judged_statement s t ++ node) none)),
+            statement_suits t (words_behind (spelled_expr e) _ words.1).1
+                (before (judged_statement s t) node (behind (judged_expr s e) (judged_statement s t ++ node) none)),
           )
       statement_suits (repeat_until l q k e) words none =
           let node : Judged = breaks 9 (not (is_scalar (expr_type s e) scalar.Boolean)) k ∷ [] in (
-            expr_suits rs s names are e (words_behind (spelled_sequence q) _ words.1).1 (before (judged_expr s e) node (behind (judged_sequence s q) (judged_expr s e ++ node) none)),
+            expr_suits rs s names are e (words_behind (spelled_sequence q) _ words.1).1
+                (before (judged_expr s e) node (behind (judged_sequence s q) (judged_expr s e ++ node) none)),
             sequence_suits q (words_before (spelled_sequence q) _ words.1) (before (judged_sequence s q) (judged_expr s e ++ node) none),
           )
       statement_suits (for_do l x b e w k f d t) words none =
@@ -184,7 +202,8 @@ module _ (rs : Routines) where
           let inner = words.1.1.1 in
           let rest = (words_behind (spelled_expr e) _ inner).1 in (
             name_controls (means_of s x.letters) (names x.letters) bounds x.line l (are x.letters) (behind (judged_statement s t) node second),
-            expr_suits rs s names are e (words_before (spelled_expr e) _ inner) (before (judged_expr s e) (judged_expr s f ++ (judged_statement s t ++ node)) none),
+            expr_suits rs s names are e (words_before (spelled_expr e) _ inner)
+                (before (judged_expr s e) (judged_expr s f ++ (judged_statement s t ++ node)) none),
             expr_suits rs s names are f (words_before (spelled_expr f) _ rest) (before (judged_expr s f) (judged_statement s t ++ node) first),
             statement_suits t (words_behind (spelled_expr f) _ rest).1 (before (judged_statement s t) node second),
           )
@@ -195,7 +214,8 @@ module _ (rs : Routines) where
           let inner = (words_behind (spelled_expr e) _ words.1).1 in (
             expr_suits rs s names are e (words_before (spelled_expr e) _ words.1) (before (judged_expr s e) (judged_branch s u [] b ++ later) none),
             branch_suits u [] b (words_before (spelled_branch b) _ inner) (before (judged_branch s u [] b) later rest),
-            branches_suit u (values_of_branch s [] b) more (words_before (spelled_branches more) _ (words_behind (spelled_branch b) _ inner)) (behind (judged_branch s u [] b) later rest),
+            branches_suit u (values_of_branch s [] b) more (words_before (spelled_branches more) _ (words_behind (spelled_branch b) _ inner))
+                (behind (judged_branch s u [] b) later rest),
           )
 
       pub body_suits : (b : Body) → AreWords (spelled_body b) → first_broken (judged_body s b) ≡ None → SuitsBody rs names inside b
@@ -204,26 +224,34 @@ module _ (rs : Routines) where
       sequence_suits : (q : Sequence) → AreWords (spelled_sequence q) → first_broken (judged_sequence s q) ≡ None → SuitsSequence rs names inside q
       sequence_suits (sequence t more) words none = (
         statement_suits t (words_before (spelled_statement t) (spelled_statements more) words) (before (judged_statement s t) (judged_statements s more) none),
-        statements_suit more (words_behind (spelled_statement t) (spelled_statements more) words) (behind (judged_statement s t) (judged_statements s more) none),
+        statements_suit more (words_behind (spelled_statement t) (spelled_statements more) words)
+            (behind (judged_statement s t) (judged_statements s more) none),
       )
 
-      statements_suit : (more : Statements) → AreWords (spelled_statements more) → first_broken (judged_statements s more) ≡ None → SuitsStatements rs names inside more
+      statements_suit : (more : Statements) → AreWords (spelled_statements more) → first_broken (judged_statements s more) ≡ None
+          → SuitsStatements rs names inside more
       statements_suit no_statement words none = tt
       statements_suit (next_statement l t more) words none = (
-        statement_suits t (words_before (spelled_statement t) (spelled_statements more) words.1) (before (judged_statement s t) (judged_statements s more) none),
-        statements_suit more (words_behind (spelled_statement t) (spelled_statements more) words.1) (behind (judged_statement s t) (judged_statements s more) none),
+        statement_suits t (words_before (spelled_statement t) (spelled_statements more) words.1)
+            (before (judged_statement s t) (judged_statements s more) none),
+        statements_suit more (words_behind (spelled_statement t) (spelled_statements more) words.1)
+            (behind (judged_statement s t) (judged_statements s more) none),
       )
 
-      branch_suits : (u : Option Scalar) (earlier : List ℤ) (b : Branch) → AreWords (spelled_branch b) → first_broken (judged_branch s u earlier b) ≡ None → SuitsBranch rs names inside b
+      branch_suits : (u : Option Scalar) (earlier : List ℤ) (b : Branch) → AreWords (spelled_branch b) → first_broken (judged_branch s u earlier b) ≡ None
+          → SuitsBranch rs names inside b
       branch_suits u earlier (branch labels c t) words none = (
         labels_suit u earlier labels (words_before (spelled_labels labels) _ words) (before (judged_labels s u earlier labels) (judged_statement s t) none),
         statement_suits t (words_behind (spelled_labels labels) _ words).1 (behind (judged_labels s u earlier labels) (judged_statement s t) none),
       )
 
-      branches_suit : (u : Option Scalar) (earlier : List ℤ) (more : Branches) → AreWords (spelled_branches more) → first_broken (judged_branches s u earlier more) ≡ None → SuitsBranches rs names inside more
+      branches_suit : (u : Option Scalar) (earlier : List ℤ) (more : Branches) → AreWords (spelled_branches more)
+          → first_broken (judged_branches s u earlier more) ≡ None → SuitsBranches rs names inside more
       branches_suit u earlier no_branch words none = tt
       branches_suit u earlier (next_branch l b more) words none =
           let next = values_of_branch s earlier b in (
-            branch_suits u earlier b (words_before (spelled_branch b) (spelled_branches more) words.1) (before (judged_branch s u earlier b) (judged_branches s u next more) none),
-            branches_suit u next more (words_behind (spelled_branch b) (spelled_branches more) words.1) (behind (judged_branch s u earlier b) (judged_branches s u next more) none),
+            branch_suits u earlier b (words_before (spelled_branch b) (spelled_branches more) words.1)
+                (before (judged_branch s u earlier b) (judged_branches s u next more) none),
+            branches_suit u next more (words_behind (spelled_branch b) (spelled_branches more) words.1)
+                (behind (judged_branch s u earlier b) (judged_branches s u next more) none),
           )

@@ -4,4 +4,6 @@
 
 mod laws;
 
-pub use laws::compiled_code_does_what_its_source_means;
+pub use laws::{
+    a_program_that_breaks_no_rule_suits_its_code, compiled_code_does_what_its_source_means,
+};
