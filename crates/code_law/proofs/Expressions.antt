@@ -1,8 +1,6 @@
 -- The code of an expression gives its value.
 use Rattle.std.proofs.Common.{◌≡◌, ℕ, zero, suc, ◌+◌, ◌≤◌, Bool, true, false, not, Some, None, Option, List, [], ◌∷◌, ◌++◌, length, map, ℤ, pos, ◌+ℤ◌, refl, sym, ◌∙◌, ap, subst, arith}
 use Rattle.std.specs.Prelude.{slice_get, unsigned_abs}
-use Rattle.std.proofs.lemmas.Int.{to_z-of_z, fits_signed_from_abs}
-use Rattle.std.specs.Int.{w16, cast_signed}
 use Rattle.solo_base.specs.declared.system_call.SysReply.{SysReply}
 use Rattle.solo_base.specs.Arithmetic.{fit, truth, holds}
 use Rattle.stack_code.specs.declared.table.Op.TheVariants as op
@@ -43,15 +41,13 @@ use Rattle.code_law.specs.Suits.{Routines, IsRoutineOf, CanLoad, CanIndex, CanCa
 use Rattle.code_law.proofs.Standing.{Stand, parted}
 use Rattle.code_law.proofs.Here.{Fixed, own_number, state_at, Here, After, after, so}
 use Rattle.code_law.proofs.Steps.{number_pushed, operated, code_tested}
+use Rattle.code_law.proofs.Numbers.{held}
 use Rattle.code_law.proofs.Indexes.{Inside}
 use Rattle.code_law.proofs.Elements.{Indexed, indexed, element_loaded}
 use Rattle.code_law.proofs.Opening.{on_top}
 use Rattle.code_law.proofs.Variables.{variable_loaded, parameter_loaded}
 use Rattle.code_law.proofs.Given.{OneGiven, one_given, IsGiven, AreGiven, joined, top_of_both, routine_words, routine_suits, row_given}
 use Rattle.code_law.proofs.Rows.{result_on, row_runs}
-
-held : (n : ℕ) → n ≤ 32767 → cast_signed w16 (code.operand (pos n)) ≡ pos n
-held n low = to_z-of_z w16 (pos n) (fits_signed_from_abs w16 (pos n) (omega (arith, low)))
 
 -- what calls of routines do, in the activation that is fixed so
 abbrev pub CallsRun : CodeLists → ℕ → List SysReply → Fixed → Routines → (ℕ → List Given → Part ℤ) → Type 0

@@ -41,14 +41,14 @@ module _ (p : Program) (words : AreWords (spelled p)) (none : first_broken (judg
   abbrev rs : Routines
   rs = routines_of p
 
-  abbrev second : rules.Scope
-  second = behind_consts empty_scope p.consts
+  abbrev constants_scope : rules.Scope
+  constants_scope = behind_consts empty_scope p.consts
 
-  abbrev third : rules.Scope
-  third = behind_vars second p.vars
+  abbrev variables_scope : rules.Scope
+  variables_scope = behind_vars constants_scope p.vars
 
-  abbrev last : rules.Scope
-  last = behind_routines third p.routines
+  abbrev headings_scope : rules.Scope
+  headings_scope = behind_routines variables_scope p.routines
 
   abbrev items : List Item
   items = declared_headings 1 p.routines (global_items p)
@@ -72,11 +72,12 @@ module _ (p : Program) (words : AreWords (spelled p)) (none : first_broken (judg
   body_words : AreWords (spelled_body p.body)
   body_words = words_before (spelled_body p.body) _ (words_behind (spelled_routines p.routines) _ routines_words)
 
-  vars_none : first_broken (judged_vars second p.vars ++ (judged_routines third 0 p.routines ++ judged_body last p.body)) ≡ None
-  vars_none = behind (judged_consts empty_scope p.consts) (judged_vars second p.vars ++ (judged_routines third 0 p.routines ++ judged_body last p.body)) none
+  vars_none : first_broken (judged_vars constants_scope p.vars ++ (judged_routines variables_scope 0 p.routines ++ judged_body headings_scope p.body)) ≡ None
+  vars_none = behind (judged_consts empty_scope p.consts)
+      (judged_vars constants_scope p.vars ++ (judged_routines variables_scope 0 p.routines ++ judged_body headings_scope p.body)) none
 
-  routines_none : first_broken (judged_routines third 0 p.routines ++ judged_body last p.body) ≡ None
-  routines_none = behind (judged_vars second p.vars) (judged_routines third 0 p.routines ++ judged_body last p.body) vars_none
+  routines_none : first_broken (judged_routines variables_scope 0 p.routines ++ judged_body headings_scope p.body) ≡ None
+  routines_none = behind (judged_vars constants_scope p.vars) (judged_routines variables_scope 0 p.routines ++ judged_body headings_scope p.body) vars_none
 
   -- ---- Declarations
   scope_is : (t : rules.Scope) (is : List Item) → Stands rs true [] None [] t is → AreMeant rs t (scope is)
@@ -87,16 +88,17 @@ module _ (p : Program) (words : AreWords (spelled p)) (none : first_broken (judg
       (program_found rs (rules.found t.own x) (rules.found rules.predeclared x) (found is x) (found meaning.predeclared x)
       (found_alike rs t.own is x st.alike) (predeclared_found rs x))
 
-  constants : Stands rs true [] None [] second (declared_constants scope p.consts [])
+  constants : Stands rs true [] None [] constants_scope (declared_constants scope p.consts [])
   constants = constants_declared scope scope_is p.consts empty_scope []
       (record { outer_is = refl; within_is = refl; alike = tt; once = tt; plain = λ no x. refl; later = []; behind = refl })
       (words_before (spelled_consts p.consts) _ consts_words)
-      (before (judged_consts empty_scope p.consts) (judged_vars second p.vars ++ (judged_routines third 0 p.routines ++ judged_body last p.body)) none)
+      (before (judged_consts empty_scope p.consts)
+      (judged_vars constants_scope p.vars ++ (judged_routines variables_scope 0 p.routines ++ judged_body headings_scope p.body)) none)
 
-  variables : Stands rs true [] None [] third (global_items p)
-  variables = variables_declared scope scope_is OfProgram p.vars second (declared_constants scope p.consts []) constants
+  variables : Stands rs true [] None [] variables_scope (global_items p)
+  variables = variables_declared scope scope_is OfProgram p.vars constants_scope (declared_constants scope p.consts []) constants
       (words_before (spelled_vars p.vars) _ vars_words)
-      (before (judged_vars second p.vars) (judged_routines third 0 p.routines ++ judged_body last p.body) vars_none)
+      (before (judged_vars constants_scope p.vars) (judged_routines variables_scope 0 p.routines ++ judged_body headings_scope p.body) vars_none)
 
   numbered : AreNumbered (all_declared p) 1 (routines_after 1 (global_items p) p.routines)
   numbered = record {
@@ -105,46 +107,48 @@ module _ (p : Program) (words : AreWords (spelled p)) (none : first_broken (judg
     count = omega arith;
   }
 
-  headings : Stands rs true [] None [] last items
-  headings = headings_declared p p.routines 1 0 third (global_items p) variables numbered
-      (before (judged_routines third 0 p.routines) (judged_body last p.body) routines_none)
+  headings : Stands rs true [] None [] headings_scope items
+  headings = headings_declared p p.routines 1 0 variables_scope (global_items p) variables numbered
+      (before (judged_routines variables_scope 0 p.routines) (judged_body headings_scope p.body) routines_none)
 
   -- ---- The program itself
   abbrev names : List ℕ → Sense
   names = names_in (plain_frame []) (plain_frame items)
 
-  are : (x : List ℕ) → IsNamed rs (means_of last x) (names x)
+  are : (x : List ℕ) → IsNamed rs (means_of headings_scope x) (names x)
   are x =
       let n = names_are_senses (plain_frame []) (plain_frame items) x in
-      subst (IsNamed rs (means_of last x)) (sym n.1) (scope_is last items headings x n.0)
+      subst (IsNamed rs (means_of headings_scope x)) (sym n.1) (scope_is headings_scope items headings x n.0)
 
-  stores : (x : List ℕ) → is_function (means_of last x) ≡ true → is_within last.within x ≡ true → CanStore false (names x)
-  stores x is inside = not_so (subst (λ (w : Option (List ℕ)). is_within w x ≡ true) headings.within_is inside)
+  stores : (x : List ℕ) → is_function (means_of headings_scope x) ≡ true → is_within headings_scope.within x ≡ true → CanStore false (names x)
+  stores x is own_name = not_so (subst (λ (w : Option (List ℕ)). is_within w x ≡ true) headings.within_is own_name)
 
-  room : frame_words second ≤ 4096
-  room =
+  has_room : frame_words constants_scope ≤ 4096
+  has_room =
       let results = ap rules.result_words constants.within_is in
       omega (arith, constants_words p.consts empty_scope, results)
 
   program_suited : IsSuited p (framed_program p)
   program_suited = record {
-    suits = body_suits rs last names are false stores p.body body_words (behind (judged_routines third 0 p.routines) (judged_body last p.body) routines_none);
+    suits = body_suits rs headings_scope names are false stores p.body body_words
+        (behind (judged_routines variables_scope 0 p.routines) (judged_body headings_scope p.body) routines_none);
     lie = refl;
     few =
-        let counted = words_alike rs last.own items headings.alike in
+        let counted = words_alike rs headings_scope.own items headings.alike in
         omega (
           arith,
           counted,
-          headings_words p.routines third,
-          vars_kept second p.vars room (before (judged_vars second p.vars) (judged_routines third 0 p.routines ++ judged_body last p.body) vars_none),
+          headings_words p.routines variables_scope,
+          vars_kept constants_scope p.vars has_room
+              (before (judged_vars constants_scope p.vars) (judged_routines variables_scope 0 p.routines ++ judged_body headings_scope p.body) vars_none),
         );
   }
 
   each_suited : AreSuited p
   each_suited zero f here = subst (IsSuited p) (same_Some (framed_program p) f here) program_suited
   each_suited (suc j) f here =
-      routines_suited p p.routines 1 0 third (global_items p) variables numbered (words_before (spelled_routines p.routines) _ routines_words)
-      (before (judged_routines third 0 p.routines) (judged_body last p.body) routines_none) j f here
+      routines_suited p p.routines 1 0 variables_scope (global_items p) variables numbered (words_before (spelled_routines p.routines) _ routines_words)
+      (before (judged_routines variables_scope 0 p.routines) (judged_body headings_scope p.body) routines_none) j f here
 
 -- the law
 pub suited : (p : Program) → AreWords (spelled p) → broken p ≡ None → AreSuited p

@@ -62,14 +62,20 @@ module _ (p : Program) (s : rules.Scope) (known : List Item) (program_stands : S
       → first_broken (judged_block (record { own = (behind_parameters s ps).own; outer = outer; within = within }) b) ≡ None
       → IsSuited p (framed_routine these (record { parameters = parameter_list known ps; answer = answer }) b)
   block_suited ps fit answer within result k own set b words none = record {
-    suits = body_suits rs last names are (is_some answer) stores b.body
+    suits = body_suits rs variables_scope names are (is_some answer) stores b.body
         (words_behind (spelled_vars b.vars) (spelled_body b.body) (words_behind (spelled_consts b.consts) (spelled_vars b.vars ++ spelled_body b.body) words))
-        (behind (judged_vars second b.vars) (judged_body last b.body) later);
+        (behind (judged_vars constants_scope b.vars) (judged_body variables_scope b.body) later);
     lie = lie frame parameters [] variables.later variables.behind variables.once refl;
     few =
-        let counted = words_alike rs last.own items variables.alike in
+        let counted = words_alike rs variables_scope.own items variables.alike in
         let results = ap rules.result_words variables.within_is ∙ result in
-        omega (arith, counted, results, vars_kept second b.vars room (before (judged_vars second b.vars) (judged_body last b.body) later));
+        omega (
+          arith,
+          counted,
+          results,
+          vars_kept constants_scope b.vars has_room
+              (before (judged_vars constants_scope b.vars) (judged_body variables_scope b.body) later),
+        );
   }
     where
       rs : Routines
@@ -84,14 +90,14 @@ module _ (p : Program) (s : rules.Scope) (known : List Item) (program_stands : S
       scope : List Item → scopes.Scope
       scope = λ is. scope_of is these
 
-      start : rules.Scope
-      start = record { own = (behind_parameters s ps).own; outer = outer; within = within }
+      first_scope : rules.Scope
+      first_scope = record { own = (behind_parameters s ps).own; outer = outer; within = within }
 
-      second : rules.Scope
-      second = behind_consts start b.consts
+      constants_scope : rules.Scope
+      constants_scope = behind_consts first_scope b.consts
 
-      last : rules.Scope
-      last = behind_vars second b.vars
+      variables_scope : rules.Scope
+      variables_scope = behind_vars constants_scope b.vars
 
       items : List Item
       items = own_items these (record { parameters = parameters; answer = answer }) b
@@ -106,7 +112,7 @@ module _ (p : Program) (s : rules.Scope) (known : List Item) (program_stands : S
       passed = list_passed known ps (inside s)
           (record { outer_is = refl; within_is = refl; alike = tt; once = tt; plain = λ no x. refl; later = []; behind = refl }) fit
 
-      begun : Stands rs false outer within first start first
+      begun : Stands rs false outer within first first_scope first
       begun = record { outer_is = refl; within_is = refl; alike = passed.alike; once = passed.once; plain = passed.plain; later = []; behind = refl }
 
       scope_is : (t : rules.Scope) (is : List Item) → Stands rs false outer within first t is → AreMeant rs t (scope is)
@@ -117,36 +123,42 @@ module _ (p : Program) (s : rules.Scope) (known : List Item) (program_stands : S
           (subst (λ (o : List rules.Declared). IsFound rs (rules.found o x) (found these x)) (sym st.outer_is) (found_alike rs outer these x alike))
           (predeclared_found rs x)
 
-      later : first_broken (judged_vars second b.vars ++ judged_body last b.body) ≡ None
-      later = behind (judged_consts start b.consts) (judged_vars second b.vars ++ judged_body last b.body) none
+      later : first_broken (judged_vars constants_scope b.vars ++ judged_body variables_scope b.body) ≡ None
+      later = behind (judged_consts first_scope b.consts) (judged_vars constants_scope b.vars ++ judged_body variables_scope b.body) none
 
-      constants : Stands rs false outer within first second (declared_constants scope b.consts first)
-      constants = constants_declared scope scope_is b.consts start first begun (words_before (spelled_consts b.consts) _ words)
-          (before (judged_consts start b.consts) (judged_vars second b.vars ++ judged_body last b.body) none)
+      constants : Stands rs false outer within first constants_scope (declared_constants scope b.consts first)
+      constants = constants_declared scope scope_is b.consts first_scope first begun (words_before (spelled_consts b.consts) _ words)
+          (before (judged_consts first_scope b.consts) (judged_vars constants_scope b.vars ++ judged_body variables_scope b.body) none)
 
-      variables : Stands rs false outer within first last items
-      variables = variables_declared scope scope_is OfRoutine b.vars second (declared_constants scope b.consts first) constants
+      variables : Stands rs false outer within first variables_scope items
+      variables = variables_declared scope scope_is OfRoutine b.vars constants_scope (declared_constants scope b.consts first) constants
           (words_before (spelled_vars b.vars) (spelled_body b.body) (words_behind (spelled_consts b.consts) (spelled_vars b.vars ++ spelled_body b.body) words))
-          (before (judged_vars second b.vars) (judged_body last b.body) later)
+          (before (judged_vars constants_scope b.vars) (judged_body variables_scope b.body) later)
 
-      are : (x : List ℕ) → IsNamed rs (means_of last x) (names x)
+      are : (x : List ℕ) → IsNamed rs (means_of variables_scope x) (names x)
       are x =
           let n = names_are_senses frame (plain_frame these) x in
-          subst (IsNamed rs (means_of last x)) (sym n.1) (scope_is last items variables x n.0)
+          subst (IsNamed rs (means_of variables_scope x)) (sym n.1) (scope_is variables_scope items variables x n.0)
 
-      stores : (x : List ℕ) → is_function (means_of last x) ≡ true → is_within last.within x ≡ true → CanStore (is_some answer) (names x)
-      stores x is inside =
-          let here = set x (subst (λ (w : Option (List ℕ)). is_within w x ≡ true) variables.within_is inside) in
+      stores : (x : List ℕ) → is_function (means_of variables_scope x) ≡ true → is_within variables_scope.within x ≡ true → CanStore (is_some answer) (names x)
+      stores x is own_name =
+          let here = set x (subst (λ (w : Option (List ℕ)). is_within w x ≡ true) variables.within_is own_name) in
           let n = names_are_senses frame (plain_frame these) x in
-          let none = not_own rs (rules.found last.own x) (found items x) (or_else (rules.found last.outer x) (rules.found rules.predeclared x))
-          (found_alike rs last.own items x variables.alike) (variables.plain refl x) is in
+          let none = not_own rs (rules.found variables_scope.own x) (found items x)
+          (or_else (rules.found variables_scope.outer x) (rules.found rules.predeclared x))
+          (found_alike rs variables_scope.own items x variables.alike) (variables.plain refl x) is in
           let means : scope items x ≡ meant.Routine k own =
           ap (λ (o : Option meant.Means). first_of_three o (found these x) (found meaning.predeclared x)) none
           ∙ ap (λ (o : Option meant.Means). first_of_three None o (found meaning.predeclared x)) here.0 in
           subst (CanStore (is_some answer)) (sym (n.1 ∙ ap (λ (m : meant.Means). sense m n.0) means)) here.1
 
-      room : frame_words second ≤ 4096
-      room = omega (arith, constants_words b.consts start, groups_kept (all_groups ps) (inside s) (omega arith) fit, few_result second.within)
+      has_room : frame_words constants_scope ≤ 4096
+      has_room = omega (
+        arith,
+        constants_words b.consts first_scope,
+        groups_kept (all_groups ps) (inside s) (omega arith) fit,
+        few_result constants_scope.within,
+      )
 
 routine_suited : (p : Program) (s : rules.Scope) (known : List Item) (k count : ℕ) (r : Routine) → Stands (routines_of p) true [] None [] s known
     → Stands (routines_of p) true [] None [] (behind_heading s r) (heading_item k known r ∷ known)
