@@ -48,3 +48,4 @@ pub mod SuitedStatements
 pub mod Headings
 pub mod SuitedRoutines
 pub mod SuitedPrograms
+pub mod Ranges
