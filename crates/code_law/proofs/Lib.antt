@@ -49,3 +49,6 @@ pub mod Headings
 pub mod SuitedRoutines
 pub mod SuitedPrograms
 pub mod Ranges
+pub mod Walks
+pub mod Nested
+pub mod Records

@@ -97,6 +97,19 @@ module _ (calling : CodeLists) where
             (suc more.0, more.1, more.2, more.3, more.4)
       ]
 
+  info_in : (fs : List Framed) (start k : ℕ) (r : Framed) → slice_get fs k ≡ Some r
+      → routine_at (record { routines = infos_from calling fs start; instrs = [] }) k
+      ≡ routine_info calling r (start_in fs start k) (routine_code r (start_in fs start k))
+  info_in [] start k r is = absurd (none-some r is)
+  info_in (s ∷ fs) start zero r is = ap (λ (t : Framed). routine_info calling t start (routine_code t start)) (same_Some s r is)
+  info_in (s ∷ fs) start (suc k) r is = info_in fs (start + length (routine_code s start)) k r is
+
+  next_start : (fs : List Framed) (start k : ℕ) (r : Framed) → slice_get fs k ≡ Some r → suc k < length fs → start_in fs start (suc k) ≡ end_in fs start k r
+  next_start [] start k r is more = absurd (none-some r is)
+  next_start (s ∷ []) start zero r is more = absurd (omega (arith, more))
+  next_start (s ∷ t ∷ fs) start zero r is more = ap (λ (u : Framed). start + length (routine_code u start)) (same_Some s r is)
+  next_start (s ∷ fs) start (suc k) r is more = next_start fs (start + length (routine_code s start)) k r is (omega (arith, more))
+
   as_many_infos : (fs : List Framed) (start : ℕ) → length (infos_from calling fs start) ≡ length fs
   as_many_infos [] start = refl
   as_many_infos (s ∷ fs) start = ap suc (as_many_infos fs (start + length (routine_code s start)))
@@ -242,3 +255,19 @@ counted_routines p = as_many_routines p ∙ ap suc (as_many_framed 1 (global_ite
 
 pub routine_there : (p : Program) (k : ℕ) → k < length (code_of p).routines → (r : Framed) × (slice_get (all_framed p) k ≡ Some r)
 routine_there p k low = framed_there p k (omega (arith, low, counted_routines p))
+
+-- ---- Their records
+
+-- the record of a routine
+pub info_of : (p : Program) (k : ℕ) (r : Framed) → slice_get (all_framed p) k ≡ Some r
+    → routine_at (code_of p) k ≡ routine_info (calling_infos (all_framed p)) r (start_of p k) (routine_code r (start_of p k))
+unfolding code_of
+info_of p k r is = info_in (calling_infos (all_framed p)) (all_framed p) 0 k r is
+
+-- routine behind routine
+pub start_of_next : (p : Program) (k : ℕ) (r : Framed) → slice_get (all_framed p) k ≡ Some r → suc k < length (code_of p).routines
+    → start_of p (suc k) ≡ end_of p k r
+unfolding code_of
+start_of_next p k r is more =
+    next_start (calling_infos (all_framed p)) (all_framed p) 0 k r is
+    (omega (arith, more, as_many_infos (calling_infos (all_framed p)) (all_framed p) 0))
