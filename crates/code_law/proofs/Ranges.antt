@@ -1,28 +1,28 @@
 -- Which places of a program's code belong to which of its routines.
-use Rattle.std.proofs.Common.{◌≡◌, ℕ, zero, suc, ◌+◌, ◌-◌, ◌<◌, ◌≤◌, true, cond, List, [], ◌∷◌, ◌++◌, length, Some, refl, sym, ◌∙◌, ap, ap₂, subst, arith, add-one, inl, inr}
+use Rattle.std.proofs.Common.{◌≡◌, ℕ, zero, suc, ◌+◌, ◌-◌, ◌<◌, ◌≤◌, ◌⊎◌, ◌||◌, Bool, true, cond, List, [], ◌∷◌, length, Some, refl, sym, ◌∙◌, ap, ap₂, subst, arith, add-one, inl, inr}
 use Rattle.std.specs.Prelude.{slice_get, nat_le}
 use Rattle.std.specs.List.{count_by}
-use Rattle.std.proofs.lemmas.Bool.{cond-true, cond-false, le-leb, lt-leb, lt-ltb, eq-eqb, and_from, cases_lt}
+use Rattle.std.proofs.lemmas.Bool.{cond-true, cond-false, le-leb, lt-leb, lt-ltb, eq-eqb, and_from, or_left, or_right, cases_lt}
 use Rattle.std.proofs.lemmas.List.{length-append}
 use Rattle.std.proofs.lemmas.List.Sums.{sum_by-cons}
-use Rattle.std.proofs.lemmas.Option.{none-some, same_Some}
+use Rattle.std.proofs.lemmas.Option.{none-some, same_Some, get_or_from_slice_get}
 use Rattle.stack_code.specs.declared.instr.Instr.{Instr}
 use Rattle.stack_code.specs.declared.instr.RoutineInfo.{RoutineInfo}
-use Rattle.stack_code.specs.CodeLists.{CodeLists, routine_at}
+use Rattle.stack_code.specs.CodeLists.{CodeLists, routine_at, instr_at, no_instr}
 use Rattle.stack_code.specs.Rules.{routine_of, height_at, goes_on, may_be_last, operands_fit}
 use Rattle.stack_code.proofs.StraightLine.{height_begins, height_at_start}
 use Rattle.pascal_tree.specs.Program.{Program}
 use Rattle.pascal_tree.specs.Program as tree
 use Rattle.pascal_mean.specs.Means.{Owner, OfProgram, OfRoutine}
 use Rattle.pascal_mean.specs.Predeclared.{Item}
-use Rattle.pascal_mean.specs.Declarations.{all_declared, routines_after, heading_item, global_items}
+use Rattle.pascal_mean.specs.Declarations.{routines_after, heading_item, global_items}
 use Rattle.pascal_code.specs.Frames.{declared_words}
 use Rattle.pascal_code.specs.Senses.{Framed, framed_program, framed_after, all_framed, site_of}
 use Rattle.pascal_code.specs.Statements.{body_code}
 use Rattle.pascal_code.specs.Code.{ending, routine_code, routine_info, instrs_from, infos_from, calling_infos, code_of}
 use Rattle.code_law.specs.Suited.{routines_of}
 use Rattle.code_law.proofs.Standing.{Stand, parted, stands_to}
-use Rattle.code_law.proofs.Compiled.{compiled_at, first_starts}
+use Rattle.code_law.proofs.Compiled.{compiled_at}
 use Rattle.code_law.proofs.Naming.{routine_is, framed_there}
 
 -- ---- The last routine that starts at a place or before
@@ -217,6 +217,24 @@ ending_stands p k r is =
 pub ending_may_be_last : (o : Owner) → may_be_last (ending o).op ≡ true
 ending_may_be_last OfProgram = refl
 ending_may_be_last OfRoutine = refl
+
+ends_well : (goes may : Bool) → (goes ≡ true) ⊎ (may ≡ true) → (goes || may) ≡ true
+ends_well goes may (inl is) = or_left goes may is
+ends_well goes may (inr is) = or_right goes may is
+
+-- at each place its routine goes on, or it may end there
+pub goes_on_or_ends : (p : Program) (k : ℕ) (r : Framed) → slice_get (all_framed p) k ≡ Some r → (x : ℕ) → start_of p k ≤ x → x < end_of p k r
+    → (goes_on (code_of p) x || may_be_last (instr_at (code_of p) x).op) ≡ true
+goes_on_or_ends p k r is x low high =
+    let c = code_of p in
+    ends_well (goes_on c x) (may_be_last (instr_at c x).op)
+    (elim (cases_lt (x + 1) (end_of p k r)) [
+      | inl inside ↦ inl (goes_on_inside p k r is x low inside)
+      | inr behind ↦
+          let last : ending_of p k r ≡ x = omega (arith, high, behind, ending_is_last p k r) in
+          let there : slice_get c.instrs x ≡ Some (ending r.owner) = subst (λ q. slice_get c.instrs q ≡ Some (ending r.owner)) last (ending_stands p k r is) in
+          inr (ap (λ (i : Instr). may_be_last i.op) (get_or_from_slice_get c.instrs x (ending r.owner) no_instr there) ∙ ending_may_be_last r.owner)
+    ])
 
 pub owner_of_program : (p : Program) (r : Framed) → slice_get (all_framed p) 0 ≡ Some r → r.owner ≡ OfProgram
 owner_of_program p r is = ap (λ (t : Framed). t.owner) (sym (same_Some (framed_program p) r is))

@@ -1,6 +1,6 @@
 -- How high the operand stack stands at each place of code that lifts it.
-use Rattle.std.proofs.Common.{◌≡◌, ℕ, zero, suc, ◌+◌, ◌-◌, ◌<◌, ◌≤◌, max, Bool, true, false, not, ◌||◌, List, [], ◌∷◌, length, map, Some, refl, sym, ◌∙◌, ap, ap₂, subst, arith, inl, inr}
-use Rattle.std.specs.Prelude.{slice_get, nat_le, ◌==◌}
+use Rattle.std.proofs.Common.{◌≡◌, ℕ, zero, suc, ◌+◌, ◌-◌, ◌<◌, ◌≤◌, max, Bool, true, false, not, ◌||◌, List, [], ◌∷◌, ◌++◌, length, Some, refl, sym, ◌∙◌, ap, ap₂, subst, arith, inl, inr}
+use Rattle.std.specs.Prelude.{slice_get, ◌==◌}
 use Rattle.std.proofs.lemmas.Bool.{le-leb, eq-eqb, and_from, cases_lt}
 use Rattle.std.proofs.lemmas.Option.{get_or_from_slice_get}
 use Rattle.stack_code.specs.declared.table.Op.{Op}
@@ -11,8 +11,11 @@ use Rattle.stack_code.specs.CodeLists.{CodeLists, routine_at, instr_at, no_instr
 use Rattle.stack_code.specs.Rules.{pops, pushes, routine_of, leaves_nothing, height_at, height_fits}
 use Rattle.stack_code.proofs.StraightLine.{height_goes_on}
 use Rattle.pascal_tree.specs.Program.{Program}
-use Rattle.pascal_code.specs.Senses.{Framed, all_framed}
-use Rattle.pascal_code.specs.Code.{greatest_height, routine_code, calling_info, calling_infos, infos_from, code_of}
+use Rattle.pascal_mean.specs.Means.{Owner, OfProgram, OfRoutine}
+use Rattle.pascal_code.specs.Frames.{declared_words}
+use Rattle.pascal_code.specs.Statements.{body_code}
+use Rattle.pascal_code.specs.Senses.{Framed, all_framed, site_of}
+use Rattle.pascal_code.specs.Code.{greatest_height, ending, routine_code, calling_infos, infos_from, code_of}
 use Rattle.code_law.specs.Heights.{behind, Lift}
 use Rattle.code_law.proofs.Standing.{Stand, stands_to}
 use Rattle.code_law.proofs.Ranges.{start_of, end_of, own_place, stays_inside, start_is_empty, whole_stands, info_of}
@@ -56,6 +59,19 @@ greatest_from c h (i ∷ more) = omega arith
 pub greatest_low : (c : CodeLists) (least most h k : ℕ) (code : List Instr) → Lift c least most code h k → h ≤ most → greatest_height c h code ≤ most
 greatest_low c least most h k [] lift low = low
 greatest_low c least most h k (i ∷ more) lift low = omega (arith, low, greatest_low c least most (behind c i h) k more lift.4 lift.2)
+
+-- ---- A routine's ending
+
+-- behind a body that leaves nothing
+pub with_ending : (c : CodeLists) (most : ℕ) (o : Owner) (h : ℕ) (code : List Instr) → Lift c 0 most code h 0 → Lift c 0 most (code ++ ending o ∷ []) h 0
+with_ending c most OfProgram h [] lift = (omega arith, omega arith, omega (arith, lift), λ e. omega (arith, lift), omega (arith, lift))
+with_ending c most OfRoutine h [] lift = (omega arith, omega arith, omega (arith, lift), λ e. omega (arith, lift), omega (arith, lift))
+with_ending c most o h (i ∷ more) lift = (lift.0, lift.1, lift.2, lift.3, with_ending c most o (behind c i h) more lift.4)
+
+-- the whole code of a routine lifts where its body does
+pub routine_lifts : (c : CodeLists) (most : ℕ) (r : Framed) (start : ℕ)
+    → Lift c 0 most (body_code (site_of r) (declared_words r.frame) (r.declared).body start) 0 0 → Lift c 0 most (routine_code r start) 0 0
+routine_lifts c most r start lift = with_ending c most r.owner 0 (body_code (site_of r) (declared_words r.frame) (r.declared).body start) lift
 
 -- ---- Along code
 
