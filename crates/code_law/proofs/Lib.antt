@@ -52,3 +52,4 @@ pub mod Ranges
 pub mod Walks
 pub mod Nested
 pub mod Records
+pub mod Good
