@@ -33,6 +33,7 @@ pub record Lands (c : CodeLists) (site : Site) (base a : ℕ) : Type 0 where
 
 pub record IsFine (c : CodeLists) (site : Site) (base x : ℕ) : Type 0 where
   pub fits : operands_fit c x (instr_at c x).op (instr_at c x).a (instr_at c x).b ≡ true
+  pub stays : is_jump (instr_at c x).op ≡ true → routine_of c (instr_at c x).a ≡ routine_of c x
   pub lands : is_jump (instr_at c x).op ≡ true → Lands c site base (instr_at c x).a
 
 -- each place from one up to another
@@ -84,12 +85,16 @@ module _ (c : CodeLists) (k : ℕ) (site : Site) (base start end : ℕ) (within 
   pub fine_at : (p : ℕ) → IsFine c site base p → AreFine c site base p (p + 1)
   fine_at p fine x low high = let same : p ≡ x = omega (arith, low, high) in subst (IsFine c site base) same fine
 
-  fine_from : (p : ℕ) (i : Instr) → slice_get c.instrs p ≡ Some i → operands_fit c p i.op i.a i.b ≡ true → (is_jump i.op ≡ true → Lands c site base i.a) → AreFine c site base p (p + 1)
+  fine_from : (p : ℕ) (i : Instr) → slice_get c.instrs p ≡ Some i → operands_fit c p i.op i.a i.b ≡ true
+      → (is_jump i.op ≡ true → (routine_of c i.a ≡ routine_of c p) × Lands c site base i.a) → AreFine c site base p (p + 1)
   fine_from p i found fits lands =
       let here : i ≡ instr_at c p = sym (found_at c p i found) in
+      let there : is_jump (instr_at c p).op ≡ true → (routine_of c (instr_at c p).a ≡ routine_of c p) × Lands c site base (instr_at c p).a =
+          subst (λ (j : Instr). is_jump j.op ≡ true → (routine_of c j.a ≡ routine_of c p) × Lands c site base j.a) here lands in
       fine_at p (record {
         fits = subst (λ (j : Instr). operands_fit c p j.op j.a j.b ≡ true) here fits;
-        lands = subst (λ (j : Instr). is_jump j.op ≡ true → Lands c site base j.a) here lands;
+        stays = λ jumps. (there jumps).0;
+        lands = λ jumps. (there jumps).1;
       })
 
   -- what is no jump
@@ -118,8 +123,10 @@ module _ (c : CodeLists) (k : ℕ) (site : Site) (base start end : ℕ) (within 
 
   pub fine_jump : (p a : ℕ) → start ≤ p → p < end → start ≤ a → a < end → slice_get c.instrs p ≡ Some (jump a) → (p < a) ⊎ (is_tick (instr_at c a).op ≡ true) → Lands c site base a
       → AreFine c site base p (p + 1)
-  fine_jump p a low high low_to high_to found way lands = fine_from p (jump a) found (jump_fits_to p a low high low_to high_to way) (λ jumps. lands)
+  fine_jump p a low high low_to high_to found way lands = fine_from p (jump a) found (jump_fits_to p a low high low_to high_to way)
+      (λ jumps. (within a low_to high_to ∙ sym (within p low high), lands))
 
   pub fine_branch : (p a : ℕ) → start ≤ p → p < end → start ≤ a → a < end → slice_get c.instrs p ≡ Some (jump_if_false a) → (p < a) ⊎ (is_tick (instr_at c a).op ≡ true) → Lands c site base a
       → AreFine c site base p (p + 1)
-  fine_branch p a low high low_to high_to found way lands = fine_from p (jump_if_false a) found (jump_fits_to p a low high low_to high_to way) (λ jumps. lands)
+  fine_branch p a low high low_to high_to found way lands = fine_from p (jump_if_false a) found (jump_fits_to p a low high low_to high_to way)
+      (λ jumps. (within a low_to high_to ∙ sym (within p low high), lands))

@@ -132,6 +132,14 @@ module _ (p : Program) (suited : AreSuited p) (tree : IsTree p) (room : HaveRoom
           (λ jumps. absurd (false≢true (sym (ap (λ (i : Instr). is_jump i.op) (found_at (code_of p) (ending_of p k r) (ending r.owner) (ending_stands p k r at)) ∙ ending_is_no_jump r.owner) ∙ jumps)))
           x low high
 
+  jump_stays : (k : ℕ) (r : Framed) → At p k r → (x : ℕ) → start_of p k ≤ x → x < end_of p k r → is_jump (instr_at (code_of p) x).op ≡ true
+      → routine_of (code_of p) (instr_at (code_of p) x).a ≡ routine_of (code_of p) x
+  jump_stays k r at x low high =
+      in_routine k r (λ y. is_jump (instr_at (code_of p) y).op ≡ true → routine_of (code_of p) (instr_at (code_of p) y).a ≡ routine_of (code_of p) y)
+          (λ y above below. (body_is_fine k r at y above below).stays)
+          (λ jumps. absurd (false≢true (sym (ap (λ (i : Instr). is_jump i.op) (found_at (code_of p) (ending_of p k r) (ending r.owner) (ending_stands p k r at)) ∙ ending_is_no_jump r.owner) ∙ jumps)))
+          x low high
+
   operands_are_right : (k : ℕ) (r : Framed) → At p k r → (x : ℕ) → start_of p k ≤ x → x < end_of p k r
       → operands_fit (code_of p) x (instr_at (code_of p) x).op (instr_at (code_of p) x).a (instr_at (code_of p) x).b ≡ true
   operands_are_right k r at x low high =
@@ -139,3 +147,32 @@ module _ (p : Program) (suited : AreSuited p) (tree : IsTree p) (room : HaveRoom
           (λ y above below. (body_is_fine k r at y above below).fits)
           (subst (λ (i : Instr). operands_fit (code_of p) (ending_of p k r) i.op i.a i.b ≡ true) (sym (found_at (code_of p) (ending_of p k r) (ending r.owner) (ending_stands p k r at))) (ending_fits p k r at))
           x low high
+
+  -- A target has nothing on the stack, and what stands there opens statements or is behind a jump.
+  pub targets_land : (k : ℕ) (r : Framed) → At p k r → (t : ℕ) → start_of p k ≤ t → t < end_of p k r → is_target (code_of p) t ≡ true
+      → Lands (code_of p) (site_of r) (declared_words r.frame) t
+  targets_land k r at t low high target =
+      let found = found_among (λ (i : Instr). is_jump i.op && i.a == t) (code_of p).instrs target in
+      let x = found.0 in
+      let i = found.1 in
+      let parts = and_parts (is_jump i.op) (i.a == t) found.3 in
+      let leads : i.a ≡ t = eqb-true i.a t parts.1 in
+      let here : instr_at (code_of p) x ≡ i = found_at (code_of p) x i found.2 in
+      let place = place_of p x (slice_get_within (code_of p).instrs x i found.2) in
+      let j = place.0 in
+      let s = place.1 in
+      let jumps : is_jump (instr_at (code_of p) x).op ≡ true = ap (λ (h : Instr). is_jump h.op) here ∙ parts.0 in
+      let leads_there : (instr_at (code_of p) x).a ≡ t = ap (λ (h : Instr). h.a) here ∙ leads in
+      let lands : Lands (code_of p) (site_of s) (declared_words s.frame) t =
+          subst (Lands (code_of p) (site_of s) (declared_words s.frame)) leads_there (jumps_land j s place.2 x place.3 place.4 jumps) in
+      let stays : routine_of (code_of p) t ≡ routine_of (code_of p) x = subst (λ (m : ℕ). routine_of (code_of p) m ≡ routine_of (code_of p) x) leads_there (jump_stays j s place.2 x place.3 place.4 jumps) in
+      let same : j ≡ k = sym (own_place p j s place.2 x place.3 place.4) ∙ sym stays ∙ own_place p k r at t low high in
+      let routine : s ≡ r = same_Some s r (sym place.2 ∙ ap (slice_get (all_framed p)) same ∙ at) in
+      subst (λ (u : Framed). Lands (code_of p) (site_of u) (declared_words u.frame) t) routine lands
+
+  targets_are_right : (x : ℕ) → ((k : ℕ) (r : Framed) → At p k r → start_of p k ≤ x → x < end_of p k r → (height_at (code_of p) x == 0 || not (is_target (code_of p) x)) ≡ true)
+  targets_are_right x k r at low high = by_target (is_target (code_of p) x) refl
+    where
+      by_target : (b : Bool) → is_target (code_of p) x ≡ b → (height_at (code_of p) x == 0 || not (is_target (code_of p) x)) ≡ true
+      by_target true is = or_left (height_at (code_of p) x == 0) (not (is_target (code_of p) x)) (eq-eqb (height_at (code_of p) x) 0 (targets_land k r at x low high is).height)
+      by_target false is = or_right (height_at (code_of p) x == 0) (not (is_target (code_of p) x)) (ap not is)
