@@ -176,3 +176,29 @@ module _ (p : Program) (suited : AreSuited p) (tree : IsTree p) (room : HaveRoom
       by_target : (b : Bool) → is_target (code_of p) x ≡ b → (height_at (code_of p) x == 0 || not (is_target (code_of p) x)) ≡ true
       by_target true is = or_left (height_at (code_of p) x == 0) (not (is_target (code_of p) x)) (eq-eqb (height_at (code_of p) x) 0 (targets_land k r at x low high is).height)
       by_target false is = or_right (height_at (code_of p) x == 0) (not (is_target (code_of p) x)) (ap not is)
+
+  -- each call stands behind a tick, in the statements of each routine
+  abbrev CallsStandBehind : Type 0
+  CallsStandBehind = (k : ℕ) (r : Framed) → At p k r → (x : ℕ) → start_of p k ≤ x → x < ending_of p k r → is_call (instr_at (code_of p) x).op ≡ true
+      → is_behind_tick (code_of p) x ≡ true
+
+  calls_are_right : CallsStandBehind → (k : ℕ) (r : Framed) → At p k r → (x : ℕ) → start_of p k ≤ x → x < end_of p k r
+      → (not (is_call (instr_at (code_of p) x).op) || is_behind_tick (code_of p) x) ≡ true
+  calls_are_right calls k r at x low high =
+      in_routine k r (λ y. (not (is_call (instr_at (code_of p) y).op) || is_behind_tick (code_of p) y) ≡ true) (λ y above below. by_kind y above below (is_call (instr_at (code_of p) y).op) refl)
+          (or_left (not (is_call (instr_at (code_of p) (ending_of p k r)).op)) (is_behind_tick (code_of p) (ending_of p k r))
+              (ap not (ap (λ (i : Instr). is_call i.op) (found_at (code_of p) (ending_of p k r) (ending r.owner) (ending_stands p k r at)) ∙ ending_is_no_call r.owner)))
+          x low high
+    where
+      by_kind : (y : ℕ) → start_of p k ≤ y → y < ending_of p k r → (b : Bool) → is_call (instr_at (code_of p) y).op ≡ b → (not (is_call (instr_at (code_of p) y).op) || is_behind_tick (code_of p) y) ≡ true
+      by_kind y above below true is = or_right (not (is_call (instr_at (code_of p) y).op)) (is_behind_tick (code_of p) y) (calls k r at y above below is)
+      by_kind y above below false is = or_left (not (is_call (instr_at (code_of p) y).op)) (is_behind_tick (code_of p) y) (ap not is)
+
+  pub good_code : ((k : ℕ) → k < length (code_of p).routines → (routine_at (code_of p) k).params ≤ 16) → CallsStandBehind → IsGood (code_of p)
+  good_code few calls =
+      good_by_routines p suited tree few whole_lifts
+          (λ k r at x low high. record {
+            operands = operands_are_right k r at x low high;
+            target = targets_are_right x k r at low high;
+            call = calls_are_right calls k r at x low high;
+          })
