@@ -33,7 +33,7 @@ use Rattle.code_law.proofs.Senses.{IsMeant, AreMeant}
 use Rattle.code_law.proofs.Constants.{IsNumber, constant_is}
 use Rattle.code_law.proofs.Declared.{Stands, one_declared, names_declared, constant_sense, no_words, no_function, array_sense, array_words}
 
-number_is : (rs : Routines) (s : rules.Scope) (scope : meaning.Scope) → AreMeant rs s scope → (c : Constant) → AreWords (spelled_constant c)
+pub number_is : (rs : Routines) (s : rules.Scope) (scope : meaning.Scope) → AreMeant rs s scope → (c : Constant) → AreWords (spelled_constant c)
     → first_broken (judged_constant s c) ≡ None → IsNumber (value_of s c) (constant_number scope c)
 number_is rs s scope are c words none =
     let names : List ℕ → Sense = λ x. sense (scope x) 0 in
@@ -101,7 +101,7 @@ module _ {rs : Routines} {routines : Bool} {outer : List Declared} {within : Opt
         array_words rs (value_of s a) (value_of s b) t low high one two,
       )
 
-  group_declared : (owner : Owner) (s : rules.Scope) (items : List Item) (g : Group) → Stands rs routines outer within first s items
+  pub group_declared : (owner : Owner) (s : rules.Scope) (items : List Item) (g : Group) → Stands rs routines outer within first s items
       → AreWords (spelled_group g)
       → first_broken (judged_group s g) ≡ None
       → Stands rs routines outer within first (behind_group s g) (declared_names (variable_of owner (scope items) g.kind) (name_list g.names) items)

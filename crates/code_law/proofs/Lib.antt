@@ -53,3 +53,4 @@ pub mod Walks
 pub mod Nested
 pub mod Records
 pub mod Good
+pub mod Bounded

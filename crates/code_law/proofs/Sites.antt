@@ -24,7 +24,7 @@ abbrev pub AllItems : (Means → Type 0) → List Item → Type 0
 AllItems P [] = Unit {0}
 AllItems P (i ∷ earlier) = P i.means × AllItems P earlier
 
-names_have : (P : Means → Type 0) (means : Means) (xs : List (List ℕ)) (items : List Item) → P means → AllItems P items
+pub names_have : (P : Means → Type 0) (means : Means) (xs : List (List ℕ)) (items : List Item) → P means → AllItems P items
     → AllItems P (declared_names means xs items)
 names_have P means [] items has are = are
 names_have P means (x ∷ more) items has are = names_have P means more (record { letters = x; means = means } ∷ items) has (has, are)
@@ -34,7 +34,7 @@ definitions_have : (P : Means → Type 0) (scope : List Item → Scope) → ((s 
 definitions_have P scope has [] items are = are
 definitions_have P scope has (d ∷ more) items are = definitions_have P scope has more (constant_item (scope items) d ∷ items) (has (scope items) d, are)
 
-constants_have : (P : Means → Type 0) (scope : List Item → Scope) → ((s : Scope) (d : Definition) → P (constant_item s d).means)
+pub constants_have : (P : Means → Type 0) (scope : List Item → Scope) → ((s : Scope) (d : Definition) → P (constant_item s d).means)
     → (c : Option Consts) (items : List Item) → AllItems P items → AllItems P (declared_constants scope c items)
 constants_have P scope has None items are = are
 constants_have P scope has (Some c) items are = definitions_have P scope has (c.first ∷ c.rest) items are
@@ -47,7 +47,7 @@ groups_have P owner scope has (g ∷ more) items are =
     groups_have P owner scope has more (declared_names means (name_list g.names) items)
         (names_have P means (name_list g.names) items (has (scope items) g.kind) are)
 
-variables_have : (P : Means → Type 0) (owner : Owner) (scope : List Item → Scope) → ((s : Scope) (k : Kind) → P (variable_of owner s k))
+pub variables_have : (P : Means → Type 0) (owner : Owner) (scope : List Item → Scope) → ((s : Scope) (k : Kind) → P (variable_of owner s k))
     → (v : Option Vars) (items : List Item) → AllItems P items → AllItems P (declared_variables owner scope v items)
 variables_have P owner scope has None items are = are
 variables_have P owner scope has (Some v) items are = groups_have P owner scope has (v.first ∷ v.rest) items are
