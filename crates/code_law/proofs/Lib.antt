@@ -54,3 +54,4 @@ pub mod Nested
 pub mod Records
 pub mod Good
 pub mod Bounded
+pub mod BoundedRoutines

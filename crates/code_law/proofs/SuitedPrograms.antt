@@ -38,13 +38,13 @@ use Rattle.code_law.proofs.Headings.{AreNumbered, headings_declared, headings_wo
 use Rattle.code_law.proofs.SuitedRoutines.{routines_suited}
 
 module _ (p : Program) (words : AreWords (spelled p)) (none : first_broken (judged p) ≡ None) where
-  abbrev rs : Routines
+  abbrev pub rs : Routines
   rs = routines_of p
 
-  abbrev constants_scope : rules.Scope
+  abbrev pub constants_scope : rules.Scope
   constants_scope = behind_consts empty_scope p.consts
 
-  abbrev variables_scope : rules.Scope
+  abbrev pub variables_scope : rules.Scope
   variables_scope = behind_vars constants_scope p.vars
 
   abbrev headings_scope : rules.Scope
@@ -53,7 +53,7 @@ module _ (p : Program) (words : AreWords (spelled p)) (none : first_broken (judg
   abbrev items : List Item
   items = declared_headings 1 p.routines (global_items p)
 
-  abbrev scope : List Item → scopes.Scope
+  abbrev pub scope : List Item → scopes.Scope
   scope = scope_of []
 
   abbrev end_words : List Spot
@@ -63,24 +63,24 @@ module _ (p : Program) (words : AreWords (spelled p)) (none : first_broken (judg
   consts_words : AreWords (spelled_consts p.consts ++ (spelled_vars p.vars ++ (spelled_routines p.routines ++ (spelled_body p.body ++ end_words))))
   consts_words = words_behind (spelled_heading p.heading) _ words
 
-  vars_words : AreWords (spelled_vars p.vars ++ (spelled_routines p.routines ++ (spelled_body p.body ++ end_words)))
+  pub vars_words : AreWords (spelled_vars p.vars ++ (spelled_routines p.routines ++ (spelled_body p.body ++ end_words)))
   vars_words = words_behind (spelled_consts p.consts) _ consts_words
 
-  routines_words : AreWords (spelled_routines p.routines ++ (spelled_body p.body ++ end_words))
+  pub routines_words : AreWords (spelled_routines p.routines ++ (spelled_body p.body ++ end_words))
   routines_words = words_behind (spelled_vars p.vars) _ vars_words
 
   body_words : AreWords (spelled_body p.body)
   body_words = words_before (spelled_body p.body) _ (words_behind (spelled_routines p.routines) _ routines_words)
 
-  vars_none : first_broken (judged_vars constants_scope p.vars ++ (judged_routines variables_scope 0 p.routines ++ judged_body headings_scope p.body)) ≡ None
+  pub vars_none : first_broken (judged_vars constants_scope p.vars ++ (judged_routines variables_scope 0 p.routines ++ judged_body headings_scope p.body)) ≡ None
   vars_none = behind (judged_consts empty_scope p.consts)
       (judged_vars constants_scope p.vars ++ (judged_routines variables_scope 0 p.routines ++ judged_body headings_scope p.body)) none
 
-  routines_none : first_broken (judged_routines variables_scope 0 p.routines ++ judged_body headings_scope p.body) ≡ None
+  pub routines_none : first_broken (judged_routines variables_scope 0 p.routines ++ judged_body headings_scope p.body) ≡ None
   routines_none = behind (judged_vars constants_scope p.vars) (judged_routines variables_scope 0 p.routines ++ judged_body headings_scope p.body) vars_none
 
   -- ---- Declarations
-  scope_is : (t : rules.Scope) (is : List Item) → Stands rs true [] None [] t is → AreMeant rs t (scope is)
+  pub scope_is : (t : rules.Scope) (is : List Item) → Stands rs true [] None [] t is → AreMeant rs t (scope is)
   scope_is t is st x =
       subst (λ (o : List rules.Declared). IsMeant rs (or_else (rules.found t.own x) (or_else (rules.found o x) (rules.found rules.predeclared x)))
       (first_of_three None (found is x) (found meaning.predeclared x)))
@@ -88,19 +88,19 @@ module _ (p : Program) (words : AreWords (spelled p)) (none : first_broken (judg
       (program_found rs (rules.found t.own x) (rules.found rules.predeclared x) (found is x) (found meaning.predeclared x)
       (found_alike rs t.own is x st.alike) (predeclared_found rs x))
 
-  constants : Stands rs true [] None [] constants_scope (declared_constants scope p.consts [])
+  pub constants : Stands rs true [] None [] constants_scope (declared_constants scope p.consts [])
   constants = constants_declared scope scope_is p.consts empty_scope []
       (record { outer_is = refl; within_is = refl; alike = tt; once = tt; plain = λ no x. refl; later = []; behind = refl })
       (words_before (spelled_consts p.consts) _ consts_words)
       (before (judged_consts empty_scope p.consts)
       (judged_vars constants_scope p.vars ++ (judged_routines variables_scope 0 p.routines ++ judged_body headings_scope p.body)) none)
 
-  variables : Stands rs true [] None [] variables_scope (global_items p)
+  pub variables : Stands rs true [] None [] variables_scope (global_items p)
   variables = variables_declared scope scope_is OfProgram p.vars constants_scope (declared_constants scope p.consts []) constants
       (words_before (spelled_vars p.vars) _ vars_words)
       (before (judged_vars constants_scope p.vars) (judged_routines variables_scope 0 p.routines ++ judged_body headings_scope p.body) vars_none)
 
-  numbered : AreNumbered (all_declared p) 1 (routines_after 1 (global_items p) p.routines)
+  pub numbered : AreNumbered (all_declared p) 1 (routines_after 1 (global_items p) p.routines)
   numbered = record {
     some = omega arith;
     at = λ i. let same : 1 + i ≡ suc i = omega arith in ap (slice_get (all_declared p)) same;
