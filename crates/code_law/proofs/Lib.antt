@@ -55,3 +55,4 @@ pub mod Records
 pub mod Good
 pub mod Bounded
 pub mod BoundedRoutines
+pub mod Called
