@@ -1,7 +1,6 @@
 -- Arrays of a program that breaks no rule: their bounds stand in instructions, in order; and what a name is by what all items of a frame have.
-use Rattle.std.proofs.Common.{◌≡◌, ℕ, ◌+◌, ◌≤◌, Bool, true, false, not, ◌&&◌, List, [], ◌∷◌, ◌++◌, Option, Some, None, ℤ, pos, ◌-ℤ◌, refl, sym, ap, ap₂, subst, ◌∙◌, arith}
+use Rattle.std.proofs.Common.{◌≡◌, ℕ, ◌+◌, ◌≤◌, Bool, true, false, not, ◌&&◌, List, [], ◌∷◌, ◌++◌, Option, Some, None, ℤ, pos, ◌-ℤ◌, refl, ap, ap₂, subst, ◌∙◌, arith}
 use Rattle.std.specs.Prelude.{bytes_eq, int_le, unsigned_abs, if◌then◌else◌}
-use Rattle.std.specs.Int.{w16, cast_signed}
 use Rattle.std.proofs.lemmas.Bool.{le-leb, and_from}
 use Rattle.std.proofs.lemmas.Option.{none-some, same_Some}
 use Rattle.stack_code.specs.Rules.{bounds_fit}
@@ -14,7 +13,7 @@ use Rattle.pascal_tree.specs.Scopes as rules
 use Rattle.pascal_tree.specs.Scopes.{Declared, same_scalar, words_of_means}
 use Rattle.pascal_tree.specs.ExpressionRules.{breaks}
 use Rattle.pascal_tree.specs.StatementRules.{Valued, value_of, judged_constant}
-use Rattle.pascal_tree.specs.DeclarationRules.{type_of_kind, judged_kind, all_names, twice_declared, frame_words, too_large, judged_type_name, are_bounds, behind_group, behind_groups, behind_vars, judged_group, judged_groups, judged_vars, first_broken}
+use Rattle.pascal_tree.specs.DeclarationRules.{type_of_kind, judged_kind, all_names, twice_declared, frame_words, too_large, judged_type_name, are_bounds, behind_group, judged_group, judged_groups, judged_vars, first_broken}
 use Rattle.pascal_tree.specs.declared.scalar.Scalar.TheVariants as scalar
 use Rattle.pascal_tree.specs.declared.declaration.Kind.{Kind}
 use Rattle.pascal_tree.specs.declared.declaration.Kind.TheVariants as kind
@@ -34,7 +33,7 @@ use Rattle.pascal_code.specs.Senses as to_code
 use Rattle.pascal_code.specs.Senses.{Sense, sense, Array, sense_among}
 use Rattle.code_law.specs.Suits.{Routines, HasBounds}
 use Rattle.code_law.proofs.Numbers.{words_before, words_behind}
-use Rattle.code_law.proofs.Tests.{never, not_so, parted, both_so}
+use Rattle.code_law.proofs.Tests.{never, parted, both_so}
 use Rattle.code_law.proofs.Indexes.{how_far, above}
 use Rattle.code_law.proofs.Senses.{AreMeant}
 use Rattle.code_law.proofs.Constants.{IsNumber}

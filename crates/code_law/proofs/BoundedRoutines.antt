@@ -1,5 +1,5 @@
 -- In a program that breaks no rule the arrays of each routine have ordered bounds, and its parameters have at most 16 words.
-use Rattle.std.proofs.Common.{◌≡◌, ℕ, zero, suc, ◌+◌, ◌≤◌, Bool, true, false, List, [], ◌∷◌, ◌++◌, Option, Some, None, is_some, refl, sym, ap, subst, arith}
+use Rattle.std.proofs.Common.{◌≡◌, ℕ, zero, suc, ◌+◌, ◌≤◌, Bool, true, false, List, [], ◌∷◌, ◌++◌, Option, Some, None, is_some, refl, sym, subst, arith}
 use Rattle.std.specs.Prelude.{slice_get, nat_le, if◌then◌else◌}
 use Rattle.std.proofs.lemmas.Option.{none-some, same_Some}
 use Rattle.pascal_tree.specs.Word.{AreWords}
@@ -7,19 +7,18 @@ use Rattle.pascal_tree.specs.Program.{Parameters, Block, Routine, procedure, fun
 use Rattle.pascal_tree.specs.SpellStatement.{spelled_body}
 use Rattle.pascal_tree.specs.SpellProgram.{spelled_consts, spelled_vars, spelled_parameters, spelled_block, spelled_routine, spelled_routines, spelled}
 use Rattle.pascal_tree.specs.Scopes as rules
-use Rattle.pascal_tree.specs.Scopes.{words_of_list}
 use Rattle.pascal_tree.specs.ExpressionRules.{breaks}
 use Rattle.pascal_tree.specs.StatementRules.{judged_body}
-use Rattle.pascal_tree.specs.DeclarationRules.{all_groups, inside, frame_words, behind_parameters, behind_consts, behind_vars, behind_routines, judged_consts, judged_vars, judged_type_name, judged_parameter_groups, block_scope, judged_block, behind_heading, judged_routine, judged_routines, empty_scope, judged, first_broken, broken}
+use Rattle.pascal_tree.specs.DeclarationRules.{all_groups, inside, behind_parameters, behind_consts, behind_vars, behind_routines, judged_consts, judged_vars, judged_type_name, judged_parameter_groups, block_scope, judged_block, behind_heading, judged_routine, judged_routines, empty_scope, judged, first_broken, broken}
 use Rattle.pascal_tree.specs.Limits.{IsTree}
 use Rattle.pascal_check.proofs.Unbroken.{before, behind}
-use Rattle.pascal_mean.specs.Means.{Means, OfProgram, OfRoutine, Parameter}
+use Rattle.pascal_mean.specs.Means.{OfProgram, OfRoutine, Parameter}
 use Rattle.pascal_mean.specs.Means as meant
 use Rattle.pascal_mean.specs.Predeclared.{Item}
 use Rattle.pascal_mean.specs.Predeclared as meaning
 use Rattle.pascal_mean.specs.Scope as scopes
 use Rattle.pascal_mean.specs.Scope.{found, scope_of}
-use Rattle.pascal_mean.specs.Declarations.{parameter_list, declared_parameters, declared_constants, declared_headings, global_items, all_declared, signature_of, heading_item, declared_routine, block_of, routines_after}
+use Rattle.pascal_mean.specs.Declarations.{parameter_list, parameter_means, declared_parameters, declared_constants, declared_headings, global_items, all_declared, signature_of, heading_item, declared_routine, block_of, routines_after}
 use Rattle.pascal_code.specs.Senses.{Framed, framed_program, framed_routine, framed_after, all_framed}
 use Rattle.code_law.specs.Suits.{Routines}
 use Rattle.code_law.specs.Suited.{routines_of}
@@ -42,7 +41,7 @@ pub record IsBounded (f : Framed) : Type 0 where
 parameters_bounded : (ps : List Parameter) (items : List Item) → AllItems Bounded items → AllItems Bounded (declared_parameters ps items)
 parameters_bounded [] items are = are
 parameters_bounded (p ∷ more) items are =
-    parameters_bounded more (record { letters = p.letters; means = if p.is_variable then meant.Reference p.scalar else meant.Variable OfRoutine p.scalar } ∷ items)
+    parameters_bounded more (record { letters = p.letters; means = parameter_means p } ∷ items)
     (own p.is_variable, are)
   where
     own : (b : Bool) → Bounded (if b then meant.Reference p.scalar else meant.Variable OfRoutine p.scalar)

@@ -1,5 +1,5 @@
 -- A name that means a routine to the code means one of the program's, as its heading says.
-use Rattle.std.proofs.Common.{◌≡◌, ℕ, zero, suc, ◌+◌, Bool, true, false, List, [], ◌∷◌, map, Option, Some, None, is_some, refl, sym, ap, subst, arith}
+use Rattle.std.proofs.Common.{◌≡◌, ℕ, zero, suc, ◌+◌, Bool, true, false, List, [], ◌∷◌, map, Some, is_some, ap, subst, arith}
 use Rattle.std.specs.Prelude.{slice_get, if◌then◌else◌}
 use Rattle.std.proofs.lemmas.Option.{none-some, same_Some}
 use Rattle.pascal_tree.specs.Program.{Block, Routine, Program}
@@ -10,10 +10,10 @@ use Rattle.pascal_mean.specs.Means as meant
 use Rattle.pascal_mean.specs.Predeclared.{Item, predeclared}
 use Rattle.pascal_mean.specs.Scope.{Scope, scope_of}
 use Rattle.pascal_mean.specs.Calls.{Passing, passing_of}
-use Rattle.pascal_mean.specs.Declarations.{declared_parameters, variable_of, own_items, declared_headings, global_items, all_declared, signature_of, heading_item, declared_routine, block_of, routines_after}
+use Rattle.pascal_mean.specs.Declarations.{parameter_means, declared_parameters, variable_of, own_items, declared_headings, global_items, all_declared, signature_of, heading_item, declared_routine, block_of, routines_after}
 use Rattle.pascal_code.specs.Frames.{Frame, plain_frame, routine_frame}
 use Rattle.pascal_code.specs.Senses as to_code
-use Rattle.pascal_code.specs.Senses.{Sense, sense, sense_in, names_in, Framed, framed_program, framed_routine, framed_after, all_framed}
+use Rattle.pascal_code.specs.Senses.{Sense, sense, names_in, Framed, framed_program, framed_routine, framed_after, all_framed}
 use Rattle.code_law.specs.Suits.{Routines, IsRoutineOf}
 use Rattle.code_law.specs.Suited.{routines_of}
 use Rattle.code_law.proofs.Headings.{AreNumbered, next_numbered, this_routine}
@@ -62,10 +62,11 @@ variable_one : (rs : Routines) (owner : Owner) (s : Scope) (k : Kind) → MeansO
 variable_one rs owner s (kind.Name n) = tt
 variable_one rs owner s (kind.Array line opening low up_to high closing of element) = tt
 
-parameters_one : (rs : Routines) (ps : List Parameter) (items : List Item) → AllItems (MeansOne rs) items → AllItems (MeansOne rs) (declared_parameters ps items)
+parameters_one : (rs : Routines) (ps : List Parameter) (items : List Item) → AllItems (MeansOne rs) items
+    → AllItems (MeansOne rs) (declared_parameters ps items)
 parameters_one rs [] items are = are
 parameters_one rs (p ∷ more) items are =
-    parameters_one rs more (record { letters = p.letters; means = if p.is_variable then meant.Reference p.scalar else meant.Variable OfRoutine p.scalar } ∷ items)
+    parameters_one rs more (record { letters = p.letters; means = parameter_means p } ∷ items)
     (own p.is_variable, are)
   where
     own : (b : Bool) → MeansOne rs (if b then meant.Reference p.scalar else meant.Variable OfRoutine p.scalar)

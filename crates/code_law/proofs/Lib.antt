@@ -56,3 +56,4 @@ pub mod Good
 pub mod Bounded
 pub mod BoundedRoutines
 pub mod Called
+pub mod Rooms
