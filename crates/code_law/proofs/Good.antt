@@ -178,7 +178,7 @@ module _ (p : Program) (suited : AreSuited p) (tree : IsTree p) (room : HaveRoom
       by_target false is = or_right (height_at (code_of p) x == 0) (not (is_target (code_of p) x)) (ap not is)
 
   -- each call stands behind a tick, in the statements of each routine
-  abbrev CallsStandBehind : Type 0
+  abbrev pub CallsStandBehind : Type 0
   CallsStandBehind = (k : ℕ) (r : Framed) → At p k r → (x : ℕ) → start_of p k ≤ x → x < ending_of p k r → is_call (instr_at (code_of p) x).op ≡ true
       → is_behind_tick (code_of p) x ≡ true
 

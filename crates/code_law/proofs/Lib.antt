@@ -57,3 +57,4 @@ pub mod Bounded
 pub mod BoundedRoutines
 pub mod Called
 pub mod Rooms
+pub mod Lawful
