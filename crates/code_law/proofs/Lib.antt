@@ -58,3 +58,4 @@ pub mod BoundedRoutines
 pub mod Called
 pub mod Rooms
 pub mod Lawful
+pub mod Operands
