@@ -59,3 +59,4 @@ pub mod Called
 pub mod Rooms
 pub mod Lawful
 pub mod Operands
+pub mod Codes
