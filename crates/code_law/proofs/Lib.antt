@@ -29,6 +29,7 @@ pub mod Whole
 pub mod Fitting
 pub mod Fine
 pub mod StatementLifts
+pub mod Behind
 pub mod StatementPlaces
 pub mod Lifts
 pub mod Plain
