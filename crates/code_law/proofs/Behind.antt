@@ -206,3 +206,115 @@ module _ (rs : Routines) (site : Site) (base : ℕ) (low : (x : List ℕ) (a : �
         may_begin_behind site base (passed_code callee by (site.names (name_in e)) (expr_code site e)) (exprs_code site callee others more)
             (passed_begins callee by (name_in e) (expr_code site e) (SuitsExpr rs site.names e) (λ it. expr_begins e it) suits.0)
             (exprs_begin callee others more suits.1)
+
+-- ---- From one place to the next
+
+-- no jump stands there, and the TICK does, or a TICK leads there
+pub record LeadsOn (c : CodeLists) (x : ℕ) : Type 0 where
+  pub passes : is_jump (instr_at c x).op ≡ false
+  pub led : (is_tick (instr_at c x).op || (not (is_jump (instr_at c x).op) && is_behind_tick c x)) ≡ true
+
+pub leads_from_tick : (c : CodeLists) (p line : ℕ) → slice_get c.instrs p ≡ Some (tick line) → LeadsOn c p
+leads_from_tick c p line found =
+    let here : instr_at c p ≡ tick line = found_at c p (tick line) found in
+    record {
+      passes = ap (λ (j : Instr). is_jump j.op) here;
+      led = or_left (is_tick (instr_at c p).op) _ (ap (λ (j : Instr). is_tick j.op) here);
+    }
+
+pub leads_from_behind : (c : CodeLists) (p : ℕ) (i : Instr) → slice_get c.instrs p ≡ Some i → is_jump i.op ≡ false → is_behind_tick c p ≡ true → LeadsOn c p
+leads_from_behind c p i found none led =
+    let quiet : is_jump (instr_at c p).op ≡ false = ap (λ (j : Instr). is_jump j.op) (found_at c p i found) ∙ none in
+    record {
+      passes = quiet;
+      led = or_right (is_tick (instr_at c p).op) _ (and_from (not (is_jump (instr_at c p).op)) (is_behind_tick c p) (ap not quiet) led);
+    }
+
+module _ (c : CodeLists) (k : ℕ) (site : Site) (base start end : ℕ) (within : (x : ℕ) → start ≤ x → x < end → routine_of c x ≡ k) (some : end ≤ length c.instrs)
+    (targets : (t : ℕ) → start ≤ t → t < end → is_target c t ≡ true → Lands c site base t) where
+  -- where something is on the stack no jump leads
+  high_no_target : (x : ℕ) → start ≤ x → x < end → 1 ≤ height_at c x → is_target c x ≡ false
+  high_no_target x low high much = by_test (cases_Bool (is_target c x))
+    where
+      by_test : (is_target c x ≡ true) ⊎ (is_target c x ≡ false) → is_target c x ≡ false
+      by_test (inl leads) = absurd (omega (arith, much, (targets x low high leads).height))
+      by_test (inr none) = none
+
+  -- nor where such an instruction stands that opens nothing, behind one that is no jump
+  plain_no_target : (x : ℕ) (i : Instr) → start ≤ x → x + 1 < end → LeadsOn c x → slice_get c.instrs (x + 1) ≡ Some i → is_tick i.op ≡ false → leaves_nothing i.op ≡ false → NotKept site base i
+      → is_target c (x + 1) ≡ false
+  plain_no_target x i low high leads found no_tick goes_on lower = by_test (cases_Bool (is_target c (x + 1)))
+    where
+      here : instr_at c (x + 1) ≡ i
+      here = found_at c (x + 1) i found
+
+      opens_not : Opens site base (instr_at c (x + 1)) → ⊥
+      opens_not (ATick ticks) = absurd (false≢true (sym no_tick ∙ ap (λ (j : Instr). is_tick j.op) (sym here) ∙ ticks))
+      opens_not (AnEnd ends) = absurd (false≢true (sym goes_on ∙ ap (λ (j : Instr). leaves_nothing j.op) (sym here) ∙ ends))
+      opens_not (AKeptWord w kept same) = lower w kept (sym here ∙ same)
+
+      before_not : IsBehindJump c (x + 1) → ⊥
+      before_not jump =
+          let same : jump.before ≡ x = omega (arith, jump.next) in
+          absurd (false≢true (sym leads.passes ∙ ap (λ (n : ℕ). is_jump (instr_at c n).op) (sym same) ∙ jump.jumps))
+
+      by_opener : Opens site base (instr_at c (x + 1)) ⊎ IsBehindJump c (x + 1) → ⊥
+      by_opener (inl opener) = opens_not opener
+      by_opener (inr jump) = before_not jump
+
+      by_test : (is_target c (x + 1) ≡ true) ⊎ (is_target c (x + 1) ≡ false) → is_target c (x + 1) ≡ false
+      by_test (inl leads_there) = absurd (by_opener (targets (x + 1) (omega (arith, low)) high leads_there).opener)
+      by_test (inr none) = none
+
+  next_behind : (x : ℕ) → start ≤ x → x + 1 < end → LeadsOn c x → is_target c (x + 1) ≡ false → is_behind_tick c (x + 1) ≡ true
+  next_behind x low high leads none =
+      is_behind_tick_next c x
+      ∙ and_from (not (is_target c (x + 1)) && (routine_of c (x + 1) == routine_of c x)) _
+          (and_from (not (is_target c (x + 1))) (routine_of c (x + 1) == routine_of c x) (ap not none)
+              (eq-eqb (routine_of c (x + 1)) (routine_of c x) (within (x + 1) (omega (arith, low)) high ∙ sym (within x low (omega (arith, high))))))
+          leads.led
+
+  pub begun_behind : (x : ℕ) (i : Instr) → start ≤ x → x + 1 < end → LeadsOn c x → slice_get c.instrs (x + 1) ≡ Some i → is_tick i.op ≡ false → leaves_nothing i.op ≡ false → NotKept site base i
+      → is_behind_tick c (x + 1) ≡ true
+  begun_behind x i low high leads found no_tick goes_on lower =
+      next_behind x low high leads (plain_no_target x i low high leads found no_tick goes_on lower)
+
+  -- along plain code that keeps something on the stack, to the place behind it
+  pub run_behind : (code : List Instr) (p q h n : ℕ) → start ≤ p → q < end → Stand c p code q → Lift c 1 1500 code h n → height_at c p ≡ h → AllByRecursion (IsPlain c k) code
+      → is_behind_tick c p ≡ true → (x : ℕ) → p ≤ x → x ≤ q → is_behind_tick c x ≡ true
+  run_behind [] p q h n low high stand lift at all led x from to =
+      let same : p ≡ x = omega (arith, stand, from, to) in
+      subst (λ (y : ℕ). is_behind_tick c y ≡ true) same led
+  run_behind (i ∷ code) p q h n low high stand lift at all led x from to =
+      let far : q ≡ p + 1 + length code = stands_to c (p + 1) code q stand.1 in
+      let next : height_at c (p + 1) ≡ behind c i h = height_step c k site base start end within some p i low (omega (arith, far, high)) stand.0 ∙ ap (behind c i) at in
+      let none : is_target c (p + 1) ≡ false = high_no_target (p + 1) (omega (arith, low)) (omega (arith, far, high)) (omega (arith, next, lift.1)) in
+      let led_next : is_behind_tick c (p + 1) ≡ true = next_behind p low (omega (arith, far, high)) (leads_from_behind c p i stand.0 (all.0).no_jump led) none in
+      by_place (cases_order p x) (λ behind_here. run_behind code (p + 1) q (behind c i h) n (omega (arith, low)) high stand.1 lift.4 next all.1 led_next x (omega (arith, behind_here)) to)
+    where
+      by_place : (p ≡ x) ⊎ ((p < x) ⊎ (x < p)) → (p < x → is_behind_tick c x ≡ true) → is_behind_tick c x ≡ true
+      by_place (inl same) later = subst (λ (y : ℕ). is_behind_tick c y ≡ true) same led
+      by_place (inr (inl behind_here)) later = later behind_here
+      by_place (inr (inr before)) later = absurd (omega (arith, before, from))
+
+  -- Behind a TICK, or behind what it leads to: plain code, and an instruction behind it.
+  pub straight : (code : List Instr) (j : Instr) (p q h n : ℕ) → start ≤ p → q < end → LeadsOn c p → Stand c (p + 1) code q → slice_get c.instrs q ≡ Some j
+      → Lift c 1 1500 code h n → height_at c (p + 1) ≡ h → AllByRecursion (IsPlain c k) code → MayBegin site base code → is_tick j.op ≡ false → leaves_nothing j.op ≡ false → NotKept site base j
+      → (x : ℕ) → p < x → x ≤ q → is_behind_tick c x ≡ true
+  straight [] j p q h n low high leads stand found lift at all may no_tick goes_on lower x from to =
+      let here : slice_get c.instrs (p + 1) ≡ Some j = ap (slice_get c.instrs) stand ∙ found in
+      let same : p + 1 ≡ x = omega (arith, stand, from, to) in
+      subst (λ (y : ℕ). is_behind_tick c y ≡ true) same (begun_behind p j low (omega (arith, stand, high)) leads here no_tick goes_on lower)
+  straight (i ∷ code) j p q h n low high leads stand found lift at all may no_tick goes_on lower x from to =
+      let far : q ≡ p + 1 + 1 + length code = stands_to c (p + 1 + 1) code q stand.1 in
+      run_behind (i ∷ code) (p + 1) q h n (omega (arith, low)) high stand lift at all
+          (begun_behind p i low (omega (arith, far, high)) leads stand.0 (all.0).no_tick (all.0).goes_on may) x (omega (arith, from)) to
+
+  -- the same of code that begins, whatever stands behind it
+  pub straight_on : (code : List Instr) (p q h n : ℕ) → start ≤ p → q < end → LeadsOn c p → Stand c (p + 1) code q
+      → Lift c 1 1500 code h n → height_at c (p + 1) ≡ h → AllByRecursion (IsPlain c k) code → MayBegin site base code → (x : ℕ) → p < x → x < q → is_behind_tick c x ≡ true
+  straight_on [] p q h n low high leads stand lift at all may x from to = absurd (omega (arith, stand, from, to))
+  straight_on (i ∷ code) p q h n low high leads stand lift at all may x from to =
+      let far : q ≡ p + 1 + 1 + length code = stands_to c (p + 1 + 1) code q stand.1 in
+      run_behind (i ∷ code) (p + 1) q h n (omega (arith, low)) high stand lift at all
+          (begun_behind p i low (omega (arith, far, high)) leads stand.0 (all.0).no_tick (all.0).goes_on may) x (omega (arith, from)) (omega (arith, to))
