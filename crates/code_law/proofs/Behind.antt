@@ -318,3 +318,12 @@ module _ (c : CodeLists) (k : ℕ) (site : Site) (base start end : ℕ) (within 
       let far : q ≡ p + 1 + 1 + length code = stands_to c (p + 1 + 1) code q stand.1 in
       run_behind (i ∷ code) (p + 1) q h n (omega (arith, low)) high stand lift at all
           (begun_behind p i low (omega (arith, far, high)) leads stand.0 (all.0).no_tick (all.0).goes_on may) x (omega (arith, from)) (omega (arith, to))
+
+  -- and the same to the place behind it, of code that has a first instruction
+  pub straight_to : (code : List Instr) (p q h n : ℕ) → start ≤ p → q < end → LeadsOn c p → Stand c (p + 1) code q
+      → Lift c 1 1500 code h n → height_at c (p + 1) ≡ h → AllByRecursion (IsPlain c k) code → Begins site base code → (x : ℕ) → p < x → x ≤ q → is_behind_tick c x ≡ true
+  straight_to [] p q h n low high leads stand lift at all begins x from to = absurd (omega (arith, ap (λ (l : List Instr). length l) begins.2))
+  straight_to (i ∷ code) p q h n low high leads stand lift at all begins x from to =
+      let far : q ≡ p + 1 + 1 + length code = stands_to c (p + 1 + 1) code q stand.1 in
+      run_behind (i ∷ code) (p + 1) q h n (omega (arith, low)) high stand lift at all
+          (begun_behind p i low (omega (arith, far, high)) leads stand.0 (all.0).no_tick (all.0).goes_on (may_begin site base (i ∷ code) begins)) x (omega (arith, from)) to

@@ -31,6 +31,7 @@ pub mod Fine
 pub mod StatementLifts
 pub mod Behind
 pub mod StatementPlaces
+pub mod StatementCalls
 pub mod Lifts
 pub mod Plain
 pub mod Firsts
