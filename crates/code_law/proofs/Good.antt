@@ -29,11 +29,11 @@ use Rattle.code_law.proofs.Walks.{routine_lifts}
 use Rattle.code_law.proofs.Nested.{body_fits, words_are}
 use Rattle.code_law.proofs.Records.{IsRight, good_by_routines}
 
-abbrev At : Program → ℕ → Framed → Type 0
+abbrev pub At : Program → ℕ → Framed → Type 0
 At p k r = slice_get (all_framed p) k ≡ Some r
 
 -- whether the routine is a function
-abbrev is_function : Framed → Bool
+abbrev pub is_function : Framed → Bool
 is_function r = is_some ((r.declared).signature).answer
 
 -- names have room in the frames of every routine
@@ -57,7 +57,7 @@ module _ (p : Program) (suited : AreSuited p) (tree : IsTree p) (room : HaveRoom
   abbrev c : CodeLists
   c = code_of p
 
-  rise_of : (k : ℕ) (r : Framed) → At p k r → Rise (code_of p) (routines_of p) (site_of r) (is_function r)
+  pub rise_of : (k : ℕ) (r : Framed) → At p k r → Rise (code_of p) (routines_of p) (site_of r) (is_function r)
   rise_of k r at = record {
     expr = λ e suits fits. expr_lifts (room k r at) 1500 e 0 most_levels suits fits (omega arith);
     assign_name = λ x becomes e suits fits. assign_name_lifts (room k r at) x.letters (is_function r) e suits.0 suits.1 fits;
@@ -71,7 +71,7 @@ module _ (p : Program) (suited : AreSuited p) (tree : IsTree p) (room : HaveRoom
   own_of zero r at = ap (words_for (code_of p) 0) (owner_of_program p r at)
   own_of (suc j) r at = ap (words_for (code_of p) (suc j)) (owner_of_routine p j r at)
 
-  plain_of : (k : ℕ) (r : Framed) → At p k r → Plain (code_of p) k (routines_of p) (site_of r) (is_function r) (routine_at (code_of p) k).words
+  pub plain_of : (k : ℕ) (r : Framed) → At p k r → Plain (code_of p) k (routines_of p) (site_of r) (is_function r) (routine_at (code_of p) k).words
   plain_of k r at = record {
     expr = λ e suits. expr_plain (code_of p) k (room k r at) e suits;
     assign_name = λ x becomes e suits.

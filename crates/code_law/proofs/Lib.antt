@@ -62,3 +62,4 @@ pub mod Rooms
 pub mod Lawful
 pub mod Operands
 pub mod Codes
+pub mod CallsBehind
