@@ -1,5 +1,5 @@
 -- A TICK leads straight to each place of an expression's code behind it.
-use Rattle.std.proofs.Common.{◌≡◌, ℕ, zero, suc, ◌+◌, ◌-◌, ◌<◌, ◌≤◌, Bool, true, false, Some, None, List, [], ◌∷◌, ◌++◌, length, ◌⊎◌, inl, inr, refl, sym, ◌∙◌, ap, subst, arith, pos}
+use Rattle.std.proofs.Common.{◌≡◌, ℕ, ◌+◌, ◌-◌, ◌<◌, ◌≤◌, Bool, true, false, Some, List, [], ◌∷◌, ◌++◌, length, ◌⊎◌, inl, inr, refl, sym, ◌∙◌, ap, subst, arith, pos}
 use Rattle.std.specs.Prelude.{slice_get, ◌==◌, ◌&&◌, ◌||◌, not}
 use Rattle.std.specs.List.{AllByRecursion}
 use Rattle.std.proofs.lemmas.Bool.{false≢true, cases_Bool, cases_order, eq-eqb, and_from, or_left, or_right}
@@ -11,10 +11,10 @@ use Rattle.stack_code.specs.CodeLists.{CodeLists, instr_at}
 use Rattle.stack_code.specs.Rules.{routine_of, height_at, is_jump, is_tick, is_target, is_behind_tick, leaves_nothing}
 use Rattle.stack_code.proofs.BehindTick.{is_behind_tick_next}
 use Rattle.pascal_tree.specs.Expression.{Expr, alone, compared, Simple, simple, Term, term, Factor, number, character, named, element, called, group, negated, Index, index, Arguments, arguments, Exprs, no_expr, next_expr}
-use Rattle.pascal_mean.specs.Means.{Owner, OfProgram, OfRoutine, Bounds}
+use Rattle.pascal_mean.specs.Means.{Owner, OfProgram, OfRoutine}
 use Rattle.pascal_mean.specs.Calls.{Passing, ByValue, ByVariable, ByArray, row_passing}
 use Rattle.pascal_mean.specs.Expressions.{name_in}
-use Rattle.pascal_code.specs.Instructions.{bare, with_a, push, tick, load_word, store_word, refer}
+use Rattle.pascal_code.specs.Instructions.{bare, with_a, push, tick, load_word, refer}
 use Rattle.pascal_code.specs.Senses.{Sense, Constant, Variable, Array, Reference, Routine, Function, Interface, Nothing, Site}
 use Rattle.pascal_code.specs.Names.{name_code, reference_code, test_code, element_code}
 use Rattle.pascal_code.specs.Calls.{passing_of, variable_code, passed_code, given_arguments, variables_among, arrays_among, row_call, stores_code, call_code}
@@ -172,10 +172,12 @@ module _ (rs : Routines) (site : Site) (base : ℕ) (low : (x : List ℕ) (a : �
     factor_begins (character x) suits = (push (pos x.code), [], refl, other (push (pos x.code)) refl)
     factor_begins (named x) suits = name_begins x.letters (site.names x.letters) refl suits
     factor_begins (element x i) suits =
-        begins_in_front site base (index_code site (site.names x.letters) i) (element_code (site.names x.letters)) (index_begins (site.names x.letters) i suits.1)
+        begins_in_front site base (index_code site (site.names x.letters) i) (element_code (site.names x.letters))
+            (index_begins (site.names x.letters) i suits.1)
     factor_begins (called x a) suits =
         let callee = site.names x.letters in
-        called_begins callee (given_arguments site a) (arguments_code site callee (passing_of callee) a) suits.0 (arguments_begin callee (passing_of callee) a suits.1)
+        called_begins callee (given_arguments site a) (arguments_code site callee (passing_of callee) a) suits.0
+            (arguments_begin callee (passing_of callee) a suits.1)
             (λ one. subst (λ (by : List Passing). Begins site base (arguments_code site callee by a)) (sym one)
                 (value_begins callee a (subst (λ (by : List Passing). SuitsArguments rs site.names callee by a) one suits.1)))
     factor_begins (group opening e closing) suits = expr_begins e suits
@@ -241,7 +243,8 @@ module _ (c : CodeLists) (k : ℕ) (site : Site) (base start end : ℕ) (within 
       by_test (inr none) = none
 
   -- nor where such an instruction stands that opens nothing, behind one that is no jump
-  plain_no_target : (x : ℕ) (i : Instr) → start ≤ x → x + 1 < end → LeadsOn c x → slice_get c.instrs (x + 1) ≡ Some i → is_tick i.op ≡ false → leaves_nothing i.op ≡ false → NotKept site base i
+  plain_no_target : (x : ℕ) (i : Instr) → start ≤ x → x + 1 < end → LeadsOn c x → slice_get c.instrs (x + 1) ≡ Some i → is_tick i.op ≡ false
+      → leaves_nothing i.op ≡ false → NotKept site base i
       → is_target c (x + 1) ≡ false
   plain_no_target x i low high leads found no_tick goes_on lower = by_test (cases_Bool (is_target c (x + 1)))
     where
@@ -274,23 +277,28 @@ module _ (c : CodeLists) (k : ℕ) (site : Site) (base start end : ℕ) (within 
               (eq-eqb (routine_of c (x + 1)) (routine_of c x) (within (x + 1) (omega (arith, low)) high ∙ sym (within x low (omega (arith, high))))))
           leads.led
 
-  pub begun_behind : (x : ℕ) (i : Instr) → start ≤ x → x + 1 < end → LeadsOn c x → slice_get c.instrs (x + 1) ≡ Some i → is_tick i.op ≡ false → leaves_nothing i.op ≡ false → NotKept site base i
+  pub begun_behind : (x : ℕ) (i : Instr) → start ≤ x → x + 1 < end → LeadsOn c x → slice_get c.instrs (x + 1) ≡ Some i → is_tick i.op ≡ false
+      → leaves_nothing i.op ≡ false → NotKept site base i
       → is_behind_tick c (x + 1) ≡ true
   begun_behind x i low high leads found no_tick goes_on lower =
       next_behind x low high leads (plain_no_target x i low high leads found no_tick goes_on lower)
 
   -- along plain code that keeps something on the stack, to the place behind it
-  pub run_behind : (code : List Instr) (p q h n : ℕ) → start ≤ p → q < end → Stand c p code q → Lift c 1 1500 code h n → height_at c p ≡ h → AllByRecursion (IsPlain c k) code
+  pub run_behind : (code : List Instr) (p q h n : ℕ) → start ≤ p → q < end → Stand c p code q → Lift c 1 1500 code h n → height_at c p ≡ h
+      → AllByRecursion (IsPlain c k) code
       → is_behind_tick c p ≡ true → (x : ℕ) → p ≤ x → x ≤ q → is_behind_tick c x ≡ true
   run_behind [] p q h n low high stand lift at all led x from to =
       let same : p ≡ x = omega (arith, stand, from, to) in
       subst (λ (y : ℕ). is_behind_tick c y ≡ true) same led
   run_behind (i ∷ code) p q h n low high stand lift at all led x from to =
       let far : q ≡ p + 1 + length code = stands_to c (p + 1) code q stand.1 in
-      let next : height_at c (p + 1) ≡ behind c i h = height_step c k site base start end within some p i low (omega (arith, far, high)) stand.0 ∙ ap (behind c i) at in
+      let next : height_at c (p + 1) ≡ behind c i h =
+          height_step c k site base start end within some p i low (omega (arith, far, high)) stand.0 ∙ ap (behind c i) at in
       let none : is_target c (p + 1) ≡ false = high_no_target (p + 1) (omega (arith, low)) (omega (arith, far, high)) (omega (arith, next, lift.1)) in
-      let led_next : is_behind_tick c (p + 1) ≡ true = next_behind p low (omega (arith, far, high)) (leads_from_behind c p i stand.0 (all.0).no_jump led) none in
-      by_place (cases_order p x) (λ behind_here. run_behind code (p + 1) q (behind c i h) n (omega (arith, low)) high stand.1 lift.4 next all.1 led_next x (omega (arith, behind_here)) to)
+      let led_next : is_behind_tick c (p + 1) ≡ true =
+          next_behind p low (omega (arith, far, high)) (leads_from_behind c p i stand.0 (all.0).no_jump led) none in
+      by_place (cases_order p x) (λ behind_here. run_behind code (p + 1) q (behind c i h) n (omega (arith, low)) high stand.1 lift.4 next all.1 led_next x
+          (omega (arith, behind_here)) to)
     where
       by_place : (p ≡ x) ⊎ ((p < x) ⊎ (x < p)) → (p < x → is_behind_tick c x ≡ true) → is_behind_tick c x ≡ true
       by_place (inl same) later = subst (λ (y : ℕ). is_behind_tick c y ≡ true) same led
@@ -299,7 +307,8 @@ module _ (c : CodeLists) (k : ℕ) (site : Site) (base start end : ℕ) (within 
 
   -- Behind a TICK, or behind what it leads to: plain code, and an instruction behind it.
   pub straight : (code : List Instr) (j : Instr) (p q h n : ℕ) → start ≤ p → q < end → LeadsOn c p → Stand c (p + 1) code q → slice_get c.instrs q ≡ Some j
-      → Lift c 1 1500 code h n → height_at c (p + 1) ≡ h → AllByRecursion (IsPlain c k) code → MayBegin site base code → is_tick j.op ≡ false → leaves_nothing j.op ≡ false → NotKept site base j
+      → Lift c 1 1500 code h n → height_at c (p + 1) ≡ h → AllByRecursion (IsPlain c k) code → MayBegin site base code → is_tick j.op ≡ false
+      → leaves_nothing j.op ≡ false → NotKept site base j
       → (x : ℕ) → p < x → x ≤ q → is_behind_tick c x ≡ true
   straight [] j p q h n low high leads stand found lift at all may no_tick goes_on lower x from to =
       let here : slice_get c.instrs (p + 1) ≡ Some j = ap (slice_get c.instrs) stand ∙ found in
@@ -312,7 +321,8 @@ module _ (c : CodeLists) (k : ℕ) (site : Site) (base start end : ℕ) (within 
 
   -- the same of code that begins, whatever stands behind it
   pub straight_on : (code : List Instr) (p q h n : ℕ) → start ≤ p → q < end → LeadsOn c p → Stand c (p + 1) code q
-      → Lift c 1 1500 code h n → height_at c (p + 1) ≡ h → AllByRecursion (IsPlain c k) code → MayBegin site base code → (x : ℕ) → p < x → x < q → is_behind_tick c x ≡ true
+      → Lift c 1 1500 code h n → height_at c (p + 1) ≡ h → AllByRecursion (IsPlain c k) code → MayBegin site base code → (x : ℕ) → p < x → x < q
+      → is_behind_tick c x ≡ true
   straight_on [] p q h n low high leads stand lift at all may x from to = absurd (omega (arith, stand, from, to))
   straight_on (i ∷ code) p q h n low high leads stand lift at all may x from to =
       let far : q ≡ p + 1 + 1 + length code = stands_to c (p + 1 + 1) code q stand.1 in
@@ -321,9 +331,11 @@ module _ (c : CodeLists) (k : ℕ) (site : Site) (base start end : ℕ) (within 
 
   -- and the same to the place behind it, of code that has a first instruction
   pub straight_to : (code : List Instr) (p q h n : ℕ) → start ≤ p → q < end → LeadsOn c p → Stand c (p + 1) code q
-      → Lift c 1 1500 code h n → height_at c (p + 1) ≡ h → AllByRecursion (IsPlain c k) code → Begins site base code → (x : ℕ) → p < x → x ≤ q → is_behind_tick c x ≡ true
+      → Lift c 1 1500 code h n → height_at c (p + 1) ≡ h → AllByRecursion (IsPlain c k) code → Begins site base code → (x : ℕ) → p < x → x ≤ q
+      → is_behind_tick c x ≡ true
   straight_to [] p q h n low high leads stand lift at all begins x from to = absurd (omega (arith, ap (λ (l : List Instr). length l) begins.2))
   straight_to (i ∷ code) p q h n low high leads stand lift at all begins x from to =
       let far : q ≡ p + 1 + 1 + length code = stands_to c (p + 1 + 1) code q stand.1 in
       run_behind (i ∷ code) (p + 1) q h n (omega (arith, low)) high stand lift at all
-          (begun_behind p i low (omega (arith, far, high)) leads stand.0 (all.0).no_tick (all.0).goes_on (may_begin site base (i ∷ code) begins)) x (omega (arith, from)) to
+          (begun_behind p i low (omega (arith, far, high)) leads stand.0 (all.0).no_tick (all.0).goes_on (may_begin site base (i ∷ code) begins)) x
+          (omega (arith, from)) to
