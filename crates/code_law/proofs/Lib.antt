@@ -59,7 +59,7 @@ pub mod Bounded
 pub mod BoundedRoutines
 pub mod Called
 pub mod Rooms
-pub mod Lawful
 pub mod Operands
 pub mod Codes
 pub mod CallsBehind
+pub mod Lawful
