@@ -50,7 +50,8 @@ lower_or_not x m = by_test (nat_lt x m) refl
 pub found_at : (c : CodeLists) (p : ℕ) (i : Instr) → slice_get c.instrs p ≡ Some i → instr_at c p ≡ i
 found_at c p i found = get_or_from_slice_get c.instrs p i no_instr found
 
-module _ (c : CodeLists) (k : ℕ) (site : Site) (base start end : ℕ) (within : (x : ℕ) → start ≤ x → x < end → routine_of c x ≡ k) (some : end ≤ length c.instrs) where
+module _ (c : CodeLists) (k : ℕ) (site : Site) (base start end : ℕ) (within : (x : ℕ) → start ≤ x → x < end → routine_of c x ≡ k)
+    (some : end ≤ length c.instrs) where
   -- ---- Heights
   pub height_step : (p : ℕ) (i : Instr) → start ≤ p → p + 1 < end → slice_get c.instrs p ≡ Some i → height_at c (p + 1) ≡ behind c i (height_at c p)
   unfolding height_at
@@ -63,7 +64,8 @@ module _ (c : CodeLists) (k : ℕ) (site : Site) (base start end : ℕ) (within 
       ∙ ap (λ b. if b then height_at c p - pops c (instr_at c p).op (instr_at c p).a + pushes c (instr_at c p).op (instr_at c p).a else 0) test
       ∙ ap (λ (j : Instr). height_at c p - pops c j.op j.a + pushes c j.op j.a) here
 
-  pub height_behind : (least most : ℕ) (code : List Instr) (p q h n : ℕ) → start ≤ p → q < end → Stand c p code q → Lift c least most code h n → height_at c p ≡ h
+  pub height_behind : (least most : ℕ) (code : List Instr) (p q h n : ℕ) → start ≤ p → q < end → Stand c p code q → Lift c least most code h n
+      → height_at c p ≡ h
       → height_at c q ≡ n
   height_behind least most [] p q h n low high stand lift at = ap (height_at c) (sym stand) ∙ at ∙ lift
   height_behind least most (i ∷ code) p q h n low high stand lift at =
@@ -98,7 +100,8 @@ module _ (c : CodeLists) (k : ℕ) (site : Site) (base start end : ℕ) (within 
       })
 
   -- what is no jump
-  pub fine_one : (p : ℕ) (i : Instr) → slice_get c.instrs p ≡ Some i → is_jump i.op ≡ false → operands_fit c p i.op i.a i.b ≡ true → AreFine c site base p (p + 1)
+  pub fine_one : (p : ℕ) (i : Instr) → slice_get c.instrs p ≡ Some i → is_jump i.op ≡ false → operands_fit c p i.op i.a i.b ≡ true
+      → AreFine c site base p (p + 1)
   fine_one p i found none fits = fine_from p i found fits (λ jumps. absurd (false≢true (sym none ∙ jumps)))
 
   pub fine_plain : (code : List Instr) (p q : ℕ) → start ≤ p → q ≤ end → Stand c p code q → AllByRecursion (IsPlain c k) code → AreFine c site base p q
@@ -121,12 +124,14 @@ module _ (c : CodeLists) (k : ℕ) (site : Site) (base start end : ℕ) (within 
       by_way (inl forward) = or_left (nat_lt p a) (is_tick (instr_at c a).op) (lt-ltb p a forward)
       by_way (inr back) = or_right (nat_lt p a) (is_tick (instr_at c a).op) back
 
-  pub fine_jump : (p a : ℕ) → start ≤ p → p < end → start ≤ a → a < end → slice_get c.instrs p ≡ Some (jump a) → (p < a) ⊎ (is_tick (instr_at c a).op ≡ true) → Lands c site base a
+  pub fine_jump : (p a : ℕ) → start ≤ p → p < end → start ≤ a → a < end → slice_get c.instrs p ≡ Some (jump a) → (p < a) ⊎ (is_tick (instr_at c a).op ≡ true)
+      → Lands c site base a
       → AreFine c site base p (p + 1)
   fine_jump p a low high low_to high_to found way lands = fine_from p (jump a) found (jump_fits_to p a low high low_to high_to way)
       (λ jumps. (within a low_to high_to ∙ sym (within p low high), lands))
 
-  pub fine_branch : (p a : ℕ) → start ≤ p → p < end → start ≤ a → a < end → slice_get c.instrs p ≡ Some (jump_if_false a) → (p < a) ⊎ (is_tick (instr_at c a).op ≡ true) → Lands c site base a
+  pub fine_branch : (p a : ℕ) → start ≤ p → p < end → start ≤ a → a < end → slice_get c.instrs p ≡ Some (jump_if_false a)
+      → (p < a) ⊎ (is_tick (instr_at c a).op ≡ true) → Lands c site base a
       → AreFine c site base p (p + 1)
   fine_branch p a low high low_to high_to found way lands = fine_from p (jump_if_false a) found (jump_fits_to p a low high low_to high_to way)
       (λ jumps. (within a low_to high_to ∙ sym (within p low high), lands))

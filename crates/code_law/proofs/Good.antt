@@ -61,7 +61,8 @@ module _ (p : Program) (suited : AreSuited p) (tree : IsTree p) (room : HaveRoom
   rise_of k r at = record {
     expr = λ e suits fits. expr_lifts (room k r at) 1500 e 0 most_levels suits fits (omega arith);
     assign_name = λ x becomes e suits fits. assign_name_lifts (room k r at) x.letters (is_function r) e suits.0 suits.1 fits;
-    assign_element = λ x i becomes e suits inside fits. assign_element_lifts (room k r at) ((site_of r).names x.letters) i e suits.0 suits.1 suits.2 inside fits;
+    assign_element = λ x i becomes e suits inside fits. assign_element_lifts (room k r at)
+        ((site_of r).names x.letters) i e suits.0 suits.1 suits.2 inside fits;
     calls = λ x a suits fits. call_statement_lifts (room k r at) 1500 x a suits fits (omega arith);
     control = λ x is. scalar_stored (code_of p) 0 1500 (site_of r).result ((site_of r).names x.letters) 0 is (omega arith) (omega arith);
   }
@@ -75,10 +76,12 @@ module _ (p : Program) (suited : AreSuited p) (tree : IsTree p) (room : HaveRoom
   plain_of k r at = record {
     expr = λ e suits. expr_plain (code_of p) k (room k r at) e suits;
     assign_name = λ x becomes e suits.
-        plain_more (code_of p) k _ _ (expr_plain (code_of p) k (room k r at) e suits.1) (store_plain (code_of p) k (room k r at) x.letters ((site_of r).names x.letters) refl suits.0);
+        plain_more (code_of p) k _ _ (expr_plain (code_of p) k (room k r at) e suits.1)
+            (store_plain (code_of p) k (room k r at) x.letters ((site_of r).names x.letters) refl suits.0);
     assign_element = λ x i becomes e suits.
         plain_more (code_of p) k _ _ (index_plain (code_of p) k (room k r at) x.letters i suits.1)
-            (plain_more (code_of p) k _ _ (expr_plain (code_of p) k (room k r at) e suits.2) (store_element_plain (code_of p) k (room k r at) x.letters ((site_of r).names x.letters) refl));
+            (plain_more (code_of p) k _ _ (expr_plain (code_of p) k (room k r at) e suits.2)
+                (store_element_plain (code_of p) k (room k r at) x.letters ((site_of r).names x.letters) refl));
     calls = λ x a suits. call_statement_plain (code_of p) k (room k r at) x a suits;
     control = λ x is. scalar_store_plain (code_of p) k (room k r at) x.letters ((site_of r).names x.letters) refl is;
     load = λ w low. load_own_plain (code_of p) k (site_of r) w (omega (arith, own_of k r at, low));
@@ -87,12 +90,14 @@ module _ (p : Program) (suited : AreSuited p) (tree : IsTree p) (room : HaveRoom
 
   body_is_level : (k : ℕ) (r : Framed) → At p k r → Level (code_of p) (body_code (site_of r) (declared_words r.frame) (r.declared).body (start_of p k))
   body_is_level k r at =
-      body_lifts (code_of p) (routines_of p) (site_of r) (is_function r) (rise_of k r at) (r.declared).body (declared_words r.frame) (start_of p k) most_levels (suited k r at).suits (body_fits p tree k r at)
+      body_lifts (code_of p) (routines_of p) (site_of r) (is_function r) (rise_of k r at) (r.declared).body (declared_words r.frame) (start_of p k) most_levels
+          (suited k r at).suits (body_fits p tree k r at)
 
   whole_lifts : (k : ℕ) (r : Framed) → At p k r → Lift (code_of p) 0 1536 (routine_code r (start_of p k)) 0 0
   whole_lifts k r at =
       routine_lifts (code_of p) 1536 r (start_of p k)
-          (lift_wider (code_of p) 0 1500 0 1536 (body_code (site_of r) (declared_words r.frame) (r.declared).body (start_of p k)) 0 0 (omega arith) (omega arith) (body_is_level k r at))
+          (lift_wider (code_of p) 0 1500 0 1536 (body_code (site_of r) (declared_words r.frame) (r.declared).body (start_of p k)) 0 0 (omega arith)
+              (omega arith) (body_is_level k r at))
 
   ending_leaves : (o : Owner) → leaves_nothing (ending o).op ≡ true
   ending_leaves OfProgram = refl
@@ -110,13 +115,17 @@ module _ (p : Program) (suited : AreSuited p) (tree : IsTree p) (room : HaveRoom
   body_is_fine : (k : ℕ) (r : Framed) → At p k r → AreFine (code_of p) (site_of r) (declared_words r.frame) (start_of p k) (ending_of p k r)
   body_is_fine k r at =
       let words : declared_words r.frame + nested_in_body (r.declared).body ≤ (routine_at (code_of p) k).words = omega (arith, words_are p k r at) in
-      body_fine (code_of p) k (routines_of p) (site_of r) (is_function r) (declared_words r.frame) (routine_at (code_of p) k).words (start_of p k) (end_of p k r) (own_place p k r at) (ends_inside p k r at)
-          (rise_of k r at) (plain_of k r at) (r.declared).body (declared_words r.frame) (start_of p k) (start_of p k) (ending_of p k r) most_levels (omega arith) words refl (suited k r at).suits
+      body_fine (code_of p) k (routines_of p) (site_of r) (is_function r) (declared_words r.frame) (routine_at (code_of p) k).words (start_of p k)
+          (end_of p k r) (own_place p k r at) (ends_inside p k r at)
+          (rise_of k r at) (plain_of k r at) (r.declared).body (declared_words r.frame) (start_of p k) (start_of p k) (ending_of p k r) most_levels
+              (omega arith) words refl (suited k r at).suits
           (body_fits p tree k r at) (body_stands p k r at) (omega arith) (omega (arith, ending_is_last p k r)) (start_is_empty p k r at)
-          (AnEnd (ap (λ (i : Instr). leaves_nothing i.op) (found_at (code_of p) (ending_of p k r) (ending r.owner) (ending_stands p k r at)) ∙ ending_leaves r.owner))
+          (AnEnd (ap (λ (i : Instr). leaves_nothing i.op) (found_at (code_of p) (ending_of p k r) (ending r.owner) (ending_stands p k r at))
+              ∙ ending_leaves r.owner))
 
   -- what is at the end, or in the statements
-  in_routine : (k : ℕ) (r : Framed) (P : ℕ → Type 0) → ((x : ℕ) → start_of p k ≤ x → x < ending_of p k r → P x) → P (ending_of p k r) → (x : ℕ) → start_of p k ≤ x → x < end_of p k r → P x
+  in_routine : (k : ℕ) (r : Framed) (P : ℕ → Type 0) → ((x : ℕ) → start_of p k ≤ x → x < ending_of p k r → P x) → P (ending_of p k r) → (x : ℕ)
+      → start_of p k ≤ x → x < end_of p k r → P x
   in_routine k r P body_has end_has x low high = by_order (lower_or_not x (ending_of p k r))
     where
       by_order : (x < ending_of p k r) ⊎ (ending_of p k r ≤ x) → P x
@@ -129,7 +138,8 @@ module _ (p : Program) (suited : AreSuited p) (tree : IsTree p) (room : HaveRoom
   jumps_land k r at x low high =
       in_routine k r (λ y. is_jump (instr_at (code_of p) y).op ≡ true → Lands (code_of p) (site_of r) (declared_words r.frame) (instr_at (code_of p) y).a)
           (λ y above below. (body_is_fine k r at y above below).lands)
-          (λ jumps. absurd (false≢true (sym (ap (λ (i : Instr). is_jump i.op) (found_at (code_of p) (ending_of p k r) (ending r.owner) (ending_stands p k r at)) ∙ ending_is_no_jump r.owner) ∙ jumps)))
+          (λ jumps. absurd (false≢true (sym (ap (λ (i : Instr). is_jump i.op) (found_at (code_of p) (ending_of p k r) (ending r.owner) (ending_stands p k r at))
+              ∙ ending_is_no_jump r.owner) ∙ jumps)))
           x low high
 
   jump_stays : (k : ℕ) (r : Framed) → At p k r → (x : ℕ) → start_of p k ≤ x → x < end_of p k r → is_jump (instr_at (code_of p) x).op ≡ true
@@ -137,7 +147,8 @@ module _ (p : Program) (suited : AreSuited p) (tree : IsTree p) (room : HaveRoom
   jump_stays k r at x low high =
       in_routine k r (λ y. is_jump (instr_at (code_of p) y).op ≡ true → routine_of (code_of p) (instr_at (code_of p) y).a ≡ routine_of (code_of p) y)
           (λ y above below. (body_is_fine k r at y above below).stays)
-          (λ jumps. absurd (false≢true (sym (ap (λ (i : Instr). is_jump i.op) (found_at (code_of p) (ending_of p k r) (ending r.owner) (ending_stands p k r at)) ∙ ending_is_no_jump r.owner) ∙ jumps)))
+          (λ jumps. absurd (false≢true (sym (ap (λ (i : Instr). is_jump i.op) (found_at (code_of p) (ending_of p k r) (ending r.owner) (ending_stands p k r at))
+              ∙ ending_is_no_jump r.owner) ∙ jumps)))
           x low high
 
   operands_are_right : (k : ℕ) (r : Framed) → At p k r → (x : ℕ) → start_of p k ≤ x → x < end_of p k r
@@ -145,7 +156,8 @@ module _ (p : Program) (suited : AreSuited p) (tree : IsTree p) (room : HaveRoom
   operands_are_right k r at x low high =
       in_routine k r (λ y. operands_fit (code_of p) y (instr_at (code_of p) y).op (instr_at (code_of p) y).a (instr_at (code_of p) y).b ≡ true)
           (λ y above below. (body_is_fine k r at y above below).fits)
-          (subst (λ (i : Instr). operands_fit (code_of p) (ending_of p k r) i.op i.a i.b ≡ true) (sym (found_at (code_of p) (ending_of p k r) (ending r.owner) (ending_stands p k r at))) (ending_fits p k r at))
+          (subst (λ (i : Instr). operands_fit (code_of p) (ending_of p k r) i.op i.a i.b ≡ true)
+              (sym (found_at (code_of p) (ending_of p k r) (ending r.owner) (ending_stands p k r at))) (ending_fits p k r at))
           x low high
 
   -- A target has nothing on the stack, and what stands there opens statements or is behind a jump.
@@ -165,16 +177,19 @@ module _ (p : Program) (suited : AreSuited p) (tree : IsTree p) (room : HaveRoom
       let leads_there : (instr_at (code_of p) x).a ≡ t = ap (λ (h : Instr). h.a) here ∙ leads in
       let lands : Lands (code_of p) (site_of s) (declared_words s.frame) t =
           subst (Lands (code_of p) (site_of s) (declared_words s.frame)) leads_there (jumps_land j s place.2 x place.3 place.4 jumps) in
-      let stays : routine_of (code_of p) t ≡ routine_of (code_of p) x = subst (λ (m : ℕ). routine_of (code_of p) m ≡ routine_of (code_of p) x) leads_there (jump_stays j s place.2 x place.3 place.4 jumps) in
+      let stays : routine_of (code_of p) t ≡ routine_of (code_of p) x = subst (λ (m : ℕ). routine_of (code_of p) m ≡ routine_of (code_of p) x) leads_there
+          (jump_stays j s place.2 x place.3 place.4 jumps) in
       let same : j ≡ k = sym (own_place p j s place.2 x place.3 place.4) ∙ sym stays ∙ own_place p k r at t low high in
       let routine : s ≡ r = same_Some s r (sym place.2 ∙ ap (slice_get (all_framed p)) same ∙ at) in
       subst (λ (u : Framed). Lands (code_of p) (site_of u) (declared_words u.frame) t) routine lands
 
-  targets_are_right : (x : ℕ) → ((k : ℕ) (r : Framed) → At p k r → start_of p k ≤ x → x < end_of p k r → (height_at (code_of p) x == 0 || not (is_target (code_of p) x)) ≡ true)
+  targets_are_right : (x : ℕ) → ((k : ℕ) (r : Framed) → At p k r → start_of p k ≤ x → x < end_of p k r
+      → (height_at (code_of p) x == 0 || not (is_target (code_of p) x)) ≡ true)
   targets_are_right x k r at low high = by_target (is_target (code_of p) x) refl
     where
       by_target : (b : Bool) → is_target (code_of p) x ≡ b → (height_at (code_of p) x == 0 || not (is_target (code_of p) x)) ≡ true
-      by_target true is = or_left (height_at (code_of p) x == 0) (not (is_target (code_of p) x)) (eq-eqb (height_at (code_of p) x) 0 (targets_land k r at x low high is).height)
+      by_target true is = or_left (height_at (code_of p) x == 0) (not (is_target (code_of p) x))
+          (eq-eqb (height_at (code_of p) x) 0 (targets_land k r at x low high is).height)
       by_target false is = or_right (height_at (code_of p) x == 0) (not (is_target (code_of p) x)) (ap not is)
 
   -- each call stands behind a tick, in the statements of each routine
@@ -185,12 +200,15 @@ module _ (p : Program) (suited : AreSuited p) (tree : IsTree p) (room : HaveRoom
   calls_are_right : CallsStandBehind → (k : ℕ) (r : Framed) → At p k r → (x : ℕ) → start_of p k ≤ x → x < end_of p k r
       → (not (is_call (instr_at (code_of p) x).op) || is_behind_tick (code_of p) x) ≡ true
   calls_are_right calls k r at x low high =
-      in_routine k r (λ y. (not (is_call (instr_at (code_of p) y).op) || is_behind_tick (code_of p) y) ≡ true) (λ y above below. by_kind y above below (is_call (instr_at (code_of p) y).op) refl)
+      in_routine k r (λ y. (not (is_call (instr_at (code_of p) y).op) || is_behind_tick (code_of p) y) ≡ true)
+          (λ y above below. by_kind y above below (is_call (instr_at (code_of p) y).op) refl)
           (or_left (not (is_call (instr_at (code_of p) (ending_of p k r)).op)) (is_behind_tick (code_of p) (ending_of p k r))
-              (ap not (ap (λ (i : Instr). is_call i.op) (found_at (code_of p) (ending_of p k r) (ending r.owner) (ending_stands p k r at)) ∙ ending_is_no_call r.owner)))
+              (ap not (ap (λ (i : Instr). is_call i.op) (found_at (code_of p) (ending_of p k r) (ending r.owner) (ending_stands p k r at))
+                  ∙ ending_is_no_call r.owner)))
           x low high
     where
-      by_kind : (y : ℕ) → start_of p k ≤ y → y < ending_of p k r → (b : Bool) → is_call (instr_at (code_of p) y).op ≡ b → (not (is_call (instr_at (code_of p) y).op) || is_behind_tick (code_of p) y) ≡ true
+      by_kind : (y : ℕ) → start_of p k ≤ y → y < ending_of p k r → (b : Bool) → is_call (instr_at (code_of p) y).op ≡ b
+          → (not (is_call (instr_at (code_of p) y).op) || is_behind_tick (code_of p) y) ≡ true
       by_kind y above below true is = or_right (not (is_call (instr_at (code_of p) y).op)) (is_behind_tick (code_of p) y) (calls k r at y above below is)
       by_kind y above below false is = or_left (not (is_call (instr_at (code_of p) y).op)) (is_behind_tick (code_of p) y) (ap not is)
 

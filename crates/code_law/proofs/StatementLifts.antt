@@ -27,13 +27,15 @@ use Rattle.code_law.specs.Heights.{behind, Lift}
 abbrev pub Level : CodeLists → List Instr → Type 0
 Level c code = Lift c 0 1500 code 0 0
 
-pub lifted_more : (c : CodeLists) (least most : ℕ) (first rest : List Instr) (h m n : ℕ) → Lift c least most first h m → Lift c least most rest m n → Lift c least most (first ++ rest) h n
+pub lifted_more : (c : CodeLists) (least most : ℕ) (first rest : List Instr) (h m n : ℕ) → Lift c least most first h m → Lift c least most rest m n
+    → Lift c least most (first ++ rest) h n
 lifted_more c least most [] rest h m n one two = subst (λ j. Lift c least most rest j n) (sym one) two
 lifted_more c least most (i ∷ first) rest h m n one two = (one.0, one.1, one.2, one.3, lifted_more c least most first rest (behind c i h) m n one.4 two)
 
 pub lifted_from : (c : CodeLists) (least less most : ℕ) (code : List Instr) (h n : ℕ) → less ≤ least → Lift c least most code h n → Lift c less most code h n
 lifted_from c least less most [] h n low lift = lift
-lifted_from c least less most (i ∷ code) h n low lift = (lift.0, omega (arith, low, lift.1), lift.2, lift.3, lifted_from c least less most code (behind c i h) n low lift.4)
+lifted_from c least less most (i ∷ code) h n low lift = (lift.0, omega (arith, low, lift.1), lift.2, lift.3, lifted_from c least less most code
+    (behind c i h) n low lift.4)
 
 module _ (c : CodeLists) where
   -- words that are loaded and stored
@@ -73,12 +75,14 @@ module _ (c : CodeLists) where
   label_lifts : (site : Site) (w found : ℕ) (label : Constant) → Level c (label_test site w found label)
   label_lifts site w found label =
       load_lift site.owner w 0 0 (push (constant_value site.names label) ∷ bare op.Ne ∷ jump_if_false found ∷ []) (omega arith)
-      (omega arith, omega arith, omega arith, (λ e. cc), (omega arith, omega arith, omega arith, (λ e. cc), (omega arith, omega arith, omega arith, (λ e. refl), refl)))
+      (omega arith, omega arith, omega arith, (λ e. cc),
+          (omega arith, omega arith, omega arith, (λ e. cc), (omega arith, omega arith, omega arith, (λ e. refl), refl)))
 
   more_labels_lift : (site : Site) (w found : ℕ) (ls : List (ℕ × Constant)) → Level c (more_label_tests site w found ls)
   more_labels_lift site w found [] = refl
   more_labels_lift site w found (l ∷ more) =
-      lifted_more c 0 1500 (label_test site w found l.1) (more_label_tests site w found more) 0 0 0 (label_lifts site w found l.1) (more_labels_lift site w found more)
+      lifted_more c 0 1500 (label_test site w found l.1) (more_label_tests site w found more) 0 0 0 (label_lifts site w found l.1)
+          (more_labels_lift site w found more)
 
   pub labels_lift : (site : Site) (w found : ℕ) (labels : Labels) → Level c (label_tests site w found labels)
   labels_lift site w found labels =
@@ -86,14 +90,16 @@ module _ (c : CodeLists) where
           (more_labels_lift site w found labels.rest)
 
   pub no_branch_lifts : (out : ℕ) → Level c (no_branch_code out)
-  no_branch_lifts out = (omega arith, omega arith, omega arith, (λ e. cc), (omega arith, omega arith, omega arith, (λ e. cc), (omega arith, omega arith, omega arith, (λ e. refl), refl)))
+  no_branch_lifts out = (omega arith, omega arith, omega arith, (λ e. cc),
+      (omega arith, omega arith, omega arith, (λ e. cc), (omega arith, omega arith, omega arith, (λ e. refl), refl)))
 
 -- the expressions, assignments and calls of a site lead from height to height
 pub record Rise (c : CodeLists) (rs : Routines) (site : Site) (inside : Bool) : Type 0 where
   pub expr : (e : Expr) → SuitsExpr rs site.names e → ExprFits e most_levels → Lift c 1 1500 (expr_code site e) 0 1
   pub assign_name : (x : NameAt) (becomes : ℕ) (e : Expr) → SuitsStatement rs site.names inside (assign x None becomes e) → ExprFits e most_levels
       → Level c (expr_code site e ++ store_code site.result (site.names x.letters))
-  pub assign_element : (x : NameAt) (i : Index) (becomes : ℕ) (e : Expr) → SuitsStatement rs site.names inside (assign x (Some i) becomes e) → PlaceFits (Some i)
+  pub assign_element : (x : NameAt) (i : Index) (becomes : ℕ) (e : Expr) → SuitsStatement rs site.names inside (assign x (Some i) becomes e)
+      → PlaceFits (Some i)
       → ExprFits e most_levels → Level c (index_code site (site.names x.letters) i ++ (expr_code site e ++ store_element_code (site.names x.letters)))
   pub calls : (x : NameAt) (a : Option Arguments) → SuitsStatement rs site.names inside (call x a) → CallFits a → Level c (call_statement_code site x a)
   pub control : (x : NameAt) → IsScalar (site.names x.letters) → Lift c 0 1500 (store_code site.result (site.names x.letters)) 1 0
@@ -108,19 +114,24 @@ module _ (c : CodeLists) (rs : Routines) (site : Site) (inside : Bool) (rise : R
   jumps_more a rest lift = (omega arith, omega arith, omega arith, (λ e. refl), lift)
 
   -- a test, and what follows the branch
-  tested_more : (e : Expr) (out : ℕ) (rest : List Instr) → SuitsExpr rs site.names e → ExprFits e most_levels → Level c rest → Level c (expr_code site e ++ jump_if_false out ∷ rest)
+  tested_more : (e : Expr) (out : ℕ) (rest : List Instr) → SuitsExpr rs site.names e → ExprFits e most_levels → Level c rest
+      → Level c (expr_code site e ++ jump_if_false out ∷ rest)
   tested_more e out rest suits fits lift =
-      lifted_more c 0 1500 (expr_code site e) (jump_if_false out ∷ rest) 0 1 0 (lifted_from c 1 0 1500 (expr_code site e) 0 1 (omega arith) (rise.expr e suits fits))
+      lifted_more c 0 1500 (expr_code site e) (jump_if_false out ∷ rest) 0 1 0
+          (lifted_from c 1 0 1500 (expr_code site e) 0 1 (omega arith) (rise.expr e suits fits))
           (omega arith, omega arith, omega arith, (λ e. refl), lift)
 
   -- a value that is kept in a word
-  kept_more : (e : Expr) (w : ℕ) (rest : List Instr) → SuitsExpr rs site.names e → ExprFits e most_levels → Level c rest → Level c (expr_code site e ++ store_own site w ∷ rest)
+  kept_more : (e : Expr) (w : ℕ) (rest : List Instr) → SuitsExpr rs site.names e → ExprFits e most_levels → Level c rest
+      → Level c (expr_code site e ++ store_own site w ∷ rest)
   kept_more e w rest suits fits lift =
-      lifted_more c 0 1500 (expr_code site e) (store_own site w ∷ rest) 0 1 0 (lifted_from c 1 0 1500 (expr_code site e) 0 1 (omega arith) (rise.expr e suits fits))
+      lifted_more c 0 1500 (expr_code site e) (store_own site w ∷ rest) 0 1 0
+          (lifted_from c 1 0 1500 (expr_code site e) 0 1 (omega arith) (rise.expr e suits fits))
           (store_lift c site.owner w 0 rest lift)
 
   mutual
-    pub statement_lifts : (s : Statement) (free place n : ℕ) → SuitsStatement rs site.names inside s → StatementFits s n → Level c (statement_code site free s place)
+    pub statement_lifts : (s : Statement) (free place n : ℕ) → SuitsStatement rs site.names inside s → StatementFits s n
+        → Level c (statement_code site free s place)
     statement_lifts empty free place n suits fits = refl
     statement_lifts (assign x None becomes e) free place n suits fits = ticks_more x.line _ (rise.assign_name x becomes e suits fits.2)
     statement_lifts (assign x (Some i) becomes e) free place n suits fits = ticks_more x.line _ (rise.assign_element x i becomes e suits fits.1 fits.2)
@@ -141,14 +152,16 @@ module _ (c : CodeLists) (rs : Routines) (site : Site) (inside : Bool) (rise : R
     statement_lifts (while_do line e do_line s) free place n suits fits =
         let first = place + 1 + length (expr_code site e) + 2 in
         let code = statement_code site free s first in
-        (omega arith, omega arith, omega arith, (λ e. cc), (omega arith, omega arith, omega arith, (λ e. cc), tested_more e (first + length code + 1) (code ++ jump (place + 1) ∷ []) suits.0 fits.1
+        (omega arith, omega arith, omega arith, (λ e. cc),
+            (omega arith, omega arith, omega arith, (λ e. cc), tested_more e (first + length code + 1) (code ++ jump (place + 1) ∷ []) suits.0 fits.1
             (lifted_more c 0 1500 code (jump (place + 1) ∷ []) 0 0 0 (statement_lifts s free first (n - 1) suits.1 fits.2) (jumps_more (place + 1) [] refl))))
     statement_lifts (repeat_until line s until_line e) free place n suits fits =
         let test = expr_code site e in
         let first = place + 2 + length test + 3 in
         let code = sequence_code site free s first in
         let out = first + length code + 1 in
-        (omega arith, omega arith, omega arith, (λ e. cc), (omega arith, omega arith, omega arith, (λ e. refl), (omega arith, omega arith, omega arith, (λ e. cc),
+        (omega arith, omega arith, omega arith, (λ e. cc),
+            (omega arith, omega arith, omega arith, (λ e. refl), (omega arith, omega arith, omega arith, (λ e. cc),
         (lifted_more c 0 1500 test (bare op.Not ∷ (jump_if_false out ∷ (code ++ jump (place + 2) ∷ []))) 0 1 0
             (lifted_from c 1 0 1500 test 0 1 (omega arith) (rise.expr e suits.0 fits.2))
             (omega arith, omega arith, omega arith, (λ e. cc), (omega arith, omega arith, omega arith, (λ e. refl),
@@ -184,14 +197,16 @@ module _ (c : CodeLists) (rs : Routines) (site : Site) (inside : Bool) (rise : R
         lifted_more c 0 1500 code (statements_code site free more (place + length code)) 0 0 0 (statement_lifts s free place n suits.0 fits.0)
             (statements_lift more free (place + length code) n suits.1 fits.1)
 
-    pub statements_lift : (ss : Statements) (free place n : ℕ) → SuitsStatements rs site.names inside ss → StatementsFit ss n → Level c (statements_code site free ss place)
+    pub statements_lift : (ss : Statements) (free place n : ℕ) → SuitsStatements rs site.names inside ss → StatementsFit ss n
+        → Level c (statements_code site free ss place)
     statements_lift no_statement free place n suits fits = refl
     statements_lift (next_statement line s more) free place n suits fits =
         let code = statement_code site free s place in
         lifted_more c 0 1500 code (statements_code site free more (place + length code)) 0 0 0 (statement_lifts s free place n suits.0 fits.0)
             (statements_lift more free (place + length code) n suits.1 fits.1)
 
-    pub branch_lifts : (b : Branch) (free : ℕ) (later : ℕ → List Instr) (place n : ℕ) → SuitsBranch rs site.names inside b → BranchFits b n → ((m : ℕ) → Level c (later m))
+    pub branch_lifts : (b : Branch) (free : ℕ) (later : ℕ → List Instr) (place n : ℕ) → SuitsBranch rs site.names inside b → BranchFits b n
+        → ((m : ℕ) → Level c (later m))
         → Level c (branch_code site free b later place)
     branch_lifts (branch labels colon s) free later place n suits fits lift =
         let found = place + label_tests_size labels + 1 in
@@ -200,9 +215,11 @@ module _ (c : CodeLists) (rs : Routines) (site : Site) (inside : Bool) (rise : R
         let others = later next in
         let out = next + length others in
         lifted_more c 0 1500 (label_tests site free found labels) (jump next ∷ (code ++ (jump out ∷ others))) 0 0 0 (labels_lift c site free found labels)
-        (jumps_more next _ (lifted_more c 0 1500 code (jump out ∷ others) 0 0 0 (statement_lifts s (free + 1) found n suits.1 fits) (jumps_more out others (lift next))))
+        (jumps_more next _ (lifted_more c 0 1500 code (jump out ∷ others) 0 0 0 (statement_lifts s (free + 1) found n suits.1 fits)
+            (jumps_more out others (lift next))))
 
-    pub branches_lift : (bs : Branches) (free place n : ℕ) → SuitsBranches rs site.names inside bs → BranchesFit bs n → Level c (branches_code site free bs place)
+    pub branches_lift : (bs : Branches) (free place n : ℕ) → SuitsBranches rs site.names inside bs → BranchesFit bs n
+        → Level c (branches_code site free bs place)
     branches_lift no_branch free place n suits fits = no_branch_lifts c (place + 3)
     branches_lift (next_branch line b more) free place n suits fits =
         branch_lifts b free (branches_code site free more) place n suits.0 fits.0 (λ m. branches_lift more free m n suits.1 fits.1)

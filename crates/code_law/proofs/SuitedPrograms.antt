@@ -72,7 +72,8 @@ module _ (p : Program) (words : AreWords (spelled p)) (none : first_broken (judg
   body_words : AreWords (spelled_body p.body)
   body_words = words_before (spelled_body p.body) _ (words_behind (spelled_routines p.routines) _ routines_words)
 
-  pub vars_none : first_broken (judged_vars constants_scope p.vars ++ (judged_routines variables_scope 0 p.routines ++ judged_body headings_scope p.body)) ≡ None
+  pub vars_none : first_broken (judged_vars constants_scope p.vars
+      ++ (judged_routines variables_scope 0 p.routines ++ judged_body headings_scope p.body)) ≡ None
   vars_none = behind (judged_consts empty_scope p.consts)
       (judged_vars constants_scope p.vars ++ (judged_routines variables_scope 0 p.routines ++ judged_body headings_scope p.body)) none
 
