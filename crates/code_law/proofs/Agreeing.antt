@@ -1,9 +1,9 @@
 -- All open activations, where one's words change, where one begins and where one ends.
-use Rattle.std.proofs.Common.{◌≡◌, ℕ, zero, suc, ◌+◌, ◌<◌, ◌≤◌, Bool, true, false, List, [], ◌∷◌, ◌++◌, length, take, Option, Some, None, ℤ, refl, sym, ◌∙◌, ap, subst, arith}
+use Rattle.std.proofs.Common.{◌≡◌, ℕ, zero, suc, ◌+◌, ◌<◌, ◌≤◌, Bool, true, false, List, [], ◌∷◌, ◌++◌, length, take, Some, ℤ, refl, sym, ◌∙◌, ap, subst, arith}
 use Rattle.std.specs.Prelude.{slice_get, slice_set, if◌then◌else◌, ◌==◌}
 use Rattle.std.proofs.lemmas.Bool.{eqb-true, eqb-false}
 use Rattle.std.proofs.lemmas.List.{length-append, length-take-le}
-use Rattle.std.proofs.lemmas.Option.{none-some, same_Some, slice_get_within}
+use Rattle.std.proofs.lemmas.Option.{same_Some, slice_get_within}
 use Rattle.stack_machine.specs.declared.activation.Activation.{Activation}
 use Rattle.stack_machine.specs.Activations.{words_from, waiting_with, own_with}
 use Rattle.stack_machine.proofs.Frames.{as_many_wait, waiting_stay, own_written}
@@ -14,7 +14,7 @@ use Rattle.code_law.specs.Regions.{AreApart}
 use Rattle.code_law.specs.Ties.{IsReferred, AreTied, Held, Agree}
 use Rattle.code_law.proofs.Words.{other_word, written_word}
 use Rattle.code_law.proofs.Tied.{tied_beside}
-use Rattle.code_law.proofs.Lists.{this_map, other_map, as_many_maps, this_frame, other_frame, first_of_more, last_of_more, none_of_more, first_map, last_map, first_frames, last_frame, map_below}
+use Rattle.code_law.proofs.Lists.{this_map, other_map, as_many_maps, this_frame, other_frame, first_of_more, last_of_more, first_map, last_map, first_frames, last_frame, map_below}
 
 module _ {frames : List Frame} {held : Held} {maps : List Map} {below : List Activation} {own : List ℤ} (agree : Agree frames held maps below own) where
   pub open_number : (d : ℕ) (f : Frame) → slice_get frames d ≡ Some f → d ≤ length below
@@ -35,7 +35,7 @@ module _ {frames : List Frame} {held : Held} {maps : List Map} {below : List Act
         let frame : f ≡ g = same_Some f g (sym is ∙ ap (slice_get frames) one ∙ at) in
         subst (λ n. AreTied frames n g (map_at (with_map k change maps) n) (words_from (waiting_with below k words) (own_with below own k words) n)) one
         (subst (λ (h : Frame). AreTied frames k h (map_at (with_map k change maps) k) (words_from (waiting_with below k words) (own_with below own k words) k))
-            frame
+        frame
         (subst (λ (w : List ℤ). AreTied frames k f (map_at (with_map k change maps) k) w) (sym (this_frame below own k words number_low))
         (subst (λ (m : Map). AreTied frames k f m words) (sym (this_map maps k change map_there)) new)))
     tied_by new d g false e at =
@@ -46,7 +46,7 @@ module _ {frames : List Frame} {held : Held} {maps : List Map} {below : List Act
         (kept : (i : ℕ) (v : ℤ) → now k i ≡ Some v → slice_get words (declared_words f + i) ≡ Some v) where
       holds_by : (d i : ℕ) (g : Frame) (v : ℤ) (same : Bool) → (d == k) ≡ same
           → slice_get frames d ≡ Some g → now d i ≡ Some v → slice_get (words_from (waiting_with below k words) (own_with below own k words) d)
-              (declared_words g + i) ≡ Some v
+          (declared_words g + i) ≡ Some v
       holds_by d i g v true e at is_held =
           let one : k ≡ d = sym (eqb-true d k e) in
           let frame : f ≡ g = same_Some f g (sym is ∙ ap (slice_get frames) one ∙ at) in
@@ -121,7 +121,7 @@ module _ {frames : List Frame} {held : Held} {maps : List Map} {below : List Act
   own_agree f is change words now others kept new =
       subst (λ (b : List Activation). Agree frames now (with_map (length below) change maps) b words) (waiting_stay below (length below) words (omega arith))
       (subst (λ (w : List ℤ). Agree frames now (with_map (length below) change maps) (waiting_with below (length below) words) w)
-          (own_written below own (length below) words refl)
+      (own_written below own (length below) words refl)
       (agree_on agree (length below) f is change words now others kept new))
 
   pub agree_hold : (f : Frame) (i : ℕ) (v : ℤ) → slice_get frames (length below) ≡ Some f → declared_words f + i < length own
@@ -174,13 +174,23 @@ referred_less {frames} g {d} {words} {a} {p} low is = record {
 
 pub tied_more : {frames : List Frame} (g : Frame) {d : ℕ} {f : Frame} {m : Map} {words : List ℤ} → d ≤ length frames → AreTied frames d f m words
     → AreTied (frames ++ g ∷ []) d f m words
-tied_more g low tied = record { scalars = tied.scalars; arrays = tied.arrays; references = λ x a at. referred_more g low (tied.references x a at); answer =
-    tied.answer }
+tied_more g low tied = record {
+  scalars = tied.scalars;
+  arrays = tied.arrays;
+  references = λ x a at. referred_more g low (tied.references x a at);
+  answer =
+      tied.answer;
+}
 
 tied_less : {frames : List Frame} (g : Frame) {d : ℕ} {f : Frame} {m : Map} {words : List ℤ} → d ≤ length frames → AreTied (frames ++ g ∷ []) d f m words
     → AreTied frames d f m words
-tied_less g low tied = record { scalars = tied.scalars; arrays = tied.arrays; references = λ x a at. referred_less g low (tied.references x a at); answer =
-    tied.answer }
+tied_less g low tied = record {
+  scalars = tied.scalars;
+  arrays = tied.arrays;
+  references = λ x a at. referred_less g low (tied.references x a at);
+  answer =
+      tied.answer;
+}
 
 module _ {frames : List Frame} {held : Held} {maps : List Map} {below : List Activation} (caller : Activation)
     (agree : Agree frames held maps below caller.words) where
@@ -206,7 +216,7 @@ module _ {frames : List Frame} {held : Held} {maps : List Map} {below : List Act
           by_test false e =
               let inside : d < length (frames ++ g ∷ []) = slice_get_within (frames ++ g ∷ []) d f at in
               let low : d < length frames = below_last (length frames) d (eqb-false d (length frames) e)
-                  (omega (arith, inside, length-append frames (g ∷ []))) in
+              (omega (arith, inside, length-append frames (g ∷ []))) in
               first low (sym (first_of_more frames g d low) ∙ at)
 
       tied_at : (d : ℕ) (f : Frame) → slice_get (frames ++ g ∷ []) d ≡ Some f → AreTied (frames ++ g ∷ []) d f (map_at (maps ++ m ∷ []) d)
@@ -214,13 +224,13 @@ module _ {frames : List Frame} {held : Held} {maps : List Map} {below : List Act
       tied_at d f at = by_number (λ h. AreTied (frames ++ g ∷ []) d h (map_at (maps ++ m ∷ []) d) (words_from (below ++ caller ∷ []) words d)) d f
           (λ low before.
           subst (λ (w : List ℤ). AreTied (frames ++ g ∷ []) d f (map_at (maps ++ m ∷ []) d) w)
-              (sym (first_frames below caller words d (omega (arith, low, agree.all_open))))
+          (sym (first_frames below caller words d (omega (arith, low, agree.all_open))))
           (subst (λ (n : Map). AreTied (frames ++ g ∷ []) d f n (words_from below caller.words d))
-              (sym (first_map maps m d (omega (arith, low, agree.as_many))))
+          (sym (first_map maps m d (omega (arith, low, agree.as_many))))
           (tied_more g (omega (arith, low)) (agree.tied d f before))))
           (λ last.
           subst (λ (w : List ℤ). AreTied (frames ++ g ∷ []) d g (map_at (maps ++ m ∷ []) d) w)
-              (sym (last_frame (below ++ caller ∷ []) words d (omega (arith, last, agree.all_open, length-append below (caller ∷ [])))))
+          (sym (last_frame (below ++ caller ∷ []) words d (omega (arith, last, agree.all_open, length-append below (caller ∷ [])))))
           (subst (λ (n : Map). AreTied (frames ++ g ∷ []) d g n words) (sym (last_map maps m d (omega (arith, last, agree.as_many))))
           (subst (λ n. AreTied (frames ++ g ∷ []) n g m words) (sym last) new)))
           at
@@ -229,7 +239,7 @@ module _ {frames : List Frame} {held : Held} {maps : List Map} {below : List Act
           → slice_get (words_from (below ++ caller ∷ []) words d) (declared_words f + i) ≡ Some v
       holds_at d i f v at is = by_number (λ h. slice_get (words_from (below ++ caller ∷ []) words d) (declared_words h + i) ≡ Some v) d f
           (λ low before. ap (λ (w : List ℤ). slice_get w (declared_words f + i)) (first_frames below caller words d (omega (arith, low, agree.all_open)))
-              ∙ agree.holds d i f v before (less d i v low is))
+          ∙ agree.holds d i f v before (less d i v low is))
           (λ last. absurd (none i v (ap (λ n. now n i) (sym last) ∙ is)))
           at
 

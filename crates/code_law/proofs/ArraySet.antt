@@ -6,7 +6,7 @@ use Rattle.stack_machine.specs.Machine.{set_array}
 use Rattle.stack_machine.proofs.Answered.{no_array}
 use Rattle.pascal_mean.specs.Means.{Owner, Bounds}
 use Rattle.pascal_mean.specs.Situation.{Map, Situation}
-use Rattle.pascal_mean.specs.Variables.{map_at, with_map, set_map, put_element, stored_element, stored_elements, ArrayPlace, element_at, elements_from, size_of}
+use Rattle.pascal_mean.specs.Variables.{with_map, set_map, put_element, stored_element, stored_elements, ArrayPlace, element_at, elements_from, size_of}
 use Rattle.pascal_code.specs.Frames.{Frame}
 use Rattle.pascal_code.specs.Senses.{Array, sense_in}
 use Rattle.code_law.specs.Regions.{AreApart}
@@ -81,16 +81,16 @@ set_is words n (v ∷ more) room = set_one words n v more (omega (arith, room)) 
 pub tied_all : (frames : List Frame) (d : ℕ) (f : Frame) → AreApart f → (x : List ℕ) (o : Owner) (a : ℕ) (bounds : Bounds)
     → sense_in f x ≡ Some (Array o a bounds) → (j : ℕ) (values : List ℤ) (m : Map) (words : List ℤ)
     → AreTied frames d f m words → j + length values ≤ size_of bounds → AreTied frames d f (elements_put x (bounds.low +ℤ pos j) values m)
-        (words_set words (a + j) values)
+    (words_set words (a + j) values)
 tied_all frames d f apart x o a bounds is j [] m words tied room = tied
 tied_all frames d f apart x o a bounds is j (v ∷ more) m words tied room =
     let next : a + j + 1 ≡ a + (j + 1) = omega arith in
     let later = tied_all frames d f apart x o a bounds is (j + 1) more (put_element x (bounds.low +ℤ pos j) v m) (slice_set words (a + j) v)
-        (tied_element apart tied x o a bounds j v is (omega (arith, room))) (omega (arith, room)) in
+    (tied_element apart tied x o a bounds j v is (omega (arith, room))) (omega (arith, room)) in
     subst (λ i. AreTied frames d f (elements_put x i more (put_element x (bounds.low +ℤ pos j) v m)) (words_set (slice_set words (a + j) v) (a + j + 1) more))
-        (sym (next_index bounds.low j))
+    (sym (next_index bounds.low j))
     (subst (λ n. AreTied frames d f (elements_put x (bounds.low +ℤ pos (j + 1)) more (put_element x (bounds.low +ℤ pos j) v m))
-        (words_set (slice_set words (a + j) v) n more)) (sym next) later)
+    (words_set (slice_set words (a + j) v) n more)) (sym next) later)
 
 -- ---- Read
 
@@ -110,4 +110,4 @@ read_is words a low now n j (suc count) there =
     ap (take (suc count)) (found_first words (n + j) (element_at a (low +ℤ pos j) now) first)
     ∙ ap (λ (l : List ℤ). element_at a (low +ℤ pos j) now ∷ l)
     (ap (λ k. take count (drop k words)) next ∙ read_is words a low now n (j + 1) count (λ i low. there i (omega (arith, low)))
-        ∙ ap (λ z. elements_from a z count now) (sym (next_index low j)))
+    ∙ ap (λ z. elements_from a z count now) (sym (next_index low j)))

@@ -1,5 +1,5 @@
 -- A call of the interface, up to its reply.
-use Rattle.std.proofs.Common.{◌≡◌, ℕ, zero, suc, ◌+◌, ◌-◌, ◌<◌, ◌≤◌, Bool, true, false, ◌&&◌, Option, Some, None, List, [], ◌∷◌, ◌++◌, length, take, drop, ℤ, pos, ◌+ℤ◌, refl, sym, ◌∙◌, ap, subst, arith}
+use Rattle.std.proofs.Common.{◌≡◌, ℕ, ◌+◌, ◌-◌, ◌<◌, ◌≤◌, Bool, true, false, ◌&&◌, Option, Some, None, List, [], ◌∷◌, ◌++◌, length, take, drop, ℤ, pos, ◌+ℤ◌, refl, sym, ◌∙◌, ap, subst, arith}
 use Rattle.std.specs.Prelude.{slice_get, if◌then◌else◌, nat_le, reverse}
 use Rattle.std.proofs.lemmas.Option.{get_or_from_slice_get, slice_get_within}
 use Rattle.solo_base.specs.declared.interface.Procedure.{Procedure}
@@ -7,38 +7,36 @@ use Rattle.solo_base.specs.declared.outcome.ProgResult.TheVariants as result
 use Rattle.solo_base.specs.declared.system_call.SysCall.{SysCall}
 use Rattle.solo_base.specs.declared.system_call.SysReply.{SysReply}
 use Rattle.solo_base.specs.declared.system_call.SysReply.TheVariants as replies
-use Rattle.solo_base.specs.Fits.{Fits}
-use Rattle.solo_base.specs.Interface.{procedure_at, call_row_of, values_of}
+use Rattle.solo_base.specs.Interface.{call_row_of, values_of}
 use Rattle.solo_base.specs.Replies.{results_in, array_in, ticks_in}
 use Rattle.stack_code.specs.declared.table.Op.TheVariants as op
 use Rattle.stack_code.specs.declared.instr.Instr.{Instr}
 use Rattle.stack_code.specs.CodeLists.{CodeLists, instr_at, no_instr, routine_at}
-use Rattle.stack_code.specs.Rules.{pops}
 use Rattle.stack_machine.specs.declared.state.State.{State}
 use Rattle.stack_machine.specs.Activations.{words_from, waiting_with, own_with}
-use Rattle.stack_machine.specs.State.{Next, Asks, Stops, Lacks, words_of, with_words}
+use Rattle.stack_machine.specs.State.{Next, Asks, Lacks}
 use Rattle.stack_machine.specs.Calls.{made, request, ask_row}
-use Rattle.stack_machine.specs.Machine.{effect, next, answered, reply_at, set_array, array_start}
+use Rattle.stack_machine.specs.Machine.{effect, next, answered, reply_at, set_array}
 use Rattle.stack_machine.proofs.Answered.{no_array}
 use Rattle.pascal_mean.specs.Means.{Owner, OfProgram, OfRoutine, Bounds}
-use Rattle.pascal_mean.specs.Situation.{Situation, Course, Gives, Over, Map, and_then, end_with, replied, answered_by, make_call, with_call}
-use Rattle.pascal_mean.specs.Variables.{map_at, set_map, owner_number, ArrayPlace, whole_array, elements_from, stored_elements, size_of}
+use Rattle.pascal_mean.specs.Situation.{Situation, Course, end_with, replied, answered_by, make_call, with_call}
+use Rattle.pascal_mean.specs.Variables.{map_at, owner_number, ArrayPlace, whole_array, elements_from, stored_elements, size_of}
 use Rattle.std.proofs.Math.IntN.{+ℤ_comm, +ℤ_idl}
 use Rattle.solo_base.specs.declared.interface.Procedure.TheVariants as row
 use Rattle.pascal_mean.specs.Calls.{call_for}
 use Rattle.pascal_mean.specs.Meaning as meaning
-use Rattle.pascal_code.specs.Frames.{Frame, declared_words}
+use Rattle.pascal_code.specs.Frames.{Frame}
 use Rattle.pascal_code.specs.Senses.{Array, sense_in}
 use Rattle.pascal_code.specs.Instructions.{with_a, call_with_array}
 use Rattle.pascal_code.specs.Calls.{row_number}
 use Rattle.code_law.specs.Regions.{region_found}
-use Rattle.code_law.specs.Ties.{AreTied, Agree}
+use Rattle.code_law.specs.Ties.{AreTied}
 use Rattle.code_law.proofs.ArraySet.{elements_put, put_keeps, stored_is, words_set, stays_behind, set_is, tied_all, read_is}
 use Rattle.code_law.proofs.Opening.{on_top, top_reversed}
 use Rattle.std.proofs.lemmas.List.{drop_at, length-reverse}
 use Rattle.code_law.proofs.Requests.{row_is, requested, request_is, row_of, its_row, IsAnswer, SetsRow, sets_row}
 use Rattle.code_law.proofs.Reached.{Reached, does, asks_if, stops_if, stops, first_reply, next_reply, waits, reply_fits, is_answered, fails}
-use Rattle.code_law.proofs.Here.{Fixed, own_number, state_at, Here, number_of, After, after}
+use Rattle.code_law.proofs.Here.{Fixed, own_number, state_at, Here, After}
 use Rattle.code_law.proofs.Loads.{own_words}
 use Rattle.code_law.proofs.Stores.{rewritten_at, own_reached}
 
@@ -57,10 +55,10 @@ module _ {c : CodeLists} {limit : ℕ} {all : List SysReply} {f : Fixed} where
   module _ (p : Procedure) (q : ℕ) (i : Instr) (operands rest : List ℤ) (now : Situation) (h : Here c limit all f q operands now)
       (found : slice_get c.instrs q ≡ Some i) (sets : SysReply → Situation → Situation)
       (call : SysCall) (row : row_of call ≡ p) (asks : (let s = state_at f.routine h.below q now.line h.words operands now.ticks in next c limit s ≡ Asks call
-          s))
+      s))
       (goes_on : (reply : SysReply) → SetsRow p reply → IsAnswer reply
       → (let s = state_at f.routine h.below q now.line h.words operands now.ticks in
-          (reached : (answered c s reply).ended ≡ None → Reached c limit all (answered c s reply) (now.made ++ call ∷ []))
+      (reached : (answered c s reply).ended ≡ None → Reached c limit all (answered c s reply) (now.made ++ call ∷ []))
       → Here c limit all f (q + 1) (results_in reply ++ rest) (sets reply (record (with_call call now) { ticks = now.ticks + ticks_in reply })))) where
     with_reply : (reply : SysReply) (left : List SysReply) → (h.reached).left ≡ reply ∷ left
         → After c limit all (λ r n. Answered c limit all f (q + 1) rest p sets r n) (replied reply (with_call call now))
@@ -119,39 +117,39 @@ module _ {c : CodeLists} {limit : ℕ} {all : List SysReply} {f : Fixed} where
       → (let s = state_at f.routine h.below q now.line h.words operands now.ticks in next c limit s ≡ asked_if room s o)
       → ((call : SysCall) (reply : SysReply) → SetsRow p reply → IsAnswer reply
       → (let s = state_at f.routine h.below q now.line h.words operands now.ticks in
-          (reached : (answered c s reply).ended ≡ None → Reached c limit all (answered c s reply) (now.made ++ call ∷ []))
+      (reached : (answered c s reply).ended ≡ None → Reached c limit all (answered c s reply) (now.made ++ call ∷ []))
       → Here c limit all f (q + 1) (results_in reply ++ rest) (sets reply (record (with_call call now) { ticks = now.ticks + ticks_in reply }))))
       → After c limit all (λ r n. Answered c limit all f (q + 1) rest p sets r n) (asking (meaning.in_order all) o now)
   by_call p q i operands rest now h found sets room None row step goes_on = record
       { comes = stops result.RangeError now.line now.ticks h.reached (stops_if room result.RangeError now.line now.ticks h.reached step) }
   by_call p q i operands rest now h found sets room (Some call) row step goes_on =
       call_made p q i operands rest now h found sets call (row call refl) (asks_if room call h.reached step)
-          (λ reply set answer reached. goes_on call reply set answer reached)
+      (λ reply set answer reached. goes_on call reply set answer reached)
 
   -- a row without an array
   pub row_called : (p : Procedure) (q : ℕ) (values rest : List ℤ) (now : Situation) → (call_row_of p).array ≡ 0 → length values ≡ (call_row_of p).values
       → Here c limit all f q (on_top values rest) now
       → slice_get c.instrs q ≡ Some (with_a op.Sys (row_number p))
       → After c limit all (λ r n. Answered c limit all f (q + 1) rest p (λ reply m. m) r n)
-          (asking (meaning.in_order all) (call_for p values [] (limit - now.ticks)) now)
+      (asking (meaning.in_order all) (call_for p values [] (limit - now.ticks)) now)
   unfolding effect answered
   row_called p q values rest now plain count h found =
       let r = call_row_of p in
       let s = state_at f.routine h.below q now.line h.words (on_top values rest) now.ticks in
       let room = nat_le r.values (length (on_top values rest)) && nat_le (0 + r.array) (length h.words) && nat_le
-          (length (on_top values rest) - r.values + r.results) (routine_at c f.routine).height in
+      (length (on_top values rest) - r.values + r.results) (routine_at c f.routine).height in
       let empty : take r.array (drop 0 h.words) ≡ [] = ap (λ n. take n (drop 0 h.words)) plain in
       let step : next c limit s ≡ asked_if room s (call_for p values [] (limit - now.ticks)) =
       does h.reached (with_a op.Sys (row_number p)) found ∙ ap (λ o. ask_row c limit s o false 0) (row_is p)
       ∙ ap (λ (array : List ℤ). if room then made s (request p (on_top values rest) array (limit - now.ticks)) else Lacks) empty
       ∙ ap (λ request. if room then made s request else Lacks) (request_is p values rest [] (limit - now.ticks) count) in
       by_call p q (with_a op.Sys (row_number p)) (on_top values rest) rest now h found (λ reply m. m) room (call_for p values [] (limit - now.ticks))
-          (λ call e. its_row p values [] (limit - now.ticks) call e) step
+      (λ call e. its_row p values [] (limit - now.ticks) call e) step
       (λ call reply set answer reached. goes_on call reply set answer reached)
     where
       goes_on : (call : SysCall) (reply : SysReply) → SetsRow p reply → IsAnswer reply
           → (let s = state_at f.routine h.below q now.line h.words (on_top values rest) now.ticks in
-              (reached : (answered c s reply).ended ≡ None → Reached c limit all (answered c s reply) (now.made ++ call ∷ []))
+          (reached : (answered c s reply).ended ≡ None → Reached c limit all (answered c s reply) (now.made ++ call ∷ []))
           → Here c limit all f (q + 1) (results_in reply ++ rest) (record (with_call call now) { ticks = now.ticks + ticks_in reply }))
       goes_on call replies.CallError set answer reached = absurd answer
       goes_on call reply set answer reached =
@@ -160,11 +158,11 @@ module _ {c : CodeLists} {limit : ℕ} {all : List SysReply} {f : Fixed} where
           let few : length (array_in reply) ≤ 0 = omega (arith, set.array, plain) in
           let same : set_array h.words 0 (array_in reply) ≡ h.words = ap (set_array h.words 0) (none_of_length (array_in reply) few) ∙ no_array h.words 0 in
           let under : drop (values_of (row_number p)) (on_top values rest) ≡ rest =
-              ap (λ n. drop n (on_top values rest)) (pops_is p ∙ sym count) ∙ dropped values rest in
+          ap (λ n. drop n (on_top values rest)) (pops_is p ∙ sym count) ∙ dropped values rest in
           let t : List ℤ → List ℤ → State = λ words left. state_at f.routine h.below (q + 1) now.line words (results_in reply ++ left)
-              (now.ticks + ticks_in reply) in
+          (now.ticks + ticks_in reply) in
           let state : answered c s reply ≡ t h.words rest = ap (λ (j : Instr). reply_at c s j reply) i ∙ ap
-              (λ w. t w (drop (values_of (row_number p)) (on_top values rest))) same ∙ ap (t h.words) under in
+          (λ w. t w (drop (values_of (row_number p)) (on_top values rest))) same ∙ ap (t h.words) under in
           record {
             below = h.below;
             words = h.words;
@@ -179,7 +177,7 @@ module _ {c : CodeLists} {limit : ℕ} {all : List SysReply} {f : Fixed} where
   module _ (p : Procedure) (q : ℕ) (values rest : List ℤ) (now : Situation) (h : Here c limit all f q (on_top values rest) now)
       (count : length values ≡ (call_row_of p).values)
       (owner : Owner) (g : Frame) (frame : slice_get f.frames (owner_number owner (own_number f)) ≡ Some g) (x : List ℕ) (o : Owner) (a : ℕ) (bounds : Bounds)
-          (is : sense_in g x ≡ Some (Array o a bounds)) (size : size_of bounds ≡ (call_row_of p).array) where
+      (is : sense_in g x ≡ Some (Array o a bounds)) (size : size_of bounds ≡ (call_row_of p).array) where
     abbrev number : ℕ
     number = owner_number owner (own_number f)
 
@@ -225,25 +223,25 @@ module _ {c : CodeLists} {limit : ℕ} {all : List SysReply} {f : Fixed} where
           let tied : AreTied f.frames number g (elements_put x bounds.low (array_in reply) (map_at now.maps number)) new_words =
           subst (λ z. AreTied f.frames number g (elements_put x z (array_in reply) (map_at now.maps number)) new_words) (low_itself bounds.low)
           (subst (λ k. AreTied f.frames number g (elements_put x (bounds.low +ℤ pos 0) (array_in reply) (map_at now.maps number))
-              (words_set array_words k (array_in reply))) from
+          (words_set array_words k (array_in reply))) from
           (tied_all f.frames number g apart x o a bounds is 0 (array_in reply) (map_at now.maps number) array_words (h.agree.tied number g frame)
-              (omega (arith, set.array, size)))) in
+          (omega (arith, set.array, size)))) in
           subst (λ (m : Situation). Here c limit all f (q + 1) (results_in reply ++ rest) m) (sym (stored_is place bounds.low (array_in reply) n))
           (rewritten_at h number g frame (now.ticks + ticks_in reply) (now.made ++ call ∷ []) (omega arith) (elements_put x bounds.low (array_in reply))
-              (put_keeps x bounds.low (array_in reply)) new_words (q + 1) (results_in reply ++ rest)
+          (put_keeps x bounds.low (array_in reply)) new_words (q + 1) (results_in reply ++ rest)
           (λ b far. stays_behind array_words a b (array_in reply)
-              (omega (arith, far, set.array, size, apart.inside x (record { first = a; count = size_of bounds }) (ap region_found is)))) tied reached)
+          (omega (arith, far, set.array, size, apart.inside x (record { first = a; count = size_of bounds }) (ap region_found is)))) tied reached)
 
 -- the array of a row in the program's frame, or in the own one
 module _ {c : CodeLists} {limit : ℕ} {all : List SysReply} {f : Fixed} where
   pub array_called : (p : Procedure) (q : ℕ) (values rest : List ℤ) (now : Situation) (h : Here c limit all f q (on_top values rest) now)
       → length values ≡ (call_row_of p).values → (owner : Owner) (g : Frame)
       → slice_get f.frames (owner_number owner (own_number f)) ≡ Some g → (x : List ℕ) (o : Owner) (a : ℕ) (bounds : Bounds)
-          → sense_in g x ≡ Some (Array o a bounds) → size_of bounds ≡ (call_row_of p).array
+      → sense_in g x ≡ Some (Array o a bounds) → size_of bounds ≡ (call_row_of p).array
       → slice_get c.instrs q ≡ Some (call_with_array owner (row_number p) a)
       → (let e : ArrayPlace = record { activation = owner_number owner (own_number f); letters = x; bounds = bounds } in
       After c limit all (λ r n. Answered c limit all f (q + 1) rest p (λ reply m. stored_elements e bounds.low (array_in reply) m) r n)
-          (asking (meaning.in_order all) (call_for p values (whole_array e now) (limit - now.ticks)) now))
+      (asking (meaning.in_order all) (call_for p values (whole_array e now) (limit - now.ticks)) now))
   unfolding effect answered
   array_called p q values rest now h count OfProgram g frame x o a bounds is size found =
       let r = call_row_of p in
@@ -251,35 +249,35 @@ module _ {c : CodeLists} {limit : ℕ} {all : List SysReply} {f : Fixed} where
       let e : ArrayPlace = record { activation = 0; letters = x; bounds = bounds } in
       let words = words_from h.below h.words 0 in
       let room = nat_le r.values (length (on_top values rest)) && nat_le (a + r.array) (length words) && nat_le
-          (length (on_top values rest) - r.values + r.results) (routine_at c f.routine).height in
+      (length (on_top values rest) - r.values + r.results) (routine_at c f.routine).height in
       let step : next c limit s ≡ asked_if room s (call_for p values (whole_array e now) (limit - now.ticks)) =
       does h.reached (call_with_array OfProgram (row_number p) a) found ∙ ap (λ o. ask_row c limit s o true a) (row_is p)
       ∙ ap (λ (array : List ℤ). if room then made s (request p (on_top values rest) array (limit - now.ticks)) else Lacks)
-          (read_whole p q values rest now h count OfProgram g frame x o a bounds is size)
+      (read_whole p q values rest now h count OfProgram g frame x o a bounds is size)
       ∙ ap (λ request. if room then made s request else Lacks) (request_is p values rest (whole_array e now) (limit - now.ticks) count) in
       by_call p q (call_with_array OfProgram (row_number p) a) (on_top values rest) rest now h found
-          (λ reply m. stored_elements e bounds.low (array_in reply) m) room (call_for p values (whole_array e now) (limit - now.ticks))
+      (λ reply m. stored_elements e bounds.low (array_in reply) m) room (call_for p values (whole_array e now) (limit - now.ticks))
       (λ call t. its_row p values (whole_array e now) (limit - now.ticks) call t) step (λ call reply set answer reached. goes_on call reply set answer reached)
     where
       goes_on : (call : SysCall) (reply : SysReply) → SetsRow p reply → IsAnswer reply
           → (let s = state_at f.routine h.below q now.line h.words (on_top values rest) now.ticks in
-              (reached : (answered c s reply).ended ≡ None → Reached c limit all (answered c s reply) (now.made ++ call ∷ []))
+          (reached : (answered c s reply).ended ≡ None → Reached c limit all (answered c s reply) (now.made ++ call ∷ []))
           → Here c limit all f (q + 1) (results_in reply ++ rest)
           (stored_elements (record { activation = 0; letters = x; bounds = bounds }) bounds.low (array_in reply)
-              (record (with_call call now) { ticks = now.ticks + ticks_in reply })))
+          (record (with_call call now) { ticks = now.ticks + ticks_in reply })))
       goes_on call replies.CallError set answer reached = absurd answer
       goes_on call reply set answer reached =
           let s = state_at f.routine h.below q now.line h.words (on_top values rest) now.ticks in
           let j = call_with_array OfProgram (row_number p) a in
           let i : instr_at c q ≡ j = get_or_from_slice_get c.instrs q j no_instr found in
           let under : drop (values_of (row_number p)) (on_top values rest) ≡ rest =
-              ap (λ n. drop n (on_top values rest)) (pops_is p ∙ sym count) ∙ dropped values rest in
+          ap (λ n. drop n (on_top values rest)) (pops_is p ∙ sym count) ∙ dropped values rest in
           let t : List ℤ → List ℤ → State = λ words left. state_at f.routine (waiting_with h.below 0 words) (q + 1) now.line (own_with h.below h.words 0 words)
-              (results_in reply ++ left) (now.ticks + ticks_in reply) in
+          (results_in reply ++ left) (now.ticks + ticks_in reply) in
           let new = new_words p q values rest now h count OfProgram g frame x o a bounds is size call reply set in
           let state : answered c s reply ≡ t new rest =
           ap (λ (k : Instr). reply_at c s k reply) i ∙ ap (λ w. t w (drop (values_of (row_number p)) (on_top values rest)))
-              (new_is p q values rest now h count OfProgram g frame x o a bounds is size call reply set) ∙ ap (t new) under in
+          (new_is p q values rest now h count OfProgram g frame x o a bounds is size call reply set) ∙ ap (t new) under in
           told p q values rest now h count OfProgram g frame x o a bounds is size call reply set
           (subst (λ (u : State). Reached c limit all u (now.made ++ call ∷ [])) state (reached (ap (λ (u : State). u.ended) state)))
   array_called p q values rest now h count OfRoutine g frame x o a bounds is size found =
@@ -287,7 +285,7 @@ module _ {c : CodeLists} {limit : ℕ} {all : List SysReply} {f : Fixed} where
       let s = state_at f.routine h.below q now.line h.words (on_top values rest) now.ticks in
       let e : ArrayPlace = record { activation = own_number f; letters = x; bounds = bounds } in
       let room = nat_le r.values (length (on_top values rest)) && nat_le (a + r.array) (length h.words) && nat_le
-          (length (on_top values rest) - r.values + r.results) (routine_at c f.routine).height in
+      (length (on_top values rest) - r.values + r.results) (routine_at c f.routine).height in
       let read : take r.array (drop a h.words) ≡ whole_array e now =
       ap (λ (w : List ℤ). take r.array (drop a w)) (sym (own_words h)) ∙ read_whole p q values rest now h count OfRoutine g frame x o a bounds is size in
       let step : next c limit s ≡ asked_if room s (call_for p values (whole_array e now) (limit - now.ticks)) =
@@ -295,29 +293,29 @@ module _ {c : CodeLists} {limit : ℕ} {all : List SysReply} {f : Fixed} where
       ∙ ap (λ (array : List ℤ). if room then made s (request p (on_top values rest) array (limit - now.ticks)) else Lacks) read
       ∙ ap (λ request. if room then made s request else Lacks) (request_is p values rest (whole_array e now) (limit - now.ticks) count) in
       by_call p q (call_with_array OfRoutine (row_number p) a) (on_top values rest) rest now h found
-          (λ reply m. stored_elements e bounds.low (array_in reply) m) room (call_for p values (whole_array e now) (limit - now.ticks))
+      (λ reply m. stored_elements e bounds.low (array_in reply) m) room (call_for p values (whole_array e now) (limit - now.ticks))
       (λ call t. its_row p values (whole_array e now) (limit - now.ticks) call t) step (λ call reply set answer reached. goes_on call reply set answer reached)
     where
       goes_on : (call : SysCall) (reply : SysReply) → SetsRow p reply → IsAnswer reply
           → (let s = state_at f.routine h.below q now.line h.words (on_top values rest) now.ticks in
-              (reached : (answered c s reply).ended ≡ None → Reached c limit all (answered c s reply) (now.made ++ call ∷ []))
+          (reached : (answered c s reply).ended ≡ None → Reached c limit all (answered c s reply) (now.made ++ call ∷ []))
           → Here c limit all f (q + 1) (results_in reply ++ rest)
           (stored_elements (record { activation = own_number f; letters = x; bounds = bounds }) bounds.low (array_in reply)
-              (record (with_call call now) { ticks = now.ticks + ticks_in reply })))
+          (record (with_call call now) { ticks = now.ticks + ticks_in reply })))
       goes_on call replies.CallError set answer reached = absurd answer
       goes_on call reply set answer reached =
           let s = state_at f.routine h.below q now.line h.words (on_top values rest) now.ticks in
           let j = call_with_array OfRoutine (row_number p) a in
           let i : instr_at c q ≡ j = get_or_from_slice_get c.instrs q j no_instr found in
           let under : drop (values_of (row_number p)) (on_top values rest) ≡ rest =
-              ap (λ n. drop n (on_top values rest)) (pops_is p ∙ sym count) ∙ dropped values rest in
+          ap (λ n. drop n (on_top values rest)) (pops_is p ∙ sym count) ∙ dropped values rest in
           let t : List ℤ → List ℤ → State = λ words left. state_at f.routine h.below (q + 1) now.line words (results_in reply ++ left)
-              (now.ticks + ticks_in reply) in
+          (now.ticks + ticks_in reply) in
           let new = new_words p q values rest now h count OfRoutine g frame x o a bounds is size call reply set in
           let there : set_array h.words a (array_in reply) ≡ new = ap (λ (w : List ℤ). set_array w a (array_in reply)) (sym (own_words h)) ∙ new_is p q values
-              rest now h count OfRoutine g frame x o a bounds is size call reply set in
+          rest now h count OfRoutine g frame x o a bounds is size call reply set in
           let state : answered c s reply ≡ t new rest = ap (λ (k : Instr). reply_at c s k reply) i
-              ∙ ap (λ w. t w (drop (values_of (row_number p)) (on_top values rest))) there ∙ ap (t new) under in
+          ∙ ap (λ w. t w (drop (values_of (row_number p)) (on_top values rest))) there ∙ ap (t new) under in
           told p q values rest now h count OfRoutine g frame x o a bounds is size call reply set
           (own_reached h (own_number f) g frame (now.ticks + ticks_in reply) (now.made ++ call ∷ []) new (q + 1) (results_in reply ++ rest) refl
           (subst (λ (u : State). Reached c limit all u (now.made ++ call ∷ [])) state (reached (ap (λ (u : State). u.ended) state))))

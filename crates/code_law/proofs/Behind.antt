@@ -1,5 +1,5 @@
 -- A TICK leads straight to each place of an expression's code behind it.
-use Rattle.std.proofs.Common.{◌≡◌, ℕ, ◌+◌, ◌-◌, ◌<◌, ◌≤◌, Bool, true, false, Some, List, [], ◌∷◌, ◌++◌, length, ◌⊎◌, inl, inr, refl, sym, ◌∙◌, ap, subst, arith, pos}
+use Rattle.std.proofs.Common.{◌≡◌, ℕ, ◌+◌, ◌<◌, ◌≤◌, Bool, true, false, Some, List, [], ◌∷◌, ◌++◌, length, ◌⊎◌, inl, inr, refl, sym, ◌∙◌, ap, subst, arith, pos}
 use Rattle.std.specs.Prelude.{slice_get, ◌==◌, ◌&&◌, ◌||◌, not}
 use Rattle.std.specs.List.{AllByRecursion}
 use Rattle.std.proofs.lemmas.Bool.{false≢true, cases_Bool, cases_order, eq-eqb, and_from, or_left, or_right}
@@ -173,13 +173,13 @@ module _ (rs : Routines) (site : Site) (base : ℕ) (low : (x : List ℕ) (a : �
     factor_begins (named x) suits = name_begins x.letters (site.names x.letters) refl suits
     factor_begins (element x i) suits =
         begins_in_front site base (index_code site (site.names x.letters) i) (element_code (site.names x.letters))
-            (index_begins (site.names x.letters) i suits.1)
+        (index_begins (site.names x.letters) i suits.1)
     factor_begins (called x a) suits =
         let callee = site.names x.letters in
         called_begins callee (given_arguments site a) (arguments_code site callee (passing_of callee) a) suits.0
-            (arguments_begin callee (passing_of callee) a suits.1)
-            (λ one. subst (λ (by : List Passing). Begins site base (arguments_code site callee by a)) (sym one)
-                (value_begins callee a (subst (λ (by : List Passing). SuitsArguments rs site.names callee by a) one suits.1)))
+        (arguments_begin callee (passing_of callee) a suits.1)
+        (λ one. subst (λ (by : List Passing). Begins site base (arguments_code site callee by a)) (sym one)
+        (value_begins callee a (subst (λ (by : List Passing). SuitsArguments rs site.names callee by a) one suits.1)))
     factor_begins (group opening e closing) suits = expr_begins e suits
     factor_begins (negated line f) suits = begins_in_front site base (factor_code site f) (bare op.Not ∷ []) (factor_begins f suits)
 
@@ -196,8 +196,8 @@ module _ (rs : Routines) (site : Site) (base : ℕ) (low : (x : List ℕ) (a : �
     arguments_begin callee [] (arguments opening e more closing) suits = absurd suits
     arguments_begin callee (by ∷ others) (arguments opening e more closing) suits =
         may_begin_behind site base (passed_code callee by (site.names (name_in e)) (expr_code site e)) (exprs_code site callee others more)
-            (passed_begins callee by (name_in e) (expr_code site e) (SuitsExpr rs site.names e) (λ it. expr_begins e it) suits.0)
-            (exprs_begin callee others more suits.1)
+        (passed_begins callee by (name_in e) (expr_code site e) (SuitsExpr rs site.names e) (λ it. expr_begins e it) suits.0)
+        (exprs_begin callee others more suits.1)
 
     exprs_begin : (callee : Sense) (by : List Passing) (e : Exprs) → SuitsExprs rs site.names callee by e
         → MayBegin site base (exprs_code site callee by e)
@@ -206,8 +206,8 @@ module _ (rs : Routines) (site : Site) (base : ℕ) (low : (x : List ℕ) (a : �
     exprs_begin callee [] (next_expr comma e more) suits = absurd suits
     exprs_begin callee (by ∷ others) (next_expr comma e more) suits =
         may_begin_behind site base (passed_code callee by (site.names (name_in e)) (expr_code site e)) (exprs_code site callee others more)
-            (passed_begins callee by (name_in e) (expr_code site e) (SuitsExpr rs site.names e) (λ it. expr_begins e it) suits.0)
-            (exprs_begin callee others more suits.1)
+        (passed_begins callee by (name_in e) (expr_code site e) (SuitsExpr rs site.names e) (λ it. expr_begins e it) suits.0)
+        (exprs_begin callee others more suits.1)
 
 -- ---- From one place to the next
 
@@ -273,9 +273,9 @@ module _ (c : CodeLists) (k : ℕ) (site : Site) (base start end : ℕ) (within 
   next_behind x low high leads none =
       is_behind_tick_next c x
       ∙ and_from (not (is_target c (x + 1)) && (routine_of c (x + 1) == routine_of c x)) _
-          (and_from (not (is_target c (x + 1))) (routine_of c (x + 1) == routine_of c x) (ap not none)
-              (eq-eqb (routine_of c (x + 1)) (routine_of c x) (within (x + 1) (omega (arith, low)) high ∙ sym (within x low (omega (arith, high))))))
-          leads.led
+      (and_from (not (is_target c (x + 1))) (routine_of c (x + 1) == routine_of c x) (ap not none)
+      (eq-eqb (routine_of c (x + 1)) (routine_of c x) (within (x + 1) (omega (arith, low)) high ∙ sym (within x low (omega (arith, high))))))
+      leads.led
 
   pub begun_behind : (x : ℕ) (i : Instr) → start ≤ x → x + 1 < end → LeadsOn c x → slice_get c.instrs (x + 1) ≡ Some i → is_tick i.op ≡ false
       → leaves_nothing i.op ≡ false → NotKept site base i
@@ -293,12 +293,12 @@ module _ (c : CodeLists) (k : ℕ) (site : Site) (base start end : ℕ) (within 
   run_behind (i ∷ code) p q h n low high stand lift at all led x from to =
       let far : q ≡ p + 1 + length code = stands_to c (p + 1) code q stand.1 in
       let next : height_at c (p + 1) ≡ behind c i h =
-          height_step c k site base start end within some p i low (omega (arith, far, high)) stand.0 ∙ ap (behind c i) at in
+      height_step c k site base start end within some p i low (omega (arith, far, high)) stand.0 ∙ ap (behind c i) at in
       let none : is_target c (p + 1) ≡ false = high_no_target (p + 1) (omega (arith, low)) (omega (arith, far, high)) (omega (arith, next, lift.1)) in
       let led_next : is_behind_tick c (p + 1) ≡ true =
-          next_behind p low (omega (arith, far, high)) (leads_from_behind c p i stand.0 (all.0).no_jump led) none in
+      next_behind p low (omega (arith, far, high)) (leads_from_behind c p i stand.0 (all.0).no_jump led) none in
       by_place (cases_order p x) (λ behind_here. run_behind code (p + 1) q (behind c i h) n (omega (arith, low)) high stand.1 lift.4 next all.1 led_next x
-          (omega (arith, behind_here)) to)
+      (omega (arith, behind_here)) to)
     where
       by_place : (p ≡ x) ⊎ ((p < x) ⊎ (x < p)) → (p < x → is_behind_tick c x ≡ true) → is_behind_tick c x ≡ true
       by_place (inl same) later = subst (λ (y : ℕ). is_behind_tick c y ≡ true) same led
@@ -317,7 +317,7 @@ module _ (c : CodeLists) (k : ℕ) (site : Site) (base start end : ℕ) (within 
   straight (i ∷ code) j p q h n low high leads stand found lift at all may no_tick goes_on lower x from to =
       let far : q ≡ p + 1 + 1 + length code = stands_to c (p + 1 + 1) code q stand.1 in
       run_behind (i ∷ code) (p + 1) q h n (omega (arith, low)) high stand lift at all
-          (begun_behind p i low (omega (arith, far, high)) leads stand.0 (all.0).no_tick (all.0).goes_on may) x (omega (arith, from)) to
+      (begun_behind p i low (omega (arith, far, high)) leads stand.0 (all.0).no_tick (all.0).goes_on may) x (omega (arith, from)) to
 
   -- the same of code that begins, whatever stands behind it
   pub straight_on : (code : List Instr) (p q h n : ℕ) → start ≤ p → q < end → LeadsOn c p → Stand c (p + 1) code q
@@ -327,7 +327,7 @@ module _ (c : CodeLists) (k : ℕ) (site : Site) (base start end : ℕ) (within 
   straight_on (i ∷ code) p q h n low high leads stand lift at all may x from to =
       let far : q ≡ p + 1 + 1 + length code = stands_to c (p + 1 + 1) code q stand.1 in
       run_behind (i ∷ code) (p + 1) q h n (omega (arith, low)) high stand lift at all
-          (begun_behind p i low (omega (arith, far, high)) leads stand.0 (all.0).no_tick (all.0).goes_on may) x (omega (arith, from)) (omega (arith, to))
+      (begun_behind p i low (omega (arith, far, high)) leads stand.0 (all.0).no_tick (all.0).goes_on may) x (omega (arith, from)) (omega (arith, to))
 
   -- and the same to the place behind it, of code that has a first instruction
   pub straight_to : (code : List Instr) (p q h n : ℕ) → start ≤ p → q < end → LeadsOn c p → Stand c (p + 1) code q
@@ -337,5 +337,5 @@ module _ (c : CodeLists) (k : ℕ) (site : Site) (base start end : ℕ) (within 
   straight_to (i ∷ code) p q h n low high leads stand lift at all begins x from to =
       let far : q ≡ p + 1 + 1 + length code = stands_to c (p + 1 + 1) code q stand.1 in
       run_behind (i ∷ code) (p + 1) q h n (omega (arith, low)) high stand lift at all
-          (begun_behind p i low (omega (arith, far, high)) leads stand.0 (all.0).no_tick (all.0).goes_on (may_begin site base (i ∷ code) begins)) x
-          (omega (arith, from)) to
+      (begun_behind p i low (omega (arith, far, high)) leads stand.0 (all.0).no_tick (all.0).goes_on (may_begin site base (i ∷ code) begins)) x
+      (omega (arith, from)) to

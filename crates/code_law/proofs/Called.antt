@@ -85,8 +85,82 @@ globals_ones rs p =
     (constants_have (MeansOne rs) (scope_of []) (λ s d. tt) p.consts [] tt)
 
 predeclared_ones : (rs : Routines) → AllItems (MeansOne rs) predeclared
-predeclared_ones rs = (tt, (tt, (tt, (tt, (tt, (tt, (tt, (tt, (tt, (tt, (tt, (tt, (tt, (tt, (tt, (tt, (tt, (tt, (tt, (tt, (tt, (tt, (tt, (tt, (tt,
-    (tt, tt))))))))))))))))))))))))))
+predeclared_ones rs = (
+  tt,
+  (
+    tt,
+    (
+      tt,
+      (
+        tt,
+        (
+          tt,
+          (
+            tt,
+            (
+              tt,
+              (
+                tt,
+                (
+                  tt,
+                  (
+                    tt,
+                    (
+                      tt,
+                      (
+                        tt,
+                        (
+                          tt,
+                          (
+                            tt,
+                            (
+                              tt,
+                              (
+                                tt,
+                                (
+                                  tt,
+                                  (
+                                    tt,
+                                    (
+                                      tt,
+                                      (
+                                        tt,
+                                        (
+                                          tt,
+                                          (
+                                            tt,
+                                            (
+                                              tt,
+                                              (
+                                                tt,
+                                                (
+                                                  tt,
+                                                  (tt, tt),
+                                                ),
+                                              ),
+                                            ),
+                                          ),
+                                        ),
+                                      ),
+                                    ),
+                                  ),
+                                ),
+                              ),
+                            ),
+                          ),
+                        ),
+                      ),
+                    ),
+                  ),
+                ),
+              ),
+            ),
+          ),
+        ),
+      ),
+    ),
+  ),
+)
 
 headings_ones : (p : Program) (routines : List Routine) (k : ℕ) (known : List Item) → AreNumbered (all_declared p) k (routines_after k known routines)
     → AllItems (MeansOne (routines_of p)) known → AllItems (MeansOne (routines_of p)) (declared_headings k routines known)

@@ -23,10 +23,10 @@ pub calls_stand_behind : (p : Program) → AreSuited p → IsTree p → HaveRoom
     → is_behind_tick (code_of p) x ≡ true
 calls_stand_behind p suited tree room low k r at =
     body_calls (code_of p) k (routines_of p) (site_of r) (is_function r) (declared_words r.frame) (routine_at (code_of p) k).words (start_of p k)
-        (end_of p k r) (own_place p k r at)
-        (ends_inside p k r at) (rise_of p suited tree room k r at) (plain_of p suited tree room k r at)
-        (lifts_above (code_of p) k (routines_of p) (site_of r) (is_function r) (room k r at))
-        (targets_land p suited tree room k r at) (low k r at).variable (low k r at).reference
-        (r.declared).body (declared_words r.frame) most_levels (start_of p k) (start_of p k) (ending_of p k r) refl (suited k r at).suits
-        (body_fits p tree k r at) (body_stands p k r at) (omega arith)
-        (omega (arith, ending_is_last p k r)) (start_is_empty p k r at)
+    (end_of p k r) (own_place p k r at)
+    (ends_inside p k r at) (rise_of p suited tree room k r at) (plain_of p suited tree room k r at)
+    (lifts_above (code_of p) k (routines_of p) (site_of r) (is_function r) (room k r at))
+    (targets_land p suited tree room k r at) (low k r at).variable (low k r at).reference
+    (r.declared).body (declared_words r.frame) most_levels (start_of p k) (start_of p k) (ending_of p k r) refl (suited k r at).suits
+    (body_fits p tree k r at) (body_stands p k r at) (omega arith)
+    (omega (arith, ending_is_last p k r)) (start_is_empty p k r at)

@@ -53,8 +53,11 @@ few_routines p none =
     let second = judged_vars constants p.vars in
     let third = judged_routines variables 0 p.routines in
     let last = judged_body (behind_routines variables p.routines) p.body in
-    omega (arith, few_declared p.routines variables 0 (omega arith)
-    (before third last (behind second (third ++ last) (behind first (second ++ (third ++ last)) none))))
+    omega (
+      arith,
+      few_declared p.routines variables 0 (omega arith)
+          (before third last (behind second (third ++ last) (behind first (second ++ (third ++ last)) none))),
+    )
 
 framed_routines : (k : ℕ) (known : List Item) (routines : List Routine) → length (framed_after k known routines) ≡ length routines
 framed_routines k known [] = refl

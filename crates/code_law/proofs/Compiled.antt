@@ -1,7 +1,7 @@
 -- Where the code of each routine stands in that of the program.
-use Rattle.std.proofs.Common.{◌≡◌, ℕ, zero, suc, ◌+◌, ◌≤◌, List, [], ◌∷◌, ◌++◌, length, Option, Some, None, refl, sym, ◌∙◌, ap, subst, arith, append_assoc}
+use Rattle.std.proofs.Common.{◌≡◌, ℕ, zero, suc, ◌+◌, ◌≤◌, List, [], ◌∷◌, ◌++◌, length, Some, refl, sym, ◌∙◌, ap, subst, arith, append_assoc}
 use Rattle.std.specs.Prelude.{slice_get, is_some}
-use Rattle.std.proofs.lemmas.List.{append-nil, length-append}
+use Rattle.std.proofs.lemmas.List.{length-append}
 use Rattle.std.proofs.lemmas.Option.{none-some, same_Some, get_or_from_slice_get}
 use Rattle.stack_code.specs.declared.instr.Instr.{Instr}
 use Rattle.stack_code.specs.declared.instr.RoutineInfo.{RoutineInfo}
@@ -77,10 +77,10 @@ compiled_at p k r is =
     let found = found_in calling all 0 k r is in
     let code = routine_code r found.at in
     let info : routine_at (code_of p) k ≡ routine_info calling r found.at code =
-        get_or_from_slice_get (infos_from calling all 0) k (routine_info calling r found.at code) no_routine found.info in
+    get_or_from_slice_get (infos_from calling all 0) k (routine_info calling r found.at code) no_routine found.info in
     let start : found.at ≡ (routine_at (code_of p) k).start = ap (λ (i : RoutineInfo). i.start) (sym info) in
     let stand : Stand (code_of p) found.at code (found.at + length code) = stands_in (code_of p) found.front code found.rest found.at found.parts
-        (omega (arith, found.there)) in
+    (omega (arith, found.there)) in
     record {
       end = found.at + length code;
       stands = subst (λ s. Stand (code_of p) s (routine_code r s) (found.at + length code)) start stand;

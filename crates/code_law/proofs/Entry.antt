@@ -1,9 +1,9 @@
 -- An activation begins, and ends.
-use Rattle.std.proofs.Common.{◌≡◌, ℕ, zero, suc, ◌+◌, ◌-◌, ◌<◌, ◌≤◌, Bool, true, false, Option, Some, None, List, [], ◌∷◌, ◌++◌, length, take, drop, map, ℤ, pos, refl, sym, ◌∙◌, ap, subst, arith}
+use Rattle.std.proofs.Common.{◌≡◌, ℕ, ◌+◌, ◌-◌, ◌<◌, ◌≤◌, Bool, true, false, Some, None, List, [], ◌∷◌, ◌++◌, length, take, drop, map, ℤ, pos, refl, sym, ◌∙◌, ap, subst, arith}
 use Rattle.std.specs.Prelude.{slice_get, if◌then◌else◌, nat_le, nat_lt, reverse, replicate}
 use Rattle.std.proofs.lemmas.Bool.{lt-leb, le-leb, lt-ltb, ltb-true, ltb-false}
 use Rattle.std.proofs.lemmas.Option.{none-some, slice_get_within}
-use Rattle.std.proofs.lemmas.List.{map-append, length-map, length-append, take_at, drop_at, reverse-reverse, length-reverse}
+use Rattle.std.proofs.lemmas.List.{map-append, length-append, take_at, drop_at, reverse-reverse, length-reverse}
 use Rattle.solo_base.specs.declared.outcome.ProgResult.TheVariants as result
 use Rattle.solo_base.specs.declared.system_call.SysReply.{SysReply}
 use Rattle.solo_base.specs.RunOutcome.{Ends}
@@ -30,7 +30,7 @@ use Rattle.code_law.proofs.Lists.{last_of_more, last_frame, first_map, last_map,
 use Rattle.code_law.proofs.Agreeing.{agree_more, agree_less, tied_more}
 use Rattle.code_law.proofs.Opening.{on_top, top_reversed, parameter_words, begun_is_tied}
 use Rattle.code_law.proofs.Reached.{Reached, does, goes, goes_if, stops}
-use Rattle.code_law.proofs.Here.{Fixed, own_number, at_rest, state_at, Here, number_of}
+use Rattle.code_law.proofs.Here.{Fixed, at_rest, state_at, Here, number_of}
 
 -- What is known of a routine's frame, and of its place in the code.
 pub record IsRoutine (c : CodeLists) (k : ℕ) (g : Frame) (parameters : List Parameter) : Type 0 where
@@ -110,9 +110,9 @@ module _ {c : CodeLists} {limit : ℕ} {all : List SysReply} where
   pub begins : (f : Fixed) (g : Frame) (parameters : List Parameter) (k : ℕ) (given : List Given) (passed under : List ℤ) (p : ℕ) (now : Situation)
       → IsRoutine c k g parameters
       → Here c limit all f p (on_top passed under) now → slice_get c.instrs p ≡ Some (with_a op.Call k) → Suit parameters given
-          → AreWords f.frames (length f.frames) given passed → length f.callers < 63
+      → AreWords f.frames (length f.frames) given passed → length f.callers < 63
       → Here c limit all (inner f g (begun_map parameters given).references k p now.line under) (routine_at c k).start []
-          (record now { maps = now.maps ++ begun_map parameters given ∷ []; line = 0 })
+      (record now { maps = now.maps ++ begun_map parameters given ∷ []; line = 0 })
   unfolding effect
   begins f g parameters k given passed under p now is h found suit are low =
       let r = routine_at c k in
@@ -125,21 +125,25 @@ module _ {c : CodeLists} {limit : ℕ} {all : List SysReply} where
       let count : length passed ≡ g.parameters = omega (arith, parameter_words f.frames (length f.frames) g parameters given passed 0 is.lie suit are) in
       let many : r.params ≡ length (reverse passed) = omega (arith, is.params, count, length-reverse passed) in
       let caller : List ℤ → Activation = λ left. record { routine = f.routine; place = p + 1; line = now.line; words = h.words; operands = left } in
-      let t : List ℤ → List ℤ → State = λ left frame. record
-          { below = h.below ++ caller left ∷ []; current = record { routine = k; place = r.start; line = 0; words = frame; operands = [] }; ticks =
-          now.ticks; ended = None } in
+      let t : List ℤ → List ℤ → State = λ left frame. record {
+        below = h.below ++ caller left ∷ [];
+        current = record { routine = k; place = r.start; line = 0; words = frame; operands = [] };
+        ticks =
+            now.ticks;
+        ended = None;
+      } in
       let frame : reverse (take r.params operands) ++ replicate size (pos 0) ≡ words =
       ap (λ (l : List ℤ). reverse l ++ replicate size (pos 0)) (ap (take r.params) over ∙ take_at (reverse passed) under r.params (sym many))
-          ∙ ap (λ (l : List ℤ). l ++ replicate size (pos 0)) (reverse-reverse passed) in
+      ∙ ap (λ (l : List ℤ). l ++ replicate size (pos 0)) (reverse-reverse passed) in
       let state : t (drop r.params operands) (reverse (take r.params operands) ++ replicate size (pos 0)) ≡ t under words =
       ap (λ (l : List ℤ). t l (reverse (take r.params operands) ++ replicate size (pos 0)))
-          (ap (drop r.params) over ∙ drop_at (reverse passed) under r.params (sym many)) ∙ ap (t under) frame in
+      (ap (drop r.params) over ∙ drop_at (reverse passed) under r.params (sym many)) ∙ ap (t under) frame in
       let entered : next c limit s ≡ enter s r k = does h.reached (with_a op.Call k) found
-          ∙ ap (λ b. if b then stop s result.StackLimit else enter s r k) (lt-leb 63 (length h.below) few) in
+      ∙ ap (λ b. if b then stop s result.StackLimit else enter s r k) (lt-leb 63 (length h.below) few) in
       let number : length f.frames ≡ length h.below + 1 = h.agree.all_open in
       let tied : AreTied (f.frames ++ g ∷ []) (length f.frames) g (begun_map parameters given) words =
-          tied_more g (omega arith) (begun_is_tied f.frames (length f.frames) g is.apart is.among parameters given passed size is.lie suit are
-          (omega (arith, count, is.params, is.words)) is.low) in
+      tied_more g (omega arith) (begun_is_tied f.frames (length f.frames) g is.apart is.among parameters given passed size is.lie suit are
+      (omega (arith, count, is.params, is.words)) is.low) in
       record {
         below = h.below ++ caller under ∷ [];
         words = words;
@@ -172,8 +176,8 @@ module _ {c : CodeLists} {limit : ℕ} {all : List SysReply} where
       let s = state_at f.routine h.below p now.line h.words operands now.ticks in
       let many : 63 ≤ length h.below = omega (arith, full, number_of h) in
       stops result.StackLimit now.line now.ticks h.reached
-          (does h.reached (with_a op.Call k) found ∙ ap (λ b. if b then stop s result.StackLimit else enter s (routine_at c k) k)
-          (le-leb 63 (length h.below) many))
+      (does h.reached (with_a op.Call k) found ∙ ap (λ b. if b then stop s result.StackLimit else enter s (routine_at c k) k)
+      (le-leb 63 (length h.below) many))
 
   -- what is left when the current activation has ended
   module _ (f : Fixed) (g : Frame) (references : List ℕ → Place) (k p q line : ℕ) (operands : List ℤ) (now : Situation)
@@ -214,9 +218,9 @@ module _ {c : CodeLists} {limit : ℕ} {all : List SysReply} where
         let left : next c limit s ≡ Goes (record s { below = l.others; current = l.last }) =
         does h.reached (bare op.Return) found ∙ leave_from c s l.others l.last l.parts
         ∙ ap (λ b. if b then give_back c s l.others l.last (slice_get h.words (routine_at c k).params) else Goes
-            (record s { below = l.others; current = l.last })) procedure in
+        (record s { below = l.others; current = l.last })) procedure in
         let back : next c limit s ≡ Goes (state_at f.routine l.others (p + 1) line l.last.words operands now.ticks) =
-            left ∙ ap (λ (a : Activation). Goes (record s { below = l.others; current = a })) last_is in
+        left ∙ ap (λ (a : Activation). Goes (record s { below = l.others; current = a })) last_is in
         record {
           below = l.others;
           words = l.last.words;
@@ -230,7 +234,7 @@ module _ {c : CodeLists} {limit : ℕ} {all : List SysReply} where
     -- a function's result is pushed
     pub returns_value : slice_get c.instrs q ≡ Some (bare op.Return) → (routine_at c k).function ≡ true → (routine_at c k).params ≡ g.parameters → g.result ≡ 1
         → Here c limit all f (p + 1) ((map_at now.maps (length f.frames)).answer ∷ operands)
-            (record now { maps = take (length f.frames) now.maps; line = line })
+        (record now { maps = take (length f.frames) now.maps; line = line })
     unfolding effect
     returns_value found procedure params has =
         let s = state_at k h.below q now.line h.words [] now.ticks in
@@ -239,7 +243,7 @@ module _ {c : CodeLists} {limit : ℕ} {all : List SysReply} where
         let number : length f.frames ≡ length h.below = omega (arith, h.agree.all_open, length-append f.frames (g ∷ [])) in
         let tied : AreTied (f.frames ++ g ∷ []) (length f.frames) g (map_at now.maps (length f.frames)) h.words =
         subst (λ (w : List ℤ). AreTied (f.frames ++ g ∷ []) (length f.frames) g (map_at now.maps (length f.frames)) w)
-            (last_frame h.below h.words (length f.frames) number)
+        (last_frame h.below h.words (length f.frames) number)
         (h.agree.tied (length f.frames) g (last_of_more f.frames g (length f.frames) refl)) in
         let found_word : slice_get h.words (routine_at c k).params ≡ Some word = ap (slice_get h.words) params ∙ tied.answer has in
         let room = has_room c l.last in
@@ -247,10 +251,10 @@ module _ {c : CodeLists} {limit : ℕ} {all : List SysReply} where
         let left : next c limit s ≡ (if room then Goes (t l.last) else Lacks) =
         does h.reached (bare op.Return) found ∙ leave_from c s l.others l.last l.parts
         ∙ ap (λ b. if b then give_back c s l.others l.last (slice_get h.words (routine_at c k).params) else Goes
-            (record s { below = l.others; current = l.last })) procedure
+        (record s { below = l.others; current = l.last })) procedure
         ∙ ap (give_back c s l.others l.last) found_word in
         let back : next c limit s ≡ (if room then Goes (t (record (caller_at f p line operands) { words = l.last.words })) else Lacks) =
-            left ∙ ap (λ (a : Activation). if room then Goes (t a) else Lacks) last_is in
+        left ∙ ap (λ (a : Activation). if room then Goes (t a) else Lacks) last_is in
         record {
           below = l.others;
           words = l.last.words;

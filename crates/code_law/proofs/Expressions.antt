@@ -1,5 +1,5 @@
 -- The code of an expression gives its value.
-use Rattle.std.proofs.Common.{◌≡◌, ℕ, zero, suc, ◌+◌, ◌≤◌, Bool, true, false, not, Some, None, Option, List, [], ◌∷◌, ◌++◌, length, map, ℤ, pos, ◌+ℤ◌, refl, sym, ◌∙◌, ap, subst, arith}
+use Rattle.std.proofs.Common.{◌≡◌, ℕ, ◌+◌, Bool, true, not, Some, None, Option, List, [], ◌∷◌, ◌++◌, length, map, ℤ, pos, refl, sym, ◌∙◌, ap, subst}
 use Rattle.std.specs.Prelude.{slice_get, unsigned_abs}
 use Rattle.solo_base.specs.declared.system_call.SysReply.{SysReply}
 use Rattle.solo_base.specs.Arithmetic.{fit, truth, holds}
@@ -21,39 +21,37 @@ use Rattle.pascal_tree.specs.Expression.{Expr, alone, compared, Simple, simple, 
 use Rattle.pascal_mean.specs.Means.{Means, Owner, Bounds, Signature, Standard, Abs, Succ, Pred, Ord, Chr}
 use Rattle.pascal_mean.specs.Means as meant
 use Rattle.pascal_mean.specs.Scope.{Scope}
-use Rattle.pascal_mean.specs.Situation.{Situation, Course, Part, Gives, Over, and_then, number_or_overflow}
-use Rattle.pascal_mean.specs.Variables.{map_at, owner_number, ArrayPlace, array_named, element_at, size_of}
+use Rattle.pascal_mean.specs.Situation.{Situation, Course, Part, Gives, and_then, number_or_overflow}
+use Rattle.pascal_mean.specs.Variables.{map_at, owner_number, array_named, element_at, size_of}
 use Rattle.pascal_mean.specs.Values.{compared_values, added, multiplied, signed, standard_value, within}
-use Rattle.pascal_mean.specs.Calls.{Passing, ByValue, ByVariable, ByArray, passing_named, passed, Given, Value, Alias, Elements, values_in, first_value}
-use Rattle.pascal_mean.specs.Calls as mean
+use Rattle.pascal_mean.specs.Calls.{Passing, ByValue, passing_named, passed, Given, Value, Alias, Elements, values_in, first_value}
 use Rattle.pascal_mean.specs.Expressions.{Setting, call_value, named_value, name_in, with_sign, expr_value, simple_value, addends_value, term_value, multipliers_value, factor_value, index_value, arguments_given, exprs_given}
 use Rattle.pascal_mean.specs.Meaning as meaning
 use Rattle.pascal_code.specs.Instructions.{bare, with_a}
 use Rattle.pascal_code.specs.Instructions as code
-use Rattle.pascal_code.specs.Senses.{Sense, sense, Constant, Variable, Array, Reference, Routine, Function, Interface, Nothing, Site}
+use Rattle.pascal_code.specs.Senses.{Sense, sense, Function, Site}
 use Rattle.pascal_code.specs.Names.{name_code, test_code, element_code}
 use Rattle.pascal_code.specs.Calls.{passing_of, passed_code, given_exprs, given_arguments, call_code, standard_code}
 use Rattle.pascal_code.specs.Expressions.{relation_op, adding_op, multiplying_op, sign_code, expr_code, simple_code, addends_code, term_code, multipliers_code, factor_code, index_code, arguments_code, exprs_code}
 use Rattle.pascal_code.proofs.SensesAgree.{passing_alike}
 use Rattle.code_law.specs.Arguments.{AreWords, Suit}
 use Rattle.code_law.specs.Named.{Named}
-use Rattle.code_law.specs.Suits.{Routines, IsRoutineOf, CanLoad, CanIndex, CanCall, CanPass, SuitsExpr, SuitsSimple, SuitsAddends, SuitsTerm, SuitsMultipliers, SuitsFactor, SuitsIndex, SuitsArguments, SuitsExprs}
+use Rattle.code_law.specs.Suits.{Routines, IsRoutineOf, CanLoad, CanIndex, CanCall, SuitsExpr, SuitsSimple, SuitsAddends, SuitsTerm, SuitsMultipliers, SuitsFactor, SuitsIndex, SuitsArguments, SuitsExprs}
 use Rattle.code_law.proofs.Standing.{Stand, parted}
-use Rattle.code_law.proofs.Here.{Fixed, own_number, state_at, Here, After, after, so}
+use Rattle.code_law.proofs.Here.{Fixed, own_number, state_at, Here, After, after}
 use Rattle.code_law.proofs.Steps.{number_pushed, operated, code_tested}
 use Rattle.code_law.proofs.Numbers.{held}
-use Rattle.code_law.proofs.Indexes.{Inside}
 use Rattle.code_law.proofs.Elements.{Indexed, indexed, element_loaded}
 use Rattle.code_law.proofs.Opening.{on_top}
 use Rattle.code_law.proofs.Variables.{variable_loaded, parameter_loaded}
-use Rattle.code_law.proofs.Given.{OneGiven, one_given, IsGiven, AreGiven, joined, top_of_both, routine_words, routine_suits, row_given}
+use Rattle.code_law.proofs.Given.{one_given, AreGiven, joined, top_of_both, routine_words, routine_suits, row_given}
 use Rattle.code_law.proofs.Rows.{result_on, row_runs}
 
 -- what calls of routines do, in the activation that is fixed so
 abbrev pub CallsRun : CodeLists → ℕ → List SysReply → Fixed → Routines → (ℕ → List Given → Part ℤ) → Type 0
 CallsRun c limit all f rs does =
     (k : ℕ) (passing : List Passing) (gives : Bool) → IsRoutineOf rs k passing gives → (given : List Given) (words rest : List ℤ) (p : ℕ) (now : Situation)
-        → Here c limit all f p (on_top words rest) now
+    → Here c limit all f p (on_top words rest) now
     → slice_get c.instrs p ≡ Some (with_a op.Call k) → Suit (rs.parameters k) given → AreWords f.frames (length f.frames) given words
     → After c limit all (λ v n. Here c limit all f (p + 1) (result_on gives v rest) n) (does k given now)
 
@@ -62,7 +60,7 @@ CallsRun c limit all f rs does =
 compared_by : (c : CodeLists) (limit : ℕ) (r : Relation) (routine : ℕ) (below : List Activation) (p line : ℕ) (words : List ℤ) (left right : ℤ) (rest : List ℤ)
     (ticks : ℕ)
     → effect c limit (state_at routine below p line words (right ∷ left ∷ rest) ticks) (relation_op r) 0 0 ≡ replace
-        (state_at routine below p line words (right ∷ left ∷ rest) ticks) rest (Some (compared_values r left right))
+    (state_at routine below p line words (right ∷ left ∷ rest) ticks) rest (Some (compared_values r left right))
 unfolding effect
 compared_by c limit relation.Equal routine below p line words left right rest ticks = refl
 compared_by c limit relation.NotEqual routine below p line words left right rest ticks = refl
@@ -74,7 +72,7 @@ compared_by c limit relation.GreaterOrEqual routine below p line words left righ
 added_by : (c : CodeLists) (limit : ℕ) (a : Adding) (routine : ℕ) (below : List Activation) (p line : ℕ) (words : List ℤ) (left right : ℤ) (rest : List ℤ)
     (ticks : ℕ)
     → effect c limit (state_at routine below p line words (right ∷ left ∷ rest) ticks) (adding_op a) 0 0 ≡ replace
-        (state_at routine below p line words (right ∷ left ∷ rest) ticks) rest (added a left right)
+    (state_at routine below p line words (right ∷ left ∷ rest) ticks) rest (added a left right)
 unfolding effect
 added_by c limit adding.Plus routine below p line words left right rest ticks = refl
 added_by c limit adding.Minus routine below p line words left right rest ticks = refl
@@ -83,7 +81,7 @@ added_by c limit adding.Or routine below p line words left right rest ticks = re
 multiplied_by : (c : CodeLists) (limit : ℕ) (m : Multiplying) (routine : ℕ) (below : List Activation) (p line : ℕ) (words : List ℤ) (left right : ℤ)
     (rest : List ℤ) (ticks : ℕ)
     → effect c limit (state_at routine below p line words (right ∷ left ∷ rest) ticks) (multiplying_op m) 0 0 ≡ replace
-        (state_at routine below p line words (right ∷ left ∷ rest) ticks) rest (multiplied m left right)
+    (state_at routine below p line words (right ∷ left ∷ rest) ticks) rest (multiplied m left right)
 unfolding effect
 multiplied_by c limit multiplying.Times routine below p line words left right rest ticks = refl
 multiplied_by c limit multiplying.Div routine below p line words left right rest ticks = refl
@@ -92,7 +90,7 @@ multiplied_by c limit multiplying.And routine below p line words left right rest
 
 negated_by : (c : CodeLists) (limit routine : ℕ) (below : List Activation) (p line : ℕ) (words : List ℤ) (v : ℤ) (rest : List ℤ) (ticks : ℕ)
     → effect c limit (state_at routine below p line words (v ∷ rest) ticks) op.Not 0 0 ≡ replace (state_at routine below p line words (v ∷ rest) ticks) rest
-        (Some (truth (not (holds v))))
+    (Some (truth (not (holds v))))
 unfolding effect
 negated_by c limit routine below p line words v rest ticks = refl
 
@@ -167,7 +165,7 @@ module _ {c : CodeLists} {limit : ℕ} {all : List SysReply} {f : Fixed} {site :
   function_runs : (g : Standard) (gives : Bool) (xs : List (List ℕ)) (given : List Given) (words : List (List ℤ)) (rest : List ℤ) (p q : ℕ) (now : Situation)
       → gives ≡ true → AreGiven f site (Function g) (ByValue ∷ []) xs given words → Stand c p (standard_code g) q
       → Here c limit all f p (on_top (joined words) rest) now → After c limit all (λ v n. Here c limit all f q (result_on gives v rest) n)
-          (standard_value g (first_value (values_in given)) now)
+      (standard_value g (first_value (values_in given)) now)
   function_runs g gives (x ∷ []) (Value v ∷ []) (ws ∷ []) rest p q now is are stand h =
       let one : joined (ws ∷ []) ≡ v ∷ [] = ap (λ (l : List ℤ). l ++ []) are.0 in
       subst (λ b. After c limit all (λ u n. Here c limit all f q (result_on b u rest) n) (standard_value g v now)) (sym is)
@@ -189,8 +187,8 @@ module _ {c : CodeLists} {limit : ℕ} {all : List SysReply} {f : Fixed} {site :
       let passing = passing_named (meant.Routine k s) in
       subst (λ n. After c limit all (λ v k'. Here c limit all f n (result_on gives v rest) k') (does k given now)) stand.1
       (calls k passing gives can given (joined words) rest p now h stand.0
-          (routine_suits f site k passing (rs.parameters k) passing xs given words can.passing_is are)
-          (routine_words f site k passing passing xs given words are))
+      (routine_suits f site k passing (rs.parameters k) passing xs given words can.passing_is are)
+      (routine_words f site k passing passing xs given words are))
   called_by (meant.Function g) a gives xs given words rest p q now can are stand h = function_runs g gives xs given words rest p q now can are stand h
   called_by (meant.Interface r) a gives xs given words rest p q now can are stand h =
       row_runs names r xs given words (row_given f site r _ xs given words are) gives can rest p q now stand h
@@ -211,7 +209,7 @@ module _ {c : CodeLists} {limit : ℕ} {all : List SysReply} {f : Fixed} {site :
       let place = (i.inside).place in
       let there : slice_get (words_from (i.here).below (i.here).words d) (a + place) ≡ Some ((map_at now.maps d).elements x v) =
       ((i.here).agree.tied d has.frame has.frame_is).arrays x has.owner a b place has.is (i.inside).low
-          ∙ ap (λ z. Some ((map_at now.maps d).elements x z)) (sym (i.inside).is) in
+      ∙ ap (λ z. Some ((map_at now.maps d).elements x z)) (sym (i.inside).is) in
       subst (λ n. Here c limit all f n ((map_at now.maps d).elements x v ∷ rest) now) stand.1
       (element_loaded o p place rest now a (size_of b) ((map_at now.maps d).elements x v) i.here stand.0 (i.inside).low there)
   element_runs (meant.Constant t w) a p q rest v now x is can stand i = absurd can
@@ -227,10 +225,10 @@ module _ {c : CodeLists} {limit : ℕ} {all : List SysReply} {f : Fixed} {site :
   test_runs : (m : Means) (a p q : ℕ) (v : ℤ) (rest : List ℤ) (now : Situation) (x : List ℕ) → CanIndex (sense m a) → Stand c p (test_code (sense m a)) q
       → Here c limit all f p (v ∷ rest) now
       → After c limit all (λ u n. Indexed c limit all f q rest (array_named m (own_number f) x).bounds u n)
-          (within (array_named m (own_number f) x).bounds v now)
+      (within (array_named m (own_number f) x).bounds v now)
   test_runs (meant.Array o t b) a p q v rest now x can stand h =
       subst (λ k. After c limit all (λ u n. Indexed c limit all f k rest b u n) (within b v now)) stand.1
-          (indexed p v rest now b (record { low = can.0; high = can.1 }) h stand.0)
+      (indexed p v rest now b (record { low = can.0; high = can.1 }) h stand.0)
   test_runs (meant.Constant t w) a p q v rest now x can stand h = absurd can
   test_runs (meant.Variable o t) a p q v rest now x can stand h = absurd can
   test_runs (meant.Reference t) a p q v rest now x can stand h = absurd can
@@ -258,9 +256,9 @@ module _ {c : CodeLists} {limit : ℕ} {all : List SysReply} {f : Fixed} {site :
         let two = parted c one.0 (simple_code site t) (bare (relation_op r) ∷ []) q one.1.1 in
         after (simple_value (setting_in limit all f scope does) s now) _ (simple_runs s p one.0 operands now suits.0 one.1.0 here) (λ left mid at.
         after (simple_value (setting_in limit all f scope does) t mid) _ (simple_runs t one.0 two.0 (left ∷ operands) mid suits.1 two.1.0 at)
-            (λ right then_is there.
+        (λ right then_is there.
         arrives (two.0 + 1) q operands _ two.1.1.1 (operated two.0 (right ∷ left ∷ operands) operands then_is (bare (relation_op r))
-            (Some (compared_values r left right)) there two.1.1.0
+        (Some (compared_values r left right)) there two.1.1.0
         (compared_by c limit r f.routine there.below two.0 then_is.line there.words left right operands then_is.ticks))))
 
     simple_runs : (s : Simple) (p q : ℕ) (operands : List ℤ) (now : Situation) → SuitsSimple rs site.names s → Stand c p (simple_code site s) q
@@ -281,7 +279,7 @@ module _ {c : CodeLists} {limit : ℕ} {all : List SysReply} {f : Fixed} {site :
         let one = parted c p (term_code site t) (bare (adding_op a) ∷ addends_code site rest) q stand in
         after (term_value (setting_in limit all f scope does) t now) _ (term_runs t p one.0 (left ∷ operands) now suits.0 one.1.0 here) (λ right mid at.
         after (number_or_overflow (added a left right) mid) _
-            (operated one.0 (right ∷ left ∷ operands) operands mid (bare (adding_op a)) (added a left right) at one.1.1.0
+        (operated one.0 (right ∷ left ∷ operands) operands mid (bare (adding_op a)) (added a left right) at one.1.1.0
         (added_by c limit a f.routine at.below one.0 mid.line at.words left right operands mid.ticks)) (λ v then_is there.
         addends_run rest (one.0 + 1) q v operands then_is suits.1 one.1.1.1 there))
 
@@ -301,7 +299,7 @@ module _ {c : CodeLists} {limit : ℕ} {all : List SysReply} {f : Fixed} {site :
         let one = parted c p (factor_code site g) (bare (multiplying_op m) ∷ multipliers_code site rest) q stand in
         after (factor_value (setting_in limit all f scope does) g now) _ (factor_runs g p one.0 (left ∷ operands) now suits.0 one.1.0 here) (λ right mid at.
         after (number_or_overflow (multiplied m left right) mid) _
-            (operated one.0 (right ∷ left ∷ operands) operands mid (bare (multiplying_op m)) (multiplied m left right) at one.1.1.0
+        (operated one.0 (right ∷ left ∷ operands) operands mid (bare (multiplying_op m)) (multiplied m left right) at one.1.1.0
         (multiplied_by c limit m f.routine at.below one.0 mid.line at.words left right operands mid.ticks)) (λ v then_is there.
         multipliers_run rest (one.0 + 1) q v operands then_is suits.1 one.1.1.1 there))
 
@@ -315,40 +313,42 @@ module _ {c : CodeLists} {limit : ℕ} {all : List SysReply} {f : Fixed} {site :
     factor_runs (named x) p q operands now suits stand here =
         let there = names.senses x.letters in
         loaded (scope x.letters) there.0 p q operands now x.letters there.1 (subst (CanLoad rs) there.1 suits)
-            (subst (λ s. Stand c p (name_code s) q) there.1 stand) here
+        (subst (λ s. Stand c p (name_code s) q) there.1 stand) here
     factor_runs (group opening e closing) p q operands now suits stand here = expr_runs e p q operands now suits stand here
     factor_runs (negated line g) p q operands now suits stand here =
         let one = parted c p (factor_code site g) (bare op.Not ∷ []) q stand in
         after (factor_value (setting_in limit all f scope does) g now) _ (factor_runs g p one.0 operands now suits one.1.0 here) (λ v mid at.
         arrives (one.0 + 1) q operands (Gives (truth (not (holds v))) mid) one.1.1.1
-            (operated one.0 (v ∷ operands) operands mid (bare op.Not) (Some (truth (not (holds v)))) at one.1.1.0
-            (negated_by c limit f.routine at.below one.0 mid.line at.words v operands mid.ticks)))
+        (operated one.0 (v ∷ operands) operands mid (bare op.Not) (Some (truth (not (holds v)))) at one.1.1.0
+        (negated_by c limit f.routine at.below one.0 mid.line at.words v operands mid.ticks)))
     factor_runs (element x i) p q operands now suits stand here =
         let there = names.senses x.letters in
         let one = parted c p (index_code site (site.names x.letters) i) (element_code (site.names x.letters)) q stand in
         after (index_value (setting_in limit all f scope does) (array_named (scope x.letters) (own_number f) x.letters).bounds i now) _
-            (index_runs x.letters i p one.0 operands now suits.0 suits.1 one.1.0 here) (λ v mid at.
-        record { comes = element_runs (scope x.letters) there.0 one.0 q operands v mid x.letters there.1 (subst CanIndex there.1 suits.0)
-            (subst (λ s. Stand c one.0 (element_code s) q) there.1 one.1.1) at })
+        (index_runs x.letters i p one.0 operands now suits.0 suits.1 one.1.0 here) (λ v mid at.
+        record {
+          comes = element_runs (scope x.letters) there.0 one.0 q operands v mid x.letters there.1 (subst CanIndex there.1 suits.0)
+              (subst (λ s. Stand c one.0 (element_code s) q) there.1 one.1.1) at;
+        })
     factor_runs (called x a) p q operands now suits stand here =
         let there = names.senses x.letters in
         let one = parted c p (arguments_code site (site.names x.letters) (passing_of (site.names x.letters)) a)
-            (call_code site.result (site.names x.letters) (given_arguments site a)) q stand in
+        (call_code site.result (site.names x.letters) (given_arguments site a)) q stand in
         let passing : passing_of (site.names x.letters) ≡ passing_named (scope x.letters) = ap passing_of there.1 ∙ passing_alike (scope x.letters) there.0 in
         subst (λ by. After c limit all (λ v n. Here c limit all f q (v ∷ operands) n)
-            (and_then (arguments_given (setting_in limit all f scope does) by a now)
-            (λ given then_is. call_value (setting_in limit all f scope does) (scope x.letters) given then_is))) passing
+        (and_then (arguments_given (setting_in limit all f scope does) by a now)
+        (λ given then_is. call_value (setting_in limit all f scope does) (scope x.letters) given then_is))) passing
         (after (arguments_given (setting_in limit all f scope does) (passing_of (site.names x.letters)) a now) _
-            (arguments_run (site.names x.letters) (passing_of (site.names x.letters)) a p one.0 operands now suits.1 one.1.0 here) (λ given mid at.
+        (arguments_run (site.names x.letters) (passing_of (site.names x.letters)) a p one.0 operands now suits.1 one.1.0 here) (λ given mid at.
         called_by (scope x.letters) there.0 true (arguments_names a) given at.words operands one.0 q mid (subst (CanCall rs true) there.1 suits.0)
         (subst (λ s. AreGiven f site s (passing_of s) (arguments_names a) given at.words) there.1 at.are)
         (subst (λ s. Stand c one.0 (call_code site.result s (map site.names (arguments_names a))) q) there.1
-            (subst (λ (l : List Sense). Stand c one.0 (call_code site.result (site.names x.letters) l) q) (arguments_are site a) one.1.1)) at.here))
+        (subst (λ (l : List Sense). Stand c one.0 (call_code site.result (site.names x.letters) l) q) (arguments_are site a) one.1.1)) at.here))
 
     pub index_runs : (x : List ℕ) (i : Index) (p q : ℕ) (rest : List ℤ) (now : Situation) → CanIndex (site.names x) → SuitsIndex rs site.names i
         → Stand c p (index_code site (site.names x) i) q → Here c limit all f p rest now
         → After c limit all (λ v n. Indexed c limit all f q rest (array_named (scope x) (own_number f) x).bounds v n)
-            (index_value (setting_in limit all f scope does) (array_named (scope x) (own_number f) x).bounds i now)
+        (index_value (setting_in limit all f scope does) (array_named (scope x) (own_number f) x).bounds i now)
     index_runs x (index opening e closing) p q rest now can suits stand here =
         let there = names.senses x in
         let one = parted c p (expr_code site e) (test_code (site.names x)) q stand in
@@ -358,22 +358,28 @@ module _ {c : CodeLists} {limit : ℕ} {all : List SysReply} {f : Fixed} {site :
     pub arguments_run : (callee : Sense) (by : List Passing) (a : Arguments) (p q : ℕ) (rest : List ℤ) (now : Situation)
         → SuitsArguments rs site.names callee by a → Stand c p (arguments_code site callee by a) q → Here c limit all f p rest now
         → After c limit all (λ given n. AllGiven c limit all f site callee by (arguments_names a) q rest given n)
-            (arguments_given (setting_in limit all f scope does) by a now)
+        (arguments_given (setting_in limit all f scope does) by a now)
     arguments_run callee [] (arguments opening e more closing) p q rest now suits stand here = absurd suits
     arguments_run callee (by ∷ others) (arguments opening e more closing) p q rest now suits stand here =
         let one = parted c p (passed_code callee by (site.names (name_in e)) (expr_code site e)) (exprs_code site callee others more) q stand in
         after (passed by (scope (name_in e)) (own_number f) (name_in e) (expr_value (setting_in limit all f scope does) e) now) _
         (one_given names callee by (name_in e) p one.0 rest now (expr_value (setting_in limit all f scope does) e) (expr_code site e)
-            (SuitsExpr rs site.names e) (λ m suit there h. expr_runs e p m rest now suit there h) suits.0 one.1.0 here) (λ g mid at.
+        (SuitsExpr rs site.names e) (λ m suit there h. expr_runs e p m rest now suit there h) suits.0 one.1.0 here) (λ g mid at.
         after (exprs_given (setting_in limit all f scope does) others more mid) _
-            (exprs_run callee others more one.0 q (on_top at.words rest) mid suits.1 one.1.1 at.here) (λ given then_is later.
-        record { comes = record { words = at.words ∷ later.words; are = (at.is, later.are); here =
-            subst (λ (l : List ℤ). Here c limit all f q l then_is) (sym (top_of_both at.words (joined later.words) rest)) later.here } }))
+        (exprs_run callee others more one.0 q (on_top at.words rest) mid suits.1 one.1.1 at.here) (λ given then_is later.
+        record {
+          comes = record {
+            words = at.words ∷ later.words;
+            are = (at.is, later.are);
+            here =
+                subst (λ (l : List ℤ). Here c limit all f q l then_is) (sym (top_of_both at.words (joined later.words) rest)) later.here;
+          };
+        }))
 
     exprs_run : (callee : Sense) (by : List Passing) (e : Exprs) (p q : ℕ) (rest : List ℤ) (now : Situation) → SuitsExprs rs site.names callee by e
         → Stand c p (exprs_code site callee by e) q → Here c limit all f p rest now
         → After c limit all (λ given n. AllGiven c limit all f site callee by (exprs_names e) q rest given n)
-            (exprs_given (setting_in limit all f scope does) by e now)
+        (exprs_given (setting_in limit all f scope does) by e now)
     exprs_run callee [] no_expr p q rest now suits stand here = record
         { comes = record { words = []; are = tt; here = subst (λ m. Here c limit all f m rest now) stand here } }
     exprs_run callee (by ∷ others) no_expr p q rest now suits stand here = absurd suits
@@ -382,8 +388,14 @@ module _ {c : CodeLists} {limit : ℕ} {all : List SysReply} {f : Fixed} {site :
         let one = parted c p (passed_code callee by (site.names (name_in e)) (expr_code site e)) (exprs_code site callee others more) q stand in
         after (passed by (scope (name_in e)) (own_number f) (name_in e) (expr_value (setting_in limit all f scope does) e) now) _
         (one_given names callee by (name_in e) p one.0 rest now (expr_value (setting_in limit all f scope does) e) (expr_code site e)
-            (SuitsExpr rs site.names e) (λ m suit there h. expr_runs e p m rest now suit there h) suits.0 one.1.0 here) (λ g mid at.
+        (SuitsExpr rs site.names e) (λ m suit there h. expr_runs e p m rest now suit there h) suits.0 one.1.0 here) (λ g mid at.
         after (exprs_given (setting_in limit all f scope does) others more mid) _
-            (exprs_run callee others more one.0 q (on_top at.words rest) mid suits.1 one.1.1 at.here) (λ given then_is later.
-        record { comes = record { words = at.words ∷ later.words; are = (at.is, later.are); here =
-            subst (λ (l : List ℤ). Here c limit all f q l then_is) (sym (top_of_both at.words (joined later.words) rest)) later.here } }))
+        (exprs_run callee others more one.0 q (on_top at.words rest) mid suits.1 one.1.1 at.here) (λ given then_is later.
+        record {
+          comes = record {
+            words = at.words ∷ later.words;
+            are = (at.is, later.are);
+            here =
+                subst (λ (l : List ℤ). Here c limit all f q l then_is) (sym (top_of_both at.words (joined later.words) rest)) later.here;
+          };
+        }))

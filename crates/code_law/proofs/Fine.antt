@@ -1,11 +1,9 @@
 -- What holds at each place of compiled statements: operands fit, and jumps lead where nothing is on the stack.
-use Rattle.std.proofs.Common.{◌≡◌, ℕ, zero, suc, ◌+◌, ◌-◌, ◌<◌, ◌≤◌, Bool, true, false, Some, List, [], ◌∷◌, ◌++◌, length, ◌⊎◌, inl, inr, refl, sym, ◌∙◌, ap, subst, arith}
+use Rattle.std.proofs.Common.{◌≡◌, ℕ, suc, ◌+◌, ◌-◌, ◌<◌, ◌≤◌, Bool, true, false, Some, List, [], ◌∷◌, length, ◌⊎◌, inl, inr, refl, sym, ◌∙◌, ap, subst, arith}
 use Rattle.std.specs.Prelude.{slice_get, ◌==◌, ◌&&◌, ◌||◌, nat_lt, if◌then◌else◌}
 use Rattle.std.specs.List.{AllByRecursion}
 use Rattle.std.proofs.lemmas.Bool.{false≢true, eq-eqb, lt-ltb, ltb-true, ltb-false, and_from, or_left, or_right}
 use Rattle.std.proofs.lemmas.Option.{get_or_from_slice_get}
-use Rattle.stack_code.specs.declared.table.Op.{Op}
-use Rattle.stack_code.specs.declared.table.Op.TheVariants as op
 use Rattle.stack_code.specs.declared.instr.Instr.{Instr}
 use Rattle.stack_code.specs.CodeLists.{CodeLists, instr_at, no_instr}
 use Rattle.stack_code.specs.Rules.{routine_of, height_at, pops, pushes, operands_fit, is_jump, is_tick, leaves_nothing, jump_fits}
@@ -71,7 +69,7 @@ module _ (c : CodeLists) (k : ℕ) (site : Site) (base start end : ℕ) (within 
   height_behind least most (i ∷ code) p q h n low high stand lift at =
       let far : q ≡ p + 1 + length code = stands_to c (p + 1) code q stand.1 in
       height_behind least most code (p + 1) q (behind c i h) n (omega (arith, low)) high stand.1 lift.4
-          (height_step p i low (omega (arith, far, high)) stand.0 ∙ ap (behind c i) at)
+      (height_step p i low (omega (arith, far, high)) stand.0 ∙ ap (behind c i) at)
 
   -- ---- Single places, and several
   pub fine_more : (p m q : ℕ) → AreFine c site base p m → AreFine c site base m q → AreFine c site base p q
@@ -92,7 +90,7 @@ module _ (c : CodeLists) (k : ℕ) (site : Site) (base start end : ℕ) (within 
   fine_from p i found fits lands =
       let here : i ≡ instr_at c p = sym (found_at c p i found) in
       let there : is_jump (instr_at c p).op ≡ true → (routine_of c (instr_at c p).a ≡ routine_of c p) × Lands c site base (instr_at c p).a =
-          subst (λ (j : Instr). is_jump j.op ≡ true → (routine_of c j.a ≡ routine_of c p) × Lands c site base j.a) here lands in
+      subst (λ (j : Instr). is_jump j.op ≡ true → (routine_of c j.a ≡ routine_of c p) × Lands c site base j.a) here lands in
       fine_at p (record {
         fits = subst (λ (j : Instr). operands_fit c p j.op j.a j.b ≡ true) here fits;
         stays = λ jumps. (there jumps).0;
@@ -109,16 +107,16 @@ module _ (c : CodeLists) (k : ℕ) (site : Site) (base start end : ℕ) (within 
   fine_plain (i ∷ code) p q low high stand plain =
       let far : q ≡ p + 1 + length code = stands_to c (p + 1) code q stand.1 in
       fine_more p (p + 1) q
-          (fine_one p i stand.0 (plain.0).no_jump ((plain.0).fits p (within p low (omega (arith, far, high)))))
-          (fine_plain code (p + 1) q (omega (arith, low)) high stand.1 plain.1)
+      (fine_one p i stand.0 (plain.0).no_jump ((plain.0).fits p (within p low (omega (arith, far, high)))))
+      (fine_plain code (p + 1) q (omega (arith, low)) high stand.1 plain.1)
 
   -- a jump forward, or to a tick
   pub jump_fits_to : (p a : ℕ) → start ≤ p → p < end → start ≤ a → a < end → (p < a) ⊎ (is_tick (instr_at c a).op ≡ true) → jump_fits c p a ≡ true
   jump_fits_to p a low high low_to high_to way =
       and_from (nat_lt a (length c.instrs) && routine_of c a == routine_of c p) _
-          (and_from (nat_lt a (length c.instrs)) _ (lt-ltb a (length c.instrs) (omega (arith, high_to, some)))
-              (eq-eqb (routine_of c a) (routine_of c p) (within a low_to high_to ∙ sym (within p low high))))
-          (by_way way)
+      (and_from (nat_lt a (length c.instrs)) _ (lt-ltb a (length c.instrs) (omega (arith, high_to, some)))
+      (eq-eqb (routine_of c a) (routine_of c p) (within a low_to high_to ∙ sym (within p low high))))
+      (by_way way)
     where
       by_way : (p < a) ⊎ (is_tick (instr_at c a).op ≡ true) → (nat_lt p a || is_tick (instr_at c a).op) ≡ true
       by_way (inl forward) = or_left (nat_lt p a) (is_tick (instr_at c a).op) (lt-ltb p a forward)

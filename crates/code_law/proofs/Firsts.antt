@@ -69,8 +69,8 @@ module _ (rs : Routines) (site : Site) where
     factor_first (called x a) suits =
         let callee = site.names x.letters in
         called_first callee (given_arguments site a) (arguments_code site callee (passing_of callee) a) suits.0
-            (λ one. subst (λ (by : List Passing). HasFirst (arguments_code site callee by a)) (sym one)
-                (value_first callee a (subst (λ (by : List Passing). SuitsArguments rs site.names callee by a) one suits.1)))
+        (λ one. subst (λ (by : List Passing). HasFirst (arguments_code site callee by a)) (sym one)
+        (value_first callee a (subst (λ (by : List Passing). SuitsArguments rs site.names callee by a) one suits.1)))
     factor_first (group opening e closing) suits = expr_first e suits
     factor_first (negated line f) suits = first_in_front (factor_code site f) (bare op.Not ∷ []) (factor_first f suits)
 

@@ -4,7 +4,7 @@ use Rattle.std.proofs.lemmas.List.{append_assoc}
 use Rattle.solo_base.specs.declared.system_call.SysCall.{SysCall}
 use Rattle.solo_base.specs.declared.system_call.SysReply.{SysReply}
 use Rattle.solo_base.specs.Fits.{Fits}
-use Rattle.solo_base.specs.RunOutcome.{RunOutcome, Waits}
+use Rattle.solo_base.specs.RunOutcome.{Waits}
 use Rattle.stack_code.specs.CodeLists.{CodeLists, IsCode}
 use Rattle.stack_code.specs.Rules.{IsGood}
 use Rattle.stack_machine.specs.declared.state.State.{State}
@@ -28,9 +28,11 @@ fitting_more c limit s t [] [] reply fitting same fits = λ call u leads. (fits 
 fitting_more c limit s t [] (d ∷ made) reply fitting replied fits = absurd replied
 fitting_more c limit s t (r ∷ used) [] reply fitting replied fits = absurd replied
 fitting_more c limit s t (r ∷ used) (d ∷ made) reply fitting replied fits = λ call u leads.
-    let same = one_call c limit s replied.0 u d call replied.1 leads in
-    ((fitting call u leads).0, fitting_more c limit (answered c u r) t used made reply (fitting call u leads).1
-        (subst (λ v. Replied c limit (answered c v r) used made t) same.0 replied.2) fits)
+    let same = one_call c limit s replied.0 u d call replied.1 leads in (
+      (fitting call u leads).0,
+      fitting_more c limit (answered c u r) t used made reply (fitting call u leads).1
+          (subst (λ v. Replied c limit (answered c v r) used made t) same.0 replied.2) fits,
+    )
 
 module _ (p : Program) (limit : ℕ) (suited : AreSuited p) (code : IsCode (code_of p)) (good : IsGood (code_of p)) (all : List SysReply)
     (fit : FitTheMeaning p limit all) where
@@ -44,7 +46,7 @@ module _ (p : Program) (limit : ℕ) (suited : AreSuited p) (code : IsCode (code
   from_there (reply ∷ left) used made s split fitting replied = λ call t leads.
       let means : (d : SysCall) (u : State) → LeadsToCall c limit s d u → Fits d reply = λ d u there.
       fit used left reply made d split (one_run c limit used (meaning p limit used) (Waits (made ++ d ∷ []))
-          (compiled_runs p limit used suited code good fitting) (made, d, s, u, refl, replied, there)) in (
+      (compiled_runs p limit used suited code good fitting) (made, d, s, u, refl, replied, there)) in (
         means call t leads,
         from_there left (used ++ reply ∷ []) (made ++ call ∷ []) (answered c t reply) (split ∙ sym (append_assoc used (reply ∷ []) left))
             (fitting_more c limit (start_state c) s used made reply fitting replied means)

@@ -1,6 +1,6 @@
 -- Arguments as they are given, and the words that stand for them.
-use Rattle.std.proofs.Common.{◌≡◌, ℕ, zero, suc, ◌+◌, Bool, true, false, Option, Some, None, List, [], ◌∷◌, ◌++◌, length, map, ℤ, pos, refl, sym, ◌∙◌, ap, subst, arith, append_assoc}
-use Rattle.std.specs.Prelude.{reverse, if◌then◌else◌}
+use Rattle.std.proofs.Common.{◌≡◌, ℕ, ◌+◌, Bool, true, false, List, [], ◌∷◌, ◌++◌, length, map, ℤ, refl, sym, ◌∙◌, ap, subst, arith}
+use Rattle.std.specs.Prelude.{if◌then◌else◌}
 use Rattle.solo_base.specs.declared.interface.Procedure.{Procedure}
 use Rattle.solo_base.specs.declared.interface.Procedure.TheVariants as row
 use Rattle.solo_base.specs.declared.system_call.SysReply.{SysReply}
@@ -10,7 +10,7 @@ use Rattle.stack_code.specs.CodeLists.{CodeLists}
 use Rattle.pascal_mean.specs.Means.{Means, Owner, Bounds, Parameter}
 use Rattle.pascal_mean.specs.Means as meant
 use Rattle.pascal_mean.specs.Scope.{Scope}
-use Rattle.pascal_mean.specs.Situation.{Situation, Place, Course, Part, Gives, Over, and_then}
+use Rattle.pascal_mean.specs.Situation.{Situation, Place, Part}
 use Rattle.pascal_mean.specs.Variables.{owner_number, place_named, ArrayPlace, array_named, size_of}
 use Rattle.pascal_mean.specs.Calls.{Passing, ByValue, ByVariable, ByArray, Given, Value, Alias, Elements, passed, row_passing, values_in, variables_in, arrays_in}
 use Rattle.pascal_mean.specs.Calls as mean
@@ -22,7 +22,7 @@ use Rattle.code_law.specs.Suits.{IsScalar, IsArrayOf, array_size, CanPass, varia
 use Rattle.code_law.proofs.Standing.{Stand}
 use Rattle.code_law.proofs.Here.{Fixed, own_number, Here, After, after}
 use Rattle.code_law.proofs.Opening.{on_top}
-use Rattle.code_law.proofs.Variables.{IsPlace, PassedOn, place_is, passed_on}
+use Rattle.code_law.proofs.Variables.{IsPlace, place_is, passed_on}
 
 -- ---- One argument
 
@@ -96,17 +96,24 @@ module _ {c : CodeLists} {limit : ℕ} {all : List SysReply} {f : Fixed} {site :
       after (value now) _ (runs q can stand h) (λ v n there. record { comes = record { words = v ∷ []; is = refl; here = there } })
   one_given callee ByVariable x p q rest now value code SuitsIt runs can stand h =
       let there = names.senses x in
-      record { comes = subst (λ s. OneGiven c limit all f callee ByVariable x s q rest (Alias (place_named (scope x) (own_number f) x now)) now) (sym there.1)
-          (variable_given callee x (scope x) there.0 p q rest now code there.1 (can.0, subst IsScalar there.1 can.1)
-              (subst (λ s. Stand c p (passed_code callee ByVariable s code) q) there.1 stand) h) }
+      record {
+        comes = subst (λ s. OneGiven c limit all f callee ByVariable x s q rest (Alias (place_named (scope x) (own_number f) x now)) now) (sym there.1)
+            (variable_given callee x (scope x) there.0 p q rest now code there.1 (can.0, subst IsScalar there.1 can.1)
+            (subst (λ s. Stand c p (passed_code callee ByVariable s code) q) there.1 stand) h);
+      }
   one_given callee ByArray x p q rest now value code SuitsIt runs can stand h =
       let there = names.senses x in
-      record { comes = record {
-        words = [];
-        is = (refl, subst (λ s. IsWhole f (array_size callee) x s (array_named (scope x) (own_number f) x)) (sym there.1)
-            (array_is f (array_size callee) x (scope x) there.0 (subst (IsArrayOf (array_size callee)) there.1 can.1)));
-        here = subst (λ n. Here c limit all f n rest now) stand h;
-      } }
+      record {
+        comes = record {
+          words = [];
+          is = (
+            refl,
+            subst (λ s. IsWhole f (array_size callee) x s (array_named (scope x) (own_number f) x)) (sym there.1)
+                (array_is f (array_size callee) x (scope x) there.0 (subst (IsArrayOf (array_size callee)) there.1 can.1)),
+          );
+          here = subst (λ n. Here c limit all f n rest now) stand h;
+        };
+      }
 
 -- ---- All arguments, by the names that they are
 
@@ -130,10 +137,10 @@ pub routine_words : (f : Fixed) (site : Site) (k : ℕ) (passing : List Passing)
 routine_words f site k passing [] [] [] [] are = tt
 routine_words f site k passing (ByValue ∷ by) (x ∷ xs) (Value v ∷ given) (ws ∷ words) are =
     subst (λ (u : List ℤ). AreWords f.frames (length f.frames) (Value v ∷ given) (u ++ joined words)) (sym are.0)
-        (refl, routine_words f site k passing by xs given words are.1)
+    (refl, routine_words f site k passing by xs given words are.1)
 routine_words f site k passing (ByVariable ∷ by) (x ∷ xs) (Alias at ∷ given) (ws ∷ words) are =
     subst (λ (u : List ℤ). AreWords f.frames (length f.frames) (Alias at ∷ given) (u ++ joined words)) (sym are.0.1.1.0)
-        (are.0.1.1.1, routine_words f site k passing by xs given words are.1)
+    (are.0.1.1.1, routine_words f site k passing by xs given words are.1)
 routine_words f site k passing (ByArray ∷ by) (x ∷ xs) (Elements e ∷ given) (ws ∷ words) are = no_elements (site.names x) are.0.1
   where
     no_elements : (s : Sense) → IsWhole f 0 x s e → AreWords f.frames (length f.frames) (Elements e ∷ given) (ws ++ joined words)

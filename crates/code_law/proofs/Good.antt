@@ -1,25 +1,22 @@
 -- The code of a program that breaks no rule is good.
-use Rattle.std.proofs.Common.{◌≡◌, ℕ, zero, suc, ◌+◌, ◌<◌, ◌≤◌, ◌⊎◌, inl, inr, Bool, true, false, not, ◌&&◌, ◌||◌, Some, None, Option, List, [], ◌∷◌, ◌++◌, length, refl, sym, ◌∙◌, ap, subst, arith}
+use Rattle.std.proofs.Common.{◌≡◌, ℕ, zero, suc, ◌+◌, ◌<◌, ◌≤◌, ◌⊎◌, inl, inr, Bool, true, false, not, ◌&&◌, ◌||◌, Some, List, [], ◌∷◌, length, refl, sym, ◌∙◌, ap, subst, arith}
 use Rattle.std.specs.Prelude.{slice_get, is_some, ◌==◌}
 use Rattle.std.specs.List.{list_any}
 use Rattle.std.proofs.lemmas.Bool.{false≢true, eqb-true, eq-eqb, and_parts, or_left, or_right, or_cases}
-use Rattle.std.proofs.lemmas.Option.{same_Some, get_or_from_slice_get, slice_get_within}
+use Rattle.std.proofs.lemmas.Option.{same_Some, slice_get_within}
 use Rattle.stack_code.specs.declared.instr.Instr.{Instr}
-use Rattle.stack_code.specs.declared.table.Op.{Op}
-use Rattle.stack_code.specs.declared.table.Op.TheVariants as op
-use Rattle.stack_code.specs.CodeLists.{CodeLists, instr_at, no_instr, routine_at}
-use Rattle.stack_code.specs.Rules.{IsGood, routine_of, height_at, is_target, is_jump, is_tick, is_call, is_behind_tick, leaves_nothing, jump_fits, operands_fit}
+use Rattle.stack_code.specs.CodeLists.{CodeLists, instr_at, routine_at}
+use Rattle.stack_code.specs.Rules.{IsGood, routine_of, height_at, is_target, is_jump, is_call, is_behind_tick, leaves_nothing, operands_fit}
 use Rattle.pascal_tree.specs.Program.{Program}
 use Rattle.pascal_tree.specs.Limits.{IsTree, most_levels}
 use Rattle.pascal_mean.specs.Means.{Owner, OfProgram, OfRoutine}
 use Rattle.pascal_code.specs.Frames.{declared_words}
-use Rattle.pascal_code.specs.Senses.{Framed, Site, all_framed, site_of}
+use Rattle.pascal_code.specs.Senses.{Framed, all_framed, site_of}
 use Rattle.pascal_code.specs.Statements.{body_code}
 use Rattle.pascal_code.specs.Code.{code_of, routine_code, ending, nested_in_body}
 use Rattle.code_law.specs.Heights.{HasRoom, Lift, words_for}
 use Rattle.code_law.specs.Suited.{routines_of, AreSuited}
-use Rattle.code_law.proofs.Standing.{Stand}
-use Rattle.code_law.proofs.Fine.{Opens, AnEnd, Lands, IsFine, AreFine, lower_or_not, found_at}
+use Rattle.code_law.proofs.Fine.{AnEnd, Lands, AreFine, lower_or_not, found_at}
 use Rattle.code_law.proofs.StatementLifts.{Level, Rise, body_lifts}
 use Rattle.code_law.proofs.StatementPlaces.{Plain, body_fine}
 use Rattle.code_law.proofs.Lifts.{lift_wider, expr_lifts, assign_name_lifts, assign_element_lifts, call_statement_lifts, scalar_stored}
@@ -27,7 +24,7 @@ use Rattle.code_law.proofs.Plain.{plain_more, expr_plain, index_plain, store_pla
 use Rattle.code_law.proofs.Ranges.{start_of, end_of, ending_of, own_place, place_of, ends_inside, start_is_empty, ending_is_last, body_stands, ending_stands, ending_fits, owner_of_program, owner_of_routine}
 use Rattle.code_law.proofs.Walks.{routine_lifts}
 use Rattle.code_law.proofs.Nested.{body_fits, words_are}
-use Rattle.code_law.proofs.Records.{IsRight, good_by_routines}
+use Rattle.code_law.proofs.Records.{good_by_routines}
 
 abbrev pub At : Program → ℕ → Framed → Type 0
 At p k r = slice_get (all_framed p) k ≡ Some r
@@ -77,11 +74,11 @@ module _ (p : Program) (suited : AreSuited p) (tree : IsTree p) (room : HaveRoom
     expr = λ e suits. expr_plain (code_of p) k (room k r at) e suits;
     assign_name = λ x becomes e suits.
         plain_more (code_of p) k _ _ (expr_plain (code_of p) k (room k r at) e suits.1)
-            (store_plain (code_of p) k (room k r at) x.letters ((site_of r).names x.letters) refl suits.0);
+        (store_plain (code_of p) k (room k r at) x.letters ((site_of r).names x.letters) refl suits.0);
     assign_element = λ x i becomes e suits.
         plain_more (code_of p) k _ _ (index_plain (code_of p) k (room k r at) x.letters i suits.1)
-            (plain_more (code_of p) k _ _ (expr_plain (code_of p) k (room k r at) e suits.2)
-                (store_element_plain (code_of p) k (room k r at) x.letters ((site_of r).names x.letters) refl));
+        (plain_more (code_of p) k _ _ (expr_plain (code_of p) k (room k r at) e suits.2)
+        (store_element_plain (code_of p) k (room k r at) x.letters ((site_of r).names x.letters) refl));
     calls = λ x a suits. call_statement_plain (code_of p) k (room k r at) x a suits;
     control = λ x is. scalar_store_plain (code_of p) k (room k r at) x.letters ((site_of r).names x.letters) refl is;
     load = λ w low. load_own_plain (code_of p) k (site_of r) w (omega (arith, own_of k r at, low));
@@ -91,13 +88,13 @@ module _ (p : Program) (suited : AreSuited p) (tree : IsTree p) (room : HaveRoom
   body_is_level : (k : ℕ) (r : Framed) → At p k r → Level (code_of p) (body_code (site_of r) (declared_words r.frame) (r.declared).body (start_of p k))
   body_is_level k r at =
       body_lifts (code_of p) (routines_of p) (site_of r) (is_function r) (rise_of k r at) (r.declared).body (declared_words r.frame) (start_of p k) most_levels
-          (suited k r at).suits (body_fits p tree k r at)
+      (suited k r at).suits (body_fits p tree k r at)
 
   whole_lifts : (k : ℕ) (r : Framed) → At p k r → Lift (code_of p) 0 1536 (routine_code r (start_of p k)) 0 0
   whole_lifts k r at =
       routine_lifts (code_of p) 1536 r (start_of p k)
-          (lift_wider (code_of p) 0 1500 0 1536 (body_code (site_of r) (declared_words r.frame) (r.declared).body (start_of p k)) 0 0 (omega arith)
-              (omega arith) (body_is_level k r at))
+      (lift_wider (code_of p) 0 1500 0 1536 (body_code (site_of r) (declared_words r.frame) (r.declared).body (start_of p k)) 0 0 (omega arith)
+      (omega arith) (body_is_level k r at))
 
   ending_leaves : (o : Owner) → leaves_nothing (ending o).op ≡ true
   ending_leaves OfProgram = refl
@@ -116,12 +113,12 @@ module _ (p : Program) (suited : AreSuited p) (tree : IsTree p) (room : HaveRoom
   body_is_fine k r at =
       let words : declared_words r.frame + nested_in_body (r.declared).body ≤ (routine_at (code_of p) k).words = omega (arith, words_are p k r at) in
       body_fine (code_of p) k (routines_of p) (site_of r) (is_function r) (declared_words r.frame) (routine_at (code_of p) k).words (start_of p k)
-          (end_of p k r) (own_place p k r at) (ends_inside p k r at)
-          (rise_of k r at) (plain_of k r at) (r.declared).body (declared_words r.frame) (start_of p k) (start_of p k) (ending_of p k r) most_levels
-              (omega arith) words refl (suited k r at).suits
-          (body_fits p tree k r at) (body_stands p k r at) (omega arith) (omega (arith, ending_is_last p k r)) (start_is_empty p k r at)
-          (AnEnd (ap (λ (i : Instr). leaves_nothing i.op) (found_at (code_of p) (ending_of p k r) (ending r.owner) (ending_stands p k r at))
-              ∙ ending_leaves r.owner))
+      (end_of p k r) (own_place p k r at) (ends_inside p k r at)
+      (rise_of k r at) (plain_of k r at) (r.declared).body (declared_words r.frame) (start_of p k) (start_of p k) (ending_of p k r) most_levels
+      (omega arith) words refl (suited k r at).suits
+      (body_fits p tree k r at) (body_stands p k r at) (omega arith) (omega (arith, ending_is_last p k r)) (start_is_empty p k r at)
+      (AnEnd (ap (λ (i : Instr). leaves_nothing i.op) (found_at (code_of p) (ending_of p k r) (ending r.owner) (ending_stands p k r at))
+      ∙ ending_leaves r.owner))
 
   -- what is at the end, or in the statements
   in_routine : (k : ℕ) (r : Framed) (P : ℕ → Type 0) → ((x : ℕ) → start_of p k ≤ x → x < ending_of p k r → P x) → P (ending_of p k r) → (x : ℕ)
@@ -137,28 +134,28 @@ module _ (p : Program) (suited : AreSuited p) (tree : IsTree p) (room : HaveRoom
       → Lands (code_of p) (site_of r) (declared_words r.frame) (instr_at (code_of p) x).a
   jumps_land k r at x low high =
       in_routine k r (λ y. is_jump (instr_at (code_of p) y).op ≡ true → Lands (code_of p) (site_of r) (declared_words r.frame) (instr_at (code_of p) y).a)
-          (λ y above below. (body_is_fine k r at y above below).lands)
-          (λ jumps. absurd (false≢true (sym (ap (λ (i : Instr). is_jump i.op) (found_at (code_of p) (ending_of p k r) (ending r.owner) (ending_stands p k r at))
-              ∙ ending_is_no_jump r.owner) ∙ jumps)))
-          x low high
+      (λ y above below. (body_is_fine k r at y above below).lands)
+      (λ jumps. absurd (false≢true (sym (ap (λ (i : Instr). is_jump i.op) (found_at (code_of p) (ending_of p k r) (ending r.owner) (ending_stands p k r at))
+      ∙ ending_is_no_jump r.owner) ∙ jumps)))
+      x low high
 
   jump_stays : (k : ℕ) (r : Framed) → At p k r → (x : ℕ) → start_of p k ≤ x → x < end_of p k r → is_jump (instr_at (code_of p) x).op ≡ true
       → routine_of (code_of p) (instr_at (code_of p) x).a ≡ routine_of (code_of p) x
   jump_stays k r at x low high =
       in_routine k r (λ y. is_jump (instr_at (code_of p) y).op ≡ true → routine_of (code_of p) (instr_at (code_of p) y).a ≡ routine_of (code_of p) y)
-          (λ y above below. (body_is_fine k r at y above below).stays)
-          (λ jumps. absurd (false≢true (sym (ap (λ (i : Instr). is_jump i.op) (found_at (code_of p) (ending_of p k r) (ending r.owner) (ending_stands p k r at))
-              ∙ ending_is_no_jump r.owner) ∙ jumps)))
-          x low high
+      (λ y above below. (body_is_fine k r at y above below).stays)
+      (λ jumps. absurd (false≢true (sym (ap (λ (i : Instr). is_jump i.op) (found_at (code_of p) (ending_of p k r) (ending r.owner) (ending_stands p k r at))
+      ∙ ending_is_no_jump r.owner) ∙ jumps)))
+      x low high
 
   operands_are_right : (k : ℕ) (r : Framed) → At p k r → (x : ℕ) → start_of p k ≤ x → x < end_of p k r
       → operands_fit (code_of p) x (instr_at (code_of p) x).op (instr_at (code_of p) x).a (instr_at (code_of p) x).b ≡ true
   operands_are_right k r at x low high =
       in_routine k r (λ y. operands_fit (code_of p) y (instr_at (code_of p) y).op (instr_at (code_of p) y).a (instr_at (code_of p) y).b ≡ true)
-          (λ y above below. (body_is_fine k r at y above below).fits)
-          (subst (λ (i : Instr). operands_fit (code_of p) (ending_of p k r) i.op i.a i.b ≡ true)
-              (sym (found_at (code_of p) (ending_of p k r) (ending r.owner) (ending_stands p k r at))) (ending_fits p k r at))
-          x low high
+      (λ y above below. (body_is_fine k r at y above below).fits)
+      (subst (λ (i : Instr). operands_fit (code_of p) (ending_of p k r) i.op i.a i.b ≡ true)
+      (sym (found_at (code_of p) (ending_of p k r) (ending r.owner) (ending_stands p k r at))) (ending_fits p k r at))
+      x low high
 
   -- A target has nothing on the stack, and what stands there opens statements or is behind a jump.
   pub targets_land : (k : ℕ) (r : Framed) → At p k r → (t : ℕ) → start_of p k ≤ t → t < end_of p k r → is_target (code_of p) t ≡ true
@@ -176,9 +173,9 @@ module _ (p : Program) (suited : AreSuited p) (tree : IsTree p) (room : HaveRoom
       let jumps : is_jump (instr_at (code_of p) x).op ≡ true = ap (λ (h : Instr). is_jump h.op) here ∙ parts.0 in
       let leads_there : (instr_at (code_of p) x).a ≡ t = ap (λ (h : Instr). h.a) here ∙ leads in
       let lands : Lands (code_of p) (site_of s) (declared_words s.frame) t =
-          subst (Lands (code_of p) (site_of s) (declared_words s.frame)) leads_there (jumps_land j s place.2 x place.3 place.4 jumps) in
+      subst (Lands (code_of p) (site_of s) (declared_words s.frame)) leads_there (jumps_land j s place.2 x place.3 place.4 jumps) in
       let stays : routine_of (code_of p) t ≡ routine_of (code_of p) x = subst (λ (m : ℕ). routine_of (code_of p) m ≡ routine_of (code_of p) x) leads_there
-          (jump_stays j s place.2 x place.3 place.4 jumps) in
+      (jump_stays j s place.2 x place.3 place.4 jumps) in
       let same : j ≡ k = sym (own_place p j s place.2 x place.3 place.4) ∙ sym stays ∙ own_place p k r at t low high in
       let routine : s ≡ r = same_Some s r (sym place.2 ∙ ap (slice_get (all_framed p)) same ∙ at) in
       subst (λ (u : Framed). Lands (code_of p) (site_of u) (declared_words u.frame) t) routine lands
@@ -201,11 +198,11 @@ module _ (p : Program) (suited : AreSuited p) (tree : IsTree p) (room : HaveRoom
       → (not (is_call (instr_at (code_of p) x).op) || is_behind_tick (code_of p) x) ≡ true
   calls_are_right calls k r at x low high =
       in_routine k r (λ y. (not (is_call (instr_at (code_of p) y).op) || is_behind_tick (code_of p) y) ≡ true)
-          (λ y above below. by_kind y above below (is_call (instr_at (code_of p) y).op) refl)
-          (or_left (not (is_call (instr_at (code_of p) (ending_of p k r)).op)) (is_behind_tick (code_of p) (ending_of p k r))
-              (ap not (ap (λ (i : Instr). is_call i.op) (found_at (code_of p) (ending_of p k r) (ending r.owner) (ending_stands p k r at))
-                  ∙ ending_is_no_call r.owner)))
-          x low high
+      (λ y above below. by_kind y above below (is_call (instr_at (code_of p) y).op) refl)
+      (or_left (not (is_call (instr_at (code_of p) (ending_of p k r)).op)) (is_behind_tick (code_of p) (ending_of p k r))
+      (ap not (ap (λ (i : Instr). is_call i.op) (found_at (code_of p) (ending_of p k r) (ending r.owner) (ending_stands p k r at))
+      ∙ ending_is_no_call r.owner)))
+      x low high
     where
       by_kind : (y : ℕ) → start_of p k ≤ y → y < ending_of p k r → (b : Bool) → is_call (instr_at (code_of p) y).op ≡ b
           → (not (is_call (instr_at (code_of p) y).op) || is_behind_tick (code_of p) y) ≡ true
@@ -215,8 +212,8 @@ module _ (p : Program) (suited : AreSuited p) (tree : IsTree p) (room : HaveRoom
   pub good_code : ((k : ℕ) → k < length (code_of p).routines → (routine_at (code_of p) k).params ≤ 16) → CallsStandBehind → IsGood (code_of p)
   good_code few calls =
       good_by_routines p suited tree few whole_lifts
-          (λ k r at x low high. record {
-            operands = operands_are_right k r at x low high;
-            target = targets_are_right x k r at low high;
-            call = calls_are_right calls k r at x low high;
-          })
+      (λ k r at x low high. record {
+        operands = operands_are_right k r at x low high;
+        target = targets_are_right x k r at low high;
+        call = calls_are_right calls k r at x low high;
+      })

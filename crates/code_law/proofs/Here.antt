@@ -1,6 +1,5 @@
 -- Where the machine stands in the code of an activation, and in which situation.
-use Rattle.std.proofs.Common.{◌≡◌, ℕ, ◌+◌, ◌≤◌, ◌<◌, Some, None, List, [], ◌∷◌, map, length, ℤ, sym, ap, ◌∙◌}
-use Rattle.std.specs.Prelude.{slice_get}
+use Rattle.std.proofs.Common.{◌≡◌, ℕ, ◌≤◌, ◌<◌, Some, None, List, [], map, length, ℤ, sym, ap, ◌∙◌}
 use Rattle.std.proofs.lemmas.List.{length-map}
 use Rattle.solo_base.specs.declared.system_call.SysReply.{SysReply}
 use Rattle.stack_code.specs.CodeLists.{CodeLists}
@@ -54,8 +53,16 @@ number_of h = ap length (sym h.waiting) ∙ length-map h.below at_rest
 pub further : {c : CodeLists} {limit : ℕ} {all : List SysReply} {f : Fixed} {p : ℕ} {operands : List ℤ} {now : Situation} (q : ℕ) (others : List ℤ)
     → (h : Here c limit all f p operands now)
     → Reached c limit all (state_at f.routine h.below q now.line h.words others now.ticks) now.made → Here c limit all f q others now
-further q others h reached = record { below = h.below; words = h.words; reached = reached; waiting = h.waiting; agree = h.agree; named = h.named; risen =
-    h.risen }
+further q others h reached = record {
+  below = h.below;
+  words = h.words;
+  reached = reached;
+  waiting = h.waiting;
+  agree = h.agree;
+  named = h.named;
+  risen =
+      h.risen;
+}
 
 -- what a part comes to: the situation behind it, or the outcome of the whole run
 abbrev pub Comes : {A : Type 0} → CodeLists → ℕ → List SysReply → (A → Situation → Type 0) → Course A → Type 0
@@ -90,8 +97,16 @@ from f k = record f { floor = k.floor; held = k.held }
 pub on_less : {c : CodeLists} {limit : ℕ} {all : List SysReply} {f : Fixed} {p : ℕ} {operands : List ℤ} {now : Situation} (k : Kept)
     → Here c limit all f p operands now → k.floor ≤ now.ticks
     → ((d i : ℕ) (v : ℤ) → k.held d i ≡ Some v → f.held d i ≡ Some v) → Here c limit all (from f k) p operands now
-on_less {f = f} k h low less = record { below = h.below; words = h.words; reached = h.reached; waiting = h.waiting; agree =
-    agree_weaker h.agree k.held less; named = h.named; risen = low }
+on_less {f = f} k h low less = record {
+  below = h.below;
+  words = h.words;
+  reached = h.reached;
+  waiting = h.waiting;
+  agree =
+      agree_weaker h.agree k.held less;
+  named = h.named;
+  risen = low;
+}
 
 pub on_floor : {c : CodeLists} {limit : ℕ} {all : List SysReply} {f : Fixed} {p : ℕ} {operands : List ℤ} {now : Situation} (floor : ℕ)
     → Here c limit all f p operands now → floor ≤ now.ticks → Here c limit all (record f { floor = floor }) p operands now

@@ -1,6 +1,6 @@
 -- Indexes of an array, counted from its lower bound.
-use Rattle.std.proofs.Common.{◌≡◌, ℕ, zero, suc, ◌+◌, ◌-◌, ◌<◌, ◌≤◌, Bool, true, false, ℤ, pos, negsuc, ◌+ℤ◌, ◌-ℤ◌, neg_ℤ, refl, sym, ◌∙◌, ap, arith}
-use Rattle.std.specs.Prelude.{int_le, unsigned_abs, nat_le}
+use Rattle.std.proofs.Common.{◌≡◌, ℕ, ◌+◌, ◌-◌, ◌<◌, ◌≤◌, true, ℤ, pos, negsuc, ◌+ℤ◌, ◌-ℤ◌, neg_ℤ, refl, sym, ◌∙◌, ap, arith}
+use Rattle.std.specs.Prelude.{int_le, unsigned_abs}
 use Rattle.std.proofs.Math.IntN.{+ℤ_assoc, +ℤ_comm, +ℤ-neg_ℤ_cancel, negsuc-eq}
 use Rattle.std.proofs.lemmas.Bool.{leb-true}
 use Rattle.pascal_mean.specs.Means.{Bounds}

@@ -1,5 +1,5 @@
 -- A program that breaks no rule has good code, which does what the program means.
-use Rattle.std.proofs.Common.{◌≡◌, ℕ, ◌≤◌, List, length, subst}
+use Rattle.std.proofs.Common.{ℕ, ◌≤◌, List, subst}
 use Rattle.solo_base.specs.declared.system_call.SysReply.{SysReply}
 use Rattle.stack_code.specs.CodeLists.{IsCode}
 use Rattle.stack_code.specs.Rules.{IsGood}
@@ -28,8 +28,8 @@ pub code_is_good : (p : Program) → IsCompiled p → IsGood (code_of p)
 code_is_good p is =
     let room = room_of p is.tree is.unbroken in
     good_code p (suits p is) is.tree room (params_few p is.tree is.unbroken)
-        (calls_stand_behind p (suits p is) is.tree room (λ k r at. let low = low_of p is.tree is.unbroken k r at in record
-            { variable = low.0; reference = low.1 }))
+    (calls_stand_behind p (suits p is) is.tree room (λ k r at. let low = low_of p is.tree is.unbroken k r at in record
+    { variable = low.0; reference = low.1 }))
 
 pub does_what_it_means : (p : Program) (limit : ℕ) (replies : List SysReply) → IsCompiled p → FitTheMeaning p limit replies
     → Runs (code_of p) limit replies (meaning p limit replies)

@@ -44,9 +44,13 @@ lifts c least most (i ∷ first) rest h k n one two =
 pub lift_wider : (c : CodeLists) (least most lower higher : ℕ) (code : List Instr) (h k : ℕ) → lower ≤ least → most ≤ higher
     → Lift c least most code h k → Lift c lower higher code h k
 lift_wider c least most lower higher [] h k low high lift = lift
-lift_wider c least most lower higher (i ∷ code) h k low high lift =
-    (lift.0, omega (arith, low, lift.1), omega (arith, high, lift.2), lift.3,
-    lift_wider c least most lower higher code (behind c i h) k low high lift.4)
+lift_wider c least most lower higher (i ∷ code) h k low high lift = (
+  lift.0,
+  omega (arith, low, lift.1),
+  omega (arith, high, lift.2),
+  lift.3,
+  lift_wider c least most lower higher code (behind c i h) k low high lift.4,
+)
 
 -- the same with other names for its heights
 pub lift_moved : (c : CodeLists) (least most : ℕ) (code : List Instr) (h k h' k' : ℕ) → h ≡ h' → k ≡ k' → Lift c least most code h k
@@ -56,9 +60,13 @@ lift_moved c least most code h k h' k' one two lift = subst (λ m. Lift c least 
 -- an instruction in front, behind which there are so many
 pub lift_step : (c : CodeLists) (least most : ℕ) (i : Instr) (code : List Instr) (h m k : ℕ) → pops c i.op i.a ≤ h → behind c i h ≡ m
     → least ≤ m → m ≤ most → leaves_nothing i.op ≡ false → Lift c least most code m k → Lift c least most (i ∷ code) h k
-lift_step c least most i code h m k has is low high stays lift =
-    (has, omega (arith, is, low), omega (arith, is, high), (λ e. absurd (true≢false (sym e ∙ stays))),
-    subst (λ n. Lift c least most code n k) (sym is) lift)
+lift_step c least most i code h m k has is low high stays lift = (
+  has,
+  omega (arith, is, low),
+  omega (arith, is, high),
+  (λ e. absurd (true≢false (sym e ∙ stays))),
+  subst (λ n. Lift c least most code n k) (sym is) lift,
+)
 
 -- ---- Operators
 
@@ -91,13 +99,13 @@ binary_lifts : (c : CodeLists) (most : ℕ) (o : Op) (code : List Instr) (h k : 
     → Lift c (h + 1) most code (h + 1) k → Lift c (h + 1) most (bare o ∷ code) (h + 1 + 1) k
 binary_lifts c most o code h k is low more =
     lift_step c (h + 1) most (bare o) code (h + 1 + 1) (h + 1) k (omega (arith, is.pops_so)) (omega (arith, is.pops_so, is.pushes_so))
-        (omega arith) low is.stays more
+    (omega arith) low is.stays more
 
 unary_lifts : (c : CodeLists) (most : ℕ) (o : Op) (code : List Instr) (h k : ℕ) → IsOperator c o 1 → h + 1 ≤ most
     → Lift c (h + 1) most code (h + 1) k → Lift c (h + 1) most (bare o ∷ code) (h + 1) k
 unary_lifts c most o code h k is low more =
     lift_step c (h + 1) most (bare o) code (h + 1) (h + 1) k (omega (arith, is.pops_so)) (omega (arith, is.pops_so, is.pushes_so))
-        (omega arith) low is.stays more
+    (omega arith) low is.stays more
 
 sign_lifts : (c : CodeLists) (most : ℕ) (s : Option (Sign × ℕ)) (h : ℕ) → h + 1 ≤ most → Lift c (h + 1) most (sign_code s) (h + 1) (h + 1)
 sign_lifts c most None h low = refl
@@ -263,14 +271,14 @@ exprs_among rs site callee (p ∷ others) no_expr suits = absurd suits
 exprs_among rs site callee [] (next_expr comma e more) suits = absurd suits
 exprs_among rs site callee (p ∷ others) (next_expr comma e more) suits =
     one_among callee p (site.names (name_in e)) (SuitsExpr rs site.names e) others (given_exprs site more) suits.0
-        (exprs_among rs site callee others more suits.1)
+    (exprs_among rs site callee others more suits.1)
 
 arguments_among : (rs : Routines) (site : Site) (callee : Sense) (passing : List Passing) (a : Arguments) → SuitsArguments rs site.names callee passing a
     → AreVariables passing (given_arguments site a)
 arguments_among rs site callee [] (arguments opening e more closing) suits = absurd suits
 arguments_among rs site callee (p ∷ others) (arguments opening e more closing) suits =
     one_among callee p (site.names (name_in e)) (SuitsExpr rs site.names e) others (given_exprs site more) suits.0
-        (exprs_among rs site callee others more suits.1)
+    (exprs_among rs site callee others more suits.1)
 
 none_among : (passing : List Passing) → passing ≡ [] → AreVariables passing []
 none_among [] is = record { scalar = tt; as_many = refl }
@@ -293,9 +301,9 @@ stores_lift : (c : CodeLists) (least most result : ℕ) (l : List Sense) (h : �
 stores_lift c least most result [] h are few low = omega arith
 stores_lift c least most result (s ∷ later) h are few low =
     lifts c least most (stores_code result later) (store_code result s) (h + length (s ∷ later)) (h + 1) h
-        (lift_moved c least most (stores_code result later) (h + 1 + length later) (h + 1) (h + length (s ∷ later)) (h + 1) (omega arith) refl
-            (stores_lift c least most result later (h + 1) are.1 (omega (arith, few)) (omega (arith, low))))
-        (scalar_stored c least most result s h are.0 few (omega (arith, low)))
+    (lift_moved c least most (stores_code result later) (h + 1 + length later) (h + 1) (h + length (s ∷ later)) (h + 1) (omega arith) refl
+    (stores_lift c least most result later (h + 1) are.1 (omega (arith, few)) (omega (arith, low))))
+    (scalar_stored c least most result s h are.0 few (omega (arith, low)))
 
 row_values : (p : Procedure) → values_of (row_number p) ≡ words_passed (Interface p) (row_passing p)
 row_values row.Read = refl
@@ -380,8 +388,8 @@ row_lifts c most rs result p given gives h can are low =
     let few = row_few p in
     let fits : h + mark gives + length variables ≤ most = omega (arith, all, are.as_many, row_results p, few.1, low) in
     lift_step c (h + mark gives) most i (stores_code result variables) (h + words_passed (Interface p) (row_passing p)) (h + mark gives + length variables)
-        (h + mark gives) (omega (arith, is.pops_so, row_values p)) (omega (arith, is.pops_so, is.pushes_so, row_values p, all, are.as_many))
-        (omega arith) fits is.stays (stores_lift c (h + mark gives) most result variables (h + mark gives) are.scalar (omega arith) fits)
+    (h + mark gives) (omega (arith, is.pops_so, row_values p)) (omega (arith, is.pops_so, is.pushes_so, row_values p, all, are.as_many))
+    (omega arith) fits is.stays (stores_lift c (h + mark gives) most result variables (h + mark gives) are.scalar (omega arith) fits)
 
 standard_lifts : (c : CodeLists) (most : ℕ) (f : Standard) (h : ℕ) → h + 1 ≤ most → Lift c (h + 1) most (standard_code f) (h + 1) (h + 1)
 standard_lifts c most Abs h low = unary_lifts c most op.Abs [] h (h + 1) (record { pops_so = refl; pushes_so = refl; stays = refl }) low refl
@@ -399,7 +407,7 @@ module _ {c : CodeLists} {k : ℕ} {rs : Routines} {site : Site} {in_function : 
       let has = room.routine x j passing is in
       let pushed : mark (routine_at c j).function ≡ mark gives = ap mark (has.3 ∙ of.gives_is) in
       lift_step c (h + mark gives) most (with_a op.Call j) [] (h + passed_words passing) (h + mark gives) (h + mark gives) (omega (arith, has.2))
-          (omega (arith, has.2, pushed)) (omega arith) low refl refl
+      (omega (arith, has.2, pushed)) (omega arith) low refl refl
 
   -- what is called takes at most 16 words
   pub passed_few : (x : List ℕ) (gives : Bool) (m : Sense) → site.names x ≡ m → CanCall rs gives m → words_passed m (passing_of m) ≤ 16
@@ -418,10 +426,10 @@ module _ {c : CodeLists} {k : ℕ} {rs : Routines} {site : Site} {in_function : 
       → Lift c (h + mark gives) most (call_code site.result m given) (h + words_passed m (passing_of m)) (h + mark gives)
   call_lifts x true (Routine j passing) given h is can are low =
       lift_moved c (h + 1) most (with_a op.Call j ∷ []) (h + passed_words passing) (h + 1) (h + words_passed (Routine j passing) passing) (h + 1)
-          (ap (λ n. h + n) (sym (routine_passes j passing passing))) refl (routine_lifts x j passing true h is can (omega (arith, low)))
+      (ap (λ n. h + n) (sym (routine_passes j passing passing))) refl (routine_lifts x j passing true h is can (omega (arith, low)))
   call_lifts x false (Routine j passing) given h is can are low =
       lift_moved c (h + 0) most (with_a op.Call j ∷ []) (h + passed_words passing) (h + 0) (h + words_passed (Routine j passing) passing) (h + 0)
-          (ap (λ n. h + n) (sym (routine_passes j passing passing))) refl (routine_lifts x j passing false h is can (omega (arith, low)))
+      (ap (λ n. h + n) (sym (routine_passes j passing passing))) refl (routine_lifts x j passing false h is can (omega (arith, low)))
   call_lifts x true (Function f) given h is can are low = standard_lifts c most f h (omega (arith, low))
   call_lifts x false (Function f) given h is can are low = absurd (true≢false (sym can))
   call_lifts x gives (Interface p) given h is can are low = row_lifts c most rs site.result p given gives h can are low
@@ -440,7 +448,7 @@ module _ {c : CodeLists} {k : ℕ} {rs : Routines} {site : Site} {in_function : 
       lift_step c (h + 1) most (with_a op.LoadR a) [] h (h + 1) (h + 1) (omega arith) (omega arith) (omega arith) low refl refl
   name_lifts x (Routine j passing) h is can low =
       lift_moved c (h + 1) most (with_a op.Call j ∷ []) (h + passed_words passing) (h + 1) h (h + 1)
-          (omega (arith, ap passed_words can.1)) refl (routine_lifts x j passing true h is can.0 low)
+      (omega (arith, ap passed_words can.1)) refl (routine_lifts x j passing true h is can.0 low)
   name_lifts x (Array o a b) h is can low = absurd can
   name_lifts x (Function f) h is can low = absurd can
   name_lifts x (Interface p) h is can low = absurd can
@@ -452,45 +460,45 @@ module _ {c : CodeLists} {k : ℕ} {rs : Routines} {site : Site} {in_function : 
     expr_lifts (alone s) h n suits fits low = simple_lifts s h n suits fits (omega (arith, low))
     expr_lifts (compared s r line t) h n suits fits low =
         lifts c (h + 1) most (simple_code site s) (simple_code site t ++ bare (relation_op r) ∷ []) h (h + 1) (h + 1)
-            (simple_lifts s h n suits.0 fits.0 (omega (arith, low)))
+        (simple_lifts s h n suits.0 fits.0 (omega (arith, low)))
         (lifts c (h + 1) most (simple_code site t) (bare (relation_op r) ∷ []) (h + 1) (h + 1 + 1) (h + 1)
-            (lift_wider c (h + 1 + 1) most (h + 1) most (simple_code site t) (h + 1) (h + 1 + 1) (omega arith) (omega arith)
-                (simple_lifts t (h + 1) n suits.1 fits.1 (omega (arith, low))))
-            (binary_lifts c most (relation_op r) [] h (h + 1) (relation_is c r) (omega (arith, low)) refl))
+        (lift_wider c (h + 1 + 1) most (h + 1) most (simple_code site t) (h + 1) (h + 1 + 1) (omega arith) (omega arith)
+        (simple_lifts t (h + 1) n suits.1 fits.1 (omega (arith, low))))
+        (binary_lifts c most (relation_op r) [] h (h + 1) (relation_is c r) (omega (arith, low)) refl))
 
     pub simple_lifts : (s : Simple) (h n : ℕ) → SuitsSimple rs site.names s → SimpleFits s n → h + (19 * n + 2) ≤ most
         → Lift c (h + 1) most (simple_code site s) h (h + 1)
     simple_lifts (simple sign t more) h n suits fits low =
         lifts c (h + 1) most (term_code site t) (sign_code sign ++ addends_code site more) h (h + 1) (h + 1)
-            (term_lifts t h n suits.0 fits.0 (omega (arith, low)))
+        (term_lifts t h n suits.0 fits.0 (omega (arith, low)))
         (lifts c (h + 1) most (sign_code sign) (addends_code site more) (h + 1) (h + 1) (h + 1) (sign_lifts c most sign h (omega (arith, low)))
-            (addends_lift more h n suits.1 fits.1 low))
+        (addends_lift more h n suits.1 fits.1 low))
 
     pub addends_lift : (more : Addends) (h n : ℕ) → SuitsAddends rs site.names more → AddendsFit more n → h + (19 * n + 2) ≤ most
         → Lift c (h + 1) most (addends_code site more) (h + 1) (h + 1)
     addends_lift no_addend h n suits fits low = refl
     addends_lift (addend a line t more) h n suits fits low =
         lifts c (h + 1) most (term_code site t) (bare (adding_op a) ∷ addends_code site more) (h + 1) (h + 1 + 1) (h + 1)
-            (lift_wider c (h + 1 + 1) most (h + 1) most (term_code site t) (h + 1) (h + 1 + 1) (omega arith) (omega arith)
-                (term_lifts t (h + 1) n suits.0 fits.0 (omega (arith, low))))
-            (binary_lifts c most (adding_op a) (addends_code site more) h (h + 1) (adding_is c a) (omega (arith, low))
-                (addends_lift more h n suits.1 fits.1 low))
+        (lift_wider c (h + 1 + 1) most (h + 1) most (term_code site t) (h + 1) (h + 1 + 1) (omega arith) (omega arith)
+        (term_lifts t (h + 1) n suits.0 fits.0 (omega (arith, low))))
+        (binary_lifts c most (adding_op a) (addends_code site more) h (h + 1) (adding_is c a) (omega (arith, low))
+        (addends_lift more h n suits.1 fits.1 low))
 
     pub term_lifts : (t : Term) (h n : ℕ) → SuitsTerm rs site.names t → TermFits t n → h + (19 * n + 1) ≤ most
         → Lift c (h + 1) most (term_code site t) h (h + 1)
     term_lifts (term f more) h n suits fits low =
         lifts c (h + 1) most (factor_code site f) (multipliers_code site more) h (h + 1) (h + 1) (factor_lifts f h n suits.0 fits.0 (omega (arith, low)))
-            (multipliers_lift more h n suits.1 fits.1 low)
+        (multipliers_lift more h n suits.1 fits.1 low)
 
     pub multipliers_lift : (more : Multipliers) (h n : ℕ) → SuitsMultipliers rs site.names more → MultipliersFit more n → h + (19 * n + 1) ≤ most
         → Lift c (h + 1) most (multipliers_code site more) (h + 1) (h + 1)
     multipliers_lift no_multiplier h n suits fits low = refl
     multipliers_lift (multiplier m line f more) h n suits fits low =
         lifts c (h + 1) most (factor_code site f) (bare (multiplying_op m) ∷ multipliers_code site more) (h + 1) (h + 1 + 1) (h + 1)
-            (lift_wider c (h + 1 + 1) most (h + 1) most (factor_code site f) (h + 1) (h + 1 + 1) (omega arith) (omega arith)
-                (factor_lifts f (h + 1) n suits.0 fits.0 (omega (arith, low))))
-            (binary_lifts c most (multiplying_op m) (multipliers_code site more) h (h + 1) (multiplying_is c m) (omega (arith, low))
-                (multipliers_lift more h n suits.1 fits.1 low))
+        (lift_wider c (h + 1 + 1) most (h + 1) most (factor_code site f) (h + 1) (h + 1 + 1) (omega arith) (omega arith)
+        (factor_lifts f (h + 1) n suits.0 fits.0 (omega (arith, low))))
+        (binary_lifts c most (multiplying_op m) (multipliers_code site more) h (h + 1) (multiplying_is c m) (omega (arith, low))
+        (multipliers_lift more h n suits.1 fits.1 low))
 
     pub factor_lifts : (f : Factor) (h n : ℕ) → SuitsFactor rs site.names f → FactorFits f n → h + 19 * n ≤ most
         → Lift c (h + 1) most (factor_code site f) h (h + 1)
@@ -500,26 +508,26 @@ module _ {c : CodeLists} {k : ℕ} {rs : Routines} {site : Site} {in_function : 
     factor_lifts (group opening e closing) h n suits fits low = expr_lifts e h (n - 1) suits fits.1 (omega (arith, fits.0, low))
     factor_lifts (negated line f) h n suits fits low =
         lifts c (h + 1) most (factor_code site f) (bare op.Not ∷ []) h (h + 1) (h + 1)
-            (factor_lifts f h (n - 1) suits fits.1 (omega (arith, fits.0, low)))
-            (unary_lifts c most op.Not [] h (h + 1) (record { pops_so = refl; pushes_so = refl; stays = refl }) (omega (arith, fits.0, low)) refl)
+        (factor_lifts f h (n - 1) suits fits.1 (omega (arith, fits.0, low)))
+        (unary_lifts c most op.Not [] h (h + 1) (record { pops_so = refl; pushes_so = refl; stays = refl }) (omega (arith, fits.0, low)) refl)
     factor_lifts (element x i) h n suits fits low =
         lifts c (h + 1) most (index_code site (site.names x.letters) i) (element_code (site.names x.letters)) h (h + 1) (h + 1)
-            (index_lifts (site.names x.letters) i h (n - 1) suits.0 suits.1 fits.1 (omega (arith, fits.0, low)))
-            (element_lifts c most (site.names x.letters) h suits.0 (omega (arith, fits.0, low)))
+        (index_lifts (site.names x.letters) i h (n - 1) suits.0 suits.1 fits.1 (omega (arith, fits.0, low)))
+        (element_lifts c most (site.names x.letters) h suits.0 (omega (arith, fits.0, low)))
     factor_lifts (called x a) h n suits fits low =
         let callee = site.names x.letters in
         let few : words_passed callee (passing_of callee) ≤ 16 = passed_few x.letters true callee refl suits.0 in
         lifts c (h + 1) most (arguments_code site callee (passing_of callee) a) (call_code site.result callee (given_arguments site a)) h
-            (h + words_passed callee (passing_of callee)) (h + 1)
-            (arguments_lift callee (passing_of callee) a h (n - 1) suits.1 fits.1 (omega (arith, fits.0, few, low)))
-            (call_lifts x.letters true callee (given_arguments site a) h refl suits.0
-                (arguments_among rs site callee (passing_of callee) a suits.1) (omega (arith, fits.0, low)))
+        (h + words_passed callee (passing_of callee)) (h + 1)
+        (arguments_lift callee (passing_of callee) a h (n - 1) suits.1 fits.1 (omega (arith, fits.0, few, low)))
+        (call_lifts x.letters true callee (given_arguments site a) h refl suits.0
+        (arguments_among rs site callee (passing_of callee) a suits.1) (omega (arith, fits.0, low)))
 
     pub index_lifts : (array : Sense) (i : Index) (h n : ℕ) → CanIndex array → SuitsIndex rs site.names i → IndexFits i n → h + (19 * n + 3) ≤ most
         → Lift c (h + 1) most (index_code site array i) h (h + 1)
     index_lifts array (index opening e closing) h n can suits fits low =
         lifts c (h + 1) most (expr_code site e) (test_code array) h (h + 1) (h + 1) (expr_lifts e h n suits fits low)
-            (test_lifts c most array h can (omega (arith, low)))
+        (test_lifts c most array h can (omega (arith, low)))
 
     -- behind each instruction of arguments there is one operand more at least than before them
     pub arguments_lift : (callee : Sense) (passing : List Passing) (a : Arguments) (h n : ℕ) → SuitsArguments rs site.names callee passing a
@@ -528,15 +536,15 @@ module _ {c : CodeLists} {k : ℕ} {rs : Routines} {site : Site} {in_function : 
     arguments_lift callee [] (arguments opening e more closing) h n suits fits low = absurd suits
     arguments_lift callee (ByValue ∷ others) (arguments opening e more closing) h n suits fits low =
         lifts c (h + 1) most (expr_code site e) (exprs_code site callee others more) h (h + 1) (h + words_passed callee (ByValue ∷ others))
-            (expr_lifts e h n suits.0 fits.0 (omega (arith, low)))
-            (exprs_behind callee others more h (h + 1) (h + words_passed callee (ByValue ∷ others)) n suits.1 fits.1 (omega arith) (omega arith)
-                (omega (arith, low)))
+        (expr_lifts e h n suits.0 fits.0 (omega (arith, low)))
+        (exprs_behind callee others more h (h + 1) (h + words_passed callee (ByValue ∷ others)) n suits.1 fits.1 (omega arith) (omega arith)
+        (omega (arith, low)))
     arguments_lift callee (ByVariable ∷ others) (arguments opening e more closing) h n suits fits low =
         lifts c (h + 1) most (variable_code callee (site.names (name_in e))) (exprs_code site callee others more) h (h + variable_words callee)
-            (h + words_passed callee (ByVariable ∷ others))
-            (variable_lifts c most callee (site.names (name_in e)) h (suits.0).1 (omega (arith, low)))
-            (exprs_behind callee others more h (h + variable_words callee) (h + words_passed callee (ByVariable ∷ others)) n suits.1 fits.1 (omega arith)
-                (omega arith) (omega (arith, low)))
+        (h + words_passed callee (ByVariable ∷ others))
+        (variable_lifts c most callee (site.names (name_in e)) h (suits.0).1 (omega (arith, low)))
+        (exprs_behind callee others more h (h + variable_words callee) (h + words_passed callee (ByVariable ∷ others)) n suits.1 fits.1 (omega arith)
+        (omega arith) (omega (arith, low)))
     arguments_lift callee (ByArray ∷ others) (arguments opening e more closing) h n suits fits low =
         exprs_behind callee others more h h (h + words_passed callee (ByArray ∷ others)) n suits.1 fits.1 (omega arith) (omega arith) (omega (arith, low))
 
@@ -549,14 +557,14 @@ module _ {c : CodeLists} {k : ℕ} {rs : Routines} {site : Site} {in_function : 
     exprs_behind callee [] (next_expr comma e more) h g m n suits fits high is low = absurd suits
     exprs_behind callee (ByValue ∷ others) (next_expr comma e more) h g m n suits fits high is low =
         lifts c (h + 1) most (expr_code site e) (exprs_code site callee others more) g (g + 1) m
-            (lift_wider c (g + 1) most (h + 1) most (expr_code site e) g (g + 1) (omega (arith, high)) (omega arith)
-                (expr_lifts e g n suits.0 fits.0 (omega (arith, is, low))))
-            (exprs_behind callee others more h (g + 1) m n suits.1 fits.1 (omega (arith, high)) (omega (arith, is)) low)
+        (lift_wider c (g + 1) most (h + 1) most (expr_code site e) g (g + 1) (omega (arith, high)) (omega arith)
+        (expr_lifts e g n suits.0 fits.0 (omega (arith, is, low))))
+        (exprs_behind callee others more h (g + 1) m n suits.1 fits.1 (omega (arith, high)) (omega (arith, is)) low)
     exprs_behind callee (ByVariable ∷ others) (next_expr comma e more) h g m n suits fits high is low =
         lifts c (h + 1) most (variable_code callee (site.names (name_in e))) (exprs_code site callee others more) g (g + variable_words callee) m
-            (lift_wider c (g + 1) most (h + 1) most (variable_code callee (site.names (name_in e))) g (g + variable_words callee) (omega (arith, high))
-                (omega arith) (variable_lifts c most callee (site.names (name_in e)) g (suits.0).1 (omega (arith, is, low))))
-            (exprs_behind callee others more h (g + variable_words callee) m n suits.1 fits.1 (omega (arith, high)) (omega (arith, is)) low)
+        (lift_wider c (g + 1) most (h + 1) most (variable_code callee (site.names (name_in e))) g (g + variable_words callee) (omega (arith, high))
+        (omega arith) (variable_lifts c most callee (site.names (name_in e)) g (suits.0).1 (omega (arith, is, low))))
+        (exprs_behind callee others more h (g + variable_words callee) m n suits.1 fits.1 (omega (arith, high)) (omega (arith, is)) low)
     exprs_behind callee (ByArray ∷ others) (next_expr comma e more) h g m n suits fits high is low =
         exprs_behind callee others more h g m n suits.1 fits.1 high (omega (arith, is)) low
 
@@ -565,7 +573,7 @@ module _ {c : CodeLists} {k : ℕ} {rs : Routines} {site : Site} {in_function : 
   -- behind each instruction of the arguments there is an operand
   pub call_arguments_lift : (x : NameAt) (a : Arguments) → SuitsCall rs site.names x (Some a) → CallFits (Some a) → 1500 ≤ most
       → Lift c 1 most (arguments_code site (site.names x.letters) (passing_of (site.names x.letters)) a) 0
-          (words_passed (site.names x.letters) (passing_of (site.names x.letters)))
+      (words_passed (site.names x.letters) (passing_of (site.names x.letters)))
   call_arguments_lift x a suits fits high =
       let callee = site.names x.letters in
       let words = words_passed callee (passing_of callee) in
@@ -583,11 +591,11 @@ module _ {c : CodeLists} {k : ℕ} {rs : Routines} {site : Site} {in_function : 
       let callee = site.names x.letters in
       let words = words_passed callee (passing_of callee) in
       lifts c 0 most (arguments_code site callee (passing_of callee) a) (call_code site.result callee (given_arguments site a)) 0 words 0
-          (lift_wider c 1 most 0 most (arguments_code site callee (passing_of callee) a) 0 words (omega arith) (omega arith)
-              (call_arguments_lift x a suits fits high))
+      (lift_wider c 1 most 0 most (arguments_code site callee (passing_of callee) a) 0 words (omega arith) (omega arith)
+      (call_arguments_lift x a suits fits high))
       (lift_moved c 0 most (call_code site.result callee (given_arguments site a)) (0 + words) 0 words 0 (omega arith) refl
-          (call_lifts x.letters false callee (given_arguments site a) 0 refl suits.0
-              (arguments_among rs site callee (passing_of callee) a suits.1) (omega (arith, high))))
+      (call_lifts x.letters false callee (given_arguments site a) 0 refl suits.0
+      (arguments_among rs site callee (passing_of callee) a suits.1) (omega (arith, high))))
 
 -- ---- Assignments
 
@@ -596,16 +604,16 @@ module _ {c : CodeLists} {k : ℕ} {rs : Routines} {site : Site} {in_function : 
       → Lift c 0 1500 (expr_code site e ++ store_code site.result (site.names x)) 0 0
   assign_name_lifts x inside e can suits fits =
       lifts c 0 1500 (expr_code site e) (store_code site.result (site.names x)) 0 1 0
-          (lift_wider c 1 1500 0 1500 (expr_code site e) 0 1 (omega arith) (omega arith) (expr_lifts room 1500 e 0 most_levels suits fits (omega arith)))
-          (store_lifts c 0 1500 site.result inside (site.names x) 0 can (omega arith) (omega arith))
+      (lift_wider c 1 1500 0 1500 (expr_code site e) 0 1 (omega arith) (omega arith) (expr_lifts room 1500 e 0 most_levels suits fits (omega arith)))
+      (store_lifts c 0 1500 site.result inside (site.names x) 0 can (omega arith) (omega arith))
 
   pub assign_element_lifts : (array : Sense) (i : Index) (e : Expr) → CanIndex array → SuitsIndex rs site.names i → SuitsExpr rs site.names e
       → IndexFits i most_levels → ExprFits e most_levels
       → Lift c 0 1500 (index_code site array i ++ (expr_code site e ++ store_element_code array)) 0 0
   assign_element_lifts array i e can index_suits suits index_fits fits =
       lifts c 0 1500 (index_code site array i) (expr_code site e ++ store_element_code array) 0 1 0
-          (lift_wider c 1 1500 0 1500 (index_code site array i) 0 1 (omega arith) (omega arith)
-              (index_lifts room 1500 array i 0 most_levels can index_suits index_fits (omega arith)))
+      (lift_wider c 1 1500 0 1500 (index_code site array i) 0 1 (omega arith) (omega arith)
+      (index_lifts room 1500 array i 0 most_levels can index_suits index_fits (omega arith)))
       (lifts c 0 1500 (expr_code site e) (store_element_code array) 1 2 0
-          (lift_wider c 2 1500 0 1500 (expr_code site e) 1 2 (omega arith) (omega arith) (expr_lifts room 1500 e 1 most_levels suits fits (omega arith)))
-          (store_element_lifts c 0 1500 array 0 can (omega arith) (omega arith)))
+      (lift_wider c 2 1500 0 1500 (expr_code site e) 1 2 (omega arith) (omega arith) (expr_lifts room 1500 e 1 most_levels suits fits (omega arith)))
+      (store_element_lifts c 0 1500 array 0 can (omega arith) (omega arith)))

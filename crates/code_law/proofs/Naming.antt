@@ -1,5 +1,5 @@
 -- The names of each routine, and of the program, have their words in the frames of the open activations.
-use Rattle.std.proofs.Common.{◌≡◌, ℕ, zero, suc, ◌+◌, ◌<◌, ◌≤◌, Bool, true, false, List, [], ◌∷◌, length, Option, Some, None, pos, refl, sym, ◌∙◌, ap, subst, arith}
+use Rattle.std.proofs.Common.{◌≡◌, ℕ, zero, suc, ◌+◌, ◌<◌, ◌≤◌, Bool, true, false, List, [], ◌∷◌, length, Option, Some, None, pos, refl, sym, ◌∙◌, ap, arith}
 use Rattle.std.specs.Prelude.{slice_get, is_some, unwrap_or}
 use Rattle.std.specs.Int.{w16, cast_signed}
 use Rattle.std.proofs.lemmas.Int.{to_z_pos}
@@ -8,12 +8,11 @@ use Rattle.pascal_tree.specs.Program.{Block, Program}
 use Rattle.pascal_tree.specs.Program as tree
 use Rattle.pascal_mean.specs.Means.{Owner, OfProgram, OfRoutine, Bounds, Signature, Scalar}
 use Rattle.pascal_mean.specs.Predeclared.{Item, predeclared}
-use Rattle.pascal_mean.specs.Variables.{owner_number, size_of}
+use Rattle.pascal_mean.specs.Variables.{owner_number}
 use Rattle.pascal_mean.specs.Declarations.{Declared, declared_headings, heading_item, global_items, signature_of, block_of, all_declared, routines_after, no_routine}
 use Rattle.pascal_mean.specs.Meaning.{declared_at}
-use Rattle.pascal_code.specs.Frames.{Frame, words_in, declared_words, plain_frame, routine_frame, result_words}
-use Rattle.pascal_code.specs.Senses as to_code
-use Rattle.pascal_code.specs.Senses.{Sense, Variable, Array, Reference, sense_in, Framed, framed_program, framed_routine, framed_after, all_framed, site_of, names_in}
+use Rattle.pascal_code.specs.Frames.{Frame, declared_words, plain_frame, routine_frame, result_words}
+use Rattle.pascal_code.specs.Senses.{Sense, Variable, Array, Reference, sense_in, Framed, framed_program, framed_routine, framed_after, all_framed, site_of}
 use Rattle.pascal_code.proofs.SensesAgree.{names_are_senses}
 use Rattle.code_law.specs.Regions.{region_found, AreApart}
 use Rattle.code_law.specs.Named.{HasWord, HasWords, Named}
@@ -128,8 +127,14 @@ program_is_named p few =
     variable x o a (OfOuter e) words =
         let of : o ≡ OfProgram = owner_in OfProgram false (plain_frame (declared_headings 1 p.routines (global_items p))) x (Variable o a) known_are e in
         let is = through_headings (global_items p) (declared_headings 1 p.routines (global_items p)) over x (Variable o a) tt e in
-        record { frame = frame_of_program p; frame_is = ap (λ w. slice_get (frame_of_program p ∷ []) (owner_number w 0)) of; owner = o; is = is; small =
-            small (frame_of_program p) x o a (plain_is_apart (global_items p)) words is }
+        record {
+          frame = frame_of_program p;
+          frame_is = ap (λ w. slice_get (frame_of_program p ∷ []) (owner_number w 0)) of;
+          owner = o;
+          is = is;
+          small =
+              small (frame_of_program p) x o a (plain_is_apart (global_items p)) words is;
+        }
     variable x o a (Before e) words = absurd (no_variable x o a e)
     variable x o a (Nowhere e) words = cc
 
@@ -138,8 +143,13 @@ program_is_named p few =
     array x o a b (OfOwn e) = absurd (none-some _ e)
     array x o a b (OfOuter e) =
         let of : o ≡ OfProgram = owner_in OfProgram false (plain_frame (declared_headings 1 p.routines (global_items p))) x (Array o a b) known_are e in
-        record { frame = frame_of_program p; frame_is = ap (λ w. slice_get (frame_of_program p ∷ []) (owner_number w 0)) of; owner = o; is =
-            through_headings (global_items p) (declared_headings 1 p.routines (global_items p)) over x (Array o a b) tt e }
+        record {
+          frame = frame_of_program p;
+          frame_is = ap (λ w. slice_get (frame_of_program p ∷ []) (owner_number w 0)) of;
+          owner = o;
+          is =
+              through_headings (global_items p) (declared_headings 1 p.routines (global_items p)) over x (Array o a b) tt e;
+        }
     array x o a b (Before e) = absurd (no_array x o a b e)
     array x o a b (Nowhere e) = cc
 
@@ -155,18 +165,30 @@ program_is_named p few =
 module _ (p : Program) (known : List Item) (signature : Signature) (block : Block) (over : Over (global_items p) known)
     (few : declared_words (routine_frame known signature block) ≤ 4096) (program_few : declared_words (frame_of_program p) ≤ 4096)
     (frames : List Frame) (number : ℕ) (first : slice_get frames 0 ≡ Some (frame_of_program p))
-        (own : slice_get frames number ≡ Some (routine_frame known signature block)) where
+    (own : slice_get frames number ≡ Some (routine_frame known signature block)) where
   variable_there : (x : List ℕ) (o : Owner) (a : ℕ) → FoundAs (routine_frame known signature block) (plain_frame known) x (Variable o a)
       → HasWord frames (owner_number o number) x a
   variable_there x o a (OfOwn e) =
       let of : o ≡ OfRoutine = owner_in OfRoutine true (routine_frame known signature block) x (Variable o a) (own_are known signature block) e in
-      record { frame = routine_frame known signature block; frame_is = ap (λ w. slice_get frames (owner_number w number)) of ∙ own; owner = o; is = e; small =
-          small (routine_frame known signature block) x o a (routine_is_apart known signature block) few e }
+      record {
+        frame = routine_frame known signature block;
+        frame_is = ap (λ w. slice_get frames (owner_number w number)) of ∙ own;
+        owner = o;
+        is = e;
+        small =
+            small (routine_frame known signature block) x o a (routine_is_apart known signature block) few e;
+      }
   variable_there x o a (OfOuter e) =
       let of : o ≡ OfProgram = owner_in OfProgram false (plain_frame known) x (Variable o a) (over_are (global_items p) known over (globals_are p)) e in
       let is = through_headings (global_items p) known over x (Variable o a) tt e in
-      record { frame = frame_of_program p; frame_is = ap (λ w. slice_get frames (owner_number w number)) of ∙ first; owner = o; is = is; small =
-          small (frame_of_program p) x o a (plain_is_apart (global_items p)) program_few is }
+      record {
+        frame = frame_of_program p;
+        frame_is = ap (λ w. slice_get frames (owner_number w number)) of ∙ first;
+        owner = o;
+        is = is;
+        small =
+            small (frame_of_program p) x o a (plain_is_apart (global_items p)) program_few is;
+      }
   variable_there x o a (Before e) = absurd (no_variable x o a e)
   variable_there x o a (Nowhere e) = cc
 
@@ -177,8 +199,13 @@ module _ (p : Program) (known : List Item) (signature : Signature) (block : Bloc
       record { frame = routine_frame known signature block; frame_is = ap (λ w. slice_get frames (owner_number w number)) of ∙ own; owner = o; is = e }
   array_there x o a b (OfOuter e) =
       let of : o ≡ OfProgram = owner_in OfProgram false (plain_frame known) x (Array o a b) (over_are (global_items p) known over (globals_are p)) e in
-      record { frame = frame_of_program p; frame_is = ap (λ w. slice_get frames (owner_number w number)) of ∙ first; owner = o; is =
-          through_headings (global_items p) known over x (Array o a b) tt e }
+      record {
+        frame = frame_of_program p;
+        frame_is = ap (λ w. slice_get frames (owner_number w number)) of ∙ first;
+        owner = o;
+        is =
+            through_headings (global_items p) known over x (Array o a b) tt e;
+      }
   array_there x o a b (Before e) = absurd (no_array x o a b e)
   array_there x o a b (Nowhere e) = cc
 
@@ -199,8 +226,11 @@ module _ (p : Program) (known : List Item) (signature : Signature) (block : Bloc
     arrays = λ x o a b is. array_there x o a b (found_as (routine_frame known signature block) (plain_frame known) x (Array o a b) is);
     references = λ x a is. reference_there x a (found_as (routine_frame known signature block) (plain_frame known) x (Reference a) is);
     owner = refl;
-    low = omega (arith, border_low (routine_frame known signature block).parameters (routine_frame known signature block).items
-        (parameters_border known signature block));
+    low = omega (
+      arith,
+      border_low (routine_frame known signature block).parameters (routine_frame known signature block).items
+          (parameters_border known signature block),
+    );
     result = refl;
   }
 

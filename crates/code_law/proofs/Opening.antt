@@ -1,18 +1,18 @@
 -- The frame and the map of an activation that begins.
-use Rattle.std.proofs.Common.{◌≡◌, ℕ, zero, suc, ◌+◌, ◌-◌, ◌<◌, ◌≤◌, ◌⊎◌, inl, inr, Bool, true, false, List, [], ◌∷◌, ◌++◌, length, Option, Some, None, ℤ, pos, ◌+ℤ◌, refl, sym, ◌∙◌, ap, subst, arith, append_assoc}
+use Rattle.std.proofs.Common.{◌≡◌, ℕ, zero, suc, ◌+◌, ◌-◌, ◌<◌, ◌≤◌, inl, inr, Bool, true, false, List, [], ◌∷◌, ◌++◌, length, Some, ℤ, pos, ◌+ℤ◌, refl, sym, ◌∙◌, ap, subst, arith, append_assoc}
 use Rattle.std.specs.Prelude.{slice_get, bytes_eq, reverse, replicate, if◌then◌else◌}
 use Rattle.std.proofs.lemmas.Slice.Eq.{bytes_eq-Decides}
-use Rattle.std.proofs.lemmas.Option.{none-some, same_Some, slice_get-get_or}
+use Rattle.std.proofs.lemmas.Option.{same_Some, slice_get-get_or}
 use Rattle.std.proofs.lemmas.List.{append-nil, reverse-append, reverse-reverse, get_or-replicate, length-replicate}
 use Rattle.pascal_mean.specs.Means.{Owner, OfRoutine, Bounds, Parameter}
-use Rattle.pascal_mean.specs.Situation.{Place, Map}
-use Rattle.pascal_mean.specs.Variables.{size_of, fresh_map}
-use Rattle.pascal_mean.specs.Calls.{Passing, ByValue, ByVariable, ByArray, passing_of, Given, Value, Alias, Elements, with_given, begun_map}
+use Rattle.pascal_mean.specs.Situation.{Place}
+use Rattle.pascal_mean.specs.Variables.{size_of}
+use Rattle.pascal_mean.specs.Calls.{Passing, ByValue, ByVariable, ByArray, Given, Value, Alias, Elements, begun_map}
 use Rattle.pascal_code.specs.Frames.{Frame, declared_words}
 use Rattle.pascal_code.specs.Senses.{Sense, Variable, Array, Reference, sense_in}
-use Rattle.code_law.specs.Regions.{Region, region_found, region_in, result_region, Apart, AreApart}
+use Rattle.code_law.specs.Regions.{Region, region_found, region_in, Apart, AreApart}
 use Rattle.code_law.specs.Ties.{IsReferred, AreTied}
-use Rattle.code_law.specs.Arguments.{IsAlias, AreWords, Suits, Suit, Lies, words_by, LieFrom}
+use Rattle.code_law.specs.Arguments.{IsAlias, AreWords, Suit, Lies, words_by, LieFrom}
 
 -- ---- Words on top of the operands
 
@@ -109,7 +109,7 @@ module _ (frames : List Frame) (number : ℕ) (g : Frame) (apart : AreApart g) (
           ap (slice_get (all_words (w ∷ words))) first ∙ ap Some are.0
       by_name is later false e =
           let far : n + 1 ≤ a = behind n p.letters x ByValue (record { first = a; count = 1 }) is (ap region_found at) (false_name p.letters x e) low
-              (omega arith) in
+          (omega arith) in
           one_on w words n a far ∙ later far
   scalars_from (p ∷ parameters) (Alias v ∷ given) [] n lie suit are x o a at low inside = absurd are
   scalars_from (p ∷ parameters) (Alias v ∷ given) (w ∷ []) n lie suit are x o a at low inside = absurd are
@@ -117,14 +117,14 @@ module _ (frames : List Frame) (number : ℕ) (g : Frame) (apart : AreApart g) (
       let is : sense_in g p.letters ≡ Some (Reference n) = subst (Lies g n p.letters) suit.0 lie.0 in
       let next : LieFrom g (n + 2) parameters = subst (λ by. LieFrom g (n + words_by by) parameters) suit.0 lie.1 in
       let far : n + 2 ≤ a = behind n p.letters x ByVariable (record { first = a; count = 1 }) is (ap region_found at)
-          (λ same. no_reference a n o (same_Some _ _ (sym at ∙ ap (sense_in g) (sym same) ∙ is))) low (omega arith) in
+      (λ same. no_reference a n o (same_Some _ _ (sym at ∙ ap (sense_in g) (sym same) ∙ is))) low (omega arith) in
       two_on w u words n a far ∙ scalars_from parameters given words (n + 2) next suit.1 are.1 x o a at far (omega (arith, inside, far))
 
   -- ---- arrays
   pub arrays_from : (parameters : List Parameter) (given : List Given) (words : List ℤ) (n : ℕ) → LieFrom g n parameters → Suit parameters given
       → AreWords frames number given words
       → (x : List ℕ) (o : Owner) (a : ℕ) (bounds : Bounds) (i : ℕ) → sense_in g x ≡ Some (Array o a bounds) → i < size_of bounds → n ≤ a
-          → a + i - n < length words + size
+      → a + i - n < length words + size
       → slice_get (all_words words) (a + i - n) ≡ Some ((begun_map parameters given).elements x (bounds.low +ℤ pos i))
   arrays_from [] [] [] n lie suit are x o a bounds i at within low inside = zeros size (a + i - n) (omega (arith, inside))
   arrays_from [] [] (w ∷ words) n lie suit are x o a bounds i at within low inside = absurd are
@@ -136,18 +136,18 @@ module _ (frames : List Frame) (number : ℕ) (g : Frame) (apart : AreApart g) (
       let is : sense_in g p.letters ≡ Some (Variable OfRoutine n) = subst (Lies g n p.letters) suit.0 lie.0 in
       let next : LieFrom g (n + 1) parameters = subst (λ by. LieFrom g (n + words_by by) parameters) suit.0 lie.1 in
       let far : n + 1 ≤ a = behind n p.letters x ByValue (record { first = a; count = size_of bounds }) is (ap region_found at)
-          (λ same. no_array n a OfRoutine o bounds (same_Some _ _ (sym is ∙ ap (sense_in g) same ∙ at))) low (omega (arith, within)) in
+      (λ same. no_array n a OfRoutine o bounds (same_Some _ _ (sym is ∙ ap (sense_in g) same ∙ at))) low (omega (arith, within)) in
       one_on w words n (a + i) (omega (arith, far)) ∙ arrays_from parameters given words (n + 1) next suit.1 are.1 x o a bounds i at within far
-          (omega (arith, inside, far))
+      (omega (arith, inside, far))
   arrays_from (p ∷ parameters) (Alias v ∷ given) [] n lie suit are x o a bounds i at within low inside = absurd are
   arrays_from (p ∷ parameters) (Alias v ∷ given) (w ∷ []) n lie suit are x o a bounds i at within low inside = absurd are
   arrays_from (p ∷ parameters) (Alias v ∷ given) (w ∷ u ∷ words) n lie suit are x o a bounds i at within low inside =
       let is : sense_in g p.letters ≡ Some (Reference n) = subst (Lies g n p.letters) suit.0 lie.0 in
       let next : LieFrom g (n + 2) parameters = subst (λ by. LieFrom g (n + words_by by) parameters) suit.0 lie.1 in
       let far : n + 2 ≤ a = behind n p.letters x ByVariable (record { first = a; count = size_of bounds }) is (ap region_found at)
-          (λ same. array_no_reference a n o bounds (same_Some _ _ (sym at ∙ ap (sense_in g) (sym same) ∙ is))) low (omega (arith, within)) in
+      (λ same. array_no_reference a n o bounds (same_Some _ _ (sym at ∙ ap (sense_in g) (sym same) ∙ is))) low (omega (arith, within)) in
       two_on w u words n (a + i) (omega (arith, far)) ∙ arrays_from parameters given words (n + 2) next suit.1 are.1 x o a bounds i at within far
-          (omega (arith, inside, far))
+      (omega (arith, inside, far))
 
   -- ---- VAR parameters: none is another name that no argument has
   pub record RefersFrom (words : List ℤ) (n a : ℕ) (at : Place) : Type 0 where
@@ -168,10 +168,16 @@ module _ (frames : List Frame) (number : ℕ) (g : Frame) (apart : AreApart g) (
       let is : sense_in g p.letters ≡ Some (Variable OfRoutine n) = subst (Lies g n p.letters) suit.0 lie.0 in
       let next : LieFrom g (n + 1) parameters = subst (λ by. LieFrom g (n + words_by by) parameters) suit.0 lie.1 in
       let far : n + 1 ≤ a = behind n p.letters x ByValue (record { first = a; count = 2 }) is (ap region_found at)
-          (λ same. no_reference n a OfRoutine (same_Some _ _ (sym is ∙ ap (sense_in g) same ∙ at))) low (omega arith) in
+      (λ same. no_reference n a OfRoutine (same_Some _ _ (sym is ∙ ap (sense_in g) same ∙ at))) low (omega arith) in
       let more = references_from parameters given words (n + 1) next suit.1 are.1 x a at far parameter in
-      record { one = more.one; two = more.two; alias = more.alias; first = one_on w words n a far ∙ more.first; second =
-          one_on w words n (a + 1) (omega (arith, far)) ∙ more.second }
+      record {
+        one = more.one;
+        two = more.two;
+        alias = more.alias;
+        first = one_on w words n a far ∙ more.first;
+        second =
+            one_on w words n (a + 1) (omega (arith, far)) ∙ more.second;
+      }
   references_from (p ∷ parameters) (Alias v ∷ given) [] n lie suit are x a at low parameter = absurd are
   references_from (p ∷ parameters) (Alias v ∷ given) (w ∷ []) n lie suit are x a at low parameter = absurd are
   references_from (p ∷ parameters) (Alias v ∷ given) (w ∷ u ∷ words) n lie suit are x a at low parameter =
@@ -186,14 +192,26 @@ module _ (frames : List Frame) (number : ℕ) (g : Frame) (apart : AreApart g) (
           let here : n ≡ a = same_reference n a (same_Some _ _ (sym is ∙ ap (sense_in g) ((bytes_eq-Decides p.letters x).0 e) ∙ at)) in
           let first : a - n ≡ 0 = omega (arith, here) in
           let second : a + 1 - n ≡ 1 = omega (arith, here) in
-          record { one = w; two = u; alias = are.0; first = ap (slice_get (all_words (w ∷ u ∷ words))) first; second =
-              ap (slice_get (all_words (w ∷ u ∷ words))) second }
+          record {
+            one = w;
+            two = u;
+            alias = are.0;
+            first = ap (slice_get (all_words (w ∷ u ∷ words))) first;
+            second =
+                ap (slice_get (all_words (w ∷ u ∷ words))) second;
+          }
       by_name is later false e =
           let far : n + 2 ≤ a = behind n p.letters x ByVariable (record { first = a; count = 2 }) is (ap region_found at) (false_name p.letters x e) low
-              (omega arith) in
+          (omega arith) in
           let more = later far in
-          record { one = more.one; two = more.two; alias = more.alias; first = two_on w u words n a far ∙ more.first; second =
-              two_on w u words n (a + 1) (omega (arith, far)) ∙ more.second }
+          record {
+            one = more.one;
+            two = more.two;
+            alias = more.alias;
+            first = two_on w u words n a far ∙ more.first;
+            second =
+                two_on w u words n (a + 1) (omega (arith, far)) ∙ more.second;
+          }
 
 -- as many words as the parameters take
 pub parameter_words : (frames : List Frame) (number : ℕ) (g : Frame) (parameters : List Parameter) (given : List Given) (words : List ℤ) (n : ℕ)
@@ -205,13 +223,19 @@ parameter_words frames number g (p ∷ parameters) [] words n lie suit are = abs
 parameter_words frames number g (p ∷ parameters) (Elements e ∷ given) words n lie suit are = absurd suit.0
 parameter_words frames number g (p ∷ parameters) (Value v ∷ given) [] n lie suit are = absurd are
 parameter_words frames number g (p ∷ parameters) (Value v ∷ given) (w ∷ words) n lie suit are =
-    omega (arith, parameter_words frames number g parameters given words (n + 1)
-        (subst (λ by. LieFrom g (n + words_by by) parameters) suit.0 lie.1) suit.1 are.1)
+    omega (
+      arith,
+      parameter_words frames number g parameters given words (n + 1)
+          (subst (λ by. LieFrom g (n + words_by by) parameters) suit.0 lie.1) suit.1 are.1,
+    )
 parameter_words frames number g (p ∷ parameters) (Alias v ∷ given) [] n lie suit are = absurd are
 parameter_words frames number g (p ∷ parameters) (Alias v ∷ given) (w ∷ []) n lie suit are = absurd are
 parameter_words frames number g (p ∷ parameters) (Alias v ∷ given) (w ∷ u ∷ words) n lie suit are =
-    omega (arith, parameter_words frames number g parameters given words (n + 2)
-        (subst (λ by. LieFrom g (n + words_by by) parameters) suit.0 lie.1) suit.1 are.1)
+    omega (
+      arith,
+      parameter_words frames number g parameters given words (n + 2)
+          (subst (λ by. LieFrom g (n + words_by by) parameters) suit.0 lie.1) suit.1 are.1,
+    )
 
 answer_is_zero : (parameters : List Parameter) (given : List Given) → (begun_map parameters given).answer ≡ pos 0
 answer_is_zero [] given = refl
@@ -231,9 +255,9 @@ from_zero b = omega arith
 -- The whole frame of an activation that begins. Each VAR parameter is one of its parameters.
 pub begun_is_tied : (frames : List Frame) (number : ℕ) (g : Frame) → AreApart g → ((x : List ℕ) (a : ℕ) → sense_in g x ≡ Some (Reference a) → a < g.parameters)
     → (parameters : List Parameter) (given : List Given) (words : List ℤ) (size : ℕ) → LieFrom g 0 parameters → Suit parameters given
-        → AreWords frames number given words
+    → AreWords frames number given words
     → declared_words g ≤ length words + size → g.parameters + g.result ≤ declared_words g
-        → AreTied frames number g (begun_map parameters given) (words ++ replicate size (pos 0))
+    → AreTied frames number g (begun_map parameters given) (words ++ replicate size (pos 0))
 begun_is_tied frames number g apart among parameters given words size lie suit are wide low = record {
   scalars = λ x o a at. ap (slice_get (words ++ replicate size (pos 0))) (from_zero a)
       ∙ scalars_from frames number g apart size parameters given words 0 lie suit are x o a at (omega arith)

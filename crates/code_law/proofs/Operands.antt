@@ -215,12 +215,12 @@ module _ (site : Site) where
     expr_uses (alone s) = simple_uses s
     expr_uses (compared s r line t) =
         uses_more (simple_code site s) (simple_code site t ++ bare (relation_op r) ∷ []) (simple_uses s)
-            (uses_more (simple_code site t) (bare (relation_op r) ∷ []) (simple_uses t) (bare_uses (relation_op r), tt))
+        (uses_more (simple_code site t) (bare (relation_op r) ∷ []) (simple_uses t) (bare_uses (relation_op r), tt))
 
     simple_uses : (s : Simple) → UseTheirs (simple_code site s)
     simple_uses (simple sign t more) =
         uses_more (term_code site t) (sign_code sign ++ addends_code site more) (term_uses t)
-            (uses_more (sign_code sign) (addends_code site more) (sign_uses sign) (addends_use more))
+        (uses_more (sign_code sign) (addends_code site more) (sign_uses sign) (addends_use more))
 
     addends_use : (a : Addends) → UseTheirs (addends_code site a)
     addends_use no_addend = tt
@@ -234,7 +234,7 @@ module _ (site : Site) where
     multipliers_use no_multiplier = tt
     multipliers_use (multiplier m line f more) =
         uses_more (factor_code site f) (bare (multiplying_op m) ∷ multipliers_code site more) (factor_uses f)
-            (bare_uses (multiplying_op m), multipliers_use more)
+        (bare_uses (multiplying_op m), multipliers_use more)
 
     factor_uses : (f : Factor) → UseTheirs (factor_code site f)
     factor_uses (number n) = (push_uses (pos n.value), tt)
@@ -246,7 +246,7 @@ module _ (site : Site) where
     factor_uses (called x a) =
         let callee = site.names x.letters in
         uses_more (arguments_code site callee (passing_of callee) a) (call_code site.result callee (given_arguments site a))
-            (arguments_use callee (passing_of callee) a) (call_uses site.result callee (given_arguments site a))
+        (arguments_use callee (passing_of callee) a) (call_uses site.result callee (given_arguments site a))
     factor_uses (group opening e closing) = expr_uses e
     factor_uses (negated line f) = uses_more (factor_code site f) (bare op.Not ∷ []) (factor_uses f) (bare_uses op.Not, tt)
 
@@ -257,14 +257,14 @@ module _ (site : Site) where
     arguments_use callee [] (arguments opening e more closing) = tt
     arguments_use callee (by ∷ others) (arguments opening e more closing) =
         uses_more (passed_code callee by (site.names (name_in e)) (expr_code site e)) (exprs_code site callee others more)
-            (passed_uses callee by (site.names (name_in e)) (expr_code site e) (expr_uses e)) (exprs_use callee others more)
+        (passed_uses callee by (site.names (name_in e)) (expr_code site e) (expr_uses e)) (exprs_use callee others more)
 
     exprs_use : (callee : Sense) (by : List Passing) (e : Exprs) → UseTheirs (exprs_code site callee by e)
     exprs_use callee by no_expr = tt
     exprs_use callee [] (next_expr comma e more) = tt
     exprs_use callee (by ∷ others) (next_expr comma e more) =
         uses_more (passed_code callee by (site.names (name_in e)) (expr_code site e)) (exprs_code site callee others more)
-            (passed_uses callee by (site.names (name_in e)) (expr_code site e) (expr_uses e)) (exprs_use callee others more)
+        (passed_uses callee by (site.names (name_in e)) (expr_code site e) (expr_uses e)) (exprs_use callee others more)
 
   -- ---- Parts of statements
   call_statement_uses : (x : NameAt) (a : Option Arguments) → UseTheirs (call_statement_code site x a)
@@ -272,7 +272,7 @@ module _ (site : Site) where
   call_statement_uses x (Some a) =
       let callee = site.names x.letters in
       uses_more (arguments_code site callee (passing_of callee) a) (call_code site.result callee (given_arguments site a))
-          (arguments_use callee (passing_of callee) a) (call_uses site.result callee (given_arguments site a))
+      (arguments_use callee (passing_of callee) a) (call_uses site.result callee (given_arguments site a))
 
   own_load_uses : (a : ℕ) → UsesItsOperands (load_own site a)
   own_load_uses a = load_uses site.owner a
@@ -296,12 +296,12 @@ module _ (site : Site) where
   more_labels_use selector found [] = tt
   more_labels_use selector found (l ∷ more) =
       uses_more (label_test site selector found l.1) (more_label_tests site selector found more) (label_uses selector found l.1)
-          (more_labels_use selector found more)
+      (more_labels_use selector found more)
 
   labels_use : (selector found : ℕ) (labels : Labels) → UseTheirs (label_tests site selector found labels)
   labels_use selector found labels =
       uses_more (label_test site selector found labels.first) (more_label_tests site selector found labels.rest)
-          (label_uses selector found labels.first) (more_labels_use selector found labels.rest)
+      (label_uses selector found labels.first) (more_labels_use selector found labels.rest)
 
   no_branch_uses : (out : ℕ) → UseTheirs (no_branch_code out)
   no_branch_uses out = (push_uses (negsuc 0), (test_uses (record { low = pos 0; high = pos 0 }), (jump_if_false_uses out, tt)))
@@ -310,13 +310,17 @@ module _ (site : Site) where
   mutual
     statement_uses : (free : ℕ) (s : Statement) (place : ℕ) → UseTheirs (statement_code site free s place)
     statement_uses free empty place = tt
-    statement_uses free (assign x None becomes e) place =
-        (tick_uses x.line, uses_more (expr_code site e) (store_code site.result (site.names x.letters)) (expr_uses e)
-            (set_uses site.result (site.names x.letters)))
+    statement_uses free (assign x None becomes e) place = (
+      tick_uses x.line,
+      uses_more (expr_code site e) (store_code site.result (site.names x.letters)) (expr_uses e)
+          (set_uses site.result (site.names x.letters)),
+    )
     statement_uses free (assign x (Some i) becomes e) place =
-        let array = site.names x.letters in
-        (tick_uses x.line, uses_more (index_code site array i) (expr_code site e ++ store_element_code array) (index_uses array i)
-            (uses_more (expr_code site e) (store_element_code array) (expr_uses e) (set_element_uses array)))
+        let array = site.names x.letters in (
+          tick_uses x.line,
+          uses_more (index_code site array i) (expr_code site e ++ store_element_code array) (index_uses array i)
+              (uses_more (expr_code site e) (store_element_code array) (expr_uses e) (set_element_uses array)),
+        )
     statement_uses free (call x a) place = (tick_uses x.line, call_statement_uses x a)
     statement_uses free (compound b) place = body_uses free b place
     statement_uses free (if_then line e then_line s) place =
@@ -331,27 +335,50 @@ module _ (site : Site) where
         let inside = statement_code site free s first in
         let otherwise = first + length inside + 1 in
         let others = statement_code site free t otherwise in
-        let out = otherwise + length others in
-        (tick_uses line, uses_more test (jump_if_false otherwise ∷ (inside ++ (jump out ∷ others))) (expr_uses e)
-            (jump_if_false_uses otherwise, uses_more inside (jump out ∷ others) (statement_uses free s first)
-            (jump_uses out, statement_uses free t otherwise)))
+        let out = otherwise + length others in (
+          tick_uses line,
+          uses_more test (jump_if_false otherwise ∷ (inside ++ (jump out ∷ others))) (expr_uses e) (
+            jump_if_false_uses otherwise,
+            uses_more inside (jump out ∷ others) (statement_uses free s first)
+                (jump_uses out, statement_uses free t otherwise),
+          ),
+        )
     statement_uses free (while_do line e do_line s) place =
         let turn = place + 1 in
         let test = expr_code site e in
         let first = turn + length test + 2 in
         let inside = statement_code site free s first in
-        let out = first + length inside + 1 in
-        (tick_uses line, (tick_uses line, uses_more test (jump_if_false out ∷ (inside ++ jump turn ∷ [])) (expr_uses e)
-            (jump_if_false_uses out, uses_more inside (jump turn ∷ []) (statement_uses free s first) (jump_uses turn, tt))))
+        let out = first + length inside + 1 in (
+          tick_uses line,
+          (
+            tick_uses line,
+            uses_more test (jump_if_false out ∷ (inside ++ jump turn ∷ [])) (expr_uses e)
+                (jump_if_false_uses out, uses_more inside (jump turn ∷ []) (statement_uses free s first) (jump_uses turn, tt)),
+          ),
+        )
     statement_uses free (repeat_until line s until_line e) place =
         let turn = place + 2 in
         let test = expr_code site e in
         let first = turn + length test + 3 in
         let inside = sequence_code site free s first in
-        let out = first + length inside + 1 in
-        (tick_uses line, (jump_uses first, (tick_uses line, uses_more test (bare op.Not ∷ (jump_if_false out ∷ (inside ++ jump turn ∷ [])))
-            (expr_uses e) (bare_uses op.Not, (jump_if_false_uses out, uses_more inside (jump turn ∷ []) (sequence_uses free s first)
-            (jump_uses turn, tt))))))
+        let out = first + length inside + 1 in (
+          tick_uses line,
+          (
+            jump_uses first,
+            (
+              tick_uses line,
+              uses_more test (bare op.Not ∷ (jump_if_false out ∷ (inside ++ jump turn ∷ [])))
+                  (expr_uses e) (
+                    bare_uses op.Not,
+                    (
+                      jump_if_false_uses out,
+                      uses_more inside (jump turn ∷ []) (sequence_uses free s first)
+                          (jump_uses turn, tt),
+                    ),
+                  ),
+            ),
+          ),
+        )
     statement_uses free (for_do line x becomes from way way_line to do_line s) place =
         let lower = expr_code site from in
         let upper = expr_code site to in
@@ -362,20 +389,33 @@ module _ (site : Site) where
         let out = first + length inside + 8 in
         let again = counter_test site (before_op way) free out ++ counter_step site way free turn in
         let turns = tick line ∷ (load_own site free ∷ (control ++ (inside ++ again))) in
-        let begun = counter_test site (reach_op way) free out ++ turns in
-        (tick_uses line, uses_more lower (store_own site free ∷ (upper ++ (store_own site (free + 1) ∷ begun))) (expr_uses from)
-            (own_store_uses free, uses_more upper (store_own site (free + 1) ∷ begun) (expr_uses to)
-            (own_store_uses (free + 1), uses_more (counter_test site (reach_op way) free out) turns (counter_test_uses (reach_op way) free out)
-            (tick_uses line, (own_load_uses free, uses_more control (inside ++ again) (set_uses site.result (site.names x.letters))
-            (uses_more inside again (statement_uses (free + 2) s first)
-            (uses_more (counter_test site (before_op way) free out) (counter_step site way free turn)
-            (counter_test_uses (before_op way) free out) (counter_step_uses way free turn))))))))
+        let begun = counter_test site (reach_op way) free out ++ turns in (
+          tick_uses line,
+          uses_more lower (store_own site free ∷ (upper ++ (store_own site (free + 1) ∷ begun))) (expr_uses from) (
+            own_store_uses free,
+            uses_more upper (store_own site (free + 1) ∷ begun) (expr_uses to) (
+              own_store_uses (free + 1),
+              uses_more (counter_test site (reach_op way) free out) turns (counter_test_uses (reach_op way) free out) (
+                tick_uses line,
+                (
+                  own_load_uses free,
+                  uses_more control (inside ++ again) (set_uses site.result (site.names x.letters))
+                      (uses_more inside again (statement_uses (free + 2) s first)
+                      (uses_more (counter_test site (before_op way) free out) (counter_step site way free turn)
+                      (counter_test_uses (before_op way) free out) (counter_step_uses way free turn))),
+                ),
+              ),
+            ),
+          ),
+        )
     statement_uses free (case_of line e of_line b more end_line) place =
         let selector = expr_code site e in
         let first = place + length selector + 2 in
-        let branches = branch_code site free b (branches_code site free more) first in
-        (tick_uses line, uses_more selector (store_own site free ∷ branches) (expr_uses e)
-            (own_store_uses free, branch_uses free b (branches_code site free more) first (λ m. branches_use free more m)))
+        let branches = branch_code site free b (branches_code site free more) first in (
+          tick_uses line,
+          uses_more selector (store_own site free ∷ branches) (expr_uses e)
+              (own_store_uses free, branch_uses free b (branches_code site free more) first (λ m. branches_use free more m)),
+        )
 
     body_uses : (free : ℕ) (b : Body) (place : ℕ) → UseTheirs (body_code site free b place)
     body_uses free (body begin s end) place = sequence_uses free s place
@@ -384,14 +424,14 @@ module _ (site : Site) where
     sequence_uses free (sequence s more) place =
         let first = statement_code site free s place in
         uses_more first (statements_code site free more (place + length first)) (statement_uses free s place)
-            (statements_use free more (place + length first))
+        (statements_use free more (place + length first))
 
     statements_use : (free : ℕ) (s : Statements) (place : ℕ) → UseTheirs (statements_code site free s place)
     statements_use free no_statement place = tt
     statements_use free (next_statement line s more) place =
         let first = statement_code site free s place in
         uses_more first (statements_code site free more (place + length first)) (statement_uses free s place)
-            (statements_use free more (place + length first))
+        (statements_use free more (place + length first))
 
     branch_uses : (free : ℕ) (b : Branch) (later : ℕ → List Instr) (place : ℕ) → ((m : ℕ) → UseTheirs (later m))
         → UseTheirs (branch_code site free b later place)
@@ -402,7 +442,7 @@ module _ (site : Site) where
         let others = later next in
         let out = next + length others in
         uses_more (label_tests site free found labels) (jump next ∷ (inside ++ (jump out ∷ others))) (labels_use free found labels)
-            (jump_uses next, uses_more inside (jump out ∷ others) (statement_uses (free + 1) s found) (jump_uses out, all next))
+        (jump_uses next, uses_more inside (jump out ∷ others) (statement_uses (free + 1) s found) (jump_uses out, all next))
 
     branches_use : (free : ℕ) (b : Branches) (place : ℕ) → UseTheirs (branches_code site free b place)
     branches_use free no_branch place = no_branch_uses (place + 3)
@@ -418,7 +458,7 @@ ending_uses OfRoutine = bare_uses op.Return
 pub routine_uses : (r : Framed) (start : ℕ) → UseTheirs (routine_code r start)
 routine_uses r start =
     uses_more (body_code (site_of r) (declared_words r.frame) (r.declared).body start) (ending r.owner ∷ [])
-        (body_uses (site_of r) (declared_words r.frame) (r.declared).body start) (ending_uses r.owner, tt)
+    (body_uses (site_of r) (declared_words r.frame) (r.declared).body start) (ending_uses r.owner, tt)
 
 pub routines_use : (all : List Framed) (start : ℕ) → UseTheirs (instrs_from all start)
 routines_use [] start = tt

@@ -130,7 +130,7 @@ no_array row.Run none = absurd (omega (arith, none))
 array_there : (words a n : ℕ) → 1 ≤ n → n ≤ 4096 → a + n ≤ words → array_fits words a n ≡ true
 array_there words a n some few low =
     and_from (nat_le 1 n && nat_le n 4096) (nat_le (a + n) words)
-        (and_from (nat_le 1 n) (nat_le n 4096) (le-leb 1 n some) (le-leb n 4096 few)) (le-leb (a + n) words low)
+    (and_from (nat_le 1 n) (nat_le n 4096) (le-leb 1 n some) (le-leb n 4096 few)) (le-leb (a + n) words low)
 
 its_row : (p : Procedure) → call_row (row_number p) ≡ Some (call_row_of p)
 its_row p = ap (λ o. option_map call_row_of o) (row_is p)
@@ -140,7 +140,7 @@ array_of_row : (p : Procedure) (words a : ℕ) → 1 ≤ (call_row_of p).array �
 array_of_row p words a some low =
     ap (λ o. option_map_or (λ (r : CallRow). nat_le 1 r.array && nat_le (a + r.array) words) o false) (its_row p)
     ∙ and_from (nat_le 1 (call_row_of p).array) (nat_le (a + (call_row_of p).array) words) (le-leb 1 (call_row_of p).array some)
-        (le-leb (a + (call_row_of p).array) words low)
+    (le-leb (a + (call_row_of p).array) words low)
 
 module _ (c : CodeLists) (k : ℕ) where
   -- a word of the frame, where one of an owner's is known to be there
@@ -419,7 +419,7 @@ module _ (c : CodeLists) (k : ℕ) where
     stores_plain callee (ByArray ∷ others) (s ∷ given) are = stores_plain callee others given are.1
     stores_plain callee (ByVariable ∷ others) (s ∷ given) are =
         plain_more c k (stores_code site.result (variables_among others given)) (store_code site.result s)
-            (stores_plain callee others given are.1) (scalar_store_plain are.0.0 s are.0.1.0 are.0.1.1.1)
+        (stores_plain callee others given are.1) (scalar_store_plain are.0.0 s are.0.1.0 are.0.1.1.1)
 
     -- a call behind its arguments
     pub call_plain : (x : List ℕ) (m : Sense) → site.names x ≡ m → (given : List Sense) → ArePassed site m (passing_of m) given
@@ -459,12 +459,12 @@ module _ (c : CodeLists) (k : ℕ) where
       expr_plain (alone s) suits = simple_plain s suits
       expr_plain (compared s r line t) suits =
           plain_more c k (simple_code site s) (simple_code site t ++ bare (relation_op r) ∷ []) (simple_plain s suits.0)
-              (plain_more c k (simple_code site t) (bare (relation_op r) ∷ []) (simple_plain t suits.1) (relation_plain r, tt))
+          (plain_more c k (simple_code site t) (bare (relation_op r) ∷ []) (simple_plain t suits.1) (relation_plain r, tt))
 
       pub simple_plain : (s : Simple) → SuitsSimple rs site.names s → AllByRecursion (IsPlain c k) (simple_code site s)
       simple_plain (simple sign t more) suits =
           plain_more c k (term_code site t) (sign_code sign ++ addends_code site more) (term_plain t suits.0)
-              (plain_more c k (sign_code sign) (addends_code site more) (sign_plain sign) (addends_plain more suits.1))
+          (plain_more c k (sign_code sign) (addends_code site more) (sign_plain sign) (addends_plain more suits.1))
 
       pub addends_plain : (a : Addends) → SuitsAddends rs site.names a → AllByRecursion (IsPlain c k) (addends_code site a)
       addends_plain no_addend suits = tt
@@ -479,7 +479,7 @@ module _ (c : CodeLists) (k : ℕ) where
       multipliers_plain no_multiplier suits = tt
       multipliers_plain (multiplier m line f more) suits =
           plain_more c k (factor_code site f) (bare (multiplying_op m) ∷ multipliers_code site more) (factor_plain f suits.0)
-              (multiplying_plain m, multipliers_plain more suits.1)
+          (multiplying_plain m, multipliers_plain more suits.1)
 
       pub factor_plain : (f : Factor) → SuitsFactor rs site.names f → AllByRecursion (IsPlain c k) (factor_code site f)
       factor_plain (number n) suits = (push_plain (pos n.value), tt)
@@ -487,12 +487,12 @@ module _ (c : CodeLists) (k : ℕ) where
       factor_plain (named x) suits = name_plain x.letters (site.names x.letters) refl suits
       factor_plain (element x i) suits =
           plain_more c k (index_code site (site.names x.letters) i) (element_code (site.names x.letters)) (index_plain x.letters i suits.1)
-              (element_plain x.letters (site.names x.letters) refl)
+          (element_plain x.letters (site.names x.letters) refl)
       factor_plain (called x a) suits =
           let callee = site.names x.letters in
           plain_more c k (arguments_code site callee (passing_of callee) a) (call_code site.result callee (given_arguments site a))
-              (arguments_plain callee (passing_of callee) a suits.1)
-              (call_plain x.letters callee refl (given_arguments site a) (arguments_passed rs site callee (passing_of callee) a suits.1))
+          (arguments_plain callee (passing_of callee) a suits.1)
+          (call_plain x.letters callee refl (given_arguments site a) (arguments_passed rs site callee (passing_of callee) a suits.1))
       factor_plain (group opening e closing) suits = expr_plain e suits
       factor_plain (negated line f) suits = plain_more c k (factor_code site f) (bare op.Not ∷ []) (factor_plain f suits) (not_plain, tt)
 
@@ -505,8 +505,8 @@ module _ (c : CodeLists) (k : ℕ) where
       arguments_plain callee [] (arguments opening e more closing) suits = absurd suits
       arguments_plain callee (by ∷ others) (arguments opening e more closing) suits =
           plain_more c k (passed_code callee by (site.names (name_in e)) (expr_code site e)) (exprs_code site callee others more)
-              (passed_plain callee by (name_in e) (expr_code site e) (SuitsExpr rs site.names e) (λ it. expr_plain e it) suits.0)
-              (exprs_plain callee others more suits.1)
+          (passed_plain callee by (name_in e) (expr_code site e) (SuitsExpr rs site.names e) (λ it. expr_plain e it) suits.0)
+          (exprs_plain callee others more suits.1)
 
       pub exprs_plain : (callee : Sense) (by : List Passing) (e : Exprs) → SuitsExprs rs site.names callee by e
           → AllByRecursion (IsPlain c k) (exprs_code site callee by e)
@@ -515,8 +515,8 @@ module _ (c : CodeLists) (k : ℕ) where
       exprs_plain callee [] (next_expr comma e more) suits = absurd suits
       exprs_plain callee (by ∷ others) (next_expr comma e more) suits =
           plain_more c k (passed_code callee by (site.names (name_in e)) (expr_code site e)) (exprs_code site callee others more)
-              (passed_plain callee by (name_in e) (expr_code site e) (SuitsExpr rs site.names e) (λ it. expr_plain e it) suits.0)
-              (exprs_plain callee others more suits.1)
+          (passed_plain callee by (name_in e) (expr_code site e) (SuitsExpr rs site.names e) (λ it. expr_plain e it) suits.0)
+          (exprs_plain callee others more suits.1)
 
     -- ---- Statements
 
@@ -528,5 +528,5 @@ module _ (c : CodeLists) (k : ℕ) where
     call_statement_plain x (Some a) suits =
         let callee = site.names x.letters in
         plain_more c k (arguments_code site callee (passing_of callee) a) (call_code site.result callee (given_arguments site a))
-            (arguments_plain callee (passing_of callee) a suits.1)
-            (call_plain x.letters callee refl (given_arguments site a) (arguments_passed rs site callee (passing_of callee) a suits.1))
+        (arguments_plain callee (passing_of callee) a suits.1)
+        (call_plain x.letters callee refl (given_arguments site a) (arguments_passed rs site callee (passing_of callee) a suits.1))

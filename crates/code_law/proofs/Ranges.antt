@@ -1,5 +1,5 @@
 -- Which places of a program's code belong to which of its routines.
-use Rattle.std.proofs.Common.{◌≡◌, ℕ, zero, suc, ◌+◌, ◌-◌, ◌<◌, ◌≤◌, ◌⊎◌, ◌||◌, Bool, true, cond, List, [], ◌∷◌, length, Some, refl, sym, ◌∙◌, ap, ap₂, subst, arith, add-one, inl, inr}
+use Rattle.std.proofs.Common.{◌≡◌, ℕ, zero, suc, ◌+◌, ◌<◌, ◌≤◌, ◌⊎◌, ◌||◌, Bool, true, cond, List, [], ◌∷◌, length, Some, refl, sym, ◌∙◌, ap, ap₂, subst, arith, add-one, inl, inr}
 use Rattle.std.specs.Prelude.{slice_get, nat_le}
 use Rattle.std.specs.List.{count_by}
 use Rattle.std.proofs.lemmas.Bool.{cond-true, cond-false, le-leb, lt-leb, lt-ltb, eq-eqb, and_from, or_left, or_right, cases_lt}
@@ -82,7 +82,7 @@ module _ (calling : CodeLists) where
   begun_in (s ∷ fs) start (suc k) r is x low high =
       let code = routine_code s start in
       begun_here x (routine_info calling s start code) (infos_from calling fs (start + length code))
-          (omega (arith, low, starts_behind fs (start + length code) k r is))
+      (omega (arith, low, starts_behind fs (start + length code) k r is))
       ∙ omega (arith, begun_in fs (start + length code) k r is x low high)
 
   place_in : (fs : List Framed) (start x : ℕ) → start ≤ x → x < start + length (instrs_from fs start)

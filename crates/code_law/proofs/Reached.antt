@@ -1,5 +1,5 @@
 -- What a run of the machine came to from its start, and what the next instruction makes of it.
-use Rattle.std.proofs.Common.{◌≡◌, ℕ, zero, suc, ◌+◌, ◌-◌, Bool, true, false, Option, Some, None, List, [], ◌∷◌, ◌++◌, length, refl, sym, ◌∙◌, ap, subst, arith}
+use Rattle.std.proofs.Common.{◌≡◌, ℕ, zero, suc, ◌-◌, Bool, true, false, Option, Some, None, List, [], ◌∷◌, ◌++◌, length, refl, sym, ◌∙◌, ap, subst, arith}
 use Rattle.std.proofs.lemmas.List.{append-nil, append_assoc, length-append}
 use Rattle.std.specs.Prelude.{slice_get, if◌then◌else◌}
 use Rattle.solo_base.specs.declared.outcome.ProgResult.{ProgResult}
@@ -46,8 +46,21 @@ module _ {c : CodeLists} {limit : ℕ} {all : List SysReply} {s : State} {made :
   pub goes : (t : State) → Reached c limit all s made → next c limit s ≡ Goes t → Reached c limit all t made
   goes t r e =
       let on = stays_running c limit s t r.good r.runs r.here e in
-      record { good = r.good; used = r.used; left = r.left; begun = r.begun; steps = suc r.steps; split = r.split; count = r.count; replied = r.replied; moves =
-          moves_more c limit r.steps r.begun s t r.moves e; runs = on.0; here = on.1; fitting = r.fitting }
+      record {
+        good = r.good;
+        used = r.used;
+        left = r.left;
+        begun = r.begun;
+        steps = suc r.steps;
+        split = r.split;
+        count = r.count;
+        replied = r.replied;
+        moves =
+            moves_more c limit r.steps r.begun s t r.moves e;
+        runs = on.0;
+        here = on.1;
+        fitting = r.fitting;
+      }
 
   -- nothing is lacking
   pub never : Reached c limit all s made → next c limit s ≡ Lacks → ⊥

@@ -60,25 +60,25 @@ pub routine_good : (p : Program) (k : ℕ) (r : Framed) → slice_get (all_frame
     → routine_is_good (code_of p) k ≡ true
 routine_good p k r is inside params words height =
     and_from _ _ (and_from _ _ (and_from _ _ (and_from _ _ (and_from _ _
-        (starts_are_well p k inside)
-        (lt-ltb _ _ (omega (arith, some_code p k r, ends_inside p k r is))))
-        (le-leb _ _ params))
-        (le-leb _ _ (words_hold p k r is)))
-        (le-leb _ _ words))
-        (le-leb _ _ height)
+    (starts_are_well p k inside)
+    (lt-ltb _ _ (omega (arith, some_code p k r, ends_inside p k r is))))
+    (le-leb _ _ params))
+    (le-leb _ _ (words_hold p k r is)))
+    (le-leb _ _ words))
+    (le-leb _ _ height)
 
 -- with the height of a routine whose whole code lifts
 pub routines_are_good : (p : Program) → AreSuited p → IsTree p → ((k : ℕ) → k < length (code_of p).routines → (routine_at (code_of p) k).params ≤ 16)
     → ((k : ℕ) (r : Framed) → slice_get (all_framed p) k ≡ Some r
-        → (least : ℕ) × (end : ℕ) × Lift (code_of p) least 1536 (routine_code r (start_of p k)) 0 end)
+    → (least : ℕ) × (end : ℕ) × Lift (code_of p) least 1536 (routine_code r (start_of p k)) 0 end)
     → (k : ℕ) → k < length (code_of p).routines → routine_is_good (code_of p) k ≡ true
 routines_are_good p suited tree params lifts k inside =
     let there = routine_there p k inside in
     let r = there.0 in
     let lift = lifts k r there.1 in
     routine_good p k r there.1 inside (params k inside)
-        (omega (arith, words_are_few p k r there.1 (suited k r there.1).few (body_fits p tree k r there.1)))
-        (height_is_low p k r there.1 lift.0 1536 lift.1 lift.2)
+    (omega (arith, words_are_few p k r there.1 (suited k r there.1).few (body_fits p tree k r there.1)))
+    (height_is_low p k r there.1 lift.0 1536 lift.1 lift.2)
 
 -- ---- All records
 
@@ -93,11 +93,11 @@ pub instr_good : (p : Program) (k : ℕ) (r : Framed) → slice_get (all_framed 
     → instr_is_good (code_of p) x ≡ true
 instr_good p k r is least most end lift x low high right =
     and_from _ _ (and_from _ _ (and_from _ _ (and_from _ _
-        (goes_on_or_ends p k r is x low high)
-        right.operands)
-        (height_fits_inside p k r is least most end lift x low high))
-        right.target)
-        right.call
+    (goes_on_or_ends p k r is x low high)
+    right.operands)
+    (height_fits_inside p k r is least most end lift x low high))
+    right.target)
+    right.call
 
 -- The code of a program is good whose routines have few parameters and lift, where operands fit, jumps lead to where nothing is on the stack, and
 -- calls stand behind ticks.

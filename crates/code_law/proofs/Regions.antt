@@ -1,20 +1,19 @@
 -- Each name has words of its own, whatever the declarations are.
-use Rattle.std.proofs.Common.{◌≡◌, ℕ, ◌+◌, ◌≤◌, ◌<◌, ◌⊎◌, inl, inr, Bool, true, false, List, [], ◌∷◌, ◌++◌, Option, Some, None, refl, sym, ◌∙◌, ap, arith, map}
+use Rattle.std.proofs.Common.{◌≡◌, ℕ, ◌+◌, ◌≤◌, ◌<◌, ◌⊎◌, inl, inr, Bool, true, false, List, [], ◌∷◌, Option, Some, None, refl, sym, ◌∙◌, ap, arith}
 use Rattle.std.specs.Prelude.{bytes_eq, nat_lt, if◌then◌else◌}
 use Rattle.std.proofs.lemmas.Slice.Eq.{bytes_eq-Decides}
 use Rattle.std.proofs.lemmas.Option.{none-some, same_Some}
 use Rattle.std.proofs.lemmas.Bool.Decides.{nat_tests}
 use Rattle.pascal_tree.specs.declared.declaration.Definition.{Definition}
-use Rattle.pascal_tree.specs.Program.{Group, Consts, Vars, Block, Routine, Program}
+use Rattle.pascal_tree.specs.Program.{Group, Consts, Vars, Block}
 use Rattle.pascal_mean.specs.Means.{Means, Owner, OfRoutine, Signature}
 use Rattle.pascal_mean.specs.Means as meant
 use Rattle.pascal_mean.specs.Predeclared.{Item}
 use Rattle.pascal_mean.specs.Scope.{Scope, scope_of}
-use Rattle.pascal_mean.specs.Variables.{size_of}
-use Rattle.pascal_mean.specs.Declarations.{declared_names, declared_definitions, declared_constants, declared_groups, declared_variables, declared_parameters, own_items, constant_item, variable_of, name_list}
-use Rattle.pascal_code.specs.Frames.{Frame, words_of, words_in, behind_result, place_behind, declared_words, plain_frame, routine_frame}
-use Rattle.pascal_code.specs.Senses.{Sense, sense, sense_among, sense_in}
-use Rattle.code_law.specs.Regions.{Region, region_of, region_found, region_in, result_region, Apart, AreApart}
+use Rattle.pascal_mean.specs.Declarations.{declared_names, declared_definitions, declared_constants, declared_groups, declared_variables, declared_parameters, constant_item, variable_of, name_list}
+use Rattle.pascal_code.specs.Frames.{Frame, words_of, words_in, behind_result, place_behind, plain_frame, routine_frame}
+use Rattle.pascal_code.specs.Senses.{sense, sense_among}
+use Rattle.code_law.specs.Regions.{Region, region_of, region_found, result_region, Apart, AreApart}
 
 -- ---- Where a list of declarations has a border: so many words are declared by one of its ends
 abbrev pub IsBorder : ℕ → List Item → Type 0
@@ -128,7 +127,7 @@ both_stand f (i ∷ earlier) x y r s differ is is_too =
     by_names : (region_found (sense_among f earlier x) ≡ Some r → region_found (sense_among f earlier y) ≡ Some s → InOrder f earlier earlier r s)
         → (one other : Bool) → bytes_eq i.letters x ≡ one → bytes_eq i.letters y ≡ other
         → region_found (if one then Some (sense i.means (place_behind f earlier)) else sense_among f earlier x) ≡ Some r
-            → region_found (if other then Some (sense i.means (place_behind f earlier)) else sense_among f earlier y) ≡ Some s
+        → region_found (if other then Some (sense i.means (place_behind f earlier)) else sense_among f earlier y) ≡ Some s
         → InOrder f (i ∷ earlier) (i ∷ earlier) r s
     by_names later true true e e_too is is_too = absurd (differ (sym ((bytes_eq-Decides i.letters x).0 e) ∙ (bytes_eq-Decides i.letters y).0 e_too))
     by_names later true false e e_too is is_too =

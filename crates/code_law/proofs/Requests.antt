@@ -1,5 +1,5 @@
 -- What a row asks for, by the values of its arguments, and what fits it.
-use Rattle.std.proofs.Common.{◌≡◌, ◌≢◌, ℕ, ◌≤◌, Bool, true, false, Option, Some, None, List, [], ◌∷◌, length, map, ℤ, pos, refl, sym, ◌∙◌, ap, arith}
+use Rattle.std.proofs.Common.{◌≡◌, ℕ, ◌≤◌, Bool, true, false, Option, Some, None, List, [], ◌∷◌, length, map, ℤ, pos, refl, sym, ◌∙◌, ap, arith}
 use Rattle.std.specs.Prelude.{if◌then◌else◌, option_map, unsigned_abs}
 use Rattle.std.proofs.lemmas.Option.{none-some, same_Some}
 use Rattle.std.proofs.lemmas.List.{length-map}
@@ -13,7 +13,7 @@ use Rattle.solo_base.specs.Arithmetic.{byte_of, are_bytes}
 use Rattle.solo_base.specs.Fits.{Fits}
 use Rattle.solo_base.specs.Interface.{procedure_at, call_row_of}
 use Rattle.solo_base.specs.Replies.{results_in, array_in}
-use Rattle.stack_machine.specs.Calls.{Request, Makes, OutOfRange, LacksValue, write_of, request}
+use Rattle.stack_machine.specs.Calls.{Request, Makes, OutOfRange, write_of, request}
 use Rattle.pascal_mean.specs.Calls.{call_for}
 use Rattle.pascal_code.specs.Calls.{row_number}
 use Rattle.code_law.proofs.Opening.{on_top}

@@ -188,7 +188,7 @@ params_few p tree none k low =
 routine_has : (p : Program) → IsTree p → broken p ≡ None → (k : ℕ) (r : Framed) → slice_get (all_framed p) k ≡ Some r
     → (x : List ℕ) (j : ℕ) (passing : List Passing) → (site_of r).names x ≡ Routine j passing
     → (1 ≤ j) × (j < length (code_of p).routines) × ((routine_at (code_of p) j).params ≡ passed_words passing)
-        × ((routine_at (code_of p) j).function ≡ (routines_of p).gives j) × (passed_words passing ≤ 16)
+    × ((routine_at (code_of p) j).function ≡ (routines_of p).gives j) × (passed_words passing ≤ 16)
 routine_has p tree none k r is x j passing e =
     let one = (calls_ones p k r is x j passing e).1 in
     let inside : j < length (code_of p).routines = omega (arith, one.low, counted_routines p) in
@@ -222,7 +222,7 @@ room_of p tree none k r is =
 -- its own names lie below what its statements nest
 pub low_of : (p : Program) → IsTree p → broken p ≡ None → (k : ℕ) (r : Framed) → slice_get (all_framed p) k ≡ Some r
     → ((x : List ℕ) (a : ℕ) → (site_of r).names x ≡ Variable r.owner a → a < declared_words r.frame)
-        × ((x : List ℕ) (a : ℕ) → (site_of r).names x ≡ Reference a → a + 1 < declared_words r.frame)
+    × ((x : List ℕ) (a : ℕ) → (site_of r).names x ≡ Reference a → a + 1 < declared_words r.frame)
 low_of p tree none k r is =
     let fs = in_frames p (suited p tree.words none) tree none k r is in
     (λ x a e. own_variable p k r fs x a e, λ x a e. own_reference p k r fs x a e)

@@ -8,26 +8,23 @@ use Rattle.solo_base.specs.declared.system_call.SysCall.{SysCall}
 use Rattle.solo_base.specs.declared.system_call.SysReply.{SysReply}
 use Rattle.solo_base.specs.Interface.{call_row_of}
 use Rattle.solo_base.specs.Replies.{results_in, array_in}
-use Rattle.stack_code.specs.declared.instr.Instr.{Instr}
 use Rattle.stack_code.specs.CodeLists.{CodeLists}
-use Rattle.pascal_mean.specs.Means.{Owner, Bounds}
 use Rattle.pascal_mean.specs.Scope.{Scope}
-use Rattle.pascal_mean.specs.Situation.{Situation, Place, Course, Gives, Over, and_then}
-use Rattle.pascal_mean.specs.Variables.{owner_number, ArrayPlace, stored, stored_elements, size_of, whole_array}
+use Rattle.pascal_mean.specs.Situation.{Situation, Place, Course, Gives, and_then}
+use Rattle.pascal_mean.specs.Variables.{owner_number, ArrayPlace, stored, stored_elements, whole_array}
 use Rattle.pascal_mean.specs.Calls.{Passing, ByValue, ByVariable, ByArray, Given, row_passing, values_in, variables_in, arrays_in, call_for, array_read, set_array, set_variables, set_by, first_value, after_call, interface_value}
 use Rattle.pascal_mean.specs.Meaning as meaning
 use Rattle.pascal_code.specs.Senses.{Sense, Constant, Variable, Array, Reference, Routine, Function, Interface, Nothing, Site}
 use Rattle.pascal_code.specs.Names.{store_code}
 use Rattle.pascal_code.specs.Calls.{row_call, array_call, stores_code, call_code, variables_among, arrays_among}
 use Rattle.code_law.specs.Named.{Named}
-use Rattle.code_law.specs.Suits.{RowGives, variable_count}
+use Rattle.code_law.specs.Suits.{RowGives}
 use Rattle.code_law.proofs.Standing.{Stand, parted}
 use Rattle.code_law.proofs.Here.{Fixed, own_number, Here, After, after}
 use Rattle.code_law.proofs.Opening.{on_top}
-use Rattle.code_law.proofs.Requests.{SetsRow}
 use Rattle.code_law.proofs.Asking.{Answered, asking, row_called, array_called}
-use Rattle.code_law.proofs.Variables.{IsPlace, place_stored}
-use Rattle.code_law.proofs.Given.{AreGiven, joined, ArePlaces, AreWhole, IsWhole, variable_names, array_names, IsRowGiven, row_given, value_count, array_count, row_values, row_array}
+use Rattle.code_law.proofs.Variables.{place_stored}
+use Rattle.code_law.proofs.Given.{joined, ArePlaces, AreWhole, IsWhole, variable_names, array_names, IsRowGiven, row_values, row_array}
 
 -- what stands on the operands behind a call
 abbrev pub result_on : Bool → ℤ → List ℤ → List ℤ
@@ -94,12 +91,12 @@ module _ {c : CodeLists} {limit : ℕ} {all : List SysReply} {f : Fixed} {site :
       let parts = last_of rs (length places) (omega (arith, same)) in
       let two = parted c q (stores_code site.result (map site.names ys)) (store_code site.result (site.names y)) to stand in
       let split : rs ++ under ≡ parts.front ++ parts.last ∷ under = ap (λ (l : List ℤ). l ++ under) parts.whole ∙ append_assoc parts.front (parts.last ∷ [])
-          under in
+      under in
       let later = stores_run ys places parts.front (parts.last ∷ under) q two.0 now are.1 parts.count two.1.0
-          (subst (λ (l : List ℤ). Here c limit all f q l now) split h) in
+      (subst (λ (l : List ℤ). Here c limit all f q l now) split h) in
       let set : set_variables (reverse (at ∷ places)) rs now ≡ stored at parts.last (set_variables (reverse places) parts.front now) =
       ap (λ (l : List Place). set_variables l rs now) (reverse-append (at ∷ []) places)
-          ∙ ap (λ (l : List ℤ). set_variables (reverse places ++ at ∷ []) l now) parts.whole
+      ∙ ap (λ (l : List ℤ). set_variables (reverse places ++ at ∷ []) l now) parts.whole
       ∙ set_more (reverse places) at parts.front parts.last now (omega (arith, parts.count, length_reverse places)) in
       subst (λ (m : Situation). Here c limit all f to under m) (sym set)
       (place_stored names y (site.names y) at two.0 to parts.last under (set_variables (reverse places) parts.front now) refl are.0 two.1.1 later)
@@ -145,7 +142,7 @@ module _ {c : CodeLists} {limit : ℕ} {all : List SysReply} {f : Fixed} {site :
               comes = no_places (variable_names (row_passing p) xs) (variables_in given) (set_array (arrays_in given) (array_in reply) n)
                   (first_value (results_in reply) ∷ rest) places none stand_names
                   (subst (λ (l : List ℤ). Here c limit all f m (l ++ rest) (set_array (arrays_in given) (array_in reply) n))
-                      (one_value (results_in reply) one) there);
+                  (one_value (results_in reply) one) there);
             }
         by_kind false is = record {
           comes = stores_run (variable_names (row_passing p) xs) (variables_in given) (results_in reply) rest m to
@@ -156,18 +153,18 @@ module _ {c : CodeLists} {limit : ℕ} {all : List SysReply} {f : Fixed} {site :
         → AreWhole f (call_row_of p).array ys (map site.names ys) arrays → Stand c q
         (row_call p (map site.names ys) ∷ stores_code site.result (variables_among (row_passing p) (map site.names xs))) to
         → Here c limit all f q (on_top (values_in given) rest) now → After c limit all (λ v k. Here c limit all f to (result_on gives v rest) k)
-            (interface_value (meaning.in_order all) limit p given now)
+        (interface_value (meaning.in_order all) limit p given now)
     by_arrays [] [] now is whole stand h =
         let none : (call_row_of p).array ≡ 0 = row_array p (omega (arith, ap length is, row.array_count_is)) in
         let o = call_for p (values_in given) [] (limit - now.ticks) in
         let same : interface_value (meaning.in_order all) limit p given now ≡ and_then (asking (meaning.in_order all) o now)
-            (λ reply n. Gives (first_value (results_in reply)) (set_by reply given n)) =
+        (λ reply n. Gives (first_value (results_in reply)) (set_by reply given n)) =
         ap (λ (es : List ArrayPlace). after_call (meaning.in_order all) (call_for p (values_in given) (array_read es now) (limit - now.ticks)) given now) is
-            ∙ after_is all o given now in
+        ∙ after_is all o given now in
         subst (λ (part : Course ℤ). After c limit all (λ v k. Here c limit all f to (result_on gives v rest) k) part) (sym same)
         (after (asking (meaning.in_order all) o now) _ (row_called p q (values_in given) rest now none (row.value_count_is ∙ row_values p) h stand.0)
         (λ reply n answered. finishes (q + 1) stand.1 (λ reply m. m) (λ reply m. ap (λ (es : List ArrayPlace). set_array es (array_in reply) m) (sym is)) reply
-            n answered))
+        n answered))
     by_arrays (y ∷ ys) (e ∷ arrays) now is whole stand h = by_sense (site.names y) refl whole.0 stand.0
       where
         by_sense : (s : Sense) → site.names y ≡ s → IsWhole f (call_row_of p).array y s e → slice_get c.instrs q ≡ Some (array_call p s)
@@ -178,15 +175,15 @@ module _ {c : CodeLists} {limit : ℕ} {all : List SysReply} {f : Fixed} {site :
             let o = call_for p (values_in given) (whole_array place now) (limit - now.ticks) in
             let there : arrays_in given ≡ place ∷ arrays = is ∙ ap (λ (d : ArrayPlace). d ∷ arrays) it.0 in
             let same : interface_value (meaning.in_order all) limit p given now ≡ and_then (asking (meaning.in_order all) o now)
-                (λ reply n. Gives (first_value (results_in reply)) (set_by reply given n)) =
+            (λ reply n. Gives (first_value (results_in reply)) (set_by reply given n)) =
             ap (λ (es : List ArrayPlace). after_call (meaning.in_order all) (call_for p (values_in given) (array_read es now) (limit - now.ticks)) given now)
-                there ∙ after_is all o given now in
+            there ∙ after_is all o given now in
             subst (λ (part : Course ℤ). After c limit all (λ v k. Here c limit all f to (result_on gives v rest) k) part) (sym same)
             (after (asking (meaning.in_order all) o now) _
-                (array_called p q (values_in given) rest now h (row.value_count_is ∙ row_values p) owner has.frame has.frame_is y has.owner a bounds has.is it.1
-                found)
+            (array_called p q (values_in given) rest now h (row.value_count_is ∙ row_values p) owner has.frame has.frame_is y has.owner a bounds has.is it.1
+            found)
             (λ reply n answered. finishes (q + 1) stand.1 (λ reply m. stored_elements place bounds.low (array_in reply) m)
-                (λ reply m. ap (λ (es : List ArrayPlace). set_array es (array_in reply) m) (sym there)) reply n answered))
+            (λ reply m. ap (λ (es : List ArrayPlace). set_array es (array_in reply) m) (sym there)) reply n answered))
         by_sense (Constant v) sense_is it found = absurd it
         by_sense (Variable o a) sense_is it found = absurd it
         by_sense (Reference a) sense_is it found = absurd it
@@ -203,7 +200,7 @@ module _ {c : CodeLists} {limit : ℕ} {all : List SysReply} {f : Fixed} {site :
     row_runs now stand h =
         by_arrays (array_names (row_passing p) xs) (arrays_in given) now refl
         (subst (λ (l : List Sense). AreWhole f (call_row_of p).array (array_names (row_passing p) xs) l (arrays_in given))
-            (among_arrays site.names (row_passing p) xs) row.wholes)
+        (among_arrays site.names (row_passing p) xs) row.wholes)
         (subst (λ (l : List Sense). Stand c q (row_call p l ∷ stores_code site.result (variables_among (row_passing p) (map site.names xs))) to)
-            (among_arrays site.names (row_passing p) xs) stand)
+        (among_arrays site.names (row_passing p) xs) stand)
         (subst (λ (l : List ℤ). Here c limit all f q (on_top l rest) now) row.values h)

@@ -1,9 +1,7 @@
 -- What names have in the frames of the open activations.
-use Rattle.std.proofs.Common.{◌≡◌, ℕ, zero, suc, ◌+◌, ◌<◌, ◌≤◌, Bool, true, false, List, [], ◌∷◌, length, Option, Some, None, pos, refl, sym, ◌∙◌, ap, subst, arith}
-use Rattle.std.specs.Prelude.{slice_get, bytes_eq, nat_lt, if◌then◌else◌, is_some}
-use Rattle.std.specs.Int.{w16, cast_signed}
+use Rattle.std.proofs.Common.{◌≡◌, ℕ, ◌+◌, ◌<◌, ◌≤◌, Bool, true, false, List, [], ◌∷◌, Option, Some, None, refl, sym, ◌∙◌, ap, subst, arith}
+use Rattle.std.specs.Prelude.{bytes_eq, if◌then◌else◌}
 use Rattle.std.proofs.lemmas.Bool.{lt-ltb}
-use Rattle.std.proofs.lemmas.Bool.Decides.{nat_tests}
 use Rattle.std.proofs.lemmas.Option.{none-some, same_Some}
 use Rattle.pascal_tree.specs.declared.declaration.Definition.{Definition}
 use Rattle.pascal_tree.specs.declared.declaration.Kind.{Kind}
@@ -13,9 +11,8 @@ use Rattle.pascal_mean.specs.Means.{Means, Owner, OfProgram, OfRoutine, Bounds, 
 use Rattle.pascal_mean.specs.Means as meant
 use Rattle.pascal_mean.specs.Predeclared.{Item, predeclared}
 use Rattle.pascal_mean.specs.Scope.{Scope, scope_of}
-use Rattle.pascal_mean.specs.Variables.{owner_number}
-use Rattle.pascal_mean.specs.Declarations.{Declared, declared_names, declared_definitions, declared_constants, declared_groups, declared_variables, declared_parameters, parameter_means, own_items, constant_item, variable_of, name_list, declared_headings, heading_item, global_items}
-use Rattle.pascal_code.specs.Frames.{Frame, words_of, words_in, behind_result, place_behind, declared_words, plain_frame, routine_frame, result_words}
+use Rattle.pascal_mean.specs.Declarations.{declared_names, declared_definitions, declared_constants, declared_groups, declared_variables, declared_parameters, parameter_means, own_items, constant_item, variable_of, name_list, declared_headings, heading_item, global_items}
+use Rattle.pascal_code.specs.Frames.{Frame, words_of, words_in, place_behind, plain_frame, routine_frame}
 use Rattle.pascal_code.specs.Senses as to_code
 use Rattle.pascal_code.specs.Senses.{Sense, sense, Variable, Array, Reference, sense_among, sense_in, first_sense, names_in}
 
@@ -45,7 +42,7 @@ groups_have P owner scope has [] items are = are
 groups_have P owner scope has (g ∷ more) items are =
     let means = variable_of owner (scope items) g.kind in
     groups_have P owner scope has more (declared_names means (name_list g.names) items)
-        (names_have P means (name_list g.names) items (has (scope items) g.kind) are)
+    (names_have P means (name_list g.names) items (has (scope items) g.kind) are)
 
 pub variables_have : (P : Means → Type 0) (owner : Owner) (scope : List Item → Scope) → ((s : Scope) (k : Kind) → P (variable_of owner s k))
     → (v : Option Vars) (items : List Item) → AllItems P items → AllItems P (declared_variables owner scope v items)
@@ -127,8 +124,82 @@ owner_among owner refs f (i ∷ earlier) x s are is = by_name (bytes_eq i.letter
 
 -- what is declared before any program is of either owner
 pub predeclared_are : (owner : Owner) → AllItems (OfOwner owner false) predeclared
-predeclared_are owner = (tt, (tt, (tt, (tt, (tt, (tt, (tt, (tt, (tt, (tt, (tt, (tt, (tt, (tt, (tt, (tt, (tt, (tt, (tt, (tt, (tt, (tt, (tt, (tt, (tt,
-    (tt, tt))))))))))))))))))))))))))
+predeclared_are owner = (
+  tt,
+  (
+    tt,
+    (
+      tt,
+      (
+        tt,
+        (
+          tt,
+          (
+            tt,
+            (
+              tt,
+              (
+                tt,
+                (
+                  tt,
+                  (
+                    tt,
+                    (
+                      tt,
+                      (
+                        tt,
+                        (
+                          tt,
+                          (
+                            tt,
+                            (
+                              tt,
+                              (
+                                tt,
+                                (
+                                  tt,
+                                  (
+                                    tt,
+                                    (
+                                      tt,
+                                      (
+                                        tt,
+                                        (
+                                          tt,
+                                          (
+                                            tt,
+                                            (
+                                              tt,
+                                              (
+                                                tt,
+                                                (
+                                                  tt,
+                                                  (tt, tt),
+                                                ),
+                                              ),
+                                            ),
+                                          ),
+                                        ),
+                                      ),
+                                    ),
+                                  ),
+                                ),
+                              ),
+                            ),
+                          ),
+                        ),
+                      ),
+                    ),
+                  ),
+                ),
+              ),
+            ),
+          ),
+        ),
+      ),
+    ),
+  ),
+)
 
 -- ---- Where a name was found
 pub data FoundAs (own program : Frame) (x : List ℕ) (s : Sense) : Type 0 where
@@ -173,7 +244,7 @@ pub through_headings : (base known : List Item) → Over base known → (x : Lis
 through_headings base known Itself x s has is = is
 through_headings base (i ∷ items) (Heading k known r over) x s has is =
     through_headings base known over x s has (sym (same_plain (heading_item k known r ∷ known) known known x)
-        ∙ by_name (bytes_eq (heading_item k known r).letters x) is)
+    ∙ by_name (bytes_eq (heading_item k known r).letters x) is)
   where
     by_name : (same : Bool) → (if same then Some (sense (heading_item k known r).means (place_behind (plain_frame (heading_item k known r ∷ known)) known)) else
         sense_among (plain_frame (heading_item k known r ∷ known)) known x) ≡ Some s
@@ -240,7 +311,7 @@ refs_groups f scope [] items below = below
 refs_groups f scope (g ∷ more) items below =
     let means = variable_of OfRoutine (scope items) g.kind in
     refs_groups f scope more (declared_names means (name_list g.names) items)
-        (refs_names f means (name_list g.names) items (variable_no (scope items) g.kind) below)
+    (refs_names f means (name_list g.names) items (variable_no (scope items) g.kind) below)
 
 refs_variables : (f : Frame) (scope : List Item → Scope) (v : Option Vars) (items : List Item) → RefsBelow f items
     → RefsBelow f (declared_variables OfRoutine scope v items)
@@ -258,7 +329,7 @@ refs_parameters f (i ∷ earlier) low x a is = by_name (bytes_eq i.letters x) (�
         let here : place_behind f earlier ≡ a = reference_place (place_behind f earlier) a e in
         let near : words_in earlier < f.parameters = omega (arith, low) in
         let first : place_behind f earlier ≡ words_in earlier = ap (λ b. if b then words_in earlier else words_in earlier + f.result)
-            (lt-ltb (words_in earlier) f.parameters near) in
+        (lt-ltb (words_in earlier) f.parameters near) in
         omega (arith, here, first, near)
       where
         reference_place : (c d : ℕ) → Reference c ≡ Reference d → c ≡ d
@@ -285,4 +356,4 @@ references_low known signature b x a is =
     let scope : List Item → Scope = λ own. scope_of own known in
     let these = declared_parameters signature.parameters [] in
     refs_variables f scope b.vars (declared_constants scope b.consts these) (refs_constants f scope b.consts these (refs_parameters f these (omega arith))) x a
-        is
+    is

@@ -132,7 +132,7 @@ more_labels_quiet site w found (l ∷ more) =
 labels_quiet : (site : Site) (w found : ℕ) (labels : Labels) → AreQuiet (label_tests site w found labels)
 labels_quiet site w found labels =
     quiet_more (label_test site w found labels.first) (more_label_tests site w found labels.rest) (label_quiet site w found labels.first)
-        (more_labels_quiet site w found labels.rest)
+    (more_labels_quiet site w found labels.rest)
 
 more_size : (site : Site) (w found : ℕ) (ls : List (ℕ × Constant)) → length (more_label_tests site w found ls) ≡ 4 * length ls
 more_size site w found [] = refl
@@ -170,7 +170,7 @@ module _ (c : CodeLists) where
       at x low high calls =
           let same : x ≡ p = omega (arith, low, high) in
           absurd (false≢true (sym quiet ∙ ap (λ (j : Instr). is_call j.op) (sym (found_at c p i found)) ∙ ap (λ (y : ℕ). is_call (instr_at c y).op) (sym same)
-              ∙ calls))
+          ∙ calls))
 
   pub called_quiet : (code : List Instr) (p q : ℕ) → Stand c p code q → AreQuiet code → AreCalled c p q
   called_quiet [] p q stand quiet = called_none p q stand
@@ -183,7 +183,7 @@ pub record Above (c : CodeLists) (rs : Routines) (site : Site) (inside : Bool) :
   pub value : (e : Expr) → SuitsExpr rs site.names e → ExprFits e most_levels → Lift c 1 1500 (expr_code site e) 1 2
   pub given : (x : NameAt) (a : Arguments) → SuitsStatement rs site.names inside (call x (Some a)) → CallFits (Some a)
       → Lift c 1 1500 (arguments_code site (site.names x.letters) (passing_of (site.names x.letters)) a) 0
-          (words_passed (site.names x.letters) (passing_of (site.names x.letters)))
+      (words_passed (site.names x.letters) (passing_of (site.names x.letters)))
 
 pub lifts_above : (c : CodeLists) (k : ℕ) (rs : Routines) (site : Site) (inside : Bool) → HasRoom c k rs site inside → Above c rs site inside
 lifts_above c k rs site inside room = record {
@@ -231,9 +231,9 @@ module _ (c : CodeLists) (k : ℕ) (rs : Routines) (site : Site) (inside : Bool)
   valued e p m suits fits leads stand low high at =
       let far : m ≡ p + 1 + length (expr_code site e) = stands_to c (p + 1) (expr_code site e) m stand in
       let run : (x : ℕ) → p < x → x ≤ m → is_behind_tick c x ≡ true =
-          straight_to c k site base start end within some targets (expr_code site e) p m 0 1 low high leads stand (rise.expr e suits fits) at
-              (plain.expr e suits)
-              (expr_begins rs site base low_variable low_reference e suits) in
+      straight_to c k site base start end within some targets (expr_code site e) p m 0 1 low high leads stand (rise.expr e suits fits) at
+      (plain.expr e suits)
+      (expr_begins rs site base low_variable low_reference e suits) in
       record {
         called = λ x from to calls. run x (omega (arith, from)) (omega (arith, to));
         height = height_past 1 (expr_code site e) (p + 1) m 0 1 (omega (arith, low)) high stand (rise.expr e suits fits) at;
@@ -266,9 +266,9 @@ module _ (c : CodeLists) (k : ℕ) (rs : Routines) (site : Site) (inside : Bool)
   quiet_called rest args p m q line n low high ticks stand behind_there lift at all may quiet =
       let far : q ≡ m + length rest = stands_to c m rest q behind_there in
       also (p + 1) m q
-          (λ x from to calls. straight_on c k site base start end within some targets args p m 0 n low (omega (arith, far, high))
-              (leads_from_tick c p line ticks) stand lift at all may x (omega (arith, from)) to)
-          (quietly rest m q behind_there quiet)
+      (λ x from to calls. straight_on c k site base start end within some targets args p m 0 n low (omega (arith, far, high))
+      (leads_from_tick c p line ticks) stand lift at all may x (omega (arith, from)) to)
+      (quietly rest m q behind_there quiet)
 
   -- what is called, behind its arguments
   given_called : (callee : Sense) (given : List Sense) (args : List Instr) (p m q line n : ℕ) → start ≤ p → q < end → slice_get c.instrs p ≡ Some (tick line)
@@ -277,13 +277,13 @@ module _ (c : CodeLists) (k : ℕ) (rs : Routines) (site : Site) (inside : Bool)
       → MayBegin site base args → Called (p + 1) q
   given_called (Routine j passing) given args p m q line n low high ticks stand behind_there lift at all may = λ x from to calls.
       straight c k site base start end within some targets args (with_a op.Call j) p m 0 n low (omega (arith, behind_there.1, high))
-          (leads_from_tick c p line ticks) stand behind_there.0 lift at all may refl
-          refl (not_load site base (with_a op.Call j) refl) x (omega (arith, from)) (omega (arith, to, behind_there.1))
+      (leads_from_tick c p line ticks) stand behind_there.0 lift at all may refl
+      refl (not_load site base (with_a op.Call j) refl) x (omega (arith, from)) (omega (arith, to, behind_there.1))
   given_called (Function f) given args p m q line n low high ticks stand behind_there lift at all may =
       quiet_called (standard_code f) args p m q line n low high ticks stand behind_there lift at all may (standard_quiet f)
   given_called (Interface row) given args p m q line n low high ticks stand behind_there lift at all may =
       quiet_called (call_code site.result (Interface row) given) args p m q line n low high ticks stand behind_there lift at all may
-          (row_quiet row (arrays_among (row_passing row) given), stores_quiet site.result (variables_among (row_passing row) given))
+      (row_quiet row (arrays_among (row_passing row) given), stores_quiet site.result (variables_among (row_passing row) given))
   given_called (senses.Constant v) given args p m q line n low high ticks stand behind_there lift at all may =
       quiet_called [] args p m q line n low high ticks stand behind_there lift at all may tt
   given_called (Variable o a) given args p m q line n low high ticks stand behind_there lift at all may =
@@ -302,7 +302,7 @@ module _ (c : CodeLists) (k : ℕ) (rs : Routines) (site : Site) (inside : Bool)
       let far : q ≡ p + 1 + length (call_statement_code site x None) = stands_to c (p + 1) (call_statement_code site x None) q stand.1 in
       let begun : height_at c (p + 1) ≡ 0 = height_next p (tick x.line) 0 0 low (omega (arith, far, high)) stand.0 at refl in
       past p q (tick x.line) stand.0 refl
-          (given_called (site.names x.letters) [] [] p (p + 1) q x.line 0 low high stand.0 refl stand.1 refl begun tt tt)
+      (given_called (site.names x.letters) [] [] p (p + 1) q x.line 0 low high stand.0 refl stand.1 refl begun tt tt)
   call_called x (Some a) p q suits fits stand low high at =
       let callee = site.names x.letters in
       let args = arguments_code site callee (passing_of callee) a in
@@ -311,10 +311,10 @@ module _ (c : CodeLists) (k : ℕ) (rs : Routines) (site : Site) (inside : Bool)
       let far : q ≡ p + 1 + length (call_statement_code site x (Some a)) = stands_to c (p + 1) (call_statement_code site x (Some a)) q stand.1 in
       let begun : height_at c (p + 1) ≡ 0 = height_next p (tick x.line) 0 0 low (omega (arith, far, high)) stand.0 at refl in
       past p q (tick x.line) stand.0 refl
-          (given_called callee (given_arguments site a) args p one.0 q x.line (words_passed callee (passing_of callee)) low high stand.0 one.1.0 one.1.1
-              (above.given x a suits fits) begun
-              (plain_front c k args behind_there (plain.calls x (Some a) suits))
-              (arguments_begin rs site base low_variable low_reference callee (passing_of callee) a suits.1))
+      (given_called callee (given_arguments site a) args p one.0 q x.line (words_passed callee (passing_of callee)) low high stand.0 one.1.0 one.1.1
+      (above.given x a suits fits) begun
+      (plain_front c k args behind_there (plain.calls x (Some a) suits))
+      (arguments_begin rs site base low_variable low_reference callee (passing_of callee) a suits.1))
 
   -- ---- Elements
   element_calls : (x : NameAt) (i : Index) (e : Expr) (p q : ℕ) → CanIndex (site.names x.letters) → SuitsIndex rs site.names i → SuitsExpr rs site.names e
@@ -336,15 +336,15 @@ module _ (c : CodeLists) (k : ℕ) (rs : Routines) (site : Site) (inside : Bool)
       let all = plain.assign_element x i 0 e (can, index_suits, suits) in
       let lift = above.index x i can index_suits index_fits in
       let indexed : (y : ℕ) → p < y → y ≤ one.0 → is_behind_tick c y ≡ true =
-          straight_to c k site base start end within some targets place_code p one.0 0 1 low (omega (arith, further, last, high))
-              (leads_from_tick c p x.line stand.0) one.1.0 lift begun
-              (plain_front c k place_code (expr_code site e ++ store) all) begins in
+      straight_to c k site base start end within some targets place_code p one.0 0 1 low (omega (arith, further, last, high))
+      (leads_from_tick c p x.line stand.0) one.1.0 lift begun
+      (plain_front c k place_code (expr_code site e ++ store) all) begins in
       let there : height_at c one.0 ≡ 1 =
-          height_past 1 place_code (p + 1) one.0 0 1 (omega (arith, low)) (omega (arith, further, last, high)) one.1.0 lift begun in
+      height_past 1 place_code (p + 1) one.0 0 1 (omega (arith, low)) (omega (arith, further, last, high)) one.1.0 lift begun in
       let valued_there : (y : ℕ) → one.0 ≤ y → y ≤ two.0 → is_behind_tick c y ≡ true =
-          run_behind c k site base start end within some targets (expr_code site e) one.0 two.0 1 2 (omega (arith, far, low)) (omega (arith, last, high))
-              two.1.0 (above.value e suits fits) there
-              (plain.expr e suits) (indexed one.0 (omega (arith, far, some_code)) (omega arith)) in
+      run_behind c k site base start end within some targets (expr_code site e) one.0 two.0 1 2 (omega (arith, far, low)) (omega (arith, last, high))
+      two.1.0 (above.value e suits fits) there
+      (plain.expr e suits) (indexed one.0 (omega (arith, far, some_code)) (omega arith)) in
       past p q (tick x.line) stand.0 refl
       (also (p + 1) one.0 q (λ y from to calls. indexed y (omega (arith, from)) (omega (arith, to)))
       (also one.0 two.0 q (λ y from to calls. valued_there y from (omega (arith, to)))
@@ -364,7 +364,7 @@ module _ (c : CodeLists) (k : ℕ) (rs : Routines) (site : Site) (inside : Bool)
         let one = parted c (p + 1) (expr_code site e) store q stand.1 in
         let far : q ≡ one.0 + length store = stands_to c one.0 store q one.1.1 in
         also p one.0 q (tested e p one.0 x.line suits.1 fits.2 stand.0 one.1.0 low (omega (arith, far, high)) at).called
-            (quietly store one.0 q one.1.1 (store_quiet site.result (site.names x.letters)))
+        (quietly store one.0 q one.1.1 (store_quiet site.result (site.names x.letters)))
     statement_calls (assign x (Some i) becomes e) free n place p q same suits fits stand low high at =
         element_calls x i e p q suits.0 suits.1 suits.2 fits.1 fits.2 stand low high at
     statement_calls (call x a) free n place p q same suits fits stand low high at = call_called x a p q suits fits.1 stand low high at
@@ -378,9 +378,9 @@ module _ (c : CodeLists) (k : ℕ) (rs : Routines) (site : Site) (inside : Bool)
         let further : q ≡ one.0 + 1 + length code = stands_to c (one.0 + 1) code q one.1.1.1 in
         let test = tested e p one.0 line suits.0 fits.1 stand.0 one.1.0 low (omega (arith, further, high)) at in
         let here : height_at c (one.0 + 1) ≡ 0 =
-            height_next one.0 (jump_if_false out) 1 0 (omega (arith, far, low)) (omega (arith, further, high)) one.1.1.0 test.height refl in
+        height_next one.0 (jump_if_false out) 1 0 (omega (arith, far, low)) (omega (arith, further, high)) one.1.1.0 test.height refl in
         also p one.0 q test.called (past one.0 q (jump_if_false out) one.1.1.0 refl
-            (statement_calls s free (n - 1) first (one.0 + 1) q (omega (arith, same, far)) suits.1 fits.2 one.1.1.1 (omega (arith, far, low)) high here))
+        (statement_calls s free (n - 1) first (one.0 + 1) q (omega (arith, same, far)) suits.1 fits.2 one.1.1.1 (omega (arith, far, low)) high here))
     statement_calls (if_else line e then_line s else_line t) free n place p q same suits fits stand low high at =
         let first = place + length (expr_code site e) + 2 in
         let code = statement_code site free s first in
@@ -394,18 +394,18 @@ module _ (c : CodeLists) (k : ℕ) (rs : Routines) (site : Site) (inside : Bool)
         let last : q ≡ two.0 + 1 + length others = stands_to c (two.0 + 1) others q two.1.1.1 in
         let test = tested e p one.0 line suits.0 fits.1 stand.0 one.1.0 low (omega (arith, further, last, high)) at in
         let here : height_at c (one.0 + 1) ≡ 0 =
-            height_next one.0 (jump_if_false otherwise) 1 0 (omega (arith, far, low)) (omega (arith, further, last, high)) one.1.1.0 test.height refl in
+        height_next one.0 (jump_if_false otherwise) 1 0 (omega (arith, far, low)) (omega (arith, further, last, high)) one.1.1.0 test.height refl in
         let done : height_at c two.0 ≡ 0 = height_past 0 code (one.0 + 1) two.0 0 0 (omega (arith, far, low)) (omega (arith, last, high)) two.1.0
-            (statement_lifts c rs site inside rise s free first (n - 1) suits.1 fits.2) here in
+        (statement_lifts c rs site inside rise s free first (n - 1) suits.1 fits.2) here in
         let there : height_at c (two.0 + 1) ≡ 0 =
-            height_next two.0 (jump out) 0 0 (omega (arith, further, far, low)) (omega (arith, last, high)) two.1.1.0 done refl in
+        height_next two.0 (jump out) 0 0 (omega (arith, further, far, low)) (omega (arith, last, high)) two.1.1.0 done refl in
         also p one.0 q test.called (past one.0 q (jump_if_false otherwise) one.1.1.0 refl
         (also (one.0 + 1) two.0 q
-            (statement_calls s free (n - 1) first (one.0 + 1) two.0 (omega (arith, same, far)) suits.1 fits.2 two.1.0 (omega (arith, far, low))
-                (omega (arith, last, high)) here)
+        (statement_calls s free (n - 1) first (one.0 + 1) two.0 (omega (arith, same, far)) suits.1 fits.2 two.1.0 (omega (arith, far, low))
+        (omega (arith, last, high)) here)
         (past two.0 q (jump out) two.1.1.0 refl
-            (statement_calls t free (n - 1) otherwise (two.0 + 1) q (omega (arith, same, far, further)) suits.2 fits.4 two.1.1.1
-                (omega (arith, further, far, low)) high there))))
+        (statement_calls t free (n - 1) otherwise (two.0 + 1) q (omega (arith, same, far, further)) suits.2 fits.4 two.1.1.1
+        (omega (arith, further, far, low)) high there))))
     statement_calls (while_do line e do_line s) free n place p q same suits fits stand low high at =
         let first = place + 1 + length (expr_code site e) + 2 in
         let code = statement_code site free s first in
@@ -419,13 +419,13 @@ module _ (c : CodeLists) (k : ℕ) (rs : Routines) (site : Site) (inside : Bool)
         let begun : height_at c (p + 1) ≡ 0 = height_next p (tick line) 0 0 low (omega (arith, far, further, last, high)) stand.0 at refl in
         let test = tested e (p + 1) one.0 line suits.0 fits.1 stand.1.0 one.1.0 (omega (arith, low)) (omega (arith, further, last, high)) begun in
         let here : height_at c (one.0 + 1) ≡ 0 =
-            height_next one.0 (jump_if_false out) 1 0 (omega (arith, far, low)) (omega (arith, further, last, high)) one.1.1.0 test.height refl in
+        height_next one.0 (jump_if_false out) 1 0 (omega (arith, far, low)) (omega (arith, further, last, high)) one.1.1.0 test.height refl in
         past p q (tick line) stand.0 refl
         (also (p + 1) one.0 q test.called (past one.0 q (jump_if_false out) one.1.1.0 refl
         (also (one.0 + 1) two.0 q
-            (statement_calls s free (n - 1) first (one.0 + 1) two.0 (omega (arith, same, far)) suits.1 fits.2 two.1.0 (omega (arith, far, low))
-                (omega (arith, last, high)) here)
-            (quietly back two.0 q two.1.1 (refl, tt)))))
+        (statement_calls s free (n - 1) first (one.0 + 1) two.0 (omega (arith, same, far)) suits.1 fits.2 two.1.0 (omega (arith, far, low))
+        (omega (arith, last, high)) here)
+        (quietly back two.0 q two.1.1 (refl, tt)))))
     statement_calls (repeat_until line s until_line e) free n place p q same suits fits stand low high at =
         let test_code = expr_code site e in
         let first = place + 2 + length test_code + 3 in
@@ -439,21 +439,21 @@ module _ (c : CodeLists) (k : ℕ) (rs : Routines) (site : Site) (inside : Bool)
         let last : q ≡ two.0 + 1 = sym two.1.1.1 in
         let begun : height_at c (p + 1) ≡ 0 = height_next p (tick line) 0 0 low (omega (arith, far, further, last, high)) stand.0 at refl in
         let turn : height_at c (p + 1 + 1) ≡ 0 =
-            height_next (p + 1) (jump first) 0 0 (omega (arith, low)) (omega (arith, far, further, last, high)) stand.1.0 begun refl in
+        height_next (p + 1) (jump first) 0 0 (omega (arith, low)) (omega (arith, far, further, last, high)) stand.1.0 begun refl in
         let test = tested e (p + 1 + 1) one.0 line suits.0 fits.2 stand.1.1.0 one.1.0 (omega (arith, low)) (omega (arith, further, last, high)) turn in
         let turned : height_at c (one.0 + 1) ≡ 1 =
-            height_next one.0 (bare op.Not) 1 1 (omega (arith, far, low)) (omega (arith, further, last, high)) one.1.1.0 test.height refl in
+        height_next one.0 (bare op.Not) 1 1 (omega (arith, far, low)) (omega (arith, further, last, high)) one.1.1.0 test.height refl in
         let here : height_at c (one.0 + 1 + 1) ≡ 0 =
-            height_next (one.0 + 1) (jump_if_false out) 1 0 (omega (arith, far, low)) (omega (arith, further, last, high)) one.1.1.1.0 turned refl in
+        height_next (one.0 + 1) (jump_if_false out) 1 0 (omega (arith, far, low)) (omega (arith, further, last, high)) one.1.1.1.0 turned refl in
         past p q (tick line) stand.0 refl
         (past (p + 1) q (jump first) stand.1.0 refl
         (also (p + 1 + 1) one.0 q test.called
         (past one.0 q (bare op.Not) one.1.1.0 refl
         (past (one.0 + 1) q (jump_if_false out) one.1.1.1.0 refl
         (also (one.0 + 1 + 1) two.0 q
-            (sequence_calls s free (n - 1) first (one.0 + 1 + 1) two.0 (omega (arith, same, far)) suits.1 fits.1 two.1.0 (omega (arith, far, low))
-                (omega (arith, last, high)) here)
-            (quietly back two.0 q two.1.1 (refl, tt)))))))
+        (sequence_calls s free (n - 1) first (one.0 + 1 + 1) two.0 (omega (arith, same, far)) suits.1 fits.1 two.1.0 (omega (arith, far, low))
+        (omega (arith, last, high)) here)
+        (quietly back two.0 q two.1.1 (refl, tt)))))))
     statement_calls (for_do line x becomes from way way_line to do_line s) free n place p q same suits fits stand low high at =
         let lower = expr_code site from in
         let upper = expr_code site to in
@@ -478,25 +478,25 @@ module _ (c : CodeLists) (k : ℕ) (rs : Routines) (site : Site) (inside : Bool)
         let last : q ≡ five.0 + length again = stands_to c five.0 again q five.1.1 in
         let low_one = tested from p one.0 line suits.1 fits.1 stand.0 one.1.0 low (omega (arith, far2, far3, far4, far5, last, high)) at in
         let kept_one : height_at c (one.0 + 1) ≡ 0 =
-            height_past 0 (store_own site free ∷ []) one.0 (one.0 + 1) 1 0 (omega (arith, far1, low)) (omega (arith, far2, far3, far4, far5, last, high))
-            (one.1.1.0, refl) (store_lift c site.owner free 0 [] refl) low_one.height in
+        height_past 0 (store_own site free ∷ []) one.0 (one.0 + 1) 1 0 (omega (arith, far1, low)) (omega (arith, far2, far3, far4, far5, last, high))
+        (one.1.1.0, refl) (store_lift c site.owner free 0 [] refl) low_one.height in
         let leads = leads_from_behind c one.0 (store_own site free) one.1.1.0 (store_word_no_jump site.owner free) low_one.led in
         let high_one = valued to one.0 two.0 suits.2 fits.2 leads two.1.0 (omega (arith, far1, low)) (omega (arith, far3, far4, far5, last, high)) kept_one in
         let kept_two : height_at c (two.0 + 1) ≡ 0 =
-            height_past 0 (store_own site (free + 1) ∷ []) two.0 (two.0 + 1) 1 0 (omega (arith, far1, far2, low)) (omega (arith, far3, far4, far5, last, high))
-            (two.1.1.0, refl) (store_lift c site.owner (free + 1) 0 [] refl) high_one.height in
+        height_past 0 (store_own site (free + 1) ∷ []) two.0 (two.0 + 1) 1 0 (omega (arith, far1, far2, low)) (omega (arith, far3, far4, far5, last, high))
+        (two.1.1.0, refl) (store_lift c site.owner (free + 1) 0 [] refl) high_one.height in
         let reached : height_at c three.0 ≡ 0 =
-            height_past 0 reach (two.0 + 1) three.0 0 0 (omega (arith, far1, far2, low)) (omega (arith, far4, far5, last, high)) three.1.0
-            (reach_lifts c site way free out) kept_two in
+        height_past 0 reach (two.0 + 1) three.0 0 0 (omega (arith, far1, far2, low)) (omega (arith, far4, far5, last, high)) three.1.0
+        (reach_lifts c site way free out) kept_two in
         let ticked : height_at c (three.0 + 1) ≡ 0 =
-            height_next three.0 (tick line) 0 0 (omega (arith, far1, far2, far3, low)) (omega (arith, far4, far5, last, high)) three.1.1.0 reached refl in
+        height_next three.0 (tick line) 0 0 (omega (arith, far1, far2, far3, low)) (omega (arith, far4, far5, last, high)) three.1.1.0 reached refl in
         let loaded : height_at c (three.0 + 1 + 1) ≡ 1 =
-            height_past 0 (load_own site free ∷ []) (three.0 + 1) (three.0 + 1 + 1) 0 1 (omega (arith, far1, far2, far3, low))
-            (omega (arith, far4, far5, last, high))
-            (three.1.1.1.0, refl) (load_lift c site.owner free 0 1 [] (omega arith) refl) ticked in
+        height_past 0 (load_own site free ∷ []) (three.0 + 1) (three.0 + 1 + 1) 0 1 (omega (arith, far1, far2, far3, low))
+        (omega (arith, far4, far5, last, high))
+        (three.1.1.1.0, refl) (load_lift c site.owner free 0 1 [] (omega arith) refl) ticked in
         let begun : height_at c four.0 ≡ 0 =
-            height_past 0 control (three.0 + 1 + 1) four.0 1 0 (omega (arith, far1, far2, far3, low)) (omega (arith, far5, last, high)) four.1.0
-            (rise.control x suits.0) loaded in
+        height_past 0 control (three.0 + 1 + 1) four.0 1 0 (omega (arith, far1, far2, far3, low)) (omega (arith, far5, last, high)) four.1.0
+        (rise.control x suits.0) loaded in
         also p one.0 q low_one.called
         (past one.0 q (store_own site free) one.1.1.0 (store_word_quiet site.owner free)
         (also (one.0 + 1) two.0 q high_one.called
@@ -506,13 +506,13 @@ module _ (c : CodeLists) (k : ℕ) (rs : Routines) (site : Site) (inside : Bool)
         (past (three.0 + 1) q (load_own site free) three.1.1.1.0 (load_quiet site.owner free)
         (also (three.0 + 1 + 1) four.0 q (quietly control (three.0 + 1 + 1) four.0 four.1.0 (store_quiet site.result (site.names x.letters)))
         (also four.0 five.0 q
-            (statement_calls s (free + 2) (n - 1) first four.0 five.0 (omega (arith, same, far1, far2, far3, far4)) suits.3 fits.3 five.1.0
-                (omega (arith, far1, far2, far3, far4, low))
-                (omega (arith, last, again_size way free out turn, high)) begun)
-            (quietly again five.0 q five.1.1
-                (quiet_more (counter_test site (before_op way) free out) (counter_step site way free turn)
-                    (test_quiet site (before_op way) free out (before_quiet way))
-                    (turn_quiet site way free turn)))))))))))
+        (statement_calls s (free + 2) (n - 1) first four.0 five.0 (omega (arith, same, far1, far2, far3, far4)) suits.3 fits.3 five.1.0
+        (omega (arith, far1, far2, far3, far4, low))
+        (omega (arith, last, again_size way free out turn, high)) begun)
+        (quietly again five.0 q five.1.1
+        (quiet_more (counter_test site (before_op way) free out) (counter_step site way free turn)
+        (test_quiet site (before_op way) free out (before_quiet way))
+        (turn_quiet site way free turn)))))))))))
     statement_calls (case_of line e of_line b more end_line) free n place p q same suits fits stand low high at =
         let first = place + length (expr_code site e) + 2 in
         let branches = branch_code site free b (branches_code site free more) first in
@@ -521,13 +521,13 @@ module _ (c : CodeLists) (k : ℕ) (rs : Routines) (site : Site) (inside : Bool)
         let further : q ≡ one.0 + 1 + length branches = stands_to c (one.0 + 1) branches q one.1.1.1 in
         let test = tested e p one.0 line suits.0 fits.1 stand.0 one.1.0 low (omega (arith, further, high)) at in
         let here : height_at c (one.0 + 1) ≡ 0 =
-            height_past 0 (store_own site free ∷ []) one.0 (one.0 + 1) 1 0 (omega (arith, far, low)) (omega (arith, further, high)) (one.1.1.0, refl)
-            (store_lift c site.owner free 0 [] refl) test.height in
+        height_past 0 (store_own site free ∷ []) one.0 (one.0 + 1) 1 0 (omega (arith, far, low)) (omega (arith, further, high)) (one.1.1.0, refl)
+        (store_lift c site.owner free 0 [] refl) test.height in
         also p one.0 q test.called (past one.0 q (store_own site free) one.1.1.0 (store_word_quiet site.owner free)
-            (branch_calls b free (n - 1) (branches_code site free more)
-                (λ place_too r to there later_stand later_low later_high later_at. branches_calls more free (n - 1) place_too r to there suits.2 fits.3
-                    later_stand later_low later_high later_at)
-                first (one.0 + 1) q (omega (arith, same, far)) suits.1 fits.2 one.1.1.1 (omega (arith, far, low)) high here))
+        (branch_calls b free (n - 1) (branches_code site free more)
+        (λ place_too r to there later_stand later_low later_high later_at. branches_calls more free (n - 1) place_too r to there suits.2 fits.3
+        later_stand later_low later_high later_at)
+        first (one.0 + 1) q (omega (arith, same, far)) suits.1 fits.2 one.1.1.1 (omega (arith, far, low)) high here))
 
     pub body_calls : (b : Body) (free n place p q : ℕ) → place ≡ p → SuitsBody rs site.names inside b → BodyFits b n
         → Stand c p (body_code site free b place) q → start ≤ p → q < end → height_at c p ≡ 0
@@ -544,10 +544,10 @@ module _ (c : CodeLists) (k : ℕ) (rs : Routines) (site : Site) (inside : Bool)
         let far : one.0 ≡ p + length code = stands_to c p code one.0 one.1.0 in
         let further : q ≡ one.0 + length others = stands_to c one.0 others q one.1.1 in
         let done : height_at c one.0 ≡ 0 =
-            height_past 0 code p one.0 0 0 low (omega (arith, further, high)) one.1.0 (statement_lifts c rs site inside rise s free place n suits.0 fits.0) at
-            in
+        height_past 0 code p one.0 0 0 low (omega (arith, further, high)) one.1.0 (statement_lifts c rs site inside rise s free place n suits.0 fits.0) at
+        in
         also p one.0 q (statement_calls s free n place p one.0 same suits.0 fits.0 one.1.0 low (omega (arith, further, high)) at)
-            (statements_call more free n (place + length code) one.0 q (omega (arith, same, far)) suits.1 fits.1 one.1.1 (omega (arith, far, low)) high done)
+        (statements_call more free n (place + length code) one.0 q (omega (arith, same, far)) suits.1 fits.1 one.1.1 (omega (arith, far, low)) high done)
 
     pub statements_call : (ss : Statements) (free n place p q : ℕ) → place ≡ p → SuitsStatements rs site.names inside ss → StatementsFit ss n
         → Stand c p (statements_code site free ss place) q → start ≤ p
@@ -560,10 +560,10 @@ module _ (c : CodeLists) (k : ℕ) (rs : Routines) (site : Site) (inside : Bool)
         let far : one.0 ≡ p + length code = stands_to c p code one.0 one.1.0 in
         let further : q ≡ one.0 + length others = stands_to c one.0 others q one.1.1 in
         let done : height_at c one.0 ≡ 0 =
-            height_past 0 code p one.0 0 0 low (omega (arith, further, high)) one.1.0 (statement_lifts c rs site inside rise s free place n suits.0 fits.0) at
-            in
+        height_past 0 code p one.0 0 0 low (omega (arith, further, high)) one.1.0 (statement_lifts c rs site inside rise s free place n suits.0 fits.0) at
+        in
         also p one.0 q (statement_calls s free n place p one.0 same suits.0 fits.0 one.1.0 low (omega (arith, further, high)) at)
-            (statements_call more free n (place + length code) one.0 q (omega (arith, same, far)) suits.1 fits.1 one.1.1 (omega (arith, far, low)) high done)
+        (statements_call more free n (place + length code) one.0 q (omega (arith, same, far)) suits.1 fits.1 one.1.1 (omega (arith, far, low)) high done)
 
     -- a branch, with what stands behind it
     pub branch_calls : (b : Branch) (free n : ℕ) (later : ℕ → List Instr)
@@ -583,20 +583,20 @@ module _ (c : CodeLists) (k : ℕ) (rs : Routines) (site : Site) (inside : Bool)
         let further : two.0 ≡ one.0 + 1 + length code = stands_to c (one.0 + 1) code two.0 two.1.0 in
         let last : q ≡ two.0 + 1 + length others = stands_to c (two.0 + 1) others q two.1.1.1 in
         let tested_there : height_at c one.0 ≡ 0 =
-            height_past 0 tests p one.0 0 0 low (omega (arith, further, last, high)) one.1.0 (labels_lift c site free found labels) at in
+        height_past 0 tests p one.0 0 0 low (omega (arith, further, last, high)) one.1.0 (labels_lift c site free found labels) at in
         let here : height_at c (one.0 + 1) ≡ 0 =
-            height_next one.0 (jump next) 0 0 (omega (arith, far, low)) (omega (arith, further, last, high)) one.1.1.0 tested_there refl in
+        height_next one.0 (jump next) 0 0 (omega (arith, far, low)) (omega (arith, further, last, high)) one.1.1.0 tested_there refl in
         let done : height_at c two.0 ≡ 0 = height_past 0 code (one.0 + 1) two.0 0 0 (omega (arith, far, low)) (omega (arith, last, high)) two.1.0
-            (statement_lifts c rs site inside rise s (free + 1) found n suits.1 fits) here in
+        (statement_lifts c rs site inside rise s (free + 1) found n suits.1 fits) here in
         let there : height_at c (two.0 + 1) ≡ 0 =
-            height_next two.0 (jump out) 0 0 (omega (arith, further, far, low)) (omega (arith, last, high)) two.1.1.0 done refl in
+        height_next two.0 (jump out) 0 0 (omega (arith, further, far, low)) (omega (arith, last, high)) two.1.1.0 done refl in
         also p one.0 q (quietly tests p one.0 one.1.0 (labels_quiet site free found labels))
         (past one.0 q (jump next) one.1.1.0 refl
         (also (one.0 + 1) two.0 q
-            (statement_calls s (free + 1) n found (one.0 + 1) two.0 (omega (arith, same, far)) suits.1 fits two.1.0 (omega (arith, far, low))
-                (omega (arith, last, high)) here)
+        (statement_calls s (free + 1) n found (one.0 + 1) two.0 (omega (arith, same, far)) suits.1 fits two.1.0 (omega (arith, far, low))
+        (omega (arith, last, high)) here)
         (past two.0 q (jump out) two.1.1.0 refl
-            (later_calls next (two.0 + 1) q (omega (arith, same, far, further)) two.1.1.1 (omega (arith, further, far, low)) high there))))
+        (later_calls next (two.0 + 1) q (omega (arith, same, far, further)) two.1.1.1 (omega (arith, further, far, low)) high there))))
 
     pub branches_calls : (bs : Branches) (free n place p q : ℕ) → place ≡ p → SuitsBranches rs site.names inside bs → BranchesFit bs n
         → Stand c p (branches_code site free bs place) q → start ≤ p → q < end
@@ -604,6 +604,6 @@ module _ (c : CodeLists) (k : ℕ) (rs : Routines) (site : Site) (inside : Bool)
     branches_calls no_branch free n place p q same suits fits stand low high at = quietly (no_branch_code (place + 3)) p q stand (refl, (refl, (refl, tt)))
     branches_calls (next_branch line b more) free n place p q same suits fits stand low high at =
         branch_calls b free n (branches_code site free more)
-            (λ place_too r to there later_stand later_low later_high later_at. branches_calls more free n place_too r to there suits.1 fits.1 later_stand
-                later_low later_high later_at)
-            place p q same suits.0 fits.0 stand low high at
+        (λ place_too r to there later_stand later_low later_high later_at. branches_calls more free n place_too r to there suits.1 fits.1 later_stand
+        later_low later_high later_at)
+        place p q same suits.0 fits.0 stand low high at

@@ -1,7 +1,6 @@
 -- The operand stack is empty before and behind each statement.
-use Rattle.std.proofs.Common.{◌≡◌, ℕ, ◌+◌, ◌-◌, ◌≤◌, Bool, true, false, Some, None, Option, List, [], ◌∷◌, ◌++◌, length, refl, sym, ◌∙◌, subst, arith}
+use Rattle.std.proofs.Common.{◌≡◌, ℕ, ◌+◌, ◌-◌, ◌≤◌, Bool, false, Some, None, Option, List, [], ◌∷◌, ◌++◌, length, refl, sym, ◌∙◌, subst, arith}
 use Rattle.std.proofs.lemmas.Bool.{false≢true}
-use Rattle.std.specs.List.{AllByRecursion}
 use Rattle.stack_code.specs.declared.table.Op.{Op}
 use Rattle.stack_code.specs.declared.table.Op.TheVariants as op
 use Rattle.stack_code.specs.declared.instr.Instr.{Instr}
@@ -19,7 +18,7 @@ use Rattle.pascal_code.specs.Instructions.{bare, push, tick, load_word, store_wo
 use Rattle.pascal_code.specs.Senses.{Site, constant_value}
 use Rattle.pascal_code.specs.Names.{store_code, store_element_code}
 use Rattle.pascal_code.specs.Expressions.{expr_code, index_code}
-use Rattle.pascal_code.specs.Statements.{load_own, store_own, jump, jump_if_false, call_statement_code, reach_op, before_op, step_op, counter_test, counter_step, label_test, more_label_tests, label_tests, label_tests_size, no_branch_code, statement_code, body_code, sequence_code, statements_code, branch_code, branches_code}
+use Rattle.pascal_code.specs.Statements.{load_own, store_own, jump, jump_if_false, call_statement_code, reach_op, before_op, counter_test, counter_step, label_test, more_label_tests, label_tests, label_tests_size, no_branch_code, statement_code, body_code, sequence_code, statements_code, branch_code, branches_code}
 use Rattle.code_law.specs.Suits.{Routines, IsScalar, SuitsExpr, SuitsStatement, SuitsBody, SuitsSequence, SuitsStatements, SuitsBranch, SuitsBranches}
 use Rattle.code_law.specs.Heights.{behind, Lift}
 
@@ -34,8 +33,14 @@ lifted_more c least most (i ∷ first) rest h m n one two = (one.0, one.1, one.2
 
 pub lifted_from : (c : CodeLists) (least less most : ℕ) (code : List Instr) (h n : ℕ) → less ≤ least → Lift c least most code h n → Lift c less most code h n
 lifted_from c least less most [] h n low lift = lift
-lifted_from c least less most (i ∷ code) h n low lift = (lift.0, omega (arith, low, lift.1), lift.2, lift.3, lifted_from c least less most code
-    (behind c i h) n low lift.4)
+lifted_from c least less most (i ∷ code) h n low lift = (
+  lift.0,
+  omega (arith, low, lift.1),
+  lift.2,
+  lift.3,
+  lifted_from c least less most code
+      (behind c i h) n low lift.4,
+)
 
 module _ (c : CodeLists) where
   -- words that are loaded and stored
@@ -51,9 +56,13 @@ module _ (c : CodeLists) where
   test_lifts site o w out two one none =
       let tested : 1 ≡ 2 - pops c o 0 + pushes c o 0 = omega (arith, two, one) in
       load_lift site.owner w 0 0 (load_own site (w + 1) ∷ bare o ∷ jump_if_false out ∷ []) (omega arith)
-      (load_lift site.owner (w + 1) 1 0 (bare o ∷ jump_if_false out ∷ []) (omega arith)
-      (omega (arith, two), omega arith, omega (arith, two, one), (λ e. absurd (false≢true (sym none ∙ e))),
-      subst (λ j. Lift c 0 1500 (jump_if_false out ∷ []) j 0) tested (omega arith, omega arith, omega arith, (λ e. refl), refl)))
+      (load_lift site.owner (w + 1) 1 0 (bare o ∷ jump_if_false out ∷ []) (omega arith) (
+        omega (arith, two),
+        omega arith,
+        omega (arith, two, one),
+        (λ e. absurd (false≢true (sym none ∙ e))),
+        subst (λ j. Lift c 0 1500 (jump_if_false out ∷ []) j 0) tested (omega arith, omega arith, omega arith, (λ e. refl), refl),
+      ))
 
   pub reach_lifts : (site : Site) (way : Direction) (w out : ℕ) → Level c (counter_test site (reach_op way) w out)
   reach_lifts site direction.To w out = test_lifts site op.Le w out refl refl refl
@@ -74,24 +83,33 @@ module _ (c : CodeLists) where
   -- the labels of a branch
   label_lifts : (site : Site) (w found : ℕ) (label : Constant) → Level c (label_test site w found label)
   label_lifts site w found label =
-      load_lift site.owner w 0 0 (push (constant_value site.names label) ∷ bare op.Ne ∷ jump_if_false found ∷ []) (omega arith)
-      (omega arith, omega arith, omega arith, (λ e. cc),
-          (omega arith, omega arith, omega arith, (λ e. cc), (omega arith, omega arith, omega arith, (λ e. refl), refl)))
+      load_lift site.owner w 0 0 (push (constant_value site.names label) ∷ bare op.Ne ∷ jump_if_false found ∷ []) (omega arith) (
+        omega arith,
+        omega arith,
+        omega arith,
+        (λ e. cc),
+        (omega arith, omega arith, omega arith, (λ e. cc), (omega arith, omega arith, omega arith, (λ e. refl), refl)),
+      )
 
   more_labels_lift : (site : Site) (w found : ℕ) (ls : List (ℕ × Constant)) → Level c (more_label_tests site w found ls)
   more_labels_lift site w found [] = refl
   more_labels_lift site w found (l ∷ more) =
       lifted_more c 0 1500 (label_test site w found l.1) (more_label_tests site w found more) 0 0 0 (label_lifts site w found l.1)
-          (more_labels_lift site w found more)
+      (more_labels_lift site w found more)
 
   pub labels_lift : (site : Site) (w found : ℕ) (labels : Labels) → Level c (label_tests site w found labels)
   labels_lift site w found labels =
       lifted_more c 0 1500 (label_test site w found labels.first) (more_label_tests site w found labels.rest) 0 0 0 (label_lifts site w found labels.first)
-          (more_labels_lift site w found labels.rest)
+      (more_labels_lift site w found labels.rest)
 
   pub no_branch_lifts : (out : ℕ) → Level c (no_branch_code out)
-  no_branch_lifts out = (omega arith, omega arith, omega arith, (λ e. cc),
-      (omega arith, omega arith, omega arith, (λ e. cc), (omega arith, omega arith, omega arith, (λ e. refl), refl)))
+  no_branch_lifts out = (
+    omega arith,
+    omega arith,
+    omega arith,
+    (λ e. cc),
+    (omega arith, omega arith, omega arith, (λ e. cc), (omega arith, omega arith, omega arith, (λ e. refl), refl)),
+  )
 
 -- the expressions, assignments and calls of a site lead from height to height
 pub record Rise (c : CodeLists) (rs : Routines) (site : Site) (inside : Bool) : Type 0 where
@@ -118,16 +136,16 @@ module _ (c : CodeLists) (rs : Routines) (site : Site) (inside : Bool) (rise : R
       → Level c (expr_code site e ++ jump_if_false out ∷ rest)
   tested_more e out rest suits fits lift =
       lifted_more c 0 1500 (expr_code site e) (jump_if_false out ∷ rest) 0 1 0
-          (lifted_from c 1 0 1500 (expr_code site e) 0 1 (omega arith) (rise.expr e suits fits))
-          (omega arith, omega arith, omega arith, (λ e. refl), lift)
+      (lifted_from c 1 0 1500 (expr_code site e) 0 1 (omega arith) (rise.expr e suits fits))
+      (omega arith, omega arith, omega arith, (λ e. refl), lift)
 
   -- a value that is kept in a word
   kept_more : (e : Expr) (w : ℕ) (rest : List Instr) → SuitsExpr rs site.names e → ExprFits e most_levels → Level c rest
       → Level c (expr_code site e ++ store_own site w ∷ rest)
   kept_more e w rest suits fits lift =
       lifted_more c 0 1500 (expr_code site e) (store_own site w ∷ rest) 0 1 0
-          (lifted_from c 1 0 1500 (expr_code site e) 0 1 (omega arith) (rise.expr e suits fits))
-          (store_lift c site.owner w 0 rest lift)
+      (lifted_from c 1 0 1500 (expr_code site e) 0 1 (omega arith) (rise.expr e suits fits))
+      (store_lift c site.owner w 0 rest lift)
 
   mutual
     pub statement_lifts : (s : Statement) (free place n : ℕ) → SuitsStatement rs site.names inside s → StatementFits s n
@@ -147,25 +165,60 @@ module _ (c : CodeLists) (rs : Routines) (site : Site) (inside : Bool) (rise : R
         let others = statement_code site free t otherwise in
         let out = otherwise + length others in
         ticks_more line _ (tested_more e _ (code ++ jump out ∷ others) suits.0 fits.1
-            (lifted_more c 0 1500 code (jump out ∷ others) 0 0 0 (statement_lifts s free first (n - 1) suits.1 fits.2)
-            (jumps_more out others (statement_lifts t free otherwise (n - 1) suits.2 fits.4))))
+        (lifted_more c 0 1500 code (jump out ∷ others) 0 0 0 (statement_lifts s free first (n - 1) suits.1 fits.2)
+        (jumps_more out others (statement_lifts t free otherwise (n - 1) suits.2 fits.4))))
     statement_lifts (while_do line e do_line s) free place n suits fits =
         let first = place + 1 + length (expr_code site e) + 2 in
-        let code = statement_code site free s first in
-        (omega arith, omega arith, omega arith, (λ e. cc),
-            (omega arith, omega arith, omega arith, (λ e. cc), tested_more e (first + length code + 1) (code ++ jump (place + 1) ∷ []) suits.0 fits.1
-            (lifted_more c 0 1500 code (jump (place + 1) ∷ []) 0 0 0 (statement_lifts s free first (n - 1) suits.1 fits.2) (jumps_more (place + 1) [] refl))))
+        let code = statement_code site free s first in (
+          omega arith,
+          omega arith,
+          omega arith,
+          (λ e. cc),
+          (
+            omega arith,
+            omega arith,
+            omega arith,
+            (λ e. cc),
+            tested_more e (first + length code + 1) (code ++ jump (place + 1) ∷ []) suits.0 fits.1
+                (lifted_more c 0 1500 code (jump (place + 1) ∷ []) 0 0 0 (statement_lifts s free first (n - 1) suits.1 fits.2) (jumps_more (place + 1) [] refl)),
+          ),
+        )
     statement_lifts (repeat_until line s until_line e) free place n suits fits =
         let test = expr_code site e in
         let first = place + 2 + length test + 3 in
         let code = sequence_code site free s first in
-        let out = first + length code + 1 in
-        (omega arith, omega arith, omega arith, (λ e. cc),
-            (omega arith, omega arith, omega arith, (λ e. refl), (omega arith, omega arith, omega arith, (λ e. cc),
-        (lifted_more c 0 1500 test (bare op.Not ∷ (jump_if_false out ∷ (code ++ jump (place + 2) ∷ []))) 0 1 0
-            (lifted_from c 1 0 1500 test 0 1 (omega arith) (rise.expr e suits.0 fits.2))
-            (omega arith, omega arith, omega arith, (λ e. cc), (omega arith, omega arith, omega arith, (λ e. refl),
-            lifted_more c 0 1500 code (jump (place + 2) ∷ []) 0 0 0 (sequence_lifts s free first (n - 1) suits.1 fits.1) (jumps_more (place + 2) [] refl)))))))
+        let out = first + length code + 1 in (
+          omega arith,
+          omega arith,
+          omega arith,
+          (λ e. cc),
+          (
+            omega arith,
+            omega arith,
+            omega arith,
+            (λ e. refl),
+            (
+              omega arith,
+              omega arith,
+              omega arith,
+              (λ e. cc),
+              (lifted_more c 0 1500 test (bare op.Not ∷ (jump_if_false out ∷ (code ++ jump (place + 2) ∷ []))) 0 1 0
+                  (lifted_from c 1 0 1500 test 0 1 (omega arith) (rise.expr e suits.0 fits.2)) (
+                    omega arith,
+                    omega arith,
+                    omega arith,
+                    (λ e. cc),
+                    (
+                      omega arith,
+                      omega arith,
+                      omega arith,
+                      (λ e. refl),
+                      lifted_more c 0 1500 code (jump (place + 2) ∷ []) 0 0 0 (sequence_lifts s free first (n - 1) suits.1 fits.1) (jumps_more (place + 2) [] refl),
+                    ),
+                  )),
+            ),
+          ),
+        )
     statement_lifts (for_do line x becomes from way way_line to do_line s) free place n suits fits =
         let lower = expr_code site from in
         let upper = expr_code site to in
@@ -177,16 +230,21 @@ module _ (c : CodeLists) (rs : Routines) (site : Site) (inside : Bool) (rise : R
         let again = counter_test site (before_op way) free out ++ counter_step site way free turn in
         ticks_more line _ (kept_more from free _ suits.1 fits.1 (kept_more to (free + 1) _ suits.2 fits.2
         (lifted_more c 0 1500 (counter_test site (reach_op way) free out) (tick line ∷ (load_own site free ∷ (control ++ (code ++ again)))) 0 0 0
-            (reach_lifts c site way free out)
-        (omega arith, omega arith, omega arith, (λ e. cc), load_lift c site.owner free 0 0 (control ++ (code ++ again)) (omega arith)
-        (lifted_more c 0 1500 control (code ++ again) 1 0 0 (rise.control x suits.0)
-        (lifted_more c 0 1500 code again 0 0 0 (statement_lifts s (free + 2) first (n - 1) suits.3 fits.3)
-        (lifted_more c 0 1500 (counter_test site (before_op way) free out) (counter_step site way free turn) 0 0 0 (before_lifts c site way free out)
-            (step_lifts c site way free turn))))))))
+        (reach_lifts c site way free out) (
+          omega arith,
+          omega arith,
+          omega arith,
+          (λ e. cc),
+          load_lift c site.owner free 0 0 (control ++ (code ++ again)) (omega arith)
+              (lifted_more c 0 1500 control (code ++ again) 1 0 0 (rise.control x suits.0)
+              (lifted_more c 0 1500 code again 0 0 0 (statement_lifts s (free + 2) first (n - 1) suits.3 fits.3)
+              (lifted_more c 0 1500 (counter_test site (before_op way) free out) (counter_step site way free turn) 0 0 0 (before_lifts c site way free out)
+              (step_lifts c site way free turn)))),
+        ))))
     statement_lifts (case_of line e of_line b more end_line) free place n suits fits =
         let first = place + length (expr_code site e) + 2 in
         ticks_more line _ (kept_more e free _ suits.0 fits.1
-            (branch_lifts b free (branches_code site free more) first (n - 1) suits.1 fits.2 (λ m. branches_lift more free m (n - 1) suits.2 fits.3)))
+        (branch_lifts b free (branches_code site free more) first (n - 1) suits.1 fits.2 (λ m. branches_lift more free m (n - 1) suits.2 fits.3)))
 
     pub body_lifts : (b : Body) (free place n : ℕ) → SuitsBody rs site.names inside b → BodyFits b n → Level c (body_code site free b place)
     body_lifts (body begin s end) free place n suits fits = sequence_lifts s free place n suits fits
@@ -195,7 +253,7 @@ module _ (c : CodeLists) (rs : Routines) (site : Site) (inside : Bool) (rise : R
     sequence_lifts (sequence s more) free place n suits fits =
         let code = statement_code site free s place in
         lifted_more c 0 1500 code (statements_code site free more (place + length code)) 0 0 0 (statement_lifts s free place n suits.0 fits.0)
-            (statements_lift more free (place + length code) n suits.1 fits.1)
+        (statements_lift more free (place + length code) n suits.1 fits.1)
 
     pub statements_lift : (ss : Statements) (free place n : ℕ) → SuitsStatements rs site.names inside ss → StatementsFit ss n
         → Level c (statements_code site free ss place)
@@ -203,7 +261,7 @@ module _ (c : CodeLists) (rs : Routines) (site : Site) (inside : Bool) (rise : R
     statements_lift (next_statement line s more) free place n suits fits =
         let code = statement_code site free s place in
         lifted_more c 0 1500 code (statements_code site free more (place + length code)) 0 0 0 (statement_lifts s free place n suits.0 fits.0)
-            (statements_lift more free (place + length code) n suits.1 fits.1)
+        (statements_lift more free (place + length code) n suits.1 fits.1)
 
     pub branch_lifts : (b : Branch) (free : ℕ) (later : ℕ → List Instr) (place n : ℕ) → SuitsBranch rs site.names inside b → BranchFits b n
         → ((m : ℕ) → Level c (later m))
@@ -216,7 +274,7 @@ module _ (c : CodeLists) (rs : Routines) (site : Site) (inside : Bool) (rise : R
         let out = next + length others in
         lifted_more c 0 1500 (label_tests site free found labels) (jump next ∷ (code ++ (jump out ∷ others))) 0 0 0 (labels_lift c site free found labels)
         (jumps_more next _ (lifted_more c 0 1500 code (jump out ∷ others) 0 0 0 (statement_lifts s (free + 1) found n suits.1 fits)
-            (jumps_more out others (lift next))))
+        (jumps_more out others (lift next))))
 
     pub branches_lift : (bs : Branches) (free place n : ℕ) → SuitsBranches rs site.names inside bs → BranchesFit bs n
         → Level c (branches_code site free bs place)

@@ -1,6 +1,6 @@
 -- At each place of a statement's code operands fit, and jumps lead where nothing is on the stack.
 use Rattle.std.proofs.Common.{◌≡◌, ℕ, ◌+◌, ◌-◌, ◌*◌, ℤ, pos, negsuc, ◌<◌, ◌≤◌, Bool, true, false, Some, None, Option, List, [], ◌∷◌, ◌++◌, length, ◌⊎◌, inl, inr, refl, sym, ◌∙◌, ap, subst, arith}
-use Rattle.std.specs.Prelude.{slice_get, max}
+use Rattle.std.specs.Prelude.{slice_get}
 use Rattle.std.specs.List.{AllByRecursion}
 use Rattle.std.proofs.lemmas.List.{length-append}
 use Rattle.stack_code.specs.declared.table.Op.{Op}
@@ -14,7 +14,7 @@ use Rattle.pascal_tree.specs.declared.statement.Direction.TheVariants as directi
 use Rattle.pascal_tree.specs.Word.{NameAt}
 use Rattle.pascal_tree.specs.Expression.{Expr, Index, Arguments}
 use Rattle.pascal_tree.specs.Statement.{Labels, Statement, empty, assign, call, compound, if_then, if_else, while_do, repeat_until, for_do, case_of, Body, body, Sequence, sequence, Statements, no_statement, next_statement, Branch, branch, Branches, no_branch, next_branch}
-use Rattle.pascal_tree.specs.Limits.{most_levels, ExprFits, PlaceFits, CallFits, StatementFits, BodyFits, SequenceFits, StatementsFit, BranchFits, BranchesFit}
+use Rattle.pascal_tree.specs.Limits.{most_levels, ExprFits, StatementFits, BodyFits, SequenceFits, StatementsFit, BranchFits, BranchesFit}
 use Rattle.pascal_mean.specs.Means.{Owner, OfProgram, OfRoutine}
 use Rattle.pascal_code.specs.Instructions.{bare, push, tick, test_index, load_word, store_word}
 use Rattle.pascal_code.specs.Senses.{Site, constant_value}
@@ -25,8 +25,8 @@ use Rattle.pascal_code.specs.Code.{nested_words, nested_in_body, nested_in_seque
 use Rattle.code_law.specs.Suits.{Routines, IsScalar, SuitsExpr, SuitsStatement, SuitsBody, SuitsSequence, SuitsStatements, SuitsBranch, SuitsBranches}
 use Rattle.code_law.specs.Heights.{behind, Lift, IsPlain}
 use Rattle.code_law.proofs.Standing.{Stand, parted, stands_to}
-use Rattle.code_law.proofs.StatementLifts.{Level, Rise, lifted_from, lifted_more, reach_lifts, before_lifts, step_lifts, labels_lift, statement_lifts, body_lifts, sequence_lifts, statements_lift, branch_lifts, branches_lift}
-use Rattle.code_law.proofs.Fine.{Opens, ATick, AnEnd, AKeptWord, IsBehindJump, Lands, IsFine, AreFine, found_at, height_step, height_behind, fine_more, fine_none, fine_one, fine_plain, fine_jump, fine_branch}
+use Rattle.code_law.proofs.StatementLifts.{Level, Rise, lifted_more, reach_lifts, before_lifts, step_lifts, labels_lift, statement_lifts, sequence_lifts, branches_lift}
+use Rattle.code_law.proofs.Fine.{Opens, ATick, AnEnd, AKeptWord, IsBehindJump, Lands, AreFine, found_at, height_step, height_behind, fine_more, fine_none, fine_one, fine_plain, fine_jump, fine_branch}
 
 -- the instructions of a site's expressions, assignments and calls, and the words that FOR and CASE keep
 pub record Plain (c : CodeLists) (k : ℕ) (rs : Routines) (site : Site) (inside : Bool) (own : ℕ) : Type 0 where
@@ -92,7 +92,7 @@ module _ (c : CodeLists) (k : ℕ) (rs : Routines) (site : Site) (inside : Bool)
       → Fine p (p + 1)
   branch_fine p a q same low high low_to high_to found way lands =
       fine_branch c k site base start end within some p q low high low_to high_to
-          (subst (λ (n : ℕ). slice_get c.instrs p ≡ Some (jump_if_false n)) same found) way lands
+      (subst (λ (n : ℕ). slice_get c.instrs p ≡ Some (jump_if_false n)) same found) way lands
 
   -- what stands at a place that is found
   opens_end : (p : ℕ) (i : Instr) → slice_get c.instrs p ≡ Some i → leaves_nothing i.op ≡ true → Opens site base (instr_at c p)
@@ -144,11 +144,11 @@ module _ (c : CodeLists) (k : ℕ) (rs : Routines) (site : Site) (inside : Bool)
       subst (Fine p) far
       (also p (p + 1) (p + 1 + 1 + 1 + 1) (plain_one p (load_own site w) low (omega (arith, far, high, ends)) stand.0 (plain.load w (omega (arith, low_words))))
       (also (p + 1) (p + 1 + 1) (p + 1 + 1 + 1 + 1) (plain_one (p + 1) (load_own site (w + 1)) (omega (arith, low)) (omega (arith, far, high, ends)) stand.1.0
-          (plain.load (w + 1) (omega (arith, low_words))))
+      (plain.load (w + 1) (omega (arith, low_words))))
       (also (p + 1 + 1) (p + 1 + 1 + 1) (p + 1 + 1 + 1 + 1)
-          (fine_one c k site base start end within some (p + 1 + 1) (bare o) stand.1.1.0 is.0 (is.1 (p + 1 + 1)))
+      (fine_one c k site base start end within some (p + 1 + 1) (bare o) stand.1.1.0 is.0 (is.1 (p + 1 + 1)))
       (branch_fine (p + 1 + 1 + 1) a q same (omega (arith, low)) (omega (arith, far, high, ends)) (omega (arith, low, far, high)) ends stand.1.1.1.0
-          (inl (omega (arith, far, high))) lands))))
+      (inl (omega (arith, far, high))) lands))))
 
   step_fine : (way : Direction) (w a turn p q : ℕ) → w + 2 ≤ own → a ≡ turn → Stand c p (counter_step site way w a) q → start ≤ turn → turn < p → q < end
       → is_tick (instr_at c turn).op ≡ true → Lands c site base turn → Fine p q
@@ -156,14 +156,14 @@ module _ (c : CodeLists) (k : ℕ) (rs : Routines) (site : Site) (inside : Bool)
       let far : p + 1 + 1 + 1 + 1 ≡ q = stand.1.1.1.1 in
       subst (Fine p) far
       (also p (p + 1) (p + 1 + 1 + 1 + 1) (plain_one p (load_own site w) (omega (arith, low, back)) (omega (arith, far, ends)) stand.0
-          (plain.load w (omega (arith, low_words))))
+      (plain.load w (omega (arith, low_words))))
       (also (p + 1) (p + 1 + 1) (p + 1 + 1 + 1 + 1) (fine_one c k site base start end within some (p + 1) (bare (step_op way)) stand.1.0 (step_is way).0
-          ((step_is way).1 (p + 1)))
+      ((step_is way).1 (p + 1)))
       (also (p + 1 + 1) (p + 1 + 1 + 1) (p + 1 + 1 + 1 + 1)
-          (plain_one (p + 1 + 1) (store_own site w) (omega (arith, low, back)) (omega (arith, far, ends)) stand.1.1.0
-          (plain.store w (omega (arith, low_words))))
+      (plain_one (p + 1 + 1) (store_own site w) (omega (arith, low, back)) (omega (arith, far, ends)) stand.1.1.0
+      (plain.store w (omega (arith, low_words))))
       (jump_fine (p + 1 + 1 + 1) a turn same (omega (arith, low, back)) (omega (arith, far, ends)) low (omega (arith, back, far, ends)) stand.1.1.1.0
-          (inr ticks) lands))))
+      (inr ticks) lands))))
 
   -- ---- The labels of a branch
   label_fine : (w a : ℕ) (label : Constant) (p m q : ℕ) → w < own → a ≡ q → Stand c p (label_test site w a label) m → start ≤ p → m ≤ q → q < end
@@ -173,10 +173,10 @@ module _ (c : CodeLists) (k : ℕ) (rs : Routines) (site : Site) (inside : Bool)
       subst (Fine p) far
       (also p (p + 1) (p + 1 + 1 + 1 + 1) (plain_one p (load_own site w) low (omega (arith, far, high, ends)) stand.0 (plain.load w low_word))
       (also (p + 1) (p + 1 + 1) (p + 1 + 1 + 1 + 1) (fine_one c k site base start end within some (p + 1)
-          (push (constant_value site.names label)) stand.1.0 refl refl)
+      (push (constant_value site.names label)) stand.1.0 refl refl)
       (also (p + 1 + 1) (p + 1 + 1 + 1) (p + 1 + 1 + 1 + 1) (fine_one c k site base start end within some (p + 1 + 1) (bare op.Ne) stand.1.1.0 refl refl)
       (branch_fine (p + 1 + 1 + 1) a q same (omega (arith, low)) (omega (arith, far, high, ends)) (omega (arith, low, far, high)) ends stand.1.1.1.0
-          (inl (omega (arith, far, high))) lands))))
+      (inl (omega (arith, far, high))) lands))))
 
   more_labels_fine : (w a : ℕ) (ls : List (ℕ × Constant)) (p m q : ℕ) → w < own → a ≡ q → Stand c p (more_label_tests site w a ls) m → start ≤ p → m ≤ q
       → q < end → Lands c site base q → Fine p m
@@ -215,7 +215,7 @@ module _ (c : CodeLists) (k : ℕ) (rs : Routines) (site : Site) (inside : Bool)
   again_lifts : (way : Direction) (w out turn : ℕ) → Level c (counter_test site (before_op way) w out ++ counter_step site way w turn)
   again_lifts way w out turn =
       lifted_more c 0 1500 (counter_test site (before_op way) w out) (counter_step site way w turn) 0 0 0 (before_lifts c site way w out)
-          (step_lifts c site way w turn)
+      (step_lifts c site way w turn)
 
   labels_size : (labels : Labels) (found w : ℕ) → length (label_tests site w found labels) ≡ label_tests_size labels
   labels_size labels found w = first_and_more (constant_value site.names labels.first) labels.rest
@@ -273,15 +273,15 @@ module _ (c : CodeLists) (k : ℕ) (rs : Routines) (site : Site) (inside : Bool)
       let far : p + 1 + 1 + 1 ≡ q = stand.1.1.1 in
       let one : height_at c (p + 1) ≡ 1 = height_next p (push (negsuc 0)) 0 1 low (omega (arith, far, ends)) stand.0 at refl in
       let two : height_at c (p + 1 + 1) ≡ 1 = height_next (p + 1) (test_index (record { low = pos 0; high = pos 0 })) 1 1 (omega (arith, low))
-          (omega (arith, far, ends)) stand.1.0 one refl in
+      (omega (arith, far, ends)) stand.1.0 one refl in
       let three : height_at c (p + 1 + 1 + 1) ≡ 0 = height_next (p + 1 + 1) (jump_if_false a) 1 0 (omega (arith, low))
-          (omega (arith, far, ends)) stand.1.1.0 two refl in
+      (omega (arith, far, ends)) stand.1.1.0 two refl in
       subst (Fine p) far
       (also p (p + 1) (p + 1 + 1 + 1) (fine_one c k site base start end within some p (push (negsuc 0)) stand.0 refl refl)
       (also (p + 1) (p + 1 + 1) (p + 1 + 1 + 1) (fine_one c k site base start end within some (p + 1)
-          (test_index (record { low = pos 0; high = pos 0 })) stand.1.0 refl refl)
+      (test_index (record { low = pos 0; high = pos 0 })) stand.1.0 refl refl)
       (branch_fine (p + 1 + 1) a q (omega (arith, same, far)) (omega (arith, low)) (omega (arith, far, ends)) (omega (arith, low, far)) ends stand.1.1.0
-          (inl (omega (arith, far)))
+      (inl (omega (arith, far)))
       (record { height = subst (λ (m : ℕ). height_at c m ≡ 0) far three; opener = inl opens }))))
 
   -- The turns of a FOR: its control variable is set, its statement done, and the counter tested.
@@ -292,7 +292,7 @@ module _ (c : CodeLists) (k : ℕ) (rs : Routines) (site : Site) (inside : Bool)
   turns_fine : (way : Direction) (line w out turn begin q : ℕ) (control code : List Instr) → AllByRecursion (IsPlain c k) control → Lift c 0 1500 control 1 0
       → Level c code → base ≤ w → w + 2 ≤ own
       → Stand c begin (tick line ∷ (load_own site w ∷ (control ++ (code ++ (counter_test site (before_op way) w out ++ counter_step site way w turn))))) q
-          → turn ≡ begin → out ≡ q → start ≤ begin → q < end
+      → turn ≡ begin → out ≡ q → start ≤ begin → q < end
       → height_at c begin ≡ 0 → Opens site base (instr_at c q)
       → ((m r : ℕ) → begin + 1 + 1 + length control ≡ m → Stand c m code r → r < end → height_at c m ≡ 0 → Opens site base (instr_at c r) → Fine m r)
       → Turns begin q
@@ -313,7 +313,7 @@ module _ (c : CodeLists) (k : ℕ) (rs : Routines) (site : Site) (inside : Bool)
       let h5 : height_at c (begin + 1) ≡ 0 = height_next begin (tick line) 0 0 low (omega (arith, first_high)) stand.0 at refl in
       let h6 : height_at c (begin + 1 + 1) ≡ 1 = loaded (begin + 1) w (omega (arith, low)) first_high stand.1.0 h5 in
       let h7 : height_at c three.0 ≡ 0 = height_behind c k site base start end within some 0 1500 control (begin + 1 + 1) three.0 1 0
-          (omega (arith, low)) three_high three.1.0 rise_control h6 in
+      (omega (arith, low)) three_high three.1.0 rise_control h6 in
       let h8 : height_at c four.0 ≡ 0 = level_behind code three.0 four.0 three_low four_high four.1.0 level h7 in
       let ended : height_at c q ≡ 0 = level_behind again four.0 q four_low high four.1.1 (again_lifts way w out turn) h8 in
       let leaves : Lands c site base q = record { height = ended; opener = inl opens } in
@@ -321,12 +321,12 @@ module _ (c : CodeLists) (k : ℕ) (rs : Routines) (site : Site) (inside : Bool)
       record {
         height = ended;
         fine = also begin (begin + 1) q (tick_fine begin line stand.0)
-        (also (begin + 1) (begin + 1 + 1) q (plain_one (begin + 1) (load_own site w) (omega (arith, low)) (omega (arith, first_high)) stand.1.0
+            (also (begin + 1) (begin + 1 + 1) q (plain_one (begin + 1) (load_own site w) (omega (arith, low)) (omega (arith, first_high)) stand.1.0
             (plain.load w (omega (arith, room))))
-        (also (begin + 1 + 1) three.0 q (plain_fine control (begin + 1 + 1) three.0 (omega (arith, low)) (omega (arith, three_high)) three.1.0 all)
-        (also three.0 four.0 q (inner three.0 four.0 (sym m4) four.1.0 four_high h7 (AKeptWord w kept (found_at c four.0 (load_own site w) five.1.0.0)))
-        (also four.0 five.0 q (test_fine (before_op way) w out four.0 five.0 q (before_is way) room out_is five.1.0 four_low (omega (arith, far)) high leaves)
-        (step_fine way w turn begin five.0 q room turn_is five.1.1 low (omega (arith, m4, m5, m6)) high ticks
+            (also (begin + 1 + 1) three.0 q (plain_fine control (begin + 1 + 1) three.0 (omega (arith, low)) (omega (arith, three_high)) three.1.0 all)
+            (also three.0 four.0 q (inner three.0 four.0 (sym m4) four.1.0 four_high h7 (AKeptWord w kept (found_at c four.0 (load_own site w) five.1.0.0)))
+            (also four.0 five.0 q (test_fine (before_op way) w out four.0 five.0 q (before_is way) room out_is five.1.0 four_low (omega (arith, far)) high leaves)
+            (step_fine way w turn begin five.0 q room turn_is five.1.1 low (omega (arith, m4, m5, m6)) high ticks
             (record { height = at; opener = inl (ATick ticks) }))))));
       }
 
@@ -338,14 +338,14 @@ module _ (c : CodeLists) (k : ℕ) (rs : Routines) (site : Site) (inside : Bool)
     statement_fine (assign x None becomes e) free place p q n kept room same suits fits stand low high at opens =
         let code = expr_code site e ++ store_code site.result (site.names x.letters) in
         also p (p + 1) q (tick_fine p x.line stand.0) (plain_fine code (p + 1) q (omega (arith, low)) (omega (arith, high)) stand.1
-            (plain.assign_name x becomes e suits))
+        (plain.assign_name x becomes e suits))
     statement_fine (assign x (Some i) becomes e) free place p q n kept room same suits fits stand low high at opens =
         let code = index_code site (site.names x.letters) i ++ (expr_code site e ++ store_element_code (site.names x.letters)) in
         also p (p + 1) q (tick_fine p x.line stand.0) (plain_fine code (p + 1) q (omega (arith, low)) (omega (arith, high)) stand.1
-            (plain.assign_element x i becomes e suits))
+        (plain.assign_element x i becomes e suits))
     statement_fine (call x a) free place p q n kept room same suits fits stand low high at opens =
         also p (p + 1) q (tick_fine p x.line stand.0)
-            (plain_fine (call_statement_code site x a) (p + 1) q (omega (arith, low)) (omega (arith, high)) stand.1 (plain.calls x a suits))
+        (plain_fine (call_statement_code site x a) (p + 1) q (omega (arith, low)) (omega (arith, high)) stand.1 (plain.calls x a suits))
     statement_fine (compound b) free place p q n kept room same suits fits stand low high at opens =
         body_fine b free place p q (n - 1) kept room same suits fits.1 stand low high at opens
     statement_fine (if_then line e then_line s) free place p q n kept room same suits fits stand low high at opens =
@@ -357,16 +357,16 @@ module _ (c : CodeLists) (k : ℕ) (rs : Routines) (site : Site) (inside : Bool)
         let far : q ≡ one.0 + 1 + length code = stands_to c (one.0 + 1) code q one.1.1.1 in
         let t = tested e p one.0 line suits.0 fits.1 stand.0 one.1.0 low (omega (arith, far, high)) at in
         let begun : height_at c (one.0 + 1) ≡ 0 = height_next one.0 (jump_if_false out) 1 0 (omega (arith, low, t.far))
-            (omega (arith, far, high)) one.1.1.0 t.height refl in
+        (omega (arith, far, high)) one.1.1.0 t.height refl in
         let ended : height_at c q ≡ 0 = level_behind code (one.0 + 1) q (omega (arith, low, t.far)) high one.1.1.1
-            (statement_lifts c rs site inside rise s free first (n - 1) suits.1 fits.2) begun in
+        (statement_lifts c rs site inside rise s free first (n - 1) suits.1 fits.2) begun in
         also p one.0 q t.fine
         (also one.0 (one.0 + 1) q
-            (branch_fine one.0 out q (omega (arith, same, t.far, far)) (omega (arith, low, t.far)) (omega (arith, far, high))
-                (omega (arith, low, t.far, far)) high one.1.1.0 (inl (omega (arith, far)))
-            (record { height = ended; opener = inl opens }))
+        (branch_fine one.0 out q (omega (arith, same, t.far, far)) (omega (arith, low, t.far)) (omega (arith, far, high))
+        (omega (arith, low, t.far, far)) high one.1.1.0 (inl (omega (arith, far)))
+        (record { height = ended; opener = inl opens }))
         (statement_fine s free first (one.0 + 1) q (n - 1) kept room (omega (arith, same, t.far)) suits.1 fits.2 one.1.1.1
-            (omega (arith, low, t.far)) high begun opens))
+        (omega (arith, low, t.far)) high begun opens))
     statement_fine (if_else line e then_line s else_line u) free place p q n kept room same suits fits stand low high at opens =
         let test = expr_code site e in
         let first = place + length test + 2 in
@@ -380,28 +380,28 @@ module _ (c : CodeLists) (k : ℕ) (rs : Routines) (site : Site) (inside : Bool)
         let far : q ≡ two.0 + 1 + length others = stands_to c (two.0 + 1) others q two.1.1.1 in
         let t = tested e p one.0 line suits.0 fits.1 stand.0 one.1.0 low (omega (arith, m, far, high)) at in
         let begun : height_at c (one.0 + 1) ≡ 0 = height_next one.0 (jump_if_false otherwise) 1 0 (omega (arith, low, t.far))
-            (omega (arith, m, far, high)) one.1.1.0 t.height refl in
+        (omega (arith, m, far, high)) one.1.1.0 t.height refl in
         let mid : height_at c two.0 ≡ 0 = level_behind code (one.0 + 1) two.0 (omega (arith, low, t.far)) (omega (arith, far, high)) two.1.0
-            (statement_lifts c rs site inside rise s free first (n - 1) suits.1 fits.2) begun in
+        (statement_lifts c rs site inside rise s free first (n - 1) suits.1 fits.2) begun in
         let beside : height_at c (two.0 + 1) ≡ 0 = height_next two.0 (jump out) 0 0 (omega (arith, low, t.far, m))
-            (omega (arith, far, high)) two.1.1.0 mid refl in
+        (omega (arith, far, high)) two.1.1.0 mid refl in
         let ended : height_at c q ≡ 0 = level_behind others (two.0 + 1) q (omega (arith, low, t.far, m)) high two.1.1.1
-            (statement_lifts c rs site inside rise u free otherwise (n - 1) suits.2 fits.4) beside in
+        (statement_lifts c rs site inside rise u free otherwise (n - 1) suits.2 fits.4) beside in
         also p one.0 q t.fine
         (also one.0 (one.0 + 1) q
-            (branch_fine one.0 otherwise (two.0 + 1) (omega (arith, same, t.far, m)) (omega (arith, low, t.far)) (omega (arith, m, far, high))
-                (omega (arith, low, t.far, m)) (omega (arith, far, high)) one.1.1.0
-                (inl (omega (arith, m))) (record { height = beside; opener = inr (behind_jump two.0 (jump out) two.1.1.0 refl) }))
+        (branch_fine one.0 otherwise (two.0 + 1) (omega (arith, same, t.far, m)) (omega (arith, low, t.far)) (omega (arith, m, far, high))
+        (omega (arith, low, t.far, m)) (omega (arith, far, high)) one.1.1.0
+        (inl (omega (arith, m))) (record { height = beside; opener = inr (behind_jump two.0 (jump out) two.1.1.0 refl) }))
         (also (one.0 + 1) two.0 q
-            (statement_fine s free first (one.0 + 1) two.0 (n - 1) kept (omega (arith, room)) (omega (arith, same, t.far)) suits.1 fits.2 two.1.0
-                (omega (arith, low, t.far)) (omega (arith, far, high)) begun
-                (opens_end two.0 (jump out) two.1.1.0 refl))
+        (statement_fine s free first (one.0 + 1) two.0 (n - 1) kept (omega (arith, room)) (omega (arith, same, t.far)) suits.1 fits.2 two.1.0
+        (omega (arith, low, t.far)) (omega (arith, far, high)) begun
+        (opens_end two.0 (jump out) two.1.1.0 refl))
         (also two.0 (two.0 + 1) q
-            (jump_fine two.0 out q (omega (arith, same, t.far, m, far)) (omega (arith, low, t.far, m)) (omega (arith, far, high))
-                (omega (arith, low, t.far, m, far)) high two.1.1.0 (inl (omega (arith, far)))
-                (record { height = ended; opener = inl opens }))
+        (jump_fine two.0 out q (omega (arith, same, t.far, m, far)) (omega (arith, low, t.far, m)) (omega (arith, far, high))
+        (omega (arith, low, t.far, m, far)) high two.1.1.0 (inl (omega (arith, far)))
+        (record { height = ended; opener = inl opens }))
         (statement_fine u free otherwise (two.0 + 1) q (n - 1) kept (omega (arith, room)) (omega (arith, same, t.far, m)) suits.2 fits.4 two.1.1.1
-            (omega (arith, low, t.far, m)) high beside opens))))
+        (omega (arith, low, t.far, m)) high beside opens))))
     statement_fine (while_do line e do_line s) free place p q n kept room same suits fits stand low high at opens =
         let test = expr_code site e in
         let first = place + 1 + length test + 2 in
@@ -416,25 +416,25 @@ module _ (c : CodeLists) (k : ℕ) (rs : Routines) (site : Site) (inside : Bool)
         let turned : height_at c top ≡ 0 = height_next p (tick line) 0 0 low (omega (arith, near, m, far, high)) stand.0 at refl in
         let t = tested e top one.0 line suits.0 fits.1 stand.1.0 one.1.0 (omega (arith, low)) (omega (arith, m, far, high)) turned in
         let begun : height_at c (one.0 + 1) ≡ 0 = height_next one.0 (jump_if_false out) 1 0 (omega (arith, low, near))
-            (omega (arith, m, far, high)) one.1.1.0 t.height refl in
+        (omega (arith, m, far, high)) one.1.1.0 t.height refl in
         let mid : height_at c two.0 ≡ 0 = level_behind code (one.0 + 1) two.0 (omega (arith, low, near)) (omega (arith, far, high)) two.1.0
-            (statement_lifts c rs site inside rise s free first (n - 1) suits.1 fits.2) begun in
+        (statement_lifts c rs site inside rise s free first (n - 1) suits.1 fits.2) begun in
         let ended : height_at c q ≡ 0 = subst (λ (x : ℕ). height_at c x ≡ 0) far
-            (height_next two.0 (jump (place + 1)) 0 0 (omega (arith, low, near, m)) (omega (arith, far, high)) two.1.1.0 mid refl) in
+        (height_next two.0 (jump (place + 1)) 0 0 (omega (arith, low, near, m)) (omega (arith, far, high)) two.1.1.0 mid refl) in
         also p top q (tick_fine p line stand.0)
         (also top one.0 q t.fine
         (also one.0 (one.0 + 1) q
-            (branch_fine one.0 out q (omega (arith, same, near, m, far)) (omega (arith, low, near)) (omega (arith, m, far, high))
-                (omega (arith, low, near, m, far)) high one.1.1.0 (inl (omega (arith, m, far)))
-                (record { height = ended; opener = inl opens }))
+        (branch_fine one.0 out q (omega (arith, same, near, m, far)) (omega (arith, low, near)) (omega (arith, m, far, high))
+        (omega (arith, low, near, m, far)) high one.1.1.0 (inl (omega (arith, m, far)))
+        (record { height = ended; opener = inl opens }))
         (also (one.0 + 1) two.0 q
-            (statement_fine s free first (one.0 + 1) two.0 (n - 1) kept room (omega (arith, same, near)) suits.1 fits.2 two.1.0 (omega (arith, low, near))
-                (omega (arith, far, high)) begun
-                (opens_end two.0 (jump (place + 1)) two.1.1.0 refl))
+        (statement_fine s free first (one.0 + 1) two.0 (n - 1) kept room (omega (arith, same, near)) suits.1 fits.2 two.1.0 (omega (arith, low, near))
+        (omega (arith, far, high)) begun
+        (opens_end two.0 (jump (place + 1)) two.1.1.0 refl))
         (subst (Fine two.0) far
-            (jump_fine two.0 (place + 1) top (omega (arith, same)) (omega (arith, low, near, m)) (omega (arith, far, high)) (omega (arith, low))
-                (omega (arith, near, m, far, high)) two.1.1.0
-            (inr (tick_there top line stand.1.0)) (record { height = turned; opener = inl (ATick (tick_there top line stand.1.0)) }))))))
+        (jump_fine two.0 (place + 1) top (omega (arith, same)) (omega (arith, low, near, m)) (omega (arith, far, high)) (omega (arith, low))
+        (omega (arith, near, m, far, high)) two.1.1.0
+        (inr (tick_there top line stand.1.0)) (record { height = turned; opener = inl (ATick (tick_there top line stand.1.0)) }))))))
     statement_fine (repeat_until line s until_line e) free place p q n kept room same suits fits stand low high at opens =
         let test = expr_code site e in
         let first = place + 2 + length test + 3 in
@@ -448,35 +448,35 @@ module _ (c : CodeLists) (k : ℕ) (rs : Routines) (site : Site) (inside : Bool)
         let near : one.0 ≡ top + 1 + length test = stands_to c (top + 1) test one.0 one.1.0 in
         let jumped : height_at c (p + 1) ≡ 0 = height_next p (tick line) 0 0 low (omega (arith, near, m, far, high)) stand.0 at refl in
         let turned : height_at c top ≡ 0 = height_next (p + 1) (jump first) 0 0 (omega (arith, low))
-            (omega (arith, near, m, far, high)) stand.1.0 jumped refl in
+        (omega (arith, near, m, far, high)) stand.1.0 jumped refl in
         let t = tested e top one.0 line suits.0 fits.2 stand.1.1.0 one.1.0 (omega (arith, low)) (omega (arith, m, far, high)) turned in
         let negated : height_at c (one.0 + 1) ≡ 1 = height_next one.0 (bare op.Not) 1 1 (omega (arith, low, near))
-            (omega (arith, m, far, high)) one.1.1.0 t.height refl in
+        (omega (arith, m, far, high)) one.1.1.0 t.height refl in
         let begun : height_at c (one.0 + 1 + 1) ≡ 0 = height_next (one.0 + 1) (jump_if_false out) 1 0 (omega (arith, low, near))
-            (omega (arith, m, far, high)) one.1.1.1.0 negated refl in
+        (omega (arith, m, far, high)) one.1.1.1.0 negated refl in
         let mid : height_at c two.0 ≡ 0 = level_behind code (one.0 + 1 + 1) two.0 (omega (arith, low, near)) (omega (arith, far, high)) two.1.0
-            (sequence_lifts c rs site inside rise s free first (n - 1) suits.1 fits.1) begun in
+        (sequence_lifts c rs site inside rise s free first (n - 1) suits.1 fits.1) begun in
         let ended : height_at c q ≡ 0 = subst (λ (x : ℕ). height_at c x ≡ 0) far
-            (height_next two.0 (jump (place + 2)) 0 0 (omega (arith, low, near, m)) (omega (arith, far, high)) two.1.1.0 mid refl) in
+        (height_next two.0 (jump (place + 2)) 0 0 (omega (arith, low, near, m)) (omega (arith, far, high)) two.1.1.0 mid refl) in
         also p (p + 1) q (tick_fine p line stand.0)
         (also (p + 1) top q
-            (jump_fine (p + 1) first (one.0 + 1 + 1) (omega (arith, same, near)) (omega (arith, low)) (omega (arith, near, m, far, high))
-                (omega (arith, low, near)) (omega (arith, m, far, high)) stand.1.0
-                (inl (omega (arith, near))) (record { height = begun; opener = inr (behind_jump (one.0 + 1) (jump_if_false out) one.1.1.1.0 refl) }))
+        (jump_fine (p + 1) first (one.0 + 1 + 1) (omega (arith, same, near)) (omega (arith, low)) (omega (arith, near, m, far, high))
+        (omega (arith, low, near)) (omega (arith, m, far, high)) stand.1.0
+        (inl (omega (arith, near))) (record { height = begun; opener = inr (behind_jump (one.0 + 1) (jump_if_false out) one.1.1.1.0 refl) }))
         (also top one.0 q t.fine
         (also one.0 (one.0 + 1) q (fine_one c k site base start end within some one.0 (bare op.Not) one.1.1.0 refl refl)
         (also (one.0 + 1) (one.0 + 1 + 1) q
-            (branch_fine (one.0 + 1) out q (omega (arith, same, near, m, far)) (omega (arith, low, near)) (omega (arith, m, far, high))
-                (omega (arith, low, near, m, far)) high one.1.1.1.0 (inl (omega (arith, m, far)))
-                (record { height = ended; opener = inl opens }))
+        (branch_fine (one.0 + 1) out q (omega (arith, same, near, m, far)) (omega (arith, low, near)) (omega (arith, m, far, high))
+        (omega (arith, low, near, m, far)) high one.1.1.1.0 (inl (omega (arith, m, far)))
+        (record { height = ended; opener = inl opens }))
         (also (one.0 + 1 + 1) two.0 q
-            (sequence_fine s free first (one.0 + 1 + 1) two.0 (n - 1) kept room (omega (arith, same, near)) suits.1 fits.1 two.1.0 (omega (arith, low, near))
-                (omega (arith, far, high)) begun
-                (opens_end two.0 (jump (place + 2)) two.1.1.0 refl))
+        (sequence_fine s free first (one.0 + 1 + 1) two.0 (n - 1) kept room (omega (arith, same, near)) suits.1 fits.1 two.1.0 (omega (arith, low, near))
+        (omega (arith, far, high)) begun
+        (opens_end two.0 (jump (place + 2)) two.1.1.0 refl))
         (subst (Fine two.0) far
-            (jump_fine two.0 (place + 2) top (omega (arith, same)) (omega (arith, low, near, m)) (omega (arith, far, high)) (omega (arith, low))
-                (omega (arith, near, m, far, high)) two.1.1.0
-            (inr (tick_there top line stand.1.1.0)) (record { height = turned; opener = inl (ATick (tick_there top line stand.1.1.0)) }))))))))
+        (jump_fine two.0 (place + 2) top (omega (arith, same)) (omega (arith, low, near, m)) (omega (arith, far, high)) (omega (arith, low))
+        (omega (arith, near, m, far, high)) two.1.1.0
+        (inr (tick_there top line stand.1.1.0)) (record { height = turned; opener = inl (ATick (tick_there top line stand.1.1.0)) }))))))))
     statement_fine (for_do line x becomes from way way_line to do_line s) free place p q n kept room same suits fits stand low high at opens =
         let lower = expr_code site from in
         let upper = expr_code site to in
@@ -489,7 +489,7 @@ module _ (c : CodeLists) (k : ℕ) (rs : Routines) (site : Site) (inside : Bool)
         let steps = counter_step site way free turn in
         let rest = tick line ∷ (load_own site free ∷ (control ++ (code ++ (tests ++ steps)))) in
         let one = parted c (p + 1) lower (store_own site free ∷ (upper ++ (store_own site (free + 1) ∷ (counter_test site (reach_op way) free out ++ rest)))) q
-            stand.1 in
+        stand.1 in
         let two = parted c (one.0 + 1) upper (store_own site (free + 1) ∷ (counter_test site (reach_op way) free out ++ rest)) q one.1.1.1 in
         let reach = parted c (two.0 + 1) (counter_test site (reach_op way) free out) rest q two.1.1.1 in
         let begin = reach.0 in
@@ -497,7 +497,7 @@ module _ (c : CodeLists) (k : ℕ) (rs : Routines) (site : Site) (inside : Bool)
         let m2 : two.0 ≡ one.0 + 1 + length upper = stands_to c (one.0 + 1) upper two.0 two.1.0 in
         let m3 : two.0 + 1 + 1 + 1 + 1 + 1 ≡ begin = reach.1.0.1.1.1.1 in
         let far : q ≡ begin + 1 + 1 + (length control + (length code + (length tests + length steps))) =
-            behind_turns (tick line) (load_own site free) control code tests steps begin q (stands_to c begin rest q reach.1.1) in
+        behind_turns (tick line) (load_own site free) control code tests steps begin q (stands_to c begin rest q reach.1.1) in
         let turn_is : turn ≡ begin = turn_place place p one.0 two.0 begin (length lower) (length upper) same m1 m2 m3 in
         let out_is : out ≡ q = out_place turn begin q (length control) (length code) (length tests) (length steps) turn_is far refl refl in
         let begin_high : begin < end = omega (arith, far, high) in
@@ -509,43 +509,43 @@ module _ (c : CodeLists) (k : ℕ) (rs : Routines) (site : Site) (inside : Bool)
         let t = tested from p one.0 line suits.1 fits.1 stand.0 one.1.0 low (omega (arith, one_high)) at in
         let h1 : height_at c (one.0 + 1) ≡ 0 = stored one.0 free one_low one_high one.1.1.0 t.height in
         let h2 : height_at c two.0 ≡ 1 = height_behind c k site base start end within some 1 1500 upper (one.0 + 1) two.0 0 1 (omega (arith, one_low))
-            (omega (arith, two_high)) two.1.0 (rise.expr to suits.2 fits.2) h1 in
+        (omega (arith, two_high)) two.1.0 (rise.expr to suits.2 fits.2) h1 in
         let h3 : height_at c (two.0 + 1) ≡ 0 = stored two.0 (free + 1) two_low two_high two.1.1.0 h2 in
         let h4 : height_at c begin ≡ 0 = level_behind (counter_test site (reach_op way) free out) (two.0 + 1) begin
-            (omega (arith, two_low)) begin_high reach.1.0 (reach_lifts c site way free out) h3 in
+        (omega (arith, two_low)) begin_high reach.1.0 (reach_lifts c site way free out) h3 in
         let words : free + 2 ≤ own = omega (arith, room) in
         let turns = turns_fine way line free out turn begin q control code (plain.control x suits.0) (rise.control x suits.0)
-            (statement_lifts c rs site inside rise s (free + 2) first (n - 1) suits.3 fits.3) kept words
-            reach.1.1 turn_is out_is begin_low high h4 opens
-            (λ m r here stands below level ends. statement_fine s (free + 2) first m r (n - 1) (omega (arith, kept)) (omega (arith, room))
-                (first_place turn begin m (length control) turn_is here) suits.3 fits.3 stands
-                (omega (arith, begin_low, here)) below level ends) in
+        (statement_lifts c rs site inside rise s (free + 2) first (n - 1) suits.3 fits.3) kept words
+        reach.1.1 turn_is out_is begin_low high h4 opens
+        (λ m r here stands below level ends. statement_fine s (free + 2) first m r (n - 1) (omega (arith, kept)) (omega (arith, room))
+        (first_place turn begin m (length control) turn_is here) suits.3 fits.3 stands
+        (omega (arith, begin_low, here)) below level ends) in
         also p one.0 q t.fine
         (also one.0 (one.0 + 1) q (plain_one one.0 (store_own site free) one_low (omega (arith, one_high)) one.1.1.0 (plain.store free (omega (arith, words))))
         (also (one.0 + 1) two.0 q (plain_fine upper (one.0 + 1) two.0 (omega (arith, one_low)) (omega (arith, two_high)) two.1.0 (plain.expr to suits.2))
         (also two.0 (two.0 + 1) q (plain_one two.0 (store_own site (free + 1)) two_low (omega (arith, two_high)) two.1.1.0
-            (plain.store (free + 1) (omega (arith, words))))
+        (plain.store (free + 1) (omega (arith, words))))
         (also (two.0 + 1) begin q (test_fine (reach_op way) free out (two.0 + 1) begin q (reach_is way) words out_is reach.1.0 (omega (arith, two_low))
-            (omega (arith, far)) high (record { height = turns.height; opener = inl opens }))
+        (omega (arith, far)) high (record { height = turns.height; opener = inl opens }))
         turns.fine))))
     statement_fine (case_of line e of_line b more end_line) free place p q n kept room same suits fits stand low high at opens =
         let selector = expr_code site e in
         let first = place + length selector + 2 in
         let one = parted c (p + 1) selector (store_own site free ∷ branch_code site free b (branches_code site free more) first) q stand.1 in
         let far : q ≡ one.0 + 1 + length (branch_code site free b (branches_code site free more) first) =
-            stands_to c (one.0 + 1) (branch_code site free b (branches_code site free more) first) q one.1.1.1 in
+        stands_to c (one.0 + 1) (branch_code site free b (branches_code site free more) first) q one.1.1.1 in
         let t = tested e p one.0 line suits.0 fits.1 stand.0 one.1.0 low (omega (arith, far, high)) at in
         let begun : height_at c (one.0 + 1) ≡ 0 = stored one.0 free (omega (arith, low, t.far)) (omega (arith, far, high)) one.1.1.0 t.height in
         also p one.0 q t.fine
         (also one.0 (one.0 + 1) q (plain_one one.0 (store_own site free) (omega (arith, low, t.far)) (omega (arith, far, high)) one.1.1.0
-            (plain.store free (omega (arith, room))))
+        (plain.store free (omega (arith, room))))
         (branch_is_fine b free (branches_code site free more) first (one.0 + 1) q (n - 1) kept (omega (arith, room)) (omega (arith, same, t.far)) suits.1 fits.2
-            (record {
-              level = λ m. branches_lift c rs site inside rise more free m (n - 1) suits.2 fits.3;
-              fine = λ m r u is stands above below level ends. branches_fine more free m r u (n - 1) kept (omega (arith, room)) is suits.2 fits.3 stands above
-                  below level ends;
-            })
-            one.1.1.1 (omega (arith, low)) high begun opens))
+        (record {
+          level = λ m. branches_lift c rs site inside rise more free m (n - 1) suits.2 fits.3;
+          fine = λ m r u is stands above below level ends. branches_fine more free m r u (n - 1) kept (omega (arith, room)) is suits.2 fits.3 stands above
+              below level ends;
+        })
+        one.1.1.1 (omega (arith, low)) high begun opens))
 
     pub body_fine : (b : Body) (free place p q n : ℕ) → base ≤ free → free + nested_in_body b ≤ own → place ≡ p → SuitsBody rs site.names inside b
         → BodyFits b n
@@ -561,14 +561,14 @@ module _ (c : CodeLists) (k : ℕ) (rs : Routines) (site : Site) (inside : Bool)
         let one = parted c p code (statements_code site free more (place + length code)) q stand in
         let m : one.0 ≡ p + length code = stands_to c p code one.0 one.1.0 in
         let far : q ≡ one.0 + length (statements_code site free more (place + length code)) =
-            stands_to c one.0 (statements_code site free more (place + length code)) q one.1.1 in
+        stands_to c one.0 (statements_code site free more (place + length code)) q one.1.1 in
         let mid : height_at c one.0 ≡ 0 = level_behind code p one.0 low (omega (arith, far, high)) one.1.0
-            (statement_lifts c rs site inside rise s free place n suits.0 fits.0) at in
+        (statement_lifts c rs site inside rise s free place n suits.0 fits.0) at in
         also p one.0 q
-            (statement_fine s free place p one.0 n kept (omega (arith, room)) same suits.0 fits.0 one.1.0 low (omega (arith, far, high)) at
-                (statements_open more free (place + length code) one.0 q one.1.1 opens))
-            (statements_fine more free (place + length code) one.0 q n kept (omega (arith, room)) (omega (arith, same, m)) suits.1 fits.1 one.1.1
-                (omega (arith, low, m)) high mid opens)
+        (statement_fine s free place p one.0 n kept (omega (arith, room)) same suits.0 fits.0 one.1.0 low (omega (arith, far, high)) at
+        (statements_open more free (place + length code) one.0 q one.1.1 opens))
+        (statements_fine more free (place + length code) one.0 q n kept (omega (arith, room)) (omega (arith, same, m)) suits.1 fits.1 one.1.1
+        (omega (arith, low, m)) high mid opens)
 
     statements_fine : (ss : Statements) (free place p q n : ℕ) → base ≤ free → free + nested_in_statements ss ≤ own → place ≡ p
         → SuitsStatements rs site.names inside ss → StatementsFit ss n
@@ -579,14 +579,14 @@ module _ (c : CodeLists) (k : ℕ) (rs : Routines) (site : Site) (inside : Bool)
         let one = parted c p code (statements_code site free more (place + length code)) q stand in
         let m : one.0 ≡ p + length code = stands_to c p code one.0 one.1.0 in
         let far : q ≡ one.0 + length (statements_code site free more (place + length code)) =
-            stands_to c one.0 (statements_code site free more (place + length code)) q one.1.1 in
+        stands_to c one.0 (statements_code site free more (place + length code)) q one.1.1 in
         let mid : height_at c one.0 ≡ 0 = level_behind code p one.0 low (omega (arith, far, high)) one.1.0
-            (statement_lifts c rs site inside rise s free place n suits.0 fits.0) at in
+        (statement_lifts c rs site inside rise s free place n suits.0 fits.0) at in
         also p one.0 q
-            (statement_fine s free place p one.0 n kept (omega (arith, room)) same suits.0 fits.0 one.1.0 low (omega (arith, far, high)) at
-                (statements_open more free (place + length code) one.0 q one.1.1 opens))
-            (statements_fine more free (place + length code) one.0 q n kept (omega (arith, room)) (omega (arith, same, m)) suits.1 fits.1 one.1.1
-                (omega (arith, low, m)) high mid opens)
+        (statement_fine s free place p one.0 n kept (omega (arith, room)) same suits.0 fits.0 one.1.0 low (omega (arith, far, high)) at
+        (statements_open more free (place + length code) one.0 q one.1.1 opens))
+        (statements_fine more free (place + length code) one.0 q n kept (omega (arith, room)) (omega (arith, same, m)) suits.1 fits.1 one.1.1
+        (omega (arith, low, m)) high mid opens)
 
     branch_is_fine : (b : Branch) (free : ℕ) (later : ℕ → List Instr) (place p q n : ℕ) → base ≤ free → free + (nested_in_branch b + 1) ≤ own → place ≡ p
         → SuitsBranch rs site.names inside b → BranchFits b n → Later later
@@ -607,25 +607,25 @@ module _ (c : CodeLists) (k : ℕ) (rs : Routines) (site : Site) (inside : Bool)
         let h1 : height_at c one.0 ≡ 0 = level_behind tests p one.0 low (omega (arith, m2, far, high)) one.1.0 (labels_lift c site free found labels) at in
         let h2 : height_at c (one.0 + 1) ≡ 0 = height_next one.0 (jump next) 0 0 (omega (arith, low, m1)) (omega (arith, m2, far, high)) one.1.1.0 h1 refl in
         let h3 : height_at c two.0 ≡ 0 = level_behind code (one.0 + 1) two.0 (omega (arith, low, m1)) (omega (arith, far, high)) two.1.0
-            (statement_lifts c rs site inside rise s (free + 1) found n suits.1 fits) h2 in
+        (statement_lifts c rs site inside rise s (free + 1) found n suits.1 fits) h2 in
         let h4 : height_at c (two.0 + 1) ≡ 0 = height_next two.0 (jump out) 0 0 (omega (arith, low, m1, m2)) (omega (arith, far, high)) two.1.1.0 h3 refl in
         let ended : height_at c q ≡ 0 = level_behind others (two.0 + 1) q (omega (arith, low, m1, m2)) high two.1.1.1 (behind_it.level next) h4 in
         also p one.0 q
-            (labels_fine free found labels p one.0 (one.0 + 1) (omega (arith, room)) (omega (arith, same, m1, size)) one.1.0 low (omega arith)
-                (omega (arith, m2, far, high))
-                (record { height = h2; opener = inr (behind_jump one.0 (jump next) one.1.1.0 refl) }))
+        (labels_fine free found labels p one.0 (one.0 + 1) (omega (arith, room)) (omega (arith, same, m1, size)) one.1.0 low (omega arith)
+        (omega (arith, m2, far, high))
+        (record { height = h2; opener = inr (behind_jump one.0 (jump next) one.1.1.0 refl) }))
         (also one.0 (one.0 + 1) q
-            (jump_fine one.0 next (two.0 + 1) (omega (arith, same, m1, size, m2)) (omega (arith, low, m1)) (omega (arith, m2, far, high))
-                (omega (arith, low, m1, m2)) (omega (arith, far, high)) one.1.1.0 (inl (omega (arith, m2)))
-                (record { height = h4; opener = inr (behind_jump two.0 (jump out) two.1.1.0 refl) }))
+        (jump_fine one.0 next (two.0 + 1) (omega (arith, same, m1, size, m2)) (omega (arith, low, m1)) (omega (arith, m2, far, high))
+        (omega (arith, low, m1, m2)) (omega (arith, far, high)) one.1.1.0 (inl (omega (arith, m2)))
+        (record { height = h4; opener = inr (behind_jump two.0 (jump out) two.1.1.0 refl) }))
         (also (one.0 + 1) two.0 q
-            (statement_fine s (free + 1) found (one.0 + 1) two.0 n (omega (arith, kept)) (omega (arith, room))
-                (omega (arith, same, m1, size)) suits.1 fits two.1.0 (omega (arith, low, m1)) (omega (arith, far, high)) h2
-                (opens_end two.0 (jump out) two.1.1.0 refl))
+        (statement_fine s (free + 1) found (one.0 + 1) two.0 n (omega (arith, kept)) (omega (arith, room))
+        (omega (arith, same, m1, size)) suits.1 fits two.1.0 (omega (arith, low, m1)) (omega (arith, far, high)) h2
+        (opens_end two.0 (jump out) two.1.1.0 refl))
         (also two.0 (two.0 + 1) q
-            (jump_fine two.0 out q (omega (arith, same, m1, size, m2, far)) (omega (arith, low, m1, m2)) (omega (arith, far, high))
-                (omega (arith, low, m1, m2, far)) high two.1.1.0 (inl (omega (arith, far)))
-                (record { height = ended; opener = inl opens }))
+        (jump_fine two.0 out q (omega (arith, same, m1, size, m2, far)) (omega (arith, low, m1, m2)) (omega (arith, far, high))
+        (omega (arith, low, m1, m2, far)) high two.1.1.0 (inl (omega (arith, far)))
+        (record { height = ended; opener = inl opens }))
         (behind_it.fine next (two.0 + 1) q (omega (arith, same, m1, size, m2)) two.1.1.1 (omega (arith, low, m1, m2)) high h4 opens))))
 
     branches_fine : (bs : Branches) (free place p q n : ℕ) → base ≤ free → free + (nested_in_branches bs + 1) ≤ own → place ≡ p
@@ -635,9 +635,9 @@ module _ (c : CodeLists) (k : ℕ) (rs : Routines) (site : Site) (inside : Bool)
         no_branch_fine (place + 3) p q (omega (arith, same)) stand (omega (arith, low)) high at opens
     branches_fine (next_branch line b more) free place p q n kept room same suits fits stand low high at opens =
         branch_is_fine b free (branches_code site free more) place p q n kept (omega (arith, room)) same suits.0 fits.0
-            (record {
-              level = λ m. branches_lift c rs site inside rise more free m n suits.1 fits.1;
-              fine = λ m r u is stands above below level ends. branches_fine more free m r u n kept (omega (arith, room)) is suits.1 fits.1 stands above below
-                  level ends;
-            })
-            stand (omega (arith, low)) high at opens
+        (record {
+          level = λ m. branches_lift c rs site inside rise more free m n suits.1 fits.1;
+          fine = λ m r u is stands above below level ends. branches_fine more free m r u n kept (omega (arith, room)) is suits.1 fits.1 stands above below
+              level ends;
+        })
+        stand (omega (arith, low)) high at opens

@@ -1,15 +1,12 @@
 -- The code of a statement does what it means.
-use Rattle.std.proofs.Common.{◌≡◌, ℕ, zero, suc, ◌+◌, ◌-◌, ◌*◌, ◌≤◌, ◌<◌, Bool, true, false, not, ◌||◌, Option, Some, None, List, [], ◌∷◌, ◌++◌, length, map, ℤ, pos, negsuc, ◌+ℤ◌, refl, sym, ◌∙◌, ap, subst, arith}
+use Rattle.std.proofs.Common.{◌≡◌, ℕ, zero, suc, ◌+◌, ◌-◌, ◌*◌, ◌≤◌, ◌<◌, Bool, true, false, not, ◌||◌, Option, Some, None, List, [], ◌∷◌, ◌++◌, length, map, ℤ, pos, negsuc, refl, sym, ◌∙◌, ap, subst, arith}
 use Rattle.std.proofs.lemmas.Bool.{le-ltb, eq-eqb, eqb-true, false_from_ne_true}
 use Rattle.std.proofs.lemmas.Bool.Decides.{Decides-int_eq}
-use Rattle.std.specs.Prelude.{slice_get, if◌then◌else◌, ◌==◌, nat_lt, int_le, int_lt}
+use Rattle.std.specs.Prelude.{slice_get, if◌then◌else◌, ◌==◌, nat_lt}
 use Rattle.std.specs.Ordering.{int_eq}
 use Rattle.std.specs.List.{list_any}
-use Rattle.std.specs.Int.{w16, cast_signed}
-use Rattle.solo_base.specs.declared.outcome.ProgResult.TheVariants as result
 use Rattle.solo_base.specs.declared.system_call.SysReply.{SysReply}
-use Rattle.solo_base.specs.RunOutcome.{RunOutcome, Ends}
-use Rattle.solo_base.specs.Arithmetic.{sum, truth, holds}
+use Rattle.solo_base.specs.Arithmetic.{truth, holds}
 use Rattle.stack_code.specs.declared.table.Op.TheVariants as op
 use Rattle.stack_code.specs.declared.instr.Instr.{Instr}
 use Rattle.stack_code.specs.CodeLists.{CodeLists}
@@ -26,33 +23,32 @@ use Rattle.pascal_tree.specs.Statement.{Labels, Statement, empty, assign, call, 
 use Rattle.pascal_mean.specs.Means.{Means, Owner, OfProgram, OfRoutine}
 use Rattle.pascal_mean.specs.Means as meant
 use Rattle.pascal_mean.specs.Scope.{Scope, constant_number}
-use Rattle.pascal_mean.specs.Situation.{Situation, Course, Part, Gives, Over, and_then, choose, end_with, number_or_overflow, take_tick, time_is_up}
-use Rattle.pascal_mean.specs.Variables.{owner_number, assigned, stored_element, array_named}
+use Rattle.pascal_mean.specs.Situation.{Situation, Course, Part, Gives, and_then, choose, number_or_overflow, take_tick, time_is_up}
+use Rattle.pascal_mean.specs.Variables.{assigned, stored_element, array_named}
 use Rattle.pascal_mean.specs.Calls.{Given, passing_named}
 use Rattle.pascal_mean.specs.Expressions.{Setting, call_value, expr_value, index_value, arguments_given, is_true, is_false}
-use Rattle.pascal_mean.specs.Statements.{after_loop, within_reach, before_last, next_count, after_turns, is_labelled, after_assigning, after_assigning_at, after_statement, after_body, after_sequence, after_statements, after_branch, after_branches}
-use Rattle.pascal_code.specs.Frames.{Frame, declared_words}
-use Rattle.pascal_code.specs.Senses.{Sense, sense, Constant as IsConstant, Variable, Array, Reference, Routine, Function, Interface, Nothing, Site, constant_value}
-use Rattle.pascal_code.specs.Instructions.{bare, with_a, push, tick, load_word, store_word}
+use Rattle.pascal_mean.specs.Statements.{after_loop, within_reach, before_last, next_count, after_turns, is_labelled, after_statement, after_body, after_sequence, after_statements, after_branch, after_branches}
+use Rattle.pascal_code.specs.Frames.{declared_words}
+use Rattle.pascal_code.specs.Senses.{Sense, sense, Variable, Reference, Site, constant_value}
+use Rattle.pascal_code.specs.Instructions.{bare, push, tick, store_word}
 use Rattle.pascal_code.specs.Names.{store_code, store_element_code}
 use Rattle.pascal_code.specs.Calls.{passing_of, given_arguments, call_code}
 use Rattle.pascal_code.specs.Expressions.{expr_code, index_code, arguments_code}
-use Rattle.pascal_code.specs.Statements.{load_own, store_own, jump, jump_if_false, call_statement_code, reach_op, before_op, step_op, counter_test, counter_step, label_test, more_label_tests, label_tests, label_tests_size, no_branch_code, statement_code, body_code, sequence_code, statements_code, branch_code, branches_code}
+use Rattle.pascal_code.specs.Statements.{load_own, store_own, jump, jump_if_false, call_statement_code, reach_op, before_op, step_op, counter_test, counter_step, label_test, more_label_tests, label_tests, label_tests_size, statement_code, body_code, sequence_code, statements_code, branch_code, branches_code}
 use Rattle.pascal_code.proofs.SensesAgree.{passing_alike, constants_alike}
 use Rattle.code_law.specs.Ties.{Held}
 use Rattle.code_law.specs.Named.{Named}
-use Rattle.code_law.specs.Suits.{Routines, IsHeld, CanStore, CanIndex, CanCall, IsScalar, SuitsExpr, SuitsIndex, SuitsArguments, SuitsCall, AreHeld, SuitsLabels, SuitsStatement, SuitsBody, SuitsSequence, SuitsStatements, SuitsBranch, SuitsBranches}
+use Rattle.code_law.specs.Suits.{Routines, IsHeld, CanStore, CanIndex, CanCall, IsScalar, SuitsExpr, SuitsCall, AreHeld, SuitsLabels, SuitsStatement, SuitsBody, SuitsSequence, SuitsStatements, SuitsBranch, SuitsBranches}
 use Rattle.code_law.proofs.Standing.{Stand, parted, stands_to}
 use Rattle.code_law.proofs.Agreeing.{hold}
-use Rattle.code_law.proofs.Here.{Fixed, own_number, state_at, Here, Comes, After, after, so, from, on_floor, on_less, Kept}
+use Rattle.code_law.proofs.Here.{Fixed, own_number, state_at, Here, After, after, so, from, on_floor, on_less, Kept}
 use Rattle.code_law.proofs.Steps.{number_pushed, operated, ticked, ticked_on, jumped, decided}
 use Rattle.code_law.proofs.Indexes.{Inside}
-use Rattle.code_law.proofs.Elements.{Indexed, indexed}
+use Rattle.code_law.proofs.Elements.{indexed}
 use Rattle.code_law.proofs.Loads.{word_loaded}
 use Rattle.code_law.proofs.Stores.{held_stored, answer_stored, element_stored}
 use Rattle.code_law.proofs.Variables.{place_stored, place_is}
 use Rattle.code_law.proofs.Given.{AreGiven}
-use Rattle.code_law.proofs.Rows.{result_on}
 use Rattle.code_law.proofs.Expressions.{CallsRun, setting_in, expr_runs, index_runs, arguments_run, arguments_names, arguments_are, called_by}
 
 -- ---- What is held
@@ -116,7 +112,7 @@ choose_is false first second now = refl
 reach_by : (c : CodeLists) (limit : ℕ) (way : Direction) (routine : ℕ) (below : List Activation) (p line : ℕ) (words : List ℤ) (left right : ℤ) (rest : List ℤ)
     (ticks : ℕ)
     → effect c limit (state_at routine below p line words (right ∷ left ∷ rest) ticks) (reach_op way) 0 0 ≡ replace
-        (state_at routine below p line words (right ∷ left ∷ rest) ticks) rest (Some (truth (within_reach way left right)))
+    (state_at routine below p line words (right ∷ left ∷ rest) ticks) rest (Some (truth (within_reach way left right)))
 unfolding effect
 reach_by c limit direction.To routine below p line words left right rest ticks = refl
 reach_by c limit direction.Downto routine below p line words left right rest ticks = refl
@@ -124,7 +120,7 @@ reach_by c limit direction.Downto routine below p line words left right rest tic
 before_by : (c : CodeLists) (limit : ℕ) (way : Direction) (routine : ℕ) (below : List Activation) (p line : ℕ) (words : List ℤ) (left right : ℤ) (rest : List ℤ)
     (ticks : ℕ)
     → effect c limit (state_at routine below p line words (right ∷ left ∷ rest) ticks) (before_op way) 0 0 ≡ replace
-        (state_at routine below p line words (right ∷ left ∷ rest) ticks) rest (Some (truth (before_last way left right)))
+    (state_at routine below p line words (right ∷ left ∷ rest) ticks) rest (Some (truth (before_last way left right)))
 unfolding effect
 before_by c limit direction.To routine below p line words left right rest ticks = refl
 before_by c limit direction.Downto routine below p line words left right rest ticks = refl
@@ -132,20 +128,20 @@ before_by c limit direction.Downto routine below p line words left right rest ti
 step_by : (c : CodeLists) (limit : ℕ) (way : Direction) (routine : ℕ) (below : List Activation) (p line : ℕ) (words : List ℤ) (v : ℤ) (rest : List ℤ)
     (ticks : ℕ)
     → effect c limit (state_at routine below p line words (v ∷ rest) ticks) (step_op way) 0 0 ≡ replace
-        (state_at routine below p line words (v ∷ rest) ticks) rest (next_count way v)
+    (state_at routine below p line words (v ∷ rest) ticks) rest (next_count way v)
 unfolding effect
 step_by c limit direction.To routine below p line words v rest ticks = refl
 step_by c limit direction.Downto routine below p line words v rest ticks = refl
 
 differ_by : (c : CodeLists) (limit : ℕ) (routine : ℕ) (below : List Activation) (p line : ℕ) (words : List ℤ) (left right : ℤ) (rest : List ℤ) (ticks : ℕ)
     → effect c limit (state_at routine below p line words (right ∷ left ∷ rest) ticks) op.Ne 0 0 ≡ replace
-        (state_at routine below p line words (right ∷ left ∷ rest) ticks) rest (Some (truth (not (int_eq left right))))
+    (state_at routine below p line words (right ∷ left ∷ rest) ticks) rest (Some (truth (not (int_eq left right))))
 unfolding effect
 differ_by c limit routine below p line words left right rest ticks = refl
 
 negated_by : (c : CodeLists) (limit routine : ℕ) (below : List Activation) (p line : ℕ) (words : List ℤ) (v : ℤ) (rest : List ℤ) (ticks : ℕ)
     → effect c limit (state_at routine below p line words (v ∷ rest) ticks) op.Not 0 0 ≡ replace (state_at routine below p line words (v ∷ rest) ticks) rest
-        (Some (truth (not (holds v))))
+    (Some (truth (not (holds v))))
 unfolding effect
 negated_by c limit routine below p line words v rest ticks = refl
 
@@ -212,7 +208,7 @@ module _ (c : CodeLists) (limit : ℕ) (all : List SysReply) (f : Fixed) (site :
   name_set k (meant.Routine r s) a x p q v now is can stand h =
       subst (λ m. Here c limit all (from f k) m [] (assigned (meant.Routine r s) number x v now)) stand.1
       (answer_stored {f = from f k} p v [] now names.frame h names.own_at (has can) names.low
-          (subst (λ w. slice_get c.instrs p ≡ Some (store_word OfRoutine w)) names.result stand.0))
+      (subst (λ w. slice_get c.instrs p ≡ Some (store_word OfRoutine w)) names.result stand.0))
   name_set k (meant.Constant t w) a x p q v now is can stand h = absurd can
   name_set k (meant.Array o t b) a x p q v now is can stand h = absurd can
   name_set k (meant.Function g) a x p q v now is can stand h = absurd can
@@ -251,14 +247,16 @@ module _ (c : CodeLists) (limit : ℕ) (all : List SysReply) (f : Fixed) (site :
     where
       over : (part : Course (Unit {0})) → part ≡ time_is_up line now → After c limit all (λ _ n. Here c limit all (from f k) (top + 1) [] n) part
           → Leads k q (time_is_up line now)
-      over part same first = record { comes = (subst (λ (d : Course (Unit {0})). After c limit all (λ _ n. Here c limit all (from f k) (top + 1) [] n) d) same
-          first).comes }
+      over part same first = record {
+        comes = (subst (λ (d : Course (Unit {0})). After c limit all (λ _ n. Here c limit all (from f k) (top + 1) [] n) d) same
+            first).comes;
+      }
 
   module _ (line top mid end out n : ℕ) (test : Part Bool) (turn : Part (Unit {0}))
       (ticks : slice_get c.instrs top ≡ Some (tick line)) (decides : slice_get c.instrs mid ≡ Some (jump_if_false out))
-          (jumps : slice_get c.instrs end ≡ Some (jump top))
+      (jumps : slice_get c.instrs end ≡ Some (jump top))
       (tests : (k : Kept) (now : Situation) → Here c limit all (from f k) (top + 1) [] now
-          → After c limit all (λ b m. Decided c limit all (from f k) mid b m) (test now))
+      → After c limit all (λ b m. Decided c limit all (from f k) mid b m) (test now))
       (bodies : (k : Kept) (now : Situation) → Shallow number n k → Here c limit all (from f k) (mid + 1) [] now → Leads k end (turn now)) where
     loop_runs : (turns : ℕ) (k : Kept) (now : Situation) → Shallow number n k → limit ≤ now.ticks + turns → Here c limit all (from f k) top [] now
         → Leads k out (after_loop limit turns line test turn now)
@@ -280,7 +278,7 @@ module _ (c : CodeLists) (limit : ℕ) (all : List SysReply) (f : Fixed) (site :
   module _ (line top turn_at end out n : ℕ) (way : Direction) (last : ℤ) (x : List ℕ) (scalar : IsScalar (site.names x)) (turn : Part (Unit {0})) (k : Kept)
       (shallow : Shallow number n k)
       (ticks : slice_get c.instrs top ≡ Some (tick line)) (loads : slice_get c.instrs (top + 1) ≡ Some (load_own site (base + n)))
-          (sets : Stand c (top + 1 + 1) (store_code site.result (site.names x)) turn_at)
+      (sets : Stand c (top + 1 + 1) (store_code site.result (site.names x)) turn_at)
       (again : Stand c end (counter_test site (before_op way) (base + n) out ++ counter_step site way (base + n) top) out)
       (bodies : (j : Kept) (now : Situation) → Shallow number (n + 2) j → Here c limit all (from f j) turn_at [] now → Leads j end (turn now)) where
     control_set : (j : Kept) (p q : ℕ) (v : ℤ) (now : Situation) → Stand c p (store_code site.result (site.names x)) q
@@ -288,7 +286,7 @@ module _ (c : CodeLists) (limit : ℕ) (all : List SysReply) (f : Fixed) (site :
     control_set j p q v now stand h =
         let there = names.senses x in
         name_set j (scope x) there.0 x p q v now there.1 (can_store (scope x) there.0 (subst IsScalar there.1 scalar))
-            (subst (λ s. Stand c p (store_code site.result s) q) there.1 stand) h
+        (subst (λ s. Stand c p (store_code site.result s) q) there.1 stand) h
       where
         can_store : (m : Means) (a : ℕ) → IsScalar (sense m a) → CanStore inside (sense m a)
         can_store (meant.Variable o t) a is = tt
@@ -318,23 +316,23 @@ module _ (c : CodeLists) (limit : ℕ) (all : List SysReply) (f : Fixed) (site :
         after (turn (set begun)) _ (bodies m (set begun) few started) (λ _ then_is behind.
         let one = held_loaded m end [] then_is n counter behind again.0 first in
         let two = held_loaded m (end + 1) (counter ∷ []) then_is (n + 1) last one
-            (subst (λ a. slice_get c.instrs (end + 1) ≡ Some (load_own site a)) beside again.1.0) second in
+        (subst (λ a. slice_get c.instrs (end + 1) ≡ Some (load_own site a)) beside again.1.0) second in
         let three = (operated {f = from f m} (end + 1 + 1) (last ∷ counter ∷ []) [] then_is (bare (before_op way))
-            (Some (truth (before_last way counter last))) two again.1.1.0
-            (before_by c limit way f.routine two.below (end + 1 + 1) then_is.line two.words counter last [] then_is.ticks)).comes in
+        (Some (truth (before_last way counter last))) two again.1.1.0
+        (before_by c limit way f.routine two.below (end + 1 + 1) then_is.line two.words counter last [] then_is.ticks)).comes in
         subst (λ (part : Course (Unit {0})). Leads k out part) (sym (choose_is (before_last way counter last) _ (Gives tt) then_is))
         (subst (λ b. Leads k out (if b then and_then (number_or_overflow (next_count way counter) then_is)
-            (λ next after_is. after_turns limit turns line way (assigned (scope x) number x) turn last next after_is) else Gives tt then_is))
-            (truth_holds (before_last way counter last))
+        (λ next after_is. after_turns limit turns line way (assigned (scope x) number x) turn last next after_is) else Gives tt then_is))
+        (truth_holds (before_last way counter last))
         (decided {f = from f m} (end + 1 + 1 + 1) out (truth (before_last way counter last)) [] then_is _ _ three again.1.1.1.0
         (λ on.
         let four = held_loaded m (end + 1 + 1 + 1 + 1) [] then_is n counter on again.1.1.1.1.0 first in
         after (number_or_overflow (next_count way counter) then_is) _
-            (operated {f = from f m} (end + 1 + 1 + 1 + 1 + 1) (counter ∷ []) [] then_is (bare (step_op way)) (next_count way counter) four again.1.1.1.1.1.0
-            (step_by c limit way f.routine four.below (end + 1 + 1 + 1 + 1 + 1) then_is.line four.words counter [] then_is.ticks)) (λ next after_is five.
+        (operated {f = from f m} (end + 1 + 1 + 1 + 1 + 1) (counter ∷ []) [] then_is (bare (step_op way)) (next_count way counter) four again.1.1.1.1.1.0
+        (step_by c limit way f.routine four.below (end + 1 + 1 + 1 + 1 + 1) then_is.line four.words counter [] then_is.ticks)) (λ next after_is five.
         let six = held_set m (end + 1 + 1 + 1 + 1 + 1 + 1) next after_is n five again.1.1.1.1.1.1.0 in
         let seven = jumped {f = from f (record { floor = now.ticks + 1; held = hold number n next j.held })} (end + 1 + 1 + 1 + 1 + 1 + 1 + 1) top
-            [] after_is six again.1.1.1.1.1.1.1.0 in
+        [] after_is six again.1.1.1.1.1.1.1.0 in
         turns_run turns (record { floor = now.ticks + 1; held = hold number n next j.held }) next after_is (omega (arith, enough, seven.risen))
         (hold_here number n next j.held) (hold_other number n (n + 1) next j.held (λ e. omega (arith, e)) ∙ second)
         (shallow_more number n next j.held (n + 2) (omega arith) few)
@@ -347,16 +345,16 @@ module _ (c : CodeLists) (limit : ℕ) (all : List SysReply) (f : Fixed) (site :
     one_label : (label : Constant) (p q : ℕ) (now : Situation) → IsHeld (constant_value site.names label) → Stand c p (label_test site (base + n) found label) q
         → Here c limit all (from f k) p [] now
         → (more : Course (Unit {0})) → (Here c limit all (from f k) found [] now → Leads k to then_course)
-            → (Here c limit all (from f k) q [] now → Leads k to more)
+        → (Here c limit all (from f k) q [] now → Leads k to more)
         → Leads k to (if int_eq (constant_number scope label) v then then_course else more)
     one_label label p q now small stand h more hit miss =
         let u = constant_value site.names label in
         let one = held_loaded k p [] now n v h stand.0 held in
         let two = number_pushed {f = from f k} (p + 1) (v ∷ []) now _ u one stand.1.0 small in
         let three = (operated {f = from f k} (p + 1 + 1) (u ∷ v ∷ []) [] now (bare op.Ne) (Some (truth (not (int_eq v u)))) two stand.1.1.0
-            (differ_by c limit f.routine two.below (p + 1 + 1) now.line two.words v u [] now.ticks)).comes in
+        (differ_by c limit f.routine two.below (p + 1 + 1) now.line two.words v u [] now.ticks)).comes in
         let same : int_eq v u ≡ int_eq (constant_number scope label) v = equal_both v u ∙ ap (λ z. int_eq z v)
-            (constants_alike scope site.names names.senses label) in
+        (constants_alike scope site.names names.senses label) in
         subst (λ b. Leads k to (if b then then_course else more)) same
         (turned (int_eq v u)
         (subst (λ b. Leads k to (if b then more else then_course)) (truth_holds (not (int_eq v u)))
@@ -381,7 +379,7 @@ module _ (c : CodeLists) (limit : ℕ) (all : List SysReply) (f : Fixed) (site :
         let one = parted c p (label_test site (base + n) found l.1) (more_label_tests site (base + n) found ls) q stand in
         both (int_eq (constant_number scope l.1) v) (list_any (λ e. int_eq (constant_number scope e.1) v) ls)
         (one_label l.1 p one.0 now small.0 one.1.0 h (if list_any (λ e. int_eq (constant_number scope e.1) v) ls then then_course else else_course) hit
-            (λ there. more_labels ls one.0 q now small.1 one.1.1 there hit miss))
+        (λ there. more_labels ls one.0 q now small.1 one.1.1 there hit miss))
 
     labels_run : (labels : Labels) (p q : ℕ) (now : Situation) → SuitsLabels rs site.names labels → Stand c p (label_tests site (base + n) found labels) q
         → Here c limit all (from f k) p [] now
@@ -391,8 +389,8 @@ module _ (c : CodeLists) (limit : ℕ) (all : List SysReply) (f : Fixed) (site :
         let one = parted c p (label_test site (base + n) found labels.first) (more_label_tests site (base + n) found labels.rest) q stand in
         both (int_eq (constant_number scope labels.first) v) (list_any (λ e. int_eq (constant_number scope e.1) v) labels.rest)
         (one_label labels.first p one.0 now small.0 one.1.0 h
-            (if list_any (λ e. int_eq (constant_number scope e.1) v) labels.rest then then_course else else_course) hit
-            (λ there. more_labels labels.rest one.0 q now small.1 one.1.1 there hit miss))
+        (if list_any (λ e. int_eq (constant_number scope e.1) v) labels.rest then then_course else else_course) hit
+        (λ there. more_labels labels.rest one.0 q now small.1 one.1.1 there hit miss))
 
   -- ---- Tests
   true_runs : (k : Kept) (e : Expr) (p q : ℕ) (now : Situation) → SuitsExpr rs site.names e → Stand c p (expr_code site e) q
@@ -405,7 +403,7 @@ module _ (c : CodeLists) (limit : ℕ) (all : List SysReply) (f : Fixed) (site :
       → After c limit all (λ b n. Decided c limit all (from f k) (q + 1) b n) (is_false (here_setting) e now)
   false_runs k e p q now suits stand found h = after (expr_value (here_setting) e now) _ (value_runs k e p q [] now suits stand h) (λ v n at.
       let there = (operated {f = from f k} q (v ∷ []) [] n (bare op.Not) (Some (truth (not (holds v)))) at found
-          (negated_by c limit f.routine at.below q n.line at.words v [] n.ticks)).comes in
+      (negated_by c limit f.routine at.below q n.line at.words v [] n.ticks)).comes in
       record { comes = record { word = truth (not (holds v)); is = truth_holds (not (holds v)); here = there } })
 
   labels_size : (labels : Labels) (found n : ℕ) → length (label_tests site n found labels) ≡ label_tests_size labels
@@ -440,20 +438,20 @@ module _ (c : CodeLists) (limit : ℕ) (all : List SysReply) (f : Fixed) (site :
   call_runs k x (Some a) p q now suits stand h part same =
       let there = names.senses x.letters in
       let one = parted c p (arguments_code site (site.names x.letters) (passing_of (site.names x.letters)) a)
-          (call_code site.result (site.names x.letters) (given_arguments site a)) q stand in
+      (call_code site.result (site.names x.letters) (given_arguments site a)) q stand in
       let passing : passing_of (site.names x.letters) ≡ passing_named (scope x.letters) = ap passing_of there.1 ∙ passing_alike (scope x.letters) there.0 in
       subst (λ (d : Course (Unit {0})). Leads k q d) (sym same)
       (subst (λ by. Leads k q (and_then (arguments_given (here_setting) by a now)
-          (λ given mid. and_then (call_value (here_setting) (scope x.letters) given mid) (λ _ then_is. Gives tt then_is)))) passing
+      (λ given mid. and_then (call_value (here_setting) (scope x.letters) given mid) (λ _ then_is. Gives tt then_is)))) passing
       (after (arguments_given (here_setting) (passing_of (site.names x.letters)) a now) _
-          (arguments_run {f = from f k} names rs does (calls k) (site.names x.letters) (passing_of (site.names x.letters)) a p one.0 [] now suits.1 one.1.0 h)
-          (λ given mid at.
+      (arguments_run {f = from f k} names rs does (calls k) (site.names x.letters) (passing_of (site.names x.letters)) a p one.0 [] now suits.1 one.1.0 h)
+      (λ given mid at.
       after (call_value (here_setting) (scope x.letters) given mid) _
       (called_by {f = from f k} names rs does (calls k) (scope x.letters) there.0 false (arguments_names a) given at.words [] one.0 q mid
-          (subst (CanCall rs false) there.1 suits.0)
+      (subst (CanCall rs false) there.1 suits.0)
       (subst (λ s. AreGiven (from f k) site s (passing_of s) (arguments_names a) given at.words) there.1 at.are)
       (subst (λ s. Stand c one.0 (call_code site.result s (map site.names (arguments_names a))) q) there.1
-          (subst (λ (l : List Sense). Stand c one.0 (call_code site.result (site.names x.letters) l) q) (arguments_are site a) one.1.1)) at.here)
+      (subst (λ (l : List Sense). Stand c one.0 (call_code site.result (site.names x.letters) l) q) (arguments_are site a) one.1.1)) at.here)
       (λ v n done. record { comes = done }))))
 
   -- ---- The family of statements
@@ -467,8 +465,10 @@ module _ (c : CodeLists) (limit : ℕ) (all : List SysReply) (f : Fixed) (site :
         let one = parted c (p + 1) (expr_code site e) (store_code site.result (site.names x.letters)) q stand.1 in
         after (take_tick limit x.line now) _ (ticked {f = from f k} p [] now x.line here stand.0) (λ _ mid at.
         after (expr_value (here_setting) e mid) _ (value_runs k e (p + 1) one.0 [] mid suits.1 one.1.0 at) (λ v then_is value.
-        record { comes = name_set k (scope x.letters) there.0 x.letters one.0 q v then_is there.1 (subst (CanStore inside) there.1 suits.0)
-            (subst (λ s. Stand c one.0 (store_code site.result s) q) there.1 one.1.1) value }))
+        record {
+          comes = name_set k (scope x.letters) there.0 x.letters one.0 q v then_is there.1 (subst (CanStore inside) there.1 suits.0)
+              (subst (λ s. Stand c one.0 (store_code site.result s) q) there.1 one.1.1) value;
+        }))
     statement_runs (assign x (Some i) becomes e) free n place p q k now word shallow same suits stand here =
         let there = names.senses x.letters in
         let one = parted c (p + 1) (index_code site (site.names x.letters) i) (expr_code site e ++ store_element_code (site.names x.letters)) q stand.1 in
@@ -476,17 +476,19 @@ module _ (c : CodeLists) (limit : ℕ) (all : List SysReply) (f : Fixed) (site :
         let bounds = (array_named (scope x.letters) number x.letters).bounds in
         after (take_tick limit x.line now) _ (ticked {f = from f k} p [] now x.line here stand.0) (λ _ begun at.
         after (index_value (here_setting) bounds i begun) _
-            (index_runs {f = from f k} names rs does (calls k) x.letters i (p + 1) one.0 [] begun suits.0 suits.1 one.1.0 at) (λ index mid indexed.
+        (index_runs {f = from f k} names rs does (calls k) x.letters i (p + 1) one.0 [] begun suits.0 suits.1 one.1.0 at) (λ index mid indexed.
         after (expr_value (here_setting) e mid) _ (value_runs k e one.0 two.0 (pos (indexed.inside).place ∷ []) mid suits.2 two.1.0 indexed.here)
-            (λ v then_is value.
-        record { comes = element_set k (scope x.letters) there.0 x.letters two.0 q v index then_is there.1 (subst CanIndex there.1 suits.0)
-            (subst (λ s. Stand c two.0 (store_element_code s) q) there.1 two.1.1) indexed.inside value })))
+        (λ v then_is value.
+        record {
+          comes = element_set k (scope x.letters) there.0 x.letters two.0 q v index then_is there.1 (subst CanIndex there.1 suits.0)
+              (subst (λ s. Stand c two.0 (store_element_code s) q) there.1 two.1.1) indexed.inside value;
+        })))
     statement_runs (call x None) free n place p q k now word shallow same suits stand here =
         after (take_tick limit x.line now) _ (ticked {f = from f k} p [] now x.line here stand.0)
-            (λ _ mid at. call_runs k x None (p + 1) q mid suits stand.1 at _ refl)
+        (λ _ mid at. call_runs k x None (p + 1) q mid suits stand.1 at _ refl)
     statement_runs (call x (Some a)) free n place p q k now word shallow same suits stand here =
         after (take_tick limit x.line now) _ (ticked {f = from f k} p [] now x.line here stand.0)
-            (λ _ mid at. call_runs k x (Some a) (p + 1) q mid suits stand.1 at _ refl)
+        (λ _ mid at. call_runs k x (Some a) (p + 1) q mid suits stand.1 at _ refl)
     statement_runs (compound b) free n place p q k now word shallow same suits stand here =
         body_runs b free n place p q k now word shallow same suits stand here
     statement_runs (if_then line e then_line s) free n place p q k now word shallow same suits stand here =
@@ -539,7 +541,7 @@ module _ (c : CodeLists) (limit : ℕ) (all : List SysReply) (f : Fixed) (site :
         let back : slice_get c.instrs two.0 ≡ Some (jump top) = subst (λ to. slice_get c.instrs two.0 ≡ Some (jump to)) (ap (λ to. to + 1) same) two.1.1.0 in
         after (take_tick limit line now) _ (ticked {f = from f k} p [] now line here stand.0) (λ _ begun at.
         subst (λ place_now. Leads k place_now (after_loop limit (limit - begun.ticks) line (is_true (here_setting) e) (after_statement (here_setting) s) begun))
-            ends
+        ends
         (loop_runs line top one.0 two.0 out n (is_true (here_setting) e) (after_statement (here_setting) s) stand.1.0 one.1.1.0 back
         (λ j then_is there. true_runs j e (top + 1) one.0 then_is suits.0 one.1.0 there)
         (λ j then_is few there. statement_runs s free n first (one.0 + 1) two.0 j then_is word few (omega (arith, same, m)) suits.1 two.1.0 there)
@@ -559,11 +561,11 @@ module _ (c : CodeLists) (limit : ℕ) (all : List SysReply) (f : Fixed) (site :
         let back : slice_get c.instrs two.0 ≡ Some (jump top) = subst (λ to. slice_get c.instrs two.0 ≡ Some (jump to)) (omega (arith, same)) two.1.1.0 in
         after (take_tick limit line now) _ (ticked {f = from f k} p [] now line here stand.0) (λ _ begun at.
         let inside_at : Here c limit all (from f k) (one.0 + 1 + 1) [] begun = subst (λ place_now. Here c limit all (from f k) place_now [] begun) begins
-            (jumped {f = from f k} (p + 1) first [] begun at stand.1.0) in
+        (jumped {f = from f k} (p + 1) first [] begun at stand.1.0) in
         after (after_sequence (here_setting) s begun) _ (sequence_runs s free n first
-            (one.0 + 1 + 1) two.0 k begun word shallow begins suits.1 two.1.0 inside_at) (λ _ turned end.
+        (one.0 + 1 + 1) two.0 k begun word shallow begins suits.1 two.1.0 inside_at) (λ _ turned end.
         subst (λ place_now. Leads k place_now (after_loop limit (limit - turned.ticks) line (is_false (here_setting) e)
-            (after_sequence (here_setting) s) turned)) ends
+        (after_sequence (here_setting) s) turned)) ends
         (loop_runs line top (one.0 + 1) two.0 out n (is_false (here_setting) e) (after_sequence (here_setting) s) stand.1.1.0 one.1.1.1.0 back
         (λ j then_is there. false_runs j e (top + 1) one.0 then_is suits.0 one.1.0 one.1.1.0 there)
         (λ j then_is few there. sequence_runs s free n first (one.0 + 1 + 1) two.0 j then_is word few begins suits.1 two.1.0 there)
@@ -578,7 +580,7 @@ module _ (c : CodeLists) (limit : ℕ) (all : List SysReply) (f : Fixed) (site :
         let code = statement_code site (w + 2) s turn_at in
         let out = turn_at + length code + 8 in
         let stand : Stand c p (statement_code site w (for_do line x becomes first_e way way_line last_e do_line s) place) q =
-            subst (λ v. Stand c p (statement_code site v (for_do line x becomes first_e way way_line last_e do_line s) place) q) word stand_there in
+        subst (λ v. Stand c p (statement_code site v (for_do line x becomes first_e way way_line last_e do_line s) place) q) word stand_there in
         let tail : ℕ → ℕ → List Instr = λ t o. counter_test site (before_op way) w o ++ counter_step site way w t in
         let one = parted c (p + 1) lower _ q stand.1 in
         let two = parted c (one.0 + 1) upper _ q one.1.1.1 in
@@ -592,7 +594,7 @@ module _ (c : CodeLists) (limit : ℕ) (all : List SysReply) (f : Fixed) (site :
         let begins : top ≡ begin = omega (arith, same, m1, m2) in
         let ends : out ≡ q = omega (arith, same, m1, m2, m3, m4, stands_to c four.0 (tail top out) q four.1.1) in
         let again : Stand c four.0 (tail begin q) q = subst (λ o. Stand c four.0 (tail begin o) q) ends
-            (subst (λ t. Stand c four.0 (tail t out) q) begins four.1.1) in
+        (subst (λ t. Stand c four.0 (tail t out) q) begins four.1.1) in
         let beside : w + 1 ≡ base + (n + 1) = omega arith in
         after (take_tick limit line now) _ (ticked {f = from f k} p [] now line here stand.0) (λ _ begun at.
         after (expr_value (here_setting) first_e begun) _ (value_runs k first_e (p + 1) one.0 [] begun suits.1 one.1.0 at) (λ low mid there.
@@ -604,26 +606,26 @@ module _ (c : CodeLists) (limit : ℕ) (all : List SysReply) (f : Fixed) (site :
         let lower_is : k2.held number n ≡ Some low = hold_other number (n + 1) n high k1.held (λ e. omega (arith, e)) ∙ hold_here number n low k.held in
         let upper_is : k2.held number (n + 1) ≡ Some high = hold_here number (n + 1) high k1.held in
         let shallow1 : Shallow number (n + 1) k1 = shallow_more number n low k.held (n + 1) (omega arith)
-            (deeper n (n + 1) (omega arith) k.held number shallow) in
+        (deeper n (n + 1) (omega arith) k.held number shallow) in
         let outer1 : Still k.held k1.held = still_more number n low k.held k.held shallow (λ d i v held. held) in
         let outer : Still k.held k2.held = still_more number (n + 1) high k.held k1.held (deeper n (n + 1) (omega arith) k.held number shallow) outer1 in
         let few : Shallow number (n + 2) k2 = shallow_more number (n + 1) high k1.held (n + 2) (omega arith)
-            (deeper (n + 1) (n + 2) (omega arith) k1.held number shallow1) in
+        (deeper (n + 1) (n + 2) (omega arith) k1.held number shallow1) in
         let loaded = held_loaded k2 (two.0 + 1) [] then_is n low bounds two.1.1.1.0 lower_is in
         let both_there = held_loaded k2 (two.0 + 1 + 1) (low ∷ []) then_is (n + 1) high loaded
-            (subst (λ a. slice_get c.instrs (two.0 + 1 + 1) ≡ Some (load_own site a)) beside two.1.1.1.1.0) upper_is in
+        (subst (λ a. slice_get c.instrs (two.0 + 1 + 1) ≡ Some (load_own site a)) beside two.1.1.1.1.0) upper_is in
         let tested = (operated {f = from f k2} (two.0 + 1 + 1 + 1) (high ∷ low ∷ []) [] then_is (bare (reach_op way))
-            (Some (truth (within_reach way low high))) both_there two.1.1.1.1.1.0
-            (reach_by c limit way f.routine both_there.below (two.0 + 1 + 1 + 1) then_is.line both_there.words low high [] then_is.ticks)).comes in
+        (Some (truth (within_reach way low high))) both_there two.1.1.1.1.1.0
+        (reach_by c limit way f.routine both_there.below (two.0 + 1 + 1 + 1) then_is.line both_there.words low high [] then_is.ticks)).comes in
         let turns : Part (Unit {0}) = λ m. after_turns limit (limit - m.ticks) line way (assigned (scope x.letters) number x.letters)
-            (after_statement (here_setting) s) high low m in
+        (after_statement (here_setting) s) high low m in
         subst (λ (part : Course (Unit {0})). Leads k q part) (sym (choose_is (within_reach way low high) turns (Gives tt) then_is))
         (subst (λ b. Leads k q (if b then turns then_is else Gives tt then_is)) (truth_holds (within_reach way low high))
         (decided {f = from f k2} (two.0 + 1 + 1 + 1 + 1) out (truth (within_reach way low high)) [] then_is _ _ tested two.1.1.1.1.1.1.0
         (λ on. turns_run line begin three.0 four.0 q n way high x.letters suits.0 (after_statement (here_setting) s) k shallow
         two.1.1.1.1.1.1.1.0 two.1.1.1.1.1.1.1.1.0 three.1.0 again
         (λ j u few_there there_too. statement_runs s (w + 2) (n + 2) turn_at three.0 four.0 j u (omega arith) few_there
-            (omega (arith, begins, m3)) suits.3 four.1.0 there_too)
+        (omega (arith, begins, m3)) suits.3 four.1.0 there_too)
         (limit - then_is.ticks) k2 low then_is (omega arith) lower_is upper_is few outer on.risen on)
         (λ away. record { comes = subst (λ m. Here c limit all (from f k) m [] then_is) ends (on_less {f = from f k2} k away away.risen outer) }))))))
     statement_runs (case_of line e of_line b more end_line) free n place p q k now word shallow same suits stand_there here =
@@ -631,7 +633,7 @@ module _ (c : CodeLists) (limit : ℕ) (all : List SysReply) (f : Fixed) (site :
         let selector = expr_code site e in
         let first = place + length selector + 2 in
         let stand : Stand c p (statement_code site w (case_of line e of_line b more end_line) place) q =
-            subst (λ v. Stand c p (statement_code site v (case_of line e of_line b more end_line) place) q) word stand_there in
+        subst (λ v. Stand c p (statement_code site v (case_of line e of_line b more end_line) place) q) word stand_there in
         let one = parted c (p + 1) selector (store_own site w ∷ branch_code site w b (branches_code site w more) first) q stand.1 in
         let m : one.0 ≡ p + 1 + length selector = stands_to c (p + 1) selector one.0 one.1.0 in
         after (take_tick limit line now) _ (ticked {f = from f k} p [] now line here stand.0) (λ _ begun at.
@@ -642,7 +644,7 @@ module _ (c : CodeLists) (limit : ℕ) (all : List SysReply) (f : Fixed) (site :
         let few : Shallow number (n + 1) k1 = shallow_more number n v k.held (n + 1) (omega arith) (deeper n (n + 1) (omega arith) k.held number shallow) in
         so _ (branch_runs b n k1 v (hold_here number n v k.held) few (branches_code site w more) (after_branches (here_setting) v more)
         (λ place_too r to u at_place later_stand later_here. branches_run more n place_too r to k1 v u (hold_here number n v k.held) few at_place suits.2
-            later_stand later_here)
+        later_stand later_here)
         first (one.0 + 1) q selected (omega (arith, same, m)) suits.1 one.1.1.1 kept)
         (λ _ last end. on_less {f = from f k1} k end end.risen outer)))
 
@@ -676,7 +678,7 @@ module _ (c : CodeLists) (limit : ℕ) (all : List SysReply) (f : Fixed) (site :
         → (later : ℕ → List Instr) (otherwise : Part (Unit {0}))
         → ((place p q : ℕ) (now : Situation) → place ≡ p → Stand c p (later place) q → Here c limit all (from f k) p [] now → Leads k q (otherwise now))
         → (place p q : ℕ) (now : Situation) → place ≡ p → SuitsBranch rs site.names inside b → Stand c p (branch_code site (base + n) b later place) q
-            → Here c limit all (from f k) p [] now
+        → Here c limit all (from f k) p [] now
         → Leads k q (after_branch (here_setting) v b otherwise now)
     branch_runs (branch labels colon s) n k v held few later otherwise later_runs place p q now same suits stand here =
         let found = place + label_tests_size labels + 1 in
@@ -697,16 +699,18 @@ module _ (c : CodeLists) (limit : ℕ) (all : List SysReply) (f : Fixed) (site :
         (λ _ last end. subst (λ place_now. Here c limit all (from f k) place_now [] last) ends (jumped {f = from f k} two.0 out [] last end two.1.1.0)))
         (λ at. later_runs next (two.0 + 1) q now (omega (arith, same, m, m')) two.1.1.1
         (subst (λ place_now. Here c limit all (from f k) place_now [] now) (omega (arith, same, m, m'))
-            (jumped {f = from f k} one.0 next [] now at one.1.1.0))))
+        (jumped {f = from f k} one.0 next [] now at one.1.1.0))))
 
     branches_run : (bs : Branches) (n place p q : ℕ) (k : Kept) (v : ℤ) (now : Situation) → k.held number n ≡ Some v → Shallow number (n + 1) k → place ≡ p
         → SuitsBranches rs site.names inside bs → Stand c p (branches_code site (base + n) bs place) q → Here c limit all (from f k) p [] now
         → Leads k q (after_branches (here_setting) v bs now)
     branches_run no_branch n place p q k v now held few same suits stand here =
         let one = number_pushed {f = from f k} p [] now _ (negsuc 0) here stand.0 refl in
-        record { comes = (indexed {f = from f k} (p + 1) (negsuc 0) [] now (record { low = pos 0; high = pos 0 })
-            (record { low = refl; high = refl }) one stand.1.0).comes }
+        record {
+          comes = (indexed {f = from f k} (p + 1) (negsuc 0) [] now (record { low = pos 0; high = pos 0 })
+              (record { low = refl; high = refl }) one stand.1.0).comes;
+        }
     branches_run (next_branch line b more) n place p q k v now held few same suits stand here =
         branch_runs b n k v held few (branches_code site (base + n) more) (after_branches (here_setting) v more)
         (λ place_too r to u at_place later_stand later_here. branches_run more n place_too r to k v u held few at_place suits.1 later_stand later_here) place p
-            q now same suits.0 stand here
+        q now same suits.0 stand here

@@ -1,5 +1,5 @@
 -- Stores into variables, into elements, through references, and of words that are held.
-use Rattle.std.proofs.Common.{◌≡◌, ℕ, zero, suc, ◌+◌, ◌<◌, ◌≤◌, Bool, true, false, Option, Some, None, List, [], ◌∷◌, length, map, ℤ, pos, ◌+ℤ◌, refl, sym, ◌∙◌, ap, subst, arith}
+use Rattle.std.proofs.Common.{◌≡◌, ℕ, zero, suc, ◌+◌, ◌<◌, ◌≤◌, true, false, Option, Some, None, List, [], ◌∷◌, length, map, ℤ, pos, ◌+ℤ◌, refl, sym, ◌∙◌, ap, subst, arith}
 use Rattle.std.proofs.lemmas.Bool.{lt-ltb, ltb-true}
 use Rattle.std.proofs.lemmas.Option.{slice_get_within}
 use Rattle.std.specs.Prelude.{slice_get, slice_set, if◌then◌else◌, nat_lt}
@@ -9,28 +9,27 @@ use Rattle.solo_base.specs.declared.system_call.SysCall.{SysCall}
 use Rattle.stack_code.specs.declared.table.Op.TheVariants as op
 use Rattle.stack_code.specs.CodeLists.{CodeLists}
 use Rattle.stack_machine.specs.declared.activation.Activation.{Activation}
-use Rattle.stack_machine.specs.declared.state.State.{State}
 use Rattle.stack_machine.specs.Activations.{words_from, waiting_with, own_with}
-use Rattle.stack_machine.specs.State.{Next, Goes, Stops, Lacks}
-use Rattle.stack_machine.specs.Effects.{store_element, store_named, write_named}
-use Rattle.stack_machine.specs.Machine.{effect, next}
+use Rattle.stack_machine.specs.State.{Goes, Stops}
+use Rattle.stack_machine.specs.Effects.{store_element, store_named}
+use Rattle.stack_machine.specs.Machine.{effect}
 use Rattle.stack_machine.proofs.Frames.{waiting_stay, own_written}
 use Rattle.pascal_mean.specs.Means.{Owner, OfProgram, OfRoutine, Bounds}
 use Rattle.pascal_mean.specs.Situation.{Situation, Place, Map}
-use Rattle.pascal_mean.specs.Variables.{map_at, with_map, set_map, owner_number, put_value, put_element, put_answer, stored, size_of}
+use Rattle.pascal_mean.specs.Variables.{map_at, set_map, owner_number, put_value, put_element, put_answer, stored, size_of}
 use Rattle.pascal_code.specs.Frames.{Frame, declared_words}
 use Rattle.pascal_code.specs.Senses.{Variable, Array, sense_in}
 use Rattle.pascal_code.specs.Instructions.{with_a, with_both, store_word}
 use Rattle.pascal_code.specs.Instructions as code
 use Rattle.code_law.specs.Regions.{region_found}
-use Rattle.code_law.specs.Ties.{IsReferred, AreTied, Held, Agree}
+use Rattle.code_law.specs.Ties.{IsReferred, AreTied, Agree}
 use Rattle.code_law.proofs.Words.{other_word}
 use Rattle.code_law.proofs.Lists.{references_kept}
 use Rattle.code_law.proofs.Tied.{tied_value, tied_element, tied_answer}
 use Rattle.code_law.proofs.Agreeing.{agree_on, agree_hold, hold}
 use Rattle.code_law.proofs.Reached.{Reached, does, goes, goes_if, is_there}
 use Rattle.code_law.proofs.Here.{Fixed, own_number, at_rest, state_at, Here, number_of}
-use Rattle.code_law.proofs.Loads.{own_words, word_of, own_reference, named_word}
+use Rattle.code_law.proofs.Loads.{own_words, named_word}
 
 rest_of_waiting : (below : List Activation) (d : ℕ) (words : List ℤ) → map at_rest (waiting_with below d words) ≡ map at_rest below
 rest_of_waiting [] d words = refl
@@ -64,11 +63,11 @@ module _ {c : CodeLists} {limit : ℕ} {all : List SysReply} {f : Fixed} where
     pub written : (change : Map → Map) → ((m : Map) → (change m).references ≡ m.references) → (a : ℕ) (v : ℤ) (q : ℕ) (rest : List ℤ) → a < declared_words g
         → AreTied f.frames d g (change (map_at now.maps d)) (slice_set words_there a v)
         → (let ws = slice_set words_there a v in Reached c limit all
-            (state_at f.routine (waiting_with h.below d ws) q now.line (own_with h.below h.words d ws) rest now.ticks) now.made)
+        (state_at f.routine (waiting_with h.below d ws) q now.line (own_with h.below h.words d ws) rest now.ticks) now.made)
         → Here c limit all f q rest (set_map d change now)
     written change keeps a v q rest low tied reached =
         rewritten_at now.ticks now.made (omega arith) change keeps (slice_set words_there a v) q rest
-            (λ b far. other_word words_there a b v (λ same. omega (arith, same, low, far))) tied reached
+        (λ b far. other_word words_there a b v (λ same. omega (arith, same, low, far))) tied reached
 
     -- the same in the state of a store into the own words
     pub own_reached : (ticks : ℕ) (calls : List SysCall) (new : List ℤ) (q : ℕ) (rest : List ℤ) → d ≡ own_number f
@@ -77,9 +76,9 @@ module _ {c : CodeLists} {limit : ℕ} {all : List SysReply} {f : Fixed} where
     own_reached ticks calls new q rest own reached =
         let last : d ≡ length h.below = own ∙ number_of h in
         subst (λ (b : List Activation). Reached c limit all (state_at f.routine b q now.line (own_with h.below h.words d new) rest ticks) calls)
-            (sym (waiting_stay h.below d new (omega (arith, last))))
+        (sym (waiting_stay h.below d new (omega (arith, last))))
         (subst (λ (w : List ℤ). Reached c limit all (state_at f.routine h.below q now.line w rest ticks) calls)
-            (sym (own_written h.below h.words d new last)) reached)
+        (sym (own_written h.below h.words d new last)) reached)
 
     -- what is stored in a place of these words
     abbrev pub StoredAt : ℕ → ℤ → ℕ → List ℤ → Type 0
@@ -91,7 +90,7 @@ module _ {c : CodeLists} {limit : ℕ} {all : List SysReply} {f : Fixed} where
     value_written x o a v q rest at reached =
         let apart = h.agree.apart d g is in
         written (put_value x v) (λ m. refl) a v q rest (omega (arith, apart.inside x (record { first = a; count = 1 }) (ap region_found at)))
-            (tied_value apart (h.agree.tied d g is) x o a v at) reached
+        (tied_value apart (h.agree.tied d g is) x o a v at) reached
 
     pub element_written : (x : List ℕ) (o : Owner) (a : ℕ) (bounds : Bounds) (k : ℕ) (v : ℤ) (q : ℕ) (rest : List ℤ) → sense_in g x ≡ Some (Array o a bounds)
         → k < size_of bounds → StoredAt (a + k) v q rest
@@ -99,14 +98,14 @@ module _ {c : CodeLists} {limit : ℕ} {all : List SysReply} {f : Fixed} where
     element_written x o a bounds k v q rest at low reached =
         let apart = h.agree.apart d g is in
         written (put_element x (bounds.low +ℤ pos k) v) (λ m. refl) (a + k) v q rest
-            (omega (arith, low, apart.inside x (record { first = a; count = size_of bounds }) (ap region_found at)))
+        (omega (arith, low, apart.inside x (record { first = a; count = size_of bounds }) (ap region_found at)))
         (tied_element apart (h.agree.tied d g is) x o a bounds k v at low) reached
 
     pub answer_written : (v : ℤ) (q : ℕ) (rest : List ℤ) → g.result ≡ 1 → g.parameters + g.result ≤ declared_words g → StoredAt g.parameters v q rest
         → Here c limit all f q rest (set_map d (put_answer v) now)
     answer_written v q rest has low reached =
         written (put_answer v) (λ m. refl) g.parameters v q rest (omega (arith, has, low))
-            (tied_answer (h.agree.apart d g is) (h.agree.tied d g is) v has) reached
+        (tied_answer (h.agree.apart d g is) (h.agree.tied d g is) v has) reached
 
   -- ---- Stores
   -- into a word of the program's frame or of the own one, which is there
@@ -117,14 +116,14 @@ module _ {c : CodeLists} {limit : ℕ} {all : List SysReply} {f : Fixed} where
   word_stored OfProgram p v rest now a h g is found =
       let ws = slice_set (words_from h.below h.words 0) a v in
       goes_if (nat_lt a (length (words_from h.below h.words 0)))
-          (state_at f.routine (waiting_with h.below 0 ws) (p + 1) now.line (own_with h.below h.words 0 ws) rest now.ticks) h.reached
-          (does h.reached (with_a op.StoreG a) found)
+      (state_at f.routine (waiting_with h.below 0 ws) (p + 1) now.line (own_with h.below h.words 0 ws) rest now.ticks) h.reached
+      (does h.reached (with_a op.StoreG a) found)
   word_stored OfRoutine p v rest now a h g is found =
       let d = own_number f in
       own_reached h d g is now.ticks now.made (slice_set (words_from h.below h.words d) a v) (p + 1) rest refl
       (subst (λ (w : List ℤ). Reached c limit all (state_at f.routine h.below (p + 1) now.line (slice_set w a v) rest now.ticks) now.made) (sym (own_words h))
       (goes_if (nat_lt a (length h.words)) (state_at f.routine h.below (p + 1) now.line (slice_set h.words a v) rest now.ticks) h.reached
-          (does h.reached (with_a op.StoreL a) found)))
+      (does h.reached (with_a op.StoreL a) found)))
 
   pub variable_stored : (owner : Owner) (p : ℕ) (v : ℤ) (rest : List ℤ) (now : Situation) (a : ℕ) (x : List ℕ) (o : Owner) (g : Frame)
       → Here c limit all f p (v ∷ rest) now
@@ -148,25 +147,25 @@ module _ {c : CodeLists} {limit : ℕ} {all : List SysReply} {f : Fixed} where
       let s = state_at f.routine h.below p now.line h.words (v ∷ pos k ∷ rest) now.ticks in
       let ws = slice_set (words_from h.below h.words 0) (a + k) v in
       goes_if (nat_lt (a + k) (length (words_from h.below h.words 0)))
-          (state_at f.routine (waiting_with h.below 0 ws) (p + 1) now.line (own_with h.below h.words 0 ws) rest now.ticks) h.reached
+      (state_at f.routine (waiting_with h.below 0 ws) (p + 1) now.line (own_with h.below h.words 0 ws) rest now.ticks) h.reached
       (does h.reached (with_both op.StoreGX a count) found ∙ ap (λ b. store_element true s a v rest (if b then Some k else None)) (lt-ltb k count low))
   element_reached OfRoutine p v k rest now a count h g is low found =
       let s = state_at f.routine h.below p now.line h.words (v ∷ pos k ∷ rest) now.ticks in
       let d = own_number f in
       own_reached h d g is now.ticks now.made (slice_set (words_from h.below h.words d) (a + k) v) (p + 1) rest refl
       (subst (λ (w : List ℤ). Reached c limit all (state_at f.routine h.below (p + 1) now.line (slice_set w (a + k) v) rest now.ticks) now.made)
-          (sym (own_words h))
+      (sym (own_words h))
       (goes_if (nat_lt (a + k) (length h.words)) (state_at f.routine h.below (p + 1) now.line (slice_set h.words (a + k) v) rest now.ticks) h.reached
       (does h.reached (with_both op.StoreLX a count) found ∙ ap (λ b. store_element false s a v rest (if b then Some k else None)) (lt-ltb k count low))))
 
   pub element_stored : (owner : Owner) (p : ℕ) (v : ℤ) (k : ℕ) (rest : List ℤ) (now : Situation) (a : ℕ) (bounds : Bounds) (x : List ℕ) (o : Owner) (g : Frame)
       → Here c limit all f p (v ∷ pos k ∷ rest) now
       → slice_get f.frames (owner_number owner (own_number f)) ≡ Some g → sense_in g x ≡ Some (Array o a bounds) → k < size_of bounds
-          → slice_get c.instrs p ≡ Some (code.store_element owner a (size_of bounds))
+      → slice_get c.instrs p ≡ Some (code.store_element owner a (size_of bounds))
       → Here c limit all f (p + 1) rest (set_map (owner_number owner (own_number f)) (put_element x (bounds.low +ℤ pos k) v) now)
   element_stored owner p v k rest now a bounds x o g h is at low found =
       element_written h (owner_number owner (own_number f)) g is x o a bounds k v (p + 1) rest at low
-          (element_reached owner p v k rest now a (size_of bounds) h g is low found)
+      (element_reached owner p v k rest now a (size_of bounds) h g is low found)
 
   -- through a reference
   pub reference_stored : (p : ℕ) (v : ℤ) (rest : List ℤ) (now : Situation) (a : ℕ) (at : Place) (h : Here c limit all f p (v ∷ rest) now)
@@ -183,7 +182,7 @@ module _ {c : CodeLists} {limit : ℕ} {all : List SysReply} {f : Fixed} where
       (goes t h.reached
       (does h.reached (with_a op.StoreR a) found
       ∙ ap (λ (n : Option ℤ). store_named s n (slice_get h.words (a + 1)) v rest) r.numbered
-          ∙ ap (λ (n : Option ℤ). store_named s (Some (pos d)) n v rest) r.placed
+      ∙ ap (λ (n : Option ℤ). store_named s (Some (pos d)) n v rest) r.placed
       ∙ ap (λ b. if b then Goes t else Stops result.RangeError now.line now.ticks) (lt-ltb r.word (length (words_from h.below h.words d)) there)))
 
   -- ---- The words that are held

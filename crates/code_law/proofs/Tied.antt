@@ -1,10 +1,10 @@
 -- A write to one name's word leaves the words of all others.
-use Rattle.std.proofs.Common.{◌≡◌, ℕ, ◌+◌, ◌<◌, ◌≤◌, ◌⊎◌, inl, inr, Bool, true, false, ◌&&◌, List, Option, Some, None, ℤ, pos, ◌+ℤ◌, refl, sym, ◌∙◌, ap, subst, arith, cond, length}
+use Rattle.std.proofs.Common.{◌≡◌, ℕ, ◌+◌, ◌<◌, ◌≤◌, inl, inr, Bool, true, false, ◌&&◌, List, Some, ℤ, pos, ◌+ℤ◌, refl, sym, ◌∙◌, ap, subst, arith}
 use Rattle.std.specs.Prelude.{slice_get, slice_set, bytes_eq, if◌then◌else◌}
 use Rattle.std.specs.Ordering.{int_eq}
 use Rattle.std.proofs.lemmas.Slice.Eq.{bytes_eq-Decides}
 use Rattle.std.proofs.lemmas.Bool.Decides.{Decides-int_eq}
-use Rattle.std.proofs.lemmas.Option.{none-some, same_Some}
+use Rattle.std.proofs.lemmas.Option.{same_Some}
 use Rattle.pascal_mean.specs.Means.{Owner, Bounds}
 use Rattle.pascal_mean.specs.Situation.{Place, Map}
 use Rattle.pascal_mean.specs.Variables.{size_of, put_value, put_element, put_answer}
@@ -81,14 +81,14 @@ module _ {frames : List Frame} {d : ℕ} {f : Frame} {m : Map} {words : List ℤ
         subst (λ n. slice_get (slice_set words a v) n ≡ Some v) here (same_word words a (m.values x) v (tied.scalars x o a is))
     scalar_beside y p b false e at =
         other_word words a b v (λ same. beside apart x y (record { first = a; count = 1 }) (record { first = b; count = 1 }) 0 0 region_here
-            (ap region_found at) (false_name x y e) (omega arith) (omega arith) (omega (arith, same)))
+        (ap region_found at) (false_name x y e) (omega arith) (omega arith) (omega (arith, same)))
         ∙ tied.scalars y p b at
 
     array_beside : (y : List ℕ) (p : Owner) (b : ℕ) (bounds : Bounds) (i : ℕ) → sense_in f y ≡ Some (Array p b bounds) → i < size_of bounds
         → slice_get (slice_set words a v) (b + i) ≡ Some (m.elements y (bounds.low +ℤ pos i))
     array_beside y p b bounds i at low =
         other_word words a (b + i) v (λ same. beside apart x y (record { first = a; count = 1 }) (record { first = b; count = size_of bounds }) 0 i region_here
-            (ap region_found at)
+        (ap region_found at)
         (λ one. no_array o p a b bounds (one_sense f (Variable o a) (Array p b bounds) is at one)) (omega arith) low (omega (arith, same)))
         ∙ tied.arrays y p b bounds i at low
 
@@ -98,15 +98,15 @@ module _ {frames : List Frame} {d : ℕ} {f : Frame} {m : Map} {words : List ℤ
         let there : region_in f y ≡ Some (record { first = b; count = 2 }) = ap region_found at in
         referred_beside a v
         (λ same. beside apart x y (record { first = a; count = 1 }) (record { first = b; count = 2 }) 0 0 region_here there differ (omega arith) (omega arith)
-            (omega (arith, same)))
+        (omega (arith, same)))
         (λ same. beside apart x y (record { first = a; count = 1 }) (record { first = b; count = 2 }) 0 1 region_here there differ (omega arith) (omega arith)
-            (omega (arith, same)))
+        (omega (arith, same)))
         (tied.references y b at)
 
     answer_beside : f.result ≡ 1 → slice_get (slice_set words a v) f.parameters ≡ Some m.answer
     answer_beside has =
         other_word words a f.parameters v (λ same. beside_result apart x (record { first = a; count = 1 }) 0 0 region_here (omega arith) (omega (arith, has))
-            (omega (arith, same)))
+        (omega (arith, same)))
         ∙ tied.answer has
 
     pub tied_value : AreTied frames d f (put_value x v m) (slice_set words a v)
@@ -125,7 +125,7 @@ module _ {frames : List Frame} {d : ℕ} {f : Frame} {m : Map} {words : List ℤ
     value_stays : (y : List ℕ) (p : Owner) (b : ℕ) → sense_in f y ≡ Some (Variable p b) → slice_get (slice_set words (a + k) v) b ≡ Some (m.values y)
     value_stays y p b at =
         other_word words (a + k) b v (λ same. beside apart x y (record { first = a; count = size_of bounds }) (record { first = b; count = 1 }) k 0 array_here
-            (ap region_found at)
+        (ap region_found at)
         (λ one. no_array p o b a bounds (one_sense f (Variable p b) (Array o a bounds) at is (sym one))) inside (omega arith) (omega (arith, same)))
         ∙ tied.scalars y p b at
 
@@ -135,15 +135,15 @@ module _ {frames : List Frame} {d : ℕ} {f : Frame} {m : Map} {words : List ℤ
         let there : region_in f y ≡ Some (record { first = b; count = 2 }) = ap region_found at in
         referred_beside (a + k) v
         (λ same. beside apart x y (record { first = a; count = size_of bounds }) (record { first = b; count = 2 }) k 0 array_here there differ inside
-            (omega arith) (omega (arith, same)))
+        (omega arith) (omega (arith, same)))
         (λ same. beside apart x y (record { first = a; count = size_of bounds }) (record { first = b; count = 2 }) k 1 array_here there differ inside
-            (omega arith) (omega (arith, same)))
+        (omega arith) (omega (arith, same)))
         (tied.references y b at)
 
     answer_stays : f.result ≡ 1 → slice_get (slice_set words (a + k) v) f.parameters ≡ Some m.answer
     answer_stays has =
         other_word words (a + k) f.parameters v (λ same. beside_result apart x (record { first = a; count = size_of bounds }) k 0 array_here inside
-            (omega (arith, has)) (omega (arith, same)))
+        (omega (arith, has)) (omega (arith, same)))
         ∙ tied.answer has
 
     -- another array, another index, or this element
@@ -152,7 +152,7 @@ module _ {frames : List Frame} {d : ℕ} {f : Frame} {m : Map} {words : List ℤ
         → slice_get (slice_set words (a + k) v) (b + i) ≡ Some (m.elements y (limits.low +ℤ pos i))
     other_array y p b limits i e at low =
         other_word words (a + k) (b + i) v (λ same. beside apart x y (record { first = a; count = size_of bounds })
-            (record { first = b; count = size_of limits }) k i array_here (ap region_found at) (false_name x y e) inside low same)
+        (record { first = b; count = size_of limits }) k i array_here (ap region_found at) (false_name x y e) inside low same)
         ∙ tied.arrays y p b limits i at low
 
     this_array : (y : List ℕ) (p : Owner) (b : ℕ) (limits : Bounds) (i : ℕ) (same : Bool) → bytes_eq x y ≡ true
@@ -173,7 +173,7 @@ module _ {frames : List Frame} {d : ℕ} {f : Frame} {m : Map} {words : List ℤ
         apart_index : k ≡ i → bounds ≡ limits → ⊥
         apart_index place limits_are =
             let t : true ≡ false = sym ((Decides-int_eq _ _).1 (ap (λ n. bounds.low +ℤ pos n) place ∙ ap (λ (n : Bounds). n.low +ℤ pos i) limits_are))
-                ∙ int in cc
+            ∙ int in cc
 
     element_stays : (y : List ℕ) (p : Owner) (b : ℕ) (limits : Bounds) (i : ℕ) (same : Bool) → bytes_eq x y ≡ same → sense_in f y ≡ Some (Array p b limits)
         → i < size_of limits

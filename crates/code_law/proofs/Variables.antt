@@ -1,5 +1,5 @@
 -- A name that is loaded, set, or passed on.
-use Rattle.std.proofs.Common.{◌≡◌, ℕ, ◌+◌, ◌<◌, ◌≤◌, Bool, true, false, Option, Some, None, List, [], ◌∷◌, length, ℤ, pos, ◌+ℤ◌, refl, sym, ◌∙◌, ap, subst, arith}
+use Rattle.std.proofs.Common.{◌≡◌, ℕ, ◌+◌, ◌<◌, Some, List, ◌∷◌, length, ℤ, pos, refl, sym, ◌∙◌, ap, subst, arith}
 use Rattle.std.proofs.lemmas.Option.{slice_get_within}
 use Rattle.std.specs.Prelude.{slice_get}
 use Rattle.solo_base.specs.declared.system_call.SysReply.{SysReply}
@@ -9,22 +9,19 @@ use Rattle.stack_machine.specs.Activations.{words_from}
 use Rattle.pascal_mean.specs.Means.{Means, Owner, OfProgram, OfRoutine, Bounds}
 use Rattle.pascal_mean.specs.Means as meant
 use Rattle.pascal_mean.specs.Scope.{Scope}
-use Rattle.pascal_mean.specs.Situation.{Situation, Place, Map, Course, Gives, Over}
-use Rattle.pascal_mean.specs.Variables.{map_at, owner_number, place_named, value_at, assigned, stored, set_map, put_answer, array_named, ArrayPlace, element_at, size_of}
-use Rattle.pascal_mean.specs.Calls.{Given, Alias}
-use Rattle.pascal_code.specs.Frames.{Frame, declared_words}
-use Rattle.pascal_code.specs.Senses.{Sense, sense, Constant, Variable, Array, Reference, Routine, Function, Interface, Nothing, sense_in, Site}
-use Rattle.pascal_code.specs.Instructions.{with_a, load_word, store_word}
-use Rattle.pascal_code.specs.Names.{name_code, store_code, reference_code, test_code, element_code, store_element_code}
+use Rattle.pascal_mean.specs.Situation.{Situation, Place}
+use Rattle.pascal_mean.specs.Variables.{map_at, owner_number, place_named, value_at, stored}
+use Rattle.pascal_code.specs.Senses.{Sense, sense, Constant, Variable, Array, Reference, Routine, Function, Interface, Nothing, Site}
+use Rattle.pascal_code.specs.Instructions.{with_a, load_word}
+use Rattle.pascal_code.specs.Names.{store_code, reference_code}
 use Rattle.code_law.specs.Ties.{IsReferred}
 use Rattle.code_law.specs.Arguments.{IsAlias}
-use Rattle.code_law.specs.Named.{HasWord, HasWords, Named}
+use Rattle.code_law.specs.Named.{Named}
 use Rattle.code_law.specs.Suits.{IsScalar}
-use Rattle.code_law.proofs.Standing.{Stand, parted}
-use Rattle.code_law.proofs.Here.{Fixed, own_number, Here, number_of, After}
+use Rattle.code_law.proofs.Standing.{Stand}
+use Rattle.code_law.proofs.Here.{Fixed, own_number, Here}
 use Rattle.code_law.proofs.Loads.{word_of, own_words, word_loaded, referred, reference_loaded, own_reference, named_word}
-use Rattle.code_law.proofs.Stores.{variable_stored, answer_stored, reference_stored}
-use Rattle.code_law.proofs.Opening.{on_top}
+use Rattle.code_law.proofs.Stores.{variable_stored, reference_stored}
 
 -- what is set where a name's code sets it, whatever happened since
 abbrev pub IsPlace : Fixed → List ℕ → Sense → Place → Type 0
@@ -72,7 +69,7 @@ module _ {c : CodeLists} {limit : ℕ} {all : List SysReply} {f : Fixed} {site :
   parameter_loaded x t a p operands now is found h =
       let at = own_reference h names.frame x a names.own_at (names.references x a is) in
       reference_loaded p operands now a ((map_at now.maps (own_number f)).references x) _ h found at
-          (named_word h a ((map_at now.maps (own_number f)).references x) at)
+      (named_word h a ((map_at now.maps (own_number f)).references x) at)
 
   -- ---- Places that are set
   pub place_stored : (x : List ℕ) (s : Sense) (at : Place) (p q : ℕ) (v : ℤ) (rest : List ℤ) (now : Situation) → site.names x ≡ s → IsPlace f x s at
@@ -119,8 +116,17 @@ module _ {c : CodeLists} {limit : ℕ} {all : List SysReply} {f : Fixed} {site :
       record {
         one = pos (owner_number o (own_number f));
         two = pos a;
-        alias = record { below = low_number h o; first = refl; frame = has.frame; frame_is = has.frame_is; owner = has.owner; word = a; is = has.is; second =
-            refl };
+        alias = record {
+          below = low_number h o;
+          first = refl;
+          frame = has.frame;
+          frame_is = has.frame_is;
+          owner = has.owner;
+          word = a;
+          is = has.is;
+          second =
+              refl;
+        };
         here = subst (λ m. Here c limit all f m (pos a ∷ pos (owner_number o (own_number f)) ∷ operands) now) stand.1
             (referred o p operands now a has.small h stand.0);
       }
@@ -128,16 +134,25 @@ module _ {c : CodeLists} {limit : ℕ} {all : List SysReply} {f : Fixed} {site :
       let at = (map_at now.maps (own_number f)).references x in
       let r = own_reference h names.frame x a names.own_at (names.references x a is) in
       let number : slice_get (words_from h.below h.words (own_number f)) a ≡ Some (pos at.activation) =
-          ap (λ (w : List ℤ). slice_get w a) (own_words h) ∙ r.numbered in
+      ap (λ (w : List ℤ). slice_get w a) (own_words h) ∙ r.numbered in
       let first : Here c limit all f (p + 1) (pos at.activation ∷ operands) now = word_loaded OfRoutine p operands now a (pos at.activation) h stand.0 number in
       let again = own_reference first names.frame x a names.own_at (names.references x a is) in
       let word : slice_get (words_from first.below first.words (own_number f)) (a + 1) ≡ Some (pos again.word) =
-          ap (λ (w : List ℤ). slice_get w (a + 1)) (own_words first) ∙ again.placed in
+      ap (λ (w : List ℤ). slice_get w (a + 1)) (own_words first) ∙ again.placed in
       record {
         one = pos at.activation;
         two = pos again.word;
-        alias = record { below = omega (arith, again.below, slice_get_within f.frames (own_number f) names.frame names.own_at); first = refl; frame =
-            again.frame; frame_is = again.frame_is; owner = again.owner; word = again.word; is = again.is; second = refl };
+        alias = record {
+          below = omega (arith, again.below, slice_get_within f.frames (own_number f) names.frame names.own_at);
+          first = refl;
+          frame =
+              again.frame;
+          frame_is = again.frame_is;
+          owner = again.owner;
+          word = again.word;
+          is = again.is;
+          second = refl;
+        };
         here = subst (λ m. Here c limit all f m (pos again.word ∷ pos at.activation ∷ operands) now) stand.1.1
             (word_loaded OfRoutine (p + 1) (pos at.activation ∷ operands) now (a + 1) (pos again.word) first stand.1.0 word);
       }

@@ -109,25 +109,31 @@ heights_along c least most (i ∷ code) p q h k same stand lift at x low high =
     elim (cases_lt p x) [
       | inl later ↦
           let more =
-              heights_along c least most code (p + 1) q (behind c i h) k (λ y far near. same y (omega (arith, far)) near) stand.1 lift.4
-              (height_step c p i (same p (omega arith) (omega (arith, later, high))) stand.0 ∙ ap (behind c i) at) x (omega (arith, later)) high in
-          (more.0, more.1, record {
-            finds = (more.2).finds;
-            some = (more.2).some;
-            few = (more.2).few;
-            leaves = (more.2).leaves;
-            low = omega (arith, (more.2).low);
-          })
+          heights_along c least most code (p + 1) q (behind c i h) k (λ y far near. same y (omega (arith, far)) near) stand.1 lift.4
+          (height_step c p i (same p (omega arith) (omega (arith, later, high))) stand.0 ∙ ap (behind c i) at) x (omega (arith, later)) high in (
+            more.0,
+            more.1,
+            record {
+              finds = (more.2).finds;
+              some = (more.2).some;
+              few = (more.2).few;
+              leaves = (more.2).leaves;
+              low = omega (arith, (more.2).low);
+            },
+          )
       | inr here ↦
           let this : p ≡ x = omega (arith, low, here) in
-          let height : height_at c x ≡ h = ap (height_at c) (sym this) ∙ at in
-          (i, subst (λ y. slice_get c.instrs y ≡ Some i) this stand.0, record {
-            finds = subst (λ n. pops c i.op i.a ≤ n) (sym height) lift.0;
-            some = subst (λ n. least ≤ behind c i n) (sym height) lift.1;
-            few = subst (λ n. behind c i n ≤ most) (sym height) lift.2;
-            leaves = λ e. subst (λ n. n - pops c i.op i.a ≡ 0) (sym height) (lift.3 e);
-            low = subst (λ n. behind c i n ≤ greatest_height c h (i ∷ code)) (sym height) (omega (arith, greatest_from c (behind c i h) code));
-          })
+          let height : height_at c x ≡ h = ap (height_at c) (sym this) ∙ at in (
+            i,
+            subst (λ y. slice_get c.instrs y ≡ Some i) this stand.0,
+            record {
+              finds = subst (λ n. pops c i.op i.a ≤ n) (sym height) lift.0;
+              some = subst (λ n. least ≤ behind c i n) (sym height) lift.1;
+              few = subst (λ n. behind c i n ≤ most) (sym height) lift.2;
+              leaves = λ e. subst (λ n. n - pops c i.op i.a ≡ 0) (sym height) (lift.3 e);
+              low = subst (λ n. behind c i n ≤ greatest_height c h (i ∷ code)) (sym height) (omega (arith, greatest_from c (behind c i h) code));
+            },
+          )
     ]
 
 -- ---- In a routine
@@ -158,7 +164,7 @@ fits_from c least most greatest x i fits low =
 pub routine_heights : (p : Program) (k : ℕ) (r : Framed) → slice_get (all_framed p) k ≡ Some r → (least most end : ℕ)
     → Lift (code_of p) least most (routine_code r (start_of p k)) 0 end → (x : ℕ) → start_of p k ≤ x → x < end_of p k r
     → (i : Instr) × (slice_get (code_of p).instrs x ≡ Some i)
-      × FitsAt (code_of p) least most (greatest_height (code_of p) 0 (routine_code r (start_of p k))) x i
+    × FitsAt (code_of p) least most (greatest_height (code_of p) 0 (routine_code r (start_of p k))) x i
 routine_heights p k r is least most end lift x low high =
     heights_along (code_of p) least most (routine_code r (start_of p k)) (start_of p k) (end_of p k r) 0 end (stays_inside p k r is)
     (whole_stands p k r is) lift (start_is_empty p k r is) x low high
@@ -171,7 +177,7 @@ height_fits_inside p k r is least most end lift x low high =
     let there = routine_heights p k r is least most end lift x low high in
     let here : instr_at c x ≡ there.0 = get_or_from_slice_get c.instrs x there.0 no_instr there.1 in
     let record_low : greatest_height c 0 (routine_code r (start_of p k)) ≤ (routine_at c (routine_of c x)).height =
-        subst (λ j. greatest_height c 0 (routine_code r (start_of p k)) ≤ (routine_at c j).height) (sym (own_place p k r is x low high))
-        (omega (arith, height_of p k r is)) in
+    subst (λ j. greatest_height c 0 (routine_code r (start_of p k)) ≤ (routine_at c j).height) (sym (own_place p k r is x low high))
+    (omega (arith, height_of p k r is)) in
     subst (λ (j : Instr). height_fits c x j.op j.a (height_at c x) ≡ true) (sym here)
     (fits_from c least most (greatest_height c 0 (routine_code r (start_of p k))) x there.0 there.2 record_low)

@@ -1,5 +1,5 @@
 -- The words in which arguments are passed to a routine.
-use Rattle.std.specs.Prelude.{◌≡◌, ℕ, ◌+◌, ◌<◌, List, [], ◌∷◌, ◌++◌, slice_get, Option, Some, ℤ, pos}
+use Rattle.std.specs.Prelude.{◌≡◌, ℕ, ◌+◌, ◌<◌, List, [], ◌∷◌, slice_get, Some, ℤ, pos}
 use Rattle.pascal_mean.specs.Means.{Owner, OfRoutine, Parameter}
 use Rattle.pascal_mean.specs.Situation.{Place}
 use Rattle.pascal_mean.specs.Calls.{Passing, ByValue, ByVariable, ByArray, passing_of, Given, Value, Alias, Elements}

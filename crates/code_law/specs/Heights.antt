@@ -7,7 +7,7 @@ use Rattle.pascal_mean.specs.Means.{Owner, OfProgram, OfRoutine, Bounds}
 use Rattle.pascal_mean.specs.Variables.{size_of}
 use Rattle.pascal_mean.specs.Calls.{Passing, ByValue, ByVariable, ByArray}
 use Rattle.pascal_code.specs.Instructions.{operand}
-use Rattle.pascal_code.specs.Senses.{Sense, Variable, Array, Reference, Routine, Site}
+use Rattle.pascal_code.specs.Senses.{Variable, Array, Reference, Routine, Site}
 use Rattle.code_law.specs.Suits.{Routines}
 
 -- the operands behind an instruction
@@ -50,9 +50,9 @@ pub record HasRoom (c : CodeLists) (k : ℕ) (rs : Routines) (site : Site) (in_f
   pub variable : (x : List ℕ) (o : Owner) (a : ℕ) → site.names x ≡ Variable o a → a < words_for c k o
   pub array : (x : List ℕ) (o : Owner) (a : ℕ) (b : Bounds) → site.names x ≡ Array o a b
       → (1 ≤ size_of b) × (size_of b ≤ 4096) × (a + size_of b ≤ words_for c k o)
-        × (bounds_fit (operand b.low) (operand b.high) ≡ true)
+      × (bounds_fit (operand b.low) (operand b.high) ≡ true)
   pub reference : (x : List ℕ) (a : ℕ) → site.names x ≡ Reference a → a + 1 < (routine_at c k).words
   pub routine : (x : List ℕ) (j : ℕ) (passing : List Passing) → site.names x ≡ Routine j passing
       → (1 ≤ j) × (j < length c.routines) × ((routine_at c j).params ≡ passed_words passing)
-        × ((routine_at c j).function ≡ rs.gives j) × (passed_words passing ≤ 16)
+      × ((routine_at c j).function ≡ rs.gives j) × (passed_words passing ≤ 16)
   pub result : in_function ≡ true → site.result < (routine_at c k).words

@@ -5,7 +5,7 @@ use Rattle.pascal_mean.specs.Means.{Owner, Bounds}
 use Rattle.pascal_mean.specs.Scope.{Scope}
 use Rattle.pascal_mean.specs.Variables.{owner_number}
 use Rattle.pascal_code.specs.Frames.{Frame, declared_words}
-use Rattle.pascal_code.specs.Senses.{Sense, sense, Variable, Array, Reference, sense_in, Site}
+use Rattle.pascal_code.specs.Senses.{sense, Variable, Array, Reference, sense_in, Site}
 
 -- a scalar variable has its word in the frame of its owner
 pub record HasWord (frames : List Frame) (number : ℕ) (x : List ℕ) (a : ℕ) : Type 0 where

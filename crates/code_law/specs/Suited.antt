@@ -1,7 +1,7 @@
 -- What is known of a program that breaks no static rule, as far as its code asks.
-use Rattle.std.specs.Prelude.{◌≡◌, ℕ, ◌≤◌, List, length, slice_get, Some, is_some}
+use Rattle.std.specs.Prelude.{◌≡◌, ℕ, ◌≤◌, length, slice_get, Some, is_some}
 use Rattle.pascal_tree.specs.Program.{Program}
-use Rattle.pascal_mean.specs.Declarations.{Declared, all_declared}
+use Rattle.pascal_mean.specs.Declarations.{all_declared}
 use Rattle.pascal_mean.specs.Meaning.{declared_at}
 use Rattle.pascal_code.specs.Frames.{declared_words}
 use Rattle.pascal_code.specs.Senses.{Framed, all_framed}

@@ -1,6 +1,6 @@
 -- What a program that breaks no static rule has at each name, expression and statement, as far as its code
 -- asks.
-use Rattle.std.specs.Prelude.{◌≡◌, ℕ, ◌+◌, ◌<◌, ◌≤◌, Bool, true, false, List, [], ◌∷◌, map, Option, Some, None, ℤ, pos}
+use Rattle.std.specs.Prelude.{◌≡◌, ℕ, ◌+◌, ◌<◌, ◌≤◌, Bool, true, false, List, [], ◌∷◌, map, Option, Some, None, ℤ}
 use Rattle.std.specs.Int.{w16, cast_signed}
 use Rattle.solo_base.specs.declared.interface.Procedure.{Procedure}
 use Rattle.solo_base.specs.Interface.{call_row_of}

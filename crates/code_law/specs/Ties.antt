@@ -6,7 +6,7 @@ use Rattle.pascal_mean.specs.Means.{Owner, Bounds}
 use Rattle.pascal_mean.specs.Situation.{Place, Map}
 use Rattle.pascal_mean.specs.Variables.{size_of, map_at}
 use Rattle.pascal_code.specs.Frames.{Frame, declared_words}
-use Rattle.pascal_code.specs.Senses.{Sense, Variable, Array, Reference, sense_in}
+use Rattle.pascal_code.specs.Senses.{Variable, Array, Reference, sense_in}
 use Rattle.code_law.specs.Regions.{AreApart}
 
 -- In the activation with a number two words name a place: the number of an activation below it, and the word

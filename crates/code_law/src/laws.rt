@@ -14,8 +14,8 @@ pub fn compiled_code_does_what_its_source_means()
     ensures { DoesWhatItMeans }
 {}
 
-/// Such code breaks none of the rules of good code, so no compiled program is refused before it runs: it finds
-/// what it pops, its jumps lead where nothing is on the stack, and a tick stands before each call.
+/// Such code breaks none of the rules of good code, so no compiled program is refused before it runs: it
+/// finds what it pops, its jumps lead where nothing is on the stack, and a tick stands before each call.
 pub fn compiled_code_is_good()
     ensures { HasGoodCode }
 {}
