@@ -180,7 +180,8 @@ module _ (c : CodeLists) (rs : Routines) (site : Site) (inside : Bool) (rise : R
             omega arith,
             (λ e. cc),
             tested_more e (first + length code + 1) (code ++ jump (place + 1) ∷ []) suits.0 fits.1
-                (lifted_more c 0 1500 code (jump (place + 1) ∷ []) 0 0 0 (statement_lifts s free first (n - 1) suits.1 fits.2) (jumps_more (place + 1) [] refl)),
+                (lifted_more c 0 1500 code (jump (place + 1) ∷ []) 0 0 0 (statement_lifts s free first (n - 1) suits.1 fits.2)
+                    (jumps_more (place + 1) [] refl)),
           ),
         )
     statement_lifts (repeat_until line s until_line e) free place n suits fits =
@@ -213,7 +214,8 @@ module _ (c : CodeLists) (rs : Routines) (site : Site) (inside : Bool) (rise : R
                       omega arith,
                       omega arith,
                       (λ e. refl),
-                      lifted_more c 0 1500 code (jump (place + 2) ∷ []) 0 0 0 (sequence_lifts s free first (n - 1) suits.1 fits.1) (jumps_more (place + 2) [] refl),
+                      lifted_more c 0 1500 code (jump (place + 2) ∷ []) 0 0 0 (sequence_lifts s free first (n - 1) suits.1 fits.1)
+                          (jumps_more (place + 2) [] refl),
                     ),
                   )),
             ),
