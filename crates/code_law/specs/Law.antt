@@ -12,15 +12,15 @@ use Rattle.pascal_mean.specs.MoreReplies.{FitTheMeaning}
 use Rattle.pascal_code.specs.Code.{code_of}
 use Rattle.pascal_code.specs.Size.{size}
 
--- a program that is compiled: its tree keeps the limits of trees, it breaks no static rule, and its code fits
-pub record IsCompiled (p : Program) : Type 0 where
+-- what can be compiled: its tree keeps the limits of trees, it breaks no static rule, and its code fits
+pub record Compiles (p : Program) : Type 0 where
   pub tree : IsTree p
   pub unbroken : broken p ≡ None
   pub fits : size p ≤ 8192
 
 -- Its code is code, and breaks none of the rules that code must keep to be run.
 abbrev pub HasGoodCode : Type 0
-HasGoodCode = (p : Program) → IsCompiled p → IsCode (code_of p) × IsGood (code_of p)
+HasGoodCode = (p : Program) → Compiles p → IsCode (code_of p) × IsGood (code_of p)
 
 -- Whatever the limit of ticks and the replies to the program's calls, provided that each reply fits the call
 -- at which the program waits: the run of the code is what the program means, its ticks, its last line and all
@@ -28,6 +28,6 @@ HasGoodCode = (p : Program) → IsCompiled p → IsCode (code_of p) × IsGood (c
 abbrev pub DoesWhatItMeans : Type 0
 DoesWhatItMeans =
     (p : Program) (limit : ℕ) (replies : List SysReply)
-    → IsCompiled p
+    → Compiles p
     → FitTheMeaning p limit replies
     → Runs (code_of p) limit replies (meaning p limit replies)
