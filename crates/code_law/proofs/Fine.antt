@@ -11,6 +11,7 @@ use Rattle.pascal_code.specs.Senses.{Site}
 use Rattle.pascal_code.specs.Statements.{load_own, jump, jump_if_false}
 use Rattle.code_law.specs.Heights.{behind, Lift, IsPlain}
 use Rattle.code_law.proofs.Standing.{Stand, stands_to}
+use Rattle.code_law.proofs.Walks.{height_step as one_step, height_behind as all_steps}
 
 -- What stands where statements begin and behind them: a tick, a jump or an end, or the load of a word that a FOR or a CASE keeps.
 pub data Opens (site : Site) (base : ℕ) (i : Instr) : Type 0 where
@@ -51,25 +52,17 @@ found_at c p i found = get_or_from_slice_get c.instrs p i no_instr found
 module _ (c : CodeLists) (k : ℕ) (site : Site) (base start end : ℕ) (within : (x : ℕ) → start ≤ x → x < end → routine_of c x ≡ k)
     (some : end ≤ length c.instrs) where
   -- ---- Heights
-  pub height_step : (p : ℕ) (i : Instr) → start ≤ p → p + 1 < end → slice_get c.instrs p ≡ Some i → height_at c (p + 1) ≡ behind c i (height_at c p)
-  unfolding height_at
-  height_step p i low high found =
-      let next : suc p ≡ p + 1 = omega arith in
-      let here : instr_at c p ≡ i = found_at c p i found in
-      let same : routine_of c (p + 1) ≡ routine_of c p = within (p + 1) (omega (arith, low)) high ∙ sym (within p low (omega (arith, high))) in
-      let test : (routine_of c (suc p) == routine_of c p) ≡ true = eq-eqb (routine_of c (suc p)) (routine_of c p) (ap (routine_of c) next ∙ same) in
-      ap (height_at c) (sym next)
-      ∙ ap (λ b. if b then height_at c p - pops c (instr_at c p).op (instr_at c p).a + pushes c (instr_at c p).op (instr_at c p).a else 0) test
-      ∙ ap (λ (j : Instr). height_at c p - pops c j.op j.a + pushes c j.op j.a) here
+  stays : (p : ℕ) → start ≤ p → p + 1 < end → routine_of c (p + 1) ≡ routine_of c p
+  stays p low high = within (p + 1) (omega (arith, low)) high ∙ sym (within p low (omega (arith, high)))
 
-  pub height_behind : (least most : ℕ) (code : List Instr) (p q h n : ℕ) → start ≤ p → q < end → Stand c p code q → Lift c least most code h n
-      → height_at c p ≡ h
-      → height_at c q ≡ n
-  height_behind least most [] p q h n low high stand lift at = ap (height_at c) (sym stand) ∙ at ∙ lift
-  height_behind least most (i ∷ code) p q h n low high stand lift at =
-      let far : q ≡ p + 1 + length code = stands_to c (p + 1) code q stand.1 in
-      height_behind least most code (p + 1) q (behind c i h) n (omega (arith, low)) high stand.1 lift.4
-      (height_step p i low (omega (arith, far, high)) stand.0 ∙ ap (behind c i) at)
+  pub height_step : (p : ℕ) (i : Instr) → start ≤ p → p + 1 < end → slice_get c.instrs p ≡ Some i
+      → height_at c (p + 1) ≡ behind c i (height_at c p)
+  height_step p i low high found = one_step c p i (stays p low high) found
+
+  pub height_behind : (least most : ℕ) (code : List Instr) (p q h n : ℕ) → start ≤ p → q < end → Stand c p code q
+      → Lift c least most code h n → height_at c p ≡ h → height_at c q ≡ n
+  height_behind least most code p q h n low high stand lift at =
+      all_steps c least most code p q h n (λ x above below. stays x (omega (arith, low, above)) (omega (arith, below, high))) stand lift at
 
   -- ---- Single places, and several
   pub fine_more : (p m q : ℕ) → AreFine c site base p m → AreFine c site base m q → AreFine c site base p q

@@ -19,7 +19,8 @@ use Rattle.code_law.specs.Suited.{routines_of, AreSuited}
 use Rattle.code_law.proofs.Fine.{AnEnd, Lands, AreFine, lower_or_not, found_at}
 use Rattle.code_law.proofs.StatementLifts.{Level, Rise, body_lifts}
 use Rattle.code_law.proofs.StatementPlaces.{Plain, body_fine}
-use Rattle.code_law.proofs.Lifts.{lift_wider, expr_lifts, assign_name_lifts, assign_element_lifts, call_statement_lifts, scalar_stored}
+use Rattle.code_law.proofs.LiftedParts.{lift_wider, scalar_stored}
+use Rattle.code_law.proofs.Lifts.{expr_lifts, assign_name_lifts, assign_element_lifts, call_statement_lifts}
 use Rattle.code_law.proofs.Plain.{plain_more, expr_plain, index_plain, store_plain, store_element_plain, call_statement_plain, scalar_store_plain, load_own_plain, store_own_plain}
 use Rattle.code_law.proofs.Ranges.{start_of, end_of, ending_of, own_place, place_of, ends_inside, start_is_empty, ending_is_last, body_stands, ending_stands, ending_fits, owner_of_program, owner_of_routine}
 use Rattle.code_law.proofs.Walks.{routine_lifts}

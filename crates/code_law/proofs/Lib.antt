@@ -32,6 +32,7 @@ pub mod StatementLifts
 pub mod Behind
 pub mod StatementPlaces
 pub mod StatementCalls
+pub mod LiftedParts
 pub mod Lifts
 pub mod Plain
 pub mod Firsts

@@ -27,7 +27,8 @@ use Rattle.pascal_code.specs.Expressions.{expr_code, index_code, arguments_code}
 use Rattle.pascal_code.specs.Statements.{load_own, store_own, jump, jump_if_false, call_statement_code, reach_op, before_op, step_op, counter_test, counter_step, label_test, more_label_tests, label_tests, label_tests_size, no_branch_code, statement_code, body_code, sequence_code, statements_code, branch_code, branches_code}
 use Rattle.code_law.specs.Suits.{Routines, CanIndex, SuitsExpr, SuitsIndex, SuitsStatement, SuitsBody, SuitsSequence, SuitsStatements, SuitsBranch, SuitsBranches}
 use Rattle.code_law.specs.Heights.{behind, Lift, IsPlain, HasRoom}
-use Rattle.code_law.proofs.Lifts.{words_passed, lift_wider, index_lifts, expr_lifts, call_arguments_lift}
+use Rattle.code_law.proofs.LiftedParts.{words_passed, lift_wider}
+use Rattle.code_law.proofs.Lifts.{index_lifts, expr_lifts, call_arguments_lift}
 use Rattle.code_law.proofs.Standing.{Stand, parted, stands_to}
 use Rattle.code_law.proofs.StatementLifts.{Rise, load_lift, store_lift, reach_lifts, labels_lift, statement_lifts}
 use Rattle.code_law.proofs.StatementPlaces.{Plain}

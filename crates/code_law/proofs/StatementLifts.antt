@@ -21,26 +21,11 @@ use Rattle.pascal_code.specs.Expressions.{expr_code, index_code}
 use Rattle.pascal_code.specs.Statements.{load_own, store_own, jump, jump_if_false, call_statement_code, reach_op, before_op, counter_test, counter_step, label_test, more_label_tests, label_tests, label_tests_size, no_branch_code, statement_code, body_code, sequence_code, statements_code, branch_code, branches_code}
 use Rattle.code_law.specs.Suits.{Routines, IsScalar, SuitsExpr, SuitsStatement, SuitsBody, SuitsSequence, SuitsStatements, SuitsBranch, SuitsBranches}
 use Rattle.code_law.specs.Heights.{behind, Lift}
+use Rattle.code_law.proofs.LiftedParts.{lifts, lift_wider}
 
 -- statements find and leave the stack empty, and have less than so many operands meanwhile
 abbrev pub Level : CodeLists → List Instr → Type 0
 Level c code = Lift c 0 1500 code 0 0
-
-pub lifted_more : (c : CodeLists) (least most : ℕ) (first rest : List Instr) (h m n : ℕ) → Lift c least most first h m → Lift c least most rest m n
-    → Lift c least most (first ++ rest) h n
-lifted_more c least most [] rest h m n one two = subst (λ j. Lift c least most rest j n) (sym one) two
-lifted_more c least most (i ∷ first) rest h m n one two = (one.0, one.1, one.2, one.3, lifted_more c least most first rest (behind c i h) m n one.4 two)
-
-pub lifted_from : (c : CodeLists) (least less most : ℕ) (code : List Instr) (h n : ℕ) → less ≤ least → Lift c least most code h n → Lift c less most code h n
-lifted_from c least less most [] h n low lift = lift
-lifted_from c least less most (i ∷ code) h n low lift = (
-  lift.0,
-  omega (arith, low, lift.1),
-  lift.2,
-  lift.3,
-  lifted_from c least less most code
-      (behind c i h) n low lift.4,
-)
 
 module _ (c : CodeLists) where
   -- words that are loaded and stored
@@ -94,12 +79,12 @@ module _ (c : CodeLists) where
   more_labels_lift : (site : Site) (w found : ℕ) (ls : List (ℕ × Constant)) → Level c (more_label_tests site w found ls)
   more_labels_lift site w found [] = refl
   more_labels_lift site w found (l ∷ more) =
-      lifted_more c 0 1500 (label_test site w found l.1) (more_label_tests site w found more) 0 0 0 (label_lifts site w found l.1)
+      lifts c 0 1500 (label_test site w found l.1) (more_label_tests site w found more) 0 0 0 (label_lifts site w found l.1)
       (more_labels_lift site w found more)
 
   pub labels_lift : (site : Site) (w found : ℕ) (labels : Labels) → Level c (label_tests site w found labels)
   labels_lift site w found labels =
-      lifted_more c 0 1500 (label_test site w found labels.first) (more_label_tests site w found labels.rest) 0 0 0 (label_lifts site w found labels.first)
+      lifts c 0 1500 (label_test site w found labels.first) (more_label_tests site w found labels.rest) 0 0 0 (label_lifts site w found labels.first)
       (more_labels_lift site w found labels.rest)
 
   pub no_branch_lifts : (out : ℕ) → Level c (no_branch_code out)
@@ -135,16 +120,16 @@ module _ (c : CodeLists) (rs : Routines) (site : Site) (inside : Bool) (rise : R
   tested_more : (e : Expr) (out : ℕ) (rest : List Instr) → SuitsExpr rs site.names e → ExprFits e most_levels → Level c rest
       → Level c (expr_code site e ++ jump_if_false out ∷ rest)
   tested_more e out rest suits fits lift =
-      lifted_more c 0 1500 (expr_code site e) (jump_if_false out ∷ rest) 0 1 0
-      (lifted_from c 1 0 1500 (expr_code site e) 0 1 (omega arith) (rise.expr e suits fits))
+      lifts c 0 1500 (expr_code site e) (jump_if_false out ∷ rest) 0 1 0
+      (lift_wider c 1 1500 0 1500 (expr_code site e) 0 1 (omega arith) (omega arith) (rise.expr e suits fits))
       (omega arith, omega arith, omega arith, (λ e. refl), lift)
 
   -- a value that is kept in a word
   kept_more : (e : Expr) (w : ℕ) (rest : List Instr) → SuitsExpr rs site.names e → ExprFits e most_levels → Level c rest
       → Level c (expr_code site e ++ store_own site w ∷ rest)
   kept_more e w rest suits fits lift =
-      lifted_more c 0 1500 (expr_code site e) (store_own site w ∷ rest) 0 1 0
-      (lifted_from c 1 0 1500 (expr_code site e) 0 1 (omega arith) (rise.expr e suits fits))
+      lifts c 0 1500 (expr_code site e) (store_own site w ∷ rest) 0 1 0
+      (lift_wider c 1 1500 0 1500 (expr_code site e) 0 1 (omega arith) (omega arith) (rise.expr e suits fits))
       (store_lift c site.owner w 0 rest lift)
 
   mutual
@@ -165,7 +150,7 @@ module _ (c : CodeLists) (rs : Routines) (site : Site) (inside : Bool) (rise : R
         let others = statement_code site free t otherwise in
         let out = otherwise + length others in
         ticks_more line _ (tested_more e _ (code ++ jump out ∷ others) suits.0 fits.1
-        (lifted_more c 0 1500 code (jump out ∷ others) 0 0 0 (statement_lifts s free first (n - 1) suits.1 fits.2)
+        (lifts c 0 1500 code (jump out ∷ others) 0 0 0 (statement_lifts s free first (n - 1) suits.1 fits.2)
         (jumps_more out others (statement_lifts t free otherwise (n - 1) suits.2 fits.4))))
     statement_lifts (while_do line e do_line s) free place n suits fits =
         let first = place + 1 + length (expr_code site e) + 2 in
@@ -180,7 +165,7 @@ module _ (c : CodeLists) (rs : Routines) (site : Site) (inside : Bool) (rise : R
             omega arith,
             (λ e. cc),
             tested_more e (first + length code + 1) (code ++ jump (place + 1) ∷ []) suits.0 fits.1
-                (lifted_more c 0 1500 code (jump (place + 1) ∷ []) 0 0 0 (statement_lifts s free first (n - 1) suits.1 fits.2)
+                (lifts c 0 1500 code (jump (place + 1) ∷ []) 0 0 0 (statement_lifts s free first (n - 1) suits.1 fits.2)
                     (jumps_more (place + 1) [] refl)),
           ),
         )
@@ -203,8 +188,8 @@ module _ (c : CodeLists) (rs : Routines) (site : Site) (inside : Bool) (rise : R
               omega arith,
               omega arith,
               (λ e. cc),
-              (lifted_more c 0 1500 test (bare op.Not ∷ (jump_if_false out ∷ (code ++ jump (place + 2) ∷ []))) 0 1 0
-                  (lifted_from c 1 0 1500 test 0 1 (omega arith) (rise.expr e suits.0 fits.2)) (
+              (lifts c 0 1500 test (bare op.Not ∷ (jump_if_false out ∷ (code ++ jump (place + 2) ∷ []))) 0 1 0
+                  (lift_wider c 1 1500 0 1500 test 0 1 (omega arith) (omega arith) (rise.expr e suits.0 fits.2)) (
                     omega arith,
                     omega arith,
                     omega arith,
@@ -214,7 +199,7 @@ module _ (c : CodeLists) (rs : Routines) (site : Site) (inside : Bool) (rise : R
                       omega arith,
                       omega arith,
                       (λ e. refl),
-                      lifted_more c 0 1500 code (jump (place + 2) ∷ []) 0 0 0 (sequence_lifts s free first (n - 1) suits.1 fits.1)
+                      lifts c 0 1500 code (jump (place + 2) ∷ []) 0 0 0 (sequence_lifts s free first (n - 1) suits.1 fits.1)
                           (jumps_more (place + 2) [] refl),
                     ),
                   )),
@@ -231,16 +216,16 @@ module _ (c : CodeLists) (rs : Routines) (site : Site) (inside : Bool) (rise : R
         let out = first + length code + 8 in
         let again = counter_test site (before_op way) free out ++ counter_step site way free turn in
         ticks_more line _ (kept_more from free _ suits.1 fits.1 (kept_more to (free + 1) _ suits.2 fits.2
-        (lifted_more c 0 1500 (counter_test site (reach_op way) free out) (tick line ∷ (load_own site free ∷ (control ++ (code ++ again)))) 0 0 0
+        (lifts c 0 1500 (counter_test site (reach_op way) free out) (tick line ∷ (load_own site free ∷ (control ++ (code ++ again)))) 0 0 0
         (reach_lifts c site way free out) (
           omega arith,
           omega arith,
           omega arith,
           (λ e. cc),
           load_lift c site.owner free 0 0 (control ++ (code ++ again)) (omega arith)
-              (lifted_more c 0 1500 control (code ++ again) 1 0 0 (rise.control x suits.0)
-              (lifted_more c 0 1500 code again 0 0 0 (statement_lifts s (free + 2) first (n - 1) suits.3 fits.3)
-              (lifted_more c 0 1500 (counter_test site (before_op way) free out) (counter_step site way free turn) 0 0 0 (before_lifts c site way free out)
+              (lifts c 0 1500 control (code ++ again) 1 0 0 (rise.control x suits.0)
+              (lifts c 0 1500 code again 0 0 0 (statement_lifts s (free + 2) first (n - 1) suits.3 fits.3)
+              (lifts c 0 1500 (counter_test site (before_op way) free out) (counter_step site way free turn) 0 0 0 (before_lifts c site way free out)
               (step_lifts c site way free turn)))),
         ))))
     statement_lifts (case_of line e of_line b more end_line) free place n suits fits =
@@ -254,7 +239,7 @@ module _ (c : CodeLists) (rs : Routines) (site : Site) (inside : Bool) (rise : R
     pub sequence_lifts : (s : Sequence) (free place n : ℕ) → SuitsSequence rs site.names inside s → SequenceFits s n → Level c (sequence_code site free s place)
     sequence_lifts (sequence s more) free place n suits fits =
         let code = statement_code site free s place in
-        lifted_more c 0 1500 code (statements_code site free more (place + length code)) 0 0 0 (statement_lifts s free place n suits.0 fits.0)
+        lifts c 0 1500 code (statements_code site free more (place + length code)) 0 0 0 (statement_lifts s free place n suits.0 fits.0)
         (statements_lift more free (place + length code) n suits.1 fits.1)
 
     pub statements_lift : (ss : Statements) (free place n : ℕ) → SuitsStatements rs site.names inside ss → StatementsFit ss n
@@ -262,7 +247,7 @@ module _ (c : CodeLists) (rs : Routines) (site : Site) (inside : Bool) (rise : R
     statements_lift no_statement free place n suits fits = refl
     statements_lift (next_statement line s more) free place n suits fits =
         let code = statement_code site free s place in
-        lifted_more c 0 1500 code (statements_code site free more (place + length code)) 0 0 0 (statement_lifts s free place n suits.0 fits.0)
+        lifts c 0 1500 code (statements_code site free more (place + length code)) 0 0 0 (statement_lifts s free place n suits.0 fits.0)
         (statements_lift more free (place + length code) n suits.1 fits.1)
 
     pub branch_lifts : (b : Branch) (free : ℕ) (later : ℕ → List Instr) (place n : ℕ) → SuitsBranch rs site.names inside b → BranchFits b n
@@ -274,8 +259,8 @@ module _ (c : CodeLists) (rs : Routines) (site : Site) (inside : Bool) (rise : R
         let next = found + length code + 1 in
         let others = later next in
         let out = next + length others in
-        lifted_more c 0 1500 (label_tests site free found labels) (jump next ∷ (code ++ (jump out ∷ others))) 0 0 0 (labels_lift c site free found labels)
-        (jumps_more next _ (lifted_more c 0 1500 code (jump out ∷ others) 0 0 0 (statement_lifts s (free + 1) found n suits.1 fits)
+        lifts c 0 1500 (label_tests site free found labels) (jump next ∷ (code ++ (jump out ∷ others))) 0 0 0 (labels_lift c site free found labels)
+        (jumps_more next _ (lifts c 0 1500 code (jump out ∷ others) 0 0 0 (statement_lifts s (free + 1) found n suits.1 fits)
         (jumps_more out others (lift next))))
 
     pub branches_lift : (bs : Branches) (free place n : ℕ) → SuitsBranches rs site.names inside bs → BranchesFit bs n

@@ -25,7 +25,8 @@ use Rattle.pascal_code.specs.Code.{nested_words, nested_in_body, nested_in_seque
 use Rattle.code_law.specs.Suits.{Routines, IsScalar, SuitsExpr, SuitsStatement, SuitsBody, SuitsSequence, SuitsStatements, SuitsBranch, SuitsBranches}
 use Rattle.code_law.specs.Heights.{behind, Lift, IsPlain}
 use Rattle.code_law.proofs.Standing.{Stand, parted, stands_to}
-use Rattle.code_law.proofs.StatementLifts.{Level, Rise, lifted_more, reach_lifts, before_lifts, step_lifts, labels_lift, statement_lifts, sequence_lifts, branches_lift}
+use Rattle.code_law.proofs.LiftedParts.{lifts}
+use Rattle.code_law.proofs.StatementLifts.{Level, Rise, reach_lifts, before_lifts, step_lifts, labels_lift, statement_lifts, sequence_lifts, branches_lift}
 use Rattle.code_law.proofs.Fine.{Opens, ATick, AnEnd, AKeptWord, IsBehindJump, Lands, AreFine, found_at, height_step, height_behind, fine_more, fine_none, fine_one, fine_plain, fine_jump, fine_branch}
 
 -- the instructions of a site's expressions, assignments and calls, and the words that FOR and CASE keep
@@ -214,7 +215,7 @@ module _ (c : CodeLists) (k : ℕ) (rs : Routines) (site : Site) (inside : Bool)
 
   again_lifts : (way : Direction) (w out turn : ℕ) → Level c (counter_test site (before_op way) w out ++ counter_step site way w turn)
   again_lifts way w out turn =
-      lifted_more c 0 1500 (counter_test site (before_op way) w out) (counter_step site way w turn) 0 0 0 (before_lifts c site way w out)
+      lifts c 0 1500 (counter_test site (before_op way) w out) (counter_step site way w turn) 0 0 0 (before_lifts c site way w out)
       (step_lifts c site way w turn)
 
   labels_size : (labels : Labels) (found w : ℕ) → length (label_tests site w found labels) ≡ label_tests_size labels
