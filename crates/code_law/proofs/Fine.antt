@@ -1,12 +1,12 @@
 -- What holds at each place of compiled statements: operands fit, and jumps lead where nothing is on the stack.
-use Rattle.std.proofs.Common.{◌≡◌, ℕ, suc, ◌+◌, ◌-◌, ◌<◌, ◌≤◌, Bool, true, false, Some, List, [], ◌∷◌, length, ◌⊎◌, inl, inr, refl, sym, ◌∙◌, ap, subst, arith}
-use Rattle.std.specs.Prelude.{slice_get, ◌==◌, ◌&&◌, ◌||◌, nat_lt, if◌then◌else◌}
+use Rattle.std.proofs.Common.{◌≡◌, ℕ, ◌+◌, ◌<◌, ◌≤◌, Bool, true, false, Some, List, [], ◌∷◌, length, ◌⊎◌, inl, inr, refl, sym, ◌∙◌, subst, arith}
+use Rattle.std.specs.Prelude.{slice_get, ◌==◌, ◌&&◌, ◌||◌, nat_lt}
 use Rattle.std.specs.List.{AllByRecursion}
 use Rattle.std.proofs.lemmas.Bool.{false≢true, eq-eqb, lt-ltb, ltb-true, ltb-false, and_from, or_left, or_right}
 use Rattle.std.proofs.lemmas.Option.{get_or_from_slice_get}
 use Rattle.stack_code.specs.declared.instr.Instr.{Instr}
 use Rattle.stack_code.specs.CodeLists.{CodeLists, instr_at, no_instr}
-use Rattle.stack_code.specs.Rules.{routine_of, height_at, pops, pushes, operands_fit, is_jump, is_tick, leaves_nothing, jump_fits}
+use Rattle.stack_code.specs.Rules.{routine_of, height_at, operands_fit, is_jump, is_tick, leaves_nothing, jump_fits}
 use Rattle.pascal_code.specs.Senses.{Site}
 use Rattle.pascal_code.specs.Statements.{load_own, jump, jump_if_false}
 use Rattle.code_law.specs.Heights.{behind, Lift, IsPlain}

@@ -1,5 +1,5 @@
 -- How high the operand stack stands along single instructions, names and calls.
-use Rattle.std.proofs.Common.{◌≡◌, ℕ, ◌+◌, ◌-◌, ◌*◌, ◌≤◌, Bool, true, false, Some, None, Option, List, [], ◌∷◌, ◌++◌, length, pos, refl, sym, ◌∙◌, ap, subst, arith}
+use Rattle.std.proofs.Common.{◌≡◌, ℕ, ◌+◌, ◌≤◌, Bool, true, false, Some, None, Option, List, [], ◌∷◌, ◌++◌, length, refl, sym, ◌∙◌, ap, subst, arith}
 use Rattle.std.proofs.lemmas.Bool.{true≢false}
 use Rattle.solo_base.specs.declared.interface.Procedure.{Procedure}
 use Rattle.solo_base.specs.declared.interface.Procedure.TheVariants as row
@@ -7,7 +7,7 @@ use Rattle.solo_base.specs.Interface.{values_of, results_of, call_row_of}
 use Rattle.stack_code.specs.declared.table.Op.{Op}
 use Rattle.stack_code.specs.declared.table.Op.TheVariants as op
 use Rattle.stack_code.specs.declared.instr.Instr.{Instr}
-use Rattle.stack_code.specs.CodeLists.{CodeLists, routine_at}
+use Rattle.stack_code.specs.CodeLists.{CodeLists}
 use Rattle.stack_code.specs.CodeFile.{mark}
 use Rattle.stack_code.specs.Rules.{pops, pushes, leaves_nothing}
 use Rattle.pascal_tree.specs.declared.expression.Relation.{Relation}
@@ -18,20 +18,17 @@ use Rattle.pascal_tree.specs.declared.expression.Adding.{Adding}
 use Rattle.pascal_tree.specs.declared.expression.Adding.TheVariants as adding
 use Rattle.pascal_tree.specs.declared.expression.Multiplying.{Multiplying}
 use Rattle.pascal_tree.specs.declared.expression.Multiplying.TheVariants as multiplying
-use Rattle.pascal_tree.specs.Word.{NameAt}
-use Rattle.pascal_tree.specs.Expression.{Expr, alone, compared, Simple, simple, Addends, no_addend, addend, Term, term, Multipliers, no_multiplier, multiplier, Factor, number, character, named, element, called, group, negated, Index, index, Arguments, arguments, Exprs, no_expr, next_expr}
-use Rattle.pascal_tree.specs.Limits.{most_levels, ExprFits, SimpleFits, AddendsFit, TermFits, MultipliersFit, FactorFits, IndexFits, ArgumentsFit, ExprsFit, CallFits}
+use Rattle.pascal_tree.specs.Expression.{Arguments, arguments, Exprs, no_expr, next_expr}
 use Rattle.pascal_mean.specs.Means.{Owner, OfProgram, OfRoutine, Standard, Abs, Succ, Pred, Ord, Chr}
 use Rattle.pascal_mean.specs.Calls.{Passing, ByValue, ByVariable, ByArray, row_passing}
 use Rattle.pascal_mean.specs.Expressions.{name_in}
-use Rattle.pascal_code.specs.Instructions.{bare, with_a, operand, load_word, store_word, load_element, store_element, refer, test_index}
+use Rattle.pascal_code.specs.Instructions.{bare, with_a, load_word, store_word, load_element, store_element, refer, test_index}
 use Rattle.pascal_code.specs.Senses.{Sense, Constant, Variable, Array, Reference, Routine, Function, Interface, Nothing, Site}
-use Rattle.pascal_code.specs.Names.{name_code, store_code, reference_code, test_code, element_code, store_element_code}
-use Rattle.pascal_code.specs.Calls.{row_number, standard_code, passing_of, variable_code, given_exprs, given_arguments, variables_among, arrays_among, row_call, stores_code, call_code}
-use Rattle.pascal_code.specs.Expressions.{relation_op, adding_op, multiplying_op, sign_code, expr_code, simple_code, addends_code, term_code, multipliers_code, factor_code, index_code, arguments_code, exprs_code}
-use Rattle.pascal_code.specs.Statements.{call_statement_code}
-use Rattle.code_law.specs.Heights.{behind, Lift, passed_words, HasRoom}
-use Rattle.code_law.specs.Suits.{Routines, IsRoutineOf, CanLoad, CanIndex, CanStore, IsScalar, CanCall, CanPass, variable_count, SuitsExpr, SuitsSimple, SuitsAddends, SuitsTerm, SuitsMultipliers, SuitsFactor, SuitsIndex, SuitsArguments, SuitsExprs, SuitsCall}
+use Rattle.pascal_code.specs.Names.{store_code, reference_code, test_code, element_code, store_element_code}
+use Rattle.pascal_code.specs.Calls.{row_number, standard_code, variable_code, given_exprs, given_arguments, variables_among, arrays_among, row_call, stores_code, call_code}
+use Rattle.pascal_code.specs.Expressions.{relation_op, adding_op, multiplying_op, sign_code}
+use Rattle.code_law.specs.Heights.{behind, Lift, passed_words}
+use Rattle.code_law.specs.Suits.{Routines, CanIndex, CanStore, IsScalar, CanCall, CanPass, variable_count, SuitsExpr, SuitsArguments, SuitsExprs}
 
 -- ---- One code behind another
 

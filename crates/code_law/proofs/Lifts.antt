@@ -1,37 +1,22 @@
 -- How high the operand stack stands along the code of expressions, calls and assignments.
-use Rattle.std.proofs.Common.{◌≡◌, ℕ, ◌+◌, ◌-◌, ◌*◌, ◌≤◌, Bool, true, false, Some, None, Option, List, [], ◌∷◌, ◌++◌, length, pos, refl, sym, ◌∙◌, ap, subst, arith}
+use Rattle.std.proofs.Common.{◌≡◌, ℕ, ◌+◌, ◌-◌, ◌*◌, ◌≤◌, Bool, true, false, Some, None, Option, List, [], ◌∷◌, ◌++◌, pos, refl, sym, ◌∙◌, ap, arith}
 use Rattle.std.proofs.lemmas.Bool.{true≢false}
-use Rattle.solo_base.specs.declared.interface.Procedure.{Procedure}
-use Rattle.solo_base.specs.declared.interface.Procedure.TheVariants as row
-use Rattle.solo_base.specs.Interface.{values_of, results_of, call_row_of}
-use Rattle.stack_code.specs.declared.table.Op.{Op}
 use Rattle.stack_code.specs.declared.table.Op.TheVariants as op
-use Rattle.stack_code.specs.declared.instr.Instr.{Instr}
 use Rattle.stack_code.specs.CodeLists.{CodeLists, routine_at}
 use Rattle.stack_code.specs.CodeFile.{mark}
-use Rattle.stack_code.specs.Rules.{pops, pushes, leaves_nothing}
-use Rattle.pascal_tree.specs.declared.expression.Relation.{Relation}
-use Rattle.pascal_tree.specs.declared.expression.Relation.TheVariants as relation
-use Rattle.pascal_tree.specs.declared.expression.Sign.{Sign}
-use Rattle.pascal_tree.specs.declared.expression.Sign.TheVariants as sign
-use Rattle.pascal_tree.specs.declared.expression.Adding.{Adding}
-use Rattle.pascal_tree.specs.declared.expression.Adding.TheVariants as adding
-use Rattle.pascal_tree.specs.declared.expression.Multiplying.{Multiplying}
-use Rattle.pascal_tree.specs.declared.expression.Multiplying.TheVariants as multiplying
 use Rattle.pascal_tree.specs.Word.{NameAt}
 use Rattle.pascal_tree.specs.Expression.{Expr, alone, compared, Simple, simple, Addends, no_addend, addend, Term, term, Multipliers, no_multiplier, multiplier, Factor, number, character, named, element, called, group, negated, Index, index, Arguments, arguments, Exprs, no_expr, next_expr}
 use Rattle.pascal_tree.specs.Limits.{most_levels, ExprFits, SimpleFits, AddendsFit, TermFits, MultipliersFit, FactorFits, IndexFits, ArgumentsFit, ExprsFit, CallFits}
-use Rattle.pascal_mean.specs.Means.{Owner, OfProgram, OfRoutine, Standard, Abs, Succ, Pred, Ord, Chr}
-use Rattle.pascal_mean.specs.Calls.{Passing, ByValue, ByVariable, ByArray, row_passing}
+use Rattle.pascal_mean.specs.Calls.{Passing, ByValue, ByVariable, ByArray}
 use Rattle.pascal_mean.specs.Expressions.{name_in}
-use Rattle.pascal_code.specs.Instructions.{bare, with_a, operand, load_word, store_word, load_element, store_element, refer, test_index}
+use Rattle.pascal_code.specs.Instructions.{bare, with_a, operand}
 use Rattle.pascal_code.specs.Senses.{Sense, Constant, Variable, Array, Reference, Routine, Function, Interface, Nothing, Site}
-use Rattle.pascal_code.specs.Names.{name_code, store_code, reference_code, test_code, element_code, store_element_code}
-use Rattle.pascal_code.specs.Calls.{row_number, standard_code, passing_of, variable_code, given_exprs, given_arguments, variables_among, arrays_among, row_call, stores_code, call_code}
+use Rattle.pascal_code.specs.Names.{name_code, store_code, test_code, element_code, store_element_code}
+use Rattle.pascal_code.specs.Calls.{passing_of, variable_code, given_arguments, call_code}
 use Rattle.pascal_code.specs.Expressions.{relation_op, adding_op, multiplying_op, sign_code, expr_code, simple_code, addends_code, term_code, multipliers_code, factor_code, index_code, arguments_code, exprs_code}
 use Rattle.pascal_code.specs.Statements.{call_statement_code}
-use Rattle.code_law.specs.Heights.{behind, Lift, passed_words, HasRoom}
-use Rattle.code_law.specs.Suits.{Routines, IsRoutineOf, CanLoad, CanIndex, CanStore, IsScalar, CanCall, CanPass, variable_count, SuitsExpr, SuitsSimple, SuitsAddends, SuitsTerm, SuitsMultipliers, SuitsFactor, SuitsIndex, SuitsArguments, SuitsExprs, SuitsCall}
+use Rattle.code_law.specs.Heights.{Lift, passed_words, HasRoom}
+use Rattle.code_law.specs.Suits.{Routines, IsRoutineOf, CanLoad, CanIndex, CanStore, CanCall, SuitsExpr, SuitsSimple, SuitsAddends, SuitsTerm, SuitsMultipliers, SuitsFactor, SuitsIndex, SuitsArguments, SuitsExprs, SuitsCall}
 use Rattle.code_law.proofs.LiftedParts.{lifts, lift_wider, lift_moved, lift_step, relation_is, adding_is, multiplying_is, binary_lifts, unary_lifts, sign_lifts, push_lifts, load_lifts, store_lifts, test_lifts, element_lifts, store_element_lifts, variable_words, words_passed, routine_passes, variable_lifts, AreVariables, arguments_among, none_among, row_few, row_lifts, standard_lifts}
 
 module _ {c : CodeLists} {k : ℕ} {rs : Routines} {site : Site} {in_function : Bool} (room : HasRoom c k rs site in_function) (most : ℕ) where

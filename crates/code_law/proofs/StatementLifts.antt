@@ -20,7 +20,7 @@ use Rattle.pascal_code.specs.Names.{store_code, store_element_code}
 use Rattle.pascal_code.specs.Expressions.{expr_code, index_code}
 use Rattle.pascal_code.specs.Statements.{load_own, store_own, jump, jump_if_false, call_statement_code, reach_op, before_op, counter_test, counter_step, label_test, more_label_tests, label_tests, label_tests_size, no_branch_code, statement_code, body_code, sequence_code, statements_code, branch_code, branches_code}
 use Rattle.code_law.specs.Suits.{Routines, IsScalar, SuitsExpr, SuitsStatement, SuitsBody, SuitsSequence, SuitsStatements, SuitsBranch, SuitsBranches}
-use Rattle.code_law.specs.Heights.{behind, Lift}
+use Rattle.code_law.specs.Heights.{Lift}
 use Rattle.code_law.proofs.LiftedParts.{lifts, lift_wider}
 
 -- statements find and leave the stack empty, and have less than so many operands meanwhile
@@ -166,7 +166,7 @@ module _ (c : CodeLists) (rs : Routines) (site : Site) (inside : Bool) (rise : R
             (λ e. cc),
             tested_more e (first + length code + 1) (code ++ jump (place + 1) ∷ []) suits.0 fits.1
                 (lifts c 0 1500 code (jump (place + 1) ∷ []) 0 0 0 (statement_lifts s free first (n - 1) suits.1 fits.2)
-                    (jumps_more (place + 1) [] refl)),
+                (jumps_more (place + 1) [] refl)),
           ),
         )
     statement_lifts (repeat_until line s until_line e) free place n suits fits =

@@ -327,7 +327,7 @@ module _ (c : CodeLists) (k : ℕ) (rs : Routines) (site : Site) (inside : Bool)
             (also (begin + 1 + 1) three.0 q (plain_fine control (begin + 1 + 1) three.0 (omega (arith, low)) (omega (arith, three_high)) three.1.0 all)
             (also three.0 four.0 q (inner three.0 four.0 (sym m4) four.1.0 four_high h7 (AKeptWord w kept (found_at c four.0 (load_own site w) five.1.0.0)))
             (also four.0 five.0 q (test_fine (before_op way) w out four.0 five.0 q (before_is way) room out_is five.1.0 four_low
-                (omega (arith, far)) high leaves)
+            (omega (arith, far)) high leaves)
             (step_fine way w turn begin five.0 q room turn_is five.1.1 low (omega (arith, m4, m5, m6)) high ticks
             (record { height = at; opener = inl (ATick ticks) }))))));
       }
