@@ -6,7 +6,7 @@ use Rattle.std.specs.declared.snapshot.Snapshot.{Snapshot}
 use Rattle.solo_base.specs.declared.outcome.Side.{Side}
 use Rattle.solo_base.specs.declared.outcome.Side.TheVariants.{Sender, Receiver}
 use Rattle.solo_base.specs.declared.page.Page.{Page}
-use Rattle.queue_var.specs.Fifo.{places}
+use Rattle.queue_var.specs.Circle.{places}
 use Rattle.queue_var.specs.Sides.{stopped_by}
 use Rattle.queue_var.specs.BetweenTwo.{by_side, calls_of}
 use Rattle.queue_var.proofs.BetweenTwo.{calls-met, who-stopped}

@@ -2,7 +2,7 @@
 use Rattle.std.proofs.Common.{◌≡◌, ℕ, ◌+◌, ◌-◌, ◌<◌, ◌≤◌, Bool, false, List, [], ◌∷◌, length, drop, get_or, set, ap, sym, ◌∙◌, inl, inr, ◌≢◌, arith}
 use Rattle.std.proofs.lemmas.List.{nil_from_length}
 use Rattle.std.proofs.lemmas.Bool.{cases_eq}
-use Rattle.queue_var.specs.Fifo.{place, places}
+use Rattle.queue_var.specs.Circle.{place, places}
 use Rattle.disk_spool.specs.Ring.{Ring, at_places, with_page, without_first}
 use Rattle.disk_spool.specs.Places.{length_at_places, put_behind, earliest_apart}
 

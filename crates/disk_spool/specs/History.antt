@@ -6,7 +6,7 @@ use Rattle.std.proofs.lemmas.Option.{unwrap_or-slice_get, get_or_from_slice_get}
 use Rattle.std.proofs.lemmas.Bool.{eqb-true}
 use Rattle.solo_base.specs.declared.outcome.Side.{Side}
 use Rattle.solo_base.specs.declared.outcome.Side.TheVariants.{Sender, Receiver}
-use Rattle.queue_var.specs.Fifo.{places}
+use Rattle.queue_var.specs.Circle.{places}
 use Rattle.queue_var.specs.Sides.{Sides, MayEnter, queue, stopped_by, has_stopped, continued, stopped}
 use Rattle.queue_var.specs.HandsOver.{WaitsWithCause, HandsOver, StoppedFirst, Lacks}
 use Rattle.queue_var.proofs.Waits.{waits-entered, waits-turned_away, waits-delayed, waits-continued, stops-more, not_first}

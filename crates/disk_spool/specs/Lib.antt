@@ -1,4 +1,4 @@
-pub use Rattle.queue_var.specs.Fifo
+pub use Rattle.queue_var.specs.Circle
 pub use Rattle.queue_var.specs.HandsOver
 pub use Rattle.queue_var.specs.Sides
 pub use Rattle.queue_var.specs.Turn

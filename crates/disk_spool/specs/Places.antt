@@ -1,7 +1,7 @@
 -- What lies at the places of a ring.
 use Rattle.std.proofs.Common.{◌≡◌, ◌≢◌, ℕ, zero, suc, ◌+◌, ◌<◌, ◌≤◌, List, [], ◌∷◌, ◌++◌, length, get_or, set, refl, ap, ap₂, ◌∙◌, arith, get_or-set_same, get_or-set_other, zero-add, add-one}
 use Rattle.std.proofs.lemmas.List.{length-map, map-append}
-use Rattle.queue_var.specs.Fifo.{place, places}
+use Rattle.queue_var.specs.Circle.{place, places}
 use Rattle.queue_var.proofs.Places.{length-places, places-last, places-step}
 use Rattle.disk_spool.specs.Ring.{at_places}
 

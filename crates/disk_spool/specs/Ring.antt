@@ -1,6 +1,6 @@
 -- A ring of places on an area, and the marks of the pages that lie there.
 use Rattle.std.specs.Prelude.{ℕ, Bool, List, [], ◌∷◌, ◌++◌, length, drop, map, slice_index_or}
-use Rattle.queue_var.specs.Fifo.{place}
+use Rattle.queue_var.specs.Circle.{place}
 
 -- how many places there are, the place of the earliest page, and the marks of the pages, the earliest first
 pub record Ring : Type 0 where

@@ -2,7 +2,7 @@
 use Rattle.std.specs.Prelude.{◌≡◌, ◌<◌, ℕ, Bool, true, false, not, ◌==◌, Option, Some, List, [], ◌∷◌, ◌++◌, length, drop, map, slice_index}
 use Rattle.solo_base.specs.declared.outcome.Side.{Side}
 use Rattle.solo_base.specs.declared.outcome.Side.TheVariants.{Sender, Receiver}
-use Rattle.queue_var.specs.Fifo.{places}
+use Rattle.queue_var.specs.Circle.{places}
 use Rattle.queue_var.specs.Sides.{Sides, nobody, stopped_by, entered, delayed, continued, stopped, other}
 use Rattle.queue_var.specs.HandsOver.{HandsOver, StoppedFirst}
 use Rattle.solo_devices.specs.Area.{HasSize}

@@ -1,6 +1,6 @@
 // Where the pages of a spool lie, and their marks.
 ghost use Rattle.std.specs.Prelude.{◌≡◌, ◌≢◌, ◌↔◌, ◌<◌, ◌≤◌, ◌++◌, [], ◌∷◌, length, drop, IsTrue};
-ghost use Rattle.queue_var.specs.Fifo.{place};
+ghost use Rattle.queue_var.specs.Circle.{place};
 ghost use Rattle.disk_spool.specs.Ring.{empty_ring, next_place, with_page, without_first};
 
 use std::marker::Model;
@@ -21,7 +21,7 @@ pub struct Ring {
 // Clauses see the first place, and the marks of the pages from there on.
 impl Model for Ring {
     ghost use Rattle.std.specs.Prelude.{◌≡◌, ◌<◌, ◌≤◌, length, false};
-    ghost use Rattle.queue_var.specs.Fifo.{places};
+    ghost use Rattle.queue_var.specs.Circle.{places};
     ghost use Rattle.disk_spool.specs.Ring.{Ring, at_places};
 
     ghost Value = { Ring };

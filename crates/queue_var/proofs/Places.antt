@@ -2,7 +2,8 @@
 use Rattle.std.proofs.Common.{◌≡◌, ◌≢◌, ℕ, zero, suc, ◌+◌, ◌-◌, ◌%◌, ◌<◌, ◌≤◌, inl, inr, List, [], ◌∷◌, ◌++◌, length, refl, ap, sym, ◌∙◌, add-one, zero-add, arith, get_or, Contains, drop}
 use Rattle.std.proofs.Math.Nat.{suc-mod, mod_self, mod-lt, mod-eq_of_lt}
 use Rattle.std.proofs.lemmas.Bool.{cases_lt}
-use Rattle.queue_var.specs.Fifo.{place, places, Move, Arrival, Departure, StandsFor, arrivals, shown}
+use Rattle.queue_var.specs.Fifo.{Move, Arrival, Departure, StandsFor, arrivals}
+use Rattle.queue_var.specs.Circle.{place, places, shown}
 
 pub length-places : (N first i k : ℕ) → length (places N first i k) ≡ k
 length-places N first i zero = refl

@@ -1,5 +1,5 @@
--- The positions of a FIFO, as a law on all arrivals and departures so far.
-use Rattle.std.specs.Prelude.{◌≡◌, ℕ, zero, suc, ◌+◌, ◌-◌, ◌%◌, List, [], ◌∷◌, ◌++◌, drop, nat_lt, if◌then◌else◌}
+-- The law of a FIFO: the positions that wait, in order of arrival, by all arrivals and departures so far.
+use Rattle.std.specs.Prelude.{◌≡◌, ℕ, ◌+◌, ◌%◌, List, [], ◌∷◌, ◌++◌, drop}
 
 pub data Move : Type 0 where
   Arrival : Move
@@ -31,16 +31,3 @@ waiting N (Departure ∷ before) = drop 1 (waiting N before)
 pub record StandsFor (N : ℕ) (history : List Move) (positions : Positions) : Type 0 where
   pub waiting_is : positions.waiting ≡ waiting N history
   pub next_is : positions.next ≡ arrival_position N history
-
--- the position so many places behind the first, around the circle of N
-abbrev pub place : ℕ → ℕ → ℕ → ℕ
-place N first i = if nat_lt (first + i) N then first + i else first + i - N
-
--- so many places in a row, beginning i places behind the first
-abbrev pub places : ℕ → ℕ → ℕ → ℕ → List ℕ
-places N first i zero = []
-places N first i (suc k) = place N first i ∷ places N first (suc i) k
-
--- what a FIFO of N shows where so many wait, the earliest at the position `first`
-abbrev pub shown : ℕ → ℕ → ℕ → Positions
-shown N first length = record { waiting = places N first 0 length; next = place N first length }

@@ -1,4 +1,5 @@
 pub mod Fifo
+pub mod Circle
 pub mod Sides
 pub mod Turn
 pub mod HandsOver

@@ -1,6 +1,7 @@
 // The order of arrival.
 ghost use Rattle.std.specs.Prelude.{◌≡◌, ◌≢◌, ◌↔◌, ℕ, ◌+◌, ◌<◌, ◌≤◌, List, [], ◌∷◌, ◌++◌, length, IsTrue, Contains};
-ghost use Rattle.queue_var.specs.Fifo.{Move, Arrival, Departure, StandsFor, place};
+ghost use Rattle.queue_var.specs.Fifo.{Move, Arrival, Departure, StandsFor};
+ghost use Rattle.queue_var.specs.Circle.{place};
 
 use std::marker::Model;
 
@@ -14,7 +15,8 @@ pub struct Fifo<const N: usize> {
 
 impl<const N: usize> Model for Fifo<N> {
     ghost use Rattle.std.specs.Prelude.{◌<◌, ◌≤◌};
-    ghost use Rattle.queue_var.specs.Fifo.{Positions, shown};
+    ghost use Rattle.queue_var.specs.Fifo.{Positions};
+    ghost use Rattle.queue_var.specs.Circle.{shown};
 
     ghost Value = { Positions };
 
