@@ -12,7 +12,7 @@ mod TurnTaken
 mod Finishing
 mod WhoGoes
 mod RunMore
-mod Picking
+pub mod Picking
 mod Counted
 mod FaultsCounted
 mod WholeRuns

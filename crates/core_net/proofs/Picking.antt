@@ -82,7 +82,7 @@ picks r s row (Some p) five going e = (
   picked-is (MayGo s) r (numbers_from 1 row) p (goers-may s 1 row going) (sym e),
 )
 
-five-none : (s : CoreState) (row : List Bool) → length row ≡ 5 → NoneGoes s 1 row → (p : ℕ) → IsProcess p → MayGo s p → ⊥
+pub five-none : (s : CoreState) (row : List Bool) → length row ≡ 5 → NoneGoes s 1 row → (p : ℕ) → IsProcess p → MayGo s p → ⊥
 five-none s (a ∷ b ∷ c ∷ d ∷ e ∷ rest) five none p one =
     each-process (λ p. MayGo s p → ⊥) p one none.0 none.1.0 none.1.1.0 none.1.1.1.0 none.1.1.1.1.0
 five-none s [] five none p one = absurd cc

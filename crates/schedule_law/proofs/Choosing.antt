@@ -1,8 +1,7 @@
 -- A rule picks a process that may go on, wherever there is one.
-use Rattle.std.proofs.Common.{◌≡◌, ◌≢◌, ◌↔◌, ◌⊎◌, inl, inr, ◌%◌, ◌/◌, ◌<◌, ℕ, zero, suc, Bool, true, false, List, [], ◌∷◌, length, Option, None, Some, refl, sym, ap, subst, arith, lit≤}
+use Rattle.std.proofs.Common.{◌≡◌, ◌≢◌, ◌↔◌, ◌⊎◌, inl, inr, ℕ, Bool, true, false, List, [], ◌∷◌, length, Option, None, Some, refl, sym, ap, subst, lit≤}
 use Rattle.std.proofs.lemmas.Bool.Decides.{eqb_tells}
-use Rattle.std.specs.Prelude.{IsTrue, nat_lt, if◌then◌else◌, slice_get}
-use Rattle.std.specs.List.{AllByRecursion}
+use Rattle.std.specs.Prelude.{IsTrue}
 use Rattle.solo_base.specs.declared.outcome.Side.{Side}
 use Rattle.solo_base.specs.declared.outcome.Side.TheVariants.{Sender, Receiver}
 use Rattle.queue_var.specs.declared.turn.Turn.{Turn}
@@ -17,12 +16,11 @@ use Rattle.network_law.specs.Buffer.{MayVisit}
 use Rattle.network_law.specs.Network.{MayCall}
 use Rattle.core_law.specs.Core.{call, CoreState}
 use Rattle.core_law.specs.Ends.{IsProcess}
-use Rattle.core_law.proofs.Row.{each-process}
 use Rattle.core_net.specs.declared.rules.Rule.{Rule}
-use Rattle.core_net.specs.declared.rules.Rule.TheVariants as rule
 use Rattle.core_net.specs.Going.{MayGo}
-use Rattle.core_net.specs.Rules.{numbers_from, first_above, or_first, drawn, pick}
+use Rattle.core_net.specs.Rules.{numbers_from, pick}
 use Rattle.core_net.specs.Runs.{AreGoing, IsPicked}
+use Rattle.core_net.proofs.Picking.{none-goes, none-picked, picks, five-none}
 
 -- ---- what can be told
 abbrev Tells : Type 0 → Type 0
@@ -108,45 +106,7 @@ flag : (X : Type 0) → Tells X → Flag X
 flag X (inl x) = (true, (λ e. x, λ x. refl))
 flag X (inr never) = (false, (λ e. absurd cc, λ x. absurd (never x)))
 
--- ---- what a rule picks
-abbrev Picks : (ℕ → Type 0) → Option ℕ → Type 0
-Picks P picked = (p : ℕ) × (picked ≡ Some p) × P p
-
-module _ (P : ℕ → Type 0) where
-  at-place : (goers : List ℕ) (i : ℕ) → i < length goers → AllByRecursion P goers → Picks P (slice_get goers i)
-  at-place [] i below all = absurd (omega (arith, below))
-  at-place (q ∷ goers) zero below all = (q, refl, all.0)
-  at-place (q ∷ goers) (suc i) below all = at-place goers i (omega (arith, below)) all.1
-
-  above : (n : ℕ) (goers others : List ℕ) → AllByRecursion P goers → Picks P (slice_get others 0) → Picks P (or_first (first_above n goers) others)
-  above n [] others all first = first
-  above n (q ∷ goers) others all first =
-      elim (nat_lt n q) as (λ t. Picks P (or_first (if t then Some q else first_above n goers) others)) [
-        | true ↦ (q, refl, all.0)
-        | false ↦ above n goers others all.1 first
-      ]
-
-  picks : (r : Rule) (q : ℕ) (goers : List ℕ) → AllByRecursion P (q ∷ goers) → Picks P (pick r (q ∷ goers))
-  picks rule.Least q goers all = (q, refl, all.0)
-  picks (rule.Cyclic last) q goers all = above last (q ∷ goers) (q ∷ goers) all (q, refl, all.0)
-  picks (rule.Numbered number) q goers all = at-place (q ∷ goers) ((drawn number / 65536) % length (q ∷ goers)) (omega arith) all
-
--- ---- which of the five may go on
-goers-may : (s : CoreState) (n : ℕ) (row : List Bool) → AreGoing s n row → AllByRecursion (MayGo s) (numbers_from n row)
-goers-may s n [] going = tt
-goers-may s n (true ∷ row) going = (going.0.0 refl, goers-may s (suc n) row going.1)
-goers-may s n (false ∷ row) going = goers-may s (suc n) row going.1
-
--- where there is none, none of the row may
-abbrev NoneGoes : CoreState → ℕ → List Bool → Type 0
-NoneGoes s n [] = Unit {0}
-NoneGoes s n (may ∷ row) = (MayGo s n → ⊥) × NoneGoes s (suc n) row
-
-none-goes : (s : CoreState) (n : ℕ) (row : List Bool) → AreGoing s n row → numbers_from n row ≡ [] → NoneGoes s n row
-none-goes s n [] going e = tt
-none-goes s n (true ∷ row) going e = absurd cc
-none-goes s n (false ∷ row) going e = ((λ may. let up = going.0.1 may in cc), none-goes s (suc n) row going.1 e)
-
+-- ---- which of the five is picked
 -- one that the rule picks, and that may go on
 pub record Chosen (r : Rule) (s : CoreState) : Type 0 where
   pub process : ℕ
@@ -163,18 +123,12 @@ chosen r s =
     let (c, is-c) = flag (MayGo s 3) (may-go s 3 (lit≤ tt, lit≤ tt)) in
     let (d, is-d) = flag (MayGo s 4) (may-go s 4 (lit≤ tt, lit≤ tt)) in
     let (e, is-e) = flag (MayGo s 5) (may-go s 5 (lit≤ tt, lit≤ tt)) in
-    by a b c d e (is-a, (is-b, (is-c, (is-d, (is-e, tt))))) (numbers_from 1 (a ∷ b ∷ c ∷ d ∷ e ∷ [])) refl
+    let row = a ∷ b ∷ c ∷ d ∷ e ∷ [] in
+    by row refl (is-a, (is-b, (is-c, (is-d, (is-e, tt))))) (pick r (numbers_from 1 row)) refl
   where
-    by : (a b c d e : Bool) → AreGoing s 1 (a ∷ b ∷ c ∷ d ∷ e ∷ []) → (goers : List ℕ) → numbers_from 1 (a ∷ b ∷ c ∷ d ∷ e ∷ []) ≡ goers
+    by : (row : List Bool) → length row ≡ 5 → AreGoing s 1 row → (picked : Option ℕ) → pick r (numbers_from 1 row) ≡ picked
         → Chosen r s ⊎ NoneMay s
-    by a b c d e going [] is =
-        let none = none-goes s 1 (a ∷ b ∷ c ∷ d ∷ e ∷ []) going is in
-        inr (λ p one. each-process (λ p. MayGo s p → ⊥) p one none.0 none.1.0 none.1.1.0 none.1.1.1.0 none.1.1.1.1.0)
-    by a b c d e going (q ∷ goers) is =
-        let row = a ∷ b ∷ c ∷ d ∷ e ∷ [] in
-        let (p, picked, may) = picks (MayGo s) r q goers (subst (AllByRecursion (MayGo s)) is (goers-may s 1 row going)) in
-        inl record {
-          process = p;
-          picked = record { goers = q ∷ goers; are = record { row = row; five = refl; going = going; are = sym is }; is = picked };
-          may = may;
-        }
+    by row five going None is = inr (five-none s row five (none-goes s 1 row going (none-picked r (numbers_from 1 row) is)))
+    by row five going (Some p) is =
+        let (picked, may) = picks r s row (Some p) five going (sym is) in
+        inl record { process = p; picked = picked; may = may }
