@@ -11,7 +11,7 @@ use Rattle.deck_format.specs.declared.control.Control.{Control}
 use Rattle.deck_format.specs.declared.job.Job.{Job}
 use Rattle.deck_format.specs.declared.job.CardFault.{CardFault}
 use Rattle.deck_format.specs.Control.{control_of}
-use Rattle.deck_format.specs.Jobs.{Groups, is_some, cut, before_groups, opener_of, opener_in, is_end, ends_in, counts, card_count, skipped, before_end, after_end, stretch, listed, list_fault, job_of, group_jobs, jobs}
+use Rattle.deck_format.specs.Jobs.{Groups, is_some, cut, before_groups, opener_of, opener_in, is_end, ends_in, counts, card_count, skipped, before_end, after_end, stretch, listed, first_fault, job_of, group_jobs, jobs}
 use Rattle.deck_format.specs.JobReader.{control_in}
 use Rattle.batch_job.specs.Report.{report, heading, listed_line, listing_end, unbuilt_line}
 use Rattle.batch_job.specs.LinesSoFar.{IsPrefixOf, is_closed, fault_so_far, open_lines, last_lines, group_lines, lines_by, lines_so_far}
@@ -46,7 +46,8 @@ fault-end name cards (Some fault) = refl
 group-closed : (o : Opener) (items : List Item) → flat_map report (group_jobs (o, items)) ≡ opened_lines o ++ part_lines (opened o) items true
 group-closed (opener.List name) items =
     let cards = listed (before_end items) in
-    ap (λ line. (heading name ∷ cards ++ line ∷ []) ++ flat_map report (stretch (after_end items))) (fault-end name cards (list_fault 1 (before_end items)))
+    ap (λ line. (heading name ∷ cards ++ line ∷ []) ++ flat_map report (stretch (after_end items)))
+    (fault-end name cards (first_fault false 1 (before_end items)))
 group-closed (opener.Job name limit) items = refl
 group-closed (opener.Run name file) items = refl
 
@@ -54,9 +55,9 @@ group-open : (o : Opener) (items : List Item) → last_lines (o, items) ≡ open
 group-open (opener.List name) items =
     let cards = listed (before_end items) in
     let P : Bool → Type 0 = λ t. (if t then report (job_of (opener.List name) (before_end items)) else open_lines (opener.List name) items)
-    ≡ heading name ∷ (if t then list_lines name 0 (before_end items) else (listed items ++ fault_so_far name (list_fault 1 items))) in
+    ≡ heading name ∷ (if t then list_lines name 0 (before_end items) else (listed items ++ fault_so_far name (first_fault false 1 items))) in
     elim (is_closed items) as P [
-      | true ↦ ap (λ line. heading name ∷ cards ++ line ∷ []) (fault-end name cards (list_fault 1 (before_end items)))
+      | true ↦ ap (λ line. heading name ∷ cards ++ line ∷ []) (fault-end name cards (first_fault false 1 (before_end items)))
       | false ↦ refl
     ]
 group-open (opener.Job name limit) items = both (is_closed items)
@@ -148,7 +149,7 @@ plain-list : (name : List ℕ) (count : ℕ) (card : List ℕ) (front : List Ite
     list_lines name count (Line card ∷ front) ≡ card ∷ list_lines name (card_count (count + 1)) front
 plain-list name count card front plain =
     let cards = listed front in
-    let fault = list_fault (card_count (card_count (count + 1) + 1)) front in
+    let fault = first_fault false (card_count (card_count (count + 1) + 1)) front in
     rw plain (ap (λ line. card ∷ cards ++ line ∷ []) (ap (λ n. end_line name n fault) (one-more count (length cards) (length (card ∷ cards)) (omega arith))
     ∙ end-more name count (length cards) fault))
 
@@ -179,7 +180,7 @@ adds (InList name count) Spoiled front false goes_on = both (is_closed front)
   where
     both : (t : Bool)
         → (if t then list_lines name count (Spoiled ∷ before_end front) else (listed (Spoiled ∷ front)
-        ++ fault_so_far name (list_fault (card_count (count + 1)) (Spoiled ∷ front)))) ≡ added_lines (InList name count) Spoiled false
+        ++ fault_so_far name (first_fault false (card_count (count + 1)) (Spoiled ∷ front)))) ≡ added_lines (InList name count) Spoiled false
     both true = refl
     both false = refl
 adds (InList name count) (Line card) front true goes_on = rw (goes_on refl) (closed-card name count card front (is_some (control_of card)) refl)

@@ -6,7 +6,7 @@ use Rattle.solo_base.specs.declared.item.Item.TheVariants.{Line, Spoiled}
 use Rattle.deck_format.specs.declared.control.Opener.{Opener}
 use Rattle.deck_format.specs.declared.control.Opener.TheVariants as opener
 use Rattle.deck_format.specs.declared.job.CardFault.{CardFault}
-use Rattle.deck_format.specs.Jobs.{cut, counts, card_count, skipped, before_end, after_end, stretch, spoiled_at, control_at, listed, list_fault, group_jobs}
+use Rattle.deck_format.specs.Jobs.{cut, counts, card_count, skipped, before_end, after_end, stretch, spoiled_at, control_at, listed, first_fault, group_jobs}
 use Rattle.batch_job.specs.Report.{report, heading, listed_line, fault_line, unbuilt_line}
 use Rattle.batch_job.specs.LinesSoFar.{is_closed, fault_so_far, last_lines}
 use Rattle.batch_job.specs.declared.part.Part.{Part}
@@ -22,13 +22,13 @@ end_line name count (Some fault) = fault_line name fault
 abbrev pub list_lines : List ℕ → ℕ → List Item → List (List ℕ)
 list_lines name count items =
     listed items
-    ++ end_line name (count + length (listed items)) (list_fault (card_count (count + 1)) items) ∷ []
+    ++ end_line name (count + length (listed items)) (first_fault false (card_count (count + 1)) items) ∷ []
 
 -- a list that may go on behind these cards
 abbrev pub open_list : List ℕ → ℕ → List Item → List (List ℕ)
 open_list name count items =
     if is_closed items then list_lines name count (before_end items)
-    else listed items ++ fault_so_far name (list_fault (card_count (count + 1)) items)
+    else listed items ++ fault_so_far name (first_fault false (card_count (count + 1)) items)
 
 -- the lines of a part, by whether it is closed behind these items
 abbrev pub part_lines : Part → List Item → Bool → List (List ℕ)
@@ -81,8 +81,10 @@ opened (opener.Run name file) = Dropped
 -- an item that neither opens nor ends a group
 abbrev pub added_lines : Part → Item → Bool → List (List ℕ)
 added_lines (Stretch count) item control = []
-added_lines (InList name count) Spoiled control = fault_line name (spoiled_at (card_count (count + 1))) ∷ []
-added_lines (InList name count) (Line card) true = fault_line name (control_at (card_count (count + 1))) ∷ []
+added_lines (InList name count) Spoiled control =
+    fault_line name (spoiled_at false (card_count (count + 1))) ∷ []
+added_lines (InList name count) (Line card) true =
+    fault_line name (control_at false (card_count (count + 1))) ∷ []
 added_lines (InList name count) (Line card) false = card ∷ []
 added_lines Dropped item control = []
 
@@ -96,8 +98,8 @@ added Dropped item control = Dropped
 
 -- the card that an item of this number is in a list, or its fault
 abbrev pub card_or_fault : Item → Bool → ℕ → Result (List ℕ) CardFault
-card_or_fault Spoiled control number = Err (spoiled_at number)
-card_or_fault (Line card) true number = Err (control_at number)
+card_or_fault Spoiled control number = Err (spoiled_at false number)
+card_or_fault (Line card) true number = Err (control_at false number)
 card_or_fault (Line card) false number = Ok card
 
 -- whether a group is open

@@ -5,7 +5,7 @@ use Rattle.solo_base.specs.Card.{cards}
 use Rattle.deck_format.specs.declared.control.Opener.{Opener}
 use Rattle.deck_format.specs.declared.control.Opener.TheVariants as opener
 use Rattle.deck_format.specs.declared.job.CardFault.{CardFault}
-use Rattle.deck_format.specs.Jobs.{cut, is_end, before_end, stretch, listed, list_fault, job_of, group_jobs}
+use Rattle.deck_format.specs.Jobs.{cut, is_end, before_end, stretch, listed, first_fault, job_of, group_jobs}
 use Rattle.batch_job.specs.Report.{report, heading, fault_line, unbuilt_line}
 use Rattle.batch_job.specs.OneThread.{one_thread_lines, one_thread_output}
 
@@ -22,7 +22,8 @@ fault_so_far name (Some fault) = fault_line name fault ∷ []
 -- The lines of a group that is still open: of a list its cards so far, and its fault; of a job that isn't
 -- built all that it has.
 abbrev pub open_lines : Opener → List Item → List (List ℕ)
-open_lines (opener.List name) items = heading name ∷ listed items ++ fault_so_far name (list_fault 1 items)
+open_lines (opener.List name) items =
+    heading name ∷ listed items ++ fault_so_far name (first_fault false 1 items)
 open_lines (opener.Job name limit) items = heading name ∷ unbuilt_line name ∷ []
 open_lines (opener.Run name file) items = heading name ∷ unbuilt_line name ∷ []
 

@@ -4,7 +4,7 @@ use Rattle.std.specs.Fmt.{decimal}
 use Rattle.solo_base.specs.Blanks.{trimmed}
 use Rattle.deck_format.specs.Jobs.{card_count}
 use Rattle.deck_format.specs.declared.job.Job.{Job}
-use Rattle.deck_format.specs.declared.job.Job.TheVariants.{List as Listing, Unbuilt, Skipped}
+use Rattle.deck_format.specs.declared.job.Job.TheVariants.{List as Listing, Pascal, Run, Skipped}
 use Rattle.deck_format.specs.declared.job.CardFault.{CardFault}
 use Rattle.deck_format.specs.declared.job.CardFaultKind.{CardFaultKind}
 use Rattle.deck_format.specs.declared.job.CardFaultKind.TheVariants.{Spoiled, Control}
@@ -40,5 +40,6 @@ skipped_line count = decimal count ++ codes " CARDS SKIPPED"
 
 abbrev pub report : Job → List (List ℕ)
 report (Listing name cards fault) = heading name ∷ cards ++ listing_end name cards fault ∷ []
-report (Unbuilt name) = heading name ∷ unbuilt_line name ∷ []
+report (Pascal name limit program input fault) = heading name ∷ unbuilt_line name ∷ []
+report (Run name file input fault) = heading name ∷ unbuilt_line name ∷ []
 report (Skipped count) = skipped_line count ∷ []

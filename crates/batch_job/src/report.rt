@@ -17,7 +17,19 @@ pub fn run_job(alloc: Global, job: Job) -> Result<LineList, NoMemory>
             push_all(&mut lines, &cards)?;
             lines.push(&listing_end(&name, &cards, fault))?;
         }
-        Job::Unbuilt { name } => {
+        Job::Pascal {
+            name,
+            limit: _,
+            program: _,
+            input: _,
+            fault: _,
+        }
+        | Job::Run {
+            name,
+            file: _,
+            input: _,
+            fault: _,
+        } => {
             lines.push(&heading(&name))?;
             lines.push(&unbuilt_line(&name))?;
         }

@@ -58,7 +58,13 @@ fn a_listing_is_printed(rt: HostRuntime) -> Result<(), Fail> {
 fn other_jobs_are_printed(rt: HostRuntime) -> Result<(), Fail> {
     let alloc = rt.alloc();
     let name = Ident::of(b"Abcdefghijkl").ok_or("a name")?;
-    let unbuilt = printed(alloc, Job::Unbuilt { name })?;
+    let run = Job::Run {
+        name,
+        file: name,
+        input: LineList::new(alloc),
+        fault: None,
+    };
+    let unbuilt = printed(alloc, run)?;
     assert_eq!(rt;
         unbuilt.as_slice(),
         b"JOB ABCDEFGHIJKL|ABCDEFGHIJKL: NOT BUILT|".as_slice()

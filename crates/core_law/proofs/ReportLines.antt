@@ -24,7 +24,7 @@ use Rattle.deck_format.specs.declared.job.CardFault.{CardFault}
 use Rattle.deck_format.specs.declared.job.CardFaultKind.{CardFaultKind}
 use Rattle.deck_format.specs.declared.job.CardFaultKind.TheVariants as kind
 use Rattle.deck_format.specs.Control.{spells, limit_of, default_limit, lone, with_limit, with_file, form, words, behind_mark, control_of}
-use Rattle.deck_format.specs.Jobs.{card_count, is_some, opener_in, opener_of, is_end, Groups, before_groups, cut, before_end, after_end, counts, skipped, stretch, listed, list_fault, job_of, group_jobs, jobs}
+use Rattle.deck_format.specs.Jobs.{card_count, is_some, opener_in, opener_of, is_end, Groups, before_groups, cut, before_end, after_end, counts, skipped, stretch, listed, first_fault, job_of, group_jobs, jobs}
 use Rattle.batch_job.specs.Report.{heading, listed_line, kind_text, fault_line, listing_end, unbuilt_line, skipped_line, report}
 
 -- ---- texts of so many printable codes
@@ -242,12 +242,12 @@ end-line : (name : List ℕ) (cards : List (List ℕ)) (fault : Option CardFault
 end-line name cards None small is = listed-line name (card_count (length cards)) (count-small (length cards)) is
 end-line name cards (Some fault) small is = fault-line name fault small is
 
-fault-small : (number : ℕ) (items : List Item) → number < 2 ^ 32 → IsSmallFault (list_fault number items)
+fault-small : (number : ℕ) (items : List Item) → number < 2 ^ 32 → IsSmallFault (first_fault false number items)
 fault-small number [] small = tt
 fault-small number (Spoiled ∷ rest) small = small
 fault-small number (Line card ∷ rest) small =
-    let P : Bool → Type 0 = λ t. IsSmallFault (if t then Some (Rattle.deck_format.specs.Jobs.control_at number) else list_fault
-    (card_count (number + 1)) rest) in
+    let P : Bool → Type 0 = λ t. IsSmallFault (if t then Some (Rattle.deck_format.specs.Jobs.control_at false number)
+    else first_fault false (card_count (number + 1)) rest) in
     elim (is_some (control_of card)) as P [ true ↦ small | false ↦ fault-small (card_count (number + 1)) rest (count-small (number + 1)) ]
 
 listed-lines : (items : List Item) → AreItems items → AreLinesOf (listed items)
@@ -261,7 +261,7 @@ job-lines : (o : Opener) (items : List Item) → IsNamed (name_of o) → AreItem
 job-lines (opener.List name) items is are = (
   heading-line name is,
   append-lines (listed items) _ (listed-lines items are)
-      (end-line name (listed items) (list_fault 1 items) (fault-small 1 items (omega arith)) is, tt),
+      (end-line name (listed items) (first_fault false 1 items) (fault-small 1 items (omega arith)) is, tt),
 )
 job-lines (opener.Job name limit) items is are = (
   heading-line name is,

@@ -7,7 +7,7 @@ use Rattle.solo_base.specs.declared.item.Item.TheVariants.{Spoiled}
 use Rattle.deck_format.specs.declared.job.Job.{Job}
 use Rattle.deck_format.specs.declared.job.Job.TheVariants as job
 use Rattle.deck_format.specs.declared.place.Place.{Place}
-use Rattle.deck_format.specs.declared.place.Place.TheVariants.{Outside, InList, InUnbuilt}
+use Rattle.deck_format.specs.declared.place.Place.TheVariants.{Outside, InGroup}
 use Rattle.deck_format.specs.Jobs.{jobs, cut, opener_in}
 use Rattle.deck_format.specs.Jobs as deck
 use Rattle.deck_format.specs.JobReader.{jobs_from, closed, opened, behind, is_in_group, control_in, StandsFor}
@@ -29,12 +29,12 @@ pub record Led (place : Place) (item : Item) : Type 0 where
 leads : (place : Place) (item : Item) → Led place item
 leads place item =
     elim (opener_in (control_in item)) as (λ found. opener_in (control_in item) ≡ found → Led place item) [
-      | Some o ↦ (λ e. record { gives = closed place; to = opened o; more = λ more. open_more place item o more e })
+      | Some o ↦ (λ e. record { gives = closed place; to = InGroup (opened o); more = λ more. open_more place item o more e })
       | None ↦ (λ e. elim (is_in_group place) as (λ group. is_in_group place ≡ group → Led place item) [
-        | false ↦ (λ out. record { gives = []; to = behind place item (deck.is_some (control_in item)); more = λ more. behind_more place item (deck.is_some (control_in item)) more refl e (λ group. cc) })
+        | false ↦ (λ out. record { gives = []; to = behind place item (control_in item); more = λ more. behind_more place item (control_in item) more refl e (λ group. cc) })
         | true ↦ (λ inside. elim (deck.ends_in (control_in item)) as (λ ends. deck.ends_in (control_in item) ≡ ends → Led place item) [
           | true ↦ (λ ends. record { gives = closed place; to = Outside 0; more = λ more. end_more place item more inside e ends })
-          | false ↦ (λ goes_on. record { gives = []; to = behind place item (deck.is_some (control_in item)); more = λ more. behind_more place item (deck.is_some (control_in item)) more refl e (λ group. goes_on) })
+          | false ↦ (λ goes_on. record { gives = []; to = behind place item (control_in item); more = λ more. behind_more place item (control_in item) more refl e (λ group. goes_on) })
         ] refl)
       ] refl)
     ] refl
@@ -48,9 +48,7 @@ counted n e = absurd (grind arith)
 
 one-open : (place : Place) → (job : Job) × (jobs_from place (Spoiled ∷ []) ≡ job ∷ [])
 one-open (Outside count) = (job.Skipped (deck.card_count (count + 1)), ap (λ js. js ++ []) (skipped-one (deck.card_count (count + 1)) (counted count)))
-one-open (InList name cards None number) = (_, refl)
-one-open (InList name cards (Some fault) number) = (_, refl)
-one-open (InUnbuilt name) = (_, refl)
+one-open (InGroup group) = (_, refl)
 
 -- some job is open behind these items and a spoiled card
 has_open : (place : Place) (items : List Item) → (first : Job) × ((rest : List Job) × (jobs_from place (items ++ Spoiled ∷ []) ≡ first ∷ rest))

@@ -1,5 +1,5 @@
 -- The jobs of a deck: the whole list of items is cut before each opener, and what follows an opener at its first end.
-use Rattle.std.specs.Prelude.{ℕ, ◌+◌, min, Bool, true, false, ◌==◌, List, [], ◌∷◌, ◌++◌, count_by, flat_map, Option, Some, None, if◌then◌else◌}
+use Rattle.std.specs.Prelude.{ℕ, ◌+◌, min, Bool, true, false, ◌==◌, List, [], ◌∷◌, ◌++◌, length, count_by, flat_map, Option, Some, None, if◌then◌else◌}
 use Rattle.solo_base.specs.declared.item.Item.{Item}
 use Rattle.solo_base.specs.declared.item.Item.TheVariants.{Line, Spoiled}
 use Rattle.deck_format.specs.declared.control.Opener.{Opener}
@@ -8,6 +8,7 @@ use Rattle.deck_format.specs.declared.control.Control.{Control}
 use Rattle.deck_format.specs.declared.control.Control.TheVariants as control
 use Rattle.deck_format.specs.declared.job.Job.{Job}
 use Rattle.deck_format.specs.declared.job.Job.TheVariants as job
+use Rattle.deck_format.specs.declared.group.Kept.{Kept}
 use Rattle.deck_format.specs.declared.job.CardFault.{CardFault}
 use Rattle.deck_format.specs.declared.job.CardFaultKind.TheVariants as kind
 use Rattle.deck_format.specs.Control.{control_of}
@@ -79,29 +80,95 @@ skipped count = if count == 0 then [] else job.Skipped count ∷ []
 abbrev pub stretch : List Item → List Job
 stretch items = skipped (card_count (count_by counts items))
 
-abbrev pub spoiled_at : ℕ → CardFault
-spoiled_at number = record { kind = kind.Spoiled; card = number; in_input = false }
+-- the faults of a card of this number
+abbrev pub spoiled_at : Bool → ℕ → CardFault
+spoiled_at in_input number = record { kind = kind.Spoiled; card = number; in_input = in_input }
 
-abbrev pub control_at : ℕ → CardFault
-control_at number = record { kind = kind.Control; card = number; in_input = false }
+abbrev pub control_at : Bool → ℕ → CardFault
+control_at in_input number = record { kind = kind.Control; card = number; in_input = in_input }
 
--- the plain cards of a list, up to its fault
+-- the plain cards of a group, up to its first fault
 abbrev pub listed : List Item → List (List ℕ)
 listed [] = []
 listed (Spoiled ∷ rest) = []
 listed (Line card ∷ rest) = if is_some (control_of card) then [] else card ∷ listed rest
 
--- the first item of a list that is no plain card; its first item has this number
-abbrev pub list_fault : ℕ → List Item → Option CardFault
-list_fault number [] = None
-list_fault number (Spoiled ∷ rest) = Some (spoiled_at number)
-list_fault number (Line card ∷ rest) = if is_some (control_of card) then Some (control_at number) else list_fault (card_count (number + 1)) rest
+-- the first item that is no plain card; the first of the items has this number
+abbrev pub first_fault : Bool → ℕ → List Item → Option CardFault
+first_fault in_input number [] = None
+first_fault in_input number (Spoiled ∷ rest) = Some (spoiled_at in_input number)
+first_fault in_input number (Line card ∷ rest) =
+    if is_some (control_of card) then Some (control_at in_input number)
+    else first_fault in_input (card_count (number + 1)) rest
 
--- the one job of a group; jobs of programs aren't built
+abbrev pub data_in : Option Control → Bool
+data_in (Some control.Data) = true
+data_in (Some (control.Opens opener)) = false
+data_in (Some control.End) = false
+data_in (Some control.Bad) = false
+data_in None = false
+
+-- whether the item parts a program from its input
+abbrev pub is_data : Item → Bool
+is_data (Line card) = data_in (control_of card)
+is_data Spoiled = false
+
+-- what stands before the first `#DATA`, and behind it
+abbrev pub before_data : List Item → List Item
+before_data [] = []
+before_data (item ∷ rest) = if is_data item then [] else item ∷ before_data rest
+
+abbrev pub behind_data : List Item → List Item
+behind_data [] = []
+behind_data (item ∷ rest) = if is_data item then rest else behind_data rest
+
+-- ---- what is kept of a group: of its items the first has this number
+-- cards that are listed, or are a program
+abbrev pub listing : ℕ → List Item → Kept
+listing number items = record { cards = listed items; input = []; fault = first_fault false number items }
+
+-- cards that are input
+abbrev pub input : ℕ → List Item → Kept
+input number items = record { cards = []; input = listed items; fault = first_fault true number items }
+
+-- the cards behind a fault are dropped
+abbrev pub unless : Option CardFault → List (List ℕ) → List (List ℕ)
+unless None cards = cards
+unless (Some fault) cards = []
+
+abbrev pub first_of : Option CardFault → Option CardFault → Option CardFault
+first_of None later = later
+first_of (Some fault) later = Some fault
+
+abbrev pub followed_by : Kept → Kept → Kept
+followed_by first next =
+    record {
+      cards =
+          first.cards ++ unless first.fault next.cards;
+      input = first.input ++ unless first.fault next.input;
+      fault = first_of first.fault next.fault;
+    }
+
+-- a program, and its input behind `#DATA`
+abbrev pub program : ℕ → List Item → Kept
+program number items =
+    followed_by (listing number (before_data items))
+    (input (card_count (number + length (before_data items) + 1)) (behind_data items))
+
+abbrev pub kept_of : Opener → List Item → Kept
+kept_of (opener.List name) items = listing 1 items
+kept_of (opener.Job name limit) items = program 1 items
+kept_of (opener.Run name file) items = input 1 items
+
+abbrev pub job_with : Opener → Kept → Job
+job_with (opener.List name) kept = job.List name kept.cards kept.fault
+job_with (opener.Job name limit) kept = job.Pascal name limit kept.cards kept.input kept.fault
+job_with (opener.Run name file) kept = job.Run name file kept.input kept.fault
+
+-- The one job of a group: `X`, `#DATA`, `7`, `#BAD` behind `#JOB P` is the program `X` with the input `7` and a
+-- fault in card 4, in the input.
 abbrev pub job_of : Opener → List Item → Job
-job_of (opener.List name) items = job.List name (listed items) (list_fault 1 items)
-job_of (opener.Job name limit) items = job.Unbuilt name
-job_of (opener.Run name file) items = job.Unbuilt name
+job_of o items = job_with o (kept_of o items)
 
 -- an opener and what follows it: its job, and the stretch behind its end
 abbrev pub group_jobs : Opener × List Item → List Job

@@ -14,7 +14,7 @@ pub enum CardFaultKind {
 pub struct CardFault {
     pub kind: CardFaultKind,
     pub card: u32,
-    /// Whether the card stands among the input of a program.
+    /// Whether the card stands among the input of a program: behind `#DATA`, or in a `#RUN` group.
     pub in_input: bool,
 }
 
@@ -27,9 +27,21 @@ pub enum Job {
         cards: LineList,
         fault: Option<CardFault>,
     },
-    /// A job with a program, which isn't built yet.
-    Unbuilt {
+    /// The cards before `#DATA` are the program, and those behind it its input. The program may take so
+    /// many ticks. One with a fault has no input.
+    Pascal {
         name: Ident,
+        limit: u32,
+        program: LineList,
+        input: LineList,
+        fault: Option<CardFault>,
+    },
+    /// The program stands in a file, and the cards up to the first fault are its input.
+    Run {
+        name: Ident,
+        file: Ident,
+        input: LineList,
+        fault: Option<CardFault>,
     },
     /// So many cards stand outside groups.
     Skipped {

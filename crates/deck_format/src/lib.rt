@@ -2,6 +2,7 @@
 #![tactic(auto)]
 
 mod control;
+mod group;
 mod job;
 mod job_reader;
 mod numeral;
@@ -9,6 +10,7 @@ mod place;
 mod words;
 
 pub use control::{Control, DEFAULT_LIMIT, Opener, control_of};
+pub use group::{Group, Kept};
 pub use job::{CardFault, CardFaultKind, Job};
 pub use job_reader::JobReader;
 pub use numeral::number_within;

@@ -1,9 +1,10 @@
-ghost use Rattle.std.specs.Prelude.{◌≡◌, ℕ, ◌∷◌, ◌++◌, List, None, false, IfOk, OnOk, OnErr};
+ghost use Rattle.std.specs.Prelude.{◌≡◌, ◌∷◌, ◌++◌, List, IfOk, OnOk, OnErr};
 ghost use Rattle.solo_base.specs.declared.item.Item.{Item as ItemOf};
 ghost use Rattle.deck_format.specs.Jobs.{counts, opener_in, ends_in};
 
-use crate::{CardFault, CardFaultKind, Control, Job, Opener, control_of};
-use solo_base::{Ident, Item, Line, LineList, NoMemory};
+use crate::group::Group;
+use crate::{Control, Job, Opener, control_of};
+use solo_base::{Item, NoMemory};
 use std::alloc::Global;
 use std::mem;
 
@@ -11,24 +12,12 @@ use std::mem;
 #[derive(Debug, Drop)]
 pub enum Place {
     /// Outside groups, behind so many cards that count.
-    Outside {
-        count: u32,
-    },
-    /// In a list, before the card of this number.
-    InList {
-        name: Ident,
-        cards: LineList,
-        fault: Option<CardFault>,
-        number: u32,
-    },
-    /// In the group of a job that isn't built.
-    InUnbuilt {
-        name: Ident,
-    },
+    Outside { count: u32 },
+    InGroup(Group),
 }
 
 impl Place {
-    ghost use Rattle.deck_format.specs.JobReader.{closed, opened, is_in_group, given};
+    ghost use Rattle.deck_format.specs.JobReader.{closed, is_in_group, given};
 
     /// The job in hand, where nothing more comes to it.
     pub fn into_job(self) -> Option<Job>
@@ -42,41 +31,17 @@ impl Place {
                     Some(Job::Skipped { count })
                 }
             }
-            Place::InList {
-                name,
-                cards,
-                fault,
-                number: _,
-            } => Some(Job::List { name, cards, fault }),
-            Place::InUnbuilt { name } => Some(Job::Unbuilt { name }),
-        }
-    }
-
-    /// Where an opener leads.
-    fn opened(alloc: Global, opener: Opener) -> Place
-        ensures { result ≡ opened opener }
-    {
-        match opener {
-            Opener::List(name) => Place::InList {
-                name,
-                cards: LineList::new(alloc),
-                fault: None,
-                number: 1,
-            },
-            Opener::Job { name, limit: _ } | Opener::Run { name, file: _ } => Place::InUnbuilt {
-                name,
-            },
+            Place::InGroup(group) => Some(group.into_job()),
         }
     }
 
     fn is_in_group(&self) -> bool
         ensures { result ≡ is_in_group self.now }
     {
-        !matches!(self, Place::Outside { count: _ })
+        matches!(self, Place::InGroup(_))
     }
 }
 
-ghost use Rattle.deck_format.specs.declared.place.Place.TheVariants as PlaceOf;
 ghost use Rattle.deck_format.specs.JobReader.{jobs_from, given, closed, behind, control_in};
 
 /// Takes the next item, and gives the job that it completes. A refusal leaves the place as it was.
@@ -87,12 +52,12 @@ pub fn step(place: &mut Place, alloc: Global, item: &Item) -> Result<Option<Job>
 {
     let control = control_in(item);
     if let Some(opener) = opener_in(&control) {
-        return Ok(lead(place, Place::opened(alloc, opener)));
+        return Ok(lead(place, Place::InGroup(Group::open(alloc, opener))));
     }
     if ends_in(&control) && place.is_in_group() {
         return Ok(lead(place, Place::Outside { count: 0 }));
     }
-    add(place, item, control.is_some())?;
+    add(place, item, &control)?;
     Ok(None)
 }
 
@@ -132,8 +97,8 @@ fn lead(place: &mut Place, next: Place) -> Option<Job>
 }
 
 /// Adds an item that neither opens nor ends a group.
-fn add(place: &mut Place, item: &Item, is_control: bool) -> Result<(), NoMemory>
-    ensures ok { OnOk result (place.new ≡ behind place.old item.now is_control) }
+fn add(place: &mut Place, item: &Item, control: &Option<Control>) -> Result<(), NoMemory>
+    ensures ok { OnOk result (place.new ≡ behind place.old item.now control.now) }
     ensures err { OnErr result (place.new ≡ place.old) }
 {
     match place {
@@ -141,53 +106,9 @@ fn add(place: &mut Place, item: &Item, is_control: bool) -> Result<(), NoMemory>
             if counts(item) {
                 *count = count.saturating_add(1);
             }
+            Ok(())
         }
-        Place::InList {
-            name: _,
-            cards,
-            fault,
-            number,
-        } => {
-            if fault.is_none() {
-                add_to_list(cards, fault, number, item, is_control)?;
-            }
-        }
-        Place::InUnbuilt { name: _ } => {}
-    }
-    Ok(())
-}
-
-/// Adds an item to a list without a fault.
-fn add_to_list(
-    cards: &mut LineList,
-    fault: &mut Option<CardFault>,
-    number: &mut u32,
-    item: &Item,
-    is_control: bool,
-) -> Result<(), NoMemory>
-    requires { fault.old ≡ None }
-    ensures ok { (name : List ℕ) → OnOk result (PlaceOf.InList name cards.new fault.new number.new
-        ≡ behind (PlaceOf.InList name cards.old None number.old) item.now is_control) }
-    ensures err { OnErr result ((cards.new ≡ cards.old) × (fault.new ≡ None) × (number.new ≡ number.old)) }
-{
-    match item {
-        Item::Spoiled => *fault = Some(fault_at(CardFaultKind::Spoiled, *number)),
-        Item::Line(_) if is_control => *fault = Some(fault_at(CardFaultKind::Control, *number)),
-        Item::Line(card) => {
-            cards.push(card)?;
-            *number = number.saturating_add(1);
-        }
-    }
-    Ok(())
-}
-
-fn fault_at(kind: CardFaultKind, card: u32) -> CardFault
-    ensures { result ≡ record { kind = kind; card = card; in_input = false } }
-{
-    CardFault {
-        kind,
-        card,
-        in_input: false,
+        Place::InGroup(group) => group.add(item, control),
     }
 }
 

@@ -1,12 +1,13 @@
-use crate::{CardFault, CardFaultKind, Control, Job, JobReader, Opener, control_of};
+use crate::{CardFault, CardFaultKind, Control, DEFAULT_LIMIT, Job, JobReader, Opener, control_of};
 use solo_base::{Item, Line, LineList, NoMemory};
 use std::alloc::Global;
 use std::test::Fail;
 
 /// Decks, a bar behind each card and `*` for a spoiled one, and their jobs: a list with its cards
-/// in brackets and how it ends, `?` behind the name of a job that isn't built, `-` before a count
-/// of skipped cards.
-const DECKS: [(&str, &str); 34] = [
+/// in brackets and how it ends; behind the name of a program its limit where it has one, its cards, `/`
+/// and its input; behind the name of a program in a file `=`, the file and its input; `-` before a
+/// count of skipped cards. A fault in the input ends in `i`.
+const DECKS: [(&str, &str); 46] = [
     ("", ""),
     ("#LIST A|", "A."),
     ("#LIST A|HELLO|#END|", "A[HELLO]."),
@@ -38,9 +39,21 @@ const DECKS: [(&str, &str); 34] = [
     ("#|##|#LIST A|#|#END|", "-2AC1"),
     (" #LIST A|#LIST B| #END|#END|", "-1B[ #END]."),
     ("*|#LIST A|", "-1A."),
-    ("#JOB P|X|#DATA|#LIST A|Y|#END|", "P?A[Y]."),
-    ("#JOB P 10|*|#END|X|#RUN Q F|#END X|#END|", "P?-1Q?"),
-    ("#RUN P|#JOB P 0|#RUN P F 1|#JOB P|", "-3P?"),
+    ("#JOB P|X|#DATA|#LIST A|Y|#END|", "P[X]/.A[Y]."),
+    ("#JOB P 7|*|#END|X|#RUN Q F|#END X|#END|", "P@7/S1-1Q=FC1i"),
+    ("#RUN P|#JOB P 0|#RUN P F 1|#JOB P|", "-3P/."),
+    ("#JOB P|A|B|#DATA|C|D|#END|", "P[A][B]/[C][D]."),
+    ("#JOB P|A|#DATA|C|#DATA|D|#END|", "P[A]/[C]C4i"),
+    ("#JOB P|A|*|#DATA|C|#END|", "P[A]/S2"),
+    ("#JOB P|#BAD|#DATA|*|#END|", "P/C1"),
+    ("#JOB P|A|#DATA|*|#DATA|#END|", "P[A]/S3i"),
+    ("#JOB P|#data|C|", "P/[C]."),
+    ("#JOB P||#DATA||#END|", "P[]/[]."),
+    ("#RUN Q F|C|D|#END|", "Q=F[C][D]."),
+    ("#RUN Q F|C|#DATA|D|#END|", "Q=F[C]C2i"),
+    ("#RUN Q F|*|#END|", "Q=FS1i"),
+    ("#JOB P|A|#DATA|C|#JOB Q|B|", "P[A]/[C].Q[B]/."),
+    ("#JOB P|#DATA|#END|#DATA|", "P/.-1"),
 ];
 
 /// What the card stands for, which a star marks as spoiled.
@@ -60,17 +73,18 @@ fn tell_number(told: &mut Vec<u8>, number: u32) -> Result<(), NoMemory> {
     Ok(())
 }
 
-/// Adds the cards of a list, and how it ends.
-fn tell_list(
-    told: &mut Vec<u8>,
-    cards: &LineList,
-    fault: Option<CardFault>,
-) -> Result<(), NoMemory> {
+/// Adds cards in brackets.
+fn tell_cards(told: &mut Vec<u8>, cards: &LineList) -> Result<(), NoMemory> {
     for place in 0..cards.len() {
         told.push(b'[')?;
         told.extend_from_slice(cards.get(place).bytes())?;
         told.push(b']')?;
     }
+    Ok(())
+}
+
+/// Adds how a group ends.
+fn tell_end(told: &mut Vec<u8>, fault: Option<CardFault>) -> Result<(), NoMemory> {
     let Some(fault) = fault else {
         told.push(b'.')?;
         return Ok(());
@@ -79,7 +93,11 @@ fn tell_list(
         CardFaultKind::Spoiled => b'S',
         CardFaultKind::Control => b'C',
     })?;
-    tell_number(told, fault.card)
+    tell_number(told, fault.card)?;
+    if fault.in_input {
+        told.push(b'i')?;
+    }
+    Ok(())
 }
 
 /// Adds the job that was given.
@@ -94,12 +112,37 @@ fn tell_job(told: &mut Vec<u8>, job: Job) -> Result<(), NoMemory> {
     match job {
         Job::List { name, cards, fault } => {
             told.extend_from_slice(name.name())?;
-            tell_list(told, &cards, fault)
+            tell_cards(told, &cards)?;
+            tell_end(told, fault)
         }
-        Job::Unbuilt { name } => {
+        Job::Pascal {
+            name,
+            limit,
+            program,
+            input,
+            fault,
+        } => {
             told.extend_from_slice(name.name())?;
-            told.push(b'?')?;
-            Ok(())
+            if limit != DEFAULT_LIMIT {
+                told.push(b'@')?;
+                tell_number(told, limit)?;
+            }
+            tell_cards(told, &program)?;
+            told.push(b'/')?;
+            tell_cards(told, &input)?;
+            tell_end(told, fault)
+        }
+        Job::Run {
+            name,
+            file,
+            input,
+            fault,
+        } => {
+            told.extend_from_slice(name.name())?;
+            told.push(b'=')?;
+            told.extend_from_slice(file.name())?;
+            tell_cards(told, &input)?;
+            tell_end(told, fault)
         }
         Job::Skipped { count } => {
             told.push(b'-')?;
