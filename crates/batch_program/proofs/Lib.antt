@@ -1,9 +1,9 @@
 mod Inputs
 mod Printed
-mod Bytes
+pub mod Bytes
 mod Onward
 mod Steps
 mod Fitting
 mod Courses
-mod Source
-mod MoreCards
+pub mod Source
+pub mod MoreCards

@@ -24,7 +24,7 @@ tests_sized : (site : Site) (selector found : ℕ) (more : List (ℕ × Constant
 tests_sized site selector found [] = refl
 tests_sized site selector found (l ∷ more) = omega (arith, tests_sized site selector found more)
 
-labels_sized : (site : Site) (selector found : ℕ) (l : Labels)
+pub labels_sized : (site : Site) (selector found : ℕ) (l : Labels)
     → length (label_tests site selector found l) ≡ labels_size l
 labels_sized site selector found l = omega (arith, tests_sized site selector found l.rest)
 

@@ -1,0 +1,11 @@
+pub mod Seen
+pub mod SeenSite
+pub mod SeenCalls
+pub mod SeenFor
+pub mod Landed
+pub mod Compiling
+pub mod Holds
+pub mod Passings
+pub mod Infos
+pub mod WithHeights
+pub mod LowTargets
