@@ -1,0 +1,13 @@
+//! The lines of a job's program, one by one, as the cards of its input come.
+#![tactic(auto)]
+
+mod laws;
+mod program_lines;
+mod texts;
+
+pub use laws::lines_go_on_with_more_cards;
+pub use program_lines::ProgramLines;
+pub use texts::{compile_line, no_file_line, note, result_line};
+
+#[cfg(test)]
+mod tests;
