@@ -16,13 +16,13 @@ use Rattle.disk_layout.proofs.Takings.{takes_least}
 use Rattle.disk_layout.specs.Files.{files, kind_of, name_count}
 use Rattle.disk_layout.specs.Layout.{IsLaidOut, blank_entry}
 use Rattle.disk_layout.specs.Appending.{SavesMap}
-use Rattle.disk_layout.specs.Writing.{EntryWritten, PutsName}
+use Rattle.disk_layout.specs.Writing.{EntryWritten, PutsEntry, PutsName}
 use Rattle.disk_layout.proofs.Entries.{count_same}
 use Rattle.disk_layout.proofs.CreatedPages.{laid_created, files_created}
 use Rattle.disk_layout.proofs.CreateWritten.{create_writes}
 use Rattle.disk_layout.specs.Judging.{IsKeptEntry}
 use Rattle.disk_files.specs.declared.fault.FileFault.TheVariants.{CatalogFull, DiskFull}
-use Rattle.disk_files.specs.Answers.{LaidNow, Told, create_answer}
+use Rattle.disk_files.specs.Answers.{LaidNow, StandsOpen, Told, create_answer}
 
 at_most_one : (b : Bool) → cond b 1 0 ≤ 1
 at_most_one true = omega arith
@@ -123,6 +123,20 @@ names_counted kept taken pages laid =
     ap (count_below (λ k. not ((slice_index_or kept k blank_entry).kind == 0))) laid.places
     ∙ count_same (λ k. not ((entry_of pages k).kind == 0)) (λ k. not ((slice_index_or kept k blank_entry).kind == 0)) 240
     (λ k below. ap (λ e. not (e.kind == 0)) (laid.entries k below))
+
+-- a name that was new stands in the catalogue then, unprotected
+pub open_put : (kept now : List Entry) (p : ℕ) (new : Entry) → PutsEntry kept now p new → p < 240 → 1 ≤ new.kind → new.protection ≡ 0
+    → ((k : ℕ) → k < 240 → (slice_index_or kept k blank_entry).kind ≢ 0 → (slice_index_or kept k blank_entry).name ≢ new.name) → StandsOpen now new.name
+open_put kept now p new put below some loose fresh = record {
+  place = p;
+  inside = below;
+  used = λ none. let kind = ap (λ e. e.kind) put.here in omega (arith, kind, none, some);
+  named = ap (λ e. e.name) put.here;
+  unprotected = λ k inside used named. elim (cases_eq k p) [
+    | inl own ↦ ap (λ x. (slice_index_or now x blank_entry).protection) own ∙ ap (λ e. e.protection) put.here ∙ loose
+    | inr apart ↦ absurd (fresh k inside (λ none. used (ap (λ e. e.kind) (put.beside k apart) ∙ none)) (sym (ap (λ e. e.name) (put.beside k apart)) ∙ named))
+  ];
+}
 
 -- ---- The answers
 

@@ -13,7 +13,8 @@ use Rattle.disk_layout.specs.Layout.{IsLaidOut}
 use Rattle.disk_layout.specs.Judging.{EntriesRead}
 use Rattle.disk_layout.proofs.SoloDisk.{solo_is_laid_out}
 use Rattle.disk_files.specs.declared.fault.FileFault.TheVariants.{NotSolo}
-use Rattle.disk_files.specs.Answers.{RefusesMount}
+use Rattle.disk_layout.specs.Format1.{IsBad1, IsSoloDisk1}
+use Rattle.disk_files.specs.Answers.{IsOlderRead, RefusesMount, RefusesOlder}
 
 pub marked_read : (pages : List (List ℕ)) (low high : Page) (n : ℕ) → low.0 ≡ page_at pages 16 → high.0 ≡ page_at pages 17
     → marked_of pages n ≡ is_marked low high n
@@ -48,3 +49,32 @@ laid_by_map entries taken pages low high size places low_is high_is read from so
 pub refuses : (pages : List (List ℕ)) (found : Option ℕ) (n : ℕ) (Good : Type 0) → found ≡ Some n → MatchOption found Good (IsBad pages)
     → RefusesMount pages (NotSolo n)
 refuses pages found n Good is bad = inr (inr (n, refl, subst (λ x. MatchOption x Good (IsBad pages)) is bad))
+
+-- ---- Format 1
+
+pub older_by_map : (entries : List Entry) (taken : Pages) (pages : List (List ℕ)) (low high : Page) → length pages ≡ 4288 → length entries ≡ 240
+    → low.0 ≡ page_at pages 16 → high.0 ≡ page_at pages 17
+    → EntriesRead (disk_of pages) 240 entries → IsReadFrom low high taken → IsSoloDisk1 pages → IsOlderRead entries taken pages
+older_by_map entries taken pages low high size places low_is high_is read from solo = record {
+  solo = solo;
+  as_many = size;
+  places = places;
+  entries = read;
+  taken = bits;
+  within = λ n beyond.
+      from n ∙ ap (λ b. b || (nat_lt n 4288 && is_marked low high n)) (le-ltb n 18 (omega (arith, beyond)))
+      ∙ ap (λ b. b && is_marked low high n) (le-ltb n 4288 beyond);
+}
+  where
+    bits : (n : ℕ) → n < 4288 → marked_of pages n ≡ set.contains taken n
+    bits n within = elim (cases_lt n 18) [
+      | inl system ↦ ((solo 16).bits n within (omega (arith, system))).1 (inl system)
+          ∙ sym (from n ∙ ap (λ b. b || (nat_lt n 4288 && is_marked low high n)) (lt-ltb n 18 system))
+      | inr past ↦ marked_read pages low high n low_is high_is
+          ∙ sym (from n ∙ ap (λ b. b || (nat_lt n 4288 && is_marked low high n)) (le-ltb n 18 past)
+          ∙ ap (λ b. b && is_marked low high n) (lt-ltb n 4288 within))
+    ]
+
+pub refuses_older : (pages : List (List ℕ)) (found : Option ℕ) (n : ℕ) (Good : Type 0) → found ≡ Some n → MatchOption found Good (IsBad1 pages)
+    → RefusesOlder pages (NotSolo n)
+refuses_older pages found n Good is bad = inr (inr (n, refl, subst (λ x. MatchOption x Good (IsBad1 pages)) is bad))

@@ -23,6 +23,11 @@ pub on_ok : {X : Type 0} (r : Result X FileFault) (P Q : Type 0) → (P → Q) �
 on_ok (Ok x) P Q f p = f p
 on_ok (Err e) P Q f p = tt
 
+-- what holds anyway holds of what was done
+pub always : {X : Type 0} (r : Result X FileFault) (P : Type 0) → P → OnOk r P
+always (Ok x) P p = p
+always (Err e) P p = tt
+
 module _ (count free : ℕ) where
   pub append_full : 4000 ≤ count → append_answer_of count free ≡ Err FileFull
   append_full full = cond-true (nat_le 4000 count) _ _ (le-leb 4000 count full)

@@ -10,10 +10,12 @@ use Rattle.disk_files.specs.declared.fault.FileFault.{FileFault}
 use Rattle.disk_files.specs.declared.fault.FileFault.TheVariants.{Exists, CatalogFull, NotSolo, NoMemory, NoFile, Protected, DiskFull, FileFull, PageRange, DiskFault}
 use Rattle.disk_files.specs.declared.fault.FileInfo.{FileInfo}
 use Rattle.disk_layout.specs.Format.{IsSoloDisk, IsBad}
-use Rattle.disk_layout.specs.Disk.{disk_of, number_of}
+use Rattle.disk_layout.specs.Format1.{IsBad1, IsSoloDisk1}
+use Rattle.disk_layout.specs.Disk.{disk_of, entry_of, marked_of, number_of}
 use Rattle.disk_layout.specs.Files.{File, Files, files, free_count, page_of}
 use Rattle.disk_layout.specs.Layout.{IsLaidOut, blank_entry}
 use Rattle.disk_layout.specs.Judging.{IsKeptEntry}
+use Rattle.disk_layout.specs.Names.{IsUsed, name_at}
 
 -- the area, the catalogue and the taken pages as they are kept in memory, and whether they are the area's
 pub record FileTable (A : Type 0) : Type 0 where
@@ -53,6 +55,11 @@ Told now Holding = (after : List (List ℕ)) × (now ≡ Some after) × Holding 
 abbrev pub RefusesMount : List (List ℕ) → FileFault → Type 0
 RefusesMount pages fault =
     (fault ≡ DiskFault) ⊎ (fault ≡ NoMemory) ⊎ ((n : ℕ) × (fault ≡ NotSolo n) × IsBad pages n)
+
+-- the same in format 1
+abbrev pub RefusesOlder : List (List ℕ) → FileFault → Type 0
+RefusesOlder pages fault =
+    (fault ≡ DiskFault) ⊎ (fault ≡ NoMemory) ⊎ ((n : ℕ) × (fault ≡ NotSolo n) × IsBad1 pages n)
 
 -- whatever the area tells
 abbrev pub MayRefuseMount : FileFault → Type 0
@@ -132,6 +139,15 @@ rename_answer None other = Err NoFile
 rename_answer (Some file) (Some other) = Err Exists
 rename_answer (Some file) None = unprotected file (Ok tt)
 
+-- the name stands in the catalogue that is kept, and no entry of it is protected
+pub record StandsOpen (kept : List Entry) (name : List ℕ) : Type 0 where
+  pub place : ℕ
+  pub inside : place < 240
+  pub used : IsUsed kept place
+  pub named : name_at kept place ≡ name
+  pub unprotected : (p : ℕ) → p < 240 → IsUsed kept p → name_at kept p ≡ name
+      → (slice_index_or kept p blank_entry).protection ≡ 0
+
 -- ---- What a file area keeps of its area
 
 -- an area goes on telling as many pages as its size, or none
@@ -157,3 +173,14 @@ pub record LaidNow (now : Option (List (List ℕ))) (kept : List Entry) (taken :
   pub told : now ≡ Some pages
   pub laid : IsLaidOut kept taken pages
   pub files : files pages ≡ all
+
+-- ---- Format 1
+
+-- the entries and the taken pages are those of pages that break no format 1
+pub record IsOlderRead (kept : List Entry) (pages_taken : Pages) (pages : List (List ℕ)) : Type 0 where
+  pub solo : IsSoloDisk1 pages
+  pub as_many : length pages ≡ 4288
+  pub places : length kept ≡ 240
+  pub entries : (p : ℕ) → p < 240 → slice_index_or kept p blank_entry ≡ entry_of pages p
+  pub taken : (n : ℕ) → n < 4288 → marked_of pages n ≡ set.contains pages_taken n
+  pub within : (n : ℕ) → 4288 ≤ n → set.contains pages_taken n ≡ false

@@ -8,7 +8,7 @@ ghost use Rattle.disk_layout.specs.Deleting.{pages_held};
 ghost use Rattle.disk_layout.specs.Taking.{TakesIndex, TakesNext};
 ghost use Rattle.disk_layout.specs.Files.{File, files, free_count, name_count, with_page, with_page_at, with_protection};
 ghost use Rattle.disk_files.specs.declared.fault.FileFault.TheVariants.{NoFile, Exists, CatalogFull, Protected, DiskFull, FileFull, PageRange, DiskFault};
-ghost use Rattle.disk_files.specs.Answers.{Answers, Holds, Told, FaultsOnly, append_answer, create_answer, replace_answer, protect_answer, delete_answer, rename_answer, pages_needed, stays_sound};
+ghost use Rattle.disk_files.specs.Answers.{Answers, Holds, Told, FaultsOnly, append_answer, create_answer, replace_answer, protect_answer, delete_answer, rename_answer, pages_needed, stays_sound, StandsOpen};
 
 use crate::FileFault;
 use crate::append::append_page;
@@ -40,6 +40,8 @@ impl<A: Area> FileArea<A> {
             (λ after. TakesNext pages after name.now (length file.pages))) }
         ensures refusals { IfErr result (λ fault. (fault ≡ NoFile) ⊎ (fault ≡ Protected) ⊎ (fault ≡ FileFull)
             ⊎ (fault ≡ DiskFull) ⊎ (fault ≡ DiskFault)) }
+        ensures open { StandsOpen self.old.entries name.now
+            → IfErr result (λ fault. (fault ≡ FileFull) ⊎ (fault ≡ DiskFull) ⊎ (fault ≡ DiskFault)) }
         ensures refused { IfErr result (λ fault. (fault ≡ DiskFault)
             ⊎ ((A.pages self.new.area ≡ A.pages self.old.area) × (self.new.taken ≡ self.old.taken))) }
         ensures entries { self.new.entries ≡ self.old.entries }
@@ -108,6 +110,7 @@ impl<A: Area> FileArea<A> {
             → OnOk result (Told (A.pages self.new.area) (λ after. TakesIndex pages after name.now)) }
         ensures place { OnOk result ((p : ℕ) × IsFirstEmpty self.old.entries (key_of name.now - 1) p
             × ((slice_index_or self.new.entries p blank_entry).name ≡ name.now)) }
+        ensures open { OnOk result (StandsOpen self.new.entries name.now) }
         ensures refusals { IfErr result (λ fault. (fault ≡ Exists) ⊎ (fault ≡ CatalogFull)
             ⊎ (fault ≡ DiskFull) ⊎ (fault ≡ DiskFault)) }
         ensures refused { IfErr result (λ fault. (fault ≡ DiskFault)

@@ -7,7 +7,7 @@ ghost use Rattle.disk_layout.specs.Layout.{IsLaidOut, blank_entry};
 ghost use Rattle.disk_layout.specs.Judging.{IsKeptEntry};
 ghost use Rattle.disk_layout.specs.Taking.{TakesIndex};
 ghost use Rattle.disk_files.specs.declared.fault.FileFault.TheVariants.{DiskFault};
-ghost use Rattle.disk_files.specs.Answers.{FaultsOnly, LaidNow, Stays, Told};
+ghost use Rattle.disk_files.specs.Answers.{FaultsOnly, LaidNow, StandsOpen, Stays, Told};
 
 use crate::FileFault;
 use crate::append::{save_map, take};
@@ -44,6 +44,9 @@ pub fn create_file<A: Area>(
         × Told (A.pages area.new) (λ after. TakesIndex pages after name)) }
     ensures places { length entries.new ≡ 240 }
     ensures named { OnOk result ((slice_index_or entries.new place blank_entry).name ≡ name) }
+    ensures open { ((k : ℕ) → k < 240 → (slice_index_or entries.old k blank_entry).kind ≢ 0
+        → (slice_index_or entries.old k blank_entry).name ≢ name)
+        → OnOk result (StandsOpen entries.new name) }
     ensures kept { ((p : ℕ) → p < 240 → IsKeptEntry (slice_index_or entries.old p blank_entry))
         → (p : ℕ) → p < 240 → IsKeptEntry (slice_index_or entries.new p blank_entry) }
     ensures size { A.size area.new ≡ A.size area.old }

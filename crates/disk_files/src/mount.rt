@@ -44,8 +44,8 @@ pub fn judge<A: Area>(
     judge_pages(area, entries, &mut roles)
 }
 
-// What is noted of the pages before they are judged: nothing.
-fn no_roles(alloc: Global, pages: u16) -> Result<Vec<u8>, FileFault>
+/// What is noted of the pages before they are judged: nothing.
+pub fn no_roles(alloc: Global, pages: u16) -> Result<Vec<u8>, FileFault>
     ensures blank { IfOk result (λ roles. (length roles.items ≡ pages)
         × ((n : ℕ) → slice_index roles.items n ≡ 0)) }
     ensures memory { IfErr result (λ fault. fault ≡ NoMemory) }
@@ -151,9 +151,9 @@ fn judge_catalogue<A: Area>(area: &mut A, entries: &mut [Entry]) -> Result<(), F
     }
 }
 
-// Reads the catalogue, and notes the first place that is wrong.
+/// Reads the catalogue, and notes the first place that is wrong.
 #[tactic(auto, using(crate::proofs::Kept::faults_then, crate::proofs::Kept::no_faults))]
-fn read_catalogue<A: Area>(
+pub fn read_catalogue<A: Area>(
     area: &mut A,
     entries: &mut [Entry],
     bad: &mut Option<u16>,

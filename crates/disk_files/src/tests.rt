@@ -1,13 +1,23 @@
 ghost use Rattle.std.specs.Prelude.{◌≡◌, true, IfOk};
 
-use crate::{FileArea, FileFault};
-use disk_layout::{Entry, FileKind, key_of, label};
+use crate::{FileArea, FileFault, judge_older};
+use disk_layout::{Entry, FileKind, key_of, label, label1};
 use disk_pages::{AREA_PAGES, PageMap, set_number};
 use solo_base::{Ident, Page};
 use solo_devices::{Area, SureArea};
 use std::alloc::Global;
 use std::process::Abort;
 use std::test::Fail;
+
+// The entry of no file.
+const BLANK: Entry = Entry {
+    name: [0; 12],
+    kind: 0,
+    address: 0,
+    protection: 0,
+    key: 0,
+    searches: 0,
+};
 
 // An area with one empty file of this name, whose index page is page 18.
 fn one_file(rt: &impl Abort, alloc: Global, name: &[u8; 12]) -> SureArea
@@ -110,4 +120,36 @@ fn the_least_page_that_breaks_the_format_is_named(rt: HostRuntime) {
         };
         assert_eq!(rt; named_page, Some(named), "at {page}");
     }
+}
+
+#[test]
+fn an_area_of_format_1_is_judged(rt: HostRuntime) {
+    let mut area = one_file(&rt, rt.alloc(), b"TEA         ");
+    let mut entries = [BLANK; 240];
+    // the label is that of format 2
+    let newer = judge_older(rt.alloc(), &mut area, &mut entries);
+    assert_eq!(rt; newer.err(), Some(FileFault::NotSolo { page: 0 }));
+    area.write(0, &label1());
+    let empty = judge_older(rt.alloc(), &mut area, &mut entries);
+    assert_eq!(rt; empty.ok().expect(&rt, "format 1").free(), 4269);
+    assert_eq!(rt; entries[key_of(b"TEA         ") as usize - 1].address, 18);
+    // one page, whose bit isn't set
+    let mut map_page = Page::zeros();
+    set_number(&mut map_page, 0, 1);
+    set_number(&mut map_page, 2, 19);
+    area.write(18, &map_page);
+    let unmarked = judge_older(rt.alloc(), &mut area, &mut entries);
+    assert_eq!(rt; unmarked.err(), Some(FileFault::NotSolo { page: 16 }));
+    let mut map = PageMap::fresh();
+    let _index = map.allocate();
+    let _page = map.allocate();
+    let (low, _) = map.to_pages();
+    area.write(16, &low);
+    let one = judge_older(rt.alloc(), &mut area, &mut entries);
+    assert_eq!(rt; one.ok().expect(&rt, "format 1").free(), 4268);
+    // a number behind those that the length says
+    set_number(&mut map_page, 4, 20);
+    area.write(18, &map_page);
+    let behind = judge_older(rt.alloc(), &mut area, &mut entries);
+    assert_eq!(rt; behind.err(), Some(FileFault::NotSolo { page: 18 }));
 }

@@ -9,7 +9,7 @@ use Rattle.disk_layout.specs.Judging.{EntryStands, SearchesAreRight, IndexKeeps,
 pub entry_right : (d : Disk) (p : ℕ) → EntryStands d p × SearchesAreRight d p → EntryIsRight d p
 entry_right d p both = record { whole = both.0.whole; name = both.0.name; address = both.0.address; searches = both.1 }
 
-entry_parts : (d : Disk) (p : ℕ) → EntryIsRight d p → EntryStands d p × SearchesAreRight d p
+pub entry_parts : (d : Disk) (p : ℕ) → EntryIsRight d p → EntryStands d p × SearchesAreRight d p
 entry_parts d p right = (record { whole = right.whole; name = right.name; address = right.address }, right.searches)
 
 module _ (pages : List (List ℕ)) where

@@ -33,5 +33,8 @@ pub mod AppendedPages
 pub mod Grows
 pub mod Written
 pub mod Judged
+pub mod JudgedMaps
+pub mod JudgedOlder
+pub mod MadeNewer
 pub mod JudgedParts
 pub mod Example

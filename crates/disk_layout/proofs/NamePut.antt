@@ -4,7 +4,7 @@ use Rattle.std.proofs.lemmas.Bool.{cases_eq, eq-eqb, ne_eqb}
 use Rattle.disk_layout.specs.declared.entry.Entry.{Entry}
 use Rattle.disk_layout.specs.Layout.{blank_entry}
 use Rattle.disk_layout.specs.Judging.{IsKeptEntry}
-use Rattle.disk_layout.specs.Writing.{ClearsName, PutsName, unnamed}
+use Rattle.disk_layout.specs.Writing.{ClearsName, PutsEntry, PutsName, unnamed}
 
 abbrev at : List Entry → ℕ → Entry
 at entries k = get_or entries k blank_entry
@@ -157,3 +157,10 @@ named_put kept now p s n m new size below s_below is = ap (λ x. (at x p).name) 
   | inr apart ↦ ap (λ e. e.name) (get_or-set_other (put_first kept p n new) s p _ blank_entry apart
       ∙ get_or-set_same kept p _ blank_entry (omega (arith, size, below)))
 ]
+
+pub stands_put : (kept now : List Entry) (p s m : ℕ) (new : Entry) → length kept ≡ 240 → p < 240 → s < 240
+    → now ≡ searches_set (entry_set kept p new) s m → PutsEntry kept now p new
+stands_put kept now p s m new size below s_below is = subst (λ x. PutsEntry kept x p new) (sym is) (record {
+  here = here_set kept p s m new size below s_below;
+  beside = λ k apart. beside_set kept p s m new size below s_below k apart;
+})

@@ -3,7 +3,8 @@ use Rattle.std.specs.Prelude.{◌≡◌, ◌≢◌, ℕ, ◌+◌, ◌*◌, ◌<�
 use Rattle.solo_base.specs.PageBytes.{number_at}
 use Rattle.disk_layout.specs.declared.entry.Entry.{Entry}
 use Rattle.disk_layout.specs.Disk.{Disk, entry_in}
-use Rattle.disk_layout.specs.Format.{IsAddress, IsEmptyEntry, IsFullEntry, IsIndexPage, IndexIsRight, UsesPart, IsPartPage, UsesPage, IsFirstUse, PartIsRight, file_length, count_in_part, count_below, has_key}
+use Rattle.disk_layout.specs.Format.{IsAddress, IsEmptyEntry, IsFullEntry, IsIndexPage, IndexIsRight, NumbersAreRight, UsesNumber, UsesPart, IsPartPage, UsesPage, IsFirstUse, PartIsRight, file_length, count_in_part, count_below, has_key}
+use Rattle.disk_layout.specs.Format1.{all_of}
 use Rattle.disk_layout.specs.Layout.{blank_entry}
 
 -- ---- The least that breaks a rule
@@ -118,6 +119,26 @@ pub record FileRoles (d : Disk) (q j : ℕ) (roles : List ℕ) : Type 0 where
   pub page : (n : ℕ) → slice_index roles n ≡ 251
       → ((lesser : ℕ) × (other : ℕ) × IsBefore lesser other q j × UsesPage d lesser other n)
   pub met : (lesser other n : ℕ) → IsBefore lesser other q j → UsesPage d lesser other n → IsAddress n
+      → slice_index roles n ≢ 0
+
+-- ---- Map pages of format 1
+
+abbrev pub UsesMapped : Disk → ℕ → ℕ → ℕ → Type 0
+UsesMapped d i k n = UsesNumber d 255 all_of i k n
+
+abbrev pub MapKeeps : Disk → ℕ → Type 0
+MapKeeps d i = IsIndexPage d i → NumbersAreRight d 255 all_of i
+
+-- by page: 255 for a map page, 251 for a page of a file, and 0 for any other; the pages of files are those
+-- that were met before this place
+pub record MapRoles (d : Disk) (i k : ℕ) (roles : List ℕ) : Type 0 where
+  pub size : length roles ≡ 4288
+  pub address : (n : ℕ) → slice_index roles n ≢ 0 → IsAddress n
+  pub index : (n : ℕ) → IsIndexPage d n → slice_index roles n ≡ 255
+  pub is_index : (n : ℕ) → slice_index roles n ≡ 255 → IsIndexPage d n
+  pub page : (n : ℕ) → slice_index roles n ≢ 0 → slice_index roles n ≢ 255
+      → ((by : ℕ) × (place : ℕ) × IsBefore by place i k × UsesMapped d by place n)
+  pub met : (by place n : ℕ) → IsBefore by place i k → UsesMapped d by place n → IsAddress n
       → slice_index roles n ≢ 0
 
 -- ---- The whole area

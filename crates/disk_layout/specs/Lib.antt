@@ -4,6 +4,7 @@ pub mod Disk
 pub mod Format
 pub mod Files
 pub mod Format1
+pub mod Newer
 pub mod Layout
 pub mod Appending
 pub mod Writing

@@ -39,6 +39,16 @@ pub record PutsName (kept kept_now : List Entry) (p : ℕ) (new : Entry) : Type 
       → (slice_index_or kept_now k blank_entry).searches
       ≡ (slice_index_or kept k blank_entry).searches + cond (new.key == k + 1) 1 0
 
+-- the same but for the search lengths, of which nothing is said
+pub record PutsEntry (kept kept_now : List Entry) (p : ℕ) (new : Entry) : Type 0 where
+  pub here : slice_index_or kept_now p blank_entry
+      ≡ record new { searches = (slice_index_or kept_now p blank_entry).searches }
+  pub beside : (k : ℕ) → k ≢ p
+      → slice_index_or kept_now k blank_entry ≡ record (slice_index_or kept k blank_entry) {
+        searches =
+            (slice_index_or kept_now k blank_entry).searches;
+      }
+
 -- the entry of no file, at a place with this search length
 abbrev pub unnamed : ℕ → Entry
 unnamed searches =

@@ -2,7 +2,7 @@ ghost use Rattle.std.specs.Prelude.{◌==◌, not, ◌≡◌, ◌≢◌, ◌+◌
 ghost use Rattle.disk_layout.specs.Format.{count_below};
 ghost use Rattle.disk_layout.specs.Layout.{blank_entry};
 ghost use Rattle.disk_layout.specs.Judging.{IsKeptEntry};
-ghost use Rattle.disk_layout.specs.Writing.{ClearsName, IsFirstEmpty, PutsName, unnamed};
+ghost use Rattle.disk_layout.specs.Writing.{ClearsName, IsFirstEmpty, PutsEntry, PutsName, unnamed};
 
 use crate::Entry;
 
@@ -122,6 +122,7 @@ pub fn put_name(entries: &mut [Entry], place: usize, entry: &Entry)
     requires last { entry.now.key ≤ 240 }
     ensures puts { ((k : ℕ) → k < 240 → (slice_index_or entries.old k blank_entry).searches < 65535)
         → PutsName entries.old entries.new place entry.now }
+    ensures stands { PutsEntry entries.old entries.new place entry.now }
     ensures named { (slice_index_or entries.new place blank_entry).name ≡ entry.now.name }
     ensures kept { ((k : ℕ) → k < 240 → IsKeptEntry (slice_index_or entries.old k blank_entry))
         → IsKeptEntry entry.now

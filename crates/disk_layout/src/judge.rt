@@ -1,8 +1,9 @@
 ghost use Rattle.std.specs.Prelude.{◌≡◌, ◌≢◌, ℕ, ◌+◌, ◌*◌, ◌<◌, ◌≤◌, true, false, length, slice_index, slice_set};
 ghost use Rattle.solo_base.specs.PageBytes.{number_at};
 ghost use Rattle.disk_layout.specs.Disk.{Disk};
-ghost use Rattle.disk_layout.specs.Format.{IsAddress, IsIndexPage, IsPartPage, IsFirstUse, IndexIsRight, PartIsRight, file_length, part_count, count_in_part};
-ghost use Rattle.disk_layout.specs.Judging.{Roles, FileRoles, HasNumbers};
+ghost use Rattle.disk_layout.specs.Format.{IsAddress, IsIndexPage, IsPartPage, IsFirstUse, IndexIsRight, NumbersAreRight, PartIsRight, file_length, part_count, count_in_part};
+ghost use Rattle.disk_layout.specs.Format1.{all_of};
+ghost use Rattle.disk_layout.specs.Judging.{Roles, FileRoles, MapRoles, HasNumbers};
 
 use disk_pages::number;
 use solo_base::Page;
@@ -90,5 +91,29 @@ pub fn judge_part(page: &Page, count: u16, roles: &mut [u8]) -> bool
         right = right && noted;
     }
     let rest = ends_in_zeros(page, count);
+    right && rest
+}
+
+/// Judges a map page of format 1, and notes its pages.
+pub fn judge_map_page(page: &Page, roles: &mut [u8]) -> bool
+    requires { length roles.old ≡ 4288 }
+    ensures noted { (d : Disk) (i : ℕ) → IsIndexPage d i → HasNumbers d i page.now.0
+        → MapRoles d i 0 roles.old
+        → MapRoles d (i + 1) 0 roles.new }
+    ensures right { (d : Disk) (i : ℕ) → IsIndexPage d i → HasNumbers d i page.now.0
+        → MapRoles d i 0 roles.old
+        → result ≡ true → NumbersAreRight d 255 all_of i }
+    ensures wrong { (d : Disk) (i : ℕ) → IsIndexPage d i → HasNumbers d i page.now.0
+        → MapRoles d i 0 roles.old
+        → result ≡ false → NumbersAreRight d 255 all_of i → ⊥ }
+{
+    let length = number(page, 0);
+    let count = length.min(255);
+    let mut right = length <= 255;
+    for j in 0..count {
+        let noted = note_part(roles, number(page, 2 * (j + 1)), 251);
+        right = right && noted;
+    }
+    let rest = ends_in_zeros(page, count + 1);
     right && rest
 }

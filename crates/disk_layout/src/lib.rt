@@ -17,8 +17,8 @@ pub use catalogue::{
 };
 pub use catalogue_judge::{judge_entries, judge_searches, note_indexes};
 pub use entry::{Entry, is_address, is_whole, key_of};
-pub use first_page::{is_label, label};
-pub use judge::{judge_index, judge_part};
+pub use first_page::{is_label, is_label1, label, label1};
+pub use judge::{judge_index, judge_map_page, judge_part};
 pub use kind::FileKind;
 pub use least::{earlier, note_bad};
 pub use map_judge::{ends_in_zeros, judge_bits, least_page};

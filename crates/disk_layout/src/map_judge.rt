@@ -2,7 +2,8 @@ ghost use Rattle.std.specs.Prelude.{◌≡◌, ◌≢◌, ◌<◌, ◌≤◌, �
 ghost use Rattle.disk_pages.specs.Bits.{is_marked, EndsInZeros};
 ghost use Rattle.disk_layout.specs.Disk.{Disk};
 ghost use Rattle.disk_layout.specs.Format.{MarkIsRight};
-ghost use Rattle.disk_layout.specs.Judging.{FileRoles, JudgedBelow, least_page};
+ghost use Rattle.disk_layout.specs.Format1.{Mark1IsRight};
+ghost use Rattle.disk_layout.specs.Judging.{FileRoles, MapRoles, JudgedBelow, least_page};
 
 use crate::least::note_bad;
 use disk_pages::{AREA_PAGES, FIRST_FILE_PAGE, is_marked};
@@ -11,9 +12,13 @@ use solo_base::Page;
 /// The first page whose bit is wrong, by what was noted of all pages.
 pub fn judge_bits(low: &Page, high: &Page, roles: &[u8]) -> Option<u16>
     requires { length roles.now ≡ AREA_PAGES }
-    ensures { (d : Disk) → ((n : ℕ) → n < AREA_PAGES → d.marked n ≡ is_marked low.now high.now n)
+    ensures newer { (d : Disk) → ((n : ℕ) → n < AREA_PAGES → d.marked n ≡ is_marked low.now high.now n)
         → FileRoles d AREA_PAGES 0 roles.now
         → JudgedBelow (MarkIsRight d) AREA_PAGES result }
+    // The same in format 1.
+    ensures older { (d : Disk) → ((n : ℕ) → n < AREA_PAGES → d.marked n ≡ is_marked low.now high.now n)
+        → MapRoles d AREA_PAGES 0 roles.now
+        → JudgedBelow (Mark1IsRight d) AREA_PAGES result }
 {
     let mut bad = None;
     for n in 0..AREA_PAGES {

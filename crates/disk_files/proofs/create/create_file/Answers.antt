@@ -1,6 +1,6 @@
-use Rattle.std.proofs.Common.{◌∙◌, length-set}
-use Rattle.disk_files.proofs.Numbers.{on_ok}
-use Rattle.disk_files.proofs.Creates.{created_now, new_kept, searches_few}
+use Rattle.std.proofs.Common.{◌∙◌, length-set, refl}
+use Rattle.disk_files.proofs.Numbers.{always, on_ok}
+use Rattle.disk_files.proofs.Creates.{created_now, new_kept, open_put, searches_few}
 use Rattle.disk_files.proofs.create.create_file.Goals as goal
 
 pub returns-clause-wrote : goal.returns-clause-wrote
@@ -31,3 +31,8 @@ pub returns-in_err-save_entry-2-clause-kept : goal.returns-in_err-save_entry-2-c
 returns-in_err-save_entry-2-clause-kept g c =
     λ all. c.put_name.ensures.kept all
     (new_kept _ _ _ _ c.requires.ident c.number.ensures.some c.number.ensures.last c.take-index.ensures.free c.key_of-key.ensures.key)
+
+pub returns-clause-open : goal.returns-clause-open
+returns-clause-open g c = λ fresh.
+    always c.save_map.result _ (open_put c.args.entries.now c.put_name.new.entries c.args.place _ c.put_name.ensures.stands c.requires.place
+    c.number.ensures.some refl fresh)

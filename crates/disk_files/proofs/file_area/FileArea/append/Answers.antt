@@ -3,7 +3,7 @@ use Rattle.disk_layout.specs.Files.{files, free_count}
 use Rattle.std.specs.Prelude.{slice_index_or}
 use Rattle.disk_layout.specs.Layout.{blank_entry}
 use Rattle.disk_layout.specs.Taking.{TakesNext}
-use Rattle.disk_files.specs.Answers.{Holds, pages_needed, append_answer, append_answer_of, Answers}
+use Rattle.disk_files.specs.Answers.{Holds, pages_needed, append_answer, append_answer_of, Answers, StandsOpen}
 use Rattle.disk_files.proofs.Numbers.{on_ok, if_err}
 use Rattle.disk_layout.proofs.Lookups.{no_file, found_file}
 use Rattle.disk_layout.proofs.Grows.{may_grow, the_file, same_insert}
@@ -86,3 +86,16 @@ returns-clause-least g c = λ pages file told is.
     ))
     (grown_by _ _ pages laid c.in-Some.place below c.in-Some.ensures.used c.append_page-answer.result _ _ c.args.page.now.0
     (c.append_page-answer.ensures.wrote pages told_inside grow))
+
+-- a name that stands there is found, and not protected
+pub returns-in-None-clause-open : goal.returns-in-None-clause-open
+returns-in-None-clause-open g c = λ stands.
+    let there = subst (λ entries. StandsOpen entries c.args.name.now) (sym (ap (λ v. v.entries) c.self.view_is)) stands in
+    absurd (c.in-None.ensures.none there.place (omega (arith, there.inside, c.self.invariant.places)) there.used (there.named ∙ sym c.bytes.ensures.bytes))
+
+pub returns-then-entry-eq1-clause-open : goal.returns-then-entry-eq1-clause-open
+returns-then-entry-eq1-clause-open g c = λ stands.
+    let there = subst (λ entries. StandsOpen entries c.args.name.now) (sym (ap (λ v. v.entries) c.self.view_is)) stands in
+    let loose = there.unprotected c.in-Some.place (omega (arith, c.in-Some.ensures.inside, c.self.invariant.places)) c.in-Some.ensures.used
+    (c.in-Some.ensures.name ∙ c.bytes.ensures.bytes) in
+    absurd (omega (arith, loose, c.if-entry-eq1.true))

@@ -4,7 +4,7 @@ use Rattle.disk_layout.specs.Files.{files, free_count, name_count}
 use Rattle.disk_layout.specs.Format.{key_of}
 use Rattle.disk_layout.specs.Writing.{IsFirstEmpty}
 use Rattle.disk_layout.specs.Taking.{TakesIndex}
-use Rattle.disk_files.specs.Answers.{Holds, create_answer}
+use Rattle.disk_files.specs.Answers.{Holds, StandsOpen, create_answer}
 use Rattle.disk_files.proofs.Numbers.{on_ok, if_err, answers_ok}
 use Rattle.disk_layout.proofs.Lookups.{no_file, found_file}
 use Rattle.disk_files.proofs.AreaAfter.{area_after, holds_now, free_now}
@@ -95,4 +95,11 @@ returns-clause-least g c = λ pages told.
     (λ w. (w.2.0, w.2.1, subst (TakesIndex pages w.2.0) c.bytes-3.ensures.bytes w.2.2))
     (c.create_file-answer.ensures.wrote pages told_inside laid c.in-Some.ensures.first.empty
     (λ k inside used e. c.is_named.ensures.not c.if-is_named.false k (omega (arith, inside, laid.places)) used (e ∙ c.bytes-3.ensures.bytes
+    ∙ sym c.bytes.ensures.bytes)))
+
+pub returns-clause-open : goal.returns-clause-open
+returns-clause-open g c =
+    on_ok c.create_file-answer.result _ _ (subst (StandsOpen c.create_file-answer.new.entries) c.bytes-3.ensures.bytes)
+    (c.create_file-answer.ensures.open
+    (λ k inside used e. c.is_named.ensures.not c.if-is_named.false k (omega (arith, inside, c.self.invariant.places)) used (e ∙ c.bytes-3.ensures.bytes
     ∙ sym c.bytes.ensures.bytes)))
