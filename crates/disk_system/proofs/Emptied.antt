@@ -1,15 +1,15 @@
 -- An area that was formatted is a Solo disk without a file.
-use Rattle.std.proofs.Common.{◌≡◌, ◌≢◌, ℕ, suc, zero, ◌+◌, ◌-◌, ◌*◌, ◌/◌, ◌%◌, ◌<◌, ◌≤◌, Bool, true, false, not, cond, ◌==◌, ◌&&◌, ◌||◌, Option, Some, None, List, [], ◌∷◌, length, take, drop, replicate, get_or, refl, ap, sym, subst, ◌∙◌, inl, inr, arith}
-use Rattle.std.specs.Prelude.{◌⊎◌, nat_lt}
+use Rattle.std.proofs.Common.{◌≡◌, ℕ, suc, zero, ◌+◌, ◌-◌, ◌*◌, ◌/◌, ◌%◌, ◌<◌, ◌≤◌, Bool, true, false, not, cond, ◌==◌, ◌&&◌, ◌||◌, Option, Some, None, List, take, drop, replicate, get_or, refl, ap, sym, ◌∙◌, inl, inr, arith}
+use Rattle.std.specs.Prelude.{nat_lt}
 use Rattle.std.specs.FinMap as fin
 use Rattle.std.proofs.lemmas.List.{take-replicate, drop-replicate}
-use Rattle.std.proofs.lemmas.Bool.{cases_eq, cases_lt, lt-ltb, le-ltb}
+use Rattle.std.proofs.lemmas.Bool.{cases_lt, lt-ltb, le-ltb}
 use Rattle.solo_base.specs.PageBytes.{zero_page, number_at}
 use Rattle.disk_layout.specs.declared.entry.Entry.{Entry}
-use Rattle.disk_layout.specs.Disk.{Disk, disk_of, entry_in, entry_of, spare_of, marked_of, page_at, entry_page, entry_byte}
-use Rattle.disk_layout.specs.Format.{IsSoloDisk, EntryIsRight, IsEmptyEntry, IsFullEntry, has_key, count_below}
-use Rattle.disk_layout.specs.Files.{with_file, files, files_below, named_as, named_at, file_at, free_count}
-use Rattle.disk_layout.specs.Layout.{Use, Owns, InUse, HasFile, address_of}
+use Rattle.disk_layout.specs.Disk.{disk_of, entry_in, entry_of, spare_of, marked_of, page_at, entry_page, entry_byte}
+use Rattle.disk_layout.specs.Format.{IsSoloDisk, EntryIsRight, IsFullEntry, has_key, count_below}
+use Rattle.disk_layout.specs.Files.{with_file, files_below, named_as, named_at, file_at, free_count}
+use Rattle.disk_layout.specs.Layout.{Use, Owns, InUse, HasFile}
 use Rattle.disk_layout.specs.Layout.Use.{Index, Part, Page}
 use Rattle.disk_layout.specs.Writing.{unnamed}
 use Rattle.disk_layout.proofs.Maps.{Named}

@@ -1,13 +1,13 @@
 -- The names of a map one after the other are its entries.
-use Rattle.std.proofs.Common.{◌≡◌, ◌≢◌, ℕ, suc, zero, ◌+◌, ◌-◌, ◌<◌, ◌≤◌, ◌==◌, ◌&&◌, Bool, true, false, cond, not, min, Option, Some, None, is_some, List, [], ◌∷◌, ◌++◌, length, map, take, get_or, refl, ap, sym, subst, ◌∙◌, inl, inr, arith}
-use Rattle.std.specs.Prelude.{◌⊎◌, T}
+use Rattle.std.proofs.Common.{◌≡◌, ℕ, suc, zero, ◌+◌, ◌<◌, ◌≤◌, ◌==◌, ◌&&◌, Bool, true, false, cond, not, min, Option, Some, None, is_some, List, [], ◌∷◌, ◌++◌, length, map, take, get_or, refl, ap, sym, subst, ◌∙◌, inl, inr, arith}
+use Rattle.std.specs.Prelude.{T}
 use Rattle.std.specs.declared.cmp.Ordering.{Ordering}
 use Rattle.std.specs.declared.cmp.Ordering.TheVariants.{Less, Equal, Greater}
-use Rattle.std.specs.Ordering.{nat_cmp, is_eq, is_lt, eq_by_cmp, ordering_reverse}
+use Rattle.std.specs.Ordering.{nat_cmp, is_eq, is_lt, ordering_reverse}
 use Rattle.std.specs.Cmp.Lexicographic.{slice_cmp, nat_list_cmp_total}
 use Rattle.std.specs.FinMap as fin
 use Rattle.std.specs.FinMap.{find, is_sorted, entries_sorted, get-entries, len-entries, len-insert, len-empty, nat_cmp-IsAntisymmetric, slice_cmp-IsAntisymmetric}
-use Rattle.std.proofs.lemmas.Bool.{cases_eq, cases_lt, cases_Bool, true≢false}
+use Rattle.std.proofs.lemmas.Bool.{cases_eq, cases_lt, true≢false}
 use Rattle.std.proofs.lemmas.Cmp.{tied_itself}
 use Rattle.std.proofs.lemmas.List.{take_all, map_more}
 use Rattle.disk_layout.specs.declared.kind.FileKind.TheVariants.{Scratch}

@@ -5,3 +5,9 @@ pub mod Stored
 pub mod Stores
 pub mod InOrder
 pub mod Lines
+pub mod PartsAdded
+pub mod Movings
+pub mod Needed
+pub mod NewerWritten
+pub mod RoomForParts
+pub mod Loads

@@ -1,7 +1,7 @@
 -- What is stored is read again.
-use Rattle.std.proofs.Common.{◌≡◌, ◌≢◌, ℕ, suc, zero, ◌+◌, ◌-◌, ◌*◌, ◌/◌, ◌%◌, ◌<◌, ◌≤◌, ◌==◌, Bool, true, false, cond, not, Option, Some, None, Ok, List, [], ◌∷◌, ◌++◌, length, take, drop, get_or, replicate, refl, ap, sym, subst, ◌∙◌, inl, inr, arith, length-drop, append_assoc, length-append}
-use Rattle.std.specs.List.{All, concat, before_first, position_or_len, prefix_len}
-use Rattle.std.proofs.lemmas.List.{take_all, take_at, take_more, append-nil, length-take, length_push, length-replicate, drop-take, take-append-drop, take-take, drop_at}
+use Rattle.std.proofs.Common.{◌≡◌, ℕ, suc, zero, ◌+◌, ◌*◌, ◌/◌, ◌%◌, ◌<◌, ◌==◌, true, false, cond, not, Option, Some, None, Ok, List, [], ◌∷◌, ◌++◌, length, take, drop, get_or, replicate, refl, ap, sym, ◌∙◌, inl, inr, arith, length-append}
+use Rattle.std.specs.List.{concat, position_or_len}
+use Rattle.std.proofs.lemmas.List.{take_all, take_at, take_more, append-nil, length_push, length-replicate, drop-take, take-append-drop, take-take}
 use Rattle.std.proofs.lemmas.List.Folds.{concat-append}
 use Rattle.std.specs.Option.{unwrap_or}
 use Rattle.std.proofs.lemmas.Bool.{cases_Bool, eq-eqb, false≢true, ne_eqb}

@@ -5,7 +5,7 @@ use Rattle.disk_layout.specs.declared.kind.FileKind.TheVariants.{Scratch, Ascii,
 use Rattle.disk_layout.specs.Files.{File}
 use Rattle.disk_layout.specs.Deleting.{pages_held}
 use Rattle.disk_files.specs.declared.fault.FileFault.{FileFault}
-use Rattle.disk_files.specs.declared.fault.FileFault.TheVariants.{NoFile, Exists, Protected, CatalogFull, DiskFull, FileFull, DiskFault, NoMemory}
+use Rattle.disk_files.specs.declared.fault.FileFault.TheVariants.{NoFile, Exists, CatalogFull, DiskFull, FileFull, DiskFault, NoMemory}
 use Rattle.disk_system.specs.declared.fault.SystemFault.{SystemFault}
 use Rattle.disk_system.specs.declared.fault.SystemFault.TheVariants.{NotText, NotCode, BadCode}
 use Rattle.disk_system.specs.declared.fault.SystemFault.TheVariants.{File as OfFiles}
@@ -69,12 +69,10 @@ abbrev pub StoreAnswers : Result (Unit {0}) SystemFault → Result (Unit {0}) Fi
 StoreAnswers result expected =
     (result ≡ Err (OfFiles DiskFault)) ⊎ (result ≡ Err (OfFiles NoMemory)) ⊎ (result ≡ as_system expected)
 
--- Whatever the area tells. That there is no file, or a protected one, comes only of an area that tells
--- nothing.
+-- whatever the area tells
 abbrev pub MayRefuse : FileFault → Type 0
 MayRefuse fault =
     (fault ≡ Exists) ⊎ (fault ≡ CatalogFull) ⊎ (fault ≡ FileFull) ⊎ (fault ≡ DiskFull) ⊎ (fault ≡ DiskFault)
-    ⊎ (fault ≡ NoFile) ⊎ (fault ≡ Protected)
 
 abbrev pub MayRefuseStore : SystemFault → Type 0
 MayRefuseStore fault = (fault ≡ OfFiles NoMemory) ⊎ ((of : FileFault) × (fault ≡ OfFiles of) × MayRefuse of)

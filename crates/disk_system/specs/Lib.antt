@@ -6,3 +6,6 @@ pub mod Formatted
 pub mod Contents
 pub mod Calls
 pub mod Listing
+pub mod Migrating
+pub mod Loading
+pub use Rattle.disk_layout.specs.Format1

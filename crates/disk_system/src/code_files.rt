@@ -1,4 +1,4 @@
-ghost use Rattle.std.specs.Prelude.{◌≡◌, ℕ, ◌-◌, ◌/◌, ◌⊎◌, List, Some, None, Ok, Err, IsTrue, length, IfErr, IfOk, OnOk};
+ghost use Rattle.std.specs.Prelude.{◌≡◌, ℕ, ◌-◌, ◌/◌, ◌<◌, ◌⊎◌, List, Some, None, Ok, Err, IsTrue, length, slice_index, IfErr, IfOk, OnOk};
 ghost use Rattle.std.specs.FinMap as fin;
 ghost use Rattle.disk_layout.specs.declared.kind.FileKind.TheVariants.{SeqCode};
 ghost use Rattle.disk_layout.specs.Files.{File, files as file_map, free_count, name_count};
@@ -9,6 +9,8 @@ ghost use Rattle.stack_code.specs.CodeLists.{CodeLists, IsCode, FitsItsFields};
 ghost use Rattle.stack_code.specs.CodeFile.{code_bytes};
 ghost use Rattle.stack_code.specs.Rules.{broken_record};
 ghost use Rattle.disk_system.specs.Contents.{file_bytes, code_file};
+ghost use Rattle.disk_system.specs.declared.loading.Loaded.{Loaded};
+ghost use Rattle.disk_system.specs.Loading.{LoadsSo, loaded_by, loaded_file, program_of};
 ghost use Rattle.disk_system.specs.Calls.{of_files, IsOutside, CodeAnswers, CodeBy, LoadsAs, LoadsCode, MayRefuseLoad, store_answer, StoreAnswers, MayRefuseStore};
 
 use crate::SystemFault;
@@ -31,6 +33,8 @@ pub fn load_code<A: Area>(
     requires { IsTrue files.old.sound }
     ensures answer { (pages : List (List ℕ)) → A.pages files.old.area ≡ Some pages
         → CodeAnswers (fin.get (file_map pages) name.now) result }
+    ensures program { (pages : List (List ℕ)) → A.pages files.old.area ≡ Some pages
+        → LoadsSo result (program_of (file_map pages) name.now) }
     // Code that was written is loaded, or refused at the first record that breaks a rule.
     ensures only { (pages : List (List ℕ)) (file : File) (c : CodeLists) → A.pages files.old.area ≡ Some pages
         → fin.get (file_map pages) name.now ≡ Some file → file.kind ≡ SeqCode → IsCode c → FitsItsFields c
@@ -57,6 +61,9 @@ fn code_by<A: Area>(
     ensures answer { (pages : List (List ℕ)) (file : File) → A.pages files.old.area ≡ Some pages
         → fin.get (file_map pages) name.now ≡ Some file → info.pages ≡ length file.pages
         → CodeBy info.kind (file_bytes file) result }
+    ensures program { (pages : List (List ℕ)) (file : File) → A.pages files.old.area ≡ Some pages
+        → fin.get (file_map pages) name.now ≡ Some file → info.pages ≡ length file.pages
+        → LoadsSo result (loaded_by info.kind (file_bytes file)) }
     ensures only { (pages : List (List ℕ)) (file : File) (c : CodeLists) → A.pages files.old.area ≡ Some pages
         → fin.get (file_map pages) name.now ≡ Some file → info.pages ≡ length file.pages → info.kind ≡ SeqCode
         → IsCode c → FitsItsFields c → file_bytes file ≡ code_bytes c → LoadsCode c result }
@@ -79,6 +86,7 @@ fn verified(alloc: Global, bytes: &[u8]) -> Result<Verified, SystemFault>
     ensures loads { LoadsAs bytes.now result }
     ensures only { (c : CodeLists) → IsCode c → FitsItsFields c → bytes.now ≡ code_bytes c
         → LoadsCode c result }
+    ensures bytes { (k : ℕ) → slice_index bytes.now k < 256 }
     ensures no_fault { of_files result ≡ Err DiskFault → ⊥ }
     ensures refusals { IfErr result MayRefuseLoad }
 {
@@ -107,6 +115,7 @@ pub fn store_code<A: Area>(
         (fin.insert (file_map pages) name.now (code_file code.now))
         (free_count pages - pages_held (length (code_bytes code.now) / 512))) }
     // So `load_code` loads the same code again.
+    ensures again { OnOk result (loaded_file (Some (code_file code.now)) ≡ Loaded.Code code.now) }
     ensures bytes { file_bytes (code_file code.now) ≡ code_bytes code.now }
     ensures code { OnOk result (IsCode code.now × FitsItsFields code.now) }
     ensures good { broken_record code.now ≡ None }

@@ -1,7 +1,7 @@
 ghost use Rattle.std.specs.Prelude.{◌≡◌, true};
 
 use crate::made_area::{blank_area, bytes, mounted, name};
-use crate::{SystemFault, is_text, load_code, store_code, store_text};
+use crate::{Loaded, SystemFault, is_text, load_code, load_job, store_code, store_text};
 use disk_files::{FileArea, FileFault};
 use disk_layout::FileKind;
 use solo_base::Page;
@@ -137,4 +137,51 @@ fn an_empty_code_file_is_refused_at_its_first_byte(rt: HostRuntime) {
         load_code(rt.alloc(), &mut files, &prog).err(),
         Some(SystemFault::BadCode { at: 512 })
     );
+}
+
+// What a job finds of a program, as a word and a number.
+fn found(
+    rt: &impl Abort,
+    alloc: Global,
+    files: &mut FileArea<SureArea>,
+    program: &[u8],
+) -> (&'static str, u32) {
+    assert!(rt; files.sound());
+    match load_job(alloc, &name(rt, program), files)
+        .ok()
+        .expect(rt, "ample memory")
+    {
+        Loaded::Code(code) => ("code", code.code().instrs().len() as u32),
+        Loaded::NoFile => ("no file", 0),
+        Loaded::NotCode => ("not code", 0),
+        Loaded::BadCode { at } => ("bad code", at),
+    }
+}
+
+#[test]
+fn a_job_finds_its_program_or_why_there_is_none(rt: HostRuntime) {
+    let mut files = mounted(&rt, rt.alloc(), blank_area(&rt, rt.alloc()));
+    let code = write_a_code(&rt, rt.alloc());
+    assert!(rt; files.sound());
+    assert!(rt; store_code(rt.alloc(), &mut files, &name(&rt, b"prog"), &code).is_ok());
+    assert!(rt; files.sound());
+    assert!(rt; is_text(b"A"));
+    assert!(rt; store_text(rt.alloc(), &mut files, &name(&rt, b"text"), b"A").is_ok());
+    assert!(rt; files.sound());
+    assert!(rt;
+        files
+            .create(&name(&rt, b"empty"), FileKind::SeqCode)
+            .is_ok()
+    );
+    let cases: &[(&[u8], (&str, u32))] = &[
+        (b"prog", ("code", 4)),
+        (b"none", ("no file", 0)),
+        (b"text", ("not code", 0)),
+        (b"empty", ("bad code", 0)),
+    ];
+    for (program, wanted) in cases {
+        let answer = found(&rt, rt.alloc(), &mut files, program);
+        assert_eq!(rt; answer.0, wanted.0);
+        assert_eq!(rt; answer.1, wanted.1);
+    }
 }

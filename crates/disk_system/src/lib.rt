@@ -6,7 +6,12 @@ mod code_files;
 mod contents;
 mod fault;
 mod formatting;
+mod lengths;
 mod listing;
+mod loading;
+mod migrating;
+mod newer;
+mod parts;
 mod storing;
 mod texts;
 
@@ -14,6 +19,8 @@ pub use code_files::{load_code, store_code};
 pub use fault::{DiskFault, SystemFault};
 pub use formatting::format;
 pub use listing::list;
+pub use loading::{LoadFault, Loaded, load_job};
+pub use migrating::{MigrateFault, Migrated, migrate};
 pub use texts::{is_text, store_text, text_of};
 
 #[cfg(test)]
@@ -22,5 +29,9 @@ mod code_tests;
 mod failing_tests;
 #[cfg(test)]
 mod made_area;
+#[cfg(test)]
+mod made_older;
+#[cfg(test)]
+mod migrate_tests;
 #[cfg(test)]
 mod tests;

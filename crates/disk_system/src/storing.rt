@@ -3,7 +3,7 @@ ghost use Rattle.std.specs.FinMap as fin;
 ghost use Rattle.disk_layout.specs.Files.{File, Files, files as file_map, free_count, name_count};
 ghost use Rattle.disk_layout.specs.Deleting.{pages_held};
 ghost use Rattle.disk_files.specs.declared.fault.FileFault.TheVariants.{DiskFault, NoFile};
-ghost use Rattle.disk_files.specs.Answers.{Answers, FaultsOnly, Holds, after_reading, stays_sound, pages_needed};
+ghost use Rattle.disk_files.specs.Answers.{Answers, FaultsOnly, Holds, StandsOpen, after_reading, stays_sound, pages_needed};
 ghost use Rattle.disk_layout.specs.Format.{part_count};
 ghost use Rattle.disk_system.specs.Contents.{cut, in_pages};
 ghost use Rattle.disk_system.specs.Calls.{store_answer, room_answer, MayRefuse};
@@ -126,6 +126,7 @@ fn append_pages<A: Area>(
     count: usize,
 ) -> Result<(), FileFault>
     requires sound { IsTrue files.old.sound }
+    requires stands { StandsOpen files.old.entries name.now }
     requires inside { 512 * count ≤ length bytes.now }
     ensures appended { (others : Files) (file : File) (unused : ℕ)
         → Holds (A.pages files.old.area) (fin.insert others name.now (record file { pages = [] })) unused
@@ -155,6 +156,7 @@ fn append_page<A: Area>(
     k: usize,
 ) -> Result<(), FileFault>
     requires sound { IsTrue files.old.sound }
+    requires stands { StandsOpen files.old.entries name.now }
     requires inside { 512 * (k + 1) ≤ length bytes.now }
     ensures appended { (others : Files) (file : File) (unused : ℕ)
         → Holds (A.pages files.old.area) (fin.insert others name.now (record file {
@@ -172,6 +174,7 @@ fn append_page<A: Area>(
         })) unused
         → file.protected ≡ false → k < 4000 → pages_needed k ≤ unused
         → IfErr result (λ fault. fault ≡ DiskFault) }
+    ensures stands { StandsOpen files.new.entries name.now }
     ensures refusals { IfErr result MayRefuse }
     ensures sound { files.new.sound ≡ stays_sound result }
     ensures cause { FaultsOnly (A.faults files.old.area) (A.faults files.new.area) result }

@@ -1,4 +1,4 @@
-use Rattle.std.proofs.Common.{◌+◌, ◌∙◌, ap, subst, sym, set}
+use Rattle.std.proofs.Common.{◌+◌, ◌∙◌, subst, sym, set}
 use Rattle.disk_files.proofs.Kept.{faults_then, no_faults}
 use Rattle.disk_system.specs.Formatted.{IsCleared}
 use Rattle.disk_system.proofs.Failing.{kept_so_far, kept_then}

@@ -1,4 +1,4 @@
-use Rattle.std.proofs.Common.{◌≤◌, length-append, arith}
+use Rattle.std.proofs.Common.{length-append, arith}
 use Rattle.disk_system.proofs.Lines.{few_digits}
 use Rattle.disk_system.proofs.listing.line_of.Goals as goal
 

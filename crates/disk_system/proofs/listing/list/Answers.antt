@@ -1,5 +1,4 @@
-use Rattle.std.proofs.Common.{◌≡◌, ◌≤◌, ◌∙◌, ap, refl, arith, Ok}
-use Rattle.std.specs.FinMap as fin
+use Rattle.std.proofs.Common.{◌∙◌, ap, refl, arith, Ok}
 use Rattle.disk_layout.specs.Files.{files as file_map}
 use Rattle.disk_files.specs.Answers.{after_reading}
 use Rattle.disk_files.proofs.Kept.{faults_then, no_faults}

@@ -1,4 +1,3 @@
-use Rattle.std.proofs.Common.{refl}
 use Rattle.disk_system.specs.Contents.{cut}
 use Rattle.disk_system.proofs.Stores.{appends, grown, its_file, only_fault}
 use Rattle.disk_system.proofs.storing.append_page.Goals as goal

@@ -12,6 +12,7 @@ use Rattle.disk_system.proofs.storing.append_pages.Goals as goal
 pub loop-k-init : goal.loop-k-init
 loop-k-init g c = record {
   sound = c.requires.sound;
+  stands = c.requires.stands;
   faults = no_faults _ tt;
   appended = λ others file unused h loose few room. begun _ others c.args.name.now file c.args.bytes.now unused h;
 }
@@ -19,6 +20,7 @@ loop-k-init g c = record {
 pub loop-k-preserved : goal.loop-k-preserved
 loop-k-preserved g c = record {
   sound = c.in_ok-append_page.ensures.sound;
+  stands = c.append_page.ensures.stands;
   faults = faults_then _ _ _ _ _ c.loop-k.invariant.faults c.in_ok-append_page.ensures.cause;
   appended = λ others file unused h loose few room.
       let was = c.loop-k.invariant.appended others file unused h loose few room in

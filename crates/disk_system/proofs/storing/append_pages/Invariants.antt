@@ -1,14 +1,15 @@
-use Rattle.std.proofs.Common.{◌≡◌, ℕ, ◌+◌, ◌-◌, ◌≤◌, List, [], Ok, true, false}
+use Rattle.std.proofs.Common.{◌≡◌, ℕ, ◌+◌, ◌-◌, ◌≤◌, [], Ok, true, false}
 use Rattle.std.specs.FinMap as fin
 use Rattle.disk_layout.specs.Files.{File, Files}
 use Rattle.disk_layout.specs.Format.{part_count}
-use Rattle.disk_files.specs.Answers.{FaultsOnly, Holds}
+use Rattle.disk_files.specs.Answers.{FaultsOnly, Holds, StandsOpen}
 use Rattle.disk_system.specs.Contents.{cut}
 use Rattle.disk_system.proofs.storing.append_pages.Given as goal
 
 abbrev pub invariant-loop-k : goal.invariant-loop-k
 invariant-loop-k g l = record {
   sound : l.files.sound ≡ true;
+  stands : StandsOpen l.files.entries l.name;
   faults : FaultsOnly {T = Unit {0}} (g.A.Area.faults l.initial.files.area) (g.A.Area.faults l.files.area) (Ok tt);
   appended : (others : Files) (file : File) (unused : ℕ)
       → Holds (g.A.Area.pages l.initial.files.area) (fin.insert others l.name (record file { pages = [] })) unused
