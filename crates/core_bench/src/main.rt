@@ -1,8 +1,8 @@
-//! Times the core on a deck of so many lines in lists, under a numbered schedule.
+//! Times so many runs of the core on a deck of lists, under a numbered schedule.
 #![tactic(auto)]
 
 use anyhow::{Context, Result};
-use core_net::{Net, Rule};
+use core_net::{Counts, Net, Rule};
 use solo_devices::{SureArea, SureSink, SureSource};
 use std::alloc::Global;
 use std::env;
@@ -37,10 +37,9 @@ fn deck(alloc: Global, lists: u32) -> Result<Vec<u8>> {
     Ok(deck)
 }
 
-fn main(rt: HostRuntime) -> Result<()> {
-    let mut words = env::args(&rt)?;
-    let lists = words.nth(1).context("usage: core_bench LISTS")?;
-    let deck = deck(rt.alloc(), lists.as_str().parse::<u32>()?)?;
+/// Runs a deck of so many lists, and adds the processor time of the run to the time.
+fn run(rt: &HostRuntime, lists: u32, time: &mut u128) -> Result<Counts> {
+    let deck = deck(rt.alloc(), lists)?;
     let source = SureSource::new(deck, 512);
     let input = SureArea::new(rt.alloc(), SPOOL_PAGES)
         .ok()
@@ -52,14 +51,27 @@ fn main(rt: HostRuntime) -> Result<()> {
     let mut net = Net::make(source, input, output, paper);
     let began = rt.thread_cpu_time()?;
     let counts = net.run(Rule::Numbered { number: SCHEDULE });
-    let time = rt
+    let took = rt
         .thread_cpu_time()?
         .as_micros()
         .saturating_sub(began.as_micros());
-    println!(rt;
-        "{} events, {} delays, {} grants",
-        counts.events, counts.delays, counts.grants
-    )?;
+    *time = time.saturating_add(took);
+    Ok(counts)
+}
+
+fn main(rt: HostRuntime) -> Result<()> {
+    let usage = "usage: core_bench LISTS RUNS";
+    let mut words = env::args(&rt)?;
+    let lists = words.nth(1).context(usage)?.as_str().parse::<u32>()?;
+    let runs = words.next().context(usage)?.as_str().parse::<u32>()?;
+    let mut time = 0;
+    for _ in 0..runs {
+        let counts = run(&rt, lists, &mut time)?;
+        println!(rt;
+            "{} events, {} delays, {} grants",
+            counts.events, counts.delays, counts.grants
+        )?;
+    }
     eprintln!(rt; "{time} microseconds")?;
     Ok(())
 }

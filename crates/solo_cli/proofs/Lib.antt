@@ -6,3 +6,4 @@ mod AllDone
 mod CardItems
 mod Reasons
 mod Adding
+mod Counted

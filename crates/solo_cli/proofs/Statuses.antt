@@ -112,4 +112,5 @@ counted_at_zero rule s before now lines cause status is gains = record {
   runs = gains.runs;
   gains = gains_at_zero before now (text (lines ++ counts_line gains.counts.events gains.counts.delays gains.counts.grants ∷ [])) cause status is gains.gains;
   done = λ zero. gains.done (no_cause cause (sym is ∙ zero));
+  counted = λ zero. gains.counted (no_cause cause (sym is ∙ zero));
 }

@@ -9,10 +9,12 @@ use Rattle.core_net.specs.declared.finish.Outcomes.{Outcomes}
 use Rattle.core_net.specs.declared.rules.Rule.{Rule}
 use Rattle.core_net.specs.Ended.{all_done}
 use Rattle.core_net.specs.WholeRuns.{RunsToEnd}
+use Rattle.schedule_law.specs.Undisturbed.{AreItsCounts}
 use Rattle.solo_cli.specs.CountsLine.{counts_line}
 
 -- Of a run by the rule from this state the paper gains these lines and behind them the line of its counts, or
--- a prefix of that; all of it where this holds, and then all five processes are done.
+-- a prefix of that; all of it where this holds. Then all five processes are done, and the counts are those of
+-- the one run by the rule in which no device fails and no memory is refused.
 pub record GainsCounted (rule : Rule) (s : CoreState) (before now : Option (List ℕ)) (lines : List (List ℕ))
     (all : Type 0) : Type 0 where
   pub counts : Counts
@@ -23,3 +25,4 @@ pub record GainsCounted (rule : Rule) (s : CoreState) (before now : Option (List
   pub gains : Gains before now
       (text (lines ++ counts_line counts.events counts.delays counts.grants ∷ [])) all
   pub done : all → outcomes ≡ all_done
+  pub counted : all → AreItsCounts rule s counts

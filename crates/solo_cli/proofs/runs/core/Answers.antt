@@ -1,10 +1,11 @@
-use Rattle.std.proofs.Common.{◌≡◌, ◌≤◌, [], Some, None, refl, sym, ◌∙◌, ap, subst}
+use Rattle.std.proofs.Common.{◌≡◌, ◌≤◌, [], Some, None, refl, sym, ◌∙◌, ap, subst, arith}
 use Rattle.std.specs.Prelude.{IfSome}
 use Rattle.solo_base.specs.Card.{cards}
 use Rattle.solo_devices.specs.CardUnit.{items_ahead}
 use Rattle.batch_procs.specs.Faults.{IsDamaged}
 use Rattle.batch_job.specs.OneThread.{one_thread_output}
-use Rattle.core_law.specs.Opening.{opened}
+use Rattle.core_law.specs.Core.{Devices}
+use Rattle.core_law.specs.Opening.{AreInBounds, opened}
 use Rattle.core_net.specs.declared.rules.Rule.TheVariants.{Numbered}
 use Rattle.core_net.specs.Causes.{counting}
 use Rattle.core_net.specs.Faults.{devices_left}
@@ -14,6 +15,7 @@ use Rattle.solo_cli.specs.Causes.{IsRunCause}
 use Rattle.solo_cli.specs.CountsLine.{counts_line}
 use Rattle.solo_cli.proofs.AllDone.{all-done}
 use Rattle.solo_cli.proofs.CardItems.{card-items}
+use Rattle.solo_cli.proofs.Counted.{counted-whole}
 use Rattle.solo_cli.proofs.Adding.{gains-same, both, without}
 use Rattle.solo_cli.proofs.Reasons.{known, undamaged, reason, same-reason, printed-on}
 use Rattle.solo_cli.proofs.runs.core.Goals as goal
@@ -23,16 +25,23 @@ returns-in-None-clause-output g c = λ bytes told input_told output_told.
     let e = c.run_core-ran.ensures in
     let ran = c.run_core-ran.result.0 in
     let counts = c.run_core-ran.result.1 in
+    let spools = spools_over (g.I.Area.size c.args.input) (g.I.Area.pages c.args.input) (g.O.Area.size c.args.output) (g.O.Area.pages c.args.output) in
+    let bounds : AreInBounds spools
+    = record {
+      input_some = omega (arith, c.requires.input.0);
+      input_most = c.requires.input.1;
+      output_some = omega (arith, c.requires.output.0);
+      output_most = c.requires.output.1;
+    } in
+    let devices : Devices = record { deck = items_ahead (g.S.Source.left ran.deck.source) ran.deck.pending; paper = g.K.Sink.given ran.paper.sink } in
+    let runs = subst (λ ahead. RunsToEnd (Numbered c.args.schedule) (opened spools ahead (g.K.Sink.given c.args.paper)) counts ran.outcomes
+    ran.stopped_by devices) (ap (λ left. items_ahead left []) told) e.runs in
     record {
       counts = counts;
       outcomes = ran.outcomes;
       stops = ran.stopped_by;
-      devices = record { deck = items_ahead (g.S.Source.left ran.deck.source) ran.deck.pending; paper = g.K.Sink.given ran.paper.sink };
-      runs = subst (λ ahead. RunsToEnd (Numbered c.args.schedule)
-          (opened (spools_over (g.I.Area.size c.args.input) (g.I.Area.pages c.args.input) (g.O.Area.size c.args.output) (g.O.Area.pages c.args.output))
-          ahead (g.K.Sink.given c.args.paper)) counts ran.outcomes ran.stopped_by
-          record { deck = items_ahead (g.S.Source.left ran.deck.source) ran.deck.pending; paper = g.K.Sink.given ran.paper.sink })
-          (ap (λ left. items_ahead left []) told) e.runs;
+      devices = devices;
+      runs = runs;
       gains = both (g.K.Sink.given c.args.paper) (g.K.Sink.given c.came_to-done.result.paper) (g.K.Sink.given c.with_counts.result.paper)
           (one_thread_output bytes) (counts_line counts.events counts.delays counts.grants) (c.came_to-done.result.cause ≡ None)
           (c.with_counts.result.cause ≡ None) c.in-None.is
@@ -41,6 +50,8 @@ returns-in-None-clause-output g c = λ bytes told input_told output_told.
           (e.prints (cards bytes) (ap (λ left. items_ahead left []) told) (card-items bytes) record { input = input_told; output = output_told }))
           c.with_counts.ensures.line;
       done = λ none. all-done ran.outcomes ran.stopped_by e.together (sym c.came_to-done.ensures.decided ∙ c.in-None.is);
+      counted = λ none. counted-whole spools (cards bytes) runs bounds (record { input = input_told; output = output_told })
+          (all-done ran.outcomes ran.stopped_by e.together (sym c.came_to-done.ensures.decided ∙ c.in-None.is));
     }
 
 pub returns-in-Some-clause-output : goal.returns-in-Some-clause-output
@@ -48,16 +59,23 @@ returns-in-Some-clause-output g c = λ bytes told input_told output_told.
     let e = c.run_core-ran.ensures in
     let ran = c.run_core-ran.result.0 in
     let counts = c.run_core-ran.result.1 in
+    let spools = spools_over (g.I.Area.size c.args.input) (g.I.Area.pages c.args.input) (g.O.Area.size c.args.output) (g.O.Area.pages c.args.output) in
+    let bounds : AreInBounds spools
+    = record {
+      input_some = omega (arith, c.requires.input.0);
+      input_most = c.requires.input.1;
+      output_some = omega (arith, c.requires.output.0);
+      output_most = c.requires.output.1;
+    } in
+    let devices : Devices = record { deck = items_ahead (g.S.Source.left ran.deck.source) ran.deck.pending; paper = g.K.Sink.given ran.paper.sink } in
+    let runs = subst (λ ahead. RunsToEnd (Numbered c.args.schedule) (opened spools ahead (g.K.Sink.given c.args.paper)) counts ran.outcomes
+    ran.stopped_by devices) (ap (λ left. items_ahead left []) told) e.runs in
     record {
       counts = counts;
       outcomes = ran.outcomes;
       stops = ran.stopped_by;
-      devices = record { deck = items_ahead (g.S.Source.left ran.deck.source) ran.deck.pending; paper = g.K.Sink.given ran.paper.sink };
-      runs = subst (λ ahead. RunsToEnd (Numbered c.args.schedule)
-          (opened (spools_over (g.I.Area.size c.args.input) (g.I.Area.pages c.args.input) (g.O.Area.size c.args.output) (g.O.Area.pages c.args.output))
-          ahead (g.K.Sink.given c.args.paper)) counts ran.outcomes ran.stopped_by
-          record { deck = items_ahead (g.S.Source.left ran.deck.source) ran.deck.pending; paper = g.K.Sink.given ran.paper.sink })
-          (ap (λ left. items_ahead left []) told) e.runs;
+      devices = devices;
+      runs = runs;
       gains = without (g.K.Sink.given c.args.paper) (g.K.Sink.given c.came_to-done.result.paper)
           (one_thread_output bytes) (counts_line counts.events counts.delays counts.grants) (c.came_to-done.result.cause ≡ None)
           (λ none. (let no : Some c.in-Some.field-0 ≡ None = sym c.in-Some.is ∙ none in cc))
@@ -65,6 +83,8 @@ returns-in-Some-clause-output g c = λ bytes told input_told output_told.
           (λ none. all-done ran.outcomes ran.stopped_by e.together (sym c.came_to-done.ensures.decided ∙ none))
           (e.prints (cards bytes) (ap (λ left. items_ahead left []) told) (card-items bytes) record { input = input_told; output = output_told }));
       done = λ none. all-done ran.outcomes ran.stopped_by e.together (sym c.came_to-done.ensures.decided ∙ none);
+      counted = λ none. counted-whole spools (cards bytes) runs bounds (record { input = input_told; output = output_told })
+          (all-done ran.outcomes ran.stopped_by e.together (sym c.came_to-done.ensures.decided ∙ none));
     }
 
 pub returns-in-None-clause-caused : goal.returns-in-None-clause-caused
