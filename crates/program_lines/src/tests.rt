@@ -1,3 +1,6 @@
+ghost use Rattle.std.specs.Prelude.{OnOk};
+ghost use Rattle.program_lines.specs.Standing.{IsSpent};
+
 use crate::ProgramLines;
 use solo_base::{Ident, Line, LineList};
 use std::alloc::Global;
@@ -13,7 +16,9 @@ fn list(alloc: Global, cards: &[&[u8]]) -> Result<LineList, Fail> {
 }
 
 /// Adds all lines that come by now, each with a bar behind it.
-fn take_all(text: &mut Vec<u8>, lines: &mut ProgramLines) -> Result<(), Fail> {
+fn take_all(text: &mut Vec<u8>, lines: &mut ProgramLines) -> Result<(), Fail>
+    ensures { OnOk result (IsSpent lines.new) }
+{
     for _ in 0..1000 {
         match lines.next() {
             Some(line) => {
@@ -26,6 +31,21 @@ fn take_all(text: &mut Vec<u8>, lines: &mut ProgramLines) -> Result<(), Fail> {
     Err("too many lines".into())
 }
 
+/// Adds the lines that come with each further card, with a mark `>` before them.
+fn take_by_card(text: &mut Vec<u8>, lines: &mut ProgramLines, cards: &[&[u8]]) -> Result<(), Fail>
+    requires { IsSpent lines.old }
+{
+    match cards {
+        [] => Ok(()),
+        [card, later @ ..] => {
+            text.push(b'>')?;
+            lines.feed(&Line::of(card).ok_or("a card")?);
+            take_all(text, lines)?;
+            take_by_card(text, lines, later)
+        }
+    }
+}
+
 /// The lines of this program; a mark `>` stands before those that come with each further card, and `.` before
 /// those that come at the end.
 fn told(alloc: Global, limit: u32, program: &[&[u8]], input: &[&[u8]]) -> Result<Vec<u8>, Fail> {
@@ -33,11 +53,7 @@ fn told(alloc: Global, limit: u32, program: &[&[u8]], input: &[&[u8]]) -> Result
     let mut text = Vec::new(alloc);
     let mut lines = ProgramLines::start(alloc, name, limit, &list(alloc, program)?)?;
     take_all(&mut text, &mut lines)?;
-    for card in input {
-        text.push(b'>')?;
-        lines.feed(&Line::of(card).ok_or("a card")?);
-        take_all(&mut text, &mut lines)?;
-    }
+    take_by_card(&mut text, &mut lines, input)?;
     text.push(b'.')?;
     lines.close();
     take_all(&mut text, &mut lines)?;
