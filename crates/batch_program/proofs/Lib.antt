@@ -7,3 +7,6 @@ mod Fitting
 mod Courses
 pub mod Source
 pub mod MoreCards
+pub mod Words
+pub mod WordsKept
+pub mod FewLines

@@ -1,5 +1,5 @@
 -- The laws of a program that is under way in the batch.
-use Rattle.std.specs.Prelude.{◌≡◌, ℕ, Bool, true, false, List, ◌++◌}
+use Rattle.std.specs.Prelude.{◌≡◌, ℕ, ◌+◌, ◌*◌, ◌≤◌, Bool, true, false, List, ◌++◌, length}
 use Rattle.solo_base.specs.declared.system_call.SysReply.{SysReply}
 use Rattle.solo_base.specs.LineList.{AreLines}
 use Rattle.solo_base.specs.RunOutcome.{RunOutcome}
@@ -25,6 +25,16 @@ SomeOutcome =
 -- and to one thing only
 abbrev pub OneOutcome : Type 0
 OneOutcome = (w : Work) (outcome other : RunOutcome) → ComesTo w outcome → ComesTo w other → outcome ≡ other
+
+-- A tick pays for at most 67,133,442 instructions, of which each call takes one and writes six characters at
+-- most: so many lines come of a program, whatever its cards.
+abbrev pub most_lines : ℕ → ℕ
+most_lines limit = 403000000 * (limit + 1)
+
+abbrev pub FewLines : Type 0
+FewLines =
+    (w : Work) (outcome : RunOutcome) → IsCode w.code → IsGood w.code → AreLines w.cards → ComesTo w outcome
+    → length (lines_of outcome) ≤ most_lines w.limit
 
 -- ---- More cards
 

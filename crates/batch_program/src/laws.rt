@@ -1,6 +1,6 @@
 // The laws of programs under way. Nothing is done here: the contracts are the laws.
 
-ghost use Rattle.batch_program.specs.Laws.{SomeOutcome, OneOutcome};
+ghost use Rattle.batch_program.specs.Laws.{SomeOutcome, OneOutcome, FewLines};
 ghost use Rattle.batch_program.specs.Laws.{MoreCardsGoOn, MoreCardsMoreLines, GivenLinesAreFirst};
 ghost use Rattle.batch_program.specs.Laws.{ReachesItsMeaning, ComesToItsMeaning, ComesToItsEnding};
 ghost use Rattle.batch_program.specs.Laws.{TellsItsMeaning, GivenAreItsLines};
@@ -10,6 +10,11 @@ ghost use Rattle.batch_program.specs.Laws.{MeaningsGoOn, MeaningsAddLines, Meani
 pub fn each_program_comes_to_one_thing()
     ensures some { SomeOutcome }
     ensures one { OneOutcome }
+{}
+
+/// However many cards it is given, it prints no more lines than its limit of ticks allows.
+pub fn each_program_prints_few_lines()
+    ensures few { FewLines }
 {}
 
 /// More cards only go on with a run: the lines that are complete with some cards are the first of those with

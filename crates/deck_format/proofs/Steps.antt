@@ -51,11 +51,14 @@ nothing_from (opener.List name) false number = refl
 nothing_from (opener.Job name limit) false number = refl
 nothing_from (opener.Run name file) false number = refl
 
+pub group_nothing : (group : Group) → group_on group [] ≡ job_with group.opener group.kept
+group_nothing group =
+    ap (λ kept. job_with group.opener (followed_by group.kept kept)) (nothing_from group.opener group.in_input group.number)
+    ∙ ap (λ kept. job_with group.opener kept) (followed-nothing group.kept)
+
 pub in_hand-nothing : (place : Place) → in_hand place [] ≡ closed place
 in_hand-nothing (Outside count) = let same : count + 0 ≡ count = omega arith in ap (λ n. skipped (card_count n)) same
-in_hand-nothing (InGroup group) =
-    ap (λ kept. job_with group.opener (followed_by group.kept kept) ∷ []) (nothing_from group.opener group.in_input group.number)
-    ∙ ap (λ kept. job_with group.opener kept ∷ []) (followed-nothing group.kept)
+in_hand-nothing (InGroup group) = ap (λ one. one ∷ []) (group_nothing group)
 
 -- the group of an opener is in hand where the opener leads
 opened_group : (o : Opener) (items : List Item) → in_hand (InGroup (opened o)) items ≡ group_jobs (o, items)
@@ -191,7 +194,7 @@ from_more (opener.Run name file) false number Spoiled rest = refl
 from_more (opener.Run name file) false number (Line card) rest = listing_more (opener.Run name file) number (Line card) rest refl
 
 -- a group with one more item goes on as before
-group_more : (group : Group) (item : Item) (items : List Item) → group_on group (item ∷ items) ≡ group_on (added group item (control_in item)) items
+pub group_more : (group : Group) (item : Item) (items : List Item) → group_on group (item ∷ items) ≡ group_on (added group item (control_in item)) items
 group_more group item items = by_fault group.kept.fault refl
   where
     by_fault : (fault : Option CardFault) → group.kept.fault ≡ fault → group_on group (item ∷ items) ≡ group_on (added_by group.kept.fault group item (control_in item)) items

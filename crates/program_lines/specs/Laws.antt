@@ -1,7 +1,9 @@
 -- The laws of a program's lines.
-use Rattle.std.specs.Prelude.{◌≡◌, ℕ, Bool, true, false, List, ◌++◌}
-use Rattle.batch_program.specs.Laws.{IsPrefix}
-use Rattle.program_lines.specs.Task.{Source, program_lines, source_lines}
+use Rattle.std.specs.Prelude.{◌≡◌, ℕ, ◌+◌, ◌≤◌, Bool, true, false, List, ◌++◌, length}
+use Rattle.solo_base.specs.LineList.{AreLines}
+use Rattle.pascal_compile.specs.Compiling.{compiling}
+use Rattle.batch_program.specs.Laws.{IsPrefix, most_lines}
+use Rattle.program_lines.specs.Task.{Source, source_of, program_lines, source_lines}
 
 -- with more cards its lines go on
 abbrev pub MoreCardsGoOn : Type 0
@@ -15,3 +17,10 @@ abbrev pub AllCardsGiveAll : Type 0
 AllCardsGiveAll =
     (name : List ℕ) (limit : ℕ) (source : Source) (input : List (List ℕ))
     → source_lines name limit source input true ≡ program_lines name limit source input
+
+-- They are no more than its limit of ticks allows, and the one that says how it ended.
+abbrev pub FewLines : Type 0
+FewLines =
+    (name : List ℕ) (limit : ℕ) (cards input : List (List ℕ)) (closed : Bool)
+    → AreLines cards → AreLines input
+    → length (source_lines name limit (source_of name (compiling cards)) input closed) ≤ most_lines limit + 1

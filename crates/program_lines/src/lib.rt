@@ -5,7 +5,7 @@ mod laws;
 mod program_lines;
 mod texts;
 
-pub use laws::lines_go_on_with_more_cards;
+pub use laws::{each_program_has_few_lines, lines_go_on_with_more_cards};
 pub use program_lines::ProgramLines;
 pub use texts::{compile_line, no_file_line, note, result_line};
 
