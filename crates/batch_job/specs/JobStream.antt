@@ -1,14 +1,15 @@
 -- A stream of items whose lines are made as they come.
-use Rattle.std.specs.Prelude.{◌≡◌, ℕ, ◌+◌, ◌*◌, Bool, true, false, List, [], ◌∷◌, ◌++◌, length, Option, Some, None, option_to_list}
+use Rattle.std.specs.Prelude.{◌≡◌, ℕ, ◌+◌, Bool, true, false, not, List, [], ◌∷◌, ◌++◌, length, Option, Some, None, option_to_list}
 use Rattle.solo_base.specs.declared.item.Item.{Item}
 use Rattle.solo_base.specs.declared.item.Item.TheVariants.{Line}
 use Rattle.solo_base.specs.declared.page.Page.{Page}
 use Rattle.page_codec.specs.Reading.{PageContent}
 use Rattle.page_codec.specs.Packing.{PageInHand, page_given, hand_after}
 use Rattle.batch_job.specs.LinesSoFar.{lines_so_far}
-use Rattle.batch_job.specs.LinesAhead.{lines_ahead}
+use Rattle.batch_job.specs.LinesAhead.{Where, lines_ahead}
+use Rattle.batch_job.specs.Places.{IsPart, IsSpentPart, Holds, no_lines, lines_left_of, part_left}
 use Rattle.batch_job.specs.declared.part.Part.{Part}
-use Rattle.batch_job.specs.declared.part.Part.TheVariants.{Stretch}
+use Rattle.batch_job.specs.declared.part.Part.TheVariants as part
 use Rattle.batch_job.specs.declared.lines_ahead.End.{End}
 use Rattle.batch_job.specs.declared.lines_ahead.End.TheVariants as end
 use Rattle.batch_job.specs.declared.lines_ahead.LinesAhead.{LinesAhead}
@@ -18,13 +19,13 @@ use Rattle.batch_job.specs.declared.item_lines.ItemLines.{ItemLines}
 -- left, and how far its end is
 pub record Stream : Type 0 where
   pub part : Part
-  pub waiting : List (List ℕ)
+  pub waiting : ItemLines
   pub left : List Item
   pub end : End
 
 -- before the first page
 abbrev pub new_stream : Stream
-new_stream = record { part = Stretch 0; waiting = []; left = []; end = end.NotYet }
+new_stream = record { part = part.Stretch 0; waiting = no_lines; left = []; end = end.NotYet }
 
 -- behind the last page the end is due
 abbrev pub end_of : Bool → End
@@ -35,6 +36,56 @@ end_of false = end.NotYet
 abbrev pub fed : Stream → PageContent → Stream
 fed stream content = record stream { left = content.items; end = end_of content.last }
 
+-- ---- what it stands for
+-- where it stands in its deck, the lines that are made and not pushed, the items that are left, and how far
+-- its end is
+pub record Account : Type 0 where
+  pub place : Where
+  pub waiting : List (List ℕ)
+  pub left : List Item
+  pub end : End
+
+pub record IsAccount (stream : Stream) (a : Account) : Type 0 where
+  pub part : IsPart stream.part a.place
+  pub waiting : Holds stream.waiting a.waiting
+  pub left : stream.left ≡ a.left
+  pub end : stream.end ≡ a.end
+
+-- the lines that it still gives, where these items follow
+abbrev pub made_of : Where → List Item → End → List Item → Bool → List (List ℕ)
+made_of place left end.NotYet more ended = lines_ahead place (left ++ more) ended
+made_of place left end.Due more ended = lines_ahead place left true
+made_of place left end.Told more ended = lines_ahead place [] false
+
+-- those that are made, and those still to be made
+abbrev pub ahead : Account → List Item → Bool → List (List ℕ)
+ahead a more ended = a.waiting ++ made_of a.place a.left a.end more ended
+
+-- These items were fed and these lines pushed: whatever follows, they and those that it still gives are the
+-- lines so far.
+abbrev pub StandsBy : End → Account → List Item → List (List ℕ) → Type 0
+StandsBy end.NotYet a items pushed =
+    (more : List Item) (ended : Bool) → lines_so_far (items ++ more) ended ≡ pushed ++ ahead a more ended
+StandsBy end.Due a items pushed = lines_so_far items true ≡ pushed ++ ahead a [] true
+StandsBy end.Told a items pushed = lines_so_far items true ≡ pushed ++ ahead a [] true
+
+pub record StandsFor (stream : Stream) (items : List Item) (pushed : List (List ℕ)) : Type 0 where
+  pub account : Account
+  pub is : IsAccount stream account
+  pub by : StandsBy account.end account items pushed
+
+-- ---- what it gives
+-- whether more pages follow
+abbrev pub goes_on : End → Bool
+goes_on end.NotYet = true
+goes_on end.Due = false
+goes_on end.Told = false
+
+-- no line is made that isn't pushed, and the part gives none before the next item
+pub record HasNoLine (stream : Stream) : Type 0 where
+  pub waiting : (all : List (List ℕ)) → Holds stream.waiting all → all ≡ []
+  pub part : IsSpentPart stream.part
+
 -- all lines of the items so far are pushed, and those of the end where it has come
 abbrev pub IsTold : End → List Item → Type 0
 IsTold end.NotYet left = left ≡ []
@@ -43,35 +94,25 @@ IsTold end.Told left = Unit {0}
 
 -- nothing is ahead until the next page
 abbrev pub IsSpent : Stream → Type 0
-IsSpent stream = (stream.waiting ≡ []) × IsTold stream.end stream.left
+IsSpent stream = HasNoLine stream × IsTold stream.end stream.left
 
--- the lines that it still gives, where these items follow
-abbrev pub made_of : Part → List Item → End → List Item → Bool → List (List ℕ)
-made_of part left end.NotYet more ended = lines_ahead part (left ++ more) ended
-made_of part left end.Due more ended = lines_ahead part left true
-made_of part left end.Told more ended = []
+-- these items were fed and these lines pushed, and nothing is ahead before the next item
+pub record StandsStill (stream : Stream) (items : List Item) (pushed : List (List ℕ)) : Type 0 where
+  pub stands : StandsFor stream items pushed
+  pub waiting : stands.account.waiting ≡ []
+  pub place : lines_ahead stands.account.place [] false ≡ []
 
--- those that are made, and those still to be made
-abbrev pub ahead : Stream → List Item → Bool → List (List ℕ)
-ahead stream more ended = stream.waiting ++ made_of stream.part stream.left stream.end more ended
+-- the lines that it gave in between
+pub record Passes (a : Account) (now : Stream) (lines : List (List ℕ)) : Type 0 where
+  pub then_is : Account
+  pub is : IsAccount now then_is
+  pub gives : (more : List Item) (ended : Bool) → ahead a more ended ≡ lines ++ ahead then_is more ended
 
--- whether more pages follow
-abbrev pub goes_on : End → Bool
-goes_on end.NotYet = true
-goes_on end.Due = false
-goes_on end.Told = false
-
--- These items were fed and these lines pushed: whatever follows, they and those that it still gives are the
--- lines so far.
-abbrev pub StandsBy : End → Stream → List Item → List (List ℕ) → Type 0
-StandsBy end.NotYet stream items pushed =
-    (more : List Item) (ended : Bool) → lines_so_far (items ++ more) ended ≡ pushed ++ ahead stream more ended
-StandsBy end.Due stream items pushed = lines_so_far items true ≡ pushed ++ ahead stream [] true
-StandsBy end.Told stream items pushed = lines_so_far items true ≡ pushed ++ ahead stream [] true
-
--- by how far its end is
-abbrev pub StandsFor : Stream → List Item → List (List ℕ) → Type 0
-StandsFor stream items pushed = StandsBy stream.end stream items pushed
+-- it gave none, and nothing is ahead before the next item
+pub record Rests (a : Account) (now : Stream) : Type 0 where
+  pub passes : Passes a now []
+  pub waiting : passes.then_is.waiting ≡ []
+  pub place : lines_ahead passes.then_is.place [] false ≡ []
 
 -- ---- packing: lines are pushed until a push gives a page
 -- the pages that the pushes give, and the page then in hand
@@ -111,6 +152,8 @@ pub record Packs (before : Stream) (hand : PageInHand) (page : Option Page) (aft
   pub in_hand : hand_then ≡ hand_behind hand lines
   pub gives : Gives before after lines
   pub all : page ≡ None → IsSpent after
+  pub told : page ≡ None → (items : List Item) (so_far : List (List ℕ)) → StandsFor before items so_far
+      → lines_so_far items (not (goes_on after.end)) ≡ so_far ++ lines
   pub same_end : goes_on after.end ≡ goes_on before.end
 
 -- so far none of its lines gave a page
@@ -122,32 +165,37 @@ pub record Pushing (before : Stream) (hand : PageInHand) (after : Stream)
   pub gives : Gives before after lines
   pub same_end : goes_on after.end ≡ goes_on before.end
 
+-- so far none of its lines gave a page, and nothing is ahead before the next item
+pub record Resting (before : Stream) (hand : PageInHand) (after : Stream)
+    (hand_then : PageInHand) : Type 0 where
+  pub pushing : Pushing before hand after hand_then
+  pub still : (items : List Item) (so_far : List (List ℕ)) → StandsFor before items so_far
+      → StandsStill after items (so_far ++ pushing.lines)
+
+-- what pushes of lines that are made come to: a page that went out, or none so far
+abbrev pub PacksMade : Stream → PageInHand → Option Page → Stream → PageInHand → Type 0
+PacksMade before hand None after hand_then = Resting before hand after hand_then
+PacksMade before hand (Some page) after hand_then = Packs before hand (Some page) after hand_then
+
 -- ---- the code's fields
 abbrev pub items_left : Option PageContent → List Item
 items_left None = []
 items_left (Some content) = content.items
 
--- the lines of an item, in order
-abbrev pub lines_in : ItemLines → List (List ℕ)
-lines_in lines = option_to_list lines.ending ++ option_to_list lines.own ++ option_to_list lines.note
-
 -- as callers see them
 abbrev pub stream_of : LinesAhead → Stream
-stream_of ahead =
-    record {
-      part =
-          ahead.part;
-      waiting = lines_in ahead.waiting;
-      left = items_left ahead.items;
-      end = ahead.end;
-    }
+stream_of lines =
+    record { part = lines.part; waiting = lines.waiting; left = items_left lines.items; end = lines.end }
 
--- falls with each line: an item gives three at most, and the end one
+-- no more lines than these are made before the next item
+abbrev pub lines_made : Stream → ℕ
+lines_made stream = lines_left_of stream.waiting + part_left stream.part
+
+-- how often lines are still to be made: for each item, and for the end
 abbrev pub end_work : End → ℕ
 end_work end.NotYet = 0
-end_work end.Due = 4
+end_work end.Due = 1
 end_work end.Told = 0
 
--- what is left to be made and pushed
-abbrev pub work_left : Stream → ℕ
-work_left stream = length stream.waiting + 4 * length stream.left + end_work stream.end
+abbrev pub turns_left : Stream → ℕ
+turns_left stream = length stream.left + end_work stream.end

@@ -1,8 +1,10 @@
 pub use Rattle.solo_base.specs.Text
 pub use Rattle.solo_base.specs.Card
 pub use Rattle.deck_format.specs.Jobs
+pub use Rattle.program_lines.specs.Task
 pub mod Report
 pub mod OneThread
 pub mod LinesSoFar
 pub mod LinesAhead
+pub mod Places
 pub mod JobStream

@@ -1,16 +1,77 @@
--- The lines that a stream still gives, from the part of the deck that it is in, for each list of items to
--- come.
-use Rattle.std.specs.Prelude.{ℕ, ◌+◌, Bool, true, false, ◌||◌, List, [], ◌∷◌, ◌++◌, length, flat_map, count_by, Option, Some, None, Result, Ok, Err, if◌then◌else◌}
+-- The lines that a stream still gives, from where it stands in its deck, for each list of items to come.
+use Rattle.std.specs.Prelude.{ℕ, ◌+◌, Bool, true, false, ◌||◌, List, [], ◌∷◌, ◌++◌, length, drop, flat_map, count_by, Option, Some, None, Result, Ok, Err, if◌then◌else◌}
 use Rattle.solo_base.specs.declared.item.Item.{Item}
 use Rattle.solo_base.specs.declared.item.Item.TheVariants.{Line, Spoiled}
 use Rattle.deck_format.specs.declared.control.Opener.{Opener}
 use Rattle.deck_format.specs.declared.control.Opener.TheVariants as opener
 use Rattle.deck_format.specs.declared.job.CardFault.{CardFault}
+use Rattle.deck_format.specs.declared.group.Group.{Group}
+use Rattle.deck_format.specs.JobReader.{control_in, opened as opened_group, added as added_to_group}
 use Rattle.deck_format.specs.Jobs.{cut, counts, card_count, skipped, before_end, after_end, stretch, spoiled_at, control_at, listed, first_fault, group_jobs}
-use Rattle.batch_job.specs.Report.{report, heading, listed_line, fault_line, unbuilt_line}
-use Rattle.batch_job.specs.LinesSoFar.{is_closed, fault_so_far, last_lines}
-use Rattle.batch_job.specs.declared.part.Part.{Part}
-use Rattle.batch_job.specs.declared.part.Part.TheVariants.{Stretch, List as InList, Dropped}
+use Rattle.pascal_compile.specs.Compiling.{compiling}
+use Rattle.program_lines.specs.Texts.{no_file_line}
+use Rattle.program_lines.specs.Task.{Source, Says, source_of, Task}
+use Rattle.batch_job.specs.Report.{report, listed_line, fault_line, run_lines, file_limit}
+use Rattle.batch_job.specs.LinesSoFar.{is_closed, fault_so_far, runs_so_far, last_lines}
+
+-- Where a stream stands: outside groups, behind so many cards that count; in a list without a fault, behind
+-- so many cards; in the group of a program, of which this is kept, behind these of its lines; or in a group
+-- of which no more is told.
+pub data Where : Type 0 where
+  Outside : ℕ → Where
+  InList : List ℕ → ℕ → Where
+  InProgram : Group → List (List ℕ) → Where
+  Dropped : Where
+
+-- ---- the group of a program
+abbrev pub name_of : Opener → List ℕ
+name_of (opener.List name) = name
+name_of (opener.Job name limit) = name
+name_of (opener.Run name file) = name
+
+abbrev pub limit_of : Opener → ℕ
+limit_of (opener.List name) = 0
+limit_of (opener.Job name limit) = limit
+limit_of (opener.Run name file) = file_limit
+
+abbrev pub is_list : Opener → Bool
+is_list (opener.List name) = true
+is_list (opener.Job name limit) = false
+is_list (opener.Run name file) = false
+
+-- what a group has to run, by the cards of its program
+abbrev pub source_in : Opener → List (List ℕ) → Source
+source_in (opener.List name) cards = Says []
+source_in (opener.Job name limit) cards = source_of name (compiling cards)
+source_in (opener.Run name file) cards = Says (no_file_line name)
+
+-- the lines of a group of which this is kept, behind its heading: where it is closed, and where it is open
+abbrev pub told_by : Group → Bool → List (List ℕ)
+told_by group true =
+    run_lines (name_of group.opener) (limit_of group.opener) (source_in group.opener group.kept.cards)
+    group.kept.input group.kept.fault
+told_by group false =
+    runs_so_far (name_of group.opener) (limit_of group.opener) (source_in group.opener group.kept.cards)
+    group.in_input group.kept.input group.kept.fault
+
+-- its program, with the cards of its input so far
+abbrev pub task_in : Group → Task
+task_in group = record {
+  name = name_of group.opener;
+  limit = limit_of group.opener;
+  source = source_in group.opener group.kept.cards;
+  input = group.kept.input;
+  closed = false;
+}
+
+-- the group behind these items, none of which opens or ends one
+abbrev pub behind : Group → List Item → Group
+behind group [] = group
+behind group (item ∷ items) = behind (added_to_group group item (control_in item)) items
+
+-- its lines behind some that were given
+abbrev pub told_behind : List (List ℕ) → Group → Bool → List (List ℕ)
+told_behind given group closed = drop (length given) (told_by group closed)
 
 -- ---- of the items to come up to the next opener: whether the part is closed behind them, by an opener or
 -- the end
@@ -30,13 +91,22 @@ open_list name count items =
     if is_closed items then list_lines name count (before_end items)
     else listed items ++ fault_so_far name (first_fault false (card_count (count + 1)) items)
 
+-- a program's group that may go on
+abbrev pub open_program : Group → List (List ℕ) → List Item → List (List ℕ)
+open_program group given items =
+    if is_closed items then told_behind given (behind group (before_end items)) true
+    else told_behind given (behind group items) false
+
 -- the lines of a part, by whether it is closed behind these items
-abbrev pub part_lines : Part → List Item → Bool → List (List ℕ)
-part_lines (Stretch count) items true = flat_map report (skipped (card_count (count + count_by counts items)))
-part_lines (Stretch count) items false = []
+abbrev pub part_lines : Where → List Item → Bool → List (List ℕ)
+part_lines (Outside count) items true = flat_map report (skipped (card_count (count + count_by counts items)))
+part_lines (Outside count) items false = []
 part_lines (InList name count) items true =
     list_lines name count (before_end items) ++ flat_map report (stretch (after_end items))
 part_lines (InList name count) items false = open_list name count items
+part_lines (InProgram group given) items true =
+    told_behind given (behind group (before_end items)) true ++ flat_map report (stretch (after_end items))
+part_lines (InProgram group given) items false = open_program group given items
 part_lines Dropped items true = flat_map report (stretch (after_end items))
 part_lines Dropped items false = []
 
@@ -54,56 +124,52 @@ is_there [] = false
 is_there (group ∷ rest) = true
 
 -- all lines that these items still give, where they have ended or go on
-abbrev pub lines_ahead : Part → List Item → Bool → List (List ℕ)
-lines_ahead part items ended =
-    part_lines part (cut items).front (ended || is_there (cut items).groups)
+abbrev pub lines_ahead : Where → List Item → Bool → List (List ℕ)
+lines_ahead place items ended =
+    part_lines place (cut items).front (ended || is_there (cut items).groups)
     ++ groups_lines (cut items).groups ended
 
 -- ---- what one item does
 -- the lines of a part that is closed
-abbrev pub closed_lines : Part → List (List ℕ)
-closed_lines (Stretch count) = flat_map report (skipped (card_count count))
+abbrev pub closed_lines : Where → List (List ℕ)
+closed_lines (Outside count) = flat_map report (skipped (card_count count))
 closed_lines (InList name count) = listed_line name (card_count count) ∷ []
+closed_lines (InProgram group given) = told_behind given group true
 closed_lines Dropped = []
 
--- an opener's lines, and where it leads
-abbrev pub opened_lines : Opener → List (List ℕ)
-opened_lines (opener.List name) = heading name ∷ []
-opened_lines (opener.Job name limit) = heading name ∷ unbuilt_line name ∷ []
-opened_lines (opener.Run name file) = heading name ∷ unbuilt_line name ∷ []
-
--- the part that an opener leads to
-abbrev pub opened : Opener → Part
+-- where an opener leads
+abbrev pub opened : Opener → Where
 opened (opener.List name) = InList name 0
-opened (opener.Job name limit) = Dropped
-opened (opener.Run name file) = Dropped
+opened (opener.Job name limit) = InProgram (opened_group (opener.Job name limit)) []
+opened (opener.Run name file) = InProgram (opened_group (opener.Run name file)) []
 
 -- an item that neither opens nor ends a group
-abbrev pub added_lines : Part → Item → Bool → List (List ℕ)
-added_lines (Stretch count) item control = []
-added_lines (InList name count) Spoiled control =
-    fault_line name (spoiled_at false (card_count (count + 1))) ∷ []
-added_lines (InList name count) (Line card) true =
-    fault_line name (control_at false (card_count (count + 1))) ∷ []
+abbrev pub added_lines : Where → Item → Bool → List (List ℕ)
+added_lines (Outside count) item control = []
+added_lines (InList name count) Spoiled control = fault_line name (spoiled_at false (card_count (count + 1))) ∷ []
+added_lines (InList name count) (Line card) true = fault_line name (control_at false (card_count (count + 1))) ∷ []
 added_lines (InList name count) (Line card) false = card ∷ []
+added_lines (InProgram group given) item control = []
 added_lines Dropped item control = []
 
 -- the part behind such an item
-abbrev pub added : Part → Item → Bool → Part
-added (Stretch count) item control = Stretch (if counts item then card_count (count + 1) else count)
+abbrev pub added : Where → Item → Bool → Where
+added (Outside count) item control = Outside (if counts item then card_count (count + 1) else count)
 added (InList name count) Spoiled control = Dropped
 added (InList name count) (Line card) true = Dropped
 added (InList name count) (Line card) false = InList name (card_count (count + 1))
+added (InProgram group given) item control = InProgram (added_to_group group item (control_in item)) given
 added Dropped item control = Dropped
 
--- the card that an item of this number is in a list, or its fault
-abbrev pub card_or_fault : Item → Bool → ℕ → Result (List ℕ) CardFault
-card_or_fault Spoiled control number = Err (spoiled_at false number)
-card_or_fault (Line card) true number = Err (control_at false number)
-card_or_fault (Line card) false number = Ok card
+-- the card that an item of this number is in a group, or its fault
+abbrev pub card_or_fault : Bool → Item → Bool → ℕ → Result (List ℕ) CardFault
+card_or_fault in_input Spoiled control number = Err (spoiled_at in_input number)
+card_or_fault in_input (Line card) true number = Err (control_at in_input number)
+card_or_fault in_input (Line card) false number = Ok card
 
 -- whether a group is open
-abbrev pub is_in_group : Part → Bool
-is_in_group (Stretch count) = false
+abbrev pub is_in_group : Where → Bool
+is_in_group (Outside count) = false
 is_in_group (InList name count) = true
+is_in_group (InProgram group given) = true
 is_in_group Dropped = true

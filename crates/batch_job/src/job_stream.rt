@@ -1,11 +1,11 @@
-ghost use Rattle.std.specs.Prelude.{◌≡◌, ◌++◌, ℕ, List, [], None, not, IfOk, OnOk};
+ghost use Rattle.std.specs.Prelude.{◌≡◌, ◌++◌, ℕ, List, [], None, IfOk, OnOk};
 ghost use Rattle.solo_base.specs.declared.item.Item.{Item as ItemOf};
-ghost use Rattle.batch_job.specs.LinesSoFar.{lines_so_far};
-ghost use Rattle.batch_job.specs.JobStream.{new_stream, fed, goes_on, StandsFor, IsSpent, Packs};
+ghost use Rattle.batch_job.specs.JobStream.{new_stream, fed, StandsFor, IsSpent, Packs};
 
 use crate::lines_ahead::{End, LinesAhead};
 use page_codec::{Packer, PageItems};
 use solo_base::{Ident, Item, NoMemory, Page};
+use std::alloc::Global;
 use std::marker::Model;
 
 /// The lines of a stream of items, in pages: each item is used as it comes, and a page goes out as it
@@ -25,12 +25,13 @@ impl Model for JobStream {
 
 impl JobStream {
     /// The stream before its first page.
-    pub fn new() -> JobStream
+    pub fn new(alloc: Global) -> JobStream
         ensures new { result ≡ new_stream }
         ensures stands { StandsFor result [] [] }
+        ensures spent { IsSpent result }
     {
         JobStream {
-            ahead: LinesAhead::new(),
+            ahead: LinesAhead::new(alloc),
         }
     }
 
@@ -57,23 +58,39 @@ impl JobStream {
     /// items so far are pushed.
     pub fn pack(&mut self, packer: &mut Packer) -> Result<Option<Page>, NoMemory>
         ensures packs { IfOk result (λ page. Packs self.old packer.old page self.new packer.new) }
-
-        // What is pushed once no push gave a page are the lines of all items so far.
-        ensures told { IfOk result (λ page. page ≡ None → (items : List ItemOf) (pushed : List (List ℕ)) →
-            StandsFor self.new items pushed → lines_so_far items (not (goes_on self.new.end)) ≡ pushed) }
     {
-        Ok(pack_lines(&mut self.ahead, packer))
+        pack_lines(&mut self.ahead, packer)
     }
 }
 
 ghost use Rattle.batch_job.specs.declared.lines_ahead.End.TheVariants as End;
-ghost use Rattle.batch_job.specs.JobStream.{stream_of};
+ghost use Rattle.page_codec.specs.Packing.{PageInHand};
+ghost use Rattle.batch_job.specs.JobStream.{Stream, stream_of, Pushing, PacksMade, HasNoLine, turns_left};
 
-/// Pushes lines until a push gives a page.
-fn pack_lines(ahead: &mut LinesAhead, packer: &mut Packer) -> Option<Page>
-    ensures { Packs (stream_of ahead.old) packer.old result (stream_of ahead.new) packer.new }
+/// Makes and pushes lines until a push gives a page.
+fn pack_lines(ahead: &mut LinesAhead, packer: &mut Packer) -> Result<Option<Page>, NoMemory>
+    ensures { IfOk result (λ page.
+        Packs (stream_of ahead.old) packer.old page (stream_of ahead.new) packer.new) }
 {
-    'packing: while let Some(line) = ahead.next() {
+    'packing: loop {
+        if let Some(page) = push_made(ahead, packer) {
+            return Ok(Some(page));
+        }
+        if !ahead.make()? {
+            return Ok(None);
+        }
+    }
+}
+
+/// Pushes the lines that are made until a push gives a page.
+fn push_made(ahead: &mut LinesAhead, packer: &mut Packer) -> Option<Page>
+    ensures packs { (first : Stream) (hand : PageInHand)
+        → Pushing first hand (stream_of ahead.old) packer.old
+        → PacksMade first hand result (stream_of ahead.new) packer.new }
+    ensures none { result ≡ None → HasNoLine (stream_of ahead.new) }
+    ensures turns { turns_left (stream_of ahead.new) ≡ turns_left (stream_of ahead.old) }
+{
+    'pushing: while let Some(line) = ahead.next() {
         if let Some(page) = packer.push(&Item::Line(line)) {
             return Some(page);
         }

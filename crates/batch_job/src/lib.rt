@@ -7,9 +7,10 @@ mod lines;
 mod lines_ahead;
 mod part;
 mod report;
+mod taking;
 
 pub use job_stream::JobStream;
-pub use lines::lines_go_on;
+pub use lines::{items_give_few_lines, lines_go_on};
 pub use lines_ahead::End;
 pub use part::Part;
 pub use report::run_job;

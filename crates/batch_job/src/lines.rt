@@ -1,4 +1,4 @@
-ghost use Rattle.batch_job.specs.LinesSoFar.{LinesGoOn, EndGivesOutput};
+ghost use Rattle.batch_job.specs.LinesSoFar.{LinesGoOn, EndGivesOutput, FewLines};
 
 /// What a deck gives as it goes on. Nothing is done here: the contract is the law, for those who speak
 /// of lists of items. The lines of the items so far stay the first of all lines, and those of the whole
@@ -6,4 +6,9 @@ ghost use Rattle.batch_job.specs.LinesSoFar.{LinesGoOn, EndGivesOutput};
 pub fn lines_go_on()
     ensures prefix { LinesGoOn }
     ensures whole { EndGivesOutput }
+{}
+
+/// However long its programs run, a deck gives no more lines for an item than the limits of ticks allow.
+pub fn items_give_few_lines()
+    ensures { FewLines }
 {}

@@ -1,12 +1,13 @@
-ghost use Rattle.std.specs.Prelude.{◌≡◌, ◌++◌, ◌∷◌, ◌<◌, ◌↔◌, ℕ, Bool, List, [], Some, None, is_some, IsTrue, false, length, option_to_list};
-ghost use Rattle.solo_base.specs.declared.item.Item.{Item as ItemOf};
-ghost use Rattle.batch_job.specs.LinesAhead.{lines_ahead};
-ghost use Rattle.batch_job.specs.JobStream.{new_stream, fed, stream_of, lines_in, ahead, work_left, goes_on, items_left, IsSpent};
+ghost use Rattle.std.specs.Prelude.{◌≡◌, ◌++◌, ◌+◌, ◌<◌, ◌≤◌, List, [], None, IsTrue, true, false, length, option_to_list, IfOk, OnOk};
+ghost use Rattle.batch_job.specs.declared.lines_ahead.End.TheVariants as EndOf;
+ghost use Rattle.batch_job.specs.JobStream.{Account, IsAccount, HasNoLine, IsTold, Passes, Rests, new_stream, fed, stream_of, lines_made, turns_left, goes_on, items_left};
 
 use crate::Part;
-use crate::item_lines::{ItemLines, end_part, take_item};
+use crate::item_lines::ItemLines;
+use crate::taking::{end_part, take_item};
 use page_codec::PageItems;
-use solo_base::{Item, Line};
+use solo_base::{Item, Line, NoMemory};
+use std::alloc::Global;
 
 /// How far a stream is from its end.
 #[derive(Clone, Copy, Debug, PartialEq, Eq)]
@@ -22,6 +23,7 @@ pub enum End {
 /// The lines of the items of a stream, made item by item.
 #[derive(Debug, Drop)]
 pub struct LinesAhead {
+    pub alloc: Global,
     pub part: Part,
     pub waiting: ItemLines,
     pub items: Option<PageItems>,
@@ -30,10 +32,11 @@ pub struct LinesAhead {
 
 impl LinesAhead {
     /// The lines of a stream before its first page.
-    pub fn new() -> LinesAhead
+    pub fn new(alloc: Global) -> LinesAhead
         ensures { stream_of result ≡ new_stream }
     {
         LinesAhead {
+            alloc,
             part: Part::Stretch { count: 0 },
             waiting: ItemLines::none(),
             items: None,
@@ -49,48 +52,84 @@ impl LinesAhead {
         self.items = Some(items);
     }
 
-    /// The next line, or `None` where no line is ahead.
+    /// The next line that is made, or `None` where none comes before the next item.
     pub fn next(&mut self) -> Option<Line>
-        ensures ahead { (more : List ItemOf) (ended : Bool)
-            → ahead (stream_of self.old) more ended ≡ option_to_list result
-            ++ ahead (stream_of self.new) more ended }
-        ensures none { result ≡ None → IsSpent (stream_of self.new) }
-        ensures falls { (result ≡ None → ⊥)
-            → work_left (stream_of self.new) < work_left (stream_of self.old) }
-        ensures end { goes_on self.new.end ≡ goes_on self.old.end }
+        ensures passes { (a : Account) → IsAccount (stream_of self.old) a
+            → Passes a (stream_of self.new) (option_to_list result) }
+        ensures none { result ≡ None → HasNoLine (stream_of self.new) }
+        ensures rests { result ≡ None → (a : Account) → IsAccount (stream_of self.old) a
+            → Rests a (stream_of self.new) }
+        ensures left { lines_made (stream_of self.new) + length (option_to_list result)
+            ≤ lines_made (stream_of self.old) }
+        ensures turns { turns_left (stream_of self.new) ≡ turns_left (stream_of self.old) }
+        ensures end { self.new.end ≡ self.old.end }
     {
-        'making: loop {
-            if let Some(line) = self.waiting.next() {
-                return Some(line);
+        if let Some(line) = self.waiting.next() {
+            return Some(line);
+        }
+        self.part.next()
+    }
+
+    /// Makes the lines of the next item, or of the end, and says whether there was one. All lines that were
+    /// made are pushed.
+    pub fn make(&mut self) -> Result<bool, NoMemory>
+        requires { HasNoLine (stream_of self.old) }
+        ensures passes { IfOk result (λ made. (a : Account) → IsAccount (stream_of self.old) a
+            → Passes a (stream_of self.new) []) }
+        ensures none { IfOk result (λ made. made ≡ false → (stream_of self.new ≡ stream_of self.old)
+            × IsTold self.new.end (items_left self.new.items)) }
+        ensures falls { IfOk result (λ made. IsTrue made
+            → turns_left (stream_of self.new) < turns_left (stream_of self.old)) }
+        ensures end { IfOk result (λ made. goes_on self.new.end ≡ goes_on self.old.end) }
+    {
+        match self.end {
+            End::NotYet => self.make_item(),
+            End::Due => {
+                if self.make_item()? {
+                    return Ok(true);
+                }
+                self.make_end()?;
+                Ok(true)
             }
-            if !self.make() {
-                return None;
+            End::Told => Ok(false),
+        }
+    }
+
+    /// Makes the lines of the next item, and says whether there was one.
+    fn make_item(&mut self) -> Result<bool, NoMemory>
+        requires none { HasNoLine (stream_of self.old) }
+        requires goes_on { self.old.end ≡ EndOf.Told → ⊥ }
+        ensures passes { IfOk result (λ made. (a : Account) → IsAccount (stream_of self.old) a
+            → Passes a (stream_of self.new) []) }
+        ensures none { IfOk result (λ made. made ≡ false → (stream_of self.new ≡ stream_of self.old)
+            × (items_left self.new.items ≡ [])) }
+        ensures falls { IfOk result (λ made. IsTrue made
+            → turns_left (stream_of self.new) < turns_left (stream_of self.old)) }
+        ensures end { IfOk result (λ made. self.new.end ≡ self.old.end) }
+    {
+        match next_item(&mut self.items) {
+            None => Ok(false),
+            Some(item) => {
+                self.waiting = take_item(self.alloc, &mut self.part, &item)?;
+                Ok(true)
             }
         }
     }
 
-    /// Makes the lines of the next item, or of the end, and says whether there was one.
-    fn make(&mut self) -> bool
-        requires { lines_in self.old.waiting ≡ [] }
-        ensures ahead { (more : List ItemOf) (ended : Bool)
-            → ahead (stream_of self.old) more ended ≡ ahead (stream_of self.new) more ended }
-        ensures none { result ≡ false → IsSpent (stream_of self.new) }
-        ensures falls { IsTrue result → work_left (stream_of self.new) < work_left (stream_of self.old) }
-        ensures end { goes_on self.new.end ≡ goes_on self.old.end }
+    /// Makes the lines of the end.
+    fn make_end(&mut self) -> Result<(), NoMemory>
+        requires none { HasNoLine (stream_of self.old) }
+        requires left { items_left self.old.items ≡ [] }
+        requires due { self.old.end ≡ EndOf.Due }
+        ensures passes { OnOk result ((a : Account) → IsAccount (stream_of self.old) a
+            → Passes a (stream_of self.new) []) }
+        ensures falls { OnOk result (turns_left (stream_of self.new) < turns_left (stream_of self.old)) }
+        ensures end { OnOk result (self.new.end ≡ EndOf.Told) }
     {
-        if self.end == End::Told {
-            return false;
-        }
-        if let Some(item) = next_item(&mut self.items) {
-            self.waiting = take_item(&mut self.part, &item);
-            return true;
-        }
-        if self.end == End::NotYet {
-            return false;
-        }
-        self.waiting.ending = end_part(&mut self.part);
+        let ending = end_part(self.alloc, &mut self.part)?;
+        self.waiting = ItemLines::ending_with(ending);
         self.end = End::Told;
-        true
+        Ok(())
     }
 }
 

@@ -1,8 +1,15 @@
-ghost use Rattle.std.specs.Prelude.{◌≡◌, ◌+◌, ◌≤◌, ◌++◌, ◌∷◌, [], length, IfOk, OnOk};
-ghost use Rattle.batch_job.specs.Report.{report, heading, listed_line, fault_line, listing_end, unbuilt_line, skipped_line, kind_text};
+ghost use Rattle.std.specs.Prelude.{◌≡◌, ◌+◌, ◌≤◌, ◌++◌, ◌∷◌, ℕ, List, [], length, true, false, IfOk, OnOk};
+ghost use Rattle.pascal_compile.specs.Compiling.{compiling};
+ghost use Rattle.program_lines.specs.Texts.{no_file_line};
+ghost use Rattle.program_lines.specs.Task.{Task, Says, source_of, task_lines, with_more};
+ghost use Rattle.program_lines.specs.Standing.{StandsFor, IsSpent};
+ghost use Rattle.batch_job.specs.Report.{report, heading, listed_line, fault_line, listing_end, skipped_line, kind_text, run_lines, file_limit};
+ghost use Rattle.batch_job.specs.LinesSoFar.{fault_so_far};
+ghost use Rattle.batch_job.specs.Places.{Made, is_run};
 ghost use Rattle.solo_base.specs.Blanks.{trimmed};
 
 use deck_format::{CardFault, CardFaultKind, Job};
+use program_lines::{ProgramLines, no_file_line};
 use solo_base::{Ident, Line, LineList, NoMemory};
 use std::alloc::Global;
 
@@ -11,31 +18,131 @@ pub fn run_job(alloc: Global, job: Job) -> Result<LineList, NoMemory>
     ensures { IfOk result (λ lines. lines ≡ report job) }
 {
     let mut lines = LineList::new(alloc);
-    match job {
-        Job::List { name, cards, fault } => {
-            lines.push(&heading(&name))?;
-            push_all(&mut lines, &cards)?;
-            lines.push(&listing_end(&name, &cards, fault))?;
-        }
+    match &job {
+        Job::List { name, cards, fault } => push_list(&mut lines, name, cards, *fault)?,
         Job::Pascal {
             name,
-            limit: _,
-            program: _,
-            input: _,
-            fault: _,
+            limit,
+            program,
+            input,
+            fault,
+        } => {
+            lines.push(&heading(name))?;
+            push_program(&mut lines, alloc, name, *limit, program, input, *fault)?;
         }
-        | Job::Run {
+        Job::Run {
             name,
             file: _,
             input: _,
-            fault: _,
+            fault,
         } => {
-            lines.push(&heading(&name))?;
-            lines.push(&unbuilt_line(&name))?;
+            lines.push(&heading(name))?;
+            push_no_file(&mut lines, name, *fault)?;
         }
-        Job::Skipped { count } => lines.push(&skipped_line(count))?,
+        Job::Skipped { count } => lines.push(&skipped_line(*count))?,
     }
     Ok(lines)
+}
+
+/// Adds the lines of a list.
+fn push_list(
+    lines: &mut LineList,
+    name: &Ident,
+    cards: &LineList,
+    fault: Option<CardFault>,
+) -> Result<(), NoMemory>
+    ensures { OnOk result (lines.new ≡ lines.old
+        ++ (heading name.now ∷ cards.now ++ listing_end name.now cards.now fault ∷ [])) }
+{
+    lines.push(&heading(name))?;
+    push_all(lines, cards)?;
+    lines.push(&listing_end(name, cards, fault))
+}
+
+/// Adds the lines of a program and of its input's fault, or its own fault alone.
+fn push_program(
+    lines: &mut LineList,
+    alloc: Global,
+    name: &Ident,
+    limit: u32,
+    program: &LineList,
+    input: &LineList,
+    fault: Option<CardFault>,
+) -> Result<(), NoMemory>
+    ensures { OnOk result (lines.new ≡ lines.old
+        ++ run_lines name.now limit (source_of name.now (compiling program.now)) input.now fault) }
+{
+    if !is_run(fault) {
+        return push_fault(lines, name, fault);
+    }
+    let started = ProgramLines::start(alloc, *name, limit, program)?;
+    push_run(lines, started, input)?;
+    push_fault(lines, name, fault)
+}
+
+/// Adds that there is no file, and the fault of the input.
+fn push_no_file(
+    lines: &mut LineList,
+    name: &Ident,
+    fault: Option<CardFault>,
+) -> Result<(), NoMemory>
+    ensures { (input : List (List ℕ)) → OnOk result (lines.new ≡ lines.old
+        ++ run_lines name.now file_limit (Says (no_file_line name.now)) input fault) }
+{
+    if !is_run(fault) {
+        return push_fault(lines, name, fault);
+    }
+    lines.push(&no_file_line(name))?;
+    push_fault(lines, name, fault)
+}
+
+/// Whether a program with this fault is run: where the fault is in its input.
+fn is_run(fault: Option<CardFault>) -> bool
+    ensures { result ≡ is_run fault }
+{
+    match fault {
+        Some(fault) => fault.in_input,
+        None => true,
+    }
+}
+
+/// Adds the line of a fault, where there is one.
+fn push_fault(lines: &mut LineList, name: &Ident, fault: Option<CardFault>) -> Result<(), NoMemory>
+    ensures { OnOk result (lines.new ≡ lines.old ++ fault_so_far name.now fault) }
+{
+    match fault {
+        Some(fault) => lines.push(&fault_line(name, fault)),
+        None => Ok(()),
+    }
+}
+
+/// Adds the lines of a program that runs with this input.
+fn push_run(
+    lines: &mut LineList,
+    mut program: ProgramLines,
+    input: &LineList,
+) -> Result<(), NoMemory>
+    ensures { (t : Task) → StandsFor program t [] → t.closed ≡ false
+        → OnOk result (lines.new ≡ lines.old ++ task_lines (with_more t input.now true)) }
+{
+    for place in 0..input.len() {
+        push_made(lines, &mut program)?;
+        program.feed(&input.get(place));
+    }
+    program.close();
+    push_made(lines, &mut program)
+}
+
+/// Adds the lines of a program that come with the cards so far.
+fn push_made(lines: &mut LineList, program: &mut ProgramLines) -> Result<(), NoMemory>
+    ensures made { OnOk result ((t : Task) (given : List (List ℕ)) → StandsFor program.old t given
+        → Made t given lines.old lines.new program.new) }
+    ensures spent { OnOk result (IsSpent program.new) }
+{
+    'made: while let Some(line) = program.next() {
+        lines.push(&line)?;
+    }
+    Ok(())
 }
 
 /// Adds all lines of the one list to the other.
@@ -89,15 +196,6 @@ pub fn fault_line(name: &Ident, fault: CardFault) -> Line
         CardFaultKind::Control => line.append(b": BAD CONTROL CARD "),
     }
     line.append_number(fault.card);
-    line
-}
-
-/// `A: NOT BUILT`
-pub fn unbuilt_line(name: &Ident) -> Line
-    ensures { result ≡ unbuilt_line name.now }
-{
-    let mut line = starting_with(name);
-    line.append(b": NOT BUILT");
     line
 }
 

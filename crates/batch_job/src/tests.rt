@@ -1,3 +1,5 @@
+ghost use Rattle.std.specs.Prelude.{◌≡◌, false, OnOk};
+
 use crate::{JobStream, run_job};
 use deck_format::{CardFault, CardFaultKind, Job};
 use page_codec::{Packer, PageItems, Unpacker};
@@ -54,6 +56,15 @@ fn a_listing_is_printed(rt: HostRuntime) -> Result<(), Fail> {
     Ok(())
 }
 
+/// Cards, as a list of lines.
+fn list(alloc: Global, cards: &[&[u8]]) -> Result<LineList, Fail> {
+    let mut lines = LineList::new(alloc);
+    for card in cards {
+        lines.push(&Line::of(card).ok_or("a card")?)?;
+    }
+    Ok(lines)
+}
+
 #[test]
 fn other_jobs_are_printed(rt: HostRuntime) -> Result<(), Fail> {
     let alloc = rt.alloc();
@@ -62,12 +73,16 @@ fn other_jobs_are_printed(rt: HostRuntime) -> Result<(), Fail> {
         name,
         file: name,
         input: LineList::new(alloc),
-        fault: None,
+        fault: Some(CardFault {
+            kind: CardFaultKind::Spoiled,
+            card: 7,
+            in_input: true,
+        }),
     };
-    let unbuilt = printed(alloc, run)?;
+    let no_file = printed(alloc, run)?;
     assert_eq!(rt;
-        unbuilt.as_slice(),
-        b"JOB ABCDEFGHIJKL|ABCDEFGHIJKL: NOT BUILT|".as_slice()
+        no_file.as_slice(),
+        b"JOB ABCDEFGHIJKL|ABCDEFGHIJKL: NO FILE|ABCDEFGHIJKL: SPOILED CARD 7|".as_slice()
     );
     for (count, want) in [
         (1, b"1 CARDS SKIPPED|".as_slice()),
@@ -76,6 +91,43 @@ fn other_jobs_are_printed(rt: HostRuntime) -> Result<(), Fail> {
     ] {
         let skipped = printed(alloc, Job::Skipped { count })?;
         assert_eq!(rt; skipped.as_slice(), want);
+    }
+    Ok(())
+}
+
+/// A program that prints the codes of three characters of its input.
+const CODES: [&[u8]; 4] = [
+    b"VAR C: CHAR;",
+    b"BEGIN READ(C); WRITEINT(ORD(C));",
+    b"READ(C); WRITE(' '); WRITEINT(ORD(C));",
+    b"READ(C); WRITE(' '); WRITEINT(ORD(C)) END.",
+];
+
+#[test]
+fn a_program_is_run_with_its_input(rt: HostRuntime) -> Result<(), Fail> {
+    let alloc = rt.alloc();
+    let name = Ident::of(b"R").ok_or("a name")?;
+    for (in_input, want) in [
+        (
+            true,
+            b"JOB R|90 10 25|R: TERMINATED|R: BAD CONTROL CARD 6|".as_slice(),
+        ),
+        (false, b"JOB R|R: BAD CONTROL CARD 6|".as_slice()),
+    ] {
+        let fault = CardFault {
+            kind: CardFaultKind::Control,
+            card: 6,
+            in_input,
+        };
+        let job = Job::Pascal {
+            name,
+            limit: 100,
+            program: list(alloc, &CODES)?,
+            input: list(alloc, &[b"Z"])?,
+            fault: Some(fault),
+        };
+        let text = printed(alloc, job)?;
+        assert_eq!(rt; text.as_slice(), want);
     }
     Ok(())
 }
@@ -105,7 +157,7 @@ fn a_stream_gives_the_lines_of_its_jobs(rt: HostRuntime) -> Result<(), Fail> {
     let deck = page_of(&[
         b"X", b"#LIST A", b"HELLO", b"#LIST B", b"#BAD", b"Y", b"#JOB P", b"BEGIN", b"#END", b"Z",
     ])?;
-    let mut stream = JobStream::new();
+    let mut stream = JobStream::new(rt.alloc());
     let mut packer = Packer::new();
     assert!(rt; stream.wants().is_none());
     stream.feed(items_of(&deck)?)?;
@@ -121,8 +173,84 @@ fn a_stream_gives_the_lines_of_its_jobs(rt: HostRuntime) -> Result<(), Fail> {
     assert_eq!(rt;
         text.as_slice(),
         b"1 CARDS SKIPPED|JOB A|HELLO|A: LISTED 1 CARDS|JOB B|B: BAD CONTROL CARD 1|\
-          JOB P|P: NOT BUILT|1 CARDS SKIPPED|"
+          JOB P|P: SYNTAX ERROR IN LINE 2|1 CARDS SKIPPED|"
             .as_slice()
+    );
+    Ok(())
+}
+
+/// The lines that a stream gives with a page of these cards, each with a bar behind it.
+fn streamed(
+    alloc: Global,
+    stream: &mut JobStream,
+    unpacker: &mut Unpacker,
+    page: &Page,
+    last: bool,
+) -> Result<Vec<u8>, Fail>
+    requires { unpacker.old.ended ≡ false }
+    ensures { OnOk result (unpacker.new.ended ≡ last) }
+{
+    let mut packer = Packer::new();
+    match unpacker.take(page, last) {
+        Ok(items) => stream.feed(items)?,
+        Err(_) => return Err("a bad page".into()),
+    }
+    if stream.pack(&mut packer)?.is_some() {
+        return Err("more than a page".into());
+    }
+    let mut lines = items_of(&packer.finish())?;
+    let mut text = Vec::new(alloc);
+    for _ in 0..30 {
+        if let Some(Item::Line(line)) = lines.next() {
+            text.extend_from_slice(line.bytes())?;
+            text.push(b'|')?;
+        }
+    }
+    Ok(text)
+}
+
+#[test]
+fn a_program_runs_while_its_cards_come(rt: HostRuntime) -> Result<(), Fail> {
+    let alloc = rt.alloc();
+    let mut packer = Packer::new();
+    let mut first = None;
+    let long = [b'D'; 80];
+    for card in [
+        b"#JOB COPY".as_slice(),
+        b"VAR C: CHAR;",
+        b"BEGIN READ(C); WHILE C <> EM DO BEGIN WRITE(C); READ(C) END END.",
+        b"#DATA",
+        b"ONE",
+        long.as_slice(),
+        long.as_slice(),
+        long.as_slice(),
+        long.as_slice(),
+        b"#BAD",
+        b"LOST",
+        b"#RUN A PROG",
+        b"X",
+        b"#JOB BIG 100",
+        b"VAR X: INTEGER; BEGIN X := 32767 + 1 END.",
+        b"#LIST B",
+        b"Y",
+    ] {
+        let line = Line::of(card).ok_or("a card")?;
+        if let Some(page) = packer.push(&Item::Line(line)) {
+            first = Some(page);
+        }
+    }
+    let first = first.ok_or("a full page")?;
+    let mut stream = JobStream::new(alloc);
+    let mut unpacker = Unpacker::new();
+    let text = streamed(alloc, &mut stream, &mut unpacker, &first, false)?;
+    assert!(rt; text.starts_with(b"JOB COPY|ONE|DDD"));
+    assert!(rt;
+        text.ends_with(b"|COPY: TERMINATED|COPY: BAD CONTROL CARD 9|JOB A|A: NO FILE|JOB BIG|")
+    );
+    let rest = streamed(alloc, &mut stream, &mut unpacker, &packer.finish(), true)?;
+    assert_eq!(rt;
+        rest.as_slice(),
+        b"BIG: OVERFLOW IN LINE 1|JOB B|Y|B: LISTED 1 CARDS|".as_slice()
     );
     Ok(())
 }

@@ -1,16 +1,25 @@
-use Rattle.std.proofs.Common.{◌++◌, ◌∙◌, option_to_list, sym, ap}
-use Rattle.batch_job.specs.JobStream.{stream_of, ahead}
-use Rattle.batch_job.proofs.PushingLines.{pushed-on, pushed-page}
+use Rattle.std.proofs.Common.{subst, sym, None}
+use Rattle.batch_job.specs.JobStream.{stream_of, IsTold, Packs, PacksMade}
+use Rattle.batch_job.proofs.Account.{no-page}
+use Rattle.batch_job.proofs.PushingLines.{packs-all, makes-on}
 use Rattle.batch_job.proofs.job_stream.pack_lines.Goals as goal
 
-pub returns-in-Some-push : goal.returns-in-Some-push
-returns-in-Some-push c =
-    pushed-page _ _ _ _ _ _ c.in-Some.line c.in-Some-push.page c.packing.invariant c.next.ensures.end
-    (λ more ended. c.next.ensures.ahead more ended ∙ ap (λ line. option_to_list line ++ ahead (stream_of c.next.new.self) more ended) c.in-Some.is)
-    (sym c.push.ensures.page ∙ c.in-Some-push.is) c.push.ensures.hand
+pub returns-then-not-branch : goal.returns-then-not-branch
+returns-then-not-branch c =
+    let first = stream_of c.args.ahead.now in
+    let hand = c.args.packer.now in
+    let pushed = stream_of c.push_made.new.ahead in
+    let none = no-page c.push_made.result c.in_default.not-Some in
+    let resting = subst (λ r. PacksMade first hand r pushed c.push_made.new.packer) none (c.push_made.ensures.packs first hand c.packing.invariant) in
+    let (same, told) = c.in_ok-make.ensures.none c.if-not-branch.true in
+    subst (λ s. Packs first hand None s c.push_made.new.packer) (sym same)
+    (packs-all first pushed hand c.push_made.new.packer resting (c.push_made.ensures.none none, subst (λ s. IsTold s.end s.left) same told))
 
 pub packing-preserved : goal.packing-preserved
 packing-preserved c =
-    pushed-on _ _ _ _ _ _ c.in-Some.line c.packing.invariant c.next.ensures.end
-    (λ more ended. c.next.ensures.ahead more ended ∙ ap (λ line. option_to_list line ++ ahead (stream_of c.next.new.self) more ended) c.in-Some.is)
-    (sym c.push.ensures.page ∙ c.in_default-push.is) c.push.ensures.hand
+    let first = stream_of c.args.ahead.now in
+    let hand = c.args.packer.now in
+    let pushed = stream_of c.push_made.new.ahead in
+    let none = no-page c.push_made.result c.in_default.not-Some in
+    let resting = subst (λ r. PacksMade first hand r pushed c.push_made.new.packer) none (c.push_made.ensures.packs first hand c.packing.invariant) in
+    makes-on first pushed (stream_of c.make.new.self) hand c.push_made.new.packer resting.pushing c.in_ok-make.ensures.end c.in_ok-make.ensures.passes

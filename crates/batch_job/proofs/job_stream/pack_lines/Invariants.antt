@@ -1,8 +1,8 @@
-use Rattle.batch_job.specs.JobStream.{Pushing, stream_of, work_left}
+use Rattle.batch_job.specs.JobStream.{Pushing, stream_of, turns_left}
 use Rattle.batch_job.proofs.job_stream.pack_lines.Given as goal
 
 abbrev pub invariant-packing : goal.invariant-packing
 invariant-packing l = Pushing (stream_of l.initial.ahead) l.initial.packer (stream_of l.ahead) l.packer
 
 abbrev pub decreases-packing : goal.decreases-packing
-decreases-packing l = work_left (stream_of l.ahead)
+decreases-packing l = turns_left (stream_of l.ahead)

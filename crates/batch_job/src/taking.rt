@@ -1,0 +1,305 @@
+// What an item does to the part of the deck that it comes to.
+ghost use Rattle.std.specs.Prelude.{◌≡◌, ◌+◌, ◌++◌, ◌∷◌, List, [], IfOk, OnOk, if◌then◌else◌};
+ghost use Rattle.solo_base.specs.declared.item.Item.{Item as ItemOf};
+ghost use Rattle.deck_format.specs.JobReader.{control_in};
+ghost use Rattle.deck_format.specs.Jobs.{card_count, counts, data_in, is_some};
+ghost use Rattle.program_lines.specs.Standing.{IsSpent};
+ghost use Rattle.batch_job.specs.LinesAhead.{Where, InList, InProgram, name_of, opened, closed_lines, card_or_fault};
+ghost use Rattle.batch_job.specs.Places.{IsPart, IsInput, IsSpentPart, program_group, StillGives};
+ghost use Rattle.batch_job.specs.Places.{Leads, Opens, Ends, Adds};
+ghost use Rattle.batch_job.specs.declared.part.Part.TheVariants as PartOf;
+
+use crate::Part;
+use crate::item_lines::ItemLines;
+use crate::report::{fault_line, heading, listed_line, skipped_line};
+use deck_format::{
+    CardFault, CardFaultKind, Control, Opener, control_in, counts, ends_in, opener_in,
+};
+use program_lines::{ProgramLines, no_file_line};
+use solo_base::{Ident, Item, Line, LineList, NoMemory};
+use std::alloc::Global;
+use std::mem;
+
+/// The lines of the next item, which leads to another part. All lines of the items before were given.
+pub fn take_item(alloc: Global, part: &mut Part, item: &Item) -> Result<ItemLines, NoMemory>
+    requires { IsSpentPart part.old }
+    ensures { IfOk result (λ lines. (place : Where) → IsPart part.old place
+        → Leads place item.now lines part.new) }
+{
+    let control = control_in(item);
+    if let Some(opener) = opener_in(&control) {
+        return take_opener(alloc, part, opener);
+    }
+    if ends_in(&control) && part.is_in_group() {
+        return take_end(alloc, part);
+    }
+    let before = mem::replace(part, Part::Dropped);
+    let (then, lines) = add(alloc, before, item, &control)?;
+    *part = then;
+    Ok(lines)
+}
+
+/// The lines of a part behind which no more comes.
+pub fn end_part(alloc: Global, part: &mut Part) -> Result<ProgramLines, NoMemory>
+    ensures lines { IfOk result (λ ending. (place : Where) → IsPart part.old place
+        → StillGives ending (closed_lines place)) }
+    ensures part { OnOk result (part.new ≡ PartOf.Stretch 0) }
+{
+    match mem::replace(part, Part::Stretch { count: 0 }) {
+        Part::Stretch { count } => {
+            if count == 0 {
+                Ok(ProgramLines::Over)
+            } else {
+                Ok(ProgramLines::Last(skipped_line(count)))
+            }
+        }
+        Part::List { name, count } => Ok(ProgramLines::Last(listed_line(&name, count))),
+        Part::Program {
+            name,
+            limit,
+            number: _,
+            cards,
+        } => {
+            let mut lines = ProgramLines::start(alloc, name, limit, &cards)?;
+            lines.close();
+            Ok(lines)
+        }
+        Part::Input {
+            name: _,
+            number: _,
+            mut lines,
+        } => {
+            lines.close();
+            Ok(lines)
+        }
+        Part::Dropped => Ok(ProgramLines::Over),
+    }
+}
+
+/// The lines of the end of a group.
+fn take_end(alloc: Global, part: &mut Part) -> Result<ItemLines, NoMemory>
+    ensures { IfOk result (λ lines. (place : Where) → IsPart part.old place → Ends place lines part.new) }
+{
+    let ending = end_part(alloc, part)?;
+    Ok(ItemLines::ending_with(ending))
+}
+
+/// The lines of an opener.
+fn take_opener(alloc: Global, part: &mut Part, opener: Opener) -> Result<ItemLines, NoMemory>
+    ensures { IfOk result (λ lines. (place : Where) → IsPart part.old place
+        → Opens place opener lines part.new) }
+{
+    let ending = end_part(alloc, part)?;
+    let (name, then) = opened(alloc, opener);
+    *part = then;
+    Ok(ItemLines {
+        ending,
+        own: Some(heading(&name)),
+        note: None,
+    })
+}
+
+/// The name of the group behind an opener, and the part that it is.
+fn opened(alloc: Global, opener: Opener) -> (Ident, Part)
+    ensures name { result.0 ≡ name_of opener }
+    ensures part { IsPart result.1 (opened opener) }
+{
+    match opener {
+        Opener::List(name) => (name, Part::List { name, count: 0 }),
+        Opener::Job { name, limit } => {
+            let cards = LineList::new(alloc);
+            (
+                name,
+                Part::Program {
+                    name,
+                    limit,
+                    number: 1,
+                    cards,
+                },
+            )
+        }
+        Opener::Run { name, file: _ } => {
+            let lines = ProgramLines::Last(no_file_line(&name));
+            (
+                name,
+                Part::Input {
+                    name,
+                    number: 1,
+                    lines,
+                },
+            )
+        }
+    }
+}
+
+/// Adds an item that neither opens nor ends a group: the part behind it, and its lines.
+fn add(
+    alloc: Global,
+    part: Part,
+    item: &Item,
+    control: &Option<Control>,
+) -> Result<(Part, ItemLines), NoMemory>
+    requires spent { IsSpentPart part }
+    requires control { control.now ≡ control_in item.now }
+    ensures { IfOk result (λ behind. (place : Where) → IsPart part place
+        → Adds place item.now behind.1 behind.0) }
+{
+    match part {
+        Part::Stretch { count } => {
+            let count = counted(count, item);
+            Ok((Part::Stretch { count }, ItemLines::none()))
+        }
+        Part::List { name, count } => Ok(add_to_list(name, count, item, control)),
+        Part::Program {
+            name,
+            limit,
+            number,
+            cards,
+        } => add_to_program(alloc, name, limit, number, cards, item, control),
+        Part::Input {
+            name,
+            number,
+            lines,
+        } => Ok(add_to_input(name, number, lines, item, control)),
+        Part::Dropped => Ok((Part::Dropped, ItemLines::none())),
+    }
+}
+
+/// Adds an item to a list: a card of it, or its fault.
+fn add_to_list(name: Ident, count: u32, item: &Item, control: &Option<Control>) -> (Part, ItemLines)
+    requires control { control.now ≡ control_in item.now }
+    ensures { Adds (InList name count) item.now result.1 result.0 }
+{
+    let number = count.saturating_add(1);
+    match card_of(item, control, number, false) {
+        Ok(card) => {
+            let part = Part::List {
+                name,
+                count: number,
+            };
+            (part, ItemLines::of(card))
+        }
+        Err(fault) => (Part::Dropped, ItemLines::of(fault_line(&name, fault))),
+    }
+}
+
+/// How many cards count behind the item, outside groups.
+fn counted(count: u32, item: &Item) -> u32
+    ensures { result ≡ (if counts item.now then card_count (count + 1) else count) }
+{
+    if counts(item) {
+        return count.saturating_add(1);
+    }
+    count
+}
+
+/// Adds an item to a program before its input: a card of it, `#DATA`, or its fault.
+fn add_to_program(
+    alloc: Global,
+    name: Ident,
+    limit: u32,
+    number: u32,
+    mut cards: LineList,
+    item: &Item,
+    control: &Option<Control>,
+) -> Result<(Part, ItemLines), NoMemory>
+    requires control { control.now ≡ control_in item.now }
+    ensures { IfOk result (λ behind.
+        Adds (InProgram (program_group name limit number cards) []) item.now behind.1 behind.0) }
+{
+    let next = number.saturating_add(1);
+    match card_of(item, control, number, false) {
+        Ok(card) => {
+            cards.push(&card)?;
+            Ok((
+                Part::Program {
+                    name,
+                    limit,
+                    number: next,
+                    cards,
+                },
+                ItemLines::none(),
+            ))
+        }
+        Err(fault) => {
+            if !data_in(control) {
+                return Ok((Part::Dropped, ItemLines::of(fault_line(&name, fault))));
+            }
+            let lines = ProgramLines::start(alloc, name, limit, &cards)?;
+            Ok((input_from(name, next, lines), ItemLines::none()))
+        }
+    }
+}
+
+/// The input of a program, whose next card has this number.
+fn input_from(name: Ident, number: u32, lines: ProgramLines) -> Part
+    ensures { result ≡ PartOf.Input name number lines }
+{
+    Part::Input {
+        name,
+        number,
+        lines,
+    }
+}
+
+/// Adds an item to the input of a program: a card of it, or its fault, behind which no further card comes.
+fn add_to_input(
+    name: Ident,
+    number: u32,
+    mut lines: ProgramLines,
+    item: &Item,
+    control: &Option<Control>,
+) -> (Part, ItemLines)
+    requires spent { IsSpent lines }
+    requires control { control.now ≡ control_in item.now }
+    ensures { (place : Where) → IsInput name number lines place → Adds place item.now result.1 result.0 }
+{
+    match card_of(item, control, number, true) {
+        Ok(card) => {
+            lines.feed(&card);
+            let number = number.saturating_add(1);
+            (input_from(name, number, lines), ItemLines::none())
+        }
+        Err(fault) => {
+            lines.close();
+            let note = Some(fault_line(&name, fault));
+            (
+                Part::Dropped,
+                ItemLines {
+                    ending: lines,
+                    own: None,
+                    note,
+                },
+            )
+        }
+    }
+}
+
+/// Whether the control card parts a program from its input.
+fn data_in(control: &Option<Control>) -> bool
+    ensures { result ≡ data_in control.now }
+{
+    matches!(control, Some(Control::Data))
+}
+
+/// The card of a group that an item of this number is, or the fault that it is there.
+fn card_of(
+    item: &Item,
+    control: &Option<Control>,
+    number: u32,
+    in_input: bool,
+) -> Result<Line, CardFault>
+    requires { control.now ≡ control_in item.now }
+    ensures { result ≡ card_or_fault in_input item.now (is_some control.now) number }
+{
+    let kind = match item {
+        Item::Spoiled => CardFaultKind::Spoiled,
+        Item::Line(_) if control.is_some() => CardFaultKind::Control,
+        Item::Line(card) => return Ok(card.copy()),
+    };
+    Err(CardFault {
+        kind,
+        card: number,
+        in_input,
+    })
+}
