@@ -16,8 +16,7 @@ use Rattle.page_codec.specs.Stream.{Awaited, awaited_after}
 use Rattle.batch_job.specs.declared.lines_ahead.End.{End}
 use Rattle.batch_job.specs.declared.lines_ahead.End.TheVariants as end
 use Rattle.batch_job.specs.LinesSoFar.{lines_so_far}
-use Rattle.batch_job.specs.JobStream.{Stream, StandsBy, StandsFor, IsSpent, Packs, ahead, fed, end_of, goes_on, pages_given, hand_behind}
-use Rattle.batch_job.proofs.PushingLines.{all-told}
+use Rattle.batch_job.specs.JobStream.{Stream, Account, StandsBy, StandsFor, IsSpent, Packs, ahead, fed, end_of, goes_on, pages_given, hand_behind}
 use Rattle.batch_procs.specs.declared.actions.Reply.{Reply}
 use Rattle.batch_procs.specs.declared.actions.Reply.TheVariants as reply
 use Rattle.batch_procs.specs.Parcels.{Parcel, OfPage, is_last, mark, NothingBehind}
@@ -85,11 +84,17 @@ page-open hand lines page is = (subst (λ ps. AllByRecursion IsNotLast ps) is (p
 abbrev IsOver : End → Bool
 IsOver e = not (goes_on e)
 
-pub some-left : (e : End) (lines : Stream) (all : List Item) (pushed : List (List ℕ)) → StandsBy e lines all pushed
+left-by : (e : End) (a : Account) (all : List Item) (pushed : List (List ℕ)) → StandsBy e a all pushed
     → (rest : List (List ℕ)) × (lines_so_far all (not (goes_on e)) ≡ pushed ++ rest)
-some-left end.NotYet lines all pushed s = (ahead lines [] false, ap (λ xs. lines_so_far xs false) (sym (append-nil all)) ∙ s [] false)
-some-left end.Due lines all pushed s = (ahead lines [] true, s)
-some-left end.Told lines all pushed s = (ahead lines [] true, s)
+left-by end.NotYet a all pushed s = (ahead a [] false, ap (λ xs. lines_so_far xs false) (sym (append-nil all)) ∙ s [] false)
+left-by end.Due a all pushed s = (ahead a [] true, s)
+left-by end.Told a all pushed s = (ahead a [] true, s)
+
+pub some-left : (lines : Stream) (all : List Item) (pushed : List (List ℕ)) → StandsFor lines all pushed
+    → (rest : List (List ℕ)) × (lines_so_far all (not (goes_on lines.end)) ≡ pushed ++ rest)
+some-left lines all pushed s =
+    let (rest, is) = left-by s.account.end s.account all pushed s.by in
+    (rest, ap (λ e. lines_so_far all (not (goes_on e))) s.is.end ∙ is)
 
 -- ---- what the calls below tell
 told-not : (t : Bool) → (IsTrue t → ⊥) → t ≡ false
@@ -287,7 +292,7 @@ module _ {awaited : Awaited} {lines then_lines : Stream} {packer hand : PageInHa
       ++ OfPage page false ∷ []) =
       has-pushed packer keeps.pushed packs.lines sent (OfPage page false ∷ []) (page ∷ []) hand kept packs.pushed.0 refl packs.in_hand in
       let stands = packs.gives (items (unpacked 0 taken)) keeps.pushed keeps.stands in
-      let (rest, lines_are) = some-left then_lines.end then_lines (items (unpacked 0 taken)) (keeps.pushed ++ packs.lines) stands in
+      let (rest, lines_are) = some-left then_lines (items (unpacked 0 taken)) (keeps.pushed ++ packs.lines) stands in
       let ends = not-not awaited.ended (goes_on then_lines.end) (packs.same_end ∙ keeps.same_end) in
       let all = sends-at taken (keeps.pushed ++ packs.lines) rest awaited.ended keeps.end_is (ap (lines_so_far (items (unpacked 0 taken))) (sym ends)
       ∙ lines_are) in
@@ -321,7 +326,7 @@ module _ {awaited : Awaited} {lines then_lines : Stream} {packer hand : PageInHa
       ++ []) = has-pushed packer keeps.pushed packs.lines sent [] [] hand kept packs.pushed refl packs.in_hand in
       let put-same : HasSent hand (keeps.pushed ++ packs.lines) sent = subst (HasSent hand (keeps.pushed ++ packs.lines)) (append-nil sent) put in
       let stands = packs.gives (items (unpacked 0 taken)) keeps.pushed keeps.stands in
-      let told = all-told then_lines (items (unpacked 0 taken)) (keeps.pushed ++ packs.lines) (packs.all refl) stands in
+      let told = packs.told refl (items (unpacked 0 taken)) keeps.pushed keeps.stands in
       let ends = not-not awaited.ended (goes_on then_lines.end) (packs.same_end ∙ keeps.same_end) in
       let all = sends-at taken (keeps.pushed ++ packs.lines) [] awaited.ended keeps.end_is (ap (lines_so_far (items (unpacked 0 taken))) (sym ends) ∙ told
       ∙ sym (append-nil (keeps.pushed ++ packs.lines))) in
@@ -352,7 +357,7 @@ module _ {awaited : Awaited} {lines then_lines : Stream} {packer hand : PageInHa
       ++ []) = has-pushed packer keeps.pushed packs.lines sent [] [] hand kept packs.pushed refl packs.in_hand in
       let put-same : HasSent hand (keeps.pushed ++ packs.lines) sent = subst (HasSent hand (keeps.pushed ++ packs.lines)) (append-nil sent) put in
       let stands = packs.gives (items (unpacked 0 taken)) keeps.pushed keeps.stands in
-      let told = all-told then_lines (items (unpacked 0 taken)) (keeps.pushed ++ packs.lines) (packs.all refl) stands in
+      let told = packs.told refl (items (unpacked 0 taken)) keeps.pushed keeps.stands in
       let ends = not-not awaited.ended (goes_on then_lines.end) (packs.same_end ∙ keeps.same_end) in
       let all = sends-at taken (keeps.pushed ++ packs.lines) [] awaited.ended keeps.end_is (ap (lines_so_far (items (unpacked 0 taken))) (sym ends) ∙ told
       ∙ sym (append-nil (keeps.pushed ++ packs.lines))) in

@@ -12,9 +12,11 @@ use Rattle.page_codec.specs.declared.judge.BadPage.{BadPage}
 use Rattle.page_codec.specs.Form.{mark}
 use Rattle.page_codec.specs.Places.{content_length, content_of}
 use Rattle.page_codec.specs.Packing.{first_page}
-use Rattle.page_codec.specs.Reading.{PageContent, characters, items_after, has_length, bad_body, bad_place, content_or_bad, page_read}
-use Rattle.batch_job.specs.LinesSoFar.{lines_so_far}
-use Rattle.batch_job.proofs.LinesSoFar.{lines-few}
+use Rattle.page_codec.specs.Reading.{PageContent, characters, items_after, has_length, or_else, bad_body, bad_place, content_or_bad, page_read}
+use Rattle.page_codec.specs.Items.{AreItems}
+use Rattle.page_codec.proofs.Scan.{all_read}
+use Rattle.batch_job.specs.LinesSoFar.{lines_so_far, lines_of_an_item}
+use Rattle.batch_job.proofs.FewLines.{few-lines}
 use Rattle.batch_procs.specs.Parcels.{Parcel, OfFeed, OfPage, OfLine}
 use Rattle.batch_procs.specs.Sends.{has_end, items, stream, items_then, behind, unpacked_by, unpacked, lines_of, job_lines, output_lines}
 use Rattle.batch_procs.specs.Process.{Process}
@@ -99,6 +101,48 @@ unpacked-length place (OfPage page last ∷ rest) =
 unpacked-length place (OfFeed f ∷ rest) = omega arith
 unpacked-length place (OfLine line ∷ rest) = omega arith
 
+-- ---- its items are items
+no-test : (a b c d : Bool) (rest : Option ℕ) → (if a then Some 0 else if b then Some 2 else if c then Some 3 else if d then Some 4 else rest) ≡ None
+    → rest ≡ None
+no-test true b c d rest e = absurd cc
+no-test false true c d rest e = absurd cc
+no-test false false true d rest e = absurd cc
+no-test false false false true rest e = absurd cc
+no-test false false false false rest e = e
+
+neither : (first other : Option ℕ) → or_else first other ≡ None → first ≡ None
+neither None other e = refl
+neither (Some at) other e = absurd cc
+
+content-items : (place : ℕ) (last : Bool) (bytes : List ℕ) (wrong : Option ℕ) (content : PageContent) → bad_place place last bytes ≡ wrong
+    → content_or_bad place last bytes wrong ≡ Ok content → AreItems content.items
+content-items place last bytes None content sound is =
+    let body = no-test (not (number_at bytes 0 == place)) (not (slice_index bytes 2 == mark last)) (not (slice_index bytes 3 == 0))
+    (not (has_length last (content_length bytes))) (bad_body (content_length bytes) bytes) sound in
+    subst AreItems (ap (items-or []) is) (all_read (content_of bytes) 6 0 (neither _ _ body)).valid
+content-items place last bytes (Some at) content sound is = absurd cc
+
+then-items : (xs : List Item) (rest : List Feed) → AreItems xs → AreItems (items rest) → AreItems (items (items_then xs rest))
+then-items [] rest are more = more
+then-items (x ∷ xs) rest are more = (are.0, then-items xs rest are.1 more)
+
+behind-items : (last : Bool) (rest : List Feed) → AreItems (items rest) → AreItems (items (behind last rest))
+behind-items true rest are = tt
+behind-items false rest are = are
+
+page-items : (place : ℕ) (last : Bool) (page : Page) (rest : List Feed) (read : Result PageContent BadPage) → page_read place last page ≡ read
+    → AreItems (items rest) → AreItems (items (unpacked_by read last rest))
+page-items place last page rest (Ok content) is are =
+    then-items content.items (behind last rest) (content-items place last page.0 (bad_place place last page.0) content refl is) (behind-items last rest are)
+page-items place last page rest (Err bad) is are = tt
+
+unpacked-items : (place : ℕ) (all : List Parcel) → AreItems (items (unpacked place all))
+unpacked-items place [] = tt
+unpacked-items place (OfPage page last ∷ rest) =
+    page-items place last page (unpacked ((place + 1) % 2 ^ 16) rest) (page_read place last page) refl (unpacked-items ((place + 1) % 2 ^ 16) rest)
+unpacked-items place (OfFeed f ∷ rest) = tt
+unpacked-items place (OfLine line ∷ rest) = tt
+
 -- ---- the lines of it
 items-end : (all : List Feed) → length (items all) + one_if (has_end all) ≤ length all
 items-end [] = omega arith
@@ -125,13 +169,13 @@ output-bound all =
     let g = parcels-length (output_lines fs) in
     omega (arith, a, b, c, d, e, g)
 
-pub job-bound : GivesAtMost 1521 job
+pub job-bound : GivesAtMost (507 * lines_of_an_item) job
 job-bound all =
     let fs = unpacked 0 all in
     let a = unpacked-length 0 all in
     let b = items-end fs in
     let lines = lines_so_far (items fs) (has_end fs) in
-    let c = lines-few (items fs) (has_end fs) in
+    let c = few-lines (items fs) (has_end fs) (unpacked-items 0 all) in
     let d = map-length lines in
     let e = stream-length (map Line lines) (has_end fs) in
     let g = packed-length first_page (job_lines fs) in
@@ -144,5 +188,5 @@ either false n m this other a b = b
 
 pub bounds : TheFiveAreBounded
 bounds p =
-    either (p == 1) 1 _ card _ card-bound (either (p == 2) 1 _ input _ input-bound (either (p == 3) 1521 _ job _ job-bound
+    either (p == 1) 1 _ card _ card-bound (either (p == 2) 1 _ input _ input-bound (either (p == 3) (507 * lines_of_an_item) _ job _ job-bound
     (either (p == 4) 507 _ output _ output-bound (either (p == 5) 1 0 printer nobody printer-bound (λ all. omega arith)))))

@@ -3,6 +3,7 @@ use Rattle.std.specs.Prelude.{ℕ, ◌+◌, ◌*◌, ◌-◌, ◌≤◌, ◌==�
 use Rattle.solo_base.specs.declared.outcome.Outcome.{Outcome}
 use Rattle.batch_procs.specs.declared.round.Step.{Step}
 use Rattle.batch_procs.specs.declared.round.Step.TheVariants as step
+use Rattle.batch_job.specs.LinesSoFar.{lines_of_an_item}
 use Rattle.batch_procs.specs.Parcels.{Parcel}
 use Rattle.batch_procs.specs.History.{Entry, Does, LacksMemory, Delays, took, put, taken, sent, holds, has_stopped, newest}
 use Rattle.batch_procs.specs.Causes.{caused}
@@ -69,12 +70,12 @@ AheadFalls =
     ≤ ahead weight most p h + ((weight + 5) * most + 5) * length (took entry)
 
 -- how many parcels each of the five puts at most for one that it takes: a page has at most 506 items and its
--- end, and an item of a deck gives at most three lines
+-- end, and for an item of a deck a program may print as many lines as the limits of ticks allow
 abbrev pub most_of : ℕ → ℕ
 most_of p =
     if p == 1 then 1
     else if p == 2 then 1
-    else if p == 3 then 1521
+    else if p == 3 then 507 * lines_of_an_item
     else if p == 4 then 507
     else if p == 5 then 1
     else 0

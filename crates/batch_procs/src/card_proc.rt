@@ -7,6 +7,7 @@ use crate::work::Work;
 use crate::{Action, Reply};
 use solo_base::{BufferNo, Cause, Feed, Item, NoMemory, Outcome};
 use solo_devices::CardRead;
+use std::alloc::Global;
 
 /// The card process: it reads the cards of the deck, and puts each into the line buffer 1.
 pub type CardProc = Machine<CardWork>;
@@ -31,7 +32,7 @@ impl Work for CardWork {
 
     ghost relay = { card-relay };
 
-    fn begin() -> CardWork {
+    fn begin(_alloc: Global) -> CardWork {
         CardWork {
             due: None,
             ended: false,

@@ -5,6 +5,7 @@ use crate::work::Work;
 use crate::{Action, Reply};
 use page_codec::Packer;
 use solo_base::{BufferNo, Feed, NoMemory, Outcome, Page};
+use std::alloc::Global;
 use std::mem;
 
 /// The input process: it takes cards from the line buffer 1, packs them into pages, and puts these into
@@ -32,7 +33,7 @@ impl Work for InputWork {
 
     ghost relay = { input-relay };
 
-    fn begin() -> InputWork {
+    fn begin(_alloc: Global) -> InputWork {
         InputWork {
             packer: Packer::new(),
             due: None,

@@ -8,6 +8,7 @@ use crate::{Action, Reply};
 use batch_job::JobStream;
 use page_codec::Packer;
 use solo_base::{BufferNo, NoMemory, Outcome, Page};
+use std::alloc::Global;
 use std::mem;
 
 /// The job process: it takes pages of cards from the spool 2, and puts pages of the jobs' lines into the
@@ -36,10 +37,10 @@ impl Work for JobWork {
 
     ghost relay = { job-relay };
 
-    fn begin() -> JobWork {
+    fn begin(alloc: Global) -> JobWork {
         JobWork {
             pages: Pages::new(),
-            lines: JobStream::new(),
+            lines: JobStream::new(alloc),
             packer: Packer::new(),
             due: None,
             unworked: false,

@@ -12,6 +12,7 @@ use crate::round::Step;
 use crate::work::Work;
 use crate::{Action, Reply};
 use solo_base::{Cause, NoMemory, Outcome};
+use std::alloc::Global;
 
 /// A process as a machine: it says what it does next, and is given the reply. It keeps no history.
 #[derive(Debug, Drop)]
@@ -24,11 +25,11 @@ pub struct Machine<W: Work> {
 
 impl<W: Work> Machine<W> {
     /// The machine of a process that has done nothing.
-    pub fn new() -> Machine<W>
+    pub fn new(alloc: Global) -> Machine<W>
         ensures { StandsFor W.process W.keeps result [] }
     {
         Machine {
-            work: W::begin(),
+            work: W::begin(alloc),
             step: Step::Free,
             cause: None,
             stops: 0,

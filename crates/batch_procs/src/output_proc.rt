@@ -10,6 +10,7 @@ use crate::work::Work;
 use crate::{Action, Reply};
 use page_codec::{BadPage, PageItems};
 use solo_base::{BufferNo, Cause, Feed, Item, Line, NoMemory, Outcome};
+use std::alloc::Global;
 
 /// The output process: it takes pages from the spool 3, and puts their lines into the line buffer 4.
 pub type OutputProc = Machine<OutputWork>;
@@ -37,7 +38,7 @@ impl Work for OutputWork {
 
     ghost relay = { output-relay };
 
-    fn begin() -> OutputWork {
+    fn begin(_alloc: Global) -> OutputWork {
         OutputWork {
             pages: Pages::new(),
             due: None,

@@ -4,6 +4,7 @@ use crate::machine::Machine;
 use crate::work::Work;
 use crate::{Action, Reply};
 use solo_base::{BufferNo, Feed, Item, Line, NoMemory, Outcome};
+use std::alloc::Global;
 
 /// The printer process: it takes lines from the line buffer 4, and prints them.
 pub type PrinterProc = Machine<PrinterWork>;
@@ -28,7 +29,7 @@ impl Work for PrinterWork {
 
     ghost relay = { printer-relay };
 
-    fn begin() -> PrinterWork {
+    fn begin(_alloc: Global) -> PrinterWork {
         PrinterWork {
             due: None,
             ended: false,

@@ -190,7 +190,7 @@ pub fn actions_over<W: Work + Drop>(
     mut supply: Supply,
     trouble: Trouble,
 ) -> Result<Vec<u8>, Fail> {
-    let mut machine = Machine::<W>::new();
+    let mut machine = Machine::<W>::new(alloc);
     let mut text = Vec::new(alloc);
     for number in 0..60 {
         let action = machine.next();

@@ -41,7 +41,7 @@ fn a_deck_that_fails_stops_the_line_buffer(rt: HostRuntime) -> Result<(), Fail> 
         (CardRead::Limit, b"Stop 1|Ended DeckLimit|".as_slice()),
         (CardRead::Spoiled, b"PutFeed spoiled|ReadCard|".as_slice()),
     ] {
-        let mut machine = CardProc::new();
+        let mut machine = CardProc::new(rt.alloc());
         machine.give(Reply::Card(read))?;
         let mut text = Vec::new(rt.alloc());
         put_action(&mut text, &machine.next())?;
@@ -181,7 +181,7 @@ fn the_output_process_puts_the_lines_of_each_page(rt: HostRuntime) -> Result<(),
 
 #[test]
 fn a_page_that_was_not_put_is_damaged(rt: HostRuntime) -> Result<(), Fail> {
-    let mut machine = OutputProc::new();
+    let mut machine = OutputProc::new(rt.alloc());
     machine.give(Reply::Done)?;
     machine.give(Reply::Done)?;
     machine.give(Reply::Page {

@@ -8,6 +8,7 @@ ghost use Rattle.batch_procs.specs.Work.{MayTake, Takes};
 
 use crate::{Action, Reply};
 use solo_base::{BufferNo, NoMemory, Outcome};
+use std::alloc::Global;
 
 /// What a process makes of what it takes, apart from the calls around it.
 pub trait Work {
@@ -18,7 +19,7 @@ pub trait Work {
     ghost keeps: { Self → List Parcel → List Parcel → Bool → Type 0 };
 
     /// The work of a process that has taken nothing.
-    fn begin() -> Self
+    fn begin(alloc: Global) -> Self
         ensures { keeps result [] [] false };
 
     /// The buffer at a place in the order in which they are stopped.

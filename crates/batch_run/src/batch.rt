@@ -99,7 +99,7 @@ pub fn run_batch<
         paper,
     } = units;
     match make_all(alloc, input, output) {
-        Ok((gates, ends)) => Ok(run_made(rt, gates, ends, deck, paper)),
+        Ok((gates, ends)) => Ok(run_made(rt, alloc, gates, ends, deck, paper)),
         Err(((input, output), refused)) => {
             let units = Units {
                 deck,
@@ -121,6 +121,7 @@ fn run_made<
     R: Threads + Wait + Sync,
 >(
     rt: &R,
+    alloc: Global,
     gates: Gates<A, B>,
     ends: Ends<A, B>,
     deck: CardUnit<S>,
@@ -154,7 +155,7 @@ fn run_made<
     ensures total { bytes_total (S.taken result.deck.source) (S.left result.deck.source)
         ≡ bytes_total (S.taken deck.source) (S.left deck.source) }
 {
-    let ended = run_five(rt, gates.row(ends, deck, paper));
+    let ended = run_five(rt, alloc, gates.row(ends, deck, paper));
     let Parted {
         outcomes,
         ends,

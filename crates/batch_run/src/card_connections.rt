@@ -10,6 +10,7 @@ use batch_procs::{Action, CardWork, Machine, Reply};
 use slot_buffer::{SendEnd, SlotGate, Stopped};
 use solo_base::{Feed, Outcome};
 use solo_devices::{CardUnit, Source};
+use std::alloc::Global;
 use std::sync::Wait;
 use std::thread::Threads;
 
@@ -23,19 +24,23 @@ pub struct CardConnections<'a, S: Source + Drop> {
 
 impl<'a, S: Source + Drop> CardConnections<'a, S> {
     /// Runs the card process up to its end.
-    pub fn run<R: Threads + Wait + Sync>(&mut self, rt: &R) -> Outcome
+    pub fn run<R: Threads + Wait + Sync>(&mut self, rt: &R, alloc: Global) -> Outcome
         requires { CardRan S.left S.taken S.faults self.old self.old [] }
         ensures { EndsSo card (CardRan S.left S.taken S.faults self.old self.new) result }
     {
-        run_to_end!(self, CardWork, rt)
+        run_to_end!(self, CardWork, rt, alloc)
     }
 
     /// The same, and hands the connections back.
-    pub fn ran<R: Threads + Wait + Sync>(mut self, rt: &R) -> (CardConnections<'a, S>, Outcome)
+    pub fn ran<R: Threads + Wait + Sync>(
+        mut self,
+        rt: &R,
+        alloc: Global,
+    ) -> (CardConnections<'a, S>, Outcome)
         requires { CardRan S.left S.taken S.faults self self [] }
         ensures { EndsSo card (CardRan S.left S.taken S.faults self.entry result.0) result.1 }
     {
-        let how = self.run(rt);
+        let how = self.run(rt, alloc);
         (self, how)
     }
 

@@ -13,6 +13,7 @@ use resource_mon::{DiskResource, DiskSeat};
 use slot_buffer::{RecvEnd, SlotGate};
 use solo_base::{Feed, Outcome};
 use solo_devices::{Area, Moved};
+use std::alloc::Global;
 use std::sync::Wait;
 use std::thread::Threads;
 
@@ -39,11 +40,11 @@ pub struct InputEnds<'a, A: Area + Send> {
 
 impl<'a, A: Area + Send> InputConnections<'a, A> {
     /// Runs the input process up to its end.
-    fn run<R: Threads + Wait + Sync>(&mut self, rt: &R) -> Outcome
+    fn run<R: Threads + Wait + Sync>(&mut self, rt: &R, alloc: Global) -> Outcome
         requires { InputRan A.size self.old self.old [] }
         ensures { EndsSo input (InputRan A.size self.old self.new) result }
     {
-        run_to_end!(self, InputWork, rt)
+        run_to_end!(self, InputWork, rt, alloc)
     }
 
     /// Performs an action of the process, and waits where the other side of a buffer isn't ready.
@@ -93,7 +94,7 @@ impl<'a, A: Area + Send> InputConnections<'a, A> {
 
 impl<'a, A: Area + Send> InputEnds<'a, A> {
     /// Runs the input process up to its end.
-    pub fn ran<R: Threads + Wait + Sync>(self, rt: &R) -> (InputEnds<'a, A>, Outcome)
+    pub fn ran<R: Threads + Wait + Sync>(self, rt: &R, alloc: Global) -> (InputEnds<'a, A>, Outcome)
         requires { InputRan A.size (input_connected self) (input_connected self) [] }
         ensures { EndsSo input (InputRan A.size (input_connected self.entry) (input_connected result.0)) result.1 }
     {
@@ -112,7 +113,7 @@ impl<'a, A: Area + Send> InputEnds<'a, A> {
             pages,
             desk: Desk::new(disk, seat),
         };
-        let how = connections.run(rt);
+        let how = connections.run(rt, alloc);
         let InputConnections {
             cards_gate,
             cards,

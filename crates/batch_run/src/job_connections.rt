@@ -12,6 +12,7 @@ use disk_spool::{Fetched, SpoolGate, SpoolRecv, SpoolSend};
 use resource_mon::{DiskResource, DiskSeat};
 use solo_base::{Outcome, Page};
 use solo_devices::{Area, Moved};
+use std::alloc::Global;
 use std::sync::Wait;
 use std::thread::Threads;
 
@@ -38,11 +39,11 @@ pub struct JobEnds<'a, A: Area + Send, B: Area + Send> {
 
 impl<'a, A: Area + Send, B: Area + Send> JobConnections<'a, A, B> {
     /// Runs the job process up to its end.
-    fn run<R: Threads + Wait + Sync>(&mut self, rt: &R) -> Outcome
+    fn run<R: Threads + Wait + Sync>(&mut self, rt: &R, alloc: Global) -> Outcome
         requires { JobRan A.size B.size self.old self.old [] }
         ensures { EndsSo job (JobRan A.size B.size self.old self.new) result }
     {
-        run_to_end!(self, JobWork, rt)
+        run_to_end!(self, JobWork, rt, alloc)
     }
 
     /// Performs an action of the process, and waits where the other side of a buffer isn't ready.
@@ -103,7 +104,11 @@ impl<'a, A: Area + Send, B: Area + Send> JobConnections<'a, A, B> {
 
 impl<'a, A: Area + Send, B: Area + Send> JobEnds<'a, A, B> {
     /// Runs the job process up to its end.
-    pub fn ran<R: Threads + Wait + Sync>(self, rt: &R) -> (JobEnds<'a, A, B>, Outcome)
+    pub fn ran<R: Threads + Wait + Sync>(
+        self,
+        rt: &R,
+        alloc: Global,
+    ) -> (JobEnds<'a, A, B>, Outcome)
         requires { JobRan A.size B.size (job_connected self) (job_connected self) [] }
         ensures { EndsSo job (JobRan A.size B.size (job_connected self.entry) (job_connected result.0)) result.1 }
     {
@@ -122,7 +127,7 @@ impl<'a, A: Area + Send, B: Area + Send> JobEnds<'a, A, B> {
             pages,
             desk: Desk::new(disk, seat),
         };
-        let how = connections.run(rt);
+        let how = connections.run(rt, alloc);
         let JobConnections {
             cards_gate,
             cards,

@@ -13,6 +13,7 @@ use resource_mon::{DiskResource, DiskSeat};
 use slot_buffer::{SendEnd, SlotGate};
 use solo_base::{Feed, Outcome, Page};
 use solo_devices::Area;
+use std::alloc::Global;
 use std::sync::Wait;
 use std::thread::Threads;
 
@@ -39,11 +40,11 @@ pub struct OutputEnds<'a, B: Area + Send> {
 
 impl<'a, B: Area + Send> OutputConnections<'a, B> {
     /// Runs the output process up to its end.
-    fn run<R: Threads + Wait + Sync>(&mut self, rt: &R) -> Outcome
+    fn run<R: Threads + Wait + Sync>(&mut self, rt: &R, alloc: Global) -> Outcome
         requires { OutputRan B.size self.old self.old [] }
         ensures { EndsSo output (OutputRan B.size self.old self.new) result }
     {
-        run_to_end!(self, OutputWork, rt)
+        run_to_end!(self, OutputWork, rt, alloc)
     }
 
     /// Performs an action of the process, and waits where the other side of a buffer isn't ready.
@@ -98,7 +99,11 @@ impl<'a, B: Area + Send> OutputConnections<'a, B> {
 
 impl<'a, B: Area + Send> OutputEnds<'a, B> {
     /// Runs the output process up to its end.
-    pub fn ran<R: Threads + Wait + Sync>(self, rt: &R) -> (OutputEnds<'a, B>, Outcome)
+    pub fn ran<R: Threads + Wait + Sync>(
+        self,
+        rt: &R,
+        alloc: Global,
+    ) -> (OutputEnds<'a, B>, Outcome)
         requires { OutputRan B.size (output_connected self) (output_connected self) [] }
         ensures { EndsSo output (OutputRan B.size (output_connected self.entry) (output_connected result.0)) result.1 }
     {
@@ -117,7 +122,7 @@ impl<'a, B: Area + Send> OutputEnds<'a, B> {
             lines,
             desk: Desk::new(disk, seat),
         };
-        let how = connections.run(rt);
+        let how = connections.run(rt, alloc);
         let OutputConnections {
             pages_gate,
             pages,

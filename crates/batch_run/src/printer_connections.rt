@@ -11,6 +11,7 @@ use core_net::print;
 use slot_buffer::{Ended, RecvEnd, SlotGate};
 use solo_base::{Feed, Outcome};
 use solo_devices::{PrinterUnit, Sink};
+use std::alloc::Global;
 use std::sync::Wait;
 use std::thread::Threads;
 
@@ -24,19 +25,23 @@ pub struct PrinterConnections<'a, K: Sink + Drop> {
 
 impl<'a, K: Sink + Drop> PrinterConnections<'a, K> {
     /// Runs the printer process up to its end.
-    pub fn run<R: Threads + Wait + Sync>(&mut self, rt: &R) -> Outcome
+    pub fn run<R: Threads + Wait + Sync>(&mut self, rt: &R, alloc: Global) -> Outcome
         requires { PrinterRan K.given K.faults self.old self.old [] }
         ensures { EndsSo printer (PrinterRan K.given K.faults self.old self.new) result }
     {
-        run_to_end!(self, PrinterWork, rt)
+        run_to_end!(self, PrinterWork, rt, alloc)
     }
 
     /// The same, and hands the connections back.
-    pub fn ran<R: Threads + Wait + Sync>(mut self, rt: &R) -> (PrinterConnections<'a, K>, Outcome)
+    pub fn ran<R: Threads + Wait + Sync>(
+        mut self,
+        rt: &R,
+        alloc: Global,
+    ) -> (PrinterConnections<'a, K>, Outcome)
         requires { PrinterRan K.given K.faults self self [] }
         ensures { EndsSo printer (PrinterRan K.given K.faults self.entry result.0) result.1 }
     {
-        let how = self.run(rt);
+        let how = self.run(rt, alloc);
         (self, how)
     }
 

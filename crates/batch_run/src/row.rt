@@ -14,6 +14,7 @@ use crate::output_connections::OutputEnds;
 use crate::printer_connections::PrinterConnections;
 use solo_base::Outcome;
 use solo_devices::{Area, Sink, Source};
+use std::alloc::Global;
 use std::sync::Wait;
 use std::thread::{Threads, join};
 
@@ -41,6 +42,7 @@ pub struct RowEnded<'a, S: Source + Drop, K: Sink + Drop, A: Area + Send, B: Are
 /// Runs the card and the input process side by side.
 pub fn run_front<'a, 'b, S: Source + Drop + Send, A: Area + Send, R: Threads + Wait + Sync>(
     rt: &R,
+    alloc: Global,
     cards: CardConnections<'a, S>,
     pages: InputEnds<'b, A>,
 ) -> (Ended<CardConnections<'a, S>>, Ended<InputEnds<'b, A>>)
@@ -52,17 +54,18 @@ pub fn run_front<'a, 'b, S: Source + Drop + Send, A: Area + Send, R: Threads + W
         move || -> Ended<CardConnections<S>>
             requires { CardRan S.left S.taken S.faults cards cards [] }
             ensures { EndsSo card (CardRan S.left S.taken S.faults cards.entry result.0) result.1 }
-        { cards.ran(rt) },
+        { cards.ran(rt, alloc) },
         move || -> Ended<InputEnds<A>>
             requires { InputRan A.size (input_connected pages) (input_connected pages) [] }
             ensures { EndsSo input (InputRan A.size (input_connected pages.entry) (input_connected result.0)) result.1 }
-        { pages.ran(rt) },
+        { pages.ran(rt, alloc) },
     )
 }
 
 /// Runs the output and the printer process side by side.
 pub fn run_back<'a, 'b, K: Sink + Drop + Send, B: Area + Send, R: Threads + Wait + Sync>(
     rt: &R,
+    alloc: Global,
     lines: OutputEnds<'a, B>,
     paper: PrinterConnections<'b, K>,
 ) -> (Ended<OutputEnds<'a, B>>, Ended<PrinterConnections<'b, K>>)
@@ -74,11 +77,11 @@ pub fn run_back<'a, 'b, K: Sink + Drop + Send, B: Area + Send, R: Threads + Wait
         move || -> Ended<OutputEnds<B>>
             requires { OutputRan B.size (output_connected lines) (output_connected lines) [] }
             ensures { EndsSo output (OutputRan B.size (output_connected lines.entry) (output_connected result.0)) result.1 }
-        { lines.ran(rt) },
+        { lines.ran(rt, alloc) },
         move || -> Ended<PrinterConnections<K>>
             requires { PrinterRan K.given K.faults paper paper [] }
             ensures { EndsSo printer (PrinterRan K.given K.faults paper.entry result.0) result.1 }
-        { paper.ran(rt) },
+        { paper.ran(rt, alloc) },
     )
 }
 
@@ -93,6 +96,7 @@ pub fn run_rest<
     R: Threads + Wait + Sync,
 >(
     rt: &R,
+    alloc: Global,
     jobs: JobEnds<'a, A, B>,
     lines: OutputEnds<'b, B>,
     paper: PrinterConnections<'c, K>,
@@ -108,11 +112,11 @@ pub fn run_rest<
         move || -> Ended<JobEnds<A, B>>
             requires { JobRan A.size B.size (job_connected jobs) (job_connected jobs) [] }
             ensures { EndsSo job (JobRan A.size B.size (job_connected jobs.entry) (job_connected result.0)) result.1 }
-        { jobs.ran(rt) },
+        { jobs.ran(rt, alloc) },
         move || -> (Ended<OutputEnds<B>>, Ended<PrinterConnections<K>>)
             requires { BackBegins K.given K.faults B.size lines paper }
             ensures { BackRan K.given K.faults B.size lines.entry paper.entry result }
-        { run_back(rt, lines, paper) },
+        { run_back(rt, alloc, lines, paper) },
     )
 }
 
@@ -124,7 +128,7 @@ pub fn run_five<
     A: Area + Send,
     B: Area + Send,
     R: Threads + Wait + Sync,
->(rt: &R, row: Row<'a, S, K, A, B>) -> RowEnded<'a, S, K, A, B>
+>(rt: &R, alloc: Global, row: Row<'a, S, K, A, B>) -> RowEnded<'a, S, K, A, B>
     requires { RowBegins S.left S.taken S.faults K.given K.faults A.size B.size row }
     ensures { RowRan S.left S.taken S.faults K.given K.faults A.size B.size row.entry result }
 {
@@ -140,14 +144,14 @@ pub fn run_five<
         move || -> (Ended<CardConnections<S>>, Ended<InputEnds<A>>)
             requires { FrontBegins S.left S.taken S.faults A.size cards pages }
             ensures { FrontRan S.left S.taken S.faults A.size cards.entry pages.entry result }
-        { run_front(rt, cards, pages) },
+        { run_front(rt, alloc, cards, pages) },
         move || -> (
             Ended<JobEnds<A, B>>,
             (Ended<OutputEnds<B>>, Ended<PrinterConnections<K>>),
         )
             requires { RestBegins K.given K.faults A.size B.size jobs lines paper }
             ensures { RestRan K.given K.faults A.size B.size jobs.entry lines.entry paper.entry result }
-        { run_rest(rt, jobs, lines, paper) },
+        { run_rest(rt, alloc, jobs, lines, paper) },
     );
     RowEnded { front, rest }
 }

@@ -8,8 +8,8 @@ use solo_base::Outcome;
 /// Runs the machine of a process over its connections up to its end. It stands in a function of each of the
 /// connections, since what they send to a thread isn't known behind a trait.
 macro_rules! run_to_end {
-    ($connections:expr, $work:ty, $rt:expr) => {{
-        let mut machine = Machine::<$work>::new();
+    ($connections:expr, $work:ty, $rt:expr, $alloc:expr) => {{
+        let mut machine = Machine::<$work>::new($alloc);
         for _ in $rt.forever() {
             let action = machine.next();
             let end = end_of(&action);

@@ -48,7 +48,7 @@ fn run(rt: &HostRuntime, lists: u32, time: &mut u128) -> Result<Counts> {
         .ok()
         .context("no memory")?;
     let paper = SureSink::new(rt.alloc());
-    let mut net = Net::make(source, input, output, paper);
+    let mut net = Net::make(rt.alloc(), source, input, output, paper);
     let began = rt.thread_cpu_time()?;
     let counts = net.run(Rule::Numbered { number: SCHEDULE });
     let took = rt

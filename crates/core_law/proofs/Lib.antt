@@ -13,6 +13,10 @@ pub mod Outcomes
 pub mod Answers
 pub mod Handed
 pub mod NeverStuck
+pub mod PrintedTexts
+pub mod NamedOpeners
+pub mod NoteLines
+pub mod ProgramLines
 pub mod ReportLines
 pub mod RoundTrip
 pub mod Passing

@@ -241,34 +241,34 @@ same-inside : (t m n s : ℕ) → t + m ≡ s → t + n ≡ s → n ≡ m
 same-inside t m n s a b = omega (arith, a, b)
 
 -- by the number of the process: what it takes, it itself, and what it puts
-total-1 : (r s a b a2 a3 a4 a5 m1 n1 m2 n2 m3 n3 m4 n4 takes puts c : ℕ) → b + 11582430 * puts + c ≤ a + 11582440 * takes → s + takes ≤ r → n1 ≡ m1 + puts
+total-1 : (r s a b a2 a3 a4 a5 m1 n1 m2 n2 m3 n3 m4 n4 takes puts c : ℕ) → b + 1559765220000000000015 * puts + c ≤ a + 1559765220000000000025 * takes → s + takes ≤ r → n1 ≡ m1 + puts
     → n2 ≡ m2 → n3 ≡ m3 → n4 ≡ m4
-    → 11582440 * s + (b + a2 + a3 + a4 + a5) + (11582430 * n1 + 11582420 * n2 + 7610 * n3 + 10 * n4) + c
-    ≤ 11582440 * r + (a + a2 + a3 + a4 + a5) + (11582430 * m1 + 11582420 * m2 + 7610 * m3 + 10 * m4)
+    → 1559765220000000000025 * s + (b + a2 + a3 + a4 + a5) + (1559765220000000000015 * n1 + 1559765220000000000005 * n2 + 7610 * n3 + 10 * n4) + c
+    ≤ 1559765220000000000025 * r + (a + a2 + a3 + a4 + a5) + (1559765220000000000015 * m1 + 1559765220000000000005 * m2 + 7610 * m3 + 10 * m4)
 total-1 r s a b a2 a3 a4 a5 m1 n1 m2 n2 m3 n3 m4 n4 takes puts c falls deck one two three four = omega (arith, falls, deck, one, two, three, four)
 
-total-2 : (r s a b a1 a3 a4 a5 m1 n1 m2 n2 m3 n3 m4 n4 takes puts c : ℕ) → b + 11582420 * puts + c ≤ a + 11582430 * takes → s ≡ r → n1 + takes ≡ m1
+total-2 : (r s a b a1 a3 a4 a5 m1 n1 m2 n2 m3 n3 m4 n4 takes puts c : ℕ) → b + 1559765220000000000005 * puts + c ≤ a + 1559765220000000000015 * takes → s ≡ r → n1 + takes ≡ m1
     → n2 ≡ m2 + puts → n3 ≡ m3 → n4 ≡ m4
-    → 11582440 * s + (a1 + b + a3 + a4 + a5) + (11582430 * n1 + 11582420 * n2 + 7610 * n3 + 10 * n4) + c
-    ≤ 11582440 * r + (a1 + a + a3 + a4 + a5) + (11582430 * m1 + 11582420 * m2 + 7610 * m3 + 10 * m4)
+    → 1559765220000000000025 * s + (a1 + b + a3 + a4 + a5) + (1559765220000000000015 * n1 + 1559765220000000000005 * n2 + 7610 * n3 + 10 * n4) + c
+    ≤ 1559765220000000000025 * r + (a1 + a + a3 + a4 + a5) + (1559765220000000000015 * m1 + 1559765220000000000005 * m2 + 7610 * m3 + 10 * m4)
 total-2 r s a b a1 a3 a4 a5 m1 n1 m2 n2 m3 n3 m4 n4 takes puts c falls deck one two three four = omega (arith, falls, deck, one, two, three, four)
 
-total-3 : (r s a b a1 a2 a4 a5 m1 n1 m2 n2 m3 n3 m4 n4 takes puts c : ℕ) → b + 7610 * puts + c ≤ a + 11582420 * takes → s ≡ r → n1 ≡ m1
+total-3 : (r s a b a1 a2 a4 a5 m1 n1 m2 n2 m3 n3 m4 n4 takes puts c : ℕ) → b + 7610 * puts + c ≤ a + 1559765220000000000005 * takes → s ≡ r → n1 ≡ m1
     → n2 + takes ≡ m2 → n3 ≡ m3 + puts → n4 ≡ m4
-    → 11582440 * s + (a1 + a2 + b + a4 + a5) + (11582430 * n1 + 11582420 * n2 + 7610 * n3 + 10 * n4) + c
-    ≤ 11582440 * r + (a1 + a2 + a + a4 + a5) + (11582430 * m1 + 11582420 * m2 + 7610 * m3 + 10 * m4)
+    → 1559765220000000000025 * s + (a1 + a2 + b + a4 + a5) + (1559765220000000000015 * n1 + 1559765220000000000005 * n2 + 7610 * n3 + 10 * n4) + c
+    ≤ 1559765220000000000025 * r + (a1 + a2 + a + a4 + a5) + (1559765220000000000015 * m1 + 1559765220000000000005 * m2 + 7610 * m3 + 10 * m4)
 total-3 r s a b a1 a2 a4 a5 m1 n1 m2 n2 m3 n3 m4 n4 takes puts c falls deck one two three four = omega (arith, falls, deck, one, two, three, four)
 
 total-4 : (r s a b a1 a2 a3 a5 m1 n1 m2 n2 m3 n3 m4 n4 takes puts c : ℕ) → b + 10 * puts + c ≤ a + 7610 * takes → s ≡ r → n1 ≡ m1
     → n2 ≡ m2 → n3 + takes ≡ m3 → n4 ≡ m4 + puts
-    → 11582440 * s + (a1 + a2 + a3 + b + a5) + (11582430 * n1 + 11582420 * n2 + 7610 * n3 + 10 * n4) + c
-    ≤ 11582440 * r + (a1 + a2 + a3 + a + a5) + (11582430 * m1 + 11582420 * m2 + 7610 * m3 + 10 * m4)
+    → 1559765220000000000025 * s + (a1 + a2 + a3 + b + a5) + (1559765220000000000015 * n1 + 1559765220000000000005 * n2 + 7610 * n3 + 10 * n4) + c
+    ≤ 1559765220000000000025 * r + (a1 + a2 + a3 + a + a5) + (1559765220000000000015 * m1 + 1559765220000000000005 * m2 + 7610 * m3 + 10 * m4)
 total-4 r s a b a1 a2 a3 a5 m1 n1 m2 n2 m3 n3 m4 n4 takes puts c falls deck one two three four = omega (arith, falls, deck, one, two, three, four)
 
 total-5 : (r s a b a1 a2 a3 a4 m1 n1 m2 n2 m3 n3 m4 n4 takes puts c : ℕ) → b + 0 * puts + c ≤ a + 10 * takes → s ≡ r → n1 ≡ m1
     → n2 ≡ m2 → n3 ≡ m3 → n4 + takes ≡ m4
-    → 11582440 * s + (a1 + a2 + a3 + a4 + b) + (11582430 * n1 + 11582420 * n2 + 7610 * n3 + 10 * n4) + c
-    ≤ 11582440 * r + (a1 + a2 + a3 + a4 + a) + (11582430 * m1 + 11582420 * m2 + 7610 * m3 + 10 * m4)
+    → 1559765220000000000025 * s + (a1 + a2 + a3 + a4 + b) + (1559765220000000000015 * n1 + 1559765220000000000005 * n2 + 7610 * n3 + 10 * n4) + c
+    ≤ 1559765220000000000025 * r + (a1 + a2 + a3 + a4 + a) + (1559765220000000000015 * m1 + 1559765220000000000005 * m2 + 7610 * m3 + 10 * m4)
 total-5 r s a b a1 a2 a3 a4 m1 n1 m2 n2 m3 n3 m4 n4 takes puts c falls deck one two three four = omega (arith, falls, deck, one, two, three, four)
 
 buffer-is : (b : ℕ) → 1 ≤ b → b < 5 → IsBuffer b

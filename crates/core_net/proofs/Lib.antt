@@ -16,3 +16,4 @@ pub mod Picking
 mod Counted
 mod FaultsCounted
 mod WholeRuns
+mod Within

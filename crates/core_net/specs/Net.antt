@@ -94,7 +94,7 @@ pub record StepsNet {S K A B : Type 0} (keeps : Keeps) (tells : Tells S K A B) (
 
 -- no run from an opening has more events
 abbrev pub most_events : ℕ
-most_events = 1000000000000000
+most_events = 200000000000000000000000000000
 
 -- The network stands for a state that is reached from this opening.
 pub record StandsReached {S K A B : Type 0} (keeps : Keeps) (tells : Tells S K A B) (net : Net S K A B)

@@ -48,6 +48,12 @@ pub record RunsBy {S K A B : Type 0} (keeps : Keeps) (tells : Tells S K A B) (ru
   pub counts_are : counts ≡ counts_of s events
   pub stands : NetStands keeps tells new (run (core process) s events)
 
+-- No run counts more.
+pub record AreFew (counts : Counts) : Type 0 where
+  pub events : counts.events ≤ most_events
+  pub delays : counts.delays ≤ counts.events
+  pub grants : counts.grants ≤ counts.events
+
 -- The network stands for a reached state, and with so many events behind it no run has more than it may.
 pub record HasLeft {S K A B : Type 0} (keeps : Keeps) (tells : Tells S K A B) (net : Net S K A B)
     (events : ℕ) : Type 0 where

@@ -13,14 +13,17 @@ ghost use Rattle.core_net.specs.Causes.{counting};
 ghost use Rattle.core_net.specs.Ended.{all_done, EndTogether, FaultsAre, NoneDamaged};
 ghost use Rattle.core_net.specs.Faults.{FaultsAreCounted};
 ghost use Rattle.core_net.specs.Openings.{spools_over};
+ghost use Rattle.core_net.specs.Runs.{AreFew};
 ghost use Rattle.core_net.specs.WholeRuns.{RunsToEnd};
 
 use crate::{Counts, Net, Ran, Rule};
 use solo_devices::{Area, Sink, Source};
+use std::alloc::Global;
 
 /// Runs a deck of which nothing was read to the paper, over an area of 1 to 256 pages for each spool. A rule
 /// picks the process that steps next, until all five have ended.
 pub fn run_core<S: Source, K: Sink, A: Area, B: Area>(
+    alloc: Global,
     source: S,
     input: A,
     output: B,
@@ -74,8 +77,9 @@ pub fn run_core<S: Source, K: Sink, A: Area, B: Area>(
         items_ahead (S.left source) [] ≡ Some items → AreItems items →
         AreTold (spools_over (A.size input) (A.pages input) (B.size output) (B.pages output)) →
         result.1.events ≤ longest_run items }
+    ensures few { AreFew result.1 }
 {
-    let mut net = Net::make(source, input, output, sink);
+    let mut net = Net::make(alloc, source, input, output, sink);
     let counts = net.run(rule);
     (net.finish(), counts)
 }

@@ -4,15 +4,15 @@ ghost use Rattle.core_net.specs.Counting.{counted_by, delays_by, grants_by};
 use crate::Stepped;
 use solo_base::ProcNo;
 
-/// What a run counts.
+/// What a run counts. The programs of a deck may print so many lines that 64 bits don't hold the events.
 #[derive(Clone, Copy, Debug, PartialEq, Eq)]
 pub struct Counts {
     /// All its events.
-    pub events: u64,
+    pub events: u128,
     /// Those that ended in a delay.
-    pub delays: u64,
+    pub delays: u128,
     /// The requests for the disk that were granted, at once or by a release.
-    pub grants: u64,
+    pub grants: u128,
 }
 
 impl Counts {
@@ -34,7 +34,7 @@ impl Counts {
         before: Option<ProcNo>,
         after: Option<ProcNo>,
     ) -> Counts
-        requires few { self.events + 1 < 2 ^ 64 }
+        requires few { self.events + 1 < 2 ^ 128 }
         requires delays { self.delays ≤ self.events }
         requires grants { self.grants ≤ self.events }
         ensures counted { result ≡ counted_by self stepped before after }
@@ -50,7 +50,7 @@ impl Counts {
 }
 
 // A delay, or none.
-fn delays(stepped: Stepped) -> u64
+fn delays(stepped: Stepped) -> u128
     ensures counted { result ≡ delays_by stepped }
     ensures few { result ≤ 1 }
 {
@@ -61,13 +61,13 @@ fn delays(stepped: Stepped) -> u64
 }
 
 // A grant of the disk, or none.
-fn grants(before: Option<ProcNo>, after: Option<ProcNo>) -> u64
+fn grants(before: Option<ProcNo>, after: Option<ProcNo>) -> u128
     ensures counted { result ≡ grants_by before after }
     ensures few { result ≤ 1 }
 {
     match (before, after) {
         (_, None) => 0,
         (None, Some(_)) => 1,
-        (Some(old), Some(new)) => u64::from(old != new),
+        (Some(old), Some(new)) => u128::from(old != new),
     }
 }

@@ -21,6 +21,7 @@ use crate::{Shared, Stepped};
 use batch_procs::{CardProc, InputProc, JobProc, Machine, OutputProc, PrinterProc};
 use solo_base::ProcNo;
 use solo_devices::{Area, Sink, Source};
+use std::alloc::Global;
 
 /// The network of the Job Stream System, which is stepped one event at a time. It keeps no histories:
 /// contracts say which states of the core it stands for.
@@ -38,7 +39,7 @@ impl<S: Source, K: Sink, A: Area, B: Area> Net<S, K, A, B> {
     /// The network before its first step: a deck of which nothing was read, and an area of 1 to 256 pages
     /// for each
     /// spool.
-    pub fn make(source: S, input: A, output: B, sink: K) -> Self
+    pub fn make(alloc: Global, source: S, input: A, output: B, sink: K) -> Self
         requires unread { S.taken source ≡ 0 }
         requires input_some { 0 < A.size input }
         requires input_few { A.size input ≤ 256 }
@@ -65,11 +66,11 @@ impl<S: Source, K: Sink, A: Area, B: Area> Net<S, K, A, B> {
             (items_ahead (S.left source) []) (K.given sink)) ≤ most_events }
     {
         Net {
-            card: Machine::new(),
-            input: Machine::new(),
-            job: Machine::new(),
-            output: Machine::new(),
-            printer: Machine::new(),
+            card: Machine::new(alloc),
+            input: Machine::new(alloc),
+            job: Machine::new(alloc),
+            output: Machine::new(alloc),
+            printer: Machine::new(alloc),
             shared: Shared::make(source, input, output, sink),
         }
     }

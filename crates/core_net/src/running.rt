@@ -14,7 +14,7 @@ ghost use Rattle.core_net.specs.Faults.{Peripherals, CausesAreCounted};
 ghost use Rattle.core_net.specs.Going.{MayGo};
 ghost use Rattle.core_net.specs.Net.{MayStepNet, NetStands, StandsReached, StandsSomewhere, the_keeps};
 ghost use Rattle.core_net.specs.Rules.{behind};
-ghost use Rattle.core_net.specs.Runs.{AreGoing, IsPicked, RunsBy, TurnTaken};
+ghost use Rattle.core_net.specs.Runs.{AreFew, AreGoing, IsPicked, RunsBy, TurnTaken};
 ghost use Rattle.core_net.specs.Shared.{telling};
 
 use crate::{Counts, Net, Rule};
@@ -33,6 +33,7 @@ impl<S: Source, K: Sink, A: Area, B: Area> Net<S, K, A, B> {
             NetStands the_keeps (telling S.left S.taken K.given A.pages B.pages) self.old s →
             RunsBy the_keeps (telling S.left S.taken K.given A.pages B.pages) rule self.new s result }
         ensures ended { HaveEnded the_keeps (telling S.left S.taken K.given A.pages B.pages) self.new }
+        ensures few { AreFew result }
 
         // Over told devices it has no more events than the cards and lines of the deck allow.
         ensures bound { (spools : Spools) (deck : Option (List Item)) (paper : Option (List ℕ))
@@ -74,6 +75,7 @@ impl<S: Source, K: Sink, A: Area, B: Area> Net<S, K, A, B> {
             RunsBy the_keeps (telling S.left S.taken K.given A.pages B.pages)
             (rule.Numbered number) self.new s result }
         ensures ended { HaveEnded the_keeps (telling S.left S.taken K.given A.pages B.pages) self.new }
+        ensures few { AreFew result }
 
         // Over told devices it has no more events than the cards and lines of the deck allow.
         ensures bound { (spools : Spools) (deck : Option (List Item)) (paper : Option (List ℕ))
@@ -138,7 +140,7 @@ impl<S: Source, K: Sink, A: Area, B: Area> Net<S, K, A, B> {
     /// Lets a process take its turn, and counts it.
     fn take_turn(&mut self, p: ProcNo, counts: &mut Counts)
         requires may { MayStepNet the_keeps (telling S.left S.taken K.given A.pages B.pages) self.old p }
-        requires few { counts.old.events + 1 < 2 ^ 64 }
+        requires few { counts.old.events + 1 < 2 ^ 128 }
         requires delays { counts.old.delays ≤ counts.old.events }
         requires grants { counts.old.grants ≤ counts.old.events }
         ensures turn { (spools : Spools) (deck : Option (List Item)) (paper : Option (List ℕ))

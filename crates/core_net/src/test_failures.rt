@@ -100,7 +100,7 @@ fn network(
     .ok()
     .expect(rt, "ample memory");
     let paper = MemSink::new(alloc, calls(alloc, print)?);
-    Ok(Net::make(source, input, output, paper))
+    Ok(Net::make(alloc, source, input, output, paper))
 }
 
 const DECK: &str = "#LIST A\n1\n2\n#END\nSTRAY\n#LIST B\n3\n";
@@ -200,7 +200,7 @@ fn a_zero_page_is_damaged(rt: HostRuntime) -> Result<(), Fail> {
     let source = MemSource::new(DECK.as_bytes().to_vec(alloc)?, 7, Vec::new(alloc));
     let output = SureArea::new(alloc, 4).ok().expect(&rt, "ample memory");
     let paper = MemSink::new(alloc, Vec::new(alloc));
-    let mut net = Net::make(source, BlankArea::new(4), output, paper);
+    let mut net = Net::make(alloc, source, BlankArea::new(4), output, paper);
     net.run(Rule::Cyclic { last: 5 });
     let Ran {
         outcomes,

@@ -39,7 +39,7 @@ fn run(
         .ok()
         .expect(rt, "ample memory");
     let paper = MemSink::new(alloc, Vec::new(alloc));
-    Ok(run_core(source, input, output, paper, rule))
+    Ok(run_core(alloc, source, input, output, paper, rule))
 }
 
 // What a run counts; its paper is this one.
@@ -70,7 +70,7 @@ const LISTING: &str = "#LIST A\nHELLO\n#END\n";
 
 const LISTED: &str = "JOB A\nHELLO\nA: LISTED 1 CARDS\n";
 
-fn counted(events: u64, delays: u64, grants: u64) -> Counts {
+fn counted(events: u128, delays: u128, grants: u128) -> Counts {
     Counts {
         events,
         delays,

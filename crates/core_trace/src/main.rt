@@ -34,7 +34,8 @@ fn main(rt: HostRuntime) -> Result<()> {
         .ok()
         .context("no memory")?;
     let paper = SureSink::new(rt.alloc());
-    let mut net = Net::make(ReaderSource::new(rt.reader()), input, output, paper);
+    let source = ReaderSource::new(rt.reader());
+    let mut net = Net::make(rt.alloc(), source, input, output, paper);
     println!(rt; "{}", row::HEAD)?;
     let counts = trace::trace(&rt, &mut net, asked)?;
     let Counts {

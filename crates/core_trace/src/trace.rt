@@ -77,7 +77,7 @@ fn counted(counts: Counts, event: &Event) -> Counts {
     let asks = matches!(event.action, Action::Request);
     Counts {
         events: counts.events.saturating_add(1),
-        delays: counts.delays.saturating_add(u64::from(waits)),
-        grants: counts.grants.saturating_add(u64::from(asks && !waits)),
+        delays: counts.delays.saturating_add(u128::from(waits)),
+        grants: counts.grants.saturating_add(u128::from(asks && !waits)),
     }
 }

@@ -14,11 +14,13 @@ ghost use Rattle.schedule_law.specs.Undisturbed.{AreItsCounts};
 
 use core_net::{Counts, Net, Ran};
 use solo_devices::{Area, Sink, Source};
+use std::alloc::Global;
 
 /// Runs a deck of which nothing was read to the paper under the schedule of a number, over an area of 1 to
 /// 256 pages for each spool. Over told devices the answer has the counts of the one run of this schedule,
 /// where no device failed and no memory was refused.
 pub fn run_schedule<S: Source, K: Sink, A: Area, B: Area>(
+    alloc: Global,
     source: S,
     input: A,
     output: B,
@@ -51,7 +53,7 @@ pub fn run_schedule<S: Source, K: Sink, A: Area, B: Area>(
         (items_ahead (S.left source) [])
         (K.given sink)) result.1 }
 {
-    let mut net = Net::make(source, input, output, sink);
+    let mut net = Net::make(alloc, source, input, output, sink);
     let counts = net.run_numbered(number);
     (net.finish(), counts)
 }

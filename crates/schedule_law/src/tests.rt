@@ -21,7 +21,7 @@ fn a_listing_is_counted(rt: HostRuntime) -> Result<(), Fail> {
     let input = SureArea::new(alloc, 256).ok().expect(&rt, "ample memory");
     let output = SureArea::new(alloc, 256).ok().expect(&rt, "ample memory");
     let paper = MemSink::new(alloc, Vec::new(alloc));
-    let (ran, counts) = run_schedule(source, input, output, paper, 7);
+    let (ran, counts) = run_schedule(alloc, source, input, output, paper, 7);
     assert_eq!(rt; ran.outcomes, DONE);
     let wanted = Counts {
         events: 54,

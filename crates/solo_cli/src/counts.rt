@@ -1,32 +1,36 @@
-ghost use Rattle.std.specs.Prelude.{◌≡◌, ◌+◌, ◌≤◌, ◌++◌, length};
+ghost use Rattle.std.specs.Prelude.{◌≡◌, ◌+◌, ◌≤◌, ◌<◌, ◌^◌, ◌++◌, length};
 ghost use Rattle.std.specs.Fmt.{decimal};
+ghost use Rattle.core_net.specs.Runs.{AreFew};
 ghost use Rattle.solo_cli.specs.CountsLine.{counts_line};
 
+use core_net::Counts;
 use itoa::Buffer;
 use solo_base::Line;
 
-/// How many digits a `u64` has at most.
-const COUNT_LENGTH: usize = 20;
+/// How many digits a count has at most.
+const COUNT_LENGTH: usize = 30;
 
 /// The line that tells how many events a run had, how many of them ended in a delay, and how often the disk
 /// was granted.
-pub fn counts_line(events: u64, delays: u64, grants: u64) -> Line
-    ensures { result ≡ counts_line events delays grants }
+pub fn counts_line(counts: Counts) -> Line
+    requires { AreFew counts }
+    ensures { result ≡ counts_line counts.events counts.delays counts.grants }
 {
     let mut line = Line::new();
     line.append(b"COUNTS: ");
-    append_count(&mut line, events);
+    append_count(&mut line, counts.events);
     line.append(b" EVENTS, ");
-    append_count(&mut line, delays);
+    append_count(&mut line, counts.delays);
     line.append(b" DELAYS, ");
-    append_count(&mut line, grants);
+    append_count(&mut line, counts.grants);
     line.append(b" GRANTS");
     line
 }
 
 /// Adds a count at the end, in decimal.
-fn append_count(line: &mut Line, count: u64)
-    requires { length line.old + COUNT_LENGTH ≤ 132 }
+fn append_count(line: &mut Line, count: u128)
+    requires room { length line.old + COUNT_LENGTH ≤ 132 }
+    requires few { count < 10 ^ 30 }
     ensures text { line.new ≡ line.old ++ decimal count }
     ensures short { length line.new ≤ length line.old + COUNT_LENGTH }
 {

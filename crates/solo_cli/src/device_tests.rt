@@ -185,6 +185,9 @@ fn two_lists(alloc: Global) -> Result<(Vec<u8>, Vec<u8>), Fail> {
 /// How many turns a held device waits at most.
 const TURNS: u32 = 1_000_000;
 
+/// The last card.
+const LAST: &[u8] = b"#END\n";
+
 /// Whether the two lists are printed whole by devices of which each waits at most so many turns for the other.
 fn prints_held(
     rt: &(impl Threads + Wait + Sync + AllocGlobal),
@@ -193,11 +196,12 @@ fn prints_held(
 ) -> Result<bool, Fail> {
     let alloc = rt.alloc();
     let (deck, paper) = two_lists(alloc)?;
+    let free = deck.len().saturating_sub(LAST.len());
     let marks = Arc::new(alloc, AtomicU64::new(0))?;
     let ended = run(
         rt,
         &["batch"],
-        HeldSource::new(deck, source_turns, marks.clone()?),
+        HeldSource::new(deck, free, source_turns, marks.clone()?),
         HeldSink::new(alloc, sink_turns, marks),
         sure_area(alloc, 256)?,
         sure_area(alloc, 256)?,
@@ -214,5 +218,62 @@ fn the_last_card_is_read_before_the_first_line_is_printed(rt: HostRuntime) -> Re
 #[test]
 fn the_first_line_is_printed_before_the_last_card_is_read(rt: HostRuntime) -> Result<(), Fail> {
     assert!(rt; prints_held(&rt, TURNS, 0)?);
+    Ok(())
+}
+
+/// A program that copies its input, under a limit of ticks, and 40 cards of it; and how many bytes stand
+/// before the last one.
+fn copying(alloc: Global, limit: &str) -> Result<(Vec<u8>, usize), Fail> {
+    let mut deck = Vec::new(alloc);
+    deck.extend_from_slice(format!(in alloc; "#JOB C {limit}\n")?.as_bytes())?;
+    deck.extend_from_slice(b"VAR C: CHAR;\nBEGIN READ(C);\n")?;
+    deck.extend_from_slice(b"WHILE C <> EM DO BEGIN WRITE(C); READ(C) END\nEND.\n#DATA\n")?;
+    let mut free = 0;
+    for _ in 0..40 {
+        free = deck.len();
+        deck.extend_from_slice([b'D'; 80].as_slice())?;
+        deck.push(b'\n')?;
+    }
+    deck.extend_from_slice(LAST)?;
+    Ok((deck, free))
+}
+
+/// The paper of a copy, with this line at its end.
+fn copied(alloc: Global, end: &str) -> Result<Vec<u8>, Fail> {
+    let mut paper = b"JOB C\n".to_vec(alloc)?;
+    for _ in 0..40 {
+        paper.extend_from_slice([b'D'; 80].as_slice())?;
+        paper.push(b'\n')?;
+    }
+    paper.extend_from_slice(end.as_bytes())?;
+    Ok(paper)
+}
+
+/// Whether the copy is printed so by a deck whose last card comes only once something was printed.
+fn copies_held(
+    rt: &(impl Threads + Wait + Sync + AllocGlobal),
+    limit: &str,
+    end: &str,
+) -> Result<bool, Fail> {
+    let alloc = rt.alloc();
+    let (deck, free) = copying(alloc, limit)?;
+    let marks = Arc::new(alloc, AtomicU64::new(0))?;
+    let ended = run(
+        rt,
+        &["batch"],
+        HeldSource::new(deck, free, TURNS, marks.clone()?),
+        HeldSink::new(alloc, 0, marks),
+        sure_area(alloc, 256)?,
+        sure_area(alloc, 256)?,
+    )?;
+    Ok(ended.status == 0 && ended.paper.bytes() == copied(alloc, end)?.as_slice())
+}
+
+// Each of 3,240 characters takes three ticks, and three more are taken at the ends.
+#[test]
+fn a_program_prints_before_the_last_card_of_its_input_comes(rt: HostRuntime) -> Result<(), Fail> {
+    assert!(rt; copies_held(&rt, "", "C: TERMINATED\n")?);
+    assert!(rt; copies_held(&rt, "9723", "C: TERMINATED\n")?);
+    assert!(rt; copies_held(&rt, "9722", "C: TIME LIMIT IN LINE 3\n")?);
     Ok(())
 }

@@ -7,7 +7,7 @@ use std::sync::Arc;
 use std::sync::atomic::{AtomicU64, Ordering};
 use std::thread::yield_now;
 
-/// The source was asked for its last line.
+/// The source was asked for what it holds back.
 const ASKED: u64 = 1;
 
 /// The sink was given its first piece.
@@ -16,20 +16,21 @@ const GIVEN: u64 = 2;
 /// What a source and a sink tell each other.
 pub type Marks = Arc<AtomicU64, Global>;
 
-/// A source that gives one line in a call. It marks that it is asked for its last line, and then waits for so
-/// many turns, each a yield of its thread, until the sink was given something; else the call fails. With no
-/// turns it waits for nothing.
+/// A source that gives one line in a call. So many bytes come freely. It marks that it is asked for those
+/// behind them, and then waits for so many turns, each a yield of its thread, until the sink was given
+/// something; else the call fails. With no turns it waits for nothing.
 #[derive(Drop)]
 pub struct HeldSource {
     text: Vec<u8>,
     place: usize,
+    free: usize,
     turns: u32,
     marks: Marks,
     taken: u64,
     faults: u64,
 }
 
-/// A sink that waits so until the source was asked for its last line, and marks that it was given a piece.
+/// A sink that waits so until the source was asked for what it holds back. It marks that it was given a piece.
 #[derive(Drop)]
 pub struct HeldSink {
     text: Vec<u8>,
@@ -39,12 +40,13 @@ pub struct HeldSink {
 }
 
 impl HeldSource {
-    pub fn new(text: Vec<u8>, turns: u32, marks: Marks) -> HeldSource
+    pub fn new(text: Vec<u8>, free: usize, turns: u32, marks: Marks) -> HeldSource
         ensures { ⟦<HeldSource as Source>⟧.taken result ≡ 0 }
     {
         HeldSource {
             text,
             place: 0,
+            free,
             turns,
             marks,
             taken: 0,
@@ -52,12 +54,12 @@ impl HeldSource {
         }
     }
 
-    /// The line that is next, with its line feed, and whether it is the last one.
-    fn next_line(&self) -> (&[u8], bool) {
+    /// The line that is next, with its line feed.
+    fn next_line(&self) -> &[u8] {
         let rest = self.text.get(self.place..).unwrap_or(&[]);
         match rest.iter().position(|byte| *byte == b'\n') {
-            Some(end) if end < rest.len() => (&rest[..end + 1], end + 1 == rest.len()),
-            _ => (rest, true),
+            Some(end) if end < rest.len() => &rest[..end + 1],
+            _ => rest,
         }
     }
 }
@@ -71,15 +73,14 @@ impl Source for HeldSource {
 
     fn take(&mut self, piece: &mut [u8]) -> Took {
         let taken = self.taken;
-        let (line, is_last) = self.next_line();
-        if is_last {
+        if self.place >= self.free {
             mark(&self.marks, ASKED);
             if !comes(&self.marks, GIVEN, self.turns) {
                 self.faults = self.faults.saturating_add(1);
                 return Took::Failed;
             }
         }
-        let count = copy(line, piece);
+        let count = copy(self.next_line(), piece);
         self.place = self.place.saturating_add(count);
         self.taken = taken.saturating_add(count as u64);
         Took::Bytes(count)

@@ -18,6 +18,8 @@ mod held;
 #[cfg(test)]
 mod part_tests;
 #[cfg(test)]
+mod program_tests;
+#[cfg(test)]
 mod tests;
 #[cfg(test)]
 mod word_tests;

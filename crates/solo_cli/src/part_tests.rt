@@ -1,6 +1,7 @@
 use crate::counts::counts_line;
 use crate::deciding::decides;
 use crate::held::{HeldSink, HeldSource};
+use core_net::Counts;
 use solo_base::{Cause, Outcome};
 use solo_devices::{Gave, Sink, Source, Took};
 use std::sync::Arc;
@@ -26,14 +27,23 @@ fn the_lowest_fault_decides(rt: HostRuntime) {
 
 #[test]
 fn counts_are_a_line(rt: HostRuntime) {
+    let few = Counts {
+        events: 54,
+        delays: 9,
+        grants: 4,
+    };
     assert_eq!(rt;
-        counts_line(54, 9, 4).bytes(),
+        counts_line(few).bytes(),
         b"COUNTS: 54 EVENTS, 9 DELAYS, 4 GRANTS".as_slice()
     );
-    let most = u64::MAX;
+    let many = Counts {
+        events: 100000000000000000000000000000,
+        delays: 18446744073709551616,
+        grants: 0,
+    };
     assert_eq!(rt;
-        counts_line(0, most, most).bytes(),
-        b"COUNTS: 0 EVENTS, 18446744073709551615 DELAYS, 18446744073709551615 GRANTS".as_slice()
+        counts_line(many).bytes(),
+        b"COUNTS: 100000000000000000000000000000 EVENTS, 18446744073709551616 DELAYS, 0 GRANTS".as_slice()
     );
 }
 
@@ -41,7 +51,7 @@ fn counts_are_a_line(rt: HostRuntime) {
 fn held_devices_wait_for_each_other(rt: HostRuntime) -> Result<(), Fail> {
     let marks = Arc::new(rt.alloc(), AtomicU64::new(0))?;
     let text = b"ONE\nTWO\n".to_vec(rt.alloc())?;
-    let mut source = HeldSource::new(text, 10, marks.clone()?);
+    let mut source = HeldSource::new(text, 4, 10, marks.clone()?);
     let mut sink = HeldSink::new(rt.alloc(), 10, marks);
     let mut piece = [0; 16];
     assert_eq!(rt; source.take(&mut piece), Took::Bytes(4));

@@ -9,6 +9,7 @@ ghost use Rattle.batch_procs.specs.Faults.{IsDamaged};
 ghost use Rattle.core_law.specs.Opening.{opened};
 ghost use Rattle.core_net.specs.Causes.{counting};
 ghost use Rattle.core_net.specs.Openings.{spools_over};
+ghost use Rattle.core_net.specs.Runs.{AreFew};
 ghost use Rattle.solo_cli.specs.Words.{form};
 ghost use Rattle.solo_cli.specs.Decides.{decides, list_of};
 ghost use Rattle.solo_cli.specs.CountsLine.{counts_line};
@@ -89,7 +90,7 @@ pub fn run_command<
             output,
         },
         Some(Command::Batch) => batch(rt, alloc, deck, paper, input, output),
-        Some(Command::Core { schedule }) => core(schedule, deck, paper, input, output),
+        Some(Command::Core { schedule }) => core(alloc, schedule, deck, paper, input, output),
     }
 }
 
@@ -153,6 +154,7 @@ fn refused<S: Source, K: Sink, I: Area, O: Area>(units: Units<S, K, I, O>) -> Do
 // Runs the deck on the core, under the schedule of this number, and prints what it counted.
 #[inline(never)]
 fn core<S: Source, K: Sink, I: Area, O: Area>(
+    alloc: Global,
     schedule: u32,
     deck: S,
     paper: K,
@@ -177,7 +179,7 @@ fn core<S: Source, K: Sink, I: Area, O: Area>(
     ensures known { IfSome result.cause IsRunCause }
 {
     let rule = Rule::Numbered { number: schedule };
-    let (ran, counts) = run_core(deck, input, output, paper, rule);
+    let (ran, counts) = run_core(alloc, deck, input, output, paper, rule);
     let done = came_to(ran);
     match done.cause {
         None => with_counts(done, counts),
@@ -191,6 +193,7 @@ fn with_counts<S: Source, K: Sink, I: Area, O: Area>(
     done: Done<S, K, I, O>,
     counts: Counts,
 ) -> Done<S, K, I, O>
+    requires { AreFew counts }
     ensures line { Gains (K.given done.paper) (K.given result.paper)
         (line_text (counts_line counts.events counts.delays counts.grants)) (result.cause ≡ None) }
     ensures causes { (result.cause ≡ None) ⊎ (result.cause ≡ Some Cause.PrintFault)
@@ -217,6 +220,7 @@ fn with_counts<S: Source, K: Sink, I: Area, O: Area>(
 
 // Prints what a run counted.
 fn print_counts<K: Sink>(paper: K, counts: Counts) -> (Option<Cause>, K)
+    requires { AreFew counts }
     ensures line { Gains (K.given paper) (K.given result.1)
         (line_text (counts_line counts.events counts.delays counts.grants)) (result.0 ≡ None) }
     ensures causes { (result.0 ≡ None) ⊎ (result.0 ≡ Some Cause.PrintFault)
@@ -224,7 +228,7 @@ fn print_counts<K: Sink>(paper: K, counts: Counts) -> (Option<Cause>, K)
     ensures failed { result.0 ≡ Some Cause.PrintFault → Rose (K.faults paper) (K.faults result.1) }
 {
     let mut unit = PrinterUnit::new(paper);
-    let printed = unit.print(&counts_line(counts.events, counts.delays, counts.grants));
+    let printed = unit.print(&counts_line(counts));
     (cause_of(printed), unit.into_inner())
 }
 

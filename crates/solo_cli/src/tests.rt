@@ -8,7 +8,7 @@ use std::sync::Wait;
 use std::test::Fail;
 use std::thread::Threads;
 
-type Ended = Finished<MemSource, MemSource, MemSink, MemSink, BlankArea, SureArea, SureArea>;
+pub type Ended = Finished<MemSource, MemSource, MemSink, MemSink, BlankArea, SureArea, SureArea>;
 
 /// A card of 81 columns.
 const WIDE: &str =
@@ -93,16 +93,16 @@ const PAPERS: [(&str, &str); 33] = [
     ),
     (
         "#JOB P\nbegin end.\n#DATA\n1\n#END\n",
-        "JOB P\nP: NOT BUILT\n",
+        "JOB P\nP: TERMINATED\n",
     ),
     (
         "#job p 1000000\n\t\n#LIST A\nX\n#END\n",
-        "JOB P\nP: NOT BUILT\nJOB A\nX\nA: LISTED 1 CARDS\n",
+        "JOB P\nP: SPOILED CARD 1\nJOB A\nX\nA: LISTED 1 CARDS\n",
     ),
     ("#JOB P 0\n#JOB P 1000001\n", "2 CARDS SKIPPED\n"),
     (
         "#RUN P F\n1\n#END\n2\n",
-        "JOB P\nP: NOT BUILT\n1 CARDS SKIPPED\n",
+        "JOB P\nP: NO FILE\n1 CARDS SKIPPED\n",
     ),
     ("#RUN P\n#RUN P F 1\n", "2 CARDS SKIPPED\n"),
     (
@@ -157,7 +157,7 @@ fn spool(rt: &impl AllocGlobal) -> Result<SureArea, Fail>
 }
 
 /// Runs these words over a deck, where the listed reads of it and writes of the paper fail.
-fn run(
+pub fn run(
     rt: &(impl Threads + Wait + Sync + AllocGlobal),
     texts: &[&str],
     deck: &[u8],
@@ -173,7 +173,7 @@ fn run(
 }
 
 /// Runs `batch` so.
-fn batch(
+pub fn batch(
     rt: &(impl Threads + Wait + Sync + AllocGlobal),
     deck: &[u8],
     piece: usize,

@@ -68,3 +68,8 @@ pub returns-clause-bound : goal.returns-clause-bound
 returns-clause-bound g c = λ spools deck paper s items reached stands told deck_is are.
     run-bounded _ _ c.args.rule c.running.self s c.running.counts spools deck paper items reached told deck_is are
     (c.running.invariant.0 spools deck paper s reached stands).ran
+
+pub returns-clause-few : goal.returns-clause-few
+returns-clause-few g c =
+    let left = c.running.invariant.1.left in
+    record { events = omega (arith, left); delays = c.running.invariant.2; grants = c.running.invariant.3 }
