@@ -1,9 +1,9 @@
 -- A line more behind what a paper gained.
-use Rattle.std.proofs.Common.{◌≡◌, ℕ, List, [], ◌∷◌, ◌++◌, Option, Some, None, refl, sym, ◌∙◌, ap, subst, append_assoc, append-nil}
+use Rattle.std.proofs.Common.{◌≡◌, ℕ, List, [], ◌∷◌, ◌++◌, Option, Some, refl, sym, ◌∙◌, ap, subst, append_assoc, append-nil}
 use Rattle.solo_base.specs.Text.{text, line_text}
 use Rattle.solo_devices.specs.PrinterUnit.{Gains, GainsOf}
 
-text-append : (lines more : List (List ℕ)) → text (lines ++ more) ≡ text lines ++ text more
+pub text-append : (lines more : List (List ℕ)) → text (lines ++ more) ≡ text lines ++ text more
 text-append [] more = refl
 text-append (line ∷ lines) more = ap (λ bytes. line_text line ++ bytes) (text-append lines more) ∙ sym (append_assoc (line_text line) (text lines) (text more))
 

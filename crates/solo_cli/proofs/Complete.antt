@@ -1,6 +1,6 @@
 -- What is left to say of the status where no count rose, and of a deck that is too long.
 use Rattle.std.proofs.Common.{◌≡◌, ◌≢◌, ◌⊎◌, ◌≤◌, ◌+◌, ℕ, List, [], length, Option, Some, None, refl, ◌∙◌, ap, inl, inr, arith}
-use Rattle.std.specs.Prelude.{IfSome}
+use Rattle.std.specs.Prelude.{IfSome, IsSome}
 use Rattle.solo_base.specs.declared.outcome.Cause.{Cause}
 use Rattle.solo_base.specs.declared.outcome.Cause.TheVariants.{Usage, ReadFault, DiskFault, PrintFault, ConsoleFault, DeckLimit, NotSolo, Damaged, NoMemory}
 use Rattle.solo_devices.specs.CardUnit.{bytes_total, IsAllTaken}
@@ -74,3 +74,8 @@ pub emptied : (taken before : ℕ) (left told : Option (List ℕ)) (bytes : List
 emptied taken before None told bytes is total all =
     absurd (let no : None ≡ Some (before + length bytes) = total ∙ ap (bytes_total before) is in cc)
 emptied taken before (Some rest) told bytes is total all = ap Some (all rest refl)
+
+-- a deck that tells its bytes has some
+pub told_bytes : (left : Option (List ℕ)) → IsSome left → (bytes : List ℕ) × (left ≡ Some bytes)
+told_bytes None is = absurd cc
+told_bytes (Some bytes) is = (bytes, refl)

@@ -7,3 +7,11 @@ mod CardItems
 mod Reasons
 mod Adding
 mod Counted
+mod FewCards
+mod DeckLength
+mod TextNumbers
+mod MoreLines
+mod WordNumbers
+mod UnprintedNumbers
+mod MadeRuns
+mod Reading

@@ -1,23 +1,21 @@
 -- The reason of the cause that decides, from what is said of the outcomes of the five.
-use Rattle.std.proofs.Common.{◌≡◌, ◌⊎◌, inl, inr, ℕ, ◌+◌, ◌<◌, ◌≤◌, min, List, Option, Some, None, refl, sym, ◌∙◌, ap, subst, arith}
-use Rattle.std.specs.Prelude.{IfSome, IsSome}
-use Rattle.std.specs.Option.{is_some}
+use Rattle.std.proofs.Common.{◌≡◌, ◌⊎◌, inl, inr, ℕ, ◌<◌, ◌≤◌, List, Option, Some, None, refl, sym, ◌∙◌, ap, subst, arith}
+use Rattle.std.specs.Prelude.{IfSome}
 use Rattle.solo_base.specs.declared.outcome.Cause.{Cause}
 use Rattle.solo_base.specs.declared.outcome.Cause.TheVariants as cause
 use Rattle.solo_base.specs.declared.outcome.Outcome.TheVariants as outcome
-use Rattle.solo_base.specs.declared.outcome.Side.{Side}
 use Rattle.solo_devices.specs.Count.{Rose}
-use Rattle.solo_devices.specs.CardUnit.{byte_limit, bytes_total, IsAllTaken}
+use Rattle.solo_devices.specs.CardUnit.{byte_limit, bytes_total}
 use Rattle.batch_procs.specs.Faults.{IsDamaged}
 use Rattle.core_net.specs.Causes.{Counts}
 use Rattle.core_net.specs.Faults.{Peripherals, AreCounted}
 use Rattle.core_net.specs.declared.finish.Outcomes.{Outcomes}
-use Rattle.core_net.specs.Ended.{all_done, EndTogether, FaultsAre, NoneDamaged}
+use Rattle.core_net.specs.Ended.{FaultsAre, NoneDamaged}
 use Rattle.solo_cli.specs.Status.{number_of}
 use Rattle.solo_cli.specs.Decides.{decides, list_of, IsIn}
 use Rattle.solo_cli.specs.Causes.{IsRunCause, HasItsCause}
 use Rattle.solo_cli.proofs.Lowest.{among, no-fault, least}
-use Rattle.solo_cli.proofs.AllDone.{all-done, by-read, by-limit, by-print, by-disk, by-none}
+use Rattle.solo_cli.proofs.AllDone.{by-read, by-limit, by-print, by-disk, by-none}
 
 damaged-high : (c : Cause) → IsDamaged c → 8 ≤ number_of c
 damaged-high cause.Usage is = absurd is
@@ -98,7 +96,7 @@ module _ (outcomes : Outcomes) (faults : FaultsAre outcomes) (card : outcomes.ca
 
 -- ---- all of it
 module _ {S K A B : Type 0} (counts : Counts S K A B) (left : S → Option (List ℕ)) (before now : Peripherals S K A B)
-    (outcomes : Outcomes) (stops : List (Option Side)) where
+    (outcomes : Outcomes) where
   disk-of : AreCounted counts before now outcomes
       → (outcomes.input ≡ outcome.Fault cause.DiskFault)
       ⊎ ((outcomes.job ≡ outcome.Fault cause.DiskFault) ⊎ (outcomes.output ≡ outcome.Fault cause.DiskFault))
@@ -108,18 +106,17 @@ module _ {S K A B : Type 0} (counts : Counts S K A B) (left : S → Option (List
   disk-of counted (inr (inl is)) = counted.job is
   disk-of counted (inr (inr is)) = inr (counted.output is)
 
-  pub reason : EndTogether outcomes stops → FaultsAre outcomes → AreCounted counts before now outcomes
-      → counts.taken before.source ≡ 0 → (outcomes ≡ all_done → IsAllTaken (left now.source))
+  pub reason : FaultsAre outcomes → AreCounted counts before now outcomes
+      → counts.taken before.source ≡ 0
       → bytes_total (counts.taken now.source) (left now.source) ≡ bytes_total (counts.taken before.source) (left before.source)
       → HasItsCause counts left before now (decides (list_of outcomes))
-  reason together faults counted zero taken total = record {
+  reason faults counted zero total = record {
     read = λ is. counted.read (by-read outcomes faults is);
     disk = λ is. disk-of counted (by-disk outcomes faults is);
     print = λ is. counted.print (by-print outcomes faults is);
     limit = λ is. counted.limit (by-limit outcomes faults is);
     beyond = λ more. beyond-of outcomes faults (counted.longer (omega (arith, zero)) more) (decides (list_of outcomes)) refl;
     total = total;
-    all_taken = λ none. taken (all-done outcomes stops together none);
   }
 
   -- nothing was done, and no device faulted
@@ -144,10 +141,6 @@ module _ {S K A B : Type 0} (counts : Counts S K A B) (left : S → Option (List
     ]);
     beyond = λ more. absurd (let none : counts.taken now.source ≡ 0 = ap (λ d. counts.taken d.source) same ∙ zero in omega (arith, more, none));
     total = ap (λ d. bytes_total (counts.taken d.source) (left d.source)) same;
-    all_taken = λ none. absurd (elim is [
-      | inl usage ↦ (let no : Some cause.Usage ≡ None = sym usage ∙ none in cc)
-      | inr memory ↦ (let no : Some cause.NoMemory ≡ None = sym memory ∙ none in cc)
-    ]);
   }
 
 -- ---- behind a run without a cause a line more is printed
@@ -164,7 +157,6 @@ module _ {S K A B : Type 0} (counts : Counts S K A B) (left : S → Option (List
     limit = λ limit. absurd (other cause.DeckLimit (λ e. cc) (λ e. cc) is limit);
     beyond = λ more. absurd (never (first.beyond (subst (λ s. byte_limit < counts.taken s) same more)));
     total = ap (λ s. bytes_total (counts.taken s) (left s)) same ∙ first.total;
-    all_taken = λ none. subst (λ s. IsAllTaken (left s)) (sym same) (first.all_taken refl);
   } where
     other : (c : Cause) → (cause.PrintFault ≡ c → ⊥) → (cause.NoMemory ≡ c → ⊥)
         → (why ≡ None) ⊎ ((why ≡ Some cause.PrintFault) ⊎ (why ≡ Some cause.NoMemory)) → why ≡ Some c → ⊥

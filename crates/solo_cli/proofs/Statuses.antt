@@ -1,14 +1,19 @@
 -- What a status says of the cause.
-use Rattle.std.proofs.Common.{◌≡◌, ℕ, List, [], ◌∷◌, ◌++◌, Option, Some, None, refl, ◌∙◌, sym, ap, ◌⊎◌, inl, inr}
+use Rattle.std.proofs.Common.{◌≡◌, ◌≢◌, ℕ, List, [], ◌∷◌, ◌++◌, Option, Some, None, refl, ◌∙◌, sym, ap, subst, ◌⊎◌, inl, inr}
+use Rattle.std.specs.Prelude.{IfSome}
 use Rattle.solo_base.specs.declared.outcome.Cause.{Cause}
 use Rattle.solo_base.specs.declared.outcome.Cause.TheVariants.{Usage, ReadFault, DiskFault, PrintFault, ConsoleFault, DeckLimit, NotSolo, Damaged, NoMemory}
 use Rattle.solo_devices.specs.PrinterUnit.{Gains}
 use Rattle.solo_base.specs.Text.{text}
 use Rattle.core_law.specs.Core.{CoreState}
 use Rattle.core_net.specs.declared.rules.Rule.{Rule}
+use Rattle.batch_procs.specs.Faults.{IsDamaged}
 use Rattle.solo_cli.specs.Status.{status_of}
+use Rattle.solo_cli.specs.Causes.{IsMakeCause}
 use Rattle.solo_cli.specs.CountsLine.{counts_line}
 use Rattle.solo_cli.specs.CountsPaper.{GainsCounted}
+use Rattle.solo_cli.specs.DeckNumbers.{deck_lines}
+use Rattle.solo_cli.specs.MadePaper.{GainsNumbers}
 
 pub no_cause : (cause : Option Cause) → status_of cause ≡ 0 → cause ≡ None
 no_cause None zero = refl
@@ -114,3 +119,50 @@ counted_at_zero rule s before now lines cause status is gains = record {
   done = λ zero. gains.done (no_cause cause (sym is ∙ zero));
   counted = λ zero. gains.counted (no_cause cause (sym is ∙ zero));
 }
+
+pub numbers_at_zero : (rule : Rule) (s : CoreState) (deck : List ℕ) (before now : Option (List ℕ)) (cause : Option Cause) (status : ℕ)
+    → status ≡ status_of cause → GainsNumbers rule s deck before now (cause ≡ None) → GainsNumbers rule s deck before now (status ≡ 0)
+numbers_at_zero rule s deck before now cause status is gains = record {
+  counts = gains.counts;
+  counted = gains.counted;
+  gains = gains_at_zero before now (text (deck_lines deck gains.counts)) cause status is gains.gains;
+}
+
+-- what holds where the cause is a failed area or a damaged page holds at status 3 and at status 8
+pub by_fault : (cause : Option Cause) (holds : Type 0) → IfSome cause (λ it. (it ≡ DiskFault) ⊎ IsDamaged it → holds) →
+    (status_of cause ≡ 3) ⊎ (status_of cause ≡ 8) → holds
+by_fault None holds fault (inl is) = absurd cc
+by_fault None holds fault (inr is) = absurd cc
+by_fault (Some cause) holds fault (inl is) = fault (inl (same (by_three (Some cause) is))) where
+  same : {a b : Cause} → Some a ≡ Some b → a ≡ b
+  same e = cc
+by_fault (Some cause) holds fault (inr is) = fault (inr (by-eight cause is)) where
+  by-eight : (cause : Cause) → status_of (Some cause) ≡ 8 → IsDamaged cause
+  by-eight Usage is = cc
+  by-eight ReadFault is = cc
+  by-eight DiskFault is = cc
+  by-eight PrintFault is = cc
+  by-eight ConsoleFault is = cc
+  by-eight DeckLimit is = cc
+  by-eight (NotSolo page) is = cc
+  by-eight (Damaged expected found at) is = tt
+  by-eight NoMemory is = cc
+
+-- a deck that isn't read is no cause
+not-read : IsMakeCause ReadFault → ⊥
+not-read (inl is) = cc
+not-read (inr (inl is)) = cc
+not-read (inr (inr (inl is))) = is
+not-read (inr (inr (inr is))) = cc
+
+pub not_limit : IsMakeCause DeckLimit → ⊥
+not_limit (inl is) = cc
+not_limit (inr (inl is)) = cc
+not_limit (inr (inr (inl is))) = is
+not_limit (inr (inr (inr is))) = cc
+
+pub made_status : (cause : Option Cause) → IfSome cause IsMakeCause → (status_of cause ≢ 2) × (status_of cause ≢ 6)
+made_status cause known = (
+  λ at. not-read (subst (λ why. IfSome why IsMakeCause) (by_two cause at) known),
+  λ at. not_limit (subst (λ why. IfSome why IsMakeCause) (by_six cause at) known),
+)

@@ -1,9 +1,9 @@
 -- What ended a run, told by the devices.
-use Rattle.std.specs.Prelude.{◌≡◌, ◌<◌, ◌⊎◌, ℕ, List, Option, Some, None}
+use Rattle.std.specs.Prelude.{◌≡◌, ◌<◌, ◌≤◌, ◌⊎◌, ℕ, List, Option, Some, None, length}
 use Rattle.solo_base.specs.declared.outcome.Cause.{Cause}
 use Rattle.solo_base.specs.declared.outcome.Cause.TheVariants as cause
 use Rattle.solo_devices.specs.Count.{Rose}
-use Rattle.solo_devices.specs.CardUnit.{byte_limit, bytes_total, IsAllTaken}
+use Rattle.solo_devices.specs.CardUnit.{byte_limit, bytes_total}
 use Rattle.batch_procs.specs.Faults.{IsDamaged}
 use Rattle.core_net.specs.Causes.{Counts}
 use Rattle.core_net.specs.Faults.{Peripherals}
@@ -14,9 +14,18 @@ IsRunCause c =
     (c ≡ cause.ReadFault) ⊎ ((c ≡ cause.DiskFault) ⊎ ((c ≡ cause.PrintFault) ⊎ ((c ≡ cause.DeckLimit)
     ⊎ (IsDamaged c ⊎ (c ≡ cause.NoMemory)))))
 
+-- what may end the making of a deck and its run: nothing is read
+abbrev pub IsMakeCause : Cause → Type 0
+IsMakeCause c = (c ≡ cause.DiskFault) ⊎ ((c ≡ cause.PrintFault) ⊎ (IsDamaged c ⊎ (c ≡ cause.NoMemory)))
+
+-- a deck that tells its bytes, no more than the limit allows
+abbrev pub IsWithinLimit : Option (List ℕ) → Type 0
+IsWithinLimit None = ⊥
+IsWithinLimit (Some bytes) = length bytes ≤ byte_limit
+
 -- A fault of a device that ended the run was counted by that device since, and the limit came where too many
 -- bytes were taken; then only a fault of the disk or of the printer ends the run in its place. No byte of the
--- deck is lost, and where there is no cause all were taken.
+-- deck is lost.
 pub record HasItsCause {S K A B : Type 0} (counts : Counts S K A B) (left : S → Option (List ℕ))
     (before now : Peripherals S K A B) (why : Option Cause) : Type 0 where
   pub read : why ≡ Some cause.ReadFault
@@ -31,4 +40,3 @@ pub record HasItsCause {S K A B : Type 0} (counts : Counts S K A B) (left : S �
       → (why ≡ Some cause.DiskFault) ⊎ ((why ≡ Some cause.PrintFault) ⊎ (why ≡ Some cause.DeckLimit))
   pub total : bytes_total (counts.taken now.source) (left now.source)
       ≡ bytes_total (counts.taken before.source) (left before.source)
-  pub all_taken : why ≡ None → IsAllTaken (left now.source)

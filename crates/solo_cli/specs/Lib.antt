@@ -2,9 +2,14 @@ pub use Rattle.batch_job.specs.OneThread
 pub use Rattle.solo_devices.specs.Count
 pub use Rattle.solo_devices.specs.CardUnit
 pub use Rattle.solo_devices.specs.PrinterUnit
+pub use Rattle.made_deck.specs.MadeDeck
 pub mod Words
 pub mod Status
 pub mod Decides
 pub mod CountsLine
+pub mod DeckNumbers
+pub mod Tallies
+pub mod Uses
 pub mod Causes
 pub mod CountsPaper
+pub mod MadePaper

@@ -14,19 +14,24 @@ alone word = if bytes_eq word (codes "batch") then Some command.Batch else None
 
 -- the commands that take a number
 abbrev pub takes_number : List ℕ → Option Numbered
-takes_number word = if bytes_eq word (codes "core") then Some numbered.Core else None
+takes_number word =
+    if bytes_eq word (codes "core") then Some numbered.Core
+    else if bytes_eq word (codes "make") then Some numbered.Make else None
 
 -- the option that names the number
 abbrev pub option_of : Numbered → List ℕ
 option_of numbered.Core = codes "--schedule"
+option_of numbered.Make = codes "--number"
 
 -- the greatest number
 abbrev pub greatest_number : Numbered → ℕ
 greatest_number numbered.Core = 2147483647
+greatest_number numbered.Make = 50000
 
 -- the command with its number
 abbrev pub with_number : Numbered → ℕ → Command
 with_number numbered.Core schedule = command.Core schedule
+with_number numbered.Make number = command.Make number
 
 -- a number of one to ten digits behind a beginning of a word: behind `--schedule=`, `--schedule=07` has 7
 abbrev pub number_behind : List ℕ → ℕ → List ℕ → Option ℕ

@@ -5,11 +5,15 @@ ghost use Rattle.solo_devices.specs.Count.{Rose, Stayed};
 ghost use Rattle.solo_devices.specs.CardUnit.{byte_limit};
 ghost use Rattle.solo_devices.specs.PrinterUnit.{Gains};
 ghost use Rattle.batch_job.specs.OneThread.{one_thread_output};
+ghost use Rattle.made_deck.specs.MadeDeck.{made_deck};
 ghost use Rattle.core_law.specs.Opening.{opened};
 ghost use Rattle.core_net.specs.Openings.{spools_over};
 ghost use Rattle.solo_cli.specs.Words.{form};
 ghost use Rattle.solo_cli.specs.Status.{status_of};
+ghost use Rattle.solo_cli.specs.Causes.{IsWithinLimit};
 ghost use Rattle.solo_cli.specs.CountsPaper.{GainsCounted};
+ghost use Rattle.solo_cli.specs.MadePaper.{GainsNumbers};
+ghost use Rattle.solo_cli.specs.Uses.{ReadsDeck};
 
 use crate::runs::{Done, run_command};
 use crate::status::status_of;
@@ -37,7 +41,8 @@ pub struct Finished<S, Y, K, T, F, I, O> {
 
 /// Runs the command that the words are, over these devices. `batch` and `core` run the card deck and print the
 /// report of each of its jobs: `batch` on threads, `core` under the schedule of a number, and behind the
-/// reports it prints what it counted. Where the words are no command, nothing is done.
+/// reports it prints what it counted. `make` makes the deck of a number, runs it in memory under the schedule
+/// of this number, and prints the numbers of both. Where the words are no command, nothing is done.
 pub fn top<
     S: Source + Drop + Send,
     Y: Source,
@@ -78,20 +83,37 @@ pub fn top<
         (opened (spools_over (I.size input) (I.pages input) (O.size output) (O.pages output))
         (Some (cards bytes)) (K.given paper))
         (K.given paper) (K.given result.paper) (one_thread_output bytes) (result.status ≡ 0) }
-    ensures emptied { (bytes : List ℕ) → S.left deck ≡ Some bytes → result.status ≡ 0 →
-        S.left result.deck ≡ Some [] }
+    ensures emptied { ReadsDeck (form (map (λ word. string_bytes word) words.now)) →
+        (bytes : List ℕ) → S.left deck ≡ Some bytes → result.status ≡ 0 → S.left result.deck ≡ Some [] }
+
+    // `make` leaves the deck. The paper gains the numbers of the deck of its number, and the counts of the run
+    // of this deck to a paper in memory, under the schedule of this number; or a prefix of these lines. Where
+    // the run met a fault it gains nothing.
+    ensures make_output { (number : ℕ) →
+        form (map (λ word. string_bytes word) words.now) ≡ Some (Command.Make number) →
+        IsSome (I.pages input) → IsSome (O.pages output) →
+        GainsNumbers (Rule.Numbered number)
+        (opened (spools_over (I.size input) (I.pages input) (O.size output) (O.pages output))
+        (Some (cards (made_deck number))) (Some []))
+        (made_deck number) (K.given paper) (K.given result.paper) (result.status ≡ 0) }
+    ensures make_unread { (number : ℕ) →
+        form (map (λ word. string_bytes word) words.now) ≡ Some (Command.Make number) →
+        (result.deck ≡ deck) × (result.status ≢ 2) × (result.status ≢ 6) }
+    ensures make_unprinted { (number : ℕ) →
+        form (map (λ word. string_bytes word) words.now) ≡ Some (Command.Make number) →
+        (result.status ≡ 3) ⊎ (result.status ≡ 8) → result.paper ≡ paper }
 
     // Of a deck that tells its bytes and is within the limit the whole work is done where no count rose and both
     // areas tell their pages, unless memory was refused; of a longer one never.
-    ensures complete { (bytes : List ℕ) → S.left deck ≡ Some bytes → length bytes ≤ byte_limit →
-        IsSome (I.pages input) → IsSome (O.pages output) →
+    ensures complete { IsSome (I.pages input) → IsSome (O.pages output) →
+        (ReadsDeck (form (map (λ word. string_bytes word) words.now)) → IsWithinLimit (S.left deck)) →
         Stayed (S.faults deck) (S.faults result.deck) → Stayed (K.faults paper) (K.faults result.paper) →
         Stayed (I.faults input) (I.faults result.input) →
         Stayed (O.faults output) (O.faults result.output) →
         form (map (λ word. string_bytes word) words.now) ≢ None →
         (result.status ≡ 0) ⊎ (result.status ≡ 9) }
-    ensures longer { (bytes : List ℕ) → S.left deck ≡ Some bytes → byte_limit < length bytes →
-        result.status ≢ 0 }
+    ensures longer { ReadsDeck (form (map (λ word. string_bytes word) words.now)) →
+        (bytes : List ℕ) → S.left deck ≡ Some bytes → byte_limit < length bytes → result.status ≢ 0 }
 
     // The words are no command, and then each device is as it came.
     ensures usage { (result.status ≡ 1) ↔ (form (map (λ word. string_bytes word) words.now) ≡ None) }
@@ -106,8 +128,9 @@ pub fn top<
     ensures limit { result.status ≡ 6 → byte_limit < S.taken result.deck }
     ensures beyond { byte_limit < S.taken result.deck →
         (result.status ≡ 3) ⊎ (result.status ≡ 4) ⊎ (result.status ≡ 6) }
-    ensures damaged { (bytes : List ℕ) → S.left deck ≡ Some bytes →
-        IsSome (I.pages input) → IsSome (O.pages output) → result.status ≢ 8 }
+    ensures damaged { IsSome (I.pages input) → IsSome (O.pages output) →
+        (ReadsDeck (form (map (λ word. string_bytes word) words.now)) → IsSome (S.left deck)) →
+        result.status ≢ 8 }
     ensures known { (result.status ≡ 0) ⊎ (result.status ≡ 1) ⊎ (result.status ≡ 2) ⊎ (result.status ≡ 3)
         ⊎ (result.status ≡ 4) ⊎ (result.status ≡ 6) ⊎ (result.status ≡ 8) ⊎ (result.status ≡ 9) }
     ensures status { result.status ≡ status_of result.cause }

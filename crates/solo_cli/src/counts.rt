@@ -1,5 +1,7 @@
-ghost use Rattle.std.specs.Prelude.{◌≡◌, ◌+◌, ◌≤◌, ◌<◌, ◌^◌, ◌++◌, length};
+ghost use Rattle.std.specs.Prelude.{◌≡◌, ◌+◌, ◌≤◌, ◌<◌, ◌^◌, ◌++◌, length, IsTrue};
+ghost use Rattle.std.specs.List.{list_all};
 ghost use Rattle.std.specs.Fmt.{decimal};
+ghost use Rattle.solo_base.specs.Line.{is_printable};
 ghost use Rattle.core_net.specs.Runs.{AreFew};
 ghost use Rattle.solo_cli.specs.CountsLine.{counts_line};
 
@@ -24,6 +26,18 @@ pub fn counts_line(counts: Counts) -> Line
     line.append(b" DELAYS, ");
     append_count(&mut line, counts.grants);
     line.append(b" GRANTS");
+    line
+}
+
+/// A word, and a number behind it.
+pub fn number_line(word: &[u8], number: u64) -> Line
+    requires room { length word.now + COUNT_LENGTH ≤ 132 }
+    requires printable { IsTrue (list_all is_printable word.now) }
+    ensures { result ≡ word.now ++ decimal number }
+{
+    let mut line = Line::new();
+    line.append(word);
+    append_count(&mut line, u128::from(number));
     line
 }
 

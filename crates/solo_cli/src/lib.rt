@@ -4,6 +4,8 @@
 mod command;
 mod counts;
 mod deciding;
+mod deck_numbers;
+mod making;
 mod runs;
 mod status;
 mod words;
@@ -14,7 +16,11 @@ pub use words::{Command, Numbered};
 #[cfg(test)]
 mod device_tests;
 #[cfg(test)]
+mod failure_tests;
+#[cfg(test)]
 mod held;
+#[cfg(test)]
+mod make_tests;
 #[cfg(test)]
 mod part_tests;
 #[cfg(test)]

@@ -3,9 +3,11 @@ ghost use Rattle.std.specs.Prelude.{◌≡◌, ◌≢◌, ◌⊎◌, ◌↔◌, 
 ghost use Rattle.solo_base.specs.Text.{text, line_text};
 ghost use Rattle.solo_base.specs.Card.{cards};
 ghost use Rattle.solo_devices.specs.Count.{Rose};
+ghost use Rattle.solo_devices.specs.CardUnit.{IsAllTaken};
 ghost use Rattle.solo_devices.specs.PrinterUnit.{Gains};
 ghost use Rattle.batch_job.specs.OneThread.{one_thread_output};
 ghost use Rattle.batch_procs.specs.Faults.{IsDamaged};
+ghost use Rattle.made_deck.specs.MadeDeck.{made_deck};
 ghost use Rattle.core_law.specs.Opening.{opened};
 ghost use Rattle.core_net.specs.Causes.{counting};
 ghost use Rattle.core_net.specs.Openings.{spools_over};
@@ -13,11 +15,14 @@ ghost use Rattle.core_net.specs.Runs.{AreFew};
 ghost use Rattle.solo_cli.specs.Words.{form};
 ghost use Rattle.solo_cli.specs.Decides.{decides, list_of};
 ghost use Rattle.solo_cli.specs.CountsLine.{counts_line};
-ghost use Rattle.solo_cli.specs.Causes.{HasItsCause, IsRunCause};
+ghost use Rattle.solo_cli.specs.Causes.{HasItsCause, IsRunCause, IsMakeCause};
 ghost use Rattle.solo_cli.specs.CountsPaper.{GainsCounted};
+ghost use Rattle.solo_cli.specs.MadePaper.{GainsNumbers};
+ghost use Rattle.solo_cli.specs.Uses.{ReadsDeck};
 
 use crate::counts::counts_line;
 use crate::deciding::decides;
+use crate::making::{Made, make};
 use crate::words::{Command, command_of};
 use batch_run::{Units, run_batch};
 use core_net::{Counts, Outcomes, Ran, Rule, run_core};
@@ -66,6 +71,20 @@ pub fn run_command<
         (opened (spools_over (I.size input) (I.pages input) (O.size output) (O.pages output))
         (Some (cards bytes)) (K.given paper))
         (K.given paper) (K.given result.paper) (one_thread_output bytes) (result.cause ≡ None) }
+    ensures make { (number : ℕ) →
+        form (map (λ word. string_bytes word) words.now) ≡ Some (Command.Make number) →
+        IsSome (I.pages input) → IsSome (O.pages output) →
+        GainsNumbers (Rule.Numbered number)
+        (opened (spools_over (I.size input) (I.pages input) (O.size output) (O.pages output))
+        (Some (cards (made_deck number))) (Some []))
+        (made_deck number) (K.given paper) (K.given result.paper) (result.cause ≡ None) }
+    ensures unread { (number : ℕ) →
+        form (map (λ word. string_bytes word) words.now) ≡ Some (Command.Make number) →
+        (result.deck ≡ deck) × IfSome result.cause IsMakeCause }
+    ensures unprinted { (number : ℕ) →
+        form (map (λ word. string_bytes word) words.now) ≡ Some (Command.Make number) →
+        IfSome result.cause (λ cause. (cause ≡ Cause.DiskFault) ⊎ IsDamaged cause →
+        result.paper ≡ paper) }
 
     // Words that are no command.
     ensures usage { (result.cause ≡ Some Cause.Usage) ↔ (form (map (λ word. string_bytes word) words.now) ≡ None) }
@@ -73,12 +92,15 @@ pub fn run_command<
         (result.deck ≡ deck) × (result.paper ≡ paper) × (result.input ≡ input) × (result.output ≡ output) }
 
     // The cause is one of those that there can be, and each has its reason.
+    ensures all_taken { ReadsDeck (form (map (λ word. string_bytes word) words.now)) → result.cause ≡ None →
+        IsAllTaken (S.left result.deck) }
     ensures caused { HasItsCause (counting S.faults S.taken K.faults I.faults O.faults) S.left
         record { source = deck; sink = paper; input = input; output = output }
         record { source = result.deck; sink = result.paper; input = result.input; output = result.output }
         result.cause }
-    ensures undamaged { (bytes : List ℕ) → S.left deck ≡ Some bytes → IsSome (I.pages input) →
-        IsSome (O.pages output) → IfSome result.cause (λ cause. IsDamaged cause → ⊥) }
+    ensures undamaged { IsSome (I.pages input) → IsSome (O.pages output) →
+        (ReadsDeck (form (map (λ word. string_bytes word) words.now)) → IsSome (S.left deck)) →
+        IfSome result.cause (λ cause. IsDamaged cause → ⊥) }
     ensures known { IfSome result.cause (λ cause. (cause ≡ Cause.Usage) ⊎ IsRunCause cause) }
 {
     match command_of(words) {
@@ -91,6 +113,21 @@ pub fn run_command<
         },
         Some(Command::Batch) => batch(rt, alloc, deck, paper, input, output),
         Some(Command::Core { schedule }) => core(alloc, schedule, deck, paper, input, output),
+        Some(Command::Make { number }) => {
+            let Made {
+                cause,
+                paper,
+                input,
+                output,
+            } = make(alloc, number, paper, input, output);
+            Done {
+                cause,
+                deck,
+                paper,
+                input,
+                output,
+            }
+        }
     }
 }
 
@@ -109,12 +146,13 @@ fn batch<
     ensures output { (bytes : List ℕ) → S.left deck ≡ Some bytes → IsSome (I.pages input) →
         IsSome (O.pages output) →
         Gains (K.given paper) (K.given result.paper) (text (one_thread_output bytes)) (result.cause ≡ None) }
+    ensures all_taken { result.cause ≡ None → IsAllTaken (S.left result.deck) }
     ensures caused { HasItsCause (counting S.faults S.taken K.faults I.faults O.faults) S.left
         record { source = deck; sink = paper; input = input; output = output }
         record { source = result.deck; sink = result.paper; input = result.input; output = result.output }
         result.cause }
-    ensures undamaged { (bytes : List ℕ) → S.left deck ≡ Some bytes → IsSome (I.pages input) →
-        IsSome (O.pages output) → IfSome result.cause (λ cause. IsDamaged cause → ⊥) }
+    ensures undamaged { IsSome (S.left deck) → IsSome (I.pages input) → IsSome (O.pages output) →
+        IfSome result.cause (λ cause. IsDamaged cause → ⊥) }
     ensures known { IfSome result.cause IsRunCause }
 {
     let units = Units {
@@ -170,12 +208,13 @@ fn core<S: Source, K: Sink, I: Area, O: Area>(
         (opened (spools_over (I.size input) (I.pages input) (O.size output) (O.pages output))
         (Some (cards bytes)) (K.given paper))
         (K.given paper) (K.given result.paper) (one_thread_output bytes) (result.cause ≡ None) }
+    ensures all_taken { result.cause ≡ None → IsAllTaken (S.left result.deck) }
     ensures caused { HasItsCause (counting S.faults S.taken K.faults I.faults O.faults) S.left
         record { source = deck; sink = paper; input = input; output = output }
         record { source = result.deck; sink = result.paper; input = result.input; output = result.output }
         result.cause }
-    ensures undamaged { (bytes : List ℕ) → S.left deck ≡ Some bytes → IsSome (I.pages input) →
-        IsSome (O.pages output) → IfSome result.cause (λ cause. IsDamaged cause → ⊥) }
+    ensures undamaged { IsSome (S.left deck) → IsSome (I.pages input) → IsSome (O.pages output) →
+        IfSome result.cause (λ cause. IsDamaged cause → ⊥) }
     ensures known { IfSome result.cause IsRunCause }
 {
     let rule = Rule::Numbered { number: schedule };
@@ -233,7 +272,7 @@ fn print_counts<K: Sink>(paper: K, counts: Counts) -> (Option<Cause>, K)
 }
 
 // The cause that a line wasn't printed by.
-fn cause_of(printed: Result<(), PrintFault>) -> Option<Cause>
+pub fn cause_of(printed: Result<(), PrintFault>) -> Option<Cause>
     ensures done { result ≡ None → IsOk printed }
     ensures causes { (result ≡ None) ⊎ (result ≡ Some Cause.PrintFault) ⊎ (result ≡ Some Cause.NoMemory) }
     ensures failed { result ≡ Some Cause.PrintFault → IsErrOf printed PrintFault.Failed }
@@ -247,7 +286,7 @@ fn cause_of(printed: Result<(), PrintFault>) -> Option<Cause>
 
 // What a run of the five processes came to.
 #[inline(never)]
-fn came_to<S: Source, K: Sink, I: Area, O: Area>(ran: Ran<S, K, I, O>) -> Done<S, K, I, O>
+pub fn came_to<S: Source, K: Sink, I: Area, O: Area>(ran: Ran<S, K, I, O>) -> Done<S, K, I, O>
     ensures decided { result.cause ≡ decides (list_of ran.outcomes) }
     ensures units { (result.deck ≡ ran.deck.source) × (result.paper ≡ ran.paper.sink) }
     ensures areas { (result.input ≡ ran.input) × (result.output ≡ ran.output) }

@@ -244,42 +244,6 @@ fn the_paper_ends_where_a_write_fails(rt: HostRuntime) -> Result<(), Fail> {
     Ok(())
 }
 
-/// A deck of three jobs.
-const DECK: &[u8] = b"X\n#LIST A\nHELLO\n\n#END\n#LIST B\n#STOP\n";
-
-const PAPER: &[u8] =
-    b"1 CARDS SKIPPED\nJOB A\nHELLO\n\nA: LISTED 2 CARDS\nJOB B\nB: BAD CONTROL CARD 1\n";
-
-#[test]
-fn each_read_may_fail(rt: HostRuntime) -> Result<(), Fail> {
-    for call in 1..100 {
-        let ended = batch(&rt, DECK, 7, &[call], &[])?;
-        if ended.deck.faults() == 0 {
-            assert_eq!(rt; ended.status, 0);
-            assert_eq!(rt; ended.paper.bytes(), PAPER);
-            return Ok(());
-        }
-        assert_eq!(rt; ended.status, 2);
-        assert!(rt; PAPER.starts_with(ended.paper.bytes()));
-    }
-    Err("each run met a failure".into())
-}
-
-#[test]
-fn each_write_may_fail(rt: HostRuntime) -> Result<(), Fail> {
-    for call in 1..100 {
-        let ended = batch(&rt, DECK, 7, &[], &[call])?;
-        if ended.paper.faults() == 0 {
-            assert_eq!(rt; ended.status, 0);
-            assert_eq!(rt; ended.paper.bytes(), PAPER);
-            return Ok(());
-        }
-        assert_eq!(rt; ended.status, 4);
-        assert!(rt; PAPER.starts_with(ended.paper.bytes()));
-    }
-    Err("each run met a failure".into())
-}
-
 #[test]
 fn a_deck_has_16777216_bytes_at_most(rt: HostRuntime) -> Result<(), Fail> {
     let mut deck = Vec::new(rt.alloc());

@@ -11,16 +11,38 @@ fn command(alloc: Global, texts: &[&str]) -> Result<Option<Command>, Fail> {
     Ok(command_of(words.as_slice()))
 }
 
+/// Whether each written form of this word with its option is this command.
+fn is_each_form(
+    alloc: Global,
+    word: &str,
+    option: &str,
+    digits: &str,
+    asked: Command,
+) -> Result<bool, Fail> {
+    let joined = format!(in alloc; "{option}={digits}")?;
+    let asked = Some(asked);
+    Ok(
+        command(alloc, &[word, option, digits])? == asked
+            && command(alloc, &[option, digits, word])? == asked
+            && command(alloc, &[word, joined.as_str()])? == asked
+            && command(alloc, &[joined.as_str(), word])? == asked,
+    )
+}
+
 /// Each written form of the core with this number.
 fn is_core(alloc: Global, digits: &str, schedule: u32) -> Result<bool, Fail> {
-    let joined = format!(in alloc; "--schedule={digits}")?;
-    let core = Some(Command::Core { schedule });
-    Ok(
-        command(alloc, &["core", "--schedule", digits])? == core
-            && command(alloc, &["--schedule", digits, "core"])? == core
-            && command(alloc, &["core", joined.as_str()])? == core
-            && command(alloc, &[joined.as_str(), "core"])? == core,
+    is_each_form(
+        alloc,
+        "core",
+        "--schedule",
+        digits,
+        Command::Core { schedule },
     )
+}
+
+/// Each written form of the making of this deck.
+fn is_make(alloc: Global, digits: &str, number: u32) -> Result<bool, Fail> {
+    is_each_form(alloc, "make", "--number", digits, Command::Make { number })
 }
 
 #[test]
@@ -32,11 +54,14 @@ fn each_written_form_is_a_command(rt: HostRuntime) -> Result<(), Fail> {
     assert!(rt; is_core(alloc, "0000000007", 7)?);
     assert!(rt; is_core(alloc, "0000000000", 0)?);
     assert!(rt; is_core(alloc, "2147483647", 2_147_483_647)?);
+    assert!(rt; is_make(alloc, "0", 0)?);
+    assert!(rt; is_make(alloc, "0000000007", 7)?);
+    assert!(rt; is_make(alloc, "50000", 50_000)?);
     Ok(())
 }
 
 /// Words that are no written form.
-const OTHERS: [&[&str]; 34] = [
+const OTHERS: [&[&str]; 50] = [
     &[],
     &[""],
     &["BATCH"],
@@ -71,6 +96,22 @@ const OTHERS: [&[&str]; 34] = [
     &["core", "--schedule", "=7"],
     &["core", "--schedule", "7", "7"],
     &["core", "--schedule=7", "--schedule=7"],
+    &["make"],
+    &["MAKE", "--number", "7"],
+    &["make", "7"],
+    &["--number=7"],
+    &["make", "--number"],
+    &["make", "--number="],
+    &["make", "--number", "-1"],
+    &["make", "--number", "50001"],
+    &["make", "--number=50001"],
+    &["make", "--number", "00000000007"],
+    &["make", "--schedule", "7"],
+    &["make", "--schedule=7"],
+    &["core", "--number=7"],
+    &["batch", "--number", "7"],
+    &["--number", "make", "7"],
+    &["make", "--number", "7", "7"],
 ];
 
 #[test]

@@ -2,6 +2,7 @@ ghost use Rattle.std.specs.Prelude.{◌≡◌, ◌++◌, ◌∷◌, [], length, 
 ghost use Rattle.solo_cli.specs.Words.{form, alone, takes_number, option_of, greatest_number, with_number, number_behind, apart, joined};
 
 use deck_format::number_within;
+use made_deck::LAST_NUMBER;
 
 /// What the words of a command line ask for.
 #[derive(Clone, Copy, Debug, PartialEq, Eq)]
@@ -10,12 +11,15 @@ pub enum Command {
     Batch,
     /// Runs a card deck on the core, under the schedule of a number.
     Core { schedule: u32 },
+    /// Makes the deck of a number, runs it on the core and prints the numbers of both.
+    Make { number: u32 },
 }
 
 /// A command that takes a number.
 #[derive(Clone, Copy, Debug, PartialEq, Eq)]
 pub enum Numbered {
     Core,
+    Make,
 }
 
 /// How many digits a number has at most.
@@ -77,6 +81,8 @@ fn takes_number(word: &str) -> Option<Numbered>
 {
     if word == "core" {
         Some(Numbered::Core)
+    } else if word == "make" {
+        Some(Numbered::Make)
     } else {
         None
     }
@@ -102,6 +108,7 @@ impl Numbered {
     {
         match self {
             Numbered::Core => "--schedule",
+            Numbered::Make => "--number",
         }
     }
 
@@ -111,6 +118,7 @@ impl Numbered {
     {
         match self {
             Numbered::Core => b"--schedule=",
+            Numbered::Make => b"--number=",
         }
     }
 
@@ -120,6 +128,7 @@ impl Numbered {
     {
         match self {
             Numbered::Core => 2_147_483_647,
+            Numbered::Make => LAST_NUMBER,
         }
     }
 
@@ -129,6 +138,7 @@ impl Numbered {
     {
         match self {
             Numbered::Core => Command::Core { schedule: number },
+            Numbered::Make => Command::Make { number },
         }
     }
 }

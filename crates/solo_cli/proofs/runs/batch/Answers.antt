@@ -1,7 +1,7 @@
-use Rattle.std.proofs.Common.{◌≡◌, [], refl, sym, ◌∙◌, ap, subst}
+use Rattle.std.proofs.Common.{[], refl, sym, ◌∙◌, ap, subst}
 use Rattle.std.specs.Prelude.{IfSome}
 use Rattle.solo_base.specs.Card.{cards}
-use Rattle.solo_devices.specs.CardUnit.{items_ahead}
+use Rattle.solo_devices.specs.CardUnit.{items_ahead, IsAllTaken}
 use Rattle.batch_procs.specs.Faults.{IsDamaged}
 use Rattle.core_net.specs.Causes.{counting}
 use Rattle.core_net.specs.Faults.{devices_left}
@@ -9,6 +9,7 @@ use Rattle.solo_cli.specs.Causes.{IsRunCause}
 use Rattle.solo_cli.proofs.AllDone.{all-done}
 use Rattle.solo_cli.proofs.CardItems.{card-items}
 use Rattle.solo_cli.proofs.Adding.{gains-same}
+use Rattle.solo_cli.proofs.Complete.{told_bytes}
 use Rattle.solo_cli.proofs.Reasons.{known, undamaged, reason, same-reason}
 use Rattle.solo_cli.proofs.runs.batch.Goals as goal
 
@@ -30,14 +31,21 @@ returns-in-Ok-clause-caused g c =
     record { source = c.came_to.result.deck; sink = c.came_to.result.paper; input = c.came_to.result.input; output = c.came_to.result.output } _ _
     (reason (counting g.S.Source.faults g.S.Source.taken g.K.Sink.faults g.I.Area.faults g.O.Area.faults) g.S.Source.left
     record { source = c.new.result.source; sink = c.new-2.result.sink; input = c.args.input; output = c.args.output }
-    (devices_left c.in-Ok.ran) c.in-Ok.ran.outcomes c.in-Ok.ran.stopped_by
-    e.together e.faults e.counted (ap (λ unit. g.S.Source.taken unit.source) c.new.ensures ∙ c.requires.deck) e.all_taken e.total)
+    (devices_left c.in-Ok.ran) c.in-Ok.ran.outcomes
+    e.faults e.counted (ap (λ unit. g.S.Source.taken unit.source) c.new.ensures ∙ c.requires.deck) e.total)
     (ap (λ unit. unit.source) c.new.ensures) (ap (λ unit. unit.sink) c.new-2.ensures) refl refl
     (sym c.came_to.ensures.units.0) (sym c.came_to.ensures.units.1) (sym c.came_to.ensures.areas.0) (sym c.came_to.ensures.areas.1)
     (sym c.came_to.ensures.decided)
 
+pub returns-in-Ok-clause-all_taken : goal.returns-in-Ok-clause-all_taken
+returns-in-Ok-clause-all_taken g c = λ none.
+    subst (λ deck. IsAllTaken (g.S.Source.left deck)) (sym c.came_to.ensures.units.0)
+    (c.in-Ok.ensures.all_taken
+    (all-done c.in-Ok.ran.outcomes c.in-Ok.ran.stopped_by c.in-Ok.ensures.together (sym c.came_to.ensures.decided ∙ none)))
+
 pub returns-in-Ok-clause-undamaged : goal.returns-in-Ok-clause-undamaged
-returns-in-Ok-clause-undamaged g c = λ bytes told input_told output_told.
+returns-in-Ok-clause-undamaged g c = λ deck_told input_told output_told.
+    let (bytes, told) = told_bytes (g.S.Source.left c.args.deck) deck_told in
     subst (λ why. IfSome why (λ it. IsDamaged it → ⊥)) (sym c.came_to.ensures.decided)
     (undamaged c.in-Ok.ran.outcomes (c.in-Ok.ensures.undamaged (cards bytes)
     (ap (λ unit. items_ahead (g.S.Source.left unit.source) unit.pending) c.new.ensures ∙ ap (λ left. items_ahead left []) told)

@@ -1,7 +1,7 @@
 use Rattle.std.proofs.Common.{◌≡◌, ◌≤◌, [], Some, None, refl, sym, ◌∙◌, ap, subst, arith}
 use Rattle.std.specs.Prelude.{IfSome}
 use Rattle.solo_base.specs.Card.{cards}
-use Rattle.solo_devices.specs.CardUnit.{items_ahead}
+use Rattle.solo_devices.specs.CardUnit.{items_ahead, IsAllTaken}
 use Rattle.batch_procs.specs.Faults.{IsDamaged}
 use Rattle.batch_job.specs.OneThread.{one_thread_output}
 use Rattle.core_law.specs.Core.{Devices}
@@ -17,6 +17,7 @@ use Rattle.solo_cli.proofs.AllDone.{all-done}
 use Rattle.solo_cli.proofs.CardItems.{card-items}
 use Rattle.solo_cli.proofs.Counted.{counted-whole}
 use Rattle.solo_cli.proofs.Adding.{gains-same, both, without}
+use Rattle.solo_cli.proofs.Complete.{told_bytes}
 use Rattle.solo_cli.proofs.Reasons.{known, undamaged, reason, same-reason, printed-on}
 use Rattle.solo_cli.proofs.runs.core.Goals as goal
 
@@ -101,8 +102,8 @@ returns-in-None-clause-caused g c =
     record { source = done.deck; sink = done.paper; input = done.input; output = done.output } _ None
     (reason (counting g.S.Source.faults g.S.Source.taken g.K.Sink.faults g.I.Area.faults g.O.Area.faults) g.S.Source.left record
     { source = c.args.deck; sink = c.args.paper; input = c.args.input; output = c.args.output } (devices_left c.run_core-ran.result.0)
-    c.run_core-ran.result.0.outcomes c.run_core-ran.result.0.stopped_by
-    e.together e.faults e.counted c.requires.deck e.all_taken e.total)
+    c.run_core-ran.result.0.outcomes
+    e.faults e.counted c.requires.deck e.total)
     refl refl refl refl
     (sym c.came_to-done.ensures.units.0) (sym c.came_to-done.ensures.units.1) (sym c.came_to-done.ensures.areas.0) (sym c.came_to-done.ensures.areas.1)
     (sym c.came_to-done.ensures.decided ∙ c.in-None.is))
@@ -119,14 +120,26 @@ returns-in-Some-clause-caused g c =
     record { source = done.deck; sink = done.paper; input = done.input; output = done.output } _ _
     (reason (counting g.S.Source.faults g.S.Source.taken g.K.Sink.faults g.I.Area.faults g.O.Area.faults) g.S.Source.left record
     { source = c.args.deck; sink = c.args.paper; input = c.args.input; output = c.args.output } (devices_left c.run_core-ran.result.0)
-    c.run_core-ran.result.0.outcomes c.run_core-ran.result.0.stopped_by
-    e.together e.faults e.counted c.requires.deck e.all_taken e.total)
+    c.run_core-ran.result.0.outcomes
+    e.faults e.counted c.requires.deck e.total)
     refl refl refl refl
     (sym c.came_to-done.ensures.units.0) (sym c.came_to-done.ensures.units.1) (sym c.came_to-done.ensures.areas.0) (sym c.came_to-done.ensures.areas.1)
     (sym c.came_to-done.ensures.decided)
 
+pub returns-in-None-clause-all_taken : goal.returns-in-None-clause-all_taken
+returns-in-None-clause-all_taken g c = λ none.
+    let e = c.run_core-ran.ensures in
+    let ran = c.run_core-ran.result.0 in
+    subst (λ deck. IsAllTaken (g.S.Source.left deck)) (sym c.with_counts.ensures.stays.0)
+    (subst (λ deck. IsAllTaken (g.S.Source.left deck)) (sym c.came_to-done.ensures.units.0)
+    (e.all_taken (all-done ran.outcomes ran.stopped_by e.together (sym c.came_to-done.ensures.decided ∙ c.in-None.is))))
+
+pub returns-in-Some-clause-all_taken : goal.returns-in-Some-clause-all_taken
+returns-in-Some-clause-all_taken g c = λ none. absurd (let no : Some c.in-Some.field-0 ≡ None = sym c.in-Some.is ∙ none in cc)
+
 pub returns-in-Some-clause-undamaged : goal.returns-in-Some-clause-undamaged
-returns-in-Some-clause-undamaged g c = λ bytes told input_told output_told.
+returns-in-Some-clause-undamaged g c = λ deck_told input_told output_told.
+    let (bytes, told) = told_bytes (g.S.Source.left c.args.deck) deck_told in
     subst (λ why. IfSome why (λ it. IsDamaged it → ⊥)) (sym c.came_to-done.ensures.decided)
     (undamaged c.run_core-ran.result.0.outcomes (c.run_core-ran.ensures.undamaged (cards bytes)
     (ap (λ left. items_ahead left []) told) (card-items bytes) record { input = input_told; output = output_told }))

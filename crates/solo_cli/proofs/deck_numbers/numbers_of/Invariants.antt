@@ -1,0 +1,14 @@
+use Rattle.std.proofs.Common.{◌≡◌, ◌≤◌, ◌+◌, ◌++◌, length, drop, true}
+use Rattle.solo_base.specs.Card.{cards}
+use Rattle.solo_devices.specs.CardUnit.{byte_limit, work_ahead}
+use Rattle.solo_cli.specs.Tallies.{CountsOn}
+use Rattle.solo_cli.proofs.deck_numbers.numbers_of.Given as goal
+
+abbrev pub invariant-loop-item : goal.invariant-loop-item
+invariant-loop-item l =
+    (l.unit.live ≡ true)
+    × (l.unit.source.place + length (drop l.unit.source.place l.unit.source.bytes.items) ≤ byte_limit)
+    × CountsOn (cards l.fn.deck) (cards (l.unit.pending ++ drop l.unit.source.place l.unit.source.bytes.items)) l.tally
+
+abbrev pub decreases-loop-item : goal.decreases-loop-item
+decreases-loop-item l = work_ahead l.unit.source.place l.unit.pending l.unit.ended

@@ -1,0 +1,18 @@
+use Rattle.std.proofs.Common.{arith}
+use Rattle.core_net.specs.declared.rules.Rule.TheVariants.{Numbered}
+use Rattle.core_net.specs.Openings.{spools_over}
+use Rattle.made_deck.specs.MadeDeck.{made_deck}
+use Rattle.solo_cli.proofs.UnprintedNumbers.{no_numbers}
+use Rattle.solo_cli.proofs.making.make.Goals as goal
+
+pub returns-in-Err-clause-gains : goal.returns-in-Err-clause-gains
+returns-in-Err-clause-gains g c = λ input_told output_told.
+    no_numbers (Numbered c.args.number)
+    (spools_over (g.I.Area.size c.args.input) (g.I.Area.pages c.args.input) (g.O.Area.size c.args.output) (g.O.Area.pages c.args.output))
+    (made_deck c.args.number) (g.K.Sink.given c.args.paper) _
+    record {
+      input_some = omega (arith, c.requires.input.0);
+      input_most = c.requires.input.1;
+      output_some = omega (arith, c.requires.output.0);
+      output_most = c.requires.output.1;
+    } record { input = input_told; output = output_told } (λ none. cc)
