@@ -1,4 +1,5 @@
 use solo_base::Cause;
+use solo_cli::Refusal;
 use thiserror::Error;
 
 /// What the program tells on standard error where a command didn't do its whole work.
@@ -22,11 +23,20 @@ pub enum Fault {
     Damaged { expected: u16, found: u16, at: u16 },
     #[error("solo: NO MEMORY")]
     NoMemory,
+    #[error("solo: NO ROOM, {needed} PAGES NEEDED, {free} FREE")]
+    NoRoom { needed: u16, free: u16 },
 }
 
 impl Fault {
-    /// The fault of this cause.
-    pub fn of(cause: Cause) -> Fault {
+    /// The fault of a command that was refused so.
+    pub fn of(refusal: Refusal) -> Fault {
+        match refusal {
+            Refusal::Fault(cause) => Fault::of_cause(cause),
+            Refusal::NoRoom { needed, free } => Fault::NoRoom { needed, free },
+        }
+    }
+
+    fn of_cause(cause: Cause) -> Fault {
         match cause {
             Cause::Usage => Fault::Usage,
             Cause::ReadFault => Fault::Read,

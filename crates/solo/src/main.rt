@@ -8,8 +8,8 @@ ghost use Rattle.std.specs.Prelude.{◌≡◌};
 use fault::Fault;
 use solo_base::NoMemory;
 use solo_cli::{Finished, top};
-use solo_devices::{Area, SureSink, SureSource};
-use solo_edge::{DriveArea, ReaderSource, WriterSink, open_drive};
+use solo_devices::{Area, Sink, Source, SureSink, SureSource};
+use solo_edge::{DriveArea, ReaderSource, WriterSink, make_drive, open_drive};
 use std::env;
 use std::fs::Files;
 use std::io::{self, BufWriter, ErrorKind};
@@ -54,7 +54,8 @@ impl Ended {
     }
 }
 
-/// Runs the command of the words over standard input and standard output.
+/// Runs the command of the words over standard input and standard output. A drive that isn't there is made
+/// and formatted before.
 fn run<R: Env + Input + Print + Files + AllocGlobal + Threads + Wait + Sync>(
     rt: &R,
 ) -> Result<Ended, NoMemory>
@@ -62,18 +63,59 @@ where
     R::Reader: Send + Drop,
     R::File: Send + Drop,
 {
+    if make_drive(rt, DRIVE, FILE_PAGES + 2 * SPOOL_PAGES) {
+        let formatted = format(rt)?;
+        if formatted.status != 0 {
+            return Ok(formatted);
+        }
+    }
     let Some(words) = words(rt)? else {
         return Ok(Ended::with(1, Fault::Usage));
     };
     let Ok(writer) = BufWriter::new(rt.alloc(), io::writer(rt)) else {
         return Err(NoMemory);
     };
+    let deck = ReaderSource::new(rt.reader());
+    let (mut paper, ended) = over_drive(rt, &words, deck, WriterSink::new(writer));
+    // What was printed so far goes out whatever the status, and the lowest status decides.
+    if paper.flush().is_err() && (ended.status == 0 || ended.status > 4) {
+        return Ok(Ended::with(4, Fault::Print));
+    }
+    Ok(ended)
+}
+
+/// Formats the files of the drive.
+fn format<R: Files + AllocGlobal + Threads + Wait + Sync>(rt: &R) -> Result<Ended, NoMemory>
+where
+    R::File: Send + Drop,
+{
+    let mut words = Vec::new(rt.alloc());
+    words.push(String::from_str(rt.alloc(), "format")?)?;
+    let deck = SureSource::new(Vec::new(rt.alloc()), 1);
+    let (_, ended) = over_drive(rt, &words, deck, SureSink::new(rt.alloc()));
+    Ok(ended)
+}
+
+/// Runs the command of the words over a deck, a paper and the drive, with no keys and a console in memory.
+/// The paper comes back.
+fn over_drive<R: Files + AllocGlobal + Threads + Wait + Sync, S: Source, K: Sink>(
+    rt: &R,
+    words: &[String],
+    deck: S,
+    paper: K,
+) -> (K, Ended)
+where
+    R::File: Send + Drop,
+    S: Send + Drop,
+    K: Send + Drop,
+    requires { S.taken deck ≡ 0 }
+{
     let Finished {
         status,
         cause,
         deck: _,
         keys: _,
-        mut paper,
+        paper,
         console: _,
         files: _,
         input: _,
@@ -81,23 +123,17 @@ where
     } = top(
         rt,
         rt.alloc(),
-        &words,
-        ReaderSource::new(rt.reader()),
+        words,
+        deck,
         SureSource::new(Vec::new(rt.alloc()), 1),
-        WriterSink::new(writer),
+        paper,
         SureSink::new(rt.alloc()),
         area(rt, 0, FILE_PAGES),
         area(rt, FILE_PAGES, SPOOL_PAGES),
         area(rt, FILE_PAGES + SPOOL_PAGES, SPOOL_PAGES),
     );
-    // What was printed so far goes out whatever the status, and the lowest status decides.
-    if paper.flush().is_err() && (status == 0 || status > 4) {
-        return Ok(Ended::with(4, Fault::Print));
-    }
-    Ok(Ended {
-        status,
-        fault: cause.map(Fault::of),
-    })
+    let fault = cause.map(Fault::of);
+    (paper, Ended { status, fault })
 }
 
 /// The area of so many pages of the drive, from page `first` on. Each area opens the file for itself, since a
@@ -105,8 +141,7 @@ where
 fn area<R: Files>(rt: &R, first: u16, pages: u16) -> DriveArea<R::File>
     ensures { ⟦<DriveArea<R::File> as Area>⟧.size result ≡ pages }
 {
-    let drive = open_drive(rt, DRIVE, FILE_PAGES + 2 * SPOOL_PAGES);
-    DriveArea::new(drive, first, pages)
+    DriveArea::new(open_drive(rt, DRIVE), first, pages)
 }
 
 /// The words of the command line behind the program's name, or `None` where they can't be read.

@@ -1,62 +1,126 @@
 -- What is left to say of the status where no count rose, and of a deck that is too long.
-use Rattle.std.proofs.Common.{◌≡◌, ◌≢◌, ◌⊎◌, ◌≤◌, ◌+◌, ℕ, List, [], length, Option, Some, None, refl, ◌∙◌, ap, inl, inr, arith}
+use Rattle.std.proofs.Common.{◌≡◌, ◌≢◌, ◌⊎◌, ◌≤◌, ◌+◌, ℕ, List, [], length, Option, Some, None, refl, ◌∙◌, ap, subst, inl, inr, arith}
 use Rattle.std.specs.Prelude.{IfSome, IsSome}
 use Rattle.solo_base.specs.declared.outcome.Cause.{Cause}
 use Rattle.solo_base.specs.declared.outcome.Cause.TheVariants.{Usage, ReadFault, DiskFault, PrintFault, ConsoleFault, DeckLimit, NotSolo, Damaged, NoMemory}
 use Rattle.solo_devices.specs.CardUnit.{bytes_total, IsAllTaken}
 use Rattle.batch_procs.specs.Faults.{IsDamaged}
-use Rattle.solo_cli.specs.Status.{status_of}
-use Rattle.solo_cli.specs.Causes.{IsRunCause}
+use Rattle.solo_cli.specs.declared.refusal.Refusal.{Refusal}
+use Rattle.solo_cli.specs.declared.refusal.Refusal.TheVariants.{Fault, NoRoom}
+use Rattle.solo_cli.specs.declared.words.Command.{Command}
+use Rattle.solo_cli.specs.declared.words.Command.TheVariants as command
+use Rattle.solo_cli.specs.Status.{number_of, status_of}
+use Rattle.solo_cli.specs.Causes.{IsMakeCause}
+use Rattle.solo_cli.specs.Refusals.{IsDeckCause, IsMigrateCause, IsNotSolo, MayBeRefused, OfFault}
 
--- all causes but want of memory are shut out
-pub ends_well : (cause : Option Cause) → IfSome cause (λ it. (it ≡ Usage) ⊎ IsRunCause it) →
-    cause ≢ Some Usage → cause ≢ Some ReadFault → cause ≢ Some DiskFault → cause ≢ Some PrintFault → cause ≢ Some DeckLimit →
-    IfSome cause (λ it. IsDamaged it → ⊥) → (status_of cause ≡ 0) ⊎ (status_of cause ≡ 9)
-ends_well None known words deck disk paper limit whole = inl refl
-ends_well (Some cause) (inl is) words deck disk paper limit whole = absurd (words (ap Some is))
-ends_well (Some cause) (inr (inl is)) words deck disk paper limit whole = absurd (deck (ap Some is))
-ends_well (Some cause) (inr (inr (inl is))) words deck disk paper limit whole = absurd (disk (ap Some is))
-ends_well (Some cause) (inr (inr (inr (inl is)))) words deck disk paper limit whole = absurd (paper (ap Some is))
-ends_well (Some cause) (inr (inr (inr (inr (inl is))))) words deck disk paper limit whole = absurd (limit (ap Some is))
-ends_well (Some cause) (inr (inr (inr (inr (inr (inl is)))))) words deck disk paper limit whole = absurd (whole is)
-ends_well (Some cause) (inr (inr (inr (inr (inr (inr is)))))) words deck disk paper limit whole = inr (ap (λ it. status_of (Some it)) is)
+-- a command that there is has one of these causes
+among-run : (why : Cause) → IsMakeCause why → IsDeckCause why
+among-run why (inl is) = inl (inr (inl is))
+among-run why (inr (inl is)) = inl (inr (inr (inl is)))
+among-run why (inr (inr (inl is))) = inl (inr (inr (inr (inr (inl is)))))
+among-run why (inr (inr (inr is))) = inl (inr (inr (inr (inr (inr is)))))
 
-damaged-is : (cause : Cause) → IsDamaged cause → status_of (Some cause) ≡ 8
-damaged-is Usage is = absurd is
-damaged-is ReadFault is = absurd is
-damaged-is DiskFault is = absurd is
-damaged-is PrintFault is = absurd is
-damaged-is ConsoleFault is = absurd is
-damaged-is DeckLimit is = absurd is
-damaged-is (NotSolo page) is = absurd is
-damaged-is (Damaged expected found at) is = refl
-damaged-is NoMemory is = absurd is
+among-migrate : (why : Cause) → IsMigrateCause why → IsDeckCause why
+among-migrate why (inl is) = inl (inr (inl is))
+among-migrate why (inr (inl is)) = inl (inr (inr (inr (inr (inr is)))))
+among-migrate why (inr (inr is)) = inr is
+
+fault-of : {a b : Cause} → Fault a ≡ Fault b → a ≡ b
+fault-of same = cc
+
+among : (asked : Option Command) (why : Cause) → MayBeRefused asked (Fault why) → (why ≡ Usage) ⊎ IsDeckCause why
+among None why is = inl (fault-of is)
+among (Some command.Batch) why is = inr is
+among (Some (command.Core schedule)) why is = inr is
+among (Some (command.Make number)) why is = inr (among-run why is)
+among (Some command.Format) why is = inr (inl (inr (inl (fault-of is))))
+among (Some command.Migrate) why is = inr (among-migrate why is)
+
+-- want of room is a migration's
+pub room_is : (asked : Option Command) (needed free : ℕ) → MayBeRefused asked (NoRoom needed free) → asked ≡ Some command.Migrate
+room_is None needed free is = cc
+room_is (Some command.Batch) needed free is = absurd is
+room_is (Some (command.Core schedule)) needed free is = absurd is
+room_is (Some (command.Make number)) needed free is = absurd is
+room_is (Some command.Format) needed free is = cc
+room_is (Some command.Migrate) needed free is = refl
+
+-- all causes but want of memory are shut out, and for a migration want of room
+ends-of : (asked : Option Command) (why : Cause) → (why ≡ Usage) ⊎ IsDeckCause why →
+    why ≢ Usage → why ≢ ReadFault → why ≢ DiskFault → why ≢ PrintFault → why ≢ DeckLimit → (IsNotSolo why → ⊥) →
+    (IsDamaged why → ⊥) → number_of why ≡ 9
+ends-of asked why (inl is) words deck disk paper limit solo whole = absurd (words is)
+ends-of asked why (inr (inl (inl is))) words deck disk paper limit solo whole = absurd (deck is)
+ends-of asked why (inr (inl (inr (inl is)))) words deck disk paper limit solo whole = absurd (disk is)
+ends-of asked why (inr (inl (inr (inr (inl is))))) words deck disk paper limit solo whole = absurd (paper is)
+ends-of asked why (inr (inl (inr (inr (inr (inl is)))))) words deck disk paper limit solo whole = absurd (limit is)
+ends-of asked why (inr (inl (inr (inr (inr (inr (inl is))))))) words deck disk paper limit solo whole = absurd (whole is)
+ends-of asked why (inr (inl (inr (inr (inr (inr (inr is))))))) words deck disk paper limit solo whole = ap number_of is
+ends-of asked why (inr (inr is)) words deck disk paper limit solo whole = absurd (solo is)
+
+pub ends_well : (asked : Option Command) (answer : Option Refusal) → IfSome answer (MayBeRefused asked) →
+    answer ≢ Some (Fault Usage) → answer ≢ Some (Fault ReadFault) → answer ≢ Some (Fault DiskFault) →
+    answer ≢ Some (Fault PrintFault) → answer ≢ Some (Fault DeckLimit) →
+    ((page : ℕ) → answer ≢ Some (Fault (NotSolo page))) → IfSome answer (λ it. OfFault IsDamaged it → ⊥) →
+    (status_of answer ≡ 0) ⊎ ((status_of answer ≡ 9) ⊎ ((status_of answer ≡ 10) × (asked ≡ Some command.Migrate)))
+ends_well asked None known words deck disk paper limit solo whole = inl refl
+ends_well asked (Some (NoRoom needed free)) known words deck disk paper limit solo whole =
+    inr (inr (refl, room_is asked needed free known))
+ends_well asked (Some (Fault why)) known words deck disk paper limit solo whole =
+    inr (inl (ends-of asked why (among asked why known) (λ is. words (told is)) (λ is. deck (told is)) (λ is. disk (told is))
+    (λ is. paper (told is)) (λ is. limit (told is)) (λ is. solo is.0 (told is.1)) whole))
+  where
+    told : {it : Cause} → why ≡ it → Some (Fault why) ≡ Some (Fault it)
+    told is = ap (λ it. Some (Fault it)) is
 
 -- the statuses that there are
-pub known_status : (cause : Option Cause) → IfSome cause (λ it. (it ≡ Usage) ⊎ IsRunCause it) → (status : ℕ) → status ≡ status_of cause →
-    (status ≡ 0) ⊎ ((status ≡ 1) ⊎ ((status ≡ 2) ⊎ ((status ≡ 3) ⊎ ((status ≡ 4) ⊎ ((status ≡ 6) ⊎ ((status ≡ 8) ⊎ (status ≡ 9)))))))
-known_status None known status is = inl is
-known_status (Some cause) (inl it) status is = inr (inl (is ∙ ap (λ it. status_of (Some it)) it))
-known_status (Some cause) (inr (inl it)) status is = inr (inr (inl (is ∙ ap (λ it. status_of (Some it)) it)))
-known_status (Some cause) (inr (inr (inl it))) status is = inr (inr (inr (inl (is ∙ ap (λ it. status_of (Some it)) it))))
-known_status (Some cause) (inr (inr (inr (inl it)))) status is = inr (inr (inr (inr (inl (is ∙ ap (λ it. status_of (Some it)) it)))))
-known_status (Some cause) (inr (inr (inr (inr (inl it))))) status is = inr (inr (inr (inr (inr (inl (is ∙ ap (λ it. status_of (Some it)) it))))))
-known_status (Some cause) (inr (inr (inr (inr (inr (inl it)))))) status is = inr (inr (inr (inr (inr (inr (inl (is ∙ damaged-is cause it)))))))
-known_status (Some cause) (inr (inr (inr (inr (inr (inr it)))))) status is = inr (inr (inr (inr (inr (inr (inr (is ∙ ap (λ it. status_of (Some it)) it)))))))
+abbrev IsStatus : ℕ → Type 0
+IsStatus status =
+    (status ≡ 0) ⊎ ((status ≡ 1) ⊎ ((status ≡ 2) ⊎ ((status ≡ 3) ⊎ ((status ≡ 4) ⊎ ((status ≡ 6) ⊎ ((status ≡ 7)
+    ⊎ ((status ≡ 8) ⊎ ((status ≡ 9) ⊎ (status ≡ 10)))))))))
+
+known-number : (why : Cause) → why ≢ ConsoleFault → (status : ℕ) → status ≡ number_of why → IsStatus status
+known-number Usage console status is = inr (inl is)
+known-number ReadFault console status is = inr (inr (inl is))
+known-number DiskFault console status is = inr (inr (inr (inl is)))
+known-number PrintFault console status is = inr (inr (inr (inr (inl is))))
+known-number ConsoleFault console status is = absurd (console refl)
+known-number DeckLimit console status is = inr (inr (inr (inr (inr (inl is)))))
+known-number (NotSolo page) console status is = inr (inr (inr (inr (inr (inr (inl is))))))
+known-number (Damaged expected found at) console status is = inr (inr (inr (inr (inr (inr (inr (inl is)))))))
+known-number NoMemory console status is = inr (inr (inr (inr (inr (inr (inr (inr (inl is))))))))
+
+no-console : (why : Cause) → (why ≡ Usage) ⊎ IsDeckCause why → why ≢ ConsoleFault
+no-console why (inl is) at = cc
+no-console why (inr (inl (inl is))) at = cc
+no-console why (inr (inl (inr (inl is)))) at = cc
+no-console why (inr (inl (inr (inr (inl is))))) at = cc
+no-console why (inr (inl (inr (inr (inr (inl is)))))) at = cc
+no-console why (inr (inl (inr (inr (inr (inr (inl is))))))) at = subst IsDamaged at is
+no-console why (inr (inl (inr (inr (inr (inr (inr is))))))) at = cc
+no-console why (inr (inr is)) at = let page = is.1 in cc
+
+pub known_status : (asked : Option Command) (answer : Option Refusal) → IfSome answer (MayBeRefused asked) → (status : ℕ) →
+    status ≡ status_of answer → IsStatus status
+known_status asked None known status is = inl is
+known_status asked (Some (Fault why)) known status is =
+    known-number why (no-console why (among asked why known)) status is
+known_status asked (Some (NoRoom needed free)) known status is =
+    inr (inr (inr (inr (inr (inr (inr (inr (inr is))))))))
 
 -- status 8 comes of a damaged page alone
-pub not_eight : (cause : Option Cause) → IfSome cause (λ it. (it ≡ Usage) ⊎ IsRunCause it) → IfSome cause (λ it. IsDamaged it → ⊥) →
-    status_of cause ≢ 8
-not_eight None known whole is = cc
-not_eight (Some Usage) known whole is = cc
-not_eight (Some ReadFault) known whole is = cc
-not_eight (Some DiskFault) known whole is = cc
-not_eight (Some PrintFault) known whole is = cc
-not_eight (Some ConsoleFault) known whole is = cc
-not_eight (Some DeckLimit) known whole is = cc
-not_eight (Some (NotSolo page)) known whole is = cc
-not_eight (Some (Damaged expected found at)) known whole is = whole tt
-not_eight (Some NoMemory) known whole is = cc
+pub not_eight : (answer : Option Refusal) → IfSome answer (λ it. OfFault IsDamaged it → ⊥) → status_of answer ≢ 8
+not_eight None whole is = cc
+not_eight (Some (NoRoom needed free)) whole is = cc
+not_eight (Some (Fault Usage)) whole is = cc
+not_eight (Some (Fault ReadFault)) whole is = cc
+not_eight (Some (Fault DiskFault)) whole is = cc
+not_eight (Some (Fault PrintFault)) whole is = cc
+not_eight (Some (Fault ConsoleFault)) whole is = cc
+not_eight (Some (Fault DeckLimit)) whole is = cc
+not_eight (Some (Fault (NotSolo page))) whole is = cc
+not_eight (Some (Fault (Damaged expected found at))) whole is = whole tt
+not_eight (Some (Fault NoMemory)) whole is = cc
 
 -- of a deck that told its bytes no more was taken than it had, and all of it where nothing is left
 pub taken_of : (taken before : ℕ) (left told : Option (List ℕ)) (bytes : List ℕ) → before ≡ 0 → told ≡ Some bytes →

@@ -1,5 +1,9 @@
 mod Statuses
 mod Complete
+mod Endings
+mod Gaining
+mod Mounts
+mod Migrations
 mod Printing
 mod Lowest
 mod AllDone
@@ -14,4 +18,5 @@ mod MoreLines
 mod WordNumbers
 mod UnprintedNumbers
 mod MadeRuns
+mod UncountedRuns
 mod Reading

@@ -1,12 +1,14 @@
 -- Which commands read the deck, and what this leaves of the limit.
-use Rattle.std.proofs.Common.{◌≡◌, ◌≢◌, ◌⊎◌, inl, inr, ◌<◌, ℕ, List, Option, Some, None, refl, subst, arith}
+use Rattle.std.proofs.Common.{◌≡◌, ◌≢◌, inl, inr, ◌<◌, ℕ, List, Option, Some, None, refl, subst, arith}
 use Rattle.std.specs.Prelude.{IfSome, IsSome}
-use Rattle.solo_base.specs.declared.outcome.Cause.{Cause}
 use Rattle.solo_base.specs.declared.outcome.Cause.TheVariants.{DeckLimit}
 use Rattle.solo_devices.specs.CardUnit.{byte_limit, bytes_total}
 use Rattle.solo_cli.specs.declared.words.Command.{Command}
 use Rattle.solo_cli.specs.declared.words.Command.TheVariants as command
-use Rattle.solo_cli.specs.Causes.{IsMakeCause, IsWithinLimit}
+use Rattle.solo_cli.specs.declared.refusal.Refusal.{Refusal}
+use Rattle.solo_cli.specs.declared.refusal.Refusal.TheVariants.{Fault}
+use Rattle.solo_cli.specs.Causes.{IsWithinLimit}
+use Rattle.solo_cli.specs.Refusals.{MayBeRefused}
 use Rattle.solo_cli.specs.Uses.{ReadsDeck}
 use Rattle.solo_cli.proofs.Complete.{taken_of}
 use Rattle.solo_cli.proofs.Statuses.{not_limit}
@@ -23,18 +25,22 @@ none_beyond taken before left None within zero total more = within
 none_beyond taken before left (Some bytes) within zero total more =
     let few = (taken_of taken before left (Some bytes) bytes zero refl total).0 in omega (arith, few, within, more)
 
-reads-or-makes : (asked : Option Command) → asked ≢ None → ReadsDeck asked ⊎ ((n : ℕ) × (asked ≡ Some (command.Make n)))
-reads-or-makes None is = absurd (is refl)
-reads-or-makes (Some command.Batch) is = inl tt
-reads-or-makes (Some (command.Core schedule)) is = inl tt
-reads-or-makes (Some (command.Make n)) is = inr (n, refl)
+-- the limit is no cause of a command that reads no deck
+no-deck : (asked : Option Command) → asked ≢ None → MayBeRefused asked (Fault DeckLimit) → ReadsDeck asked
+no-deck None is known = absurd (is refl)
+no-deck (Some command.Batch) is known = tt
+no-deck (Some (command.Core schedule)) is known = tt
+no-deck (Some (command.Make n)) is known = absurd (not_limit known)
+no-deck (Some command.Format) is known = absurd cc
+no-deck (Some command.Migrate) is (inl known) = absurd cc
+no-deck (Some command.Migrate) is (inr (inl known)) = absurd cc
+no-deck (Some command.Migrate) is (inr (inr known)) = absurd (let page = known.1 in cc)
 
 -- the limit ends no command over a deck within it that it reads, and none that reads no deck
-pub no_limit : (asked : Option Command) (cause : Option Cause) (taken before : ℕ) (left told : Option (List ℕ)) → asked ≢ None
+pub no_limit : (asked : Option Command) (answer : Option Refusal) (taken before : ℕ) (left told : Option (List ℕ)) → asked ≢ None
     → (ReadsDeck asked → IsWithinLimit told) → before ≡ 0 → bytes_total taken left ≡ bytes_total before told
-    → (cause ≡ Some DeckLimit → byte_limit < taken) → ((n : ℕ) → asked ≡ Some (command.Make n) → IfSome cause IsMakeCause)
-    → cause ≡ Some DeckLimit → ⊥
-no_limit asked cause taken before left told is within zero total more made at = elim (reads-or-makes asked is) [
-  | inl reads ↦ none_beyond taken before left told (within reads) zero total (more at)
-  | inr makes ↦ not_limit (subst (λ why. IfSome why IsMakeCause) at (made makes.0 makes.1))
-]
+    → (answer ≡ Some (Fault DeckLimit) → byte_limit < taken) → IfSome answer (MayBeRefused asked)
+    → answer ≡ Some (Fault DeckLimit) → ⊥
+no_limit asked answer taken before left told is within zero total more known at =
+    none_beyond taken before left told
+    (within (no-deck asked is (subst (λ it. IfSome it (MayBeRefused asked)) at known))) zero total (more at)

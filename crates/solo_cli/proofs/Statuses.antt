@@ -1,152 +1,146 @@
 -- What a status says of the cause.
-use Rattle.std.proofs.Common.{◌≡◌, ◌≢◌, ℕ, List, [], ◌∷◌, ◌++◌, Option, Some, None, refl, ◌∙◌, sym, ap, subst, ◌⊎◌, inl, inr}
-use Rattle.std.specs.Prelude.{IfSome}
+use Rattle.std.proofs.Common.{◌≡◌, ◌≢◌, ℕ, Option, Some, None, refl, ◌∙◌, ap, subst, ◌⊎◌, inl, inr}
+use Rattle.std.specs.Prelude.{IfSome, IsSome}
 use Rattle.solo_base.specs.declared.outcome.Cause.{Cause}
 use Rattle.solo_base.specs.declared.outcome.Cause.TheVariants.{Usage, ReadFault, DiskFault, PrintFault, ConsoleFault, DeckLimit, NotSolo, Damaged, NoMemory}
-use Rattle.solo_devices.specs.PrinterUnit.{Gains}
-use Rattle.solo_base.specs.Text.{text}
-use Rattle.core_law.specs.Core.{CoreState}
-use Rattle.core_net.specs.declared.rules.Rule.{Rule}
 use Rattle.batch_procs.specs.Faults.{IsDamaged}
-use Rattle.solo_cli.specs.Status.{status_of}
+use Rattle.solo_cli.specs.declared.refusal.Refusal.{Refusal}
+use Rattle.solo_cli.specs.declared.refusal.Refusal.TheVariants.{Fault, NoRoom}
+use Rattle.solo_cli.specs.Status.{number_of, status_of}
 use Rattle.solo_cli.specs.Causes.{IsMakeCause}
-use Rattle.solo_cli.specs.CountsLine.{counts_line}
-use Rattle.solo_cli.specs.CountsPaper.{GainsCounted}
-use Rattle.solo_cli.specs.DeckNumbers.{deck_lines}
-use Rattle.solo_cli.specs.MadePaper.{GainsNumbers}
+use Rattle.solo_cli.specs.Refusals.{OfFault}
 
-pub no_cause : (cause : Option Cause) → status_of cause ≡ 0 → cause ≡ None
+no-number : (why : Cause) → number_of why ≡ 0 → ⊥
+no-number Usage zero = cc
+no-number ReadFault zero = cc
+no-number DiskFault zero = cc
+no-number PrintFault zero = cc
+no-number ConsoleFault zero = cc
+no-number DeckLimit zero = cc
+no-number (NotSolo page) zero = cc
+no-number (Damaged expected found at) zero = cc
+no-number NoMemory zero = cc
+
+pub no_cause : (answer : Option Refusal) → status_of answer ≡ 0 → answer ≡ None
 no_cause None zero = refl
-no_cause (Some Usage) zero = cc
-no_cause (Some ReadFault) zero = cc
-no_cause (Some DiskFault) zero = cc
-no_cause (Some PrintFault) zero = cc
-no_cause (Some ConsoleFault) zero = cc
-no_cause (Some DeckLimit) zero = cc
-no_cause (Some (NotSolo page)) zero = cc
-no_cause (Some (Damaged expected found at)) zero = cc
-no_cause (Some NoMemory) zero = cc
-
-pub gains_at_zero : (before now : Option (List ℕ)) (whole : List ℕ) (cause : Option Cause) (status : ℕ) → status ≡ status_of cause →
-    Gains before now whole (cause ≡ None) → Gains before now whole (status ≡ 0)
-gains_at_zero before now whole cause status is gains = record {
-  told = λ given told. record {
-    part = (gains.told given told).part;
-    now_is = (gains.told given told).now_is;
-    prefix = (gains.told given told).prefix;
-    all_is = λ zero. (gains.told given told).all_is (no_cause cause (sym is ∙ zero));
-  };
-  untold = gains.untold;
-}
+no_cause (Some (Fault why)) zero = absurd (no-number why zero)
+no_cause (Some (NoRoom needed free)) zero = cc
 
 -- each status tells its cause
-pub by_one : (cause : Option Cause) → status_of cause ≡ 1 → cause ≡ Some Usage
+one-is : (why : Cause) → number_of why ≡ 1 → why ≡ Usage
+one-is Usage is = refl
+one-is ReadFault is = cc
+one-is DiskFault is = cc
+one-is PrintFault is = cc
+one-is ConsoleFault is = cc
+one-is DeckLimit is = cc
+one-is (NotSolo page) is = cc
+one-is (Damaged expected found at) is = cc
+one-is NoMemory is = cc
+
+pub by_one : (answer : Option Refusal) → status_of answer ≡ 1 → answer ≡ Some (Fault Usage)
 by_one None is = cc
-by_one (Some Usage) is = refl
-by_one (Some ReadFault) is = cc
-by_one (Some DiskFault) is = cc
-by_one (Some PrintFault) is = cc
-by_one (Some ConsoleFault) is = cc
-by_one (Some DeckLimit) is = cc
-by_one (Some (NotSolo page)) is = cc
-by_one (Some (Damaged expected found at)) is = cc
-by_one (Some NoMemory) is = cc
+by_one (Some (Fault why)) is = ap (λ it. Some (Fault it)) (one-is why is)
+by_one (Some (NoRoom needed free)) is = cc
 
-pub by_two : (cause : Option Cause) → status_of cause ≡ 2 → cause ≡ Some ReadFault
+two-is : (why : Cause) → number_of why ≡ 2 → why ≡ ReadFault
+two-is Usage is = cc
+two-is ReadFault is = refl
+two-is DiskFault is = cc
+two-is PrintFault is = cc
+two-is ConsoleFault is = cc
+two-is DeckLimit is = cc
+two-is (NotSolo page) is = cc
+two-is (Damaged expected found at) is = cc
+two-is NoMemory is = cc
+
+pub by_two : (answer : Option Refusal) → status_of answer ≡ 2 → answer ≡ Some (Fault ReadFault)
 by_two None is = cc
-by_two (Some Usage) is = cc
-by_two (Some ReadFault) is = refl
-by_two (Some DiskFault) is = cc
-by_two (Some PrintFault) is = cc
-by_two (Some ConsoleFault) is = cc
-by_two (Some DeckLimit) is = cc
-by_two (Some (NotSolo page)) is = cc
-by_two (Some (Damaged expected found at)) is = cc
-by_two (Some NoMemory) is = cc
+by_two (Some (Fault why)) is = ap (λ it. Some (Fault it)) (two-is why is)
+by_two (Some (NoRoom needed free)) is = cc
 
-pub by_three : (cause : Option Cause) → status_of cause ≡ 3 → cause ≡ Some DiskFault
+three-is : (why : Cause) → number_of why ≡ 3 → why ≡ DiskFault
+three-is Usage is = cc
+three-is ReadFault is = cc
+three-is DiskFault is = refl
+three-is PrintFault is = cc
+three-is ConsoleFault is = cc
+three-is DeckLimit is = cc
+three-is (NotSolo page) is = cc
+three-is (Damaged expected found at) is = cc
+three-is NoMemory is = cc
+
+pub by_three : (answer : Option Refusal) → status_of answer ≡ 3 → answer ≡ Some (Fault DiskFault)
 by_three None is = cc
-by_three (Some Usage) is = cc
-by_three (Some ReadFault) is = cc
-by_three (Some DiskFault) is = refl
-by_three (Some PrintFault) is = cc
-by_three (Some ConsoleFault) is = cc
-by_three (Some DeckLimit) is = cc
-by_three (Some (NotSolo page)) is = cc
-by_three (Some (Damaged expected found at)) is = cc
-by_three (Some NoMemory) is = cc
+by_three (Some (Fault why)) is = ap (λ it. Some (Fault it)) (three-is why is)
+by_three (Some (NoRoom needed free)) is = cc
 
-pub by_four : (cause : Option Cause) → status_of cause ≡ 4 → cause ≡ Some PrintFault
+four-is : (why : Cause) → number_of why ≡ 4 → why ≡ PrintFault
+four-is Usage is = cc
+four-is ReadFault is = cc
+four-is DiskFault is = cc
+four-is PrintFault is = refl
+four-is ConsoleFault is = cc
+four-is DeckLimit is = cc
+four-is (NotSolo page) is = cc
+four-is (Damaged expected found at) is = cc
+four-is NoMemory is = cc
+
+pub by_four : (answer : Option Refusal) → status_of answer ≡ 4 → answer ≡ Some (Fault PrintFault)
 by_four None is = cc
-by_four (Some Usage) is = cc
-by_four (Some ReadFault) is = cc
-by_four (Some DiskFault) is = cc
-by_four (Some PrintFault) is = refl
-by_four (Some ConsoleFault) is = cc
-by_four (Some DeckLimit) is = cc
-by_four (Some (NotSolo page)) is = cc
-by_four (Some (Damaged expected found at)) is = cc
-by_four (Some NoMemory) is = cc
+by_four (Some (Fault why)) is = ap (λ it. Some (Fault it)) (four-is why is)
+by_four (Some (NoRoom needed free)) is = cc
 
-pub by_six : (cause : Option Cause) → status_of cause ≡ 6 → cause ≡ Some DeckLimit
+six-is : (why : Cause) → number_of why ≡ 6 → why ≡ DeckLimit
+six-is Usage is = cc
+six-is ReadFault is = cc
+six-is DiskFault is = cc
+six-is PrintFault is = cc
+six-is ConsoleFault is = cc
+six-is DeckLimit is = refl
+six-is (NotSolo page) is = cc
+six-is (Damaged expected found at) is = cc
+six-is NoMemory is = cc
+
+pub by_six : (answer : Option Refusal) → status_of answer ≡ 6 → answer ≡ Some (Fault DeckLimit)
 by_six None is = cc
-by_six (Some Usage) is = cc
-by_six (Some ReadFault) is = cc
-by_six (Some DiskFault) is = cc
-by_six (Some PrintFault) is = cc
-by_six (Some ConsoleFault) is = cc
-by_six (Some DeckLimit) is = refl
-by_six (Some (NotSolo page)) is = cc
-by_six (Some (Damaged expected found at)) is = cc
-by_six (Some NoMemory) is = cc
+by_six (Some (Fault why)) is = ap (λ it. Some (Fault it)) (six-is why is)
+by_six (Some (NoRoom needed free)) is = cc
+
+eight-is : (why : Cause) → number_of why ≡ 8 → IsDamaged why
+eight-is Usage is = cc
+eight-is ReadFault is = cc
+eight-is DiskFault is = cc
+eight-is PrintFault is = cc
+eight-is ConsoleFault is = cc
+eight-is DeckLimit is = cc
+eight-is (NotSolo page) is = cc
+eight-is (Damaged expected found at) is = tt
+eight-is NoMemory is = cc
+
+pub by_eight : (answer : Option Refusal) → status_of answer ≡ 8 → IsSome answer × IfSome answer (OfFault IsDamaged)
+by_eight None is = cc
+by_eight (Some (Fault why)) is = (refl, eight-is why is)
+by_eight (Some (NoRoom needed free)) is = cc
 
 -- where the deck was too long the status is that of the disk, of the printer or of the limit
-pub beyond_is : (cause : Option Cause) (status : ℕ) → status ≡ status_of cause
-    → (cause ≡ Some DiskFault) ⊎ ((cause ≡ Some PrintFault) ⊎ (cause ≡ Some DeckLimit)) → (status ≡ 3) ⊎ ((status ≡ 4) ⊎ (status ≡ 6))
-beyond_is cause status is (inl disk) = inl (is ∙ ap status_of disk)
-beyond_is cause status is (inr (inl print)) = inr (inl (is ∙ ap status_of print))
-beyond_is cause status is (inr (inr limit)) = inr (inr (is ∙ ap status_of limit))
-
-pub counted_at_zero : (rule : Rule) (s : CoreState) (before now : Option (List ℕ)) (lines : List (List ℕ)) (cause : Option Cause) (status : ℕ)
-    → status ≡ status_of cause → GainsCounted rule s before now lines (cause ≡ None) → GainsCounted rule s before now lines (status ≡ 0)
-counted_at_zero rule s before now lines cause status is gains = record {
-  counts = gains.counts;
-  outcomes = gains.outcomes;
-  stops = gains.stops;
-  devices = gains.devices;
-  runs = gains.runs;
-  gains = gains_at_zero before now (text (lines ++ counts_line gains.counts.events gains.counts.delays gains.counts.grants ∷ [])) cause status is gains.gains;
-  done = λ zero. gains.done (no_cause cause (sym is ∙ zero));
-  counted = λ zero. gains.counted (no_cause cause (sym is ∙ zero));
-}
-
-pub numbers_at_zero : (rule : Rule) (s : CoreState) (deck : List ℕ) (before now : Option (List ℕ)) (cause : Option Cause) (status : ℕ)
-    → status ≡ status_of cause → GainsNumbers rule s deck before now (cause ≡ None) → GainsNumbers rule s deck before now (status ≡ 0)
-numbers_at_zero rule s deck before now cause status is gains = record {
-  counts = gains.counts;
-  counted = gains.counted;
-  gains = gains_at_zero before now (text (deck_lines deck gains.counts)) cause status is gains.gains;
-}
+pub beyond_is : (answer : Option Refusal) (status : ℕ) → status ≡ status_of answer
+    → (answer ≡ Some (Fault DiskFault)) ⊎ ((answer ≡ Some (Fault PrintFault)) ⊎ (answer ≡ Some (Fault DeckLimit)))
+    → (status ≡ 3) ⊎ ((status ≡ 4) ⊎ (status ≡ 6))
+beyond_is answer status is (inl disk) = inl (is ∙ ap status_of disk)
+beyond_is answer status is (inr (inl print)) = inr (inl (is ∙ ap status_of print))
+beyond_is answer status is (inr (inr limit)) = inr (inr (is ∙ ap status_of limit))
 
 -- what holds where the cause is a failed area or a damaged page holds at status 3 and at status 8
-pub by_fault : (cause : Option Cause) (holds : Type 0) → IfSome cause (λ it. (it ≡ DiskFault) ⊎ IsDamaged it → holds) →
-    (status_of cause ≡ 3) ⊎ (status_of cause ≡ 8) → holds
+pub by_fault : (answer : Option Refusal) (holds : Type 0)
+    → IfSome answer (λ it. (it ≡ Fault DiskFault) ⊎ OfFault IsDamaged it → holds)
+    → (status_of answer ≡ 3) ⊎ (status_of answer ≡ 8) → holds
 by_fault None holds fault (inl is) = absurd cc
 by_fault None holds fault (inr is) = absurd cc
-by_fault (Some cause) holds fault (inl is) = fault (inl (same (by_three (Some cause) is))) where
-  same : {a b : Cause} → Some a ≡ Some b → a ≡ b
-  same e = cc
-by_fault (Some cause) holds fault (inr is) = fault (inr (by-eight cause is)) where
-  by-eight : (cause : Cause) → status_of (Some cause) ≡ 8 → IsDamaged cause
-  by-eight Usage is = cc
-  by-eight ReadFault is = cc
-  by-eight DiskFault is = cc
-  by-eight PrintFault is = cc
-  by-eight ConsoleFault is = cc
-  by-eight DeckLimit is = cc
-  by-eight (NotSolo page) is = cc
-  by-eight (Damaged expected found at) is = tt
-  by-eight NoMemory is = cc
+by_fault (Some (Fault why)) holds fault (inl is) = fault (inl (ap Fault (three-is why is)))
+by_fault (Some (Fault why)) holds fault (inr is) = fault (inr (eight-is why is))
+by_fault (Some (NoRoom needed free)) holds fault (inl is) = absurd cc
+by_fault (Some (NoRoom needed free)) holds fault (inr is) = absurd cc
 
 -- a deck that isn't read is no cause
 not-read : IsMakeCause ReadFault → ⊥
@@ -161,8 +155,14 @@ not_limit (inr (inl is)) = cc
 not_limit (inr (inr (inl is))) = is
 not_limit (inr (inr (inr is))) = cc
 
-pub made_status : (cause : Option Cause) → IfSome cause IsMakeCause → (status_of cause ≢ 2) × (status_of cause ≢ 6)
-made_status cause known = (
-  λ at. not-read (subst (λ why. IfSome why IsMakeCause) (by_two cause at) known),
-  λ at. not_limit (subst (λ why. IfSome why IsMakeCause) (by_six cause at) known),
+pub not_solo_made : (page : ℕ) → IsMakeCause (NotSolo page) → ⊥
+not_solo_made page (inl is) = cc
+not_solo_made page (inr (inl is)) = cc
+not_solo_made page (inr (inr (inl is))) = is
+not_solo_made page (inr (inr (inr is))) = cc
+
+pub made_status : (answer : Option Refusal) → IfSome answer (OfFault IsMakeCause) → (status_of answer ≢ 2) × (status_of answer ≢ 6)
+made_status answer known = (
+  λ at. not-read (subst (λ it. IfSome it (OfFault IsMakeCause)) (by_two answer at) known),
+  λ at. not_limit (subst (λ it. IfSome it (OfFault IsMakeCause)) (by_six answer at) known),
 )

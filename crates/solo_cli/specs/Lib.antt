@@ -3,6 +3,10 @@ pub use Rattle.solo_devices.specs.Count
 pub use Rattle.solo_devices.specs.CardUnit
 pub use Rattle.solo_devices.specs.PrinterUnit
 pub use Rattle.made_deck.specs.MadeDeck
+pub use Rattle.disk_layout.specs.Format1
+pub use Rattle.disk_files.specs.Answers
+pub use Rattle.disk_system.specs.Formatted
+pub use Rattle.disk_system.specs.Migrating
 pub mod Words
 pub mod Status
 pub mod Decides
@@ -11,5 +15,7 @@ pub mod DeckNumbers
 pub mod Tallies
 pub mod Uses
 pub mod Causes
+pub mod Refusals
+pub mod FileCommands
 pub mod CountsPaper
 pub mod MadePaper

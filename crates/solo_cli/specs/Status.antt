@@ -2,6 +2,8 @@
 use Rattle.std.specs.Prelude.{ℕ, Option, Some, None}
 use Rattle.solo_base.specs.declared.outcome.Cause.{Cause}
 use Rattle.solo_base.specs.declared.outcome.Cause.TheVariants.{Usage, ReadFault, DiskFault, PrintFault, ConsoleFault, DeckLimit, NotSolo, Damaged, NoMemory}
+use Rattle.solo_cli.specs.declared.refusal.Refusal.{Refusal}
+use Rattle.solo_cli.specs.declared.refusal.Refusal.TheVariants.{Fault, NoRoom}
 
 -- the number of a cause; where several arose the lowest decides
 abbrev pub number_of : Cause → ℕ
@@ -16,6 +18,7 @@ number_of (Damaged expected found at) = 8
 number_of NoMemory = 9
 
 -- 0 where the whole work was done
-abbrev pub status_of : Option Cause → ℕ
+abbrev pub status_of : Option Refusal → ℕ
 status_of None = 0
-status_of (Some cause) = number_of cause
+status_of (Some (Fault cause)) = number_of cause
+status_of (Some (NoRoom needed free)) = 10

@@ -10,7 +10,10 @@ use Rattle.solo_cli.specs.declared.words.Numbered.TheVariants as numbered
 
 -- the commands that stand alone
 abbrev pub alone : List ℕ → Option Command
-alone word = if bytes_eq word (codes "batch") then Some command.Batch else None
+alone word =
+    if bytes_eq word (codes "batch") then Some command.Batch
+    else if bytes_eq word (codes "format") then Some command.Format
+    else if bytes_eq word (codes "migrate") then Some command.Migrate else None
 
 -- the commands that take a number
 abbrev pub takes_number : List ℕ → Option Numbered

@@ -1,9 +1,11 @@
-ghost use Rattle.std.specs.Prelude.{◌≡◌, ◌≢◌, ◌↔◌, ◌⊎◌, ◌<◌, ◌≤◌, ℕ, List, [], None, Some, IsSome, length, map, string_bytes};
+ghost use Rattle.std.specs.Prelude.{◌≡◌, ◌≢◌, ◌↔◌, ◌⊎◌, ◌<◌, ◌≤◌, ℕ, List, [], None, Some, IsSome, IfSome, length, map, string_bytes};
 ghost use Rattle.solo_base.specs.Text.{text};
 ghost use Rattle.solo_base.specs.Card.{cards};
 ghost use Rattle.solo_devices.specs.Count.{Rose, Stayed};
 ghost use Rattle.solo_devices.specs.CardUnit.{byte_limit};
 ghost use Rattle.solo_devices.specs.PrinterUnit.{Gains};
+ghost use Rattle.disk_layout.specs.Format.{IsBad};
+ghost use Rattle.disk_system.specs.Formatted.{KeepsFilePages};
 ghost use Rattle.batch_job.specs.OneThread.{one_thread_output};
 ghost use Rattle.made_deck.specs.MadeDeck.{made_deck};
 ghost use Rattle.core_law.specs.Opening.{opened};
@@ -13,9 +15,13 @@ ghost use Rattle.solo_cli.specs.Status.{status_of};
 ghost use Rattle.solo_cli.specs.Causes.{IsWithinLimit};
 ghost use Rattle.solo_cli.specs.CountsPaper.{GainsCounted};
 ghost use Rattle.solo_cli.specs.MadePaper.{GainsNumbers};
-ghost use Rattle.solo_cli.specs.Uses.{ReadsDeck};
+ghost use Rattle.solo_cli.specs.Uses.{ReadsDeck, UsesFilesAlone};
+ghost use Rattle.solo_cli.specs.FileCommands.{CanUse, FormatsTo, MigratesTo, RefusesFiles};
+ghost use Rattle.solo_cli.specs.Refusals.{MayBeRefused};
 
-use crate::runs::{Done, run_command};
+use crate::choosing::run_command;
+use crate::mounting::Used;
+use crate::refusal::Refusal;
 use crate::status::status_of;
 use crate::words::Command;
 use core_net::Rule;
@@ -29,7 +35,7 @@ use std::thread::Threads;
 #[derive(Debug, Drop)]
 pub struct Finished<S, Y, K, T, F, I, O> {
     pub status: u8,
-    pub cause: Option<Cause>,
+    pub cause: Option<Refusal>,
     pub deck: S,
     pub keys: Y,
     pub paper: K,
@@ -39,10 +45,12 @@ pub struct Finished<S, Y, K, T, F, I, O> {
     pub output: O,
 }
 
-/// Runs the command that the words are, over these devices. `batch` and `core` run the card deck and print the
-/// report of each of its jobs: `batch` on threads, `core` under the schedule of a number, and behind the
-/// reports it prints what it counted. `make` makes the deck of a number, runs it in memory under the schedule
-/// of this number, and prints the numbers of both. Where the words are no command, nothing is done.
+/// Runs the command that the words are, over these devices. `batch` and `core` mount the files, and then
+/// they run the card deck and print the report of each of its jobs: `batch` on threads, `core` under the
+/// schedule of a number, and behind the reports it prints what it counted. `make` makes the deck of a
+/// number, runs it in memory under the schedule of this number, and prints the numbers of both. `format`
+/// makes the area of the files one without a file, and `migrate` makes one of format 1 one of format 2 with
+/// the same files. Where the words are no command, nothing is done.
 pub fn top<
     S: Source + Drop + Send,
     Y: Source,
@@ -66,6 +74,7 @@ pub fn top<
 ) -> Finished<S, Y, K, T, F, I, O>
     requires deck { S.taken deck ≡ 0 }
     requires keys { Y.taken keys ≡ 0 }
+    requires files { F.size files ≡ 4288 }
     requires input { (0 < I.size input) × (I.size input ≤ 256) }
     requires output { (0 < O.size output) × (O.size output ≤ 256) }
 
@@ -103,15 +112,48 @@ pub fn top<
         form (map (λ word. string_bytes word) words.now) ≡ Some (Command.Make number) →
         (result.status ≡ 3) ⊎ (result.status ≡ 8) → result.paper ≡ paper }
 
-    // Of a deck that tells its bytes and is within the limit the whole work is done where no count rose and both
-    // areas tell their pages, unless memory was refused; of a longer one never.
+    // `format` leaves an area without a file, and whatever fails the pages of files.
+    ensures formatted { form (map (λ word. string_bytes word) words.now) ≡ Some Command.Format →
+        (pages : List (List ℕ)) → F.pages files ≡ Some pages → result.status ≡ 0 →
+        FormatsTo pages (F.pages result.files) }
+    ensures file_pages { form (map (λ word. string_bytes word) words.now) ≡ Some Command.Format →
+        KeepsFilePages (F.pages files) (F.pages result.files) }
+
+    // `migrate` leaves a Solo disk with the files of before, or tells why it is refused; then no page
+    // changed, unless the area failed.
+    ensures migrated { form (map (λ word. string_bytes word) words.now) ≡ Some Command.Migrate →
+        (pages : List (List ℕ)) → F.pages files ≡ Some pages →
+        MigratesTo pages (F.pages result.files) result.cause }
+    ensures unmigrated { form (map (λ word. string_bytes word) words.now) ≡ Some Command.Migrate →
+        result.status ≢ 0 → result.status ≢ 3 → F.pages result.files ≡ F.pages files }
+
+    // `batch` and `core` leave the pages of the files. Where a page of these breaks the format, the least
+    // such page is named, and no other device is used, unless a read of the files failed or memory was
+    // refused.
+    ensures left { ReadsDeck (form (map (λ word. string_bytes word) words.now)) →
+        F.pages result.files ≡ F.pages files }
+    ensures broken { ReadsDeck (form (map (λ word. string_bytes word) words.now)) →
+        (pages : List (List ℕ)) → F.pages files ≡ Some pages → (page : ℕ) → IsBad pages page →
+        RefusesFiles pages (F.faults files) (F.faults result.files) result.cause
+        × (result.deck ≡ deck) × (result.paper ≡ paper) × (result.input ≡ input) × (result.output ≡ output) }
+    ensures not_solo { ReadsDeck (form (map (λ word. string_bytes word) words.now)) →
+        (page : ℕ) → result.cause ≡ Some (Refusal.Fault (Cause.NotSolo page)) →
+        ((pages : List (List ℕ)) → F.pages files ≡ Some pages → IsBad pages page)
+        × (result.deck ≡ deck) × (result.paper ≡ paper) × (result.input ≡ input) × (result.output ≡ output) }
+
+    // Of a deck that tells its bytes and is within the limit the whole work is done where no count rose,
+    // both areas tell their pages and the files are those of a Solo disk, unless memory was refused; of a
+    // longer one never. A migration may find too little room.
     ensures complete { IsSome (I.pages input) → IsSome (O.pages output) →
         (ReadsDeck (form (map (λ word. string_bytes word) words.now)) → IsWithinLimit (S.left deck)) →
+        CanUse (form (map (λ word. string_bytes word) words.now)) (F.pages files) →
         Stayed (S.faults deck) (S.faults result.deck) → Stayed (K.faults paper) (K.faults result.paper) →
+        Stayed (F.faults files) (F.faults result.files) →
         Stayed (I.faults input) (I.faults result.input) →
         Stayed (O.faults output) (O.faults result.output) →
         form (map (λ word. string_bytes word) words.now) ≢ None →
-        (result.status ≡ 0) ⊎ (result.status ≡ 9) }
+        (result.status ≡ 0) ⊎ (result.status ≡ 9) ⊎ ((result.status ≡ 10)
+        × (form (map (λ word. string_bytes word) words.now) ≡ Some Command.Migrate)) }
     ensures longer { ReadsDeck (form (map (λ word. string_bytes word) words.now)) →
         (bytes : List ℕ) → S.left deck ≡ Some bytes → byte_limit < length bytes → result.status ≢ 0 }
 
@@ -119,11 +161,13 @@ pub fn top<
     ensures usage { (result.status ≡ 1) ↔ (form (map (λ word. string_bytes word) words.now) ≡ None) }
     ensures unasked { form (map (λ word. string_bytes word) words.now) ≡ None →
         (result.deck ≡ deck) × (result.paper ≡ paper) × (result.input ≡ input) × (result.output ≡ output) }
+    ensures files_unasked { form (map (λ word. string_bytes word) words.now) ≡ None → result.files ≡ files }
 
-    // Each fault has its cause.
+    // Each fault has its cause, and each command its own faults.
     ensures read { result.status ≡ 2 → Rose (S.faults deck) (S.faults result.deck) }
     ensures disk { result.status ≡ 3 →
-        Rose (I.faults input) (I.faults result.input) ⊎ Rose (O.faults output) (O.faults result.output) }
+        Rose (I.faults input) (I.faults result.input) ⊎ Rose (O.faults output) (O.faults result.output)
+        ⊎ Rose (F.faults files) (F.faults result.files) }
     ensures print { result.status ≡ 4 → Rose (K.faults paper) (K.faults result.paper) }
     ensures limit { result.status ≡ 6 → byte_limit < S.taken result.deck }
     ensures beyond { byte_limit < S.taken result.deck →
@@ -132,19 +176,28 @@ pub fn top<
         (ReadsDeck (form (map (λ word. string_bytes word) words.now)) → IsSome (S.left deck)) →
         result.status ≢ 8 }
     ensures known { (result.status ≡ 0) ⊎ (result.status ≡ 1) ⊎ (result.status ≡ 2) ⊎ (result.status ≡ 3)
-        ⊎ (result.status ≡ 4) ⊎ (result.status ≡ 6) ⊎ (result.status ≡ 8) ⊎ (result.status ≡ 9) }
+        ⊎ (result.status ≡ 4) ⊎ (result.status ≡ 6) ⊎ (result.status ≡ 7) ⊎ (result.status ≡ 8)
+        ⊎ (result.status ≡ 9) ⊎ (result.status ≡ 10) }
+    ensures refusals { IfSome result.cause (MayBeRefused (form (map (λ word. string_bytes word) words.now))) }
     ensures status { result.status ≡ status_of result.cause }
 
-    // No command uses these devices yet.
-    ensures unused { (result.keys ≡ keys) × (result.console ≡ console) × (result.files ≡ files) }
+    // What a command doesn't use comes back as it came. No command uses the keys or the console yet.
+    ensures unused { (result.keys ≡ keys) × (result.console ≡ console) }
+    ensures files_alone { UsesFilesAlone (form (map (λ word. string_bytes word) words.now)) →
+        (result.deck ≡ deck) × (result.paper ≡ paper) × (result.input ≡ input) × (result.output ≡ output) }
+    ensures files_unused { (number : ℕ) →
+        form (map (λ word. string_bytes word) words.now) ≡ Some (Command.Make number) →
+        result.files ≡ files }
+    ensures files_size { F.size result.files ≡ F.size files }
 {
-    let Done {
+    let Used {
         cause,
         deck,
         paper,
+        files,
         input,
         output,
-    } = run_command(rt, alloc, words, deck, paper, input, output);
+    } = run_command(rt, alloc, words, deck, paper, files, input, output);
     Finished {
         status: status_of(cause),
         cause,

@@ -2,7 +2,8 @@
 ghost use Rattle.std.specs.Prelude.{◌≡◌, ◌<◌, ◌≤◌, IfOk};
 
 use crate::held::{HeldSink, HeldSource};
-use crate::{Finished, top};
+use crate::made_area::formatted;
+use crate::{Finished, Refusal, top};
 use solo_base::Cause;
 use solo_devices::{
     Area, BlankArea, MemArea, MemSink, MemSource, Sink, Source, SureArea, SureSource,
@@ -14,9 +15,9 @@ use std::test::Fail;
 use std::thread::Threads;
 
 /// How a run over these devices ended.
-pub type Ended<S, K, I, O> = Finished<S, SureSource, K, MemSink, BlankArea, I, O>;
+pub type Ended<S, K, I, O> = Finished<S, SureSource, K, MemSink, SureArea, I, O>;
 
-/// Runs these words over these devices.
+/// Runs these words over these devices, and files of which there are none.
 pub fn run<
     S: Source + Drop + Send,
     K: Sink + Drop + Send,
@@ -34,6 +35,31 @@ pub fn run<
     requires input { (0 < I.size input) × (I.size input ≤ 256) }
     requires output { (0 < O.size output) × (O.size output ≤ 256) }
 {
+    let files = formatted(rt.alloc())?;
+    run_over(rt, texts, files, deck, paper, input, output)
+}
+
+/// Runs these words over these devices.
+pub fn run_over<
+    F: Area + Drop,
+    S: Source + Drop + Send,
+    K: Sink + Drop + Send,
+    I: Area + Drop + Send,
+    O: Area + Drop + Send,
+>(
+    rt: &(impl Threads + Wait + Sync + AllocGlobal),
+    texts: &[&str],
+    files: F,
+    deck: S,
+    paper: K,
+    input: I,
+    output: O,
+) -> Result<Finished<S, SureSource, K, MemSink, F, I, O>, Fail>
+    requires files { F.size files ≡ 4288 }
+    requires deck { S.taken deck ≡ 0 }
+    requires input { (0 < I.size input) × (I.size input ≤ 256) }
+    requires output { (0 < O.size output) × (O.size output ≤ 256) }
+{
     let alloc = rt.alloc();
     let mut words = Vec::new(alloc);
     for text in texts {
@@ -47,7 +73,7 @@ pub fn run<
         SureSource::new(Vec::new(alloc), 1),
         paper,
         MemSink::new(alloc, Vec::new(alloc)),
-        BlankArea::new(0),
+        files,
         input,
         output,
     ))
@@ -99,7 +125,7 @@ fn an_input_area_of_zeros_has_a_damaged_page(rt: HostRuntime) -> Result<(), Fail
             at: 2,
         };
         assert_eq!(rt; ended.status, 8);
-        assert_eq!(rt; ended.cause, Some(damaged));
+        assert_eq!(rt; ended.cause, Some(Refusal::Fault(damaged)));
         assert!(rt; ended.paper.bytes().is_empty());
     }
     Ok(())

@@ -1,6 +1,7 @@
 // Runs in which one call of a device fails, or one page of a spool is damaged as it is read.
 ghost use Rattle.std.specs.Prelude.{◌≡◌, ◌<◌, ◌≤◌, IfOk};
 
+use crate::Refusal;
 use crate::device_tests::{COMMANDS, Ended, area, eight_lines, run, sure_area};
 use solo_base::Cause;
 use solo_devices::{Area, HurtArea, MemArea, MemSink, MemSource};
@@ -244,7 +245,7 @@ fn is_damaged<I: Area + Drop + Send, O: Area + Drop + Send>(
     let ended = run(rt, words, deck, paper, input, output)?;
     Ok(
         ended.status == 8
-            && ended.cause == Some(damaged)
+            && ended.cause == Some(Refusal::Fault(damaged))
             && eight_printed(alloc)?.starts_with(ended.paper.bytes()),
     )
 }

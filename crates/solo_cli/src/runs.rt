@@ -1,5 +1,5 @@
 //! The commands that run the five processes over the deck, the paper and the spools' areas.
-ghost use Rattle.std.specs.Prelude.{◌≡◌, ◌≢◌, ◌⊎◌, ◌↔◌, ◌<◌, ◌≤◌, ℕ, List, [], Some, None, IsSome, IfSome, IsOk, IsErrOf, map, string_bytes};
+ghost use Rattle.std.specs.Prelude.{◌≡◌, ◌⊎◌, ◌<◌, ◌≤◌, ℕ, List, Some, None, IsSome, IfSome, IsOk, IsErrOf};
 ghost use Rattle.solo_base.specs.Text.{text, line_text};
 ghost use Rattle.solo_base.specs.Card.{cards};
 ghost use Rattle.solo_devices.specs.Count.{Rose};
@@ -7,23 +7,17 @@ ghost use Rattle.solo_devices.specs.CardUnit.{IsAllTaken};
 ghost use Rattle.solo_devices.specs.PrinterUnit.{Gains};
 ghost use Rattle.batch_job.specs.OneThread.{one_thread_output};
 ghost use Rattle.batch_procs.specs.Faults.{IsDamaged};
-ghost use Rattle.made_deck.specs.MadeDeck.{made_deck};
 ghost use Rattle.core_law.specs.Opening.{opened};
 ghost use Rattle.core_net.specs.Causes.{counting};
 ghost use Rattle.core_net.specs.Openings.{spools_over};
 ghost use Rattle.core_net.specs.Runs.{AreFew};
-ghost use Rattle.solo_cli.specs.Words.{form};
 ghost use Rattle.solo_cli.specs.Decides.{decides, list_of};
 ghost use Rattle.solo_cli.specs.CountsLine.{counts_line};
-ghost use Rattle.solo_cli.specs.Causes.{HasItsCause, IsRunCause, IsMakeCause};
+ghost use Rattle.solo_cli.specs.Causes.{HasItsCause, IsRunCause};
 ghost use Rattle.solo_cli.specs.CountsPaper.{GainsCounted};
-ghost use Rattle.solo_cli.specs.MadePaper.{GainsNumbers};
-ghost use Rattle.solo_cli.specs.Uses.{ReadsDeck};
 
 use crate::counts::counts_line;
 use crate::deciding::decides;
-use crate::making::{Made, make};
-use crate::words::{Command, command_of};
 use batch_run::{Units, run_batch};
 use core_net::{Counts, Outcomes, Ran, Rule, run_core};
 use solo_base::{Cause, NoMemory, Outcome};
@@ -32,7 +26,7 @@ use std::alloc::Global;
 use std::sync::Wait;
 use std::thread::Threads;
 
-/// How a command ended, and the devices that it used.
+/// How a run of the five processes ended, and the devices that it used.
 pub struct Done<S, K, I, O> {
     pub cause: Option<Cause>,
     pub deck: S,
@@ -41,99 +35,9 @@ pub struct Done<S, K, I, O> {
     pub output: O,
 }
 
-/// Runs the command that the words are.
-pub fn run_command<
-    S: Source + Drop + Send,
-    K: Sink + Drop + Send,
-    I: Area + Send,
-    O: Area + Send,
-    R: Threads + Wait + Sync,
->(
-    rt: &R,
-    alloc: Global,
-    words: &[String],
-    deck: S,
-    paper: K,
-    input: I,
-    output: O,
-) -> Done<S, K, I, O>
-    requires deck { S.taken deck ≡ 0 }
-    requires input { (0 < I.size input) × (I.size input ≤ 256) }
-    requires output { (0 < O.size output) × (O.size output ≤ 256) }
-
-    // What the paper gains of each command.
-    ensures batch { form (map (λ word. string_bytes word) words.now) ≡ Some Command.Batch →
-        (bytes : List ℕ) → S.left deck ≡ Some bytes → IsSome (I.pages input) → IsSome (O.pages output) →
-        Gains (K.given paper) (K.given result.paper) (text (one_thread_output bytes)) (result.cause ≡ None) }
-    ensures core { (schedule : ℕ) → form (map (λ word. string_bytes word) words.now) ≡ Some (Command.Core schedule) →
-        (bytes : List ℕ) → S.left deck ≡ Some bytes → IsSome (I.pages input) → IsSome (O.pages output) →
-        GainsCounted (Rule.Numbered schedule)
-        (opened (spools_over (I.size input) (I.pages input) (O.size output) (O.pages output))
-        (Some (cards bytes)) (K.given paper))
-        (K.given paper) (K.given result.paper) (one_thread_output bytes) (result.cause ≡ None) }
-    ensures make { (number : ℕ) →
-        form (map (λ word. string_bytes word) words.now) ≡ Some (Command.Make number) →
-        IsSome (I.pages input) → IsSome (O.pages output) →
-        GainsNumbers (Rule.Numbered number)
-        (opened (spools_over (I.size input) (I.pages input) (O.size output) (O.pages output))
-        (Some (cards (made_deck number))) (Some []))
-        (made_deck number) (K.given paper) (K.given result.paper) (result.cause ≡ None) }
-    ensures unread { (number : ℕ) →
-        form (map (λ word. string_bytes word) words.now) ≡ Some (Command.Make number) →
-        (result.deck ≡ deck) × IfSome result.cause IsMakeCause }
-    ensures unprinted { (number : ℕ) →
-        form (map (λ word. string_bytes word) words.now) ≡ Some (Command.Make number) →
-        IfSome result.cause (λ cause. (cause ≡ Cause.DiskFault) ⊎ IsDamaged cause →
-        result.paper ≡ paper) }
-
-    // Words that are no command.
-    ensures usage { (result.cause ≡ Some Cause.Usage) ↔ (form (map (λ word. string_bytes word) words.now) ≡ None) }
-    ensures unasked { form (map (λ word. string_bytes word) words.now) ≡ None →
-        (result.deck ≡ deck) × (result.paper ≡ paper) × (result.input ≡ input) × (result.output ≡ output) }
-
-    // The cause is one of those that there can be, and each has its reason.
-    ensures all_taken { ReadsDeck (form (map (λ word. string_bytes word) words.now)) → result.cause ≡ None →
-        IsAllTaken (S.left result.deck) }
-    ensures caused { HasItsCause (counting S.faults S.taken K.faults I.faults O.faults) S.left
-        record { source = deck; sink = paper; input = input; output = output }
-        record { source = result.deck; sink = result.paper; input = result.input; output = result.output }
-        result.cause }
-    ensures undamaged { IsSome (I.pages input) → IsSome (O.pages output) →
-        (ReadsDeck (form (map (λ word. string_bytes word) words.now)) → IsSome (S.left deck)) →
-        IfSome result.cause (λ cause. IsDamaged cause → ⊥) }
-    ensures known { IfSome result.cause (λ cause. (cause ≡ Cause.Usage) ⊎ IsRunCause cause) }
-{
-    match command_of(words) {
-        None => Done {
-            cause: Some(Cause::Usage),
-            deck,
-            paper,
-            input,
-            output,
-        },
-        Some(Command::Batch) => batch(rt, alloc, deck, paper, input, output),
-        Some(Command::Core { schedule }) => core(alloc, schedule, deck, paper, input, output),
-        Some(Command::Make { number }) => {
-            let Made {
-                cause,
-                paper,
-                input,
-                output,
-            } = make(alloc, number, paper, input, output);
-            Done {
-                cause,
-                deck,
-                paper,
-                input,
-                output,
-            }
-        }
-    }
-}
-
-// Runs the deck on five threads.
+/// Runs the deck on five threads.
 #[inline(never)]
-fn batch<
+pub fn batch<
     S: Source + Drop + Send,
     K: Sink + Drop + Send,
     I: Area + Send,
@@ -189,9 +93,9 @@ fn refused<S: Source, K: Sink, I: Area, O: Area>(units: Units<S, K, I, O>) -> Do
     }
 }
 
-// Runs the deck on the core, under the schedule of this number, and prints what it counted.
+/// Runs the deck on the core, under the schedule of this number, and prints what it counted.
 #[inline(never)]
-fn core<S: Source, K: Sink, I: Area, O: Area>(
+pub fn core<S: Source, K: Sink, I: Area, O: Area>(
     alloc: Global,
     schedule: u32,
     deck: S,

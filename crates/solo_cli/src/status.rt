@@ -1,15 +1,17 @@
 ghost use Rattle.std.specs.Prelude.{◌≡◌};
 ghost use Rattle.solo_cli.specs.Status.{number_of, status_of};
 
+use crate::refusal::Refusal;
 use solo_base::Cause;
 
 /// The status with which a command ends: 0 where it did its whole work, else the number of its cause.
-pub fn status_of(cause: Option<Cause>) -> u8
+pub fn status_of(cause: Option<Refusal>) -> u8
     ensures { result ≡ status_of cause }
 {
     match cause {
         None => 0,
-        Some(cause) => number_of(cause),
+        Some(Refusal::Fault(cause)) => number_of(cause),
+        Some(Refusal::NoRoom { needed: _, free: _ }) => 10,
     }
 }
 

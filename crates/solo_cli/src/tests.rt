@@ -1,14 +1,15 @@
 ghost use Rattle.std.specs.Prelude.{◌≡◌, ◌<◌, IfOk};
 
+use crate::made_area::formatted;
 use crate::{Finished, top};
 use solo_base::Cause;
-use solo_devices::{Area, BlankArea, MemSink, MemSource, Source, SureArea, Took};
+use solo_devices::{Area, MemSink, MemSource, Source, SureArea, Took};
 use std::alloc::Global;
 use std::sync::Wait;
 use std::test::Fail;
 use std::thread::Threads;
 
-pub type Ended = Finished<MemSource, MemSource, MemSink, MemSink, BlankArea, SureArea, SureArea>;
+pub type Ended = Finished<MemSource, MemSource, MemSink, MemSink, SureArea, SureArea, SureArea>;
 
 /// A card of 81 columns.
 const WIDE: &str =
@@ -140,7 +141,7 @@ fn ended(
         MemSource::new(Vec::new(alloc), 1, Vec::new(alloc)),
         MemSink::new(alloc, failing),
         MemSink::new(alloc, Vec::new(alloc)),
-        BlankArea::new(0),
+        formatted(rt.alloc())?,
         spool(rt)?,
         spool(rt)?,
     ))

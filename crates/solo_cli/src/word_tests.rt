@@ -49,6 +49,8 @@ fn is_make(alloc: Global, digits: &str, number: u32) -> Result<bool, Fail> {
 fn each_written_form_is_a_command(rt: HostRuntime) -> Result<(), Fail> {
     let alloc = rt.alloc();
     assert_eq!(rt; command(alloc, &["batch"])?, Some(Command::Batch));
+    assert_eq!(rt; command(alloc, &["format"])?, Some(Command::Format));
+    assert_eq!(rt; command(alloc, &["migrate"])?, Some(Command::Migrate));
     assert!(rt; is_core(alloc, "0", 0)?);
     assert!(rt; is_core(alloc, "7", 7)?);
     assert!(rt; is_core(alloc, "0000000007", 7)?);
@@ -61,7 +63,7 @@ fn each_written_form_is_a_command(rt: HostRuntime) -> Result<(), Fail> {
 }
 
 /// Words that are no written form.
-const OTHERS: [&[&str]; 50] = [
+const OTHERS: [&[&str]; 58] = [
     &[],
     &[""],
     &["BATCH"],
@@ -112,6 +114,14 @@ const OTHERS: [&[&str]; 50] = [
     &["batch", "--number", "7"],
     &["--number", "make", "7"],
     &["make", "--number", "7", "7"],
+    &["FORMAT"],
+    &["formats"],
+    &["format", "format"],
+    &["format", "--number=7"],
+    &["--number", "7", "format"],
+    &["MIGRATE"],
+    &["migrate", "format"],
+    &["migrate", "--schedule", "7"],
 ];
 
 #[test]

@@ -13,6 +13,10 @@ pub enum Command {
     Core { schedule: u32 },
     /// Makes the deck of a number, runs it on the core and prints the numbers of both.
     Make { number: u32 },
+    /// Makes the area of the files one without a file.
+    Format,
+    /// Makes an area of format 1 one of format 2 with the same files.
+    Migrate,
 }
 
 /// A command that takes a number.
@@ -43,12 +47,16 @@ pub fn command_of(words: &[String]) -> Option<Command>
     }
 }
 
-/// The command that stands alone.
+/// The commands that stand alone.
 fn alone(word: &str) -> Option<Command>
     ensures { result ≡ alone word.now }
 {
     if word == "batch" {
         Some(Command::Batch)
+    } else if word == "format" {
+        Some(Command::Format)
+    } else if word == "migrate" {
+        Some(Command::Migrate)
     } else {
         None
     }

@@ -9,7 +9,7 @@ mod retried;
 mod writer_sink;
 
 pub use drive_area::DriveArea;
-pub use drive_file::open_drive;
+pub use drive_file::{make_drive, open_drive};
 pub use reader_source::ReaderSource;
 pub use writer_sink::WriterSink;
 

@@ -1,4 +1,4 @@
-use crate::{DriveArea, ReaderSource, WriterSink, open_drive};
+use crate::{DriveArea, ReaderSource, WriterSink, make_drive, open_drive};
 use solo_base::Page;
 use solo_devices::{Area, Gave, Moved, Sink, Source, Took};
 use std::fs::{self, File, OpenOptions};
@@ -70,7 +70,9 @@ fn a_read_past_the_end_of_the_drive_fails_and_is_counted(rt: HostRuntime) -> Res
 #[test]
 fn a_drive_file_that_is_not_there_is_made_of_zeros(rt: HostRuntime) -> Result<(), Fail> {
     let path = "solo_edge_made";
-    let mut area = DriveArea::new(open_drive(&rt, path, 3), 0, 4);
+    assert!(rt; open_drive(&rt, path).is_none());
+    assert!(rt; make_drive(&rt, path, 3));
+    let mut area = DriveArea::new(open_drive(&rt, path), 0, 4);
     assert_eq!(rt; fs::read(&rt, path)?.as_slice(), [0; 3 * 512].as_slice());
     let mut page = Page([9; 512]);
     assert_eq!(rt; area.read(2, &mut page), Moved::Done);
@@ -85,7 +87,8 @@ fn a_drive_file_that_is_not_there_is_made_of_zeros(rt: HostRuntime) -> Result<()
 fn a_drive_file_that_is_there_is_left_as_it_is(rt: HostRuntime) -> Result<(), Fail> {
     let path = "solo_edge_kept";
     fs::write(&rt, path, [5; 512].as_slice())?;
-    let mut area = DriveArea::new(open_drive(&rt, path, 3), 0, 3);
+    assert!(rt; !make_drive(&rt, path, 3));
+    let mut area = DriveArea::new(open_drive(&rt, path), 0, 3);
     let mut page = Page([0; 512]);
     assert_eq!(rt; area.read(0, &mut page), Moved::Done);
     assert!(rt; page.0.iter().all(|byte| *byte == 5));
@@ -98,9 +101,10 @@ fn a_drive_file_that_is_there_is_left_as_it_is(rt: HostRuntime) -> Result<(), Fa
 fn a_directory_and_a_path_through_a_file_are_no_drive(rt: HostRuntime) -> Result<(), Fail> {
     let path = "solo_edge_file";
     fs::write(&rt, path, b"X".as_slice())?;
-    assert!(rt; open_drive(&rt, ".", 1).is_none());
-    assert!(rt; open_drive(&rt, "solo_edge_file/drive", 1).is_none());
-    assert!(rt; open_drive(&rt, "solo_edge_nowhere/drive", 1).is_none());
+    for path in [".", "solo_edge_file/drive", "solo_edge_nowhere/drive"] {
+        assert!(rt; !make_drive(&rt, path, 1));
+        assert!(rt; open_drive(&rt, path).is_none());
+    }
     fs::remove_file(&rt, path)?;
     Ok(())
 }

@@ -1,0 +1,90 @@
+-- Why a command didn't do its whole work.
+use Rattle.std.specs.Prelude.{◌≡◌, ◌<◌, ◌⊎◌, ℕ, List, Option, Some, None}
+use Rattle.solo_base.specs.declared.outcome.Cause.{Cause}
+use Rattle.solo_base.specs.declared.outcome.Cause.TheVariants as cause
+use Rattle.solo_devices.specs.Count.{Rose}
+use Rattle.solo_devices.specs.CardUnit.{byte_limit, bytes_total}
+use Rattle.disk_files.specs.declared.fault.FileFault.{FileFault}
+use Rattle.disk_files.specs.declared.fault.FileFault.TheVariants as files
+use Rattle.disk_system.specs.declared.migrating.MigrateFault.{MigrateFault}
+use Rattle.disk_system.specs.declared.migrating.MigrateFault.TheVariants as migrating
+use Rattle.core_net.specs.Causes.{Counts}
+use Rattle.core_net.specs.Faults.{Peripherals}
+use Rattle.solo_cli.specs.declared.refusal.Refusal.{Refusal}
+use Rattle.solo_cli.specs.declared.refusal.Refusal.TheVariants.{Fault, NoRoom}
+use Rattle.solo_cli.specs.declared.words.Command.{Command}
+use Rattle.solo_cli.specs.declared.words.Command.TheVariants as command
+use Rattle.solo_cli.specs.Causes.{IsRunCause, IsMakeCause}
+
+-- the end of a run as that of a command
+abbrev pub as_refusal : Option Cause → Option Refusal
+as_refusal None = None
+as_refusal (Some why) = Some (Fault why)
+
+-- a migration's fault as that of a command
+abbrev pub refusal_of : MigrateFault → Refusal
+refusal_of (migrating.NotSolo page) = Fault (cause.NotSolo page)
+refusal_of (migrating.NoRoom needed free) = NoRoom needed free
+refusal_of migrating.DiskFault = Fault cause.DiskFault
+refusal_of migrating.NoMemory = Fault cause.NoMemory
+
+-- a refused mount's fault as that of a command; no other fault is a mount's
+abbrev pub mount_cause : FileFault → Cause
+mount_cause (files.NotSolo page) = cause.NotSolo page
+mount_cause files.NoMemory = cause.NoMemory
+mount_cause files.DiskFault = cause.DiskFault
+mount_cause files.NoFile = cause.DiskFault
+mount_cause files.Exists = cause.DiskFault
+mount_cause files.Protected = cause.DiskFault
+mount_cause files.CatalogFull = cause.DiskFault
+mount_cause files.DiskFull = cause.DiskFault
+mount_cause files.FileFull = cause.DiskFault
+mount_cause files.PageRange = cause.DiskFault
+
+-- a cause of which this holds
+abbrev pub OfFault : (Cause → Type 0) → Refusal → Type 0
+OfFault holds (Fault why) = holds why
+OfFault holds (NoRoom needed free) = ⊥
+
+abbrev pub IsNotSolo : Cause → Type 0
+IsNotSolo why = (page : ℕ) × (why ≡ cause.NotSolo page)
+
+-- what may end a command that mounts the files and runs the deck
+abbrev pub IsDeckCause : Cause → Type 0
+IsDeckCause why = IsRunCause why ⊎ IsNotSolo why
+
+-- what may end a migration beside want of room
+abbrev pub IsMigrateCause : Cause → Type 0
+IsMigrateCause why = (why ≡ cause.DiskFault) ⊎ ((why ≡ cause.NoMemory) ⊎ IsNotSolo why)
+
+abbrev pub MayRefuseMigration : Refusal → Type 0
+MayRefuseMigration (Fault why) = IsMigrateCause why
+MayRefuseMigration (NoRoom needed free) = Unit {0}
+
+-- why each command may be refused
+abbrev pub MayBeRefused : Option Command → Refusal → Type 0
+MayBeRefused None refusal = refusal ≡ Fault cause.Usage
+MayBeRefused (Some command.Batch) refusal = OfFault IsDeckCause refusal
+MayBeRefused (Some (command.Core schedule)) refusal = OfFault IsDeckCause refusal
+MayBeRefused (Some (command.Make number)) refusal = OfFault IsMakeCause refusal
+MayBeRefused (Some command.Format) refusal = refusal ≡ Fault cause.DiskFault
+MayBeRefused (Some command.Migrate) refusal = MayRefuseMigration refusal
+
+-- Each cause has its reason, as in a run; a fault of the disk may be one of the files, whose count was the
+-- first of these numbers and is the second.
+pub record HasItsReason {S K A B : Type 0} (counts : Counts S K A B) (left : S → Option (List ℕ))
+    (before now : Peripherals S K A B) (files_before files_now : ℕ) (answer : Option Refusal) : Type 0 where
+  pub read : answer ≡ Some (Fault cause.ReadFault)
+      → Rose (counts.read_faults before.source) (counts.read_faults now.source)
+  pub disk : answer ≡ Some (Fault cause.DiskFault)
+      → Rose (counts.input_faults before.input) (counts.input_faults now.input)
+      ⊎ Rose (counts.output_faults before.output) (counts.output_faults now.output)
+      ⊎ Rose files_before files_now
+  pub print : answer ≡ Some (Fault cause.PrintFault)
+      → Rose (counts.print_faults before.sink) (counts.print_faults now.sink)
+  pub limit : answer ≡ Some (Fault cause.DeckLimit) → byte_limit < counts.taken now.source
+  pub beyond : byte_limit < counts.taken now.source
+      → (answer ≡ Some (Fault cause.DiskFault)) ⊎ (answer ≡ Some (Fault cause.PrintFault))
+      ⊎ (answer ≡ Some (Fault cause.DeckLimit))
+  pub total : bytes_total (counts.taken now.source) (left now.source)
+      ≡ bytes_total (counts.taken before.source) (left before.source)

@@ -1,0 +1,192 @@
+//! The commands that mount the files, and then run the deck.
+ghost use Rattle.std.specs.Prelude.{◌≡◌, ◌⊎◌, ◌<◌, ◌≤◌, ℕ, List, Some, None, IsSome, IfSome};
+ghost use Rattle.solo_base.specs.Text.{text};
+ghost use Rattle.solo_base.specs.Card.{cards};
+ghost use Rattle.solo_devices.specs.CardUnit.{IsAllTaken};
+ghost use Rattle.solo_devices.specs.PrinterUnit.{Gains};
+ghost use Rattle.disk_layout.specs.Format.{IsBad, IsSoloDisk};
+ghost use Rattle.batch_job.specs.OneThread.{one_thread_output};
+ghost use Rattle.batch_procs.specs.Faults.{IsDamaged};
+ghost use Rattle.core_law.specs.Opening.{opened};
+ghost use Rattle.core_net.specs.Causes.{counting};
+ghost use Rattle.core_net.specs.Openings.{spools_over};
+ghost use Rattle.solo_cli.specs.Causes.{IsRunCause};
+ghost use Rattle.solo_cli.specs.CountsPaper.{GainsCounted};
+ghost use Rattle.solo_cli.specs.FileCommands.{RefusesFiles};
+ghost use Rattle.solo_cli.specs.Refusals.{HasItsReason, IsDeckCause, OfFault, as_refusal, mount_cause};
+
+use crate::refusal::Refusal;
+use crate::runs::{Done, batch, core};
+use core_net::Rule;
+use disk_files::{FileArea, FileFault};
+use solo_base::Cause;
+use solo_devices::{Area, Sink, Source};
+use std::alloc::Global;
+use std::sync::Wait;
+use std::thread::Threads;
+
+/// How a command ended, and the devices that it used.
+pub struct Used<S, K, F, I, O> {
+    pub cause: Option<Refusal>,
+    pub deck: S,
+    pub paper: K,
+    pub files: F,
+    pub input: I,
+    pub output: O,
+}
+
+/// Where the five processes run.
+#[derive(Clone, Copy, Debug, PartialEq, Eq)]
+pub enum Mode {
+    /// Each on a thread of its own.
+    Threads,
+    /// On the core, under the schedule of a number.
+    Core { schedule: u32 },
+}
+
+/// Mounts the files, and then runs the deck. Where the files can't be mounted nothing else is done: no byte
+/// of the deck is taken, and nothing is printed.
+pub fn run_deck<
+    S: Source + Drop + Send,
+    K: Sink + Drop + Send,
+    F: Area,
+    I: Area + Send,
+    O: Area + Send,
+    R: Threads + Wait + Sync,
+>(
+    rt: &R,
+    alloc: Global,
+    mode: Mode,
+    deck: S,
+    paper: K,
+    files: F,
+    input: I,
+    output: O,
+) -> Used<S, K, F, I, O>
+    requires deck { S.taken deck ≡ 0 }
+    requires files { F.size files ≡ 4288 }
+    requires input { (0 < I.size input) × (I.size input ≤ 256) }
+    requires output { (0 < O.size output) × (O.size output ≤ 256) }
+    ensures threads { mode ≡ Mode.Threads → (bytes : List ℕ) → S.left deck ≡ Some bytes →
+        IsSome (I.pages input) → IsSome (O.pages output) →
+        Gains (K.given paper) (K.given result.paper) (text (one_thread_output bytes)) (result.cause ≡ None) }
+    ensures core { (schedule : ℕ) → mode ≡ Mode.Core schedule → (bytes : List ℕ) →
+        S.left deck ≡ Some bytes → IsSome (I.pages input) → IsSome (O.pages output) →
+        GainsCounted (Rule.Numbered schedule)
+        (opened (spools_over (I.size input) (I.pages input) (O.size output) (O.pages output))
+        (Some (cards bytes)) (K.given paper))
+        (K.given paper) (K.given result.paper) (one_thread_output bytes) (result.cause ≡ None) }
+    ensures all_taken { result.cause ≡ None → IsAllTaken (S.left result.deck) }
+    ensures caused { HasItsReason (counting S.faults S.taken K.faults I.faults O.faults) S.left
+        record { source = deck; sink = paper; input = input; output = output }
+        record { source = result.deck; sink = result.paper; input = result.input; output = result.output }
+        (F.faults files) (F.faults result.files) result.cause }
+    ensures undamaged { IsSome (S.left deck) → IsSome (I.pages input) → IsSome (O.pages output) →
+        IfSome result.cause (λ refusal. OfFault IsDamaged refusal → ⊥) }
+    ensures refusals { IfSome result.cause (OfFault IsDeckCause) }
+
+    // Files that can't be mounted.
+    ensures mounts { (pages : List (List ℕ)) → F.pages files ≡ Some pages → IsSoloDisk pages
+        ⊎ (RefusesFiles pages (F.faults files) (F.faults result.files) result.cause
+        × (result.deck ≡ deck) × (result.paper ≡ paper) × (result.input ≡ input) × (result.output ≡ output)) }
+    ensures not_solo { (page : ℕ) → result.cause ≡ Some (Refusal.Fault (Cause.NotSolo page)) →
+        ((pages : List (List ℕ)) → F.pages files ≡ Some pages → IsBad pages page)
+        × (result.deck ≡ deck) × (result.paper ≡ paper) × (result.input ≡ input) × (result.output ≡ output) }
+    ensures left { F.pages result.files ≡ F.pages files }
+    ensures size { F.size result.files ≡ F.size files }
+{
+    match FileArea::mount(alloc, files) {
+        Ok(files) => run_mounted(rt, alloc, mode, deck, paper, files, input, output),
+        Err((files, fault)) => Used {
+            cause: Some(Refusal::Fault(mount_cause(fault))),
+            deck,
+            paper,
+            files,
+            input,
+            output,
+        },
+    }
+}
+
+// The cause that files weren't mounted by.
+fn mount_cause(fault: FileFault) -> Cause
+    ensures { result ≡ mount_cause fault }
+{
+    match fault {
+        FileFault::NotSolo { page } => Cause::NotSolo { page },
+        FileFault::NoMemory => Cause::NoMemory,
+        _ => Cause::DiskFault,
+    }
+}
+
+// Runs the deck with its files.
+fn run_mounted<
+    S: Source + Drop + Send,
+    K: Sink + Drop + Send,
+    F: Area,
+    I: Area + Send,
+    O: Area + Send,
+    R: Threads + Wait + Sync,
+>(
+    rt: &R,
+    alloc: Global,
+    mode: Mode,
+    deck: S,
+    paper: K,
+    files: FileArea<F>,
+    input: I,
+    output: O,
+) -> Used<S, K, F, I, O>
+    requires deck { S.taken deck ≡ 0 }
+    requires input { (0 < I.size input) × (I.size input ≤ 256) }
+    requires output { (0 < O.size output) × (O.size output ≤ 256) }
+    ensures threads { mode ≡ Mode.Threads → (bytes : List ℕ) → S.left deck ≡ Some bytes →
+        IsSome (I.pages input) → IsSome (O.pages output) →
+        Gains (K.given paper) (K.given result.paper) (text (one_thread_output bytes)) (result.cause ≡ None) }
+    ensures core { (schedule : ℕ) → mode ≡ Mode.Core schedule → (bytes : List ℕ) →
+        S.left deck ≡ Some bytes → IsSome (I.pages input) → IsSome (O.pages output) →
+        GainsCounted (Rule.Numbered schedule)
+        (opened (spools_over (I.size input) (I.pages input) (O.size output) (O.pages output))
+        (Some (cards bytes)) (K.given paper))
+        (K.given paper) (K.given result.paper) (one_thread_output bytes) (result.cause ≡ None) }
+    ensures all_taken { result.cause ≡ None → IsAllTaken (S.left result.deck) }
+    ensures caused { HasItsReason (counting S.faults S.taken K.faults I.faults O.faults) S.left
+        record { source = deck; sink = paper; input = input; output = output }
+        record { source = result.deck; sink = result.paper; input = result.input; output = result.output }
+        (F.faults files.area) (F.faults result.files) result.cause }
+    ensures undamaged { IsSome (S.left deck) → IsSome (I.pages input) → IsSome (O.pages output) →
+        IfSome result.cause (λ refusal. OfFault IsDamaged refusal → ⊥) }
+    ensures refusals { IfSome result.cause (OfFault IsRunCause) }
+    ensures files { result.files ≡ files.area }
+{
+    let files = files.into_inner();
+    match mode {
+        Mode::Threads => with_files(batch(rt, alloc, deck, paper, input, output), files),
+        Mode::Core { schedule } => {
+            with_files(core(alloc, schedule, deck, paper, input, output), files)
+        }
+    }
+}
+
+// What a run came to, beside the files.
+fn with_files<S, K, F, I, O>(done: Done<S, K, I, O>, files: F) -> Used<S, K, F, I, O>
+    ensures cause { result.cause ≡ as_refusal done.cause }
+    ensures units { (result.deck ≡ done.deck) × (result.paper ≡ done.paper) × (result.files ≡ files)
+        × (result.input ≡ done.input) × (result.output ≡ done.output) }
+{
+    let Done {
+        cause,
+        deck,
+        paper,
+        input,
+        output,
+    } = done;
+    Used {
+        cause: Refusal::of_run(cause),
+        deck,
+        paper,
+        files,
+        input,
+        output,
+    }
+}
