@@ -1,5 +1,6 @@
 // Decks with programs, and the papers that the rules of the language give them.
 use crate::tests::{batch, run};
+use std::alloc::Global;
 use std::sync::Wait;
 use std::test::Fail;
 use std::thread::Threads;
@@ -204,6 +205,41 @@ fn a_code_over_8192_instructions_is_refused(rt: HostRuntime) -> Result<(), Fail>
     assert_eq!(rt;
         ended.paper.bytes(),
         b"JOB ADD\nADD: CODE LIMIT\n".as_slice()
+    );
+    Ok(())
+}
+
+/// A program whose cards are the first one, and then the second one so many times.
+fn repeated(alloc: Global, first: &[u8], card: &[u8], times: u32) -> Result<Vec<u8>, Fail> {
+    let mut deck = b"#JOB A\n".to_vec(alloc)?;
+    deck.extend_from_slice(first)?;
+    for _ in 0..times {
+        deck.push(b'\n')?;
+        deck.extend_from_slice(card)?;
+    }
+    Ok(deck)
+}
+
+#[test]
+fn sixteen_megabytes_of_blanks_are_no_program(rt: HostRuntime) -> Result<(), Fail> {
+    let deck = repeated(rt.alloc(), b"", [b' '; 80].as_slice(), 207_000)?;
+    let ended = batch(&rt, deck.as_slice(), 512, &[], &[])?;
+    assert_eq!(rt; ended.status, 0);
+    assert_eq!(rt;
+        ended.paper.bytes(),
+        b"JOB A\nA: SYNTAX ERROR IN LINE 207002\n".as_slice()
+    );
+    Ok(())
+}
+
+#[test]
+fn ten_thousand_parentheses_are_refused(rt: HostRuntime) -> Result<(), Fail> {
+    let deck = repeated(rt.alloc(), b"BEGIN WRITEINT(", [b'('; 80].as_slice(), 125)?;
+    let ended = batch(&rt, deck.as_slice(), 512, &[], &[])?;
+    assert_eq!(rt; ended.status, 0);
+    assert_eq!(rt;
+        ended.paper.bytes(),
+        b"JOB A\nA: SYNTAX ERROR IN LINE 2\n".as_slice()
     );
     Ok(())
 }
