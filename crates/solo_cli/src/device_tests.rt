@@ -2,11 +2,11 @@
 ghost use Rattle.std.specs.Prelude.{◌≡◌, ◌<◌, ◌≤◌, IfOk};
 
 use crate::held::{HeldSink, HeldSource};
-use crate::made_area::formatted;
+use crate::made_area::{formatted, zeros};
 use crate::{Finished, Refusal, top};
 use solo_base::Cause;
 use solo_devices::{
-    Area, BlankArea, MemArea, MemSink, MemSource, Sink, Source, SureArea, SureSource,
+    Area, BlankArea, MemArea, MemSink, MemSource, Sink, Source, SureArea, SureSource, Took,
 };
 use std::alloc::Global;
 use std::sync::atomic::AtomicU64;
@@ -127,6 +127,31 @@ fn an_input_area_of_zeros_has_a_damaged_page(rt: HostRuntime) -> Result<(), Fail
         assert_eq!(rt; ended.status, 8);
         assert_eq!(rt; ended.cause, Some(Refusal::Fault(damaged)));
         assert!(rt; ended.paper.bytes().is_empty());
+    }
+    Ok(())
+}
+
+#[test]
+fn an_area_of_files_of_zeros_is_refused(rt: HostRuntime) -> Result<(), Fail> {
+    let alloc = rt.alloc();
+    for words in COMMANDS {
+        let mut ended = run_over(
+            &rt,
+            words,
+            zeros(alloc)?,
+            MemSource::new(LISTING.to_vec(alloc)?, 512, Vec::new(alloc)),
+            MemSink::new(alloc, Vec::new(alloc)),
+            sure_area(alloc, 256)?,
+            sure_area(alloc, 256)?,
+        )?;
+        let mut piece = [0; 512];
+        assert_eq!(rt; ended.status, 7);
+        assert_eq!(rt;
+            ended.cause,
+            Some(Refusal::Fault(Cause::NotSolo { page: 0 }))
+        );
+        assert!(rt; ended.paper.bytes().is_empty());
+        assert!(rt; ended.deck.take(piece.as_mut_slice()) == Took::Bytes(LISTING.len()));
     }
     Ok(())
 }

@@ -21,19 +21,13 @@ pub use words::{Command, Numbered};
 #[cfg(test)]
 mod device_tests;
 #[cfg(test)]
-mod drive_tests;
-#[cfg(test)]
 mod failure_tests;
-#[cfg(test)]
-mod file_tests;
 #[cfg(test)]
 mod held;
 #[cfg(test)]
 mod made_area;
 #[cfg(test)]
 mod make_tests;
-#[cfg(test)]
-mod migrate_tests;
 #[cfg(test)]
 mod part_tests;
 #[cfg(test)]
