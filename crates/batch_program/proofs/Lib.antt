@@ -4,7 +4,8 @@ pub mod Bytes
 mod Onward
 mod Steps
 mod Fitting
-mod Courses
+pub mod Courses
+pub mod RunSoFar
 pub mod Source
 pub mod MoreCards
 pub mod Words

@@ -55,15 +55,15 @@ at_wait m input closed made stands all call none =
     record { outcome = Waits (made ++ call.call ∷ []); runs = (made, call.call, refl, all, none, on.0); rest = call.call ∷ []; first = refl }
 
 -- a machine behind the answer to its next call
-abbrev behind_call : (m : Standing) → State → SysReply → Standing
+abbrev pub behind_call : (m : Standing) → State → SysReply → Standing
 behind_call m asked reply = record m { state = answered m.code asked reply }
 
-record StandsBehind (m : Standing) (input : List ℕ) (closed : Bool) (made : List SysCall) : Type 0 where
+pub record StandsBehind (m : Standing) (input : List ℕ) (closed : Bool) (made : List SysCall) : Type 0 where
   pub well : StandsWell m
   pub stands : StandsFor m (batch_replies input made) made
   pub answered : AreAnswered input closed made
 
-past_call : (m : Standing) (input : List ℕ) (closed : Bool) (made : List SysCall) (reply : SysReply) → All (λ code. code < 256) input
+pub past_call : (m : Standing) (input : List ℕ) (closed : Bool) (made : List SysCall) (reply : SysReply) → All (λ code. code < 256) input
     → StandsBehind m input closed made
     → (call : IsCall m.code m.limit m.state) → reply_so_far (input_behind input made) closed call.call ≡ Some reply
     → StandsBehind (behind_call m call.asked reply) input closed (made ++ call.call ∷ [])

@@ -11,6 +11,7 @@ use Rattle.stack_code.specs.CodeLists.{CodeLists, IsCode}
 use Rattle.stack_code.specs.Rules.{IsGood}
 use Rattle.stack_machine.specs.Run.{Runs}
 use Rattle.batch_program.specs.Outcome.{Work, ComesTo, lines_of, meaning_so_far, EndsAs}
+use Rattle.batch_program.specs.RunSoFar.{run_so_far}
 use Rattle.batch_program.specs.Progress.{Progress}
 use Rattle.batch_program.specs.Told.{IsTold, Tells, IsAt}
 use Rattle.batch_program.specs.declared.told.Told.{Told}
@@ -101,6 +102,20 @@ abbrev pub ComesToItsEnding : Type 0
 ComesToItsEnding =
     (w : Work) (p : Program) (outcome : RunOutcome) → MeansItsSource w.code p → AreLines w.cards
     → w.closed ≡ true → ComesTo w outcome → EndsAs outcome (ending_in_batch p w.limit w.cards)
+
+-- ---- What code comes to while its cards come
+
+-- good code comes to the run of its instructions
+abbrev pub ReachesItsRun : Type 0
+ReachesItsRun =
+    (w : Work) → IsCode w.code → IsGood w.code → AreLines w.cards
+    → ComesTo w (run_so_far w.code w.limit w.cards w.closed)
+
+-- with more cards the run of a code goes on
+abbrev pub RunsGoOn : Type 0
+RunsGoOn =
+    (c : CodeLists) (limit : ℕ) (cards more : List (List ℕ)) (closed : Bool)
+    → GoesOn (run_so_far c limit cards false) (run_so_far c limit (cards ++ more) closed)
 
 -- ---- What programs mean while their cards come
 

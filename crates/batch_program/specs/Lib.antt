@@ -1,6 +1,7 @@
 pub mod Input
 pub mod CardsLeft
 pub mod Outcome
+pub mod RunSoFar
 pub mod Progress
 pub mod Told
 pub mod Printing

@@ -4,6 +4,7 @@ ghost use Rattle.batch_program.specs.Laws.{SomeOutcome, OneOutcome, FewLines};
 ghost use Rattle.batch_program.specs.Laws.{MoreCardsGoOn, MoreCardsMoreLines, GivenLinesAreFirst};
 ghost use Rattle.batch_program.specs.Laws.{ReachesItsMeaning, ComesToItsMeaning, ComesToItsEnding};
 ghost use Rattle.batch_program.specs.Laws.{TellsItsMeaning, GivenAreItsLines};
+ghost use Rattle.batch_program.specs.Laws.{ReachesItsRun, RunsGoOn};
 ghost use Rattle.batch_program.specs.Laws.{MeaningsGoOn, MeaningsAddLines, MeaningsEnd};
 
 /// With its cards so far a program of good code comes to one thing: it has ended, or it waits for a card.
@@ -33,6 +34,12 @@ pub fn code_comes_to_what_its_source_means()
     ensures tells { TellsItsMeaning }
     ensures given { GivenAreItsLines }
     ensures ending { ComesToItsEnding }
+{}
+
+/// With its cards so far code comes to the run of its instructions, which goes on with more of them.
+pub fn code_comes_to_its_run()
+    ensures reaches { ReachesItsRun }
+    ensures goes_on { RunsGoOn }
 {}
 
 /// What a program means with its cards so far goes on with more of them; with all of them it has ended, as in

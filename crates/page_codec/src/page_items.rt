@@ -63,6 +63,18 @@ impl PageItems {
         Some(item)
     }
 
+    /// The same items once more.
+    pub fn copy(&self) -> PageItems
+        ensures { result ≡ self.now }
+    {
+        PageItems {
+            page: self.page,
+            at: self.at,
+            end: self.end,
+            last: self.last,
+        }
+    }
+
     /// Whether the page is the last of its stream.
     pub fn last(&self) -> bool
         ensures { result ≡ self.now.last }

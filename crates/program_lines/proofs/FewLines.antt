@@ -15,12 +15,15 @@ use Rattle.pascal_code.specs.Size.{size}
 use Rattle.code_law.specs.Law.{Compiles}
 use Rattle.code_law.proofs.Lawful.{code_is_code, code_is_good, does_what_it_means}
 use Rattle.pascal_compile.specs.Compiling.{Compiling, compiled, bad_word, syntax_error, semantic_error, code_limit, by_rule, by_reading, compiling}
-use Rattle.batch_program.specs.Outcome.{lines_of, meaning_so_far}
+use Rattle.batch_program.specs.Outcome.{Work, lines_of, meaning_so_far}
+use Rattle.batch_program.specs.RunSoFar.{run_so_far}
 use Rattle.batch_program.specs.Laws.{most_lines}
 use Rattle.batch_program.proofs.Bytes.{text_is_bytes}
 use Rattle.batch_program.proofs.FewLines.{few-lines as few-printed}
 use Rattle.batch_program.proofs.Source.{reaches_meaning}
+use Rattle.batch_program.proofs.RunSoFar.{reaches_run}
 use Rattle.program_lines.specs.Task.{source_of, source_lines, outcome_lines, end_lines}
+use Rattle.program_lines.specs.Laws.{FewLinesOfCode}
 
 -- ---- What compiles
 by-its-size : (t p : Program) (b : Bool) → nat_le (size t) 8192 ≡ b → cond b (compiled t) code_limit ≡ compiled p → (t ≡ p) × (size t ≤ 8192)
@@ -47,17 +50,26 @@ few-ends : (name : List ℕ) (outcome : RunOutcome) → length (end_lines name o
 few-ends name (Ends r line ticks calls) = omega arith
 few-ends name (Waits calls) = omega arith
 
+with-end : (name : List ℕ) (outcome : RunOutcome) (most : ℕ) → length (lines_of outcome) ≤ most → length (outcome_lines name outcome) ≤ most + 1
+with-end name outcome most few =
+    let last = few-ends name outcome in
+    let whole = length-append (lines_of outcome) (end_lines name outcome) in
+    omega (arith, few, last, whole)
+
 few-so : (name : List ℕ) (limit : ℕ) (p : Program) (input : List (List ℕ)) (closed : Bool) → Compiles p → AreLines input
     → length (outcome_lines name (meaning_so_far p limit input closed)) ≤ most_lines limit + 1
 few-so name limit p input closed is lines =
     let outcome = meaning_so_far p limit input closed in
     let comes =
     reaches_meaning (code_of p) p limit (text input) closed (λ limit replies fit. does_what_it_means p limit replies is fit) (text_is_bytes input lines) in
-    let few =
-    few-printed (record { code = code_of p; limit = limit; cards = input; closed = closed }) outcome (code_is_code p is) (code_is_good p is) lines comes in
-    let last = few-ends name outcome in
-    let whole = length-append (lines_of outcome) (end_lines name outcome) in
-    omega (arith, few, last, whole)
+    with-end name outcome (most_lines limit)
+    (few-printed (record { code = code_of p; limit = limit; cards = input; closed = closed }) outcome (code_is_code p is) (code_is_good p is) lines comes)
+
+pub few-of-code : FewLinesOfCode
+few-of-code name limit code input closed is good lines =
+    let w : Work = record { code = code; limit = limit; cards = input; closed = closed } in
+    let outcome = run_so_far code limit input closed in
+    with-end name outcome (most_lines limit) (few-printed w outcome is good lines (reaches_run w is good lines))
 
 pub few-lines : (name : List ℕ) (limit : ℕ) (cards input : List (List ℕ)) (closed : Bool) → AreLines cards → AreLines input
     → length (source_lines name limit (source_of name (compiling cards)) input closed) ≤ most_lines limit + 1

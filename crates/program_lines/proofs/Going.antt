@@ -7,7 +7,9 @@ use Rattle.pascal_mean.specs.Batch.{Ending, ending_in_batch}
 use Rattle.batch_program.specs.Outcome.{lines_of, meaning_so_far, EndsAs}
 use Rattle.batch_program.proofs.Source.{meaning_goes_on, meaning_ends}
 use Rattle.batch_program.proofs.MoreCards.{lines_go_on}
-use Rattle.program_lines.specs.Task.{Runs, Says, outcome_lines, end_lines, ending_lines}
+use Rattle.batch_program.specs.RunSoFar.{run_so_far}
+use Rattle.batch_program.proofs.RunSoFar.{runs_go_further}
+use Rattle.program_lines.specs.Task.{Runs, RunsCode, Says, outcome_lines, end_lines, ending_lines}
 use Rattle.batch_program.specs.Laws.{IsPrefix}
 use Rattle.program_lines.specs.Laws.{MoreCardsGoOn, AllCardsGiveAll}
 
@@ -25,6 +27,8 @@ outcomes-go_on name (Waits calls) later goes =
 pub more-cards : MoreCardsGoOn
 more-cards name limit (Runs p) input more closed =
     outcomes-go_on name (meaning_so_far p limit input false) (meaning_so_far p limit (input ++ more) closed) (meaning_goes_on p limit input more closed)
+more-cards name limit (RunsCode code) input more closed =
+    outcomes-go_on name (run_so_far code limit input false) (run_so_far code limit (input ++ more) closed) (runs_go_further code limit input more closed)
 more-cards name limit (Says line) input more closed = ([], refl)
 
 by-ending : (name : List ℕ) (outcome : RunOutcome) (e : Ending) → EndsAs outcome e → outcome_lines name outcome ≡ ending_lines name e
@@ -33,4 +37,5 @@ by-ending name (Waits calls) e never = absurd never
 
 pub all-cards : AllCardsGiveAll
 all-cards name limit (Runs p) input = by-ending name (meaning_so_far p limit input true) (ending_in_batch p limit input) (meaning_ends p limit input)
+all-cards name limit (RunsCode code) input = refl
 all-cards name limit (Says line) input = refl

@@ -1,9 +1,11 @@
 -- The laws of a program's lines.
 use Rattle.std.specs.Prelude.{◌≡◌, ℕ, ◌+◌, ◌≤◌, Bool, true, false, List, ◌++◌, length}
 use Rattle.solo_base.specs.LineList.{AreLines}
+use Rattle.stack_code.specs.CodeLists.{CodeLists, IsCode}
+use Rattle.stack_code.specs.Rules.{IsGood}
 use Rattle.pascal_compile.specs.Compiling.{compiling}
 use Rattle.batch_program.specs.Laws.{IsPrefix, most_lines}
-use Rattle.program_lines.specs.Task.{Source, source_of, program_lines, source_lines}
+use Rattle.program_lines.specs.Task.{Source, RunsCode, source_of, program_lines, source_lines}
 
 -- with more cards its lines go on
 abbrev pub MoreCardsGoOn : Type 0
@@ -24,3 +26,10 @@ FewLines =
     (name : List ℕ) (limit : ℕ) (cards input : List (List ℕ)) (closed : Bool)
     → AreLines cards → AreLines input
     → length (source_lines name limit (source_of name (compiling cards)) input closed) ≤ most_lines limit + 1
+
+-- and so are those of the good code of a file
+abbrev pub FewLinesOfCode : Type 0
+FewLinesOfCode =
+    (name : List ℕ) (limit : ℕ) (code : CodeLists) (input : List (List ℕ)) (closed : Bool) → IsCode code
+    → IsGood code → AreLines input
+    → length (source_lines name limit (RunsCode code) input closed) ≤ most_lines limit + 1

@@ -1,11 +1,11 @@
 -- What a job's program that is under way stands for.
 use Rattle.std.specs.Prelude.{◌≡◌, ℕ, ◌+◌, Bool, false, List, [], ◌∷◌, ◌++◌}
-use Rattle.pascal_tree.specs.Program.{Program}
-use Rattle.stack_code.specs.CodeLists.{CodeLists}
+use Rattle.stack_code.specs.CodeLists.{CodeLists, IsCode}
+use Rattle.stack_code.specs.Rules.{IsGood}
 use Rattle.batch_program.specs.Progress.{Progress, NeedsCard, most_lines_left}
 use Rattle.batch_program.specs.Told.{IsAt}
 use Rattle.batch_program.specs.Laws.{MeansItsSource}
-use Rattle.program_lines.specs.Task.{Task, Runs, task_lines, with_more}
+use Rattle.program_lines.specs.Task.{Source, Runs, RunsCode, Says, Task, task_lines, with_more}
 use Rattle.program_lines.specs.declared.program_lines.ProgramLines.{ProgramLines}
 use Rattle.program_lines.specs.declared.program_lines.ProgramLines.TheVariants as lines
 
@@ -15,13 +15,17 @@ pub record IsSettled (t : Task) (all : List (List ℕ)) : Type 0 where
   pub later : t.closed ≡ false → (more : List (List ℕ)) (closed : Bool)
       → task_lines (with_more t more closed) ≡ all
 
--- Code that does what the program means was given the cards so far and has given these lines.
+-- this code does what a job has to run: what its program means, or it is the good code of its file
+abbrev pub Serves : CodeLists → Source → Type 0
+Serves code (Runs program) = MeansItsSource code program
+Serves code (RunsCode file) = (code ≡ file) × IsCode file × IsGood file
+Serves code (Says line) = ⊥
+
+-- Such code was given the cards so far and has given these lines.
 pub record IsUnderWay (name : List ℕ) (r : Progress) (t : Task) (given : List (List ℕ)) : Type 0 where
   pub name_is : t.name ≡ name
-  pub program : Program
-  pub runs : t.source ≡ Runs program
   pub code : CodeLists
-  pub means : MeansItsSource code program
+  pub serves : Serves code t.source
   pub at : IsAt r (record { code = code; limit = t.limit; cards = t.input; closed = t.closed }) given
 
 -- It is at this task, of which it has given these lines.

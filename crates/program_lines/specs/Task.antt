@@ -4,13 +4,16 @@ use Rattle.std.specs.Prelude.{ℕ, Bool, true, false, List, [], ◌∷◌, ◌++
 use Rattle.solo_base.specs.RunOutcome.{RunOutcome, Ends, Waits}
 use Rattle.pascal_tree.specs.Program.{Program}
 use Rattle.pascal_mean.specs.Batch.{Ending, ending_in_batch}
+use Rattle.stack_code.specs.CodeLists.{CodeLists}
 use Rattle.pascal_compile.specs.Compiling.{Compiling, compiled, bad_word, syntax_error, semantic_error, code_limit}
 use Rattle.batch_program.specs.Outcome.{lines_of, meaning_so_far}
+use Rattle.batch_program.specs.RunSoFar.{run_so_far}
 use Rattle.program_lines.specs.Texts.{result_line, bad_word_line, syntax_line, semantic_line, code_limit_line}
 
--- what a job has to run: a program, or none, of which this line says why
+-- what a job has to run: a program, the code of a file, or none, of which this line says why
 pub data Source : Type 0 where
   Runs : Program → Source
+  RunsCode : CodeLists → Source
   Says : List ℕ → Source
 
 -- what compiling a job's cards comes to
@@ -21,28 +24,34 @@ source_of name (syntax_error line) = Says (syntax_line name line)
 source_of name (semantic_error line rule) = Says (semantic_line name line rule)
 source_of name code_limit = Says (code_limit_line name)
 
+-- ---- what comes of a run
+abbrev pub end_lines : List ℕ → RunOutcome → List (List ℕ)
+end_lines name (Ends r line ticks calls) = result_line name r line ∷ []
+end_lines name (Waits calls) = []
+
+-- the lines that it has completed, and how it ended, where it has
+abbrev pub outcome_lines : List ℕ → RunOutcome → List (List ℕ)
+outcome_lines name outcome = lines_of outcome ++ end_lines name outcome
+
 -- ---- with all cards of its input
 -- what it printed, and how it ended
 abbrev pub ending_lines : List ℕ → Ending → List (List ℕ)
 ending_lines name e = e.output ++ result_line name e.result e.line ∷ []
 
--- By its meaning: `SUM`, a program that writes 10, has the lines `10` and `SUM: TERMINATED`.
+-- By its meaning: `SUM`, a program that writes 10, has the lines `10` and `SUM: TERMINATED`. The code of a
+-- file has those of its run.
 abbrev pub program_lines : List ℕ → ℕ → Source → List (List ℕ) → List (List ℕ)
 program_lines name limit (Runs p) input = ending_lines name (ending_in_batch p limit input)
+program_lines name limit (RunsCode code) input = outcome_lines name (run_so_far code limit input true)
 program_lines name limit (Says line) input = line ∷ []
 
 -- ---- with the cards so far
-abbrev pub end_lines : List ℕ → RunOutcome → List (List ℕ)
-end_lines name (Ends r line ticks calls) = result_line name r line ∷ []
-end_lines name (Waits calls) = []
-
-abbrev pub outcome_lines : List ℕ → RunOutcome → List (List ℕ)
-outcome_lines name outcome = lines_of outcome ++ end_lines name outcome
 
 -- The lines that a program has completed, and how it ended, where it has. It reads code 25 behind the last
 -- card where no further one comes.
 abbrev pub source_lines : List ℕ → ℕ → Source → List (List ℕ) → Bool → List (List ℕ)
 source_lines name limit (Runs p) input closed = outcome_lines name (meaning_so_far p limit input closed)
+source_lines name limit (RunsCode code) input closed = outcome_lines name (run_so_far code limit input closed)
 source_lines name limit (Says line) input closed = line ∷ []
 
 -- a job's program, with the cards of its input so far, and whether no further one comes

@@ -49,3 +49,11 @@ code_limit_line name = note name (codes ": CODE LIMIT")
 -- `SUM: NO FILE`
 abbrev pub no_file_line : List ℕ → List ℕ
 no_file_line name = note name (codes ": NO FILE")
+
+-- `SUM: NOT CODE`
+abbrev pub not_code_line : List ℕ → List ℕ
+not_code_line name = note name (codes ": NOT CODE")
+
+-- `SUM: BAD CODE AT 12`, for the byte of the file
+abbrev pub bad_code_line : List ℕ → ℕ → List ℕ
+bad_code_line name at = numbered_note name (codes ": BAD CODE AT ") at

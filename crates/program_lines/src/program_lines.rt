@@ -1,11 +1,12 @@
 ghost use Rattle.std.specs.Prelude.{◌≡◌, ◌≢◌, ◌+◌, ◌≤◌, ℕ, List, [], ◌++◌, length, false, None, option_to_list, IfOk};
 ghost use Rattle.pascal_compile.specs.Compiling.{compiling};
-ghost use Rattle.program_lines.specs.Task.{Task, source_of, new_task, with_card, at_end, task_lines};
+ghost use Rattle.program_lines.specs.Task.{Task, RunsCode, source_of, new_task, with_card, at_end, task_lines};
 
 use crate::texts::{compile_line, result_line};
 use batch_program::{BatchProgram, Told};
 use pascal_compile::compile;
 use solo_base::{Ident, Line, LineList, NoMemory};
+use stack_code::Verified;
 use std::alloc::Global;
 
 /// A job's program, whose lines are given one by one as the cards of its input come: those that it prints,
@@ -40,6 +41,21 @@ impl ProgramLines {
             }
             Err(fault) => Ok(ProgramLines::Last(compile_line(&name, fault)?)),
         }
+    }
+
+    /// The code of a file, before the first card of its input and under a limit of ticks. A refusal drops it.
+    pub fn of_code(
+        alloc: Global,
+        name: Ident,
+        limit: u32,
+        verified: Verified,
+    ) -> Result<ProgramLines, NoMemory>
+        ensures { IfOk result (λ lines.
+            StandsFor lines (new_task name limit (RunsCode verified)) []) }
+    {
+        let _routines = verified.code().routines();
+        let program = BatchProgram::make(alloc, verified, limit)?;
+        Ok(ProgramLines::Runs { name, program })
     }
 
     /// Gives the next card of its input, once all lines with those before were given.

@@ -1,7 +1,8 @@
 ghost use Rattle.std.specs.Prelude.{OnOk};
 ghost use Rattle.program_lines.specs.Standing.{IsSpent};
 
-use crate::ProgramLines;
+use crate::{ProgramLines, bad_code_line, not_code_line};
+use pascal_compile::compile;
 use solo_base::{Ident, Line, LineList};
 use std::alloc::Global;
 use std::test::Fail;
@@ -133,5 +134,28 @@ fn a_program_without_code_says_why(rt: HostRuntime) -> Result<(), Fail> {
     );
     let word = told(alloc, 100, &[b"BEGIN", b"X := 32768 END."], &[])?;
     assert_eq!(rt; word.as_slice(), b"A: BAD WORD IN LINE 2|.".as_slice());
+    Ok(())
+}
+
+#[test]
+fn the_code_of_a_file_runs_as_its_source_does(rt: HostRuntime) -> Result<(), Fail> {
+    let alloc = rt.alloc();
+    let name = Ident::of(b"a").ok_or("a name")?;
+    let code = match compile(alloc, &list(alloc, &COPY)?) {
+        Ok(code) => code,
+        Err(_) => return Err("no code".into()),
+    };
+    let mut text = Vec::new(alloc);
+    let mut lines = ProgramLines::of_code(alloc, name, 1000, code)?;
+    take_all(&mut text, &mut lines)?;
+    lines.feed(&Line::of(b"HELLO").ok_or("a card")?);
+    take_all(&mut text, &mut lines)?;
+    lines.close();
+    take_all(&mut text, &mut lines)?;
+    assert_eq!(rt; text.as_slice(), b"HELLO|A: TERMINATED|".as_slice());
+    let wrong = not_code_line(&name);
+    assert_eq!(rt; wrong.bytes(), b"A: NOT CODE".as_slice());
+    let bad = bad_code_line(&name, 12);
+    assert_eq!(rt; bad.bytes(), b"A: BAD CODE AT 12".as_slice());
     Ok(())
 }

@@ -5,7 +5,8 @@ ghost use Rattle.solo_base.specs.Line.{is_printable};
 ghost use Rattle.solo_base.specs.Blanks.{trimmed};
 ghost use Rattle.pascal_compile.specs.Compiling.{Compiling, Explains};
 ghost use Rattle.program_lines.specs.Task.{source_of, Says};
-ghost use Rattle.program_lines.specs.Texts.{note, numbered_note, result_line, semantic_line, no_file_line};
+ghost use Rattle.program_lines.specs.Texts.{note, numbered_note, result_line, semantic_line};
+ghost use Rattle.program_lines.specs.Texts.{no_file_line, not_code_line, bad_code_line};
 
 use pascal_compile::CompileFault;
 use solo_base::{Ident, Line, NoMemory, ProgResult};
@@ -44,6 +45,20 @@ pub fn no_file_line(name: &Ident) -> Line
     ensures { result ≡ no_file_line name.now }
 {
     note(name, b": NO FILE")
+}
+
+/// `SUM: NOT CODE`
+pub fn not_code_line(name: &Ident) -> Line
+    ensures { result ≡ not_code_line name.now }
+{
+    note(name, b": NOT CODE")
+}
+
+/// `SUM: BAD CODE AT 12`, for the byte of the file.
+pub fn bad_code_line(name: &Ident, at: u32) -> Line
+    ensures { result ≡ bad_code_line name.now at }
+{
+    numbered_note(name, b": BAD CODE AT ", at)
 }
 
 /// `SUM: SEMANTIC ERROR 2 IN LINE 4`
