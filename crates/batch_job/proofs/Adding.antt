@@ -20,9 +20,12 @@ use Rattle.program_lines.specs.Standing.{StandsFor}
 use Rattle.program_lines.specs.declared.program_lines.ProgramLines.{ProgramLines}
 use Rattle.program_lines.proofs.Going.{all-cards}
 use Rattle.program_lines.proofs.Giving.{given-first}
-use Rattle.batch_job.specs.Report.{report, fault_line, run_lines}
-use Rattle.batch_job.specs.LinesSoFar.{is_closed, runs_so_far}
-use Rattle.batch_job.specs.LinesAhead.{Where, Outside, InList, InProgram, Dropped, name_of, limit_of, source_in, told_by, told_behind, task_in, behind, part_lines, groups_lines, is_there, lines_ahead, added_lines, added, card_or_fault}
+use Rattle.disk_system.specs.declared.loading.Loaded.{Loaded}
+use Rattle.disk_system.specs.declared.loading.Loaded.TheVariants.{NoFile}
+use Rattle.batch_job.specs.Report.{fault_line, run_lines}
+use Rattle.batch_job.specs.Loads.{begun}
+use Rattle.batch_job.specs.LinesSoFar.{is_closed, runs_so_far, stretch_lines, group_lines}
+use Rattle.batch_job.specs.LinesAhead.{Where, Outside, InList, InProgram, Dropped, name_of, limit_of, source_in, told_by, told_behind, task_in, behind, part_lines, is_there, lines_ahead, added_lines, added, card_or_fault}
 use Rattle.batch_job.specs.Places.{program_group, IsInput, Holds, Adds}
 use Rattle.batch_job.specs.declared.part.Part.TheVariants as part
 use Rattle.batch_job.specs.declared.item_lines.ItemLines.{ItemLines}
@@ -37,11 +40,11 @@ adds-outside count more item place lines is holds same = rw same record {
   part_is = refl;
   all = [];
   holds = holds;
-  more = λ later ended. ap (λ n. lines_ahead (Outside n) later ended) (sym is);
+  more = λ later loads ended. ap (λ n. lines_ahead (Outside n) later loads ended) (sym is);
 }
 
 pub adds-dropped : (item : Item) (place : Where) (lines : ItemLines) → Holds lines [] → place ≡ Dropped → Adds place item lines part.Dropped
-adds-dropped item place lines holds same = rw same record { to = Dropped; part_is = refl; all = []; holds = holds; more = λ later ended. refl }
+adds-dropped item place lines holds same = rw same record { to = Dropped; part_is = refl; all = []; holds = holds; more = λ later loads ended. refl }
 
 pub adds-listed : (name : List ℕ) (count next : ℕ) (item : Item) (card : List ℕ) (place : Where) (lines : ItemLines) → next ≡ card_count (count + 1)
     → card_or_fault false item (is_some (control_in item)) next ≡ Ok card
@@ -51,17 +54,18 @@ adds-listed name count next item card place lines next_is is holds same = rw sam
   part_is = refl;
   all = card ∷ [];
   holds = holds;
-  more = λ later ended.
-      by item (is_some (control_in item)) (subst (λ n. card_or_fault false item (is_some (control_in item)) n ≡ Ok card) next_is is) later ended
-      ∙ ap (λ n. (card ∷ []) ++ lines_ahead (InList name n) later ended) (sym next_is);
+  more = λ later loads ended.
+      by item (is_some (control_in item)) (subst (λ n. card_or_fault false item (is_some (control_in item)) n ≡ Ok card) next_is is) later loads ended
+      ∙ ap (λ n. (card ∷ []) ++ lines_ahead (InList name n) later loads ended) (sym next_is);
 }
   where
-    by : (item : Item) (t : Bool) → card_or_fault false item t (card_count (count + 1)) ≡ Ok card → (later : List Item) (ended : Bool)
-        → added_lines (InList name count) item t ++ lines_ahead (added (InList name count) item t) later ended
-        ≡ (card ∷ []) ++ lines_ahead (InList name (card_count (count + 1))) later ended
-    by Spoiled t is later ended = absurd cc
-    by (Line x) true is later ended = absurd cc
-    by (Line x) false is later ended = let same : x ≡ card = cc in ap (λ c. (c ∷ []) ++ lines_ahead (InList name (card_count (count + 1))) later ended) same
+    by : (item : Item) (t : Bool) → card_or_fault false item t (card_count (count + 1)) ≡ Ok card → (later : List Item) (loads : List Loaded) (ended : Bool)
+        → added_lines (InList name count) item t ++ lines_ahead (added (InList name count) item t) later loads ended
+        ≡ (card ∷ []) ++ lines_ahead (InList name (card_count (count + 1))) later loads ended
+    by Spoiled t is later loads ended = absurd cc
+    by (Line x) true is later loads ended = absurd cc
+    by (Line x) false is later loads ended = let same : x ≡ card = cc in ap (λ c. (c ∷ []) ++ lines_ahead (InList name (card_count
+        (count + 1))) later loads ended) same
 
 pub adds-list-fault : (name : List ℕ) (count next : ℕ) (item : Item) (fault : CardFault) (place : Where) (lines : ItemLines)
     → next ≡ card_count (count + 1) → card_or_fault false item (is_some (control_in item)) next ≡ Err fault
@@ -74,44 +78,47 @@ adds-list-fault name count next item fault place lines next_is is holds same = r
   more = by item (is_some (control_in item)) (subst (λ n. card_or_fault false item (is_some (control_in item)) n ≡ Err fault) next_is is);
 }
   where
-    by : (item : Item) (t : Bool) → card_or_fault false item t (card_count (count + 1)) ≡ Err fault → (later : List Item) (ended : Bool)
-        → added_lines (InList name count) item t ++ lines_ahead (added (InList name count) item t) later ended
-        ≡ (fault_line name fault ∷ []) ++ lines_ahead Dropped later ended
-    by Spoiled t is later ended =
-        let same : spoiled_at false (card_count (count + 1)) ≡ fault = cc in ap (λ f. (fault_line name f ∷ []) ++ lines_ahead Dropped later ended) same
-    by (Line x) true is later ended =
-        let same : control_at false (card_count (count + 1)) ≡ fault = cc in ap (λ f. (fault_line name f ∷ []) ++ lines_ahead Dropped later ended) same
-    by (Line x) false is later ended = absurd cc
+    by : (item : Item) (t : Bool) → card_or_fault false item t (card_count (count + 1)) ≡ Err fault → (later : List Item) (loads : List Loaded) (ended : Bool)
+        → added_lines (InList name count) item t ++ lines_ahead (added (InList name count) item t) later loads ended
+        ≡ (fault_line name fault ∷ []) ++ lines_ahead Dropped later loads ended
+    by Spoiled t is later loads ended =
+        let same : spoiled_at false (card_count (count + 1)) ≡ fault = cc in ap (λ f. (fault_line name f ∷ []) ++ lines_ahead Dropped later loads ended) same
+    by (Line x) true is later loads ended =
+        let same : control_at false (card_count (count + 1)) ≡ fault = cc in ap (λ f. (fault_line name f ∷ []) ++ lines_ahead Dropped later loads ended) same
+    by (Line x) false is later loads ended = absurd cc
 
 -- ---- the group of a program with a fault tells no more than its fault
-fault-told : (group : Group) (fault : CardFault) → group.kept.fault ≡ Some fault → told_by group false ≡ told_by group true
-fault-told group fault is =
+fault-told : (load : Loaded) (group : Group) (fault : CardFault) → group.kept.fault ≡ Some fault → told_by load group false ≡ told_by load group true
+fault-told load group fault is =
     let name = name_of group.opener in
     let limit = limit_of group.opener in
-    let source = source_in group.opener group.kept.cards in
+    let source = source_in load group.opener group.kept.cards in
     ap (λ f. runs_so_far name limit source group.in_input group.kept.input f) is
     ∙ ap (λ ls. if fault.in_input then ls ++ fault_line name fault ∷ [] else fault_line name fault ∷ []) (all-cards name limit source group.kept.input)
     ∙ ap (λ f. run_lines name limit source group.kept.input f) (sym is)
 
-fault-part : (group : Group) (given : List (List ℕ)) (fault : CardFault) → group.kept.fault ≡ Some fault → (front : List Item) (closed : Bool)
-    → part_lines (InProgram group given) front closed ≡ told_behind given group true ++ part_lines Dropped front closed
-fault-part group given fault is front true =
-    ap (λ g. told_behind given g true ++ flat_map report (stretch (after_end front))) (fault-stays group (before_end front) fault is)
-fault-part group given fault is front false = by (is_closed front) ∙ sym (append-nil (told_behind given group true))
+fault-part : (load : Loaded) (group : Group) (given : List (List ℕ)) (fault : CardFault) → group.kept.fault ≡ Some fault
+    → (front : List Item) (closed : Bool)
+    → part_lines (InProgram load group given) front closed ≡ told_behind given load group true ++ part_lines Dropped front closed
+fault-part load group given fault is front true =
+    ap (λ g. told_behind given load g true ++ stretch_lines (after_end front)) (fault-stays group (before_end front) fault is)
+fault-part load group given fault is front false = by (is_closed front) ∙ sym (append-nil (told_behind given load group true))
   where
-    by : (t : Bool) → (if t then told_behind given (behind group (before_end front)) true else told_behind given (behind group front) false)
-        ≡ told_behind given group true
-    by true = ap (λ g. told_behind given g true) (fault-stays group (before_end front) fault is)
+    by : (t : Bool) → (if t then told_behind given load (behind group (before_end front)) true else told_behind given load (behind group front) false)
+        ≡ told_behind given load group true
+    by true = ap (λ g. told_behind given load g true) (fault-stays group (before_end front) fault is)
     by false =
-        ap (λ g. told_behind given g false) (fault-stays group front fault is)
-        ∙ ap (λ ls. drop (length given) ls) (fault-told group fault is)
+        ap (λ g. told_behind given load g false) (fault-stays group front fault is)
+        ∙ ap (λ ls. drop (length given) ls) (fault-told load group fault is)
 
-fault-ahead : (group : Group) (given : List (List ℕ)) (fault : CardFault) → group.kept.fault ≡ Some fault → (later : List Item) (ended : Bool)
-    → lines_ahead (InProgram group given) later ended ≡ told_behind given group true ++ lines_ahead Dropped later ended
-fault-ahead group given fault is later ended =
-    let closed = ended || is_there (cut later).groups in
-    ap (λ ls. ls ++ groups_lines (cut later).groups ended) (fault-part group given fault is (cut later).front closed)
-    ∙ append_assoc (told_behind given group true) (part_lines Dropped (cut later).front closed) (groups_lines (cut later).groups ended)
+fault-ahead : (load : Loaded) (group : Group) (given : List (List ℕ)) (fault : CardFault) → group.kept.fault ≡ Some fault
+    → (later : List Item) (loads : List Loaded) (ended : Bool)
+    → lines_ahead (InProgram load group given) later loads ended ≡ told_behind given load group true ++ lines_ahead Dropped later loads ended
+fault-ahead load group given fault is later loads ended =
+    let deck = begun (cut later).groups loads ended in
+    let closed = deck.ended || is_there deck.groups in
+    ap (λ ls. ls ++ group_lines deck.groups deck.ended) (fault-part load group given fault is (cut later).front closed)
+    ∙ append_assoc (told_behind given load group true) (part_lines Dropped (cut later).front closed) (group_lines deck.groups deck.ended)
 
 -- ---- in a program before its input
 module _ (name : List ℕ) (limit number : ℕ) (cards : List (List ℕ)) where
@@ -130,13 +137,13 @@ module _ (name : List ℕ) (limit number : ℕ) (cards : List (List ℕ)) where
 
   pub adds-card : (item : Item) (card : List ℕ) (lines : ItemLines) (next : ℕ) (then_cards : List (List ℕ)) → next ≡ card_count (number + 1)
       → then_cards ≡ cards ++ card ∷ [] → card_or_fault false item (is_some (control_in item)) number ≡ Ok card → Holds lines []
-      → Adds (InProgram here []) item lines (part.Program name limit next then_cards)
+      → Adds (InProgram NoFile here []) item lines (part.Program name limit next then_cards)
   adds-card item card lines next then_cards next_is cards_are is holds = rw (next_is, cards_are) record {
-    to = InProgram (program_group name limit (card_count (number + 1)) (cards ++ card ∷ [])) [];
+    to = InProgram NoFile (program_group name limit (card_count (number + 1)) (cards ++ card ∷ [])) [];
     part_is = refl;
     all = [];
     holds = holds;
-    more = λ later ended. ap (λ g. lines_ahead (InProgram g []) later ended) (card-kept item card is);
+    more = λ later loads ended. ap (λ g. lines_ahead (InProgram NoFile g []) later loads ended) (card-kept item card is);
   }
 
   -- `#DATA`
@@ -161,10 +168,11 @@ module _ (name : List ℕ) (limit number : ℕ) (cards : List (List ℕ)) where
 
   pub adds-data : (item : Item) (lines : ProgramLines) (none : ItemLines) (next : ℕ) → next ≡ card_count (number + 1) → data_in (control_in item) ≡ true
       → StandsFor lines (new_task name limit (source_of name (compiling cards))) [] → Holds none []
-      → Adds (InProgram here []) item none (part.Input name next lines)
+      → Adds (InProgram NoFile here []) item none (part.Input name next lines)
   adds-data item lines none next next_is is stands holds = rw next_is record {
-    to = InProgram begun_here [];
+    to = InProgram NoFile begun_here [];
     part_is = record {
+      load = NoFile;
       group = begun_here;
       given = [];
       place_is = refl;
@@ -176,7 +184,7 @@ module _ (name : List ℕ) (limit number : ℕ) (cards : List (List ℕ)) where
     };
     all = [];
     holds = holds;
-    more = λ later ended. ap (λ g. lines_ahead (InProgram g []) later ended) (data-kept item is);
+    more = λ later loads ended. ap (λ g. lines_ahead (InProgram NoFile g []) later loads ended) (data-kept item is);
   }
 
   -- a fault
@@ -188,19 +196,20 @@ module _ (name : List ℕ) (limit number : ℕ) (cards : List (List ℕ)) where
   fault-kept (Line x) fault is plain = by (control_of x) is plain
     where
       by : (c : Option Control) → card_or_fault false (Line x) (is_some c) number ≡ Err fault → data_in c ≡ false
-          → ((added_to_group here (Line x) c).kept.fault ≡ Some fault) × (fault.in_input ≡ false) × ((added_to_group here (Line x) c).opener ≡ opener.Job name limit)
+          → ((added_to_group here (Line x) c).kept.fault ≡ Some fault) × (fault.in_input ≡ false) × ((added_to_group here (Line x) c).opener
+          ≡ opener.Job name limit)
       by None is plain = absurd cc
       by (Some c) is plain =
           let same : control_at false number ≡ fault = cc in rw plain (ap Some same, ap (λ f. f.in_input) (sym same), refl)
 
   pub adds-fault : (item : Item) (fault : CardFault) (lines : ItemLines) → card_or_fault false item (is_some (control_in item)) number ≡ Err fault
-      → data_in (control_in item) ≡ false → Holds lines (fault_line name fault ∷ []) → Adds (InProgram here []) item lines part.Dropped
+      → data_in (control_in item) ≡ false → Holds lines (fault_line name fault ∷ []) → Adds (InProgram NoFile here []) item lines part.Dropped
   adds-fault item fault lines is plain holds =
       let group = added_to_group here item (control_in item) in
       let (kept, own, opens) = fault-kept item fault is plain in
-      let told : told_by group true ≡ fault_line name fault ∷ [] =
-      ap (λ f. run_lines (name_of group.opener) (limit_of group.opener) (source_in group.opener group.kept.cards) group.kept.input f) kept
-      ∙ ap (λ t. if t then program_lines (name_of group.opener) (limit_of group.opener) (source_in group.opener group.kept.cards) group.kept.input
+      let told : told_by NoFile group true ≡ fault_line name fault ∷ [] =
+      ap (λ f. run_lines (name_of group.opener) (limit_of group.opener) (source_in NoFile group.opener group.kept.cards) group.kept.input f) kept
+      ∙ ap (λ t. if t then program_lines (name_of group.opener) (limit_of group.opener) (source_in NoFile group.opener group.kept.cards) group.kept.input
       ++ fault_line (name_of group.opener) fault ∷ [] else fault_line (name_of group.opener) fault ∷ []) own
       ∙ ap (λ o. fault_line (name_of o) fault ∷ []) opens in
       record {
@@ -208,11 +217,11 @@ module _ (name : List ℕ) (limit number : ℕ) (cards : List (List ℕ)) where
         part_is = refl;
         all = fault_line name fault ∷ [];
         holds = holds;
-        more = λ later ended. fault-ahead group [] fault kept later ended ∙ ap (λ ls. ls ++ lines_ahead Dropped later ended) told;
+        more = λ later loads ended. fault-ahead NoFile group [] fault kept later loads ended ∙ ap (λ ls. ls ++ lines_ahead Dropped later loads ended) told;
       }
 
 -- ---- in the input of a program
-module _ (o : Opener) (cards input : List (List ℕ)) (number : ℕ) where
+module _ (load : Loaded) (o : Opener) (cards input : List (List ℕ)) (number : ℕ) where
   abbrev reading : Group
   reading = record { opener = o; kept = record { cards = cards; input = input; fault = None }; in_input = true; number = number }
 
@@ -235,11 +244,12 @@ module _ (o : Opener) (cards input : List (List ℕ)) (number : ℕ) where
 
   pub input-card : (item : Item) (card given-name : List ℕ) (given : List (List ℕ)) (lines : ProgramLines) (none : ItemLines) (next : ℕ)
       → next ≡ card_count (number + 1) → name_of o ≡ given-name
-      → card_or_fault true item (is_some (control_in item)) number ≡ Ok card → StandsFor lines (with_card (task_in reading) card) given
-      → Holds none [] → Adds (InProgram reading given) item none (part.Input given-name next lines)
+      → card_or_fault true item (is_some (control_in item)) number ≡ Ok card → StandsFor lines (with_card (task_in load reading) card) given
+      → Holds none [] → Adds (InProgram load reading given) item none (part.Input given-name next lines)
   input-card item card given-name given lines none next next_is name is stands holds = rw next_is record {
-    to = InProgram (read_on card) given;
+    to = InProgram load (read_on card) given;
     part_is = record {
+      load = load;
       group = read_on card;
       given = given;
       place_is = refl;
@@ -251,7 +261,7 @@ module _ (o : Opener) (cards input : List (List ℕ)) (number : ℕ) where
     };
     all = [];
     holds = holds;
-    more = λ later ended. ap (λ g. lines_ahead (InProgram g given) later ended) (read-card item card is);
+    more = λ later loads ended. ap (λ g. lines_ahead (InProgram load g given) later loads ended) (read-card item card is);
   }
 
   abbrev with_fault : CardFault → Group
@@ -283,32 +293,33 @@ module _ (o : Opener) (cards input : List (List ℕ)) (number : ℕ) where
       ∙ ap (λ ls. ls ++ line ∷ []) (sym (drop-given given rest) ∙ ap (λ ls. drop (length given) ls) (sym is))
 
   pub input-fault : (item : Item) (fault : CardFault) (given : List (List ℕ)) (lines : ProgramLines) (all : ItemLines)
-      → card_or_fault true item (is_some (control_in item)) number ≡ Err fault → StandsFor lines (at_end (task_in reading)) given
+      → card_or_fault true item (is_some (control_in item)) number ≡ Err fault → StandsFor lines (at_end (task_in load reading)) given
       → all ≡ record { ending = lines; own = None; note = Some (fault_line (name_of o) fault) }
-      → Adds (InProgram reading given) item all part.Dropped
+      → Adds (InProgram load reading given) item all part.Dropped
   input-fault item fault given lines all is stands all_are =
       let (kept, inside) = read-fault item fault is in
-      let t = at_end (task_in reading) in
+      let t = at_end (task_in load reading) in
       let rest = drop (length given) (task_lines t) in
       let line = fault_line (name_of o) fault in
-      let told : told_behind given (with_fault fault) true ≡ rest ++ line ∷ [] =
-      ap (λ t. drop (length given) (if t then program_lines (name_of o) (limit_of o) (source_in o cards) input ++ line ∷ [] else line ∷ [])) inside
-      ∙ ap (λ ls. drop (length given) (ls ++ line ∷ [])) (sym (all-cards (name_of o) (limit_of o) (source_in o cards) input))
+      let told : told_behind given load (with_fault fault) true ≡ rest ++ line ∷ [] =
+      ap (λ t. drop (length given) (if t then program_lines (name_of o) (limit_of o) (source_in load o cards) input ++ line ∷ [] else line ∷ [])) inside
+      ∙ ap (λ ls. drop (length given) (ls ++ line ∷ [])) (sym (all-cards (name_of o) (limit_of o) (source_in load o cards) input))
       ∙ drop-more given (task_lines t) line (given-first lines t given stands) in
       rw all_are record {
         to = Dropped;
         part_is = refl;
         all = rest ++ line ∷ [];
         holds = record { rest = rest; ending = gives-rest lines t given stands refl; all_are = ap (λ ls. ls ++ line ∷ []) (sym (append-nil rest)) };
-        more = λ later ended.
-            ap (λ g. lines_ahead (InProgram g given) later ended) kept
-            ∙ fault-ahead (with_fault fault) given fault refl later ended
-            ∙ ap (λ ls. ls ++ lines_ahead Dropped later ended) told;
+        more = λ later loads ended.
+            ap (λ g. lines_ahead (InProgram load g given) later loads ended) kept
+            ∙ fault-ahead load (with_fault fault) given fault refl later loads ended
+            ∙ ap (λ ls. ls ++ lines_ahead Dropped later loads ended) told;
       }
 
 -- a group in whose input there is no fault
-pub is-reading : (group : Group) → group.in_input ≡ true → group.kept.fault ≡ None → group ≡ reading group.opener group.kept.cards group.kept.input group.number
-is-reading group begun fine =
+pub is-reading : (load : Loaded) (group : Group) → group.in_input ≡ true → group.kept.fault ≡ None
+    → group ≡ reading load group.opener group.kept.cards group.kept.input group.number
+is-reading load group begun fine =
     ap (λ f. record {
       opener = group.opener;
       kept = record { cards = group.kept.cards; input = group.kept.input; fault = f };
@@ -329,10 +340,11 @@ pub input-read : (name card : List ℕ) (number next : ℕ) (lines now : Program
     → Holds none [] → IsInput name number lines place → Adds place item none (part.Input name next now)
 input-read name card number next lines now item place none next_is is feeds holds i =
     let g = i.group in
-    let same = is-reading g i.begun i.fine in
-    let stands = subst (λ h. StandsFor now (with_card (task_in h) card) i.given) same (feeds (task_in g) i.given i.stands refl) in
-    rw i.place_is (subst (λ h. Adds (InProgram h i.given) item none (part.Input name next now)) (sym same)
-    (input-card g.opener g.kept.cards g.kept.input g.number item card name i.given now none next (next_is ∙ ap (λ n. card_count (n + 1)) (sym i.number_is))
+    let same = is-reading i.load g i.begun i.fine in
+    let stands = subst (λ h. StandsFor now (with_card (task_in i.load h) card) i.given) same (feeds (task_in i.load g) i.given i.stands refl) in
+    rw i.place_is (subst (λ h. Adds (InProgram i.load h i.given) item none (part.Input name next now)) (sym same)
+    (input-card i.load g.opener g.kept.cards g.kept.input g.number item card name i.given now none next (next_is ∙ ap (λ n. card_count (n + 1))
+    (sym i.number_is))
     i.name_is (subst (λ n. card_or_fault true item (is_some (control_in item)) n ≡ Ok card) (sym i.number_is) is) stands holds))
 
 pub input-broken : (name : List ℕ) (number : ℕ) (lines now : ProgramLines) (item : Item) (place : Where) (fault : CardFault) (all : ItemLines)
@@ -341,9 +353,9 @@ pub input-broken : (name : List ℕ) (number : ℕ) (lines now : ProgramLines) (
     → all ≡ record { ending = now; own = None; note = Some (fault_line name fault) } → IsInput name number lines place → Adds place item all part.Dropped
 input-broken name number lines now item place fault all is closes all_are i =
     let g = i.group in
-    let same = is-reading g i.begun i.fine in
-    let stands = subst (λ h. StandsFor now (at_end (task_in h)) i.given) same (closes (task_in g) i.given i.stands refl) in
-    rw i.place_is (subst (λ h. Adds (InProgram h i.given) item all part.Dropped) (sym same)
-    (input-fault g.opener g.kept.cards g.kept.input g.number item fault i.given now all
+    let same = is-reading i.load g i.begun i.fine in
+    let stands = subst (λ h. StandsFor now (at_end (task_in i.load h)) i.given) same (closes (task_in i.load g) i.given i.stands refl) in
+    rw i.place_is (subst (λ h. Adds (InProgram i.load h i.given) item all part.Dropped) (sym same)
+    (input-fault i.load g.opener g.kept.cards g.kept.input g.number item fault i.given now all
     (subst (λ n. card_or_fault true item (is_some (control_in item)) n ≡ Err fault) (sym i.number_is) is) stands
     (all_are ∙ ap (λ n. record { ending = now; own = None; note = Some (fault_line n fault) }) (sym i.name_is))))

@@ -16,10 +16,10 @@ use Rattle.deck_format.specs.Jobs.{is_data, kept_of, job_with, job_of, spoiled_a
 use Rattle.deck_format.specs.JobReader.{control_in, group_on, input_behind, parts_at, opened as opened_group, added as added_to_group, added_by}
 use Rattle.deck_format.proofs.Steps.{group_nothing, group_more}
 use Rattle.pascal_compile.specs.Compiling.{compiling}
-use Rattle.program_lines.specs.Texts.{no_file_line}
-use Rattle.program_lines.specs.Task.{Source, Says, source_of, source_lines, program_lines}
+use Rattle.disk_system.specs.declared.loading.Loaded.{Loaded}
+use Rattle.program_lines.specs.Task.{Source, source_of, source_lines, program_lines}
 use Rattle.program_lines.proofs.Going.{more-cards, all-cards}
-use Rattle.batch_job.specs.Report.{report, heading, fault_line, run_lines, file_limit}
+use Rattle.batch_job.specs.Report.{report, heading, fault_line, run_lines, file_limit, source_loaded}
 use Rattle.batch_job.specs.LinesSoFar.{IsPrefixOf, has_data, runs_so_far, open_lines}
 use Rattle.batch_job.specs.LinesAhead.{name_of, limit_of, is_list, source_in, told_by, behind}
 
@@ -50,23 +50,24 @@ opened-job (opener.List name) items other = absurd cc
 opened-job (opener.Job name limit) items other = refl
 opened-job (opener.Run name file) items other = refl
 
-told-report : (group : Group) → is_list group.opener ≡ false → report (job_with group.opener group.kept) ≡ heading (name_of group.opener) ∷ told_by group true
-told-report group other = by group.opener other
+told-report : (load : Loaded) (group : Group) → is_list group.opener ≡ false
+    → report (λ file. load) (job_with group.opener group.kept) ≡ heading (name_of group.opener) ∷ told_by load group true
+told-report load group other = by group.opener other
   where
-    by : (o : Opener) → is_list o ≡ false → report (job_with o group.kept)
-        ≡ heading (name_of o) ∷ run_lines (name_of o) (limit_of o) (source_in o group.kept.cards) group.kept.input group.kept.fault
+    by : (o : Opener) → is_list o ≡ false → report (λ file. load) (job_with o group.kept)
+        ≡ heading (name_of o) ∷ run_lines (name_of o) (limit_of o) (source_in load o group.kept.cards) group.kept.input group.kept.fault
     by (opener.List name) other = absurd cc
     by (opener.Job name limit) other = refl
     by (opener.Run name file) other = refl
 
-pub report-behind : (o : Opener) (items : List Item) → is_list o ≡ false
-    → report (job_of o items) ≡ heading (name_of o) ∷ told_by (behind (opened_group o) items) true
-report-behind o items other =
+pub report-behind : (load : Loaded) (o : Opener) (items : List Item) → is_list o ≡ false
+    → report (λ file. load) (job_of o items) ≡ heading (name_of o) ∷ told_by load (behind (opened_group o) items) true
+report-behind load o items other =
     let group = behind (opened_group o) items in
     let same = behind-opener (opened_group o) items in
-    ap report (opened-job o items other ∙ behind-job (opened_group o) items)
-    ∙ told-report group (ap is_list same ∙ other)
-    ∙ ap (λ p. heading (name_of p) ∷ told_by group true) same
+    ap (report (λ file. load)) (opened-job o items other ∙ behind-job (opened_group o) items)
+    ∙ told-report load group (ap is_list same ∙ other)
+    ∙ ap (λ p. heading (name_of p) ∷ told_by load group true) same
 
 -- ---- whether the input has begun
 or-false : (a : Bool) → (a || false) ≡ a
@@ -142,10 +143,10 @@ same-job o items other =
     let group = behind (opened_group o) items in
     opened-job o items other ∙ behind-job (opened_group o) items ∙ ap (λ p. job_with p group.kept) (behind-opener (opened_group o) items)
 
-pub open-behind : (o : Opener) (items : List Item) → is_list o ≡ false
-    → open_lines o items ≡ heading (name_of o) ∷ told_by (behind (opened_group o) items) false
-open-behind (opener.List name) items other = absurd cc
-open-behind (opener.Job name limit) items other =
+pub open-behind : (load : Loaded) (o : Opener) (items : List Item) → is_list o ≡ false
+    → open_lines load o items ≡ heading (name_of o) ∷ told_by load (behind (opened_group o) items) false
+open-behind load (opener.List name) items other = absurd cc
+open-behind load (opener.Job name limit) items other =
     let o = opener.Job name limit in
     let group = behind (opened_group o) items in
     let kept = kept_of o items in
@@ -157,19 +158,19 @@ open-behind (opener.Job name limit) items other =
     ∙ ap (λ fault. runs group.kept.cards (has_data items) group.kept.input fault) (ap fault_in same)
     ∙ ap (λ ls. heading name ∷ ls) (runs-begun name limit (source_of name (compiling group.kept.cards)) (has_data items) group.in_input group.kept.input
     group.kept.fault (λ none. sym (begun-behind name limit (opened_group o) items refl none)))
-    ∙ ap (λ p. heading name ∷ runs_so_far (name_of p) (limit_of p) (source_in p group.kept.cards) group.in_input group.kept.input group.kept.fault)
+    ∙ ap (λ p. heading name ∷ runs_so_far (name_of p) (limit_of p) (source_in load p group.kept.cards) group.in_input group.kept.input group.kept.fault)
     (sym (behind-opener (opened_group o) items))
-open-behind (opener.Run name file) items other =
+open-behind load (opener.Run name file) items other =
     let o = opener.Run name file in
     let group = behind (opened_group o) items in
     let kept = kept_of o items in
     let same = same-job o items other in
     let runs : Bool → List (List ℕ) → Option CardFault → List (List ℕ) =
-    λ begun input fault. heading name ∷ runs_so_far name file_limit (Says (no_file_line name)) begun input fault in
+    λ begun input fault. heading name ∷ runs_so_far name file_limit (source_loaded name load) begun input fault in
     ap (λ input. runs true input kept.fault) (ap inputs_in same)
     ∙ ap (λ fault. runs true group.kept.input fault) (ap fault_in same)
     ∙ ap (λ t. runs t group.kept.input group.kept.fault) (sym (input-stays (opened_group o) items refl))
-    ∙ ap (λ p. heading name ∷ runs_so_far (name_of p) (limit_of p) (source_in p group.kept.cards) group.in_input group.kept.input group.kept.fault)
+    ∙ ap (λ p. heading name ∷ runs_so_far (name_of p) (limit_of p) (source_in load p group.kept.cards) group.in_input group.kept.input group.kept.fault)
     (sym (behind-opener (opened_group o) items))
 
 -- ---- how they go on
@@ -185,9 +186,9 @@ closed-with name limit source input =
     let (rest, is) = more-cards name limit source input [] true in
     (rest, sym is ∙ ap (λ i. source_lines name limit source i true) (append-nil input))
 
-pub told-closed : (group : Group) → IsPrefixOf (told_by group false) (told_by group true)
-told-closed group =
-    by (name_of group.opener) (limit_of group.opener) (source_in group.opener group.kept.cards) group.kept.input group.in_input group.kept.fault
+pub told-closed : (load : Loaded) (group : Group) → IsPrefixOf (told_by load group false) (told_by load group true)
+told-closed load group =
+    by (name_of group.opener) (limit_of group.opener) (source_in load group.opener group.kept.cards) group.kept.input group.in_input group.kept.fault
   where
     by : (name : List ℕ) (limit : ℕ) (source : Source) (input : List (List ℕ)) (begun : Bool) (fault : Option CardFault)
         → IsPrefixOf (runs_so_far name limit source begun input fault) (run_lines name limit source input fault)
@@ -197,41 +198,42 @@ told-closed group =
     by name limit source input begun (Some fault) =
         prefix-same _ _ (ap (λ ls. if fault.in_input then ls ++ fault_line name fault ∷ [] else fault_line name fault ∷ []) (all-cards name limit source input))
 
-module _ (o : Opener) (cards input : List (List ℕ)) (number : ℕ) where
+module _ (load : Loaded) (o : Opener) (cards input : List (List ℕ)) (number : ℕ) where
   abbrev begun_group : Group
   begun_group = record { opener = o; kept = record { cards = cards; input = input; fault = None }; in_input = true; number = number }
 
   behind-fault : (fault : CardFault) → fault.in_input ≡ true
-      → IsPrefixOf (told_by begun_group false) (runs_so_far (name_of o) (limit_of o) (source_in o (cards ++ [])) true (input ++ []) (Some fault))
+      → IsPrefixOf (told_by load begun_group false) (runs_so_far (name_of o) (limit_of o) (source_in load o (cards ++ [])) true (input ++ []) (Some fault))
   behind-fault fault is =
-      let (rest, e) = closed-with (name_of o) (limit_of o) (source_in o cards) input in
-      let whole = source_lines (name_of o) (limit_of o) (source_in o cards) input true in
+      let (rest, e) = closed-with (name_of o) (limit_of o) (source_in load o cards) input in
+      let whole = source_lines (name_of o) (limit_of o) (source_in load o cards) input true in
       rw (append-nil cards, append-nil input, is) (
         rest ++ fault_line (name_of o) fault ∷ [],
-        sym (append_assoc (told_by begun_group false) rest (fault_line (name_of o) fault ∷ [])) ∙ ap (λ ls. ls ++ fault_line (name_of o) fault ∷ []) e,
+        sym (append_assoc (told_by load begun_group false) rest (fault_line (name_of o) fault ∷ [])) ∙ ap (λ ls. ls ++ fault_line (name_of o) fault ∷ []) e,
       )
 
-  begun-added : (item : Item) (c : Option Control) → IsPrefixOf (told_by begun_group false) (told_by (added_to_group begun_group item c) false)
+  begun-added : (item : Item) (c : Option Control) → IsPrefixOf (told_by load begun_group false) (told_by load (added_to_group begun_group item c) false)
   begun-added Spoiled c = behind-fault (spoiled_at true number) refl
   begun-added (Line card) None =
-      let (rest, is) = more-cards (name_of o) (limit_of o) (source_in o cards) input (card ∷ []) false in
+      let (rest, is) = more-cards (name_of o) (limit_of o) (source_in load o cards) input (card ∷ []) false in
       rw (append-nil cards) (rest, sym is)
   begun-added (Line card) (Some c) = behind-fault (control_at true number) refl
 
-told-added : (group : Group) (item : Item) → IsPrefixOf (told_by group false) (told_by (added_to_group group item (control_in item)) false)
-told-added group item = by group.kept.fault refl group.in_input refl
+told-added : (load : Loaded) (group : Group) (item : Item)
+    → IsPrefixOf (told_by load group false) (told_by load (added_to_group group item (control_in item)) false)
+told-added load group item = by group.kept.fault refl group.in_input refl
   where
     by : (fault : Option CardFault) → group.kept.fault ≡ fault → (begun : Bool) → group.in_input ≡ begun
-        → IsPrefixOf (told_by group false) (told_by (added_to_group group item (control_in item)) false)
+        → IsPrefixOf (told_by load group false) (told_by load (added_to_group group item (control_in item)) false)
     by (Some fault) is begun whether =
-        prefix-same _ _ (ap (λ g. told_by g false) (sym (ap (λ f. added_by f group item (control_in item)) is)))
+        prefix-same _ _ (ap (λ g. told_by load g false) (sym (ap (λ f. added_by f group item (control_in item)) is)))
     by None is false whether =
-        let none : told_by group false ≡ [] =
-        ap (λ f. runs_so_far (name_of group.opener) (limit_of group.opener) (source_in group.opener group.kept.cards) group.in_input group.kept.input f) is
-        ∙ ap (λ t. runs_so_far (name_of group.opener) (limit_of group.opener) (source_in group.opener group.kept.cards) t group.kept.input None) whether in
+        let none : told_by load group false ≡ [] =
+        ap (λ f. runs_so_far (name_of group.opener) (limit_of group.opener) (source_in load group.opener group.kept.cards) group.in_input group.kept.input f) is
+        ∙ ap (λ t. runs_so_far (name_of group.opener) (limit_of group.opener) (source_in load group.opener group.kept.cards) t group.kept.input None) whether in
         rw none (_, refl)
     by None is true whether =
-        let same : group ≡ begun_group group.opener group.kept.cards group.kept.input group.number =
+        let same : group ≡ begun_group load group.opener group.kept.cards group.kept.input group.number =
         ap (λ f. record {
           opener = group.opener;
           kept = record { cards = group.kept.cards; input = group.kept.input; fault = f };
@@ -244,12 +246,13 @@ told-added group item = by group.kept.fault refl group.in_input refl
           in_input = t;
           number = group.number;
         }) whether in
-        subst (λ g. IsPrefixOf (told_by g false) (told_by (added_to_group g item (control_in item)) false)) (sym same)
-        (begun-added group.opener group.kept.cards group.kept.input group.number item (control_in item))
+        subst (λ g. IsPrefixOf (told_by load g false) (told_by load (added_to_group g item (control_in item)) false)) (sym same)
+        (begun-added load group.opener group.kept.cards group.kept.input group.number item (control_in item))
 
 -- Whatever items follow, the lines of a group so far are the first of those that come then.
-pub told-on : (group : Group) (items : List Item) (closed : Bool) → IsPrefixOf (told_by group false) (told_by (behind group items) closed)
-told-on group [] false = prefix-same _ _ refl
-told-on group [] true = told-closed group
-told-on group (item ∷ items) closed =
-    prefix-more _ _ _ (told-added group item) (told-on (added_to_group group item (control_in item)) items closed)
+pub told-on : (load : Loaded) (group : Group) (items : List Item) (closed : Bool)
+    → IsPrefixOf (told_by load group false) (told_by load (behind group items) closed)
+told-on load group [] false = prefix-same _ _ refl
+told-on load group [] true = told-closed load group
+told-on load group (item ∷ items) closed =
+    prefix-more _ _ _ (told-added load group item) (told-on load (added_to_group group item (control_in item)) items closed)

@@ -1,5 +1,5 @@
 -- Lines that are pushed one after another.
-use Rattle.std.proofs.Common.{◌≡◌, ℕ, Bool, true, false, not, subst, List, [], ◌∷◌, ◌++◌, Option, Some, None, option_to_list, refl, sym, ◌∙◌, ap, append_assoc}
+use Rattle.std.proofs.Common.{◌≡◌, ℕ, ◌+◌, drop, arith, Bool, true, false, not, subst, List, [], ◌∷◌, ◌++◌, Option, Some, None, length, option_to_list, refl, sym, ◌∙◌, ap, append_assoc}
 use Rattle.std.proofs.lemmas.List.{append-nil}
 use Rattle.solo_base.specs.declared.item.Item.{Item}
 use Rattle.solo_base.specs.declared.item.Item.TheVariants.{Line}
@@ -8,10 +8,13 @@ use Rattle.page_codec.specs.Packing.{PageInHand, page_given, hand_after}
 use Rattle.batch_job.proofs.LinesSoFar.{from-start}
 use Rattle.batch_job.proofs.Account.{gives-none}
 use Rattle.page_codec.specs.Reading.{PageContent}
+use Rattle.disk_system.specs.declared.loading.Loaded.{Loaded}
+use Rattle.batch_job.specs.Loads.{Loading, first_of, files_named}
 use Rattle.batch_job.specs.LinesSoFar.{lines_so_far}
-use Rattle.batch_job.specs.LinesAhead.{Outside, lines_ahead}
-use Rattle.batch_job.specs.JobStream.{new_stream, fed, end_of, made_of, IsTold, Stream, Account, IsAccount, Passes, StandsBy, StandsFor, Gives, IsSpent, ahead, goes_on, pages_given, hand_behind, IsGivenLast, Packs, Pushing, Rests, Resting, StandsStill}
+use Rattle.batch_job.specs.LinesAhead.{Where, Outside, lines_ahead}
+use Rattle.batch_job.specs.JobStream.{new_stream, stream_of, fed, with_load, AreWanted, end_of, made_of, IsTold, Stream, Account, IsAccount, Passes, StandsBy, StandsFor, Gives, IsSpent, ahead, goes_on, pages_given, hand_behind, IsGivenLast, Packs, Pushing, Rests, Resting, StandsStill}
 use Rattle.batch_job.specs.declared.lines_ahead.End.{End}
+use Rattle.batch_job.specs.declared.lines_ahead.LinesAhead.{LinesAhead}
 use Rattle.batch_job.specs.declared.lines_ahead.End.TheVariants as end
 
 -- ---- the packer
@@ -45,41 +48,42 @@ given-last hand (first ∷ next ∷ lines) line page none is =
 
 -- ---- the stream
 stands-by : (before now : End) (old new : Account) (lines : List (List ℕ)) → goes_on now ≡ goes_on before
-    → ((more : List Item) (ended : Bool) → ahead old more ended ≡ lines ++ ahead new more ended) →
-    (items : List Item) (so_far : List (List ℕ)) → StandsBy before old items so_far → StandsBy now new items (so_far ++ lines)
-stands-by end.NotYet end.NotYet old new lines same given items so_far s =
-    λ more ended. s more ended ∙ ap (λ ls. so_far ++ ls) (given more ended) ∙ sym (append_assoc so_far lines (ahead new more ended))
-stands-by end.Due end.Due old new lines same given items so_far s =
-    s ∙ ap (λ ls. so_far ++ ls) (given [] true) ∙ sym (append_assoc so_far lines (ahead new [] true))
-stands-by end.Due end.Told old new lines same given items so_far s =
-    s ∙ ap (λ ls. so_far ++ ls) (given [] true) ∙ sym (append_assoc so_far lines (ahead new [] true))
-stands-by end.Told end.Due old new lines same given items so_far s =
-    s ∙ ap (λ ls. so_far ++ ls) (given [] true) ∙ sym (append_assoc so_far lines (ahead new [] true))
-stands-by end.Told end.Told old new lines same given items so_far s =
-    s ∙ ap (λ ls. so_far ++ ls) (given [] true) ∙ sym (append_assoc so_far lines (ahead new [] true))
-stands-by end.NotYet end.Due old new lines same given items so_far s = absurd cc
-stands-by end.NotYet end.Told old new lines same given items so_far s = absurd cc
-stands-by end.Due end.NotYet old new lines same given items so_far s = absurd cc
-stands-by end.Told end.NotYet old new lines same given items so_far s = absurd cc
+    → ((more : List Item) (later : List Loaded) (ended : Bool) → ahead old more later ended ≡ lines ++ ahead new more later ended) →
+    (items : List Item) (loads : List Loaded) (so_far : List (List ℕ)) → StandsBy before old items loads so_far
+    → StandsBy now new items loads (so_far ++ lines)
+stands-by end.NotYet end.NotYet old new lines same given items loads so_far s =
+    λ more later ended. s more later ended ∙ ap (λ ls. so_far ++ ls) (given more later ended) ∙ sym (append_assoc so_far lines (ahead new more later ended))
+stands-by end.Due end.Due old new lines same given items loads so_far s =
+    λ later. s later ∙ ap (λ ls. so_far ++ ls) (given [] later true) ∙ sym (append_assoc so_far lines (ahead new [] later true))
+stands-by end.Due end.Told old new lines same given items loads so_far s =
+    λ later. s later ∙ ap (λ ls. so_far ++ ls) (given [] later true) ∙ sym (append_assoc so_far lines (ahead new [] later true))
+stands-by end.Told end.Due old new lines same given items loads so_far s =
+    λ later. s later ∙ ap (λ ls. so_far ++ ls) (given [] later true) ∙ sym (append_assoc so_far lines (ahead new [] later true))
+stands-by end.Told end.Told old new lines same given items loads so_far s =
+    λ later. s later ∙ ap (λ ls. so_far ++ ls) (given [] later true) ∙ sym (append_assoc so_far lines (ahead new [] later true))
+stands-by end.NotYet end.Due old new lines same given items loads so_far s = absurd cc
+stands-by end.NotYet end.Told old new lines same given items loads so_far s = absurd cc
+stands-by end.Due end.NotYet old new lines same given items loads so_far s = absurd cc
+stands-by end.Told end.NotYet old new lines same given items loads so_far s = absurd cc
 
 pub passes-on : (before old new : Stream) (lines given : List (List ℕ)) → Gives before old lines → goes_on new.end ≡ goes_on old.end
     → ((a : Account) → IsAccount old a → Passes a new given) → Gives before new (lines ++ given)
-passes-on before old new lines given gives same passes items so_far s =
-    let got = gives items so_far s in
+passes-on before old new lines given gives same passes items loads so_far s =
+    let got = gives items loads so_far s in
     let next = passes got.account got.is in
     let kept : goes_on next.then_is.end ≡ goes_on got.account.end = ap goes_on (sym next.is.end) ∙ same ∙ ap goes_on got.is.end in
     record {
       account = next.then_is;
       is = next.is;
-      by = subst (λ ls. StandsBy next.then_is.end next.then_is items ls) (append_assoc so_far lines given)
-          (stands-by got.account.end next.then_is.end got.account next.then_is given kept next.gives items (so_far ++ lines) got.by);
+      by = subst (λ ls. StandsBy next.then_is.end next.then_is items loads ls) (append_assoc so_far lines given)
+          (stands-by got.account.end next.then_is.end got.account next.then_is given kept next.gives items loads (so_far ++ lines) got.by);
     }
 
 -- ---- both
 pub pushed-on : (before old new : Stream) (hand middle then_hand : PageInHand) (line : List ℕ) → Pushing before hand old middle
-    → goes_on new.end ≡ goes_on old.end → ((a : Account) → IsAccount old a → Passes a new (line ∷ [])) →
+    → goes_on new.end ≡ goes_on old.end → new.wanted ≡ old.wanted → ((a : Account) → IsAccount old a → Passes a new (line ∷ [])) →
     page_given middle (Line line) ≡ None → then_hand ≡ hand_after middle (Line line) → Pushing before hand new then_hand
-pushed-on before old new hand middle then_hand line so_far same given none after = record {
+pushed-on before old new hand middle then_hand line so_far same wanted given none after = record {
   lines = so_far.lines ++ line ∷ [];
   pushed =
       pages_given-more hand so_far.lines line ∙ ap (λ ps. ps ++ option_to_list (page_given (hand_behind hand so_far.lines) (Line line))) so_far.pushed
@@ -87,12 +91,13 @@ pushed-on before old new hand middle then_hand line so_far same given none after
   in_hand = after ∙ ap (λ h. hand_after h (Line line)) so_far.in_hand ∙ sym (hand_behind-more hand so_far.lines line);
   gives = passes-on before old new so_far.lines (line ∷ []) so_far.gives same given;
   same_end = same ∙ so_far.same_end;
+  same_wanted = wanted ∙ so_far.same_wanted;
 }
 
 pub pushed-page : (before old new : Stream) (hand middle then_hand : PageInHand) (line : List ℕ) (page : Page) → Pushing before hand old middle
-    → goes_on new.end ≡ goes_on old.end → ((a : Account) → IsAccount old a → Passes a new (line ∷ [])) →
+    → goes_on new.end ≡ goes_on old.end → new.wanted ≡ old.wanted → ((a : Account) → IsAccount old a → Passes a new (line ∷ [])) →
     page_given middle (Line line) ≡ Some page → then_hand ≡ hand_after middle (Line line) → Packs before hand (Some page) new then_hand
-pushed-page before old new hand middle then_hand line page so_far same given is after = record {
+pushed-page before old new hand middle then_hand line page so_far same wanted given is after = record {
   lines = so_far.lines ++ line ∷ [];
   pushed = (
     pages_given-more hand so_far.lines line ∙ ap (λ ps. ps ++ option_to_list (page_given (hand_behind hand so_far.lines) (Line line))) so_far.pushed
@@ -104,6 +109,7 @@ pushed-page before old new hand middle then_hand line page so_far same given is 
   all = λ none. absurd cc;
   told = λ none. absurd cc;
   same_end = same ∙ so_far.same_end;
+  same_wanted = wanted ∙ so_far.same_wanted;
 }
 
 -- nothing is pushed before the first line, nor while an item's lines are made
@@ -112,109 +118,224 @@ begins stream hand = record {
   lines = [];
   pushed = refl;
   in_hand = refl;
-  gives = λ items so_far s. subst (λ ls. StandsFor stream items ls) (sym (append-nil so_far)) s;
+  gives = λ items loads so_far s. subst (λ ls. StandsFor stream items loads ls) (sym (append-nil so_far)) s;
   same_end = refl;
+  same_wanted = refl;
 }
 
 pub makes-on : (before old new : Stream) (hand then_hand : PageInHand) → Pushing before hand old then_hand → goes_on new.end ≡ goes_on old.end
-    → ((a : Account) → IsAccount old a → Passes a new []) → Pushing before hand new then_hand
-makes-on before old new hand then_hand so_far same passes = record {
+    → new.wanted ≡ old.wanted → ((a : Account) → IsAccount old a → Passes a new []) → Pushing before hand new then_hand
+makes-on before old new hand then_hand so_far same wanted passes = record {
   lines = so_far.lines;
   pushed = so_far.pushed;
   in_hand = so_far.in_hand;
   gives = subst (Gives before new) (append-nil so_far.lines) (passes-on before old new so_far.lines [] so_far.gives same passes);
   same_end = same ∙ so_far.same_end;
+  same_wanted = wanted ∙ so_far.same_wanted;
 }
 
 pub rests-on : (before old new : Stream) (hand then_hand : PageInHand) → Pushing before hand old then_hand → goes_on new.end ≡ goes_on old.end
-    → ((a : Account) → IsAccount old a → Rests a new) → Resting before hand new then_hand
-rests-on before old new hand then_hand so_far same rests = record {
+    → new.wanted ≡ old.wanted → ((a : Account) → IsAccount old a → Rests a new) → Resting before hand new then_hand
+rests-on before old new hand then_hand so_far same wanted rests = record {
   pushing = record {
     lines = so_far.lines;
     pushed = so_far.pushed;
     in_hand = so_far.in_hand;
-    gives = λ items pushed s. (still items pushed s).stands;
+    gives = λ items loads pushed s. (still items loads pushed s).stands;
     same_end = same ∙ so_far.same_end;
+    same_wanted = wanted ∙ so_far.same_wanted;
   };
   still = still;
 }
   where
-    still : (items : List Item) (pushed : List (List ℕ)) → StandsFor before items pushed → StandsStill new items (pushed ++ so_far.lines)
-    still items pushed s =
-        let got = so_far.gives items pushed s in
+    still : (items : List Item) (loads : List Loaded) (pushed : List (List ℕ)) → StandsFor before items loads pushed
+        → StandsStill new items loads (pushed ++ so_far.lines)
+    still items loads pushed s =
+        let got = so_far.gives items loads pushed s in
         let next = rests got.account got.is in
         let kept : goes_on next.passes.then_is.end ≡ goes_on got.account.end = ap goes_on (sym next.passes.is.end) ∙ same ∙ ap goes_on got.is.end in
         record {
           stands = record {
             account = next.passes.then_is;
             is = next.passes.is;
-            by = subst (λ ls. StandsBy next.passes.then_is.end next.passes.then_is items ls) (append-nil (pushed ++ so_far.lines))
-                (stands-by got.account.end next.passes.then_is.end got.account next.passes.then_is [] kept next.passes.gives items (pushed ++ so_far.lines) got.by);
+            by = subst (λ ls. StandsBy next.passes.then_is.end next.passes.then_is items loads ls) (append-nil (pushed ++ so_far.lines))
+                (stands-by got.account.end next.passes.then_is.end got.account next.passes.then_is [] kept next.passes.gives items loads
+                (pushed ++ so_far.lines) got.by);
           };
           waiting = next.waiting;
           place = next.place;
         }
 
 -- ---- from the beginning to the end
-pub stands-new : StandsFor new_stream [] []
+pub stands-new : StandsFor new_stream [] [] []
 stands-new = record {
-  account = record { place = Outside 0; waiting = []; left = []; end = end.NotYet };
-  is = record { part = refl; waiting = record { rest = []; ending = gives-none; all_are = refl }; left = refl; end = refl };
-  by = λ more ended. from-start more ended;
+  account = record { place = Outside 0; waiting = []; left = []; loads = []; end = end.NotYet };
+  is = record {
+    part = refl;
+    waiting = record { rest = []; ending = gives-none; all_are = refl };
+    left = refl;
+    loads = refl;
+    end = refl;
+    wanted = record { found = []; all = refl; as_many = refl };
+  };
+  by = λ more later ended. from-start more later ended;
 }
 
 -- an account whose items are used up, and that goes on, gives the lines of what follows alone
-abbrev GivesNext : Account → List Item → List (List ℕ) → Type 0
-GivesNext old items pushed = (more : List Item) (ended : Bool) → lines_so_far (items ++ more) ended ≡ pushed ++ lines_ahead old.place more ended
+abbrev GivesNext : Account → List Item → List Loaded → List (List ℕ) → Type 0
+GivesNext old items loads pushed =
+    (more : List Item) (later : List Loaded) (ended : Bool)
+    → lines_so_far (items ++ more) (loads ++ later) ended ≡ pushed ++ lines_ahead old.place more later ended
 
-spent-gives : (a : Account) (items : List Item) (pushed : List (List ℕ)) → a.waiting ≡ [] → a.left ≡ [] → a.end ≡ end.NotYet → StandsBy a.end a items pushed
-    → GivesNext a items pushed
-spent-gives a items pushed none nothing goes s =
-    let going : Account = record { place = a.place; waiting = a.waiting; left = a.left; end = end.NotYet } in
-    let stands : StandsBy end.NotYet going items pushed =
-    subst (λ e. StandsBy e (record { place = a.place; waiting = a.waiting; left = a.left; end = e }) items pushed) goes s in
-    λ more ended. stands more ended ∙ ap (λ ls. pushed ++ (ls ++ lines_ahead a.place (a.left ++ more) ended)) none
-    ∙ ap (λ xs. pushed ++ lines_ahead a.place (xs ++ more) ended) nothing
+-- where no items are left, no loads are
+no-names : (found wanted : List (List ℕ)) → [] ≡ found ++ wanted → found ≡ []
+no-names [] wanted is = refl
+no-names (file ∷ found) wanted is = absurd cc
 
-fed-by : (last : Bool) (a : Account) (next items : List Item) (pushed : List (List ℕ)) → a.waiting ≡ [] → GivesNext a items pushed
-    → StandsBy (end_of last) (record { place = a.place; waiting = a.waiting; left = next; end = end_of last }) (items ++ next) pushed
-fed-by true a next items pushed none given = given next true ∙ ap (λ ls. pushed ++ (ls ++ lines_ahead a.place next true)) (sym none)
-fed-by false a next items pushed none given =
-    λ more ended. ap (λ all. lines_so_far all ended) (append_assoc items next more) ∙ given (next ++ more) ended
-    ∙ ap (λ ls. pushed ++ (ls ++ lines_ahead a.place (next ++ more) ended)) (sym none)
+no-loads : (loads : List Loaded) → 0 ≡ length loads → loads ≡ []
+no-loads [] is = refl
+no-loads (load ∷ loads) is = absurd cc
 
-pub stands-fed : (old : Stream) (content : PageContent) (items : List Item) (pushed : List (List ℕ)) → IsSpent old → old.end ≡ end.NotYet
-    → StandsFor old items pushed → StandsFor (fed old content) (items ++ content.items) pushed
-stands-fed old content items pushed (none, told) goes_on s =
+none-left : (left : List Item) (loads : List Loaded) (wanted : List (List ℕ)) → left ≡ [] → AreWanted left loads wanted → loads ≡ []
+none-left left loads wanted nothing are =
+    let found : are.found ≡ [] = no-names are.found wanted (ap files_named (sym nothing) ∙ are.all) in
+    no-loads loads (ap length (sym found) ∙ are.as_many)
+
+spent-gives : (a : Account) (items : List Item) (loads : List Loaded) (pushed : List (List ℕ)) → a.waiting ≡ [] → a.left ≡ [] → a.loads ≡ []
+    → a.end ≡ end.NotYet → StandsBy a.end a items loads pushed → GivesNext a items loads pushed
+spent-gives a items loads pushed none nothing no_load goes s =
+    let going : Account = record { place = a.place; waiting = a.waiting; left = a.left; loads = a.loads; end = end.NotYet } in
+    let stands : StandsBy end.NotYet going items loads pushed =
+    subst (λ e. StandsBy e (record { place = a.place; waiting = a.waiting; left = a.left; loads = a.loads; end = e }) items loads pushed) goes s in
+    λ more later ended. stands more later ended
+    ∙ ap (λ ls. pushed ++ (ls ++ lines_ahead a.place (a.left ++ more) (a.loads ++ later) ended)) none
+    ∙ ap (λ xs. pushed ++ lines_ahead a.place (xs ++ more) (a.loads ++ later) ended) nothing
+    ∙ ap (λ l. pushed ++ lines_ahead a.place more (l ++ later) ended) no_load
+
+fed-by : (last : Bool) (a : Account) (next items : List Item) (loads : List Loaded) (pushed : List (List ℕ)) → a.waiting ≡ []
+    → GivesNext a items loads pushed
+    → StandsBy (end_of last) (record { place = a.place; waiting = a.waiting; left = next; loads = []; end = end_of last }) (items ++ next) loads pushed
+fed-by true a next items loads pushed none given =
+    λ later. given next later true ∙ ap (λ ls. pushed ++ (ls ++ lines_ahead a.place next later true)) (sym none)
+fed-by false a next items loads pushed none given =
+    λ more later ended. ap (λ all. lines_so_far all (loads ++ later) ended) (append_assoc items next more) ∙ given (next ++ more) later ended
+    ∙ ap (λ ls. pushed ++ (ls ++ lines_ahead a.place (next ++ more) later ended)) (sym none)
+
+pub stands-fed : (old : Stream) (content : PageContent) (items : List Item) (loads : List Loaded) (pushed : List (List ℕ)) → IsSpent old
+    → old.end ≡ end.NotYet
+    → StandsFor old items loads pushed → StandsFor (fed old content) (items ++ content.items) loads pushed
+stands-fed old content items loads pushed (none, told) goes_on s =
     let a = s.account in
     let left : old.left ≡ [] = subst (λ e. IsTold e old.left) goes_on told in
+    let nothing : a.left ≡ [] = sym s.is.left ∙ left in
     let waiting = none.waiting a.waiting s.is.waiting in
     record {
-      account = record { place = a.place; waiting = a.waiting; left = content.items; end = end_of content.last };
-      is = record { part = s.is.part; waiting = s.is.waiting; left = refl; end = refl };
-      by = fed-by content.last a content.items items pushed waiting
-          (spent-gives a items pushed waiting (sym s.is.left ∙ left) (sym s.is.end ∙ goes_on) s.by);
+      account = record { place = a.place; waiting = a.waiting; left = content.items; loads = []; end = end_of content.last };
+      is = record {
+        part = s.is.part;
+        waiting = s.is.waiting;
+        left = refl;
+        loads = refl;
+        end = refl;
+        wanted = record { found = []; all = refl; as_many = refl };
+      };
+      by = fed-by content.last a content.items items loads pushed waiting
+          (spent-gives a items loads pushed waiting nothing (none-left a.left a.loads old.wanted nothing s.is.wanted) (sym s.is.end ∙ goes_on) s.by);
     }
 
-nothing-ahead : (now : End) (a : Account) (items : List Item) (pushed : List (List ℕ)) → a.end ≡ now → a.waiting ≡ [] → IsTold now a.left
-    → lines_ahead a.place [] false ≡ [] → StandsBy now a items pushed → lines_so_far items (not (goes_on now)) ≡ pushed
-nothing-ahead end.NotYet a items pushed is none told nothing s =
-    ap (λ all. lines_so_far all false) (sym (append-nil items)) ∙ spent-gives a items pushed none told is (subst (λ e. StandsBy e a items pushed) (sym is) s) [] false
+-- ---- a load that is given
+pub none-first : (wanted : List (List ℕ)) → first_of wanted ≡ None → wanted ≡ []
+none-first [] e = refl
+none-first (file ∷ later) e = absurd cc
+
+load-more : (loads later : List Loaded) (load : Loaded) → (loads ++ load ∷ []) ++ later ≡ loads ++ (load ∷ later)
+load-more loads later load = append_assoc loads (load ∷ []) later
+
+loaded-by : (now : End) (place : Where) (waiting : List (List ℕ)) (left items : List Item) (own loads : List Loaded)
+    (load : Loaded) (pushed : List (List ℕ))
+    → StandsBy now (record { place = place; waiting = waiting; left = left; loads = own; end = now }) items loads pushed
+    → StandsBy now (record { place = place; waiting = waiting; left = left; loads = own ++ load ∷ []; end = now }) items (loads ++ load ∷ []) pushed
+loaded-by end.NotYet place waiting left items own loads load pushed s =
+    λ more later ended. ap (λ l. lines_so_far (items ++ more) l ended) (load-more loads later load)
+    ∙ s more (load ∷ later) ended
+    ∙ ap (λ l. pushed ++ (waiting ++ lines_ahead place (left ++ more) l ended)) (sym (load-more own later load))
+loaded-by end.Due place waiting left items own loads load pushed s =
+    λ later. ap (λ l. lines_so_far items l true) (load-more loads later load)
+    ∙ s (load ∷ later)
+    ∙ ap (λ l. pushed ++ (waiting ++ lines_ahead place left l true)) (sym (load-more own later load))
+loaded-by end.Told place waiting left items own loads load pushed s =
+    λ later. ap (λ l. lines_so_far items l true) (load-more loads later load) ∙ s (load ∷ later)
+
+length-more : {X : Type 0} (xs : List X) (x : X) → length (xs ++ x ∷ []) ≡ length xs + 1
+length-more [] x = refl
+length-more (y ∷ xs) x = (let more = length-more xs x in omega (arith, more))
+
+wanted-less : (left : List Item) (own : List Loaded) (load : Loaded) (file : List ℕ) (later : List (List ℕ)) → AreWanted left own (file ∷ later)
+    → AreWanted left (own ++ load ∷ []) later
+wanted-less left own load file later are = record {
+  found = are.found ++ file ∷ [];
+  all = are.all ∙ sym (append_assoc are.found (file ∷ []) later);
+  as_many = length-more are.found file ∙ ap (λ n. n + 1) are.as_many ∙ sym (length-more own load);
+}
+
+pub stands-loaded : (old : Stream) (load : Loaded) (file : List ℕ) (later : List (List ℕ)) → old.wanted ≡ file ∷ later
+    → (items : List Item) (loads : List Loaded) (pushed : List (List ℕ)) → StandsFor old items loads pushed
+    → StandsFor (with_load old load) items (loads ++ load ∷ []) pushed
+stands-loaded old load file later wants items loads pushed s =
+    let a = s.account in
+    record {
+      account = record { place = a.place; waiting = a.waiting; left = a.left; loads = a.loads ++ load ∷ []; end = a.end };
+      is = record {
+        part = s.is.part;
+        waiting = s.is.waiting;
+        left = s.is.left;
+        loads = ap (λ l. l ++ load ∷ []) s.is.loads;
+        end = s.is.end;
+        wanted = subst (λ w. AreWanted a.left (a.loads ++ load ∷ []) (drop 1 w)) (sym wants)
+            (wanted-less a.left a.loads load file later (subst (λ w. AreWanted a.left a.loads w) wants s.is.wanted));
+      };
+      by = loaded-by a.end a.place a.waiting a.left items a.loads loads load pushed s.by;
+    }
+
+-- as the code gives it
+pub stands-given : (lines : LinesAhead) (then : Loading) (load : Loaded) (file : List ℕ) (later : List (List ℕ)) → lines.loads.wanted ≡ file ∷ later
+    → (then.given ≡ lines.loads.given ++ load ∷ []) × (then.wanted ≡ later)
+    → (items : List Item) (loads : List Loaded) (pushed : List (List ℕ)) → StandsFor (stream_of lines) items loads pushed
+    → StandsFor (stream_of (record lines { loads = then })) items (loads ++ load ∷ []) pushed
+stands-given lines then load file later wants is items loads pushed s =
+    subst (λ stream. StandsFor stream items (loads ++ load ∷ []) pushed) same
+    (stands-loaded (stream_of lines) load file later wants items loads pushed s)
+  where
+    same : with_load (stream_of lines) load ≡ stream_of (record lines { loads = then })
+    same = rw (is.0, is.1, wants) refl
+
+-- ---- all is told
+nothing-ahead : (now : End) (a : Account) (items : List Item) (loads : List Loaded) (pushed : List (List ℕ)) → a.end ≡ now → a.waiting ≡ []
+    → IsTold now a.left → (a.left ≡ [] → a.loads ≡ [])
+    → lines_ahead a.place [] [] false ≡ [] → StandsBy now a items loads pushed → lines_so_far items loads (not (goes_on now)) ≡ pushed
+nothing-ahead end.NotYet a items loads pushed is none told no_load nothing s =
+    ap (λ all. lines_so_far all loads false) (sym (append-nil items))
+    ∙ ap (λ l. lines_so_far (items ++ []) l false) (sym (append-nil loads))
+    ∙ spent-gives a items loads pushed none told (no_load told) is (subst (λ e. StandsBy e a items loads pushed) (sym is) s) [] [] false
     ∙ ap (λ ls. pushed ++ ls) nothing ∙ append-nil pushed
-nothing-ahead end.Due a items pushed is none told nothing s = absurd told
-nothing-ahead end.Told a items pushed is none told nothing s =
-    s ∙ ap (λ ls. pushed ++ (ls ++ made_of a.place a.left a.end [] true)) none
-    ∙ ap (λ e. pushed ++ made_of a.place a.left e [] true) is
+nothing-ahead end.Due a items loads pushed is none told no_load nothing s = absurd told
+nothing-ahead end.Told a items loads pushed is none told no_load nothing s =
+    ap (λ l. lines_so_far items l true) (sym (append-nil loads))
+    ∙ s []
+    ∙ ap (λ ls. pushed ++ (ls ++ made_of a.place a.left a.loads a.end [] [] true)) none
+    ∙ ap (λ e. pushed ++ made_of a.place a.left a.loads e [] [] true) is
     ∙ ap (λ ls. pushed ++ ls) nothing ∙ append-nil pushed
 
-pub all-told : (stream : Stream) (items : List Item) (pushed : List (List ℕ)) → IsTold stream.end stream.left → StandsStill stream items pushed
-    → lines_so_far items (not (goes_on stream.end)) ≡ pushed
-all-told stream items pushed told still =
+pub all-told : (stream : Stream) (items : List Item) (loads : List Loaded) (pushed : List (List ℕ)) → IsTold stream.end stream.left
+    → StandsStill stream items loads pushed
+    → lines_so_far items loads (not (goes_on stream.end)) ≡ pushed
+all-told stream items loads pushed told still =
     let a = still.stands.account in
     let is = still.stands.is in
-    ap (λ e. lines_so_far items (not (goes_on e))) is.end
-    ∙ nothing-ahead a.end a items pushed refl still.waiting
-    (subst (λ e. IsTold e a.left) is.end (subst (λ xs. IsTold stream.end xs) is.left told)) still.place still.stands.by
+    ap (λ e. lines_so_far items loads (not (goes_on e))) is.end
+    ∙ nothing-ahead a.end a items loads pushed refl still.waiting
+    (subst (λ e. IsTold e a.left) is.end (subst (λ xs. IsTold stream.end xs) is.left told))
+    (λ nothing. none-left a.left a.loads stream.wanted nothing is.wanted) still.place still.stands.by
 
 -- no push gave a page, and all is told
 pub packs-all : (before after : Stream) (hand then_hand : PageInHand) → Resting before hand after then_hand → IsSpent after
@@ -225,6 +346,7 @@ packs-all before after hand then_hand resting spent = record {
   in_hand = resting.pushing.in_hand;
   gives = resting.pushing.gives;
   all = λ none. spent;
-  told = λ none items so_far s. all-told after items (so_far ++ resting.pushing.lines) spent.1 (resting.still items so_far s);
+  told = λ none items loads so_far s. all-told after items loads (so_far ++ resting.pushing.lines) spent.1 (resting.still items loads so_far s);
   same_end = resting.pushing.same_end;
+  same_wanted = resting.pushing.same_wanted;
 }

@@ -1,10 +1,12 @@
 -- A stream of items whose lines are made as they come.
-use Rattle.std.specs.Prelude.{◌≡◌, ℕ, ◌+◌, Bool, true, false, not, List, [], ◌∷◌, ◌++◌, length, Option, Some, None, option_to_list}
+use Rattle.std.specs.Prelude.{◌≡◌, ℕ, ◌+◌, Bool, true, false, not, List, [], ◌∷◌, ◌++◌, length, drop, Option, Some, None, option_to_list}
 use Rattle.solo_base.specs.declared.item.Item.{Item}
 use Rattle.solo_base.specs.declared.item.Item.TheVariants.{Line}
 use Rattle.solo_base.specs.declared.page.Page.{Page}
 use Rattle.page_codec.specs.Reading.{PageContent}
 use Rattle.page_codec.specs.Packing.{PageInHand, page_given, hand_after}
+use Rattle.disk_system.specs.declared.loading.Loaded.{Loaded}
+use Rattle.batch_job.specs.Loads.{files_named}
 use Rattle.batch_job.specs.LinesSoFar.{lines_so_far}
 use Rattle.batch_job.specs.LinesAhead.{Where, lines_ahead}
 use Rattle.batch_job.specs.Places.{IsPart, IsSpentPart, Holds, no_lines, lines_left_of, part_left}
@@ -16,16 +18,25 @@ use Rattle.batch_job.specs.declared.lines_ahead.LinesAhead.{LinesAhead}
 use Rattle.batch_job.specs.declared.item_lines.ItemLines.{ItemLines}
 
 -- the part of the deck that it is in, the lines that are made and not pushed, the items of its page that are
--- left, and how far its end is
+-- left, what their files were loaded as, the files that are still wanted, and how far its end is
 pub record Stream : Type 0 where
   pub part : Part
   pub waiting : ItemLines
   pub left : List Item
+  pub loads : List Loaded
+  pub wanted : List (List ℕ)
   pub end : End
 
 -- before the first page
 abbrev pub new_stream : Stream
-new_stream = record { part = part.Stretch 0; waiting = no_lines; left = []; end = end.NotYet }
+new_stream = record {
+  part = part.Stretch 0;
+  waiting = no_lines;
+  left = [];
+  loads = [];
+  wanted = [];
+  end = end.NotYet;
+}
 
 -- behind the last page the end is due
 abbrev pub end_of : Bool → End
@@ -34,45 +45,67 @@ end_of false = end.NotYet
 
 -- with the items of the next page
 abbrev pub fed : Stream → PageContent → Stream
-fed stream content = record stream { left = content.items; end = end_of content.last }
+fed stream content = record stream {
+  left = content.items;
+  loads = [];
+  wanted = files_named content.items;
+  end = end_of content.last;
+}
+
+-- with what was found of the file that is wanted first
+abbrev pub with_load : Stream → Loaded → Stream
+with_load stream load = record stream { loads = stream.loads ++ load ∷ []; wanted = drop 1 stream.wanted }
 
 -- ---- what it stands for
--- where it stands in its deck, the lines that are made and not pushed, the items that are left, and how far
--- its end is
+-- where it stands in its deck, the lines that are made and not pushed, the items that are left, what their
+-- files were loaded as, and how far its end is
 pub record Account : Type 0 where
   pub place : Where
   pub waiting : List (List ℕ)
   pub left : List Item
+  pub loads : List Loaded
   pub end : End
+
+-- of the files that these items name the first are loaded, and these are wanted
+pub record AreWanted (left : List Item) (loads : List Loaded) (wanted : List (List ℕ)) : Type 0 where
+  pub found : List (List ℕ)
+  pub all : files_named left ≡ found ++ wanted
+  pub as_many : length found ≡ length loads
 
 pub record IsAccount (stream : Stream) (a : Account) : Type 0 where
   pub part : IsPart stream.part a.place
   pub waiting : Holds stream.waiting a.waiting
   pub left : stream.left ≡ a.left
+  pub loads : stream.loads ≡ a.loads
   pub end : stream.end ≡ a.end
+  pub wanted : AreWanted a.left a.loads stream.wanted
 
--- the lines that it still gives, where these items follow
-abbrev pub made_of : Where → List Item → End → List Item → Bool → List (List ℕ)
-made_of place left end.NotYet more ended = lines_ahead place (left ++ more) ended
-made_of place left end.Due more ended = lines_ahead place left true
-made_of place left end.Told more ended = lines_ahead place [] false
+-- the lines that it still gives, where these items and these loads follow
+abbrev pub made_of : Where → List Item → List Loaded → End → List Item → List Loaded → Bool → List (List ℕ)
+made_of place left loads end.NotYet more later ended = lines_ahead place (left ++ more) (loads ++ later) ended
+made_of place left loads end.Due more later ended = lines_ahead place left (loads ++ later) true
+made_of place left loads end.Told more later ended = lines_ahead place [] [] false
 
 -- those that are made, and those still to be made
-abbrev pub ahead : Account → List Item → Bool → List (List ℕ)
-ahead a more ended = a.waiting ++ made_of a.place a.left a.end more ended
+abbrev pub ahead : Account → List Item → List Loaded → Bool → List (List ℕ)
+ahead a more later ended = a.waiting ++ made_of a.place a.left a.loads a.end more later ended
 
--- These items were fed and these lines pushed: whatever follows, they and those that it still gives are the
--- lines so far.
-abbrev pub StandsBy : End → Account → List Item → List (List ℕ) → Type 0
-StandsBy end.NotYet a items pushed =
-    (more : List Item) (ended : Bool) → lines_so_far (items ++ more) ended ≡ pushed ++ ahead a more ended
-StandsBy end.Due a items pushed = lines_so_far items true ≡ pushed ++ ahead a [] true
-StandsBy end.Told a items pushed = lines_so_far items true ≡ pushed ++ ahead a [] true
+-- These items and loads were given and these lines pushed: whatever follows, they and those that it still
+-- gives are the lines so far.
+abbrev pub StandsBy : End → Account → List Item → List Loaded → List (List ℕ) → Type 0
+StandsBy end.NotYet a items loads pushed =
+    (more : List Item) (later : List Loaded) (ended : Bool)
+    → lines_so_far (items ++ more) (loads ++ later) ended ≡ pushed ++ ahead a more later ended
+StandsBy end.Due a items loads pushed =
+    (later : List Loaded) → lines_so_far items (loads ++ later) true ≡ pushed ++ ahead a [] later true
+StandsBy end.Told a items loads pushed =
+    (later : List Loaded) → lines_so_far items (loads ++ later) true ≡ pushed ++ ahead a [] later true
 
-pub record StandsFor (stream : Stream) (items : List Item) (pushed : List (List ℕ)) : Type 0 where
+pub record StandsFor (stream : Stream) (items : List Item) (loads : List Loaded)
+    (pushed : List (List ℕ)) : Type 0 where
   pub account : Account
   pub is : IsAccount stream account
-  pub by : StandsBy account.end account items pushed
+  pub by : StandsBy account.end account items loads pushed
 
 -- ---- what it gives
 -- whether more pages follow
@@ -96,23 +129,25 @@ IsTold end.Told left = Unit {0}
 abbrev pub IsSpent : Stream → Type 0
 IsSpent stream = HasNoLine stream × IsTold stream.end stream.left
 
--- these items were fed and these lines pushed, and nothing is ahead before the next item
-pub record StandsStill (stream : Stream) (items : List Item) (pushed : List (List ℕ)) : Type 0 where
-  pub stands : StandsFor stream items pushed
+-- these items and loads were given and these lines pushed, and nothing is ahead before the next item
+pub record StandsStill (stream : Stream) (items : List Item) (loads : List Loaded)
+    (pushed : List (List ℕ)) : Type 0 where
+  pub stands : StandsFor stream items loads pushed
   pub waiting : stands.account.waiting ≡ []
-  pub place : lines_ahead stands.account.place [] false ≡ []
+  pub place : lines_ahead stands.account.place [] [] false ≡ []
 
 -- the lines that it gave in between
 pub record Passes (a : Account) (now : Stream) (lines : List (List ℕ)) : Type 0 where
   pub then_is : Account
   pub is : IsAccount now then_is
-  pub gives : (more : List Item) (ended : Bool) → ahead a more ended ≡ lines ++ ahead then_is more ended
+  pub gives : (more : List Item) (later : List Loaded) (ended : Bool)
+      → ahead a more later ended ≡ lines ++ ahead then_is more later ended
 
 -- it gave none, and nothing is ahead before the next item
 pub record Rests (a : Account) (now : Stream) : Type 0 where
   pub passes : Passes a now []
   pub waiting : passes.then_is.waiting ≡ []
-  pub place : lines_ahead passes.then_is.place [] false ≡ []
+  pub place : lines_ahead passes.then_is.place [] [] false ≡ []
 
 -- ---- packing: lines are pushed until a push gives a page
 -- the pages that the pushes give, and the page then in hand
@@ -136,8 +171,8 @@ IsGivenLast hand (line ∷ next ∷ lines) =
 -- These lines are what the stream gave.
 abbrev pub Gives : Stream → Stream → List (List ℕ) → Type 0
 Gives before after lines =
-    (items : List Item) (so_far : List (List ℕ)) → StandsFor before items so_far
-    → StandsFor after items (so_far ++ lines)
+    (items : List Item) (loads : List Loaded) (so_far : List (List ℕ)) → StandsFor before items loads so_far
+    → StandsFor after items loads (so_far ++ lines)
 
 -- It pushed these lines, in order: either none gave a page, or the last alone.
 abbrev pub PushesUpTo : PageInHand → List (List ℕ) → Option Page → Type 0
@@ -152,9 +187,11 @@ pub record Packs (before : Stream) (hand : PageInHand) (page : Option Page) (aft
   pub in_hand : hand_then ≡ hand_behind hand lines
   pub gives : Gives before after lines
   pub all : page ≡ None → IsSpent after
-  pub told : page ≡ None → (items : List Item) (so_far : List (List ℕ)) → StandsFor before items so_far
-      → lines_so_far items (not (goes_on after.end)) ≡ so_far ++ lines
+  pub told : page ≡ None → (items : List Item) (loads : List Loaded) (so_far : List (List ℕ))
+      → StandsFor before items loads so_far
+      → lines_so_far items loads (not (goes_on after.end)) ≡ so_far ++ lines
   pub same_end : goes_on after.end ≡ goes_on before.end
+  pub same_wanted : after.wanted ≡ before.wanted
 
 -- so far none of its lines gave a page
 pub record Pushing (before : Stream) (hand : PageInHand) (after : Stream)
@@ -164,13 +201,15 @@ pub record Pushing (before : Stream) (hand : PageInHand) (after : Stream)
   pub in_hand : hand_then ≡ hand_behind hand lines
   pub gives : Gives before after lines
   pub same_end : goes_on after.end ≡ goes_on before.end
+  pub same_wanted : after.wanted ≡ before.wanted
 
 -- so far none of its lines gave a page, and nothing is ahead before the next item
 pub record Resting (before : Stream) (hand : PageInHand) (after : Stream)
     (hand_then : PageInHand) : Type 0 where
   pub pushing : Pushing before hand after hand_then
-  pub still : (items : List Item) (so_far : List (List ℕ)) → StandsFor before items so_far
-      → StandsStill after items (so_far ++ pushing.lines)
+  pub still : (items : List Item) (loads : List Loaded) (so_far : List (List ℕ))
+      → StandsFor before items loads so_far
+      → StandsStill after items loads (so_far ++ pushing.lines)
 
 -- what pushes of lines that are made come to: a page that went out, or none so far
 abbrev pub PacksMade : Stream → PageInHand → Option Page → Stream → PageInHand → Type 0
@@ -184,8 +223,14 @@ items_left (Some content) = content.items
 
 -- as callers see them
 abbrev pub stream_of : LinesAhead → Stream
-stream_of lines =
-    record { part = lines.part; waiting = lines.waiting; left = items_left lines.items; end = lines.end }
+stream_of lines = record {
+  part = lines.part;
+  waiting = lines.waiting;
+  left = items_left lines.items;
+  loads = lines.loads.given;
+  wanted = lines.loads.wanted;
+  end = lines.end;
+}
 
 -- no more lines than these are made before the next item
 abbrev pub lines_made : Stream → ℕ

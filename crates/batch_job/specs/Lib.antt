@@ -4,6 +4,7 @@ pub use Rattle.deck_format.specs.Jobs
 pub use Rattle.program_lines.specs.Task
 pub mod Report
 pub mod OneThread
+pub mod Loads
 pub mod LinesSoFar
 pub mod LinesAhead
 pub mod Places

@@ -11,7 +11,10 @@ use Rattle.program_lines.specs.Task.{Task, task_lines}
 use Rattle.program_lines.specs.Standing.{StandsFor, IsSpent, lines_left}
 use Rattle.program_lines.specs.declared.program_lines.ProgramLines.{ProgramLines}
 use Rattle.program_lines.specs.declared.program_lines.ProgramLines.TheVariants as made
+use Rattle.disk_system.specs.declared.loading.Loaded.{Loaded}
+use Rattle.disk_system.specs.declared.loading.Loaded.TheVariants.{NoFile}
 use Rattle.batch_job.specs.Report.{heading}
+use Rattle.batch_job.specs.Loads.{load_for}
 use Rattle.batch_job.specs.LinesAhead.{Where, Outside, InList, InProgram, Dropped, name_of, task_in, lines_ahead, closed_lines, opened, added_lines, added}
 use Rattle.batch_job.specs.declared.part.Part.{Part}
 use Rattle.batch_job.specs.declared.part.Part.TheVariants as part
@@ -29,21 +32,22 @@ program_group name limit number cards = record {
 -- A program that reads its input, which has no fault, is at the task of its group, and has given the lines
 -- that were given of it.
 pub record IsInput (name : List ℕ) (number : ℕ) (lines : ProgramLines) (place : Where) : Type 0 where
+  pub load : Loaded
   pub group : Group
   pub given : List (List ℕ)
-  pub place_is : place ≡ InProgram group given
+  pub place_is : place ≡ InProgram load group given
   pub name_is : name_of group.opener ≡ name
   pub begun : group.in_input ≡ true
   pub fine : group.kept.fault ≡ None
   pub number_is : group.number ≡ number
-  pub stands : StandsFor lines (task_in group) given
+  pub stands : StandsFor lines (task_in load group) given
 
 -- a part of the code is this place
 abbrev pub IsPart : Part → Where → Type 0
 IsPart (part.Stretch count) place = place ≡ Outside count
 IsPart (part.List name count) place = place ≡ InList name count
 IsPart (part.Program name limit number cards) place =
-    place ≡ InProgram (program_group name limit number cards) []
+    place ≡ InProgram NoFile (program_group name limit number cards) []
 IsPart (part.Input name number lines) place = IsInput name number lines place
 IsPart part.Dropped place = place ≡ Dropped
 
@@ -86,18 +90,39 @@ lines_left_of lines =
     lines_left lines.ending + length (option_to_list lines.own) + length (option_to_list lines.note)
 
 -- ---- what an item does
--- it gives these lines and leads to this part
-pub record Leads (place : Where) (item : Item) (lines : ItemLines) (part : Part) : Type 0 where
+-- what an opener needs is loaded
+abbrev pub HasLoad : Option Opener → List Loaded → Type 0
+HasLoad None loads = Unit {0}
+HasLoad (Some o) loads = (load : Loaded) × (left : List Loaded) × (load_for o loads ≡ Some (load, left))
+
+-- and these loads are left behind it
+abbrev pub LeavesLoads : Option Opener → List Loaded → List Loaded → Type 0
+LeavesLoads None loads left = left ≡ loads
+LeavesLoads (Some o) loads left = (load : Loaded) × (load_for o loads ≡ Some (load, left))
+
+-- a group that is none of a file has no load of its own
+abbrev pub IsLoadOf : Opener → Loaded → Type 0
+IsLoadOf (opener.List name) load = Unit {0}
+IsLoadOf (opener.Job name limit) load = load ≡ NoFile
+IsLoadOf (opener.Run name file) load = Unit {0}
+
+-- it gives these lines, takes the first of the loads if it opens a job of a file, and leads to this part
+pub record Leads (place : Where) (item : Item) (loads left : List Loaded) (lines : ItemLines)
+    (part : Part) : Type 0 where
   pub to : Where
   pub part_is : IsPart part to
   pub all : List (List ℕ)
   pub holds : Holds lines all
-  pub more : (more : List Item) (ended : Bool)
-      → lines_ahead place (item ∷ more) ended ≡ all ++ lines_ahead to more ended
+  pub more : (more : List Item) (later : List Loaded) (ended : Bool)
+      → lines_ahead place (item ∷ more) (loads ++ later) ended
+      ≡ all ++ lines_ahead to more (left ++ later) ended
 
 -- an opener ends the part before it, and its heading is told
-pub record Opens (place : Where) (o : Opener) (lines : ItemLines) (part : Part) : Type 0 where
-  pub part_is : IsPart part (opened o)
+pub record Opens (place : Where) (o : Opener) (loads left : List Loaded) (lines : ItemLines)
+    (part : Part) : Type 0 where
+  pub load : Loaded
+  pub load_is : load_for o loads ≡ Some (load, left)
+  pub part_is : IsPart part (opened load o)
   pub holds : Holds lines (closed_lines place ++ heading (name_of o) ∷ [])
 
 -- the end of a group
@@ -111,10 +136,10 @@ pub record Adds (place : Where) (item : Item) (lines : ItemLines) (part : Part) 
   pub part_is : IsPart part to
   pub all : List (List ℕ)
   pub holds : Holds lines all
-  pub more : (more : List Item) (ended : Bool)
+  pub more : (more : List Item) (loads : List Loaded) (ended : Bool)
       → added_lines place item (is_some (control_in item))
-      ++ lines_ahead (added place item (is_some (control_in item))) more ended
-      ≡ all ++ lines_ahead to more ended
+      ++ lines_ahead (added place item (is_some (control_in item))) more loads ended
+      ≡ all ++ lines_ahead to more loads ended
 
 -- ---- a whole run
 -- a program with this fault is run, unless the fault is its own
@@ -146,10 +171,10 @@ part_left part.Dropped = 0
 pub record GivesOn (place : Where) (now : Part) (lines : List (List ℕ)) : Type 0 where
   pub to : Where
   pub part_is : IsPart now to
-  pub gives : (more : List Item) (ended : Bool)
-      → lines_ahead place more ended ≡ lines ++ lines_ahead to more ended
+  pub gives : (more : List Item) (loads : List Loaded) (ended : Bool)
+      → lines_ahead place more loads ended ≡ lines ++ lines_ahead to more loads ended
 
 -- it gave none, and none is ahead before the next item
 pub record RestsAt (place : Where) (now : Part) : Type 0 where
   pub part_is : IsPart now place
-  pub nothing : lines_ahead place [] false ≡ []
+  pub nothing : lines_ahead place [] [] false ≡ []

@@ -9,8 +9,10 @@ use Rattle.deck_format.specs.declared.job.CardFault.{CardFault}
 use Rattle.deck_format.specs.declared.job.CardFaultKind.{CardFaultKind}
 use Rattle.deck_format.specs.declared.job.CardFaultKind.TheVariants.{Spoiled, Control}
 use Rattle.pascal_compile.specs.Compiling.{compiling}
-use Rattle.program_lines.specs.Texts.{no_file_line}
-use Rattle.program_lines.specs.Task.{Source, Says, source_of, program_lines}
+use Rattle.disk_system.specs.declared.loading.Loaded.{Loaded}
+use Rattle.disk_system.specs.declared.loading.Loaded.TheVariants.{Code, NoFile, NotCode, BadCode}
+use Rattle.program_lines.specs.Texts.{no_file_line, not_code_line, bad_code_line}
+use Rattle.program_lines.specs.Task.{Source, RunsCode, Says, source_of, program_lines}
 
 -- `JOB A`
 abbrev pub heading : List ℕ → List ℕ
@@ -45,17 +47,36 @@ run_lines name limit source input (Some fault) =
     if fault.in_input then program_lines name limit source input ++ fault_line name fault ∷ []
     else fault_line name fault ∷ []
 
+-- ---- Jobs of files
+
 -- a program of a file may take so many ticks
 abbrev pub file_limit : ℕ
 file_limit = 10000
 
+-- what a job of a file has to run, by what its file was loaded as
+abbrev pub source_loaded : List ℕ → Loaded → Source
+source_loaded name (Code code) = RunsCode code
+source_loaded name NoFile = Says (no_file_line name)
+source_loaded name NotCode = Says (not_code_line name)
+source_loaded name (BadCode at) = Says (bad_code_line name at)
+
+-- what the file of each name is loaded as
+abbrev pub Loads : Type 0
+Loads = List ℕ → Loaded
+
+-- where there are no files
+abbrev pub no_files : Loads
+no_files file = NoFile
+
+-- ---- The report
+
 -- A list of the card `HELLO` has the lines `JOB A`, `HELLO`, `A: LISTED 1 CARDS`. A program has those of its
--- run, by what its source means: `JOB SUM`, `10`, `SUM: TERMINATED`. There are no files, so that a job of one
--- has the lines `JOB A`, `A: NO FILE`.
-abbrev pub report : Job → List (List ℕ)
-report (Listing name cards fault) = heading name ∷ cards ++ listing_end name cards fault ∷ []
-report (Pascal name limit program input fault) =
+-- run, by what its source means: `JOB SUM`, `10`, `SUM: TERMINATED`. A job of a file has those of the run of
+-- its code, or `JOB A`, `A: NO FILE`.
+abbrev pub report : Loads → Job → List (List ℕ)
+report files (Listing name cards fault) = heading name ∷ cards ++ listing_end name cards fault ∷ []
+report files (Pascal name limit program input fault) =
     heading name ∷ run_lines name limit (source_of name (compiling program)) input fault
-report (Run name file input fault) =
-    heading name ∷ run_lines name file_limit (Says (no_file_line name)) input fault
-report (Skipped count) = skipped_line count ∷ []
+report files (Run name file input fault) =
+    heading name ∷ run_lines name file_limit (source_loaded name (files file)) input fault
+report files (Skipped count) = skipped_line count ∷ []

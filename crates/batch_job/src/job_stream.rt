@@ -1,15 +1,19 @@
-ghost use Rattle.std.specs.Prelude.{◌≡◌, ◌++◌, ℕ, List, [], None, IfOk, OnOk};
+ghost use Rattle.std.specs.Prelude.{◌≡◌, ◌++◌, ◌∷◌, ℕ, List, [], None, IfOk, OnOk};
 ghost use Rattle.solo_base.specs.declared.item.Item.{Item as ItemOf};
-ghost use Rattle.batch_job.specs.JobStream.{new_stream, fed, StandsFor, IsSpent, Packs};
+ghost use Rattle.disk_system.specs.declared.loading.Loaded.{Loaded as LoadedOf};
+ghost use Rattle.batch_job.specs.Loads.{first_of};
+ghost use Rattle.batch_job.specs.JobStream.{new_stream, fed, with_load, StandsFor, IsSpent, Packs};
 
 use crate::lines_ahead::{End, LinesAhead};
+use disk_system::Loaded;
 use page_codec::{Packer, PageItems};
 use solo_base::{Ident, Item, NoMemory, Page};
 use std::alloc::Global;
 use std::marker::Model;
 
 /// The lines of a stream of items, in pages: each item is used as it comes, and a page goes out as it
-/// fills. It keeps the items of the page in hand and no more than the lines of one of them.
+/// fills. It keeps the items of the page in hand, what their files were loaded as, and no more than the lines
+/// of one of them.
 #[derive(Debug, Drop)]
 pub struct JobStream {
     ahead: LinesAhead,
@@ -27,7 +31,7 @@ impl JobStream {
     /// The stream before its first page.
     pub fn new(alloc: Global) -> JobStream
         ensures new { result ≡ new_stream }
-        ensures stands { StandsFor result [] [] }
+        ensures stands { StandsFor result [] [] [] }
         ensures spent { IsSpent result }
     {
         JobStream {
@@ -38,25 +42,36 @@ impl JobStream {
     /// Takes the items of the next page, once all lines of those before are pushed. None follows the last.
     pub fn feed(&mut self, items: PageItems) -> Result<(), NoMemory>
         ensures fed { OnOk result (self.new ≡ fed self.old items) }
-        ensures stands { OnOk result ((before : List ItemOf) (pushed : List (List ℕ)) → IsSpent self.old
-            → self.old.end ≡ End.NotYet →
-            StandsFor self.old before pushed → StandsFor self.new (before ++ items.items) pushed) }
+        ensures stands { OnOk result ((before : List ItemOf) (loads : List LoadedOf) (pushed : List (List ℕ))
+            → IsSpent self.old → self.old.end ≡ End.NotYet → StandsFor self.old before loads pushed
+            → StandsFor self.new (before ++ items.items) loads pushed) }
     {
-        self.ahead.feed(items);
-        Ok(())
+        self.ahead.feed(items)
     }
 
-    /// The file of a job that is to be loaded before its lines can be made: none, since no job is built
-    /// that has one.
+    /// The first file of the jobs that were fed whose load wasn't given yet. No line is made before it is.
     pub fn wants(&self) -> Option<Ident>
-        ensures { result ≡ None }
+        ensures first { result ≡ first_of self.now.wanted }
+        ensures none { result ≡ None → self.now.wanted ≡ [] }
     {
-        None
+        self.ahead.loads.wants()
+    }
+
+    /// Gives what was found of that file.
+    pub fn load(&mut self, loaded: Loaded)
+        ensures loaded { (file : List ℕ) (later : List (List ℕ)) → self.old.wanted ≡ file ∷ later
+            → self.new ≡ with_load self.old loaded }
+        ensures stands { (file : List ℕ) (later : List (List ℕ)) → self.old.wanted ≡ file ∷ later
+            → (items : List ItemOf) (loads : List LoadedOf) (pushed : List (List ℕ))
+            → StandsFor self.old items loads pushed → StandsFor self.new items (loads ++ loaded ∷ []) pushed }
+    {
+        self.ahead.loads.give(loaded);
     }
 
     /// Makes and pushes the next lines until a push gives a page. No page says that all lines of the
-    /// items so far are pushed.
+    /// items so far are pushed. No file is wanted.
     pub fn pack(&mut self, packer: &mut Packer) -> Result<Option<Page>, NoMemory>
+        requires { self.old.wanted ≡ [] }
         ensures packs { IfOk result (λ page. Packs self.old packer.old page self.new packer.new) }
     {
         pack_lines(&mut self.ahead, packer)
@@ -69,6 +84,7 @@ ghost use Rattle.batch_job.specs.JobStream.{Stream, stream_of, Pushing, PacksMad
 
 /// Makes and pushes lines until a push gives a page.
 fn pack_lines(ahead: &mut LinesAhead, packer: &mut Packer) -> Result<Option<Page>, NoMemory>
+    requires { (stream_of ahead.old).wanted ≡ [] }
     ensures { IfOk result (λ page.
         Packs (stream_of ahead.old) packer.old page (stream_of ahead.new) packer.new) }
 {
@@ -89,6 +105,7 @@ fn push_made(ahead: &mut LinesAhead, packer: &mut Packer) -> Option<Page>
         → PacksMade first hand result (stream_of ahead.new) packer.new }
     ensures none { result ≡ None → HasNoLine (stream_of ahead.new) }
     ensures turns { turns_left (stream_of ahead.new) ≡ turns_left (stream_of ahead.old) }
+    ensures wanted { (stream_of ahead.new).wanted ≡ (stream_of ahead.old).wanted }
 {
     'pushing: while let Some(line) = ahead.next() {
         if let Some(page) = packer.push(&Item::Line(line)) {

@@ -5,6 +5,7 @@ mod item_lines;
 mod job_stream;
 mod lines;
 mod lines_ahead;
+mod page_loads;
 mod part;
 mod report;
 mod taking;
@@ -12,6 +13,7 @@ mod taking;
 pub use job_stream::JobStream;
 pub use lines::{items_give_few_lines, lines_go_on};
 pub use lines_ahead::End;
+pub use page_loads::PageLoads;
 pub use part::Part;
 pub use report::run_job;
 

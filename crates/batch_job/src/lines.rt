@@ -1,10 +1,11 @@
-ghost use Rattle.batch_job.specs.LinesSoFar.{LinesGoOn, EndGivesOutput, FewLines};
+ghost use Rattle.batch_job.specs.LinesSoFar.{LinesGoOn, LoadsGoOn, EndGivesOutput, FewLines};
 
 /// What a deck gives as it goes on. Nothing is done here: the contract is the law, for those who speak
-/// of lists of items. The lines of the items so far stay the first of all lines, and those of the whole
-/// deck are what one thread prints.
+/// of lists of items. The lines of the items so far, with what their files were loaded as, stay the first of
+/// all lines, and those of the whole deck are what one thread prints.
 pub fn lines_go_on()
     ensures prefix { LinesGoOn }
+    ensures loads { LoadsGoOn }
     ensures whole { EndGivesOutput }
 {}
 

@@ -4,6 +4,7 @@ ghost use Rattle.batch_job.specs.JobStream.{Account, IsAccount, HasNoLine, IsTol
 
 use crate::Part;
 use crate::item_lines::ItemLines;
+use crate::page_loads::PageLoads;
 use crate::taking::{end_part, take_item};
 use page_codec::PageItems;
 use solo_base::{Item, Line, NoMemory};
@@ -27,6 +28,7 @@ pub struct LinesAhead {
     pub part: Part,
     pub waiting: ItemLines,
     pub items: Option<PageItems>,
+    pub loads: PageLoads,
     pub end: End,
 }
 
@@ -40,16 +42,19 @@ impl LinesAhead {
             part: Part::Stretch { count: 0 },
             waiting: ItemLines::none(),
             items: None,
+            loads: PageLoads::none(alloc),
             end: End::NotYet,
         }
     }
 
     /// Takes the items of the next page.
-    pub fn feed(&mut self, items: PageItems)
-        ensures { stream_of self.new ≡ fed (stream_of self.old) items }
+    pub fn feed(&mut self, items: PageItems) -> Result<(), NoMemory>
+        ensures { OnOk result (stream_of self.new ≡ fed (stream_of self.old) items) }
     {
+        self.loads = PageLoads::of(self.alloc, items.copy())?;
         self.end = if items.last() { End::Due } else { End::NotYet };
         self.items = Some(items);
+        Ok(())
     }
 
     /// The next line that is made, or `None` where none comes before the next item.
@@ -63,6 +68,7 @@ impl LinesAhead {
             ≤ lines_made (stream_of self.old) }
         ensures turns { turns_left (stream_of self.new) ≡ turns_left (stream_of self.old) }
         ensures end { self.new.end ≡ self.old.end }
+        ensures wanted { (stream_of self.new).wanted ≡ (stream_of self.old).wanted }
     {
         if let Some(line) = self.waiting.next() {
             return Some(line);
@@ -73,7 +79,8 @@ impl LinesAhead {
     /// Makes the lines of the next item, or of the end, and says whether there was one. All lines that were
     /// made are pushed.
     pub fn make(&mut self) -> Result<bool, NoMemory>
-        requires { HasNoLine (stream_of self.old) }
+        requires none { HasNoLine (stream_of self.old) }
+        requires wanted { (stream_of self.old).wanted ≡ [] }
         ensures passes { IfOk result (λ made. (a : Account) → IsAccount (stream_of self.old) a
             → Passes a (stream_of self.new) []) }
         ensures none { IfOk result (λ made. made ≡ false → (stream_of self.new ≡ stream_of self.old)
@@ -81,6 +88,7 @@ impl LinesAhead {
         ensures falls { IfOk result (λ made. IsTrue made
             → turns_left (stream_of self.new) < turns_left (stream_of self.old)) }
         ensures end { IfOk result (λ made. goes_on self.new.end ≡ goes_on self.old.end) }
+        ensures wanted { IfOk result (λ made. (stream_of self.new).wanted ≡ []) }
     {
         match self.end {
             End::NotYet => self.make_item(),
@@ -99,6 +107,7 @@ impl LinesAhead {
     fn make_item(&mut self) -> Result<bool, NoMemory>
         requires none { HasNoLine (stream_of self.old) }
         requires goes_on { self.old.end ≡ EndOf.Told → ⊥ }
+        requires wanted { (stream_of self.old).wanted ≡ [] }
         ensures passes { IfOk result (λ made. (a : Account) → IsAccount (stream_of self.old) a
             → Passes a (stream_of self.new) []) }
         ensures none { IfOk result (λ made. made ≡ false → (stream_of self.new ≡ stream_of self.old)
@@ -106,11 +115,12 @@ impl LinesAhead {
         ensures falls { IfOk result (λ made. IsTrue made
             → turns_left (stream_of self.new) < turns_left (stream_of self.old)) }
         ensures end { IfOk result (λ made. self.new.end ≡ self.old.end) }
+        ensures wanted { IfOk result (λ made. (stream_of self.new).wanted ≡ []) }
     {
         match next_item(&mut self.items) {
             None => Ok(false),
             Some(item) => {
-                self.waiting = take_item(self.alloc, &mut self.part, &item)?;
+                self.waiting = take_item(self.alloc, &mut self.part, &mut self.loads, &item)?;
                 Ok(true)
             }
         }
@@ -121,10 +131,12 @@ impl LinesAhead {
         requires none { HasNoLine (stream_of self.old) }
         requires left { items_left self.old.items ≡ [] }
         requires due { self.old.end ≡ EndOf.Due }
+        requires wanted { (stream_of self.old).wanted ≡ [] }
         ensures passes { OnOk result ((a : Account) → IsAccount (stream_of self.old) a
             → Passes a (stream_of self.new) []) }
         ensures falls { OnOk result (turns_left (stream_of self.new) < turns_left (stream_of self.old)) }
         ensures end { OnOk result (self.new.end ≡ EndOf.Told) }
+        ensures wanted { OnOk result ((stream_of self.new).wanted ≡ []) }
     {
         let ending = end_part(self.alloc, &mut self.part)?;
         self.waiting = ItemLines::ending_with(ending);

@@ -1,21 +1,24 @@
 ghost use Rattle.std.specs.Prelude.{◌≡◌, ◌+◌, ◌≤◌, ◌++◌, ◌∷◌, ℕ, List, [], length, true, false, IfOk, OnOk};
 ghost use Rattle.pascal_compile.specs.Compiling.{compiling};
-ghost use Rattle.program_lines.specs.Texts.{no_file_line};
-ghost use Rattle.program_lines.specs.Task.{Task, Says, source_of, task_lines, with_more};
+ghost use Rattle.program_lines.specs.Task.{Task, source_of, new_task, task_lines, with_more};
 ghost use Rattle.program_lines.specs.Standing.{StandsFor, IsSpent};
-ghost use Rattle.batch_job.specs.Report.{report, heading, listed_line, fault_line, listing_end, skipped_line, kind_text, run_lines, file_limit};
+ghost use Rattle.batch_job.specs.Report.{report, heading, listed_line, fault_line, listing_end, skipped_line, kind_text, run_lines, file_limit, source_loaded};
 ghost use Rattle.batch_job.specs.LinesSoFar.{fault_so_far};
 ghost use Rattle.batch_job.specs.Places.{Made, is_run};
 ghost use Rattle.solo_base.specs.Blanks.{trimmed};
 
 use deck_format::{CardFault, CardFaultKind, Job};
-use program_lines::{ProgramLines, no_file_line};
+use disk_system::Loaded;
+use program_lines::{ProgramLines, bad_code_line, no_file_line, not_code_line};
 use solo_base::{Ident, Line, LineList, NoMemory};
 use std::alloc::Global;
 
-/// The lines that the job prints.
-pub fn run_job(alloc: Global, job: Job) -> Result<LineList, NoMemory>
-    ensures { IfOk result (λ lines. lines ≡ report job) }
+/// A program of a file may take so many ticks.
+const FILE_LIMIT: u32 = 10_000;
+
+/// The lines that the job prints, whose file was loaded so if it is a job of a file.
+pub fn run_job(alloc: Global, job: Job, load: Loaded) -> Result<LineList, NoMemory>
+    ensures { IfOk result (λ lines. lines ≡ report (λ file. load) job) }
 {
     let mut lines = LineList::new(alloc);
     match &job {
@@ -33,11 +36,11 @@ pub fn run_job(alloc: Global, job: Job) -> Result<LineList, NoMemory>
         Job::Run {
             name,
             file: _,
-            input: _,
+            input,
             fault,
         } => {
             lines.push(&heading(name))?;
-            push_no_file(&mut lines, name, *fault)?;
+            push_loaded(&mut lines, alloc, name, load, input, *fault)?;
         }
         Job::Skipped { count } => lines.push(&skipped_line(*count))?,
     }
@@ -80,20 +83,37 @@ fn push_program(
     push_fault(lines, name, fault)
 }
 
-/// Adds that there is no file, and the fault of the input.
-fn push_no_file(
+/// Adds the lines of the program of a file, or why there is none, and of its input's fault.
+fn push_loaded(
     lines: &mut LineList,
+    alloc: Global,
     name: &Ident,
+    load: Loaded,
+    input: &LineList,
     fault: Option<CardFault>,
 ) -> Result<(), NoMemory>
-    ensures { (input : List (List ℕ)) → OnOk result (lines.new ≡ lines.old
-        ++ run_lines name.now file_limit (Says (no_file_line name.now)) input fault) }
+    ensures { OnOk result (lines.new ≡ lines.old
+        ++ run_lines name.now file_limit (source_loaded name.now load) input.now fault) }
 {
     if !is_run(fault) {
         return push_fault(lines, name, fault);
     }
-    lines.push(&no_file_line(name))?;
+    let started = start_loaded(alloc, *name, load)?;
+    push_run(lines, started, input)?;
     push_fault(lines, name, fault)
+}
+
+/// The program of a file before the first card of its input, or the line that says why there is none.
+pub fn start_loaded(alloc: Global, name: Ident, load: Loaded) -> Result<ProgramLines, NoMemory>
+    ensures { IfOk result (λ lines.
+        StandsFor lines (new_task name file_limit (source_loaded name load)) []) }
+{
+    match load {
+        Loaded::Code(code) => ProgramLines::of_code(alloc, name, FILE_LIMIT, code),
+        Loaded::NoFile => Ok(ProgramLines::Last(no_file_line(&name))),
+        Loaded::NotCode => Ok(ProgramLines::Last(not_code_line(&name))),
+        Loaded::BadCode { at } => Ok(ProgramLines::Last(bad_code_line(&name, at))),
+    }
 }
 
 /// Whether a program with this fault is run: where the fault is in its input.

@@ -1,34 +1,49 @@
 // What an item does to the part of the deck that it comes to.
-ghost use Rattle.std.specs.Prelude.{◌≡◌, ◌+◌, ◌++◌, ◌∷◌, List, [], IfOk, OnOk, if◌then◌else◌};
+ghost use Rattle.std.specs.Prelude.{◌≡◌, ◌+◌, ◌++◌, ◌∷◌, List, [], Some, IfOk, OnOk, if◌then◌else◌};
 ghost use Rattle.solo_base.specs.declared.item.Item.{Item as ItemOf};
 ghost use Rattle.deck_format.specs.JobReader.{control_in};
-ghost use Rattle.deck_format.specs.Jobs.{card_count, counts, data_in, is_some};
+ghost use Rattle.deck_format.specs.Jobs.{card_count, counts, data_in, is_some, opener_of};
 ghost use Rattle.program_lines.specs.Standing.{IsSpent};
+ghost use Rattle.disk_system.specs.declared.loading.Loaded.{Loaded as LoadedOf};
+ghost use Rattle.disk_system.specs.declared.loading.Loaded.TheVariants as LoadOf;
+ghost use Rattle.batch_job.specs.Loads.{load_for};
 ghost use Rattle.batch_job.specs.LinesAhead.{Where, InList, InProgram, name_of, opened, closed_lines, card_or_fault};
 ghost use Rattle.batch_job.specs.Places.{IsPart, IsInput, IsSpentPart, program_group, StillGives};
-ghost use Rattle.batch_job.specs.Places.{Leads, Opens, Ends, Adds};
+ghost use Rattle.batch_job.specs.Places.{HasLoad, LeavesLoads, IsLoadOf, Leads, Opens, Ends, Adds};
 ghost use Rattle.batch_job.specs.declared.part.Part.TheVariants as PartOf;
 
 use crate::Part;
 use crate::item_lines::ItemLines;
-use crate::report::{fault_line, heading, listed_line, skipped_line};
+use crate::page_loads::PageLoads;
+use crate::report::{fault_line, heading, listed_line, skipped_line, start_loaded};
 use deck_format::{
     CardFault, CardFaultKind, Control, Opener, control_in, counts, ends_in, opener_in,
 };
-use program_lines::{ProgramLines, no_file_line};
+use disk_system::Loaded;
+use program_lines::ProgramLines;
 use solo_base::{Ident, Item, Line, LineList, NoMemory};
 use std::alloc::Global;
 use std::mem;
 
-/// The lines of the next item, which leads to another part. All lines of the items before were given.
-pub fn take_item(alloc: Global, part: &mut Part, item: &Item) -> Result<ItemLines, NoMemory>
+/// The lines of the next item, which leads to another part. All lines of the items before were given, and
+/// what its file was loaded as, if it opens a job of a file.
+pub fn take_item(
+    alloc: Global,
+    part: &mut Part,
+    loads: &mut PageLoads,
+    item: &Item,
+) -> Result<ItemLines, NoMemory>
     requires { IsSpentPart part.old }
-    ensures { IfOk result (λ lines. (place : Where) → IsPart part.old place
-        → Leads place item.now lines part.new) }
+    ensures leads { IfOk result (λ lines. (place : Where) → IsPart part.old place
+        → HasLoad (opener_of item.now) loads.old.given
+        → Leads place item.now loads.old.given loads.new.given lines part.new) }
+    ensures wanted { loads.new.wanted ≡ loads.old.wanted }
+    ensures left { IfOk result (λ lines. HasLoad (opener_of item.now) loads.old.given
+        → LeavesLoads (opener_of item.now) loads.old.given loads.new.given) }
 {
     let control = control_in(item);
     if let Some(opener) = opener_in(&control) {
-        return take_opener(alloc, part, opener);
+        return take_opener(alloc, part, loads, opener);
     }
     if ends_in(&control) && part.is_in_group() {
         return take_end(alloc, part);
@@ -85,12 +100,22 @@ fn take_end(alloc: Global, part: &mut Part) -> Result<ItemLines, NoMemory>
 }
 
 /// The lines of an opener.
-fn take_opener(alloc: Global, part: &mut Part, opener: Opener) -> Result<ItemLines, NoMemory>
-    ensures { IfOk result (λ lines. (place : Where) → IsPart part.old place
-        → Opens place opener lines part.new) }
+fn take_opener(
+    alloc: Global,
+    part: &mut Part,
+    loads: &mut PageLoads,
+    opener: Opener,
+) -> Result<ItemLines, NoMemory>
+    ensures opens { IfOk result (λ lines. (place : Where) (load : LoadedOf) (left : List LoadedOf)
+        → IsPart part.old place → load_for opener loads.old.given ≡ Some (load, left)
+        → Opens place opener loads.old.given left lines part.new) }
+    ensures left { (load : LoadedOf) (left : List LoadedOf)
+        → load_for opener loads.old.given ≡ Some (load, left) → loads.new.given ≡ left }
+    ensures wanted { loads.new.wanted ≡ loads.old.wanted }
 {
+    let load = loads.take_for(&opener);
     let ending = end_part(alloc, part)?;
-    let (name, then) = opened(alloc, opener);
+    let (name, then) = opened(alloc, opener, load)?;
     *part = then;
     Ok(ItemLines {
         ending,
@@ -99,36 +124,31 @@ fn take_opener(alloc: Global, part: &mut Part, opener: Opener) -> Result<ItemLin
     })
 }
 
-/// The name of the group behind an opener, and the part that it is.
-fn opened(alloc: Global, opener: Opener) -> (Ident, Part)
-    ensures name { result.0 ≡ name_of opener }
-    ensures part { IsPart result.1 (opened opener) }
+/// The name of the group behind an opener, and the part that it is, whose file was loaded so if it is one of
+/// a file.
+fn opened(alloc: Global, opener: Opener, load: Loaded) -> Result<(Ident, Part), NoMemory>
+    ensures name { IfOk result (λ then_is. then_is.0 ≡ name_of opener) }
+    ensures part { IfOk result (λ then_is. IsLoadOf opener load → IsPart then_is.1 (opened load opener)) }
 {
     match opener {
-        Opener::List(name) => (name, Part::List { name, count: 0 }),
-        Opener::Job { name, limit } => {
-            let cards = LineList::new(alloc);
-            (
-                name,
-                Part::Program {
-                    name,
-                    limit,
-                    number: 1,
-                    cards,
-                },
-            )
-        }
+        Opener::List(name) => Ok((name, Part::List { name, count: 0 })),
+        Opener::Job { name, limit } => Ok((name, program_from(alloc, name, limit))),
         Opener::Run { name, file: _ } => {
-            let lines = ProgramLines::Last(no_file_line(&name));
-            (
-                name,
-                Part::Input {
-                    name,
-                    number: 1,
-                    lines,
-                },
-            )
+            let lines = start_loaded(alloc, name, load)?;
+            Ok((name, input_from(name, 1, lines)))
         }
+    }
+}
+
+/// A program without cards yet.
+fn program_from(alloc: Global, name: Ident, limit: u32) -> Part
+    ensures { result ≡ PartOf.Program name limit 1 [] }
+{
+    Part::Program {
+        name,
+        limit,
+        number: 1,
+        cards: LineList::new(alloc),
     }
 }
 
@@ -205,7 +225,8 @@ fn add_to_program(
 ) -> Result<(Part, ItemLines), NoMemory>
     requires control { control.now ≡ control_in item.now }
     ensures { IfOk result (λ behind.
-        Adds (InProgram (program_group name limit number cards) []) item.now behind.1 behind.0) }
+        Adds (InProgram LoadOf.NoFile (program_group name limit number cards) []) item.now behind.1
+        behind.0) }
 {
     let next = number.saturating_add(1);
     match card_of(item, control, number, false) {

@@ -2,14 +2,21 @@ ghost use Rattle.std.specs.Prelude.{◌≡◌, false, OnOk};
 
 use crate::{JobStream, run_job};
 use deck_format::{CardFault, CardFaultKind, Job};
+use disk_system::Loaded;
 use page_codec::{Packer, PageItems, Unpacker};
+use pascal_compile::compile;
 use solo_base::{Ident, Item, Line, LineList, Page};
 use std::alloc::Global;
 use std::test::Fail;
 
 /// The lines that the job prints, each with a bar behind it.
 fn printed(alloc: Global, job: Job) -> Result<Vec<u8>, Fail> {
-    let lines = run_job(alloc, job)?;
+    printed_with(alloc, job, Loaded::NoFile)
+}
+
+/// The same of a job whose file was loaded so.
+fn printed_with(alloc: Global, job: Job, load: Loaded) -> Result<Vec<u8>, Fail> {
+    let lines = run_job(alloc, job, load)?;
     let mut text = Vec::new(alloc);
     for place in 0..lines.len() {
         text.extend_from_slice(lines.get(place).bytes())?;
@@ -83,6 +90,17 @@ fn other_jobs_are_printed(rt: HostRuntime) -> Result<(), Fail> {
     assert_eq!(rt;
         no_file.as_slice(),
         b"JOB ABCDEFGHIJKL|ABCDEFGHIJKL: NO FILE|ABCDEFGHIJKL: SPOILED CARD 7|".as_slice()
+    );
+    let run = Job::Run {
+        name,
+        file: name,
+        input: LineList::new(alloc),
+        fault: None,
+    };
+    let not_code = printed_with(alloc, run, Loaded::NotCode)?;
+    assert_eq!(rt;
+        not_code.as_slice(),
+        b"JOB ABCDEFGHIJKL|ABCDEFGHIJKL: NOT CODE|".as_slice()
     );
     for (count, want) in [
         (1, b"1 CARDS SKIPPED|".as_slice()),
@@ -159,17 +177,9 @@ fn a_stream_gives_the_lines_of_its_jobs(rt: HostRuntime) -> Result<(), Fail> {
     ])?;
     let mut stream = JobStream::new(rt.alloc());
     let mut packer = Packer::new();
-    assert!(rt; stream.wants().is_none());
     stream.feed(items_of(&deck)?)?;
-    assert!(rt; stream.pack(&mut packer)?.is_none());
-    let mut lines = items_of(&packer.finish())?;
-    let mut text = Vec::new(rt.alloc());
-    for _ in 0..10 {
-        if let Some(Item::Line(line)) = lines.next() {
-            text.extend_from_slice(line.bytes())?;
-            text.push(b'|')?;
-        }
-    }
+    assert!(rt; pack_loaded(&mut stream, &mut packer)?.is_none());
+    let text = text_of(rt.alloc(), packer)?;
     assert_eq!(rt;
         text.as_slice(),
         b"1 CARDS SKIPPED|JOB A|HELLO|A: LISTED 1 CARDS|JOB B|B: BAD CONTROL CARD 1|\
@@ -179,7 +189,37 @@ fn a_stream_gives_the_lines_of_its_jobs(rt: HostRuntime) -> Result<(), Fail> {
     Ok(())
 }
 
-/// The lines that a stream gives with a page of these cards, each with a bar behind it.
+/// The lines that were packed, thirty at most, each with a bar behind it.
+fn text_of(alloc: Global, packer: Packer) -> Result<Vec<u8>, Fail> {
+    let mut lines = items_of(&packer.finish())?;
+    let mut text = Vec::new(alloc);
+    for _ in 0..30 {
+        if let Some(Item::Line(line)) = lines.next() {
+            text.extend_from_slice(line.bytes())?;
+            text.push(b'|')?;
+        }
+    }
+    Ok(text)
+}
+
+/// Packs the lines of a stream that wants no file.
+fn pack_loaded(stream: &mut JobStream, packer: &mut Packer) -> Result<Option<Page>, Fail> {
+    if stream.wants().is_some() {
+        return Err("a file is wanted".into());
+    }
+    Ok(stream.pack(packer)?)
+}
+
+/// Tells a stream that there is none of the files that it wants, ten at most.
+fn load_none(stream: &mut JobStream) {
+    for _ in 0..10 {
+        if stream.wants().is_some() {
+            stream.load(Loaded::NoFile);
+        }
+    }
+}
+
+/// The lines that a stream gives with a page of these cards, each with a bar behind it. There are no files.
 fn streamed(
     alloc: Global,
     stream: &mut JobStream,
@@ -195,18 +235,11 @@ fn streamed(
         Ok(items) => stream.feed(items)?,
         Err(_) => return Err("a bad page".into()),
     }
-    if stream.pack(&mut packer)?.is_some() {
+    load_none(stream);
+    if pack_loaded(stream, &mut packer)?.is_some() {
         return Err("more than a page".into());
     }
-    let mut lines = items_of(&packer.finish())?;
-    let mut text = Vec::new(alloc);
-    for _ in 0..30 {
-        if let Some(Item::Line(line)) = lines.next() {
-            text.extend_from_slice(line.bytes())?;
-            text.push(b'|')?;
-        }
-    }
-    Ok(text)
+    text_of(alloc, packer)
 }
 
 #[test]
@@ -251,6 +284,45 @@ fn a_program_runs_while_its_cards_come(rt: HostRuntime) -> Result<(), Fail> {
     assert_eq!(rt;
         rest.as_slice(),
         b"BIG: OVERFLOW IN LINE 1|JOB B|Y|B: LISTED 1 CARDS|".as_slice()
+    );
+    Ok(())
+}
+
+/// A program that copies its input.
+const COPY: [&[u8]; 2] = [
+    b"VAR C: CHAR;",
+    b"BEGIN READ(C); WHILE C <> EM DO BEGIN WRITE(C); READ(C) END END.",
+];
+
+/// Whether the file of this name is wanted first.
+fn is_wanted(stream: &JobStream, name: &[u8]) -> bool {
+    match stream.wants() {
+        Some(file) => *file.name() == *name,
+        None => false,
+    }
+}
+
+#[test]
+fn files_are_loaded_in_the_order_of_their_jobs(rt: HostRuntime) -> Result<(), Fail> {
+    let alloc = rt.alloc();
+    let deck = page_of(&[b"#RUN A PROG", b"HELLO", b"#RUN B OTHER", b"#BAD"])?;
+    let code = match compile(alloc, &list(alloc, &COPY)?) {
+        Ok(code) => code,
+        Err(_) => return Err("no code".into()),
+    };
+    let mut stream = JobStream::new(alloc);
+    assert!(rt; stream.wants().is_none());
+    stream.feed(items_of(&deck)?)?;
+    assert!(rt; is_wanted(&stream, b"PROG"));
+    stream.load(Loaded::Code(code));
+    assert!(rt; is_wanted(&stream, b"OTHER"));
+    stream.load(Loaded::BadCode { at: 3 });
+    let mut packer = Packer::new();
+    assert!(rt; pack_loaded(&mut stream, &mut packer)?.is_none());
+    let text = text_of(alloc, packer)?;
+    assert_eq!(rt;
+        text.as_slice(),
+        b"JOB A|HELLO|A: TERMINATED|JOB B|B: BAD CODE AT 3|B: BAD CONTROL CARD 1|".as_slice()
     );
     Ok(())
 }

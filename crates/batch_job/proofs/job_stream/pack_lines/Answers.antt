@@ -1,4 +1,4 @@
-use Rattle.std.proofs.Common.{subst, sym, None}
+use Rattle.std.proofs.Common.{subst, sym, None, ◌∙◌}
 use Rattle.batch_job.specs.JobStream.{stream_of, IsTold, Packs, PacksMade}
 use Rattle.batch_job.proofs.Account.{no-page}
 use Rattle.batch_job.proofs.PushingLines.{packs-all, makes-on}
@@ -10,7 +10,7 @@ returns-then-not-branch c =
     let hand = c.args.packer.now in
     let pushed = stream_of c.push_made.new.ahead in
     let none = no-page c.push_made.result c.in_default.not-Some in
-    let resting = subst (λ r. PacksMade first hand r pushed c.push_made.new.packer) none (c.push_made.ensures.packs first hand c.packing.invariant) in
+    let resting = subst (λ r. PacksMade first hand r pushed c.push_made.new.packer) none (c.push_made.ensures.packs first hand c.packing.invariant.0) in
     let (same, told) = c.in_ok-make.ensures.none c.if-not-branch.true in
     subst (λ s. Packs first hand None s c.push_made.new.packer) (sym same)
     (packs-all first pushed hand c.push_made.new.packer resting (c.push_made.ensures.none none, subst (λ s. IsTold s.end s.left) same told))
@@ -21,5 +21,8 @@ packing-preserved c =
     let hand = c.args.packer.now in
     let pushed = stream_of c.push_made.new.ahead in
     let none = no-page c.push_made.result c.in_default.not-Some in
-    let resting = subst (λ r. PacksMade first hand r pushed c.push_made.new.packer) none (c.push_made.ensures.packs first hand c.packing.invariant) in
-    makes-on first pushed (stream_of c.make.new.self) hand c.push_made.new.packer resting.pushing c.in_ok-make.ensures.end c.in_ok-make.ensures.passes
+    let resting = subst (λ r. PacksMade first hand r pushed c.push_made.new.packer) none (c.push_made.ensures.packs first hand c.packing.invariant.0) in (
+      makes-on first pushed (stream_of c.make.new.self) hand c.push_made.new.packer resting.pushing c.in_ok-make.ensures.end
+          (c.in_ok-make.ensures.wanted ∙ sym (c.push_made.ensures.wanted ∙ c.packing.invariant.1)) c.in_ok-make.ensures.passes,
+      c.in_ok-make.ensures.wanted,
+    )

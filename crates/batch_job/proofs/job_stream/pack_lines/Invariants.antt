@@ -1,8 +1,10 @@
+use Rattle.std.proofs.Common.{◌≡◌, []}
 use Rattle.batch_job.specs.JobStream.{Pushing, stream_of, turns_left}
 use Rattle.batch_job.proofs.job_stream.pack_lines.Given as goal
 
 abbrev pub invariant-packing : goal.invariant-packing
-invariant-packing l = Pushing (stream_of l.initial.ahead) l.initial.packer (stream_of l.ahead) l.packer
+invariant-packing l =
+    Pushing (stream_of l.initial.ahead) l.initial.packer (stream_of l.ahead) l.packer × ((stream_of l.ahead).wanted ≡ [])
 
 abbrev pub decreases-packing : goal.decreases-packing
 decreases-packing l = turns_left (stream_of l.ahead)

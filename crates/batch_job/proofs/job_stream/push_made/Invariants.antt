@@ -8,6 +8,7 @@ invariant-pushing l =
     ((first : Stream) (hand : PageInHand) → Pushing first hand (stream_of l.initial.ahead) l.initial.packer
     → Pushing first hand (stream_of l.ahead) l.packer)
     × (turns_left (stream_of l.ahead) ≡ turns_left (stream_of l.initial.ahead))
+    × ((stream_of l.ahead).wanted ≡ (stream_of l.initial.ahead).wanted)
 
 abbrev pub decreases-pushing : goal.decreases-pushing
 decreases-pushing l = lines_made (stream_of l.ahead)

@@ -1,30 +1,55 @@
-use Rattle.std.proofs.Common.{◌≡◌, ◌∙◌, true, false, sym, ap, subst}
-use Rattle.deck_format.specs.Jobs.{opener_in, ends_in}
+use Rattle.std.proofs.Common.{◌≡◌, ◌∙◌, List, Some, true, false, refl, sym, ap, subst}
+use Rattle.deck_format.specs.Jobs.{opener_of, opener_in, ends_in}
 use Rattle.deck_format.specs.JobReader.{control_in}
+use Rattle.disk_system.specs.declared.loading.Loaded.{Loaded}
+use Rattle.batch_job.specs.Loads.{load_for}
 use Rattle.batch_job.specs.LinesAhead.{Where, is_in_group}
-use Rattle.batch_job.specs.Places.{IsPart, Leads, Opens, Ends}
-use Rattle.batch_job.proofs.Account.{if-ok, none-found, opens-so, ends-so, adds-so, same-group}
+use Rattle.batch_job.specs.Places.{IsPart, HasLoad, Leads, Opens, Ends}
+use Rattle.batch_job.proofs.Account.{if-ok, none-found, opener-leads, opener-leaves, none-leaves, ends-so, adds-so, same-group}
 use Rattle.batch_job.proofs.taking.take_item.Goals.{else-ends_in-via-then-ends_in+else-is_in_group, else-ends_in-via-else-ends_in}
 use Rattle.batch_job.proofs.taking.take_item.Goals as goal
 
-pub returns-in-Some : goal.returns-in-Some
-returns-in-Some c =
+pub returns-in-Some-clause-leads : goal.returns-in-Some-clause-leads
+returns-in-Some-clause-leads c =
     let is = ap opener_in (sym c.control_in-control.ensures) ∙ sym c.opener_in.ensures ∙ c.in-Some.is in
-    if-ok c.take_opener.result (λ lines. (place : Where) → IsPart c.args.part.now place → Opens place c.in-Some.opener lines c.take_opener.new.part)
-    (λ lines. (place : Where) → IsPart c.args.part.now place → Leads place c.args.item.now lines c.take_opener.new.part)
-    (λ lines opens place at. opens-so place c.args.item.now c.in-Some.opener lines c.take_opener.new.part is (opens place at)) c.take_opener.ensures
+    let item = c.args.item.now in
+    let o = c.in-Some.opener in
+    let loads = c.args.loads.now.given in
+    let left = c.take_opener.new.loads.given in
+    let p = c.take_opener.new.part in
+    if-ok c.take_opener.result
+    (λ lines. (place : Where) (load : Loaded) (then_left : List Loaded) → IsPart c.args.part.now place → load_for o loads ≡ Some (load, then_left)
+    → Opens place o loads then_left lines p)
+    (λ lines. (place : Where) → IsPart c.args.part.now place → HasLoad (opener_of item) loads → Leads place item loads left lines p)
+    (λ lines opens place at has.
+    opener-leads place item o loads left lines p is (λ load then_left found. opens place load then_left at found) c.take_opener.ensures.left has)
+    c.take_opener.ensures.opens
 
-pub returns-then-is_in_group : goal.returns-then-is_in_group
-returns-then-is_in_group c =
+pub returns-in-Some-clause-left : goal.returns-in-Some-clause-left
+returns-in-Some-clause-left c =
+    let is = ap opener_in (sym c.control_in-control.ensures) ∙ sym c.opener_in.ensures ∙ c.in-Some.is in
+    if-ok c.take_opener.result _ _
+    (λ lines opens has. opener-leaves c.args.item.now c.in-Some.opener c.args.loads.now.given c.take_opener.new.loads.given is c.take_opener.ensures.left has)
+    c.take_opener.ensures.opens
+
+pub returns-then-is_in_group-clause-leads : goal.returns-then-is_in_group-clause-leads
+returns-then-is_in_group-clause-leads c =
     let none = ap opener_in (sym c.control_in-control.ensures) ∙ sym c.opener_in.ensures ∙ none-found c.opener_in.result c.in_default.not-Some in
     let end = ap ends_in (sym c.control_in-control.ensures) ∙ sym c.ends_in.ensures ∙ c.if-ends_in.true in
+    let item = c.args.item.now in
+    let loads = c.args.loads.now.given in
     if-ok c.take_end.result (λ lines. (place : Where) → IsPart c.args.part.now place → Ends place lines c.take_end.new.part)
-    (λ lines. (place : Where) → IsPart c.args.part.now place → Leads place c.args.item.now lines c.take_end.new.part)
-    (λ lines closes place at. ends-so place c.args.item.now lines c.take_end.new.part
+    (λ lines. (place : Where) → IsPart c.args.part.now place → HasLoad (opener_of item) loads → Leads place item loads loads lines c.take_end.new.part)
+    (λ lines closes place at has. ends-so place item loads loads lines c.take_end.new.part refl
     (sym (same-group c.args.part.now place at) ∙ sym c.is_in_group.ensures ∙ c.if-is_in_group.true) none end (closes place at)) c.take_end.ensures
 
-pub returns : goal.returns
-returns c = λ place at.
+pub returns-then-is_in_group-clause-left : goal.returns-then-is_in_group-clause-left
+returns-then-is_in_group-clause-left c =
+    let none = ap opener_in (sym c.control_in-control.ensures) ∙ sym c.opener_in.ensures ∙ none-found c.opener_in.result c.in_default.not-Some in
+    if-ok c.take_end.result _ _ (λ lines closes has. none-leaves c.args.item.now c.args.loads.now.given none) c.take_end.ensures
+
+pub returns-clause-leads : goal.returns-clause-leads
+returns-clause-leads c = λ place at has.
     let none = ap opener_in (sym c.control_in-control.ensures) ∙ sym c.opener_in.ensures ∙ none-found c.opener_in.result c.in_default.not-Some in
     let goes_on : is_in_group place ≡ true → ends_in (control_in c.args.item.now) ≡ false =
     elim c.else-ends_in.branch [
@@ -32,5 +57,10 @@ returns c = λ place at.
           absurd (let inside = same-group c.args.part.now place at ∙ group in let other = w.if-is_in_group.false in let is = w.is_in_group.ensures in cc))
       | else-ends_in-via-else-ends_in w ↦ (λ group. ap ends_in (sym c.control_in-control.ensures) ∙ sym c.ends_in.ensures ∙ w.if-ends_in.false)
     ] in
-    adds-so place c.args.item.now c.in_ok-then.lines c.in_ok-then.then goes_on none
+    adds-so place c.args.item.now c.args.loads.now.given c.args.loads.now.given c.in_ok-then.lines c.in_ok-then.then refl goes_on none
     (c.in_ok-then.ensures place (subst (λ p. IsPart p place) (sym c.replace-before.ensures.value) at))
+
+pub returns-clause-left : goal.returns-clause-left
+returns-clause-left c = λ has.
+    let none = ap opener_in (sym c.control_in-control.ensures) ∙ sym c.opener_in.ensures ∙ none-found c.opener_in.result c.in_default.not-Some in
+    none-leaves c.args.item.now c.args.loads.now.given none
