@@ -1,5 +1,5 @@
 -- What a reply does to the work of a process.
-use Rattle.std.proofs.Common.{◌≡◌, ◌⊎◌, inl, inr, Bool, true, false, ◌&&◌, not, List, [], ◌∷◌, ◌++◌, length, drop, Option, None, Some, Result, Ok, Err, refl, sym, ◌∙◌, ap, subst}
+use Rattle.std.proofs.Common.{◌≡◌, ℕ, ◌⊎◌, inl, inr, Bool, true, false, ◌&&◌, not, List, [], ◌∷◌, ◌++◌, length, drop, Option, None, Some, Result, Ok, Err, refl, sym, ◌∙◌, ap, subst}
 use Rattle.std.specs.Prelude.{IfOk, OnErr}
 use Rattle.std.proofs.lemmas.List.{append-nil}
 use Rattle.solo_base.specs.declared.item.Feed.{Feed}
@@ -11,7 +11,8 @@ use Rattle.batch_procs.specs.declared.actions.Action.{Action}
 use Rattle.batch_procs.specs.declared.actions.Action.TheVariants as act
 use Rattle.batch_procs.specs.declared.actions.Reply.{Reply}
 use Rattle.batch_procs.specs.declared.actions.Reply.TheVariants as reply
-use Rattle.batch_procs.specs.Parcels.{Parcel, is_last}
+use Rattle.disk_system.specs.declared.loading.Loaded.{Loaded}
+use Rattle.batch_procs.specs.Parcels.{Parcel, OfLoad, is_last}
 use Rattle.batch_procs.specs.History.{Entry, Does, taken, sent, put_by, is_unworked}
 use Rattle.batch_procs.specs.Causes.{given_cause}
 use Rattle.batch_procs.specs.Fits.{Fits, MayLack}
@@ -20,7 +21,7 @@ use Rattle.batch_procs.specs.Laws.{IsTake, IsRelay}
 use Rattle.batch_procs.specs.Work.{cause_of, IsTaken, MayTake, Takes}
 use Rattle.batch_procs.specs.Machine.{Uses, Answers}
 use Rattle.batch_procs.proofs.Relay.{IsPut, put-of}
-use Rattle.batch_procs.proofs.Nexts.{next-take, next-putting, put-unworked}
+use Rattle.batch_procs.proofs.Nexts.{next-take, next-putting, put-unworked, next-local, next-load}
 
 -- ---- a put
 pub is-put : (a : Action) → ((f : Feed) × (a ≡ act.PutFeed f)) ⊎ (((page : Page) × (a ≡ act.PutPage page)) ⊎ ((line : Line) × (a ≡ act.Print line))) → IsPut a
@@ -64,6 +65,10 @@ take-of (act.PutPage page) reply.Failed fits is = absurd is
 take-of (act.PutPage page) other fits is = absurd fits
 take-of act.Release reply.Done fits is = absurd is
 take-of act.Release other fits is = absurd fits
+take-of (act.Load file) (reply.Loaded load) fits is = absurd is
+take-of (act.Load file) reply.Failed fits is = absurd is
+take-of (act.Load file) reply.NoMemory fits is = absurd is
+take-of (act.Load file) other fits is = absurd fits
 take-of act.Local reply.Done fits is = absurd is
 take-of act.Local other fits is = absurd fits
 take-of (act.Print line) reply.Done fits is = absurd is
@@ -75,14 +80,16 @@ take-of (act.Stop b) other fits is = absurd fits
 take-of (act.Ended how) reply.Done fits is = absurd is
 take-of (act.Ended how) other fits is = absurd fits
 
-pub handed : (r : Reply) → (r ≡ reply.Done → ⊥) → (r ≡ reply.Stopped → ⊥) → (r ≡ reply.Failed → ⊥) → (r ≡ reply.NoMemory → ⊥) → IsTaken r
-handed reply.Done done stopped failed none = absurd (done refl)
-handed reply.Stopped done stopped failed none = absurd (stopped refl)
-handed reply.Failed done stopped failed none = absurd (failed refl)
-handed reply.NoMemory done stopped failed none = absurd (none refl)
-handed (reply.Card answer) done stopped failed none = tt
-handed (reply.Feed f) done stopped failed none = tt
-handed (reply.Page page last) done stopped failed none = tt
+pub handed : (r : Reply) → (r ≡ reply.Done → ⊥) → (r ≡ reply.Stopped → ⊥) → (r ≡ reply.Failed → ⊥) → (r ≡ reply.NoMemory → ⊥)
+    → ((load : Loaded) → r ≡ reply.Loaded load → ⊥) → IsTaken r
+handed reply.Done done stopped failed none loaded = absurd (done refl)
+handed reply.Stopped done stopped failed none loaded = absurd (stopped refl)
+handed reply.Failed done stopped failed none loaded = absurd (failed refl)
+handed reply.NoMemory done stopped failed none loaded = absurd (none refl)
+handed (reply.Card answer) done stopped failed none loaded = tt
+handed (reply.Feed f) done stopped failed none loaded = tt
+handed (reply.Page page last) done stopped failed none loaded = tt
+handed (reply.Loaded load) done stopped failed none loaded = absurd (loaded load refl)
 
 same-cause : (a : Action) (r : Reply) (h : List Entry) → IsTaken r → cause_of r (taken h) ≡ given_cause a r h
 same-cause a (reply.Card answer) h is = refl
@@ -148,3 +155,40 @@ answers-take p keeps old new a r result is law lacks = record {
         → OnErr result ((p.works ≡ true) × (Fits a r → MayLack a r))
     on-err (Ok cause) l = l
     on-err (Err refused) l = (l.0, λ fits. lacks-page a r (take-of a r fits is) fits l.1)
+
+-- ---- a load
+load-of : (a : Action) (load : Loaded) → Fits a (reply.Loaded load) → (file : List ℕ) × (a ≡ act.Load file)
+load-of (act.Load file) load fits = (file, refl)
+load-of other load fits = absurd fits
+
+pub answers-load : {W : Type 0} (p : Process) (keeps : W → List Parcel → List Parcel → Bool → Type 0) (old new : W) (a : Action) (r : Reply) (load : Loaded)
+    → IsRelay p → r ≡ reply.Loaded load
+    → ((taken sent : List Parcel) (file : List ℕ) (later : List (List ℕ)) → keeps old taken sent true → p.wants taken ≡ file ∷ later
+    → keeps new (taken ++ OfLoad load ∷ []) sent true) → Answers p keeps old a r (Ok None) new
+answers-load p keeps old new a r load relay is law = record {
+  uses = λ h follows none next fits kept.
+      let (file, same) = load-of a load (subst (λ r. Fits a r) is fits) in
+      let wants = next-load p h file relay follows (next ∙ ap Some same) in
+      let now = law (taken h) (sent h) file wants.later (subst (λ t. keeps old (taken h) (sent h) t) wants.works kept) wants.first in
+      subst (λ a. Uses p (keeps new) a r None h) (sym same) (subst (λ r. Uses p (keeps new) (act.Load file) r None h) (sym is) record {
+        cause_is = refl;
+        keeps = λ clear. rw (append-nil (sent h), wants.works) now;
+      });
+  lacks = tt;
+}
+
+-- ---- the work
+pub uses-work : (p : Process) (old now : List Parcel → List Parcel → Bool → Type 0) (a : Action) (h : List Entry) → IsRelay p → a ≡ act.Local
+    → ((taken sent : List Parcel) → old taken sent true → p.wants taken ≡ [] → now taken sent false)
+    → Follows p h → next_action p h ≡ Some a → old (taken h) (sent h) (unworked p h) → Uses p now a reply.Done None h
+uses-work p old now a h relay is law follows next kept =
+    let (works, none) = next-local p h relay follows (next ∙ ap Some is) in
+    let after = law (taken h) (sent h) (subst (λ t. old (taken h) (sent h) t) works kept) none in
+    subst (λ a. Uses p now a reply.Done None h) (sym is) record {
+      cause_is = refl;
+      keeps = λ clear. rw (append-nil (taken h), append-nil (sent h), and-nothing p.works) after;
+    }
+  where
+    and-nothing : (t : Bool) → (t && false) ≡ false
+    and-nothing true = refl
+    and-nothing false = refl

@@ -7,16 +7,17 @@ use Rattle.solo_base.specs.declared.item.Feed.{Feed}
 use Rattle.solo_base.specs.declared.item.Feed.TheVariants as feed
 use Rattle.solo_base.specs.declared.page.Page.{Page}
 use Rattle.page_codec.specs.Packing.{PageInHand, first_page, page_given, hand_after}
-use Rattle.batch_procs.specs.Parcels.{Parcel, OfFeed, OfPage, OfLine}
+use Rattle.batch_procs.specs.Parcels.{Parcel, OfFeed, OfPage, OfLine, OfLoad, handed}
 use Rattle.batch_procs.specs.Sends.{feeds, as_parcels, as_lines, marked, items, packed, until_end, lines_of}
 use Rattle.batch_procs.specs.Table.{card, input, printer}
 use Rattle.batch_procs.specs.Ahead.{GivesAtMost}
 
-feeds-length : (all : List Parcel) → length (feeds all) ≤ length all
+feeds-length : (all : List Parcel) → length (feeds all) ≤ length (handed all)
 feeds-length [] = omega arith
 feeds-length (OfFeed f ∷ rest) = let few = feeds-length rest in omega (arith, few)
 feeds-length (OfPage page last ∷ rest) = let few = feeds-length rest in omega (arith, few)
 feeds-length (OfLine line ∷ rest) = let few = feeds-length rest in omega (arith, few)
+feeds-length (OfLoad load ∷ rest) = feeds-length rest
 
 pub parcels-length : (all : List Feed) → length (as_parcels all) ≡ length all
 parcels-length [] = refl
@@ -58,22 +59,31 @@ packed-length hand (feed.Item item ∷ rest) =
 packed-length hand (feed.End ∷ rest) = omega arith
 
 pub card-bound : GivesAtMost 1 card
-card-bound all =
-    let a = feeds-length all in
-    let b = until-length (feeds all) in
-    let c = parcels-length (until_end (feeds all)) in
-    omega (arith, a, b, c)
+card-bound = record {
+  gives = λ all good.
+      let a = feeds-length all in
+      let b = until-length (feeds all) in
+      let c = parcels-length (until_end (feeds all)) in
+      omega (arith, a, b, c);
+  names = λ all parcel. omega arith;
+}
 
 pub input-bound : GivesAtMost 1 input
-input-bound all =
-    let a = feeds-length all in
-    let b = packed-length first_page (feeds all) in
-    omega (arith, a, b)
+input-bound = record {
+  gives = λ all good.
+      let a = feeds-length all in
+      let b = packed-length first_page (feeds all) in
+      omega (arith, a, b);
+  names = λ all parcel. omega arith;
+}
 
 pub printer-bound : GivesAtMost 1 printer
-printer-bound all =
-    let a = feeds-length all in
-    let b = items-length (feeds all) in
-    let c = lines_of-length (items (feeds all)) in
-    let d = lines-length (lines_of (items (feeds all))) in
-    omega (arith, a, b, c, d)
+printer-bound = record {
+  gives = λ all good.
+      let a = feeds-length all in
+      let b = items-length (feeds all) in
+      let c = lines_of-length (items (feeds all)) in
+      let d = lines-length (lines_of (items (feeds all))) in
+      omega (arith, a, b, c, d);
+  names = λ all parcel. omega arith;
+}

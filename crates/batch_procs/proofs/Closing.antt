@@ -12,10 +12,10 @@ use Rattle.batch_procs.specs.declared.actions.Action.{Action}
 use Rattle.batch_procs.specs.declared.actions.Action.TheVariants as act
 use Rattle.batch_procs.specs.declared.actions.Reply.{Reply}
 use Rattle.batch_procs.specs.declared.actions.Reply.TheVariants as reply
-use Rattle.batch_procs.specs.Parcels.{Parcel, OfFeed, OfPage, OfLine, is_ended}
+use Rattle.batch_procs.specs.Parcels.{Parcel, OfFeed, OfPage, OfLine, OfLoad, is_ended}
 use Rattle.batch_procs.specs.History.{Entry, Does, LacksMemory, Delays, taken, sent, holds, has_stopped, stops_at, newest}
 use Rattle.batch_procs.specs.Causes.{fault_read, damage, place, given_cause, or_new, caused}
-use Rattle.batch_procs.specs.Process.{Process, unworked, due, puts, aimed, aim, begins, working, stops_next, closes, next_by, next_action, Follows}
+use Rattle.batch_procs.specs.Process.{Process, unworked, due, puts, works_on, aimed, aim, begins, working, stops_next, closes, next_by, next_action, Follows}
 use Rattle.batch_procs.specs.Laws.{IsTake, IsRelay, IsNotDone, EndsRightly}
 use Rattle.batch_procs.specs.Parts.{some-same, part-whole}
 use Rattle.batch_procs.proofs.Relay.{closing-next, sent-is-part, so_far-whole}
@@ -28,6 +28,7 @@ IsNoStop other = Unit {0}
 begins-no_stop : (aim : Action) → IsNoStop aim → IsNoStop (begins aim)
 begins-no_stop (act.PutPage page) is = tt
 begins-no_stop act.TakePage is = tt
+begins-no_stop (act.Load file) is = tt
 begins-no_stop other is = is
 
 pub working-no_stop : (newest : Option Action) (aim a : Action) → IsNoStop aim → working newest aim ≡ Some a → IsNoStop a
@@ -37,6 +38,7 @@ working-no_stop (Some act.AwaitItem) aim a is e = subst IsNoStop (some-same act.
 working-no_stop (Some act.Request) aim a is e = subst IsNoStop (some-same aim a e) is
 working-no_stop (Some (act.PutPage page)) aim a is e = subst IsNoStop (some-same act.Release a e) tt
 working-no_stop (Some act.TakePage) aim a is e = subst IsNoStop (some-same act.Release a e) tt
+working-no_stop (Some (act.Load file)) aim a is e = subst IsNoStop (some-same act.Release a e) tt
 working-no_stop (Some (act.Ended how)) aim a is e = absurd cc
 working-no_stop (Some other) aim a is e = subst IsNoStop (some-same (begins aim) a e) (begins-no_stop aim is)
 
@@ -48,13 +50,19 @@ puts-no_stop : (parcel : Parcel) → IsNoStop (puts parcel)
 puts-no_stop (OfFeed f) = tt
 puts-no_stop (OfPage page last) = tt
 puts-no_stop (OfLine line) = tt
+puts-no_stop (OfLoad load) = tt
 
-pub aimed-no_stop : (takes : Action) (due : List Parcel) (ended unworked : Bool) → IsTake takes → IsNoStop (aimed takes due ended unworked)
-aimed-no_stop takes [] true false is = tt
-aimed-no_stop takes [] true true is = tt
-aimed-no_stop takes [] false true is = tt
-aimed-no_stop takes [] false false is = take-no_stop takes is
-aimed-no_stop takes (parcel ∷ more) ended unworked is = puts-no_stop parcel
+works-no_stop : (wanted : List (List ℕ)) → IsNoStop (works_on wanted)
+works-no_stop [] = tt
+works-no_stop (file ∷ later) = tt
+
+pub aimed-no_stop : (takes : Action) (wanted : List (List ℕ)) (due : List Parcel) (ended unworked : Bool) → IsTake takes
+    → IsNoStop (aimed takes wanted due ended unworked)
+aimed-no_stop takes wanted [] true false is = tt
+aimed-no_stop takes wanted [] true true is = works-no_stop wanted
+aimed-no_stop takes wanted [] false true is = works-no_stop wanted
+aimed-no_stop takes wanted [] false false is = take-no_stop takes is
+aimed-no_stop takes wanted (parcel ∷ more) ended unworked is = puts-no_stop parcel
 
 no_stop-at : (b : ℕ) (a : Action) → IsNoStop a → stops_at b a ≡ false
 no_stop-at b (act.Stop c) is = absurd is
@@ -71,7 +79,7 @@ pub unstopped : (p : Process) (b : ℕ) (h : List Entry) → IsRelay p → Follo
 unstopped p b [] relay follows none = refl
 unstopped p b (Does a r ∷ h) relay follows none =
     let before = or-none (caused h) (given_cause a r h) none in
-    let is = working-no_stop (newest h) (aim p h) a (aimed-no_stop p.takes (due p h) (is_ended (taken h)) (unworked p h) relay.takes)
+    let is = working-no_stop (newest h) (aim p h) a (aimed-no_stop p.takes (p.wants (taken h)) (due p h) (is_ended (taken h)) (unworked p h) relay.takes)
     (works-next p h a follows.0 before) in
     rw (no_stop-at b a is) (unstopped p b h relay follows.2 before)
 unstopped p b (LacksMemory a r ∷ h) relay follows none = unstopped p b h relay follows.2 (or-none (caused h) _ none)
@@ -97,6 +105,7 @@ given-not_done a reply.NoMemory h = tt
 given-not_done a (reply.Card answer) h = read-not_done answer
 given-not_done a (reply.Feed f) h = tt
 given-not_done a (reply.Page page last) h = damage-not_done (page_read (place h) last page)
+given-not_done a (reply.Loaded load) h = tt
 
 or-not_done : (old new : Option Outcome) → IsNotDone old → IsNotDone new → IsNotDone (or_new old new)
 or-not_done None new is also = also
@@ -129,18 +138,24 @@ puts-no_end : (parcel : Parcel) (how : Outcome) → puts parcel ≡ act.Ended ho
 puts-no_end (OfFeed f) how e = cc
 puts-no_end (OfPage page last) how e = cc
 puts-no_end (OfLine line) how e = cc
+puts-no_end (OfLoad load) how e = cc
 
-pub aimed-end : (takes : Action) (due : List Parcel) (ended unworked : Bool) (how : Outcome) → IsTake takes → aimed takes due ended unworked ≡ act.Ended how
-    → AimsAtEnd due ended unworked how
-aimed-end takes [] true false how is e = record { worked = refl; nothing = refl; last = refl; done = ended-same outcome.Done how e }
-aimed-end takes [] true true how is e = absurd cc
-aimed-end takes [] false true how is e = absurd cc
-aimed-end takes [] false false how is e = absurd (take-no_end takes how is e)
-aimed-end takes (parcel ∷ more) ended unworked how is e = absurd (puts-no_end parcel how e)
+works-no_end : (wanted : List (List ℕ)) (how : Outcome) → works_on wanted ≡ act.Ended how → ⊥
+works-no_end [] how e = cc
+works-no_end (file ∷ later) how e = cc
+
+pub aimed-end : (takes : Action) (wanted : List (List ℕ)) (due : List Parcel) (ended unworked : Bool) (how : Outcome) → IsTake takes
+    → aimed takes wanted due ended unworked ≡ act.Ended how → AimsAtEnd due ended unworked how
+aimed-end takes wanted [] true false how is e = record { worked = refl; nothing = refl; last = refl; done = ended-same outcome.Done how e }
+aimed-end takes wanted [] true true how is e = absurd (works-no_end wanted how e)
+aimed-end takes wanted [] false true how is e = absurd (works-no_end wanted how e)
+aimed-end takes wanted [] false false how is e = absurd (take-no_end takes how is e)
+aimed-end takes wanted (parcel ∷ more) ended unworked how is e = absurd (puts-no_end parcel how e)
 
 begins-end : (aim : Action) (how : Outcome) → begins aim ≡ act.Ended how → aim ≡ act.Ended how
 begins-end (act.PutPage page) how e = absurd cc
 begins-end act.TakePage how e = absurd cc
+begins-end (act.Load file) how e = absurd cc
 begins-end other how e = e
 
 pub working-end : (newest : Option Action) (aim : Action) (how : Outcome) → working newest aim ≡ Some (act.Ended how) → aim ≡ act.Ended how
@@ -150,6 +165,7 @@ working-end (Some act.AwaitItem) aim how e = absurd cc
 working-end (Some act.Request) aim how e = some-same _ _ e
 working-end (Some (act.PutPage page)) aim how e = absurd cc
 working-end (Some act.TakePage) aim how e = absurd cc
+working-end (Some (act.Load file)) aim how e = absurd cc
 working-end (Some (act.Ended before)) aim how e = absurd cc
 working-end (Some other) aim how e = begins-end aim how (some-same _ _ e)
 
@@ -175,7 +191,7 @@ closes-end buffers cause how h e =
 ends-by : (p : Process) (cause : Option Outcome) (h : List Entry) (how : Outcome) → IsRelay p → Follows p h → IsNotDone cause
     → next_by p cause h ≡ Some (act.Ended how) → EndsRightly p h how
 ends-by p None h how relay follows not_done next =
-    let is = aimed-end p.takes (due p h) (is_ended (taken h)) (unworked p h) how relay.takes (working-end (newest h) (aim p h) how next) in
+    let is = aimed-end p.takes (p.wants (taken h)) (due p h) (is_ended (taken h)) (unworked p h) how relay.takes (working-end (newest h) (aim p h) how next) in
     record {
       done =
           λ e. (

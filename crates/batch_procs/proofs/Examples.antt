@@ -1,11 +1,13 @@
 -- The table, row by row, on small histories: each is checked by computing alone.
-use Rattle.std.proofs.Common.{◌≡◌, true, false, List, [], ◌∷◌, Some, refl}
+use Rattle.std.proofs.Common.{◌≡◌, ℕ, true, false, List, [], ◌∷◌, Some, refl}
+use Rattle.std.specs.Prelude.{codes}
 use Rattle.solo_base.specs.declared.item.Item.TheVariants.{Line}
 use Rattle.solo_base.specs.declared.item.Feed.TheVariants as feed
 use Rattle.solo_base.specs.declared.outcome.Outcome.TheVariants as outcome
 use Rattle.solo_base.specs.declared.outcome.Cause.TheVariants as cause
 use Rattle.solo_devices.specs.declared.card_read.CardRead.TheVariants as read
 use Rattle.page_codec.specs.Form.{page_of}
+use Rattle.disk_system.specs.declared.loading.Loaded.TheVariants.{NoFile}
 use Rattle.batch_procs.specs.declared.actions.Action.TheVariants as act
 use Rattle.batch_procs.specs.declared.actions.Reply.TheVariants as reply
 use Rattle.batch_procs.specs.History.{Entry, Does, LacksMemory, Delays}
@@ -29,9 +31,6 @@ fails : next_action card (Does (act.Stop 1) reply.Done ∷ Does act.ReadCard (re
 fails = refl
 
 -- input: it awaits room, requests, puts, releases; the last page
-end_page : List Entry
-end_page = Does act.TakeFeed (reply.Feed feed.End) ∷ []
-
 awaits : next_action input (Does act.TakeFeed (reply.Feed feed.End) ∷ []) ≡ Some act.AwaitRoom
 awaits = refl
 
@@ -65,6 +64,27 @@ works = refl
 sends : next_action job (Does act.Local reply.Done ∷ Does act.Release reply.Done ∷ Does act.TakePage (reply.Page (page_of 0 true []) true)
     ∷ Does act.Request reply.Done ∷ Does act.AwaitItem reply.Done ∷ []) ≡ Some act.AwaitRoom
 sends = refl
+
+-- before it works it loads the files of its jobs: a page with the card `#RUN A F`
+abbrev run_page : List ℕ
+run_page = 8 ∷ codes "#RUN A F"
+
+abbrev taken_page : List Entry
+taken_page = Does act.Release reply.Done ∷ Does act.TakePage (reply.Page (page_of 0 true run_page) true) ∷ Does act.Request reply.Done
+    ∷ Does act.AwaitItem reply.Done ∷ []
+
+asks : next_action job taken_page ≡ Some act.Request
+asks = refl
+
+loads : next_action job (Does act.Request reply.Done ∷ taken_page) ≡ Some (act.Load (codes "F           "))
+loads = refl
+
+gives_back : next_action job (Does (act.Load (codes "F           ")) (reply.Loaded NoFile) ∷ Does act.Request reply.Done ∷ taken_page) ≡ Some act.Release
+gives_back = refl
+
+works_then : next_action job (Does act.Release reply.Done ∷ Does (act.Load (codes "F           ")) (reply.Loaded NoFile) ∷ Does act.Request reply.Done
+    ∷ taken_page) ≡ Some act.Local
+works_then = refl
 
 -- behind a page that isn't the last it works on, and behind the last it ends
 again_works : next_action job (Does act.Release reply.Done ∷ Does (act.PutPage (page_of 0 false [])) reply.Done ∷ []) ≡ Some act.Local

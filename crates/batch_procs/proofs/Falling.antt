@@ -10,7 +10,7 @@ use Rattle.batch_procs.specs.History.{Entry, Does, has_stopped}
 use Rattle.batch_procs.specs.Process.{working, begins, stops_next}
 use Rattle.batch_procs.specs.Machine.{step_after, held_at}
 use Rattle.batch_procs.specs.Parts.{some-same}
-use Rattle.batch_procs.proofs.Held.{IsAim, IsFree, begins-aim}
+use Rattle.batch_procs.proofs.Held.{IsAim, IsFree}
 use Rattle.batch_procs.proofs.Holding.{begins-no_release}
 
 -- ---- numbers
@@ -27,18 +27,20 @@ free-step (Some act.AwaitItem) aim a e free off = absurd (subst IsFree (sym (som
 free-step (Some act.Request) aim a e free off = absurd cc
 free-step (Some (act.PutPage page)) aim a e free off = absurd cc
 free-step (Some act.TakePage) aim a e free off = absurd cc
+free-step (Some (act.Load file)) aim a e free off = absurd cc
 free-step (Some (act.Ended how)) aim a e free off = absurd cc
 free-step (Some other) aim a e free off = refl
 
-pub request-step : (newest : Option Action) (aim : Action) → IsAim aim → working newest aim ≡ Some act.Request → moves_ahead (step_after newest) ≡ 1
-request-step None aim is e = absurd (begins-aim aim (some-same (begins aim) act.Request e) is)
-request-step (Some act.AwaitRoom) aim is e = refl
-request-step (Some act.AwaitItem) aim is e = refl
+pub request-step : (newest : Option Action) (aim : Action) → IsAim aim → working newest aim ≡ Some act.Request → 1 ≤ moves_ahead (step_after newest)
+request-step None aim is e = omega arith
+request-step (Some act.AwaitRoom) aim is e = omega arith
+request-step (Some act.AwaitItem) aim is e = omega arith
 request-step (Some act.Request) aim is e = absurd (subst IsAim (some-same aim act.Request e) is)
 request-step (Some (act.PutPage page)) aim is e = absurd cc
 request-step (Some act.TakePage) aim is e = absurd cc
+request-step (Some (act.Load file)) aim is e = absurd cc
 request-step (Some (act.Ended how)) aim is e = absurd cc
-request-step (Some other) aim is e = absurd (begins-aim aim (some-same (begins aim) act.Request e) is)
+request-step (Some other) aim is e = omega arith
 
 pub release-step : (newest : Option Action) (aim : Action) → IsAim aim → working newest aim ≡ Some act.Release → moves_ahead (step_after newest) ≡ 3
 release-step None aim is e = absurd (begins-no_release aim (some-same (begins aim) act.Release e) is)
@@ -47,6 +49,7 @@ release-step (Some act.AwaitItem) aim is e = absurd cc
 release-step (Some act.Request) aim is e = absurd (subst IsAim (some-same aim act.Release e) is)
 release-step (Some (act.PutPage page)) aim is e = refl
 release-step (Some act.TakePage) aim is e = refl
+release-step (Some (act.Load file)) aim is e = refl
 release-step (Some (act.Ended how)) aim is e = absurd cc
 release-step (Some other) aim is e = absurd (begins-no_release aim (some-same (begins aim) act.Release e) is)
 

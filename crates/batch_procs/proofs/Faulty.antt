@@ -18,7 +18,7 @@ use Rattle.batch_procs.specs.declared.actions.Action.{Action}
 use Rattle.batch_procs.specs.declared.actions.Action.TheVariants as act
 use Rattle.batch_procs.specs.declared.actions.Reply.{Reply}
 use Rattle.batch_procs.specs.declared.actions.Reply.TheVariants as reply
-use Rattle.batch_procs.specs.Parcels.{Parcel, OfFeed, OfPage, OfLine, IsAFeed, IsAPage, IsALine}
+use Rattle.batch_procs.specs.Parcels.{Parcel, OfFeed, OfPage, OfLine, OfLoad, loads, IsAFeed, IsAPage, IsALine}
 use Rattle.batch_procs.specs.History.{Entry, Does, LacksMemory, Delays, taken, sent}
 use Rattle.batch_procs.specs.Causes.{fault_read, damage, place, given_cause, or_new, caused}
 use Rattle.batch_procs.specs.Fits.{Fits}
@@ -29,7 +29,7 @@ use Rattle.batch_procs.specs.Laws.{IsTake, IsRelay}
 use Rattle.batch_procs.specs.Faults.{cause_by, GivenBy, IsDamaged, FaultsOfTheFive}
 use Rattle.batch_procs.specs.Relays.{card-relay, input-relay, job-relay, output-relay, printer-relay}
 use Rattle.batch_procs.proofs.Relay.{IsPut}
-use Rattle.batch_procs.proofs.Nexts.{next-take, next-putting}
+use Rattle.batch_procs.proofs.Nexts.{next-take, next-putting, next-load}
 
 -- ---- the entry that gave the cause
 new-or-old : (old new : Option Outcome) (how : Outcome) → or_new old new ≡ Some how → (old ≡ Some how) ⊎ ((old ≡ None) × (new ≡ Some how))
@@ -63,6 +63,7 @@ FaultOf act.ReadCard c = (c ≡ cause.ReadFault) ⊎ (c ≡ cause.DeckLimit)
 FaultOf (act.PutPage page) c = c ≡ cause.DiskFault
 FaultOf act.TakePage c = (c ≡ cause.DiskFault) ⊎ IsDamaged c
 FaultOf (act.Print line) c = (c ≡ cause.PrintFault) ⊎ (c ≡ cause.NoMemory)
+FaultOf (act.Load file) c = (c ≡ cause.DiskFault) ⊎ (c ≡ cause.NoMemory)
 FaultOf other c = ⊥
 
 fault-same : (c d : Cause) → Some (outcome.Fault c) ≡ Some (outcome.Fault d) → d ≡ c
@@ -92,6 +93,10 @@ fault-by (act.Print line) reply.Done h c fits e = absurd cc
 fault-by (act.Print line) reply.Failed h c fits e = inl (fault-same cause.PrintFault c e)
 fault-by (act.Print line) reply.NoMemory h c fits e = inr (fault-same cause.NoMemory c e)
 fault-by (act.Print line) other h c fits e = absurd fits
+fault-by (act.Load file) (reply.Loaded load) h c fits e = absurd cc
+fault-by (act.Load file) reply.Failed h c fits e = inl (fault-same cause.DiskFault c e)
+fault-by (act.Load file) reply.NoMemory h c fits e = inr (fault-same cause.NoMemory c e)
+fault-by (act.Load file) other h c fits e = absurd fits
 fault-by (act.PutFeed f) reply.Done h c fits e = absurd cc
 fault-by (act.PutFeed f) reply.Stopped h c fits e = absurd cc
 fault-by (act.PutFeed f) other h c fits e = absurd fits
@@ -120,9 +125,14 @@ fault-by (act.Ended how) other h c fits e = absurd fits
 abbrev IsPutOf : (Parcel → Type 0) → Action → Type 0
 IsPutOf Kind a = (parcel : Parcel) × (Kind parcel × (puts parcel ≡ a))
 
+-- and it loads what it wants
+abbrev WantsSome : Process → Type 0
+WantsSome p = (all : List Parcel) × (file : List ℕ) × (later : List (List ℕ)) × (p.wants all ≡ file ∷ later)
+
 record Makes (p : Process) (Kind : Parcel → Type 0) (a : Action) : Type 0 where
   take : IsTake a → p.takes ≡ a
   put : IsPut a → IsPutOf Kind a
+  load : (file : List ℕ) → a ≡ act.Load file → WantsSome p
 
 first-kind : (Kind : Parcel → Type 0) (all : List Parcel) (n : ℕ) (first : Parcel) (more : List Parcel) → AllByRecursion Kind all → drop n all ≡ first ∷ more
     → Kind first
@@ -138,6 +148,9 @@ makes p Kind h a relay kinds follows next = record {
   put = λ put.
       let is = next-putting p h a relay follows next put in
       (is.first, (first-kind Kind (p.sends (taken h)) (length (sent h)) is.first is.more (kinds (taken h)) is.left, is.puts_it));
+  load = λ file is.
+      let wants = next-load p h file relay follows (next ∙ ap Some is) in
+      (taken h, file, wants.later, wants.first);
 }
 
 -- ---- the fault of one process
@@ -182,21 +195,32 @@ no-page_of_feeds : (page : Page) → IsPutOf IsAFeed (act.PutPage page) → ⊥
 no-page_of_feeds page (OfFeed f, (kind, e)) = cc
 no-page_of_feeds page (OfPage p last, (kind, e)) = kind
 no-page_of_feeds page (OfLine line, (kind, e)) = kind
+no-page_of_feeds page (OfLoad load, (kind, e)) = kind
 
 no-print_of_feeds : (line : List ℕ) → IsPutOf IsAFeed (act.Print line) → ⊥
 no-print_of_feeds line (OfFeed f, (kind, e)) = cc
 no-print_of_feeds line (OfPage p last, (kind, e)) = kind
 no-print_of_feeds line (OfLine other, (kind, e)) = kind
+no-print_of_feeds line (OfLoad load, (kind, e)) = kind
 
 no-print_of_pages : (line : List ℕ) → IsPutOf IsAPage (act.Print line) → ⊥
 no-print_of_pages line (OfFeed f, (kind, e)) = kind
 no-print_of_pages line (OfPage p last, (kind, e)) = cc
 no-print_of_pages line (OfLine other, (kind, e)) = kind
+no-print_of_pages line (OfLoad load, (kind, e)) = kind
 
 no-page_of_lines : (page : Page) → IsPutOf IsALine (act.PutPage page) → ⊥
 no-page_of_lines page (OfFeed f, (kind, e)) = kind
 no-page_of_lines page (OfPage p last, (kind, e)) = kind
 no-page_of_lines page (OfLine line, (kind, e)) = cc
+no-page_of_lines page (OfLoad load, (kind, e)) = kind
+
+-- one that wants no file loads none
+abbrev WantsNone : Process → Type 0
+WantsNone p = (all : List Parcel) → p.wants all ≡ []
+
+loads-none : (p : Process) → WantsNone p → WantsSome p → ⊥
+loads-none p none (all, file, later, e) = (let both = sym (none all) ∙ e in cc)
 
 -- ---- the five
 card-by : (a : Action) (c : Cause) → Makes card IsAFeed a → FaultOf a c → (c ≡ cause.ReadFault) ⊎ (c ≡ cause.DeckLimit)
@@ -204,6 +228,7 @@ card-by act.ReadCard c m f = f
 card-by (act.PutPage page) c m f = absurd (no-page_of_feeds page (m.put tt))
 card-by act.TakePage c m f = absurd (let e = m.take tt in cc)
 card-by (act.Print line) c m f = absurd (no-print_of_feeds line (m.put tt))
+card-by (act.Load file) c m f = absurd (loads-none card (λ all. refl) (m.load file refl))
 card-by other c m f = absurd f
 
 input-by : (a : Action) (c : Cause) → Makes input IsAPage a → FaultOf a c → c ≡ cause.DiskFault
@@ -211,20 +236,31 @@ input-by act.ReadCard c m f = absurd (let e = m.take tt in cc)
 input-by (act.PutPage page) c m f = f
 input-by act.TakePage c m f = absurd (let e = m.take tt in cc)
 input-by (act.Print line) c m f = absurd (no-print_of_pages line (m.put tt))
+input-by (act.Load file) c m f = absurd (loads-none input (λ all. refl) (m.load file refl))
 input-by other c m f = absurd f
 
-pages-by : (p : Process) → p.takes ≡ act.TakePage → (a : Action) (c : Cause) → Makes p IsAPage a → FaultOf a c → (c ≡ cause.DiskFault) ⊎ IsDamaged c
-pages-by p pages act.ReadCard c m f = absurd (let e = sym pages ∙ m.take tt in cc)
-pages-by p pages (act.PutPage page) c m f = inl f
-pages-by p pages act.TakePage c m f = f
-pages-by p pages (act.Print line) c m f = absurd (no-print_of_pages line (m.put tt))
-pages-by p pages other c m f = absurd f
+page-fault : (c : Cause) → (c ≡ cause.DiskFault) ⊎ IsDamaged c → (c ≡ cause.DiskFault) ⊎ (IsDamaged c ⊎ (c ≡ cause.NoMemory))
+page-fault c (inl is) = inl is
+page-fault c (inr is) = inr (inl is)
+
+load-fault : (c : Cause) → (c ≡ cause.DiskFault) ⊎ (c ≡ cause.NoMemory) → (c ≡ cause.DiskFault) ⊎ (IsDamaged c ⊎ (c ≡ cause.NoMemory))
+load-fault c (inl is) = inl is
+load-fault c (inr is) = inr (inr is)
+
+job-by : (a : Action) (c : Cause) → Makes job IsAPage a → FaultOf a c → (c ≡ cause.DiskFault) ⊎ (IsDamaged c ⊎ (c ≡ cause.NoMemory))
+job-by act.ReadCard c m f = absurd (let e = m.take tt in cc)
+job-by (act.PutPage page) c m f = inl f
+job-by act.TakePage c m f = page-fault c f
+job-by (act.Print line) c m f = absurd (no-print_of_pages line (m.put tt))
+job-by (act.Load file) c m f = load-fault c f
+job-by other c m f = absurd f
 
 output-by : (a : Action) (c : Cause) → Makes output IsAFeed a → FaultOf a c → (c ≡ cause.DiskFault) ⊎ IsDamaged c
 output-by act.ReadCard c m f = absurd (let e = m.take tt in cc)
 output-by (act.PutPage page) c m f = absurd (no-page_of_feeds page (m.put tt))
 output-by act.TakePage c m f = f
 output-by (act.Print line) c m f = absurd (no-print_of_feeds line (m.put tt))
+output-by (act.Load file) c m f = absurd (loads-none output (λ all. refl) (m.load file refl))
 output-by other c m f = absurd f
 
 printer-by : (a : Action) (c : Cause) → Makes printer IsALine a → FaultOf a c → (c ≡ cause.PrintFault) ⊎ (c ≡ cause.NoMemory)
@@ -232,14 +268,11 @@ printer-by act.ReadCard c m f = absurd (let e = m.take tt in cc)
 printer-by (act.PutPage page) c m f = absurd (no-page_of_lines page (m.put tt))
 printer-by act.TakePage c m f = absurd (let e = m.take tt in cc)
 printer-by (act.Print line) c m f = f
+printer-by (act.Load file) c m f = absurd (loads-none printer (λ all. refl) (m.load file refl))
 printer-by other c m f = absurd f
 
 idle : (t : Bool) → t ≡ false → t ≡ true → ⊥
 idle t off on = (let both = sym off ∙ on in cc)
-
-job-fault : (c : Cause) → (c ≡ cause.DiskFault) ⊎ IsDamaged c → (c ≡ cause.DiskFault) ⊎ (IsDamaged c ⊎ (c ≡ cause.NoMemory))
-job-fault c (inl is) = inl is
-job-fault c (inr is) = inr (inl is)
 
 pub faults_of_the_five : FaultsOfTheFive
 faults_of_the_five = record {
@@ -254,9 +287,9 @@ faults_of_the_five = record {
     | inr lacks ↦ absurd (idle input.works refl lacks.0)
   ];
   job =
-      λ h c follows e. elim (fault-here job IsAPage h c job-relay (λ all. pages-kind first_page (job_lines (unpacked 0 all))) follows e) as (λ _. (c
+      λ h c follows e. elim (fault-here job IsAPage h c job-relay (λ all. pages-kind first_page (job_lines (unpacked 0 all) (loads all))) follows e) as (λ _. (c
       ≡ cause.DiskFault) ⊎ (IsDamaged c ⊎ (c ≡ cause.NoMemory))) [
-        | inl made ↦ job-fault c (pages-by job refl made.0 c made.1.0 made.1.1)
+        | inl made ↦ job-by made.0 c made.1.0 made.1.1
         | inr lacks ↦ inr (inr lacks.1)
       ];
   output =

@@ -1,16 +1,16 @@
 -- Who holds the disk moves a page or releases it, and who puts a page has awaited room: from the history alone.
-use Rattle.std.proofs.Common.{◌≡◌, ◌⊎◌, inl, inr, Bool, true, false, List, [], ◌∷◌, ◌++◌, Option, None, Some, refl, sym, ◌∙◌, ap, subst}
+use Rattle.std.proofs.Common.{◌≡◌, ℕ, ◌⊎◌, inl, inr, Bool, true, false, List, [], ◌∷◌, ◌++◌, Option, None, Some, refl, sym, ◌∙◌, ap, subst}
 use Rattle.std.proofs.lemmas.List.{append-nil}
 use Rattle.solo_base.specs.declared.outcome.Outcome.{Outcome}
 use Rattle.batch_procs.specs.declared.actions.Action.{Action}
 use Rattle.batch_procs.specs.declared.actions.Action.TheVariants as act
 use Rattle.batch_procs.specs.declared.actions.Reply.{Reply}
 use Rattle.batch_procs.specs.declared.actions.Reply.TheVariants as reply
-use Rattle.batch_procs.specs.Parcels.{Parcel, OfFeed, OfPage, OfLine, is_ended}
+use Rattle.batch_procs.specs.Parcels.{Parcel, OfFeed, OfPage, OfLine, OfLoad, is_ended}
 use Rattle.batch_procs.specs.History.{is_unworked, Entry, Does, LacksMemory, Delays, taken, taken_by, sent, put_by, holds, holds_after, newest}
 use Rattle.batch_procs.specs.Causes.{given_cause, or_new, caused}
 use Rattle.batch_procs.specs.Fits.{Fits}
-use Rattle.batch_procs.specs.Process.{Process, unworked, due, puts, aimed, aim, begins, working, Follows}
+use Rattle.batch_procs.specs.Process.{Process, unworked, due, puts, works_on, aimed, aim, begins, working, Follows}
 use Rattle.batch_procs.specs.Laws.{IsTake, IsRelay, AwaitedRoom, AwaitedItem}
 use Rattle.batch_procs.specs.Parts.{some-same}
 use Rattle.batch_procs.proofs.Closing.{works-next, or-none}
@@ -22,6 +22,14 @@ IsPagePut other = ⊥
 abbrev pub IsPageTake : Action → Type 0
 IsPageTake act.TakePage = Unit {0}
 IsPageTake other = ⊥
+
+abbrev pub IsLoad : Action → Type 0
+IsLoad (act.Load file) = Unit {0}
+IsLoad other = ⊥
+
+-- what the disk is held for: a page that is put where there is room, or taken where there is one, or a load
+abbrev pub IsHeldFor : Action → Type 0 → Type 0 → Type 0
+IsHeldFor aim room item = (IsPagePut aim × room) ⊎ ((IsPageTake aim × item) ⊎ IsLoad aim)
 
 -- none of the calls around an aim
 abbrev pub IsAim : Action → Type 0
@@ -42,25 +50,32 @@ puts-aim : (parcel : Parcel) → IsAim (puts parcel)
 puts-aim (OfFeed f) = tt
 puts-aim (OfPage page last) = tt
 puts-aim (OfLine line) = tt
+puts-aim (OfLoad load) = tt
 
-aimed-aim : (takes : Action) (due : List Parcel) (ended unworked : Bool) → IsTake takes → IsAim (aimed takes due ended unworked)
-aimed-aim takes [] true false is = tt
-aimed-aim takes [] true true is = tt
-aimed-aim takes [] false true is = tt
-aimed-aim takes [] false false is = take-aim takes is
-aimed-aim takes (parcel ∷ more) ended unworked is = puts-aim parcel
+works-aim : (wanted : List (List ℕ)) → IsAim (works_on wanted)
+works-aim [] = tt
+works-aim (file ∷ later) = tt
+
+aimed-aim : (takes : Action) (wanted : List (List ℕ)) (due : List Parcel) (ended unworked : Bool) → IsTake takes
+    → IsAim (aimed takes wanted due ended unworked)
+aimed-aim takes wanted [] true false is = tt
+aimed-aim takes wanted [] true true is = works-aim wanted
+aimed-aim takes wanted [] false true is = works-aim wanted
+aimed-aim takes wanted [] false false is = take-aim takes is
+aimed-aim takes wanted (parcel ∷ more) ended unworked is = puts-aim parcel
 
 pub aim-is : (p : Process) (h : List Entry) → IsRelay p → IsAim (aim p h)
-aim-is p h relay = aimed-aim p.takes (due p h) (is_ended (taken h)) (unworked p h) relay.takes
+aim-is p h relay = aimed-aim p.takes (p.wants (taken h)) (due p h) (is_ended (taken h)) (unworked p h) relay.takes
 
 -- by the newest action of one that works: whether it holds the disk, and what it aims at
 abbrev pub KeptBy : Option Action → Action → Bool → Type 0 → Type 0 → Type 0
 KeptBy None aim held room item = held ≡ false
 KeptBy (Some act.AwaitRoom) aim held room item = (held ≡ false) × IsPagePut aim × room
 KeptBy (Some act.AwaitItem) aim held room item = (held ≡ false) × IsPageTake aim × item
-KeptBy (Some act.Request) aim held room item = (held ≡ true) × ((IsPagePut aim × room) ⊎ (IsPageTake aim × item))
+KeptBy (Some act.Request) aim held room item = (held ≡ true) × IsHeldFor aim room item
 KeptBy (Some (act.PutPage page)) aim held room item = held ≡ true
 KeptBy (Some act.TakePage) aim held room item = held ≡ true
+KeptBy (Some (act.Load file)) aim held room item = held ≡ true
 KeptBy (Some other) aim held room item = held ≡ false
 
 abbrev pub IsFree : Action → Type 0
@@ -68,13 +83,16 @@ IsFree act.Request = ⊥
 IsFree act.Release = ⊥
 IsFree (act.PutPage page) = ⊥
 IsFree act.TakePage = ⊥
+IsFree (act.Load file) = ⊥
 IsFree other = Unit {0}
 
-not-free : (aim : Action) (room item : Type 0) → (IsPagePut aim × room) ⊎ (IsPageTake aim × item) → IsFree aim → ⊥
+not-free : (aim : Action) (room item : Type 0) → IsHeldFor aim room item → IsFree aim → ⊥
 not-free (act.PutPage page) room item is free = free
 not-free act.TakePage room item is free = free
+not-free (act.Load file) room item is free = free
 not-free other room item (inl is) free = is.0
-not-free other room item (inr is) free = is.0
+not-free other room item (inr (inl is)) free = is.0
+not-free other room item (inr (inr is)) free = is
 
 pub free-holds_not : (newest : Option Action) (aim : Action) (held : Bool) (room item : Type 0) (a : Action) → KeptBy newest aim held room item
     → working newest aim ≡ Some a → IsFree a → held ≡ false
@@ -84,22 +102,27 @@ free-holds_not (Some act.AwaitItem) aim held room item a kept next free = kept.0
 free-holds_not (Some act.Request) aim held room item a kept next free = absurd (not-free aim room item kept.1 (subst IsFree (sym (some-same aim a next)) free))
 free-holds_not (Some (act.PutPage page)) aim held room item a kept next free = absurd (subst IsFree (sym (some-same act.Release a next)) free)
 free-holds_not (Some act.TakePage) aim held room item a kept next free = absurd (subst IsFree (sym (some-same act.Release a next)) free)
+free-holds_not (Some (act.Load file)) aim held room item a kept next free = absurd (subst IsFree (sym (some-same act.Release a next)) free)
 free-holds_not (Some other) aim held room item a kept next free = kept
 
 begins-room : (aim : Action) → begins aim ≡ act.AwaitRoom → IsAim aim → IsPagePut aim
 begins-room (act.PutPage page) e is = tt
 begins-room act.TakePage e is = absurd cc
+begins-room (act.Load file) e is = absurd cc
 begins-room other e is = absurd (subst IsAim e is)
 
 begins-item : (aim : Action) → begins aim ≡ act.AwaitItem → IsAim aim → IsPageTake aim
 begins-item (act.PutPage page) e is = absurd cc
 begins-item act.TakePage e is = tt
+begins-item (act.Load file) e is = absurd cc
 begins-item other e is = absurd (subst IsAim e is)
 
-pub begins-aim : (aim : Action) → begins aim ≡ act.Request → IsAim aim → ⊥
-begins-aim (act.PutPage page) e is = cc
-begins-aim act.TakePage e is = cc
-begins-aim other e is = subst IsAim e is
+-- only a load begins with a request
+pub begins-aim : (aim : Action) → begins aim ≡ act.Request → IsAim aim → IsLoad aim
+begins-aim (act.PutPage page) e is = absurd cc
+begins-aim act.TakePage e is = absurd cc
+begins-aim (act.Load file) e is = tt
+begins-aim other e is = absurd (subst IsAim e is)
 
 pub awaits-room : (newest : Option Action) (aim : Action) → working newest aim ≡ Some act.AwaitRoom → IsAim aim → IsPagePut aim
 awaits-room None aim next is = begins-room aim (some-same (begins aim) act.AwaitRoom next) is
@@ -108,6 +131,7 @@ awaits-room (Some act.AwaitItem) aim next is = absurd cc
 awaits-room (Some act.Request) aim next is = absurd (subst IsAim (some-same aim act.AwaitRoom next) is)
 awaits-room (Some (act.PutPage page)) aim next is = absurd cc
 awaits-room (Some act.TakePage) aim next is = absurd cc
+awaits-room (Some (act.Load file)) aim next is = absurd cc
 awaits-room (Some (act.Ended how)) aim next is = absurd cc
 awaits-room (Some other) aim next is = begins-room aim (some-same (begins aim) act.AwaitRoom next) is
 
@@ -118,29 +142,33 @@ awaits-item (Some act.AwaitItem) aim next is = absurd cc
 awaits-item (Some act.Request) aim next is = absurd (subst IsAim (some-same aim act.AwaitItem next) is)
 awaits-item (Some (act.PutPage page)) aim next is = absurd cc
 awaits-item (Some act.TakePage) aim next is = absurd cc
+awaits-item (Some (act.Load file)) aim next is = absurd cc
 awaits-item (Some (act.Ended how)) aim next is = absurd cc
 awaits-item (Some other) aim next is = begins-item aim (some-same (begins aim) act.AwaitItem next) is
 
 requests : (newest : Option Action) (aim : Action) (held : Bool) (room item : Type 0) → KeptBy newest aim held room item → working newest aim ≡ Some act.Request
-    → IsAim aim → (IsPagePut aim × room) ⊎ (IsPageTake aim × item)
-requests None aim held room item kept next is = absurd (begins-aim aim (some-same (begins aim) act.Request next) is)
+    → IsAim aim → IsHeldFor aim room item
+requests None aim held room item kept next is = inr (inr (begins-aim aim (some-same (begins aim) act.Request next) is))
 requests (Some act.AwaitRoom) aim held room item kept next is = inl (kept.1, kept.2)
-requests (Some act.AwaitItem) aim held room item kept next is = inr (kept.1, kept.2)
+requests (Some act.AwaitItem) aim held room item kept next is = inr (inl (kept.1, kept.2))
 requests (Some act.Request) aim held room item kept next is = absurd (subst IsAim (some-same aim act.Request next) is)
 requests (Some (act.PutPage page)) aim held room item kept next is = absurd cc
 requests (Some act.TakePage) aim held room item kept next is = absurd cc
+requests (Some (act.Load file)) aim held room item kept next is = absurd cc
 requests (Some (act.Ended how)) aim held room item kept next is = absurd cc
-requests (Some other) aim held room item kept next is = absurd (begins-aim aim (some-same (begins aim) act.Request next) is)
+requests (Some other) aim held room item kept next is = inr (inr (begins-aim aim (some-same (begins aim) act.Request next) is))
 
--- a page is moved by a holder
+-- a page is moved, and a file loaded, by a holder
 abbrev pub IsMove : Action → Type 0
 IsMove (act.PutPage page) = Unit {0}
 IsMove act.TakePage = Unit {0}
+IsMove (act.Load file) = Unit {0}
 IsMove other = ⊥
 
 pub begins-no_move : (aim : Action) → IsMove (begins aim) → ⊥
 begins-no_move (act.PutPage page) is = is
 begins-no_move act.TakePage is = is
+begins-no_move (act.Load file) is = is
 begins-no_move other is = is
 
 pub moves-held : (newest : Option Action) (aim : Action) (held : Bool) (room item : Type 0) (a : Action) → KeptBy newest aim held room item
@@ -151,6 +179,7 @@ moves-held (Some act.AwaitItem) aim held room item a kept next is = absurd (subs
 moves-held (Some act.Request) aim held room item a kept next is = kept.0
 moves-held (Some (act.PutPage page)) aim held room item a kept next is = kept
 moves-held (Some act.TakePage) aim held room item a kept next is = kept
+moves-held (Some (act.Load file)) aim held room item a kept next is = kept
 moves-held (Some (act.Ended how)) aim held room item a kept next is = absurd cc
 moves-held (Some other) aim held room item a kept next is = absurd (begins-no_move aim (subst IsMove (sym (some-same (begins aim) a next)) is))
 
@@ -208,13 +237,14 @@ kept-after p h act.AwaitItem r relay is kept next fits = (
 )
 kept-after p h act.Request r relay is kept next fits = (
   refl,
-  subst (λ aim. (IsPagePut aim × AwaitedRoom h)
-      ⊎ (IsPageTake aim
-      × AwaitedItem h)) (sym (same-aim p h act.Request r tt fits)) (requests (newest h) (aim p h) (holds h) (AwaitedRoom h) (AwaitedItem h) kept next is),
+  subst (λ aim. IsHeldFor aim (AwaitedRoom h) (AwaitedItem h)) (sym (same-aim p h act.Request r tt fits)) (requests (newest h) (aim p h) (holds h)
+      (AwaitedRoom h) (AwaitedItem h) kept next is),
 )
 kept-after p h (act.PutPage page) r relay is kept next fits =
     moves-held (newest h) (aim p h) (holds h) (AwaitedRoom h) (AwaitedItem h) (act.PutPage page) kept next tt
 kept-after p h act.TakePage r relay is kept next fits = moves-held (newest h) (aim p h) (holds h) (AwaitedRoom h) (AwaitedItem h) act.TakePage kept next tt
+kept-after p h (act.Load file) r relay is kept next fits =
+    moves-held (newest h) (aim p h) (holds h) (AwaitedRoom h) (AwaitedItem h) (act.Load file) kept next tt
 kept-after p h act.Release r relay is kept next fits = refl
 kept-after p h other r relay is kept next fits = free-holds_not (newest h) (aim p h) (holds h) (AwaitedRoom h) (AwaitedItem h) other kept next tt
 

@@ -11,13 +11,14 @@ use Rattle.batch_procs.specs.Laws.{IsOpen, IsHeld, IsRelay, HasEnded, AwaitedRoo
 use Rattle.batch_procs.specs.Parts.{some-same}
 use Rattle.batch_procs.proofs.Relay.{closing-next, open-next}
 use Rattle.batch_procs.proofs.Closing.{works-next}
-use Rattle.batch_procs.proofs.Held.{moves-held, free-holds_not, begins-no_move, IsMove, IsAim, KeptBy, kept}
+use Rattle.batch_procs.proofs.Held.{moves-held, free-holds_not, begins-no_move, IsLoad, IsHeldFor, IsMove, IsAim, KeptBy, kept}
 pub use Rattle.batch_procs.proofs.Held.{IsPagePut, IsPageTake, aim-is, awaits-room, awaits-item, some-not_none}
 
 -- ---- what follows for its next action
 move-open : (a : Action) → IsMove a → IsOpen a
 move-open (act.PutPage page) is = tt
 move-open act.TakePage is = tt
+move-open (act.Load file) is = tt
 move-open other is = absurd is
 
 pub moves-holding : (p : Process) (h : List Entry) (a : Action) → IsRelay p → Follows p h → next_action p h ≡ Some a → IsMove a → holds h ≡ true
@@ -28,6 +29,7 @@ moves-holding p h a relay follows next is =
 begins-no_page : (aim : Action) (page : Page) → begins aim ≡ act.PutPage page → ⊥
 begins-no_page (act.PutPage put) page e = cc
 begins-no_page act.TakePage page e = cc
+begins-no_page (act.Load file) page e = cc
 begins-no_page other page e = cc
 
 puts-by : (newest : Option Action) (aim : Action) (held : Bool) (room item : Type 0) (page : Page) → KeptBy newest aim held room item
@@ -36,9 +38,11 @@ puts-by None aim held room item page kept next = absurd (begins-no_page aim page
 puts-by (Some act.AwaitRoom) aim held room item page kept next = absurd cc
 puts-by (Some act.AwaitItem) aim held room item page kept next = absurd cc
 puts-by (Some act.Request) aim held room item page (on, inl is) next = is.1
-puts-by (Some act.Request) aim held room item page (on, inr is) next = absurd (subst IsPageTake (some-same aim (act.PutPage page) next) is.0)
+puts-by (Some act.Request) aim held room item page (on, inr (inl is)) next = absurd (subst IsPageTake (some-same aim (act.PutPage page) next) is.0)
+puts-by (Some act.Request) aim held room item page (on, inr (inr is)) next = absurd (subst IsLoad (some-same aim (act.PutPage page) next) is)
 puts-by (Some (act.PutPage put)) aim held room item page kept next = absurd cc
 puts-by (Some act.TakePage) aim held room item page kept next = absurd cc
+puts-by (Some (act.Load file)) aim held room item page kept next = absurd cc
 puts-by (Some (act.Ended how)) aim held room item page kept next = absurd cc
 puts-by (Some other) aim held room item page kept next = absurd (begins-no_page aim page (some-same (begins aim) (act.PutPage page) next))
 
@@ -47,11 +51,13 @@ puts-awaited p h page relay follows next =
     let none = open-next p h (act.PutPage page) next tt in
     puts-by (newest h) (aim p h) (holds h) (AwaitedRoom h) (AwaitedItem h) page (kept p h relay follows none) (works-next p h (act.PutPage page) next none)
 
-move-held : (aim : Action) (room item : Type 0) → (IsPagePut aim × room) ⊎ (IsPageTake aim × item) → IsHeld aim
+move-held : (aim : Action) (room item : Type 0) → IsHeldFor aim room item → IsHeld aim
 move-held (act.PutPage page) room item is = tt
 move-held act.TakePage room item is = tt
+move-held (act.Load file) room item is = tt
 move-held other room item (inl is) = absurd is.0
-move-held other room item (inr is) = absurd is.0
+move-held other room item (inr (inl is)) = absurd is.0
+move-held other room item (inr (inr is)) = absurd is
 
 holds-on : (newest : Option Action) (aim : Action) (held : Bool) (room item : Type 0) → KeptBy newest aim held room item → held ≡ true
     → HoldsOn (working newest aim)
@@ -61,6 +67,7 @@ holds-on (Some act.AwaitItem) aim held room item kept holds = let no_hold = kept
 holds-on (Some act.Request) aim held room item kept holds = record { action = aim; is = refl; held = move-held aim room item kept.1 }
 holds-on (Some (act.PutPage page)) aim held room item kept holds = record { action = act.Release; is = refl; held = tt }
 holds-on (Some act.TakePage) aim held room item kept holds = record { action = act.Release; is = refl; held = tt }
+holds-on (Some (act.Load file)) aim held room item kept holds = record { action = act.Release; is = refl; held = tt }
 holds-on (Some other) aim held room item kept holds = absurd cc
 
 closes-holding : (buffers : List ℕ) (how last : Outcome) (h : List Entry) → closes buffers how h ≡ act.Ended last → holds h ≡ false
@@ -88,9 +95,11 @@ takes-by None aim held room item kept next = absurd (begins-no_move aim (subst I
 takes-by (Some act.AwaitRoom) aim held room item kept next = absurd cc
 takes-by (Some act.AwaitItem) aim held room item kept next = absurd cc
 takes-by (Some act.Request) aim held room item (on, inl is) next = absurd (subst IsPagePut (some-same aim act.TakePage next) is.0)
-takes-by (Some act.Request) aim held room item (on, inr is) next = is.1
+takes-by (Some act.Request) aim held room item (on, inr (inl is)) next = is.1
+takes-by (Some act.Request) aim held room item (on, inr (inr is)) next = absurd (subst IsLoad (some-same aim act.TakePage next) is)
 takes-by (Some (act.PutPage put)) aim held room item kept next = absurd cc
 takes-by (Some act.TakePage) aim held room item kept next = absurd cc
+takes-by (Some (act.Load file)) aim held room item kept next = absurd cc
 takes-by (Some (act.Ended how)) aim held room item kept next = absurd cc
 takes-by (Some other) aim held room item kept next = absurd (begins-no_move aim (subst IsMove (sym (some-same (begins aim) act.TakePage next)) tt))
 
@@ -111,7 +120,7 @@ holds-by p None h is not held = holds-on (newest h) (aim p h) _ (AwaitedRoom h) 
 holds-by p (Some cause) h is not held =
     record { action = act.Release; is = closing-on (newest h) (closes p.buffers cause h) not ∙ rw held refl; held = tt }
 
--- Who holds the disk moves a page next, or releases it.
+-- Who holds the disk moves a page next, loads a file, or releases it.
 pub holder-next : (p : Process) (h : List Entry) → IsRelay p → Follows p h → holds h ≡ true → HoldsOn (next_action p h)
 holder-next p h relay follows held =
     holds-by p (caused h) h (kept p h relay follows) (λ how e. let no_hold = ended-holds_not p h how relay follows e in absurd cc) held
@@ -124,6 +133,7 @@ working-none (Some act.AwaitItem) aim e = absurd cc
 working-none (Some act.Request) aim e = absurd cc
 working-none (Some (act.PutPage page)) aim e = absurd cc
 working-none (Some act.TakePage) aim e = absurd cc
+working-none (Some (act.Load file)) aim e = absurd cc
 working-none (Some (act.Ended how)) aim e = (how, refl)
 working-none (Some other) aim e = absurd cc
 
@@ -143,6 +153,7 @@ none-next p h e = none-by p (caused h) h e
 pub begins-no_release : (aim : Action) → begins aim ≡ act.Release → IsAim aim → ⊥
 begins-no_release (act.PutPage page) e is = cc
 begins-no_release act.TakePage e is = cc
+begins-no_release (act.Load file) e is = cc
 begins-no_release other e is = subst IsAim e is
 
 releases-by : (newest : Option Action) (aim : Action) (held : Bool) (room item : Type 0) → KeptBy newest aim held room item
@@ -153,6 +164,7 @@ releases-by (Some act.AwaitItem) aim held room item kept next is = absurd cc
 releases-by (Some act.Request) aim held room item kept next is = kept.0
 releases-by (Some (act.PutPage page)) aim held room item kept next is = kept
 releases-by (Some act.TakePage) aim held room item kept next is = kept
+releases-by (Some (act.Load file)) aim held room item kept next is = kept
 releases-by (Some (act.Ended how)) aim held room item kept next is = absurd cc
 releases-by (Some other) aim held room item kept next is = absurd (begins-no_release aim (some-same (begins aim) act.Release next) is)
 
@@ -183,6 +195,7 @@ requests-not (Some act.AwaitItem) aim held room item kept next is = kept.0
 requests-not (Some act.Request) aim held room item kept next is = absurd (subst IsAim (some-same aim act.Request next) is)
 requests-not (Some (act.PutPage page)) aim held room item kept next is = absurd cc
 requests-not (Some act.TakePage) aim held room item kept next is = absurd cc
+requests-not (Some (act.Load file)) aim held room item kept next is = absurd cc
 requests-not (Some (act.Ended how)) aim held room item kept next is = absurd cc
 requests-not (Some other) aim held room item kept next is = kept
 

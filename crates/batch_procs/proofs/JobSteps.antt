@@ -1,5 +1,5 @@
 -- What the job process keeps at each of its steps.
-use Rattle.std.proofs.Common.{◌≡◌, ℕ, zero, suc, Bool, true, false, not, ◌||◌, if◌then◌else◌, List, [], ◌∷◌, ◌++◌, length, drop, Option, None, Some, Result, Ok, Err, refl, sym, ◌∙◌, ap, subst, append_assoc}
+use Rattle.std.proofs.Common.{◌≡◌, ◌≤◌, ℕ, zero, suc, Bool, true, false, not, ◌||◌, if◌then◌else◌, ◌%◌, ◌^◌, List, [], ◌∷◌, ◌++◌, length, drop, Option, None, Some, Result, Ok, Err, refl, sym, ◌∙◌, ap, subst, append_assoc, arith}
 use Rattle.std.specs.Prelude.{option_to_list, ◌==◌, IsTrue}
 use Rattle.std.proofs.lemmas.Bool.{eqb-true, eq-eqb}
 use Rattle.std.specs.List.{AllByRecursion}
@@ -15,18 +15,23 @@ use Rattle.page_codec.specs.Reading.{PageContent, bad_place, content_or_bad, pag
 use Rattle.page_codec.specs.Stream.{Awaited, awaited_after}
 use Rattle.batch_job.specs.declared.lines_ahead.End.{End}
 use Rattle.batch_job.specs.declared.lines_ahead.End.TheVariants as end
-use Rattle.batch_job.specs.LinesSoFar.{lines_so_far}
-use Rattle.batch_job.specs.JobStream.{Stream, Account, StandsBy, StandsFor, IsSpent, Packs, ahead, fed, end_of, goes_on, pages_given, hand_behind}
+use Rattle.disk_system.specs.declared.loading.Loaded.{Loaded}
+use Rattle.deck_format.specs.Jobs.{opener_of}
+use Rattle.batch_job.specs.Loads.{file_named, files_named}
+use Rattle.batch_job.specs.LinesSoFar.{lines_so_far, is_whole}
+use Rattle.batch_job.proofs.LinesSoFar.{all_loaded}
+use Rattle.batch_job.specs.JobStream.{Stream, Account, StandsBy, StandsFor, IsSpent, Packs, ahead, fed, with_load, end_of, goes_on, pages_given, hand_behind}
 use Rattle.batch_procs.specs.declared.actions.Reply.{Reply}
 use Rattle.batch_procs.specs.declared.actions.Reply.TheVariants as reply
-use Rattle.batch_procs.specs.Parcels.{Parcel, OfPage, is_last, mark, NothingBehind}
+use Rattle.batch_procs.specs.Parcels.{Parcel, OfFeed, OfPage, OfLine, OfLoad, loads, pages, is_last, is_ended, mark, NothingBehind}
 use Rattle.batch_procs.specs.History.{taken_by}
-use Rattle.batch_procs.specs.Sends.{items, has_end, end_if, unpacked, items_then, lines_stream, marked, packed, job_lines, job_sends}
+use Rattle.batch_procs.specs.Sends.{items, has_end, end_if, unpacked, items_then, lines_stream, marked, packed, job_lines, job_sends, job_wants}
 use Rattle.batch_procs.specs.Table.{job}
 use Rattle.batch_procs.specs.Work.{MayTake, cause_of}
 use Rattle.batch_procs.specs.JobWork.{IsNext, HasSent, KeepsJob}
+use Rattle.batch_procs.specs.Pages.{ReadsOn}
 use Rattle.batch_procs.specs.Parts.{some-same, drop-part}
-use Rattle.batch_procs.specs.Relays.{mark-of, packed-ends, goes-on}
+use Rattle.batch_procs.specs.Relays.{mark-of, packed-ends, goes-on, loads-append, loads-one, unpacked-load}
 use Rattle.batch_procs.proofs.PageTakes.{page-more, then-items, then-end, no-damage, reads-behind}
 use Rattle.batch_procs.proofs.Takes.{ended-more}
 
@@ -84,17 +89,43 @@ page-open hand lines page is = (subst (λ ps. AllByRecursion IsNotLast ps) is (p
 abbrev IsOver : End → Bool
 IsOver e = not (goes_on e)
 
-left-by : (e : End) (a : Account) (all : List Item) (pushed : List (List ℕ)) → StandsBy e a all pushed
-    → (rest : List (List ℕ)) × (lines_so_far all (not (goes_on e)) ≡ pushed ++ rest)
-left-by end.NotYet a all pushed s = (ahead a [] false, ap (λ xs. lines_so_far xs false) (sym (append-nil all)) ∙ s [] false)
-left-by end.Due a all pushed s = (ahead a [] true, s)
-left-by end.Told a all pushed s = (ahead a [] true, s)
+left-by : (e : End) (a : Account) (all : List Item) (found : List Loaded) (pushed : List (List ℕ)) → StandsBy e a all found pushed
+    → (rest : List (List ℕ)) × (lines_so_far all found (not (goes_on e)) ≡ pushed ++ rest)
+left-by end.NotYet a all found pushed s = (
+  ahead a [] [] false,
+  ap (λ xs. lines_so_far xs found false) (sym (append-nil all)) ∙ ap (λ l. lines_so_far (all ++ []) l false) (sym (append-nil found)) ∙ s [] [] false,
+)
+left-by end.Due a all found pushed s = (ahead a [] [] true, ap (λ l. lines_so_far all l true) (sym (append-nil found)) ∙ s [])
+left-by end.Told a all found pushed s = (ahead a [] [] true, ap (λ l. lines_so_far all l true) (sym (append-nil found)) ∙ s [])
 
-pub some-left : (lines : Stream) (all : List Item) (pushed : List (List ℕ)) → StandsFor lines all pushed
-    → (rest : List (List ℕ)) × (lines_so_far all (not (goes_on lines.end)) ≡ pushed ++ rest)
-some-left lines all pushed s =
-    let (rest, is) = left-by s.account.end s.account all pushed s.by in
-    (rest, ap (λ e. lines_so_far all (not (goes_on e))) s.is.end ∙ is)
+pub some-left : (lines : Stream) (all : List Item) (found : List Loaded) (pushed : List (List ℕ)) → StandsFor lines all found pushed
+    → (rest : List (List ℕ)) × (lines_so_far all found (not (goes_on lines.end)) ≡ pushed ++ rest)
+some-left lines all found pushed s =
+    let (rest, is) = left-by s.account.end s.account all found pushed s.by in
+    (rest, ap (λ e. lines_so_far all found (not (goes_on e))) s.is.end ∙ is)
+
+-- ---- the files that are wanted
+names-more : (xs ys : List Item) → files_named (xs ++ ys) ≡ files_named xs ++ files_named ys
+names-more [] ys = refl
+names-more (item ∷ xs) ys =
+    ap (λ fs. file_named (opener_of item) ++ fs) (names-more xs ys) ∙ sym (append_assoc (file_named (opener_of item)) (files_named xs) (files_named ys))
+
+drop-names : (found wanted names : List (List ℕ)) (n : ℕ) → names ≡ found ++ wanted → length found ≡ n → drop n names ≡ wanted
+drop-names found wanted names n is as_many = ap (λ m. drop m names) (sym as_many) ∙ ap (drop (length found)) is ∙ drop-part found wanted
+
+-- those of the stream are those of the process
+pub wanted-is : (awaited : Awaited) (lines : Stream) (packer : PageInHand) (due : Option Page) (toil : Bool) (taken sent : List Parcel) (unworked : Bool)
+    → KeepsJob awaited lines packer due toil taken sent unworked → job_wants taken ≡ lines.wanted
+wanted-is awaited lines packer due toil taken sent unworked keeps =
+    drop-names keeps.found lines.wanted (files_named (items (unpacked 0 taken))) (length (loads taken)) keeps.named keeps.as_many
+
+-- where none is wanted, the lines are all once the last page was taken
+whole-by : (taken : List Parcel) (found wanted : List (List ℕ)) (t : Bool) → files_named (items (unpacked 0 taken)) ≡ found ++ wanted
+    → length found ≡ length (loads taken) → wanted ≡ [] → is_whole (items (unpacked 0 taken)) (loads taken) t ≡ t
+whole-by taken found wanted t named as_many none =
+    let same : length (files_named (items (unpacked 0 taken))) ≡ length (loads taken) =
+    ap length (named ∙ ap (λ w. found ++ w) none ∙ append-nil found) ∙ as_many in
+    all_loaded (items (unpacked 0 taken)) (loads taken) t (omega (arith, same))
 
 -- ---- what the calls below tell
 told-not : (t : Bool) → (IsTrue t → ⊥) → t ≡ false
@@ -122,7 +153,7 @@ page-last place last page content is = read-last place last page (bad_place plac
 
 -- ---- a put
 job-ends : (taken : List Parcel) → NothingBehind (job_sends taken)
-job-ends taken = packed-ends first_page (job_lines (unpacked 0 taken))
+job-ends taken = packed-ends first_page (job_lines (unpacked 0 taken) (loads taken))
 
 next-same : (page : Page) (first : Parcel) (more : List Parcel) (left : List Parcel) → IsNext (Some page) left → left ≡ first ∷ more
     → first ≡ OfPage page (mark page)
@@ -156,6 +187,10 @@ module _ {awaited : Awaited} {lines : Stream} {packer : PageInHand} {taken sent 
     same_end = keeps.same_end;
     pushed = keeps.pushed;
     stands = keeps.stands;
+    found = keeps.found;
+    named = keeps.named;
+    as_many = keeps.as_many;
+    none_wanted = λ e. absurd cc;
     next = λ e. absurd cc;
     toiling = λ e. (refl, subst (λ t. HasSent packer keeps.pushed (sent ++ OfPage page t ∷ [])) (sym front) (keeps.putting page refl refl front));
     putting = λ p e. absurd cc;
@@ -174,6 +209,10 @@ module _ {awaited : Awaited} {lines : Stream} {packer : PageInHand} {taken sent 
     same_end = keeps.same_end;
     pushed = keeps.pushed;
     stands = keeps.stands;
+    found = keeps.found;
+    named = keeps.named;
+    as_many = keeps.as_many;
+    none_wanted = keeps.none_wanted;
     next =
         λ e. drop-one-more sent (job_sends taken) (OfPage page (mark page)) more left
         ∙ nothing-behind (job_sends taken) (length sent) (OfPage page (mark page)) more (job-ends taken) left last;
@@ -208,8 +247,8 @@ pub job-takes : (was now : Awaited) (lines : Stream) (packer : PageInHand) (due 
     (page : Page) (last : Bool) (content : PageContent) (then_lines : Stream) →
     r ≡ reply.Page page last → was.ended ≡ false → page_read was.place last page ≡ Ok content → content.last ≡ last → now ≡ awaited_after was last (Ok content)
     → then_lines ≡ fed lines content →
-    ((items : List Item) (pushed : List (List ℕ)) → IsSpent lines → lines.end ≡ end.NotYet → StandsFor lines items pushed
-    → StandsFor then_lines (items ++ content.items) pushed) →
+    ((items : List Item) (found : List Loaded) (pushed : List (List ℕ)) → IsSpent lines → lines.end ≡ end.NotYet → StandsFor lines items found pushed
+    → StandsFor then_lines (items ++ content.items) found pushed) →
     KeepsJob was lines packer due toil taken sent false → MayTake job taken sent r →
     (None ≡ cause_of r taken) × KeepsJob now then_lines packer due true (taken ++ taken_by r) sent true
 job-takes was now lines packer due toil taken sent r page last content then_lines is goes read whole after fed_is feeds keeps may =
@@ -223,7 +262,10 @@ job-takes was now lines packer due toil taken sent r page last content then_line
     let items_are : items (unpacked 0 (taken ++ OfPage page last ∷ [])) ≡ items (unpacked 0 taken) ++ content.items = ap items more ∙ on.items_are
     ∙ ap (λ is. items (unpacked 0 taken) ++ is) (then-items content.items last) in
     let stands : StandsFor then_lines (items (unpacked 0 taken)
-    ++ content.items) keeps.pushed = feeds (items (unpacked 0 taken)) keeps.pushed spent going keeps.stands in (
+    ++ content.items) (loads taken) keeps.pushed = feeds (items (unpacked 0 taken)) (loads taken) keeps.pushed spent going keeps.stands in
+    let same_loads : loads (taken ++ OfPage page last ∷ []) ≡ loads taken = loads-append taken (OfPage page last ∷ []) ∙ append-nil (loads taken) in
+    let named : files_named (items (unpacked 0 taken)) ≡ keeps.found =
+    keeps.named ∙ ap (λ w. keeps.found ++ w) (keeps.none_wanted off) ∙ append-nil keeps.found in (
       no-damage was.place taken page last content r is reads read,
       rw (after, is) record {
         work_is = refl;
@@ -232,7 +274,15 @@ job-takes was now lines packer due toil taken sent r page last content then_line
         reads = λ open_still. reads-behind was.place taken page last content reads read open_still;
         same_end = ap (λ l. goes_on l.end) fed_is ∙ ap (λ t. goes_on (end_of t)) whole ∙ end-not last;
         pushed = keeps.pushed;
-        stands = subst (λ is. StandsFor then_lines is keeps.pushed) (sym items_are) stands;
+        stands = subst (λ l. StandsFor then_lines (items (unpacked 0 (taken ++ OfPage page last ∷ []))) l keeps.pushed) (sym same_loads)
+            (subst (λ is. StandsFor then_lines is (loads taken) keeps.pushed) (sym items_are) stands);
+        found = keeps.found;
+        named =
+            ap files_named items_are ∙ names-more (items (unpacked 0 taken)) content.items
+            ∙ ap (λ fs. fs ++ files_named content.items) named
+            ∙ ap (λ l. keeps.found ++ l.wanted) (sym fed_is);
+        as_many = keeps.as_many ∙ ap length (sym same_loads);
+        none_wanted = λ e. absurd cc;
         next = λ e. absurd cc;
         toiling = λ e. (none, kept);
         putting = λ p e. absurd cc;
@@ -260,10 +310,13 @@ job-takes was now lines packer due toil taken sent r page last content then_line
 
 -- ---- work
 sends-at : (taken : List Parcel) (pushed rest : List (List ℕ)) (t : Bool) → has_end (unpacked 0 taken) ≡ t
-    → lines_so_far (items (unpacked 0 taken)) t ≡ pushed ++ rest →
+    → is_whole (items (unpacked 0 taken)) (loads taken) t ≡ t
+    → lines_so_far (items (unpacked 0 taken)) (loads taken) t ≡ pushed ++ rest →
     job_sends taken ≡ marked false (pages_given first_page pushed) ++ packed (hand_behind first_page pushed) (lines_stream rest t)
-sends-at taken pushed rest t ended lines =
-    ap (λ t. packed first_page (lines_stream (lines_so_far (items (unpacked 0 taken)) t) t)) ended
+sends-at taken pushed rest t ended whole lines =
+    ap (λ t. packed first_page (lines_stream (lines_so_far (items (unpacked 0 taken)) (loads taken) t) (is_whole (items (unpacked 0 taken)) (loads taken) t)))
+    ended
+    ∙ ap (λ w. packed first_page (lines_stream (lines_so_far (items (unpacked 0 taken)) (loads taken) t) w)) whole
     ∙ ap (λ ls. packed first_page (lines_stream ls t)) lines
     ∙ packed-lines first_page pushed (lines_stream rest t) t rest refl
 
@@ -283,18 +336,30 @@ has-pushed packer pushed lines sent more given hand kept pages is in_hand = reco
       ∙ ap (marked false) (sym (given-append first_page pushed lines));
 }
 
+module _ {awaited : Awaited} {lines : Stream} {packer : PageInHand} {due : Option Page} {toil : Bool} {taken sent : List Parcel}
+    (keeps : KeepsJob awaited lines packer due toil taken sent true) (loaded : job_wants taken ≡ []) where
+  none : lines.wanted ≡ []
+  none = sym (wanted-is awaited lines packer due toil taken sent true keeps) ∙ loaded
+
+  named-then : (then_lines : Stream) → then_lines.wanted ≡ lines.wanted → files_named (items (unpacked 0 taken)) ≡ keeps.found ++ then_lines.wanted
+  named-then then_lines same = keeps.named ∙ ap (λ w. keeps.found ++ w) (sym same)
+
+  whole : is_whole (items (unpacked 0 taken)) (loads taken) awaited.ended ≡ awaited.ended
+  whole = whole-by taken keeps.found lines.wanted awaited.ended keeps.named keeps.as_many none
+
 module _ {awaited : Awaited} {lines then_lines : Stream} {packer hand : PageInHand} {due : Option Page} {toil : Bool} {taken sent : List Parcel}
-    (keeps : KeepsJob awaited lines packer due toil taken sent true) where
+    (keeps : KeepsJob awaited lines packer due toil taken sent true) (loaded : job_wants taken ≡ []) where
   pub job-works-page : (page : Page) → Packs lines packer (Some page) then_lines hand → KeepsJob awaited then_lines hand (Some page) false taken sent false
   job-works-page page packs =
       let kept = (keeps.toiling (sym keeps.work_is)).1 in
       let put : HasSent hand (keeps.pushed ++ packs.lines) (sent
       ++ OfPage page false ∷ []) =
       has-pushed packer keeps.pushed packs.lines sent (OfPage page false ∷ []) (page ∷ []) hand kept packs.pushed.0 refl packs.in_hand in
-      let stands = packs.gives (items (unpacked 0 taken)) keeps.pushed keeps.stands in
-      let (rest, lines_are) = some-left then_lines (items (unpacked 0 taken)) (keeps.pushed ++ packs.lines) stands in
+      let stands = packs.gives (items (unpacked 0 taken)) (loads taken) keeps.pushed keeps.stands in
+      let (rest, lines_are) = some-left then_lines (items (unpacked 0 taken)) (loads taken) (keeps.pushed ++ packs.lines) stands in
       let ends = not-not awaited.ended (goes_on then_lines.end) (packs.same_end ∙ keeps.same_end) in
-      let all = sends-at taken (keeps.pushed ++ packs.lines) rest awaited.ended keeps.end_is (ap (lines_so_far (items (unpacked 0 taken))) (sym ends)
+      let all = sends-at taken (keeps.pushed ++ packs.lines) rest awaited.ended keeps.end_is (whole keeps loaded)
+      (ap (lines_so_far (items (unpacked 0 taken)) (loads taken)) (sym ends)
       ∙ lines_are) in
       let behind = packed (hand_behind first_page (keeps.pushed ++ packs.lines)) (lines_stream rest awaited.ended) in
       let front : mark page ≡ false = page-open packer packs.lines page packs.pushed.0 in
@@ -306,6 +371,10 @@ module _ {awaited : Awaited} {lines then_lines : Stream} {packer hand : PageInHa
         same_end = packs.same_end ∙ keeps.same_end;
         pushed = keeps.pushed ++ packs.lines;
         stands = stands;
+        found = keeps.found;
+        named = named-then keeps loaded then_lines packs.same_wanted;
+        as_many = keeps.as_many;
+        none_wanted = λ e. packs.same_wanted ∙ none keeps loaded;
         next = λ e. (
           behind,
           ap (drop (length sent)) (all ∙ ap (λ ps. ps ++ behind) (sym put.pages) ∙ append_assoc sent (OfPage page false ∷ []) behind)
@@ -325,10 +394,11 @@ module _ {awaited : Awaited} {lines then_lines : Stream} {packer hand : PageInHa
       let put : HasSent hand (keeps.pushed ++ packs.lines) (sent
       ++ []) = has-pushed packer keeps.pushed packs.lines sent [] [] hand kept packs.pushed refl packs.in_hand in
       let put-same : HasSent hand (keeps.pushed ++ packs.lines) sent = subst (HasSent hand (keeps.pushed ++ packs.lines)) (append-nil sent) put in
-      let stands = packs.gives (items (unpacked 0 taken)) keeps.pushed keeps.stands in
-      let told = packs.told refl (items (unpacked 0 taken)) keeps.pushed keeps.stands in
+      let stands = packs.gives (items (unpacked 0 taken)) (loads taken) keeps.pushed keeps.stands in
+      let told = packs.told refl (items (unpacked 0 taken)) (loads taken) keeps.pushed keeps.stands in
       let ends = not-not awaited.ended (goes_on then_lines.end) (packs.same_end ∙ keeps.same_end) in
-      let all = sends-at taken (keeps.pushed ++ packs.lines) [] awaited.ended keeps.end_is (ap (lines_so_far (items (unpacked 0 taken))) (sym ends) ∙ told
+      let all = sends-at taken (keeps.pushed ++ packs.lines) [] awaited.ended keeps.end_is (whole keeps loaded)
+      (ap (lines_so_far (items (unpacked 0 taken)) (loads taken)) (sym ends) ∙ told
       ∙ sym (append-nil (keeps.pushed ++ packs.lines))) in
       rw gone record {
         work_is = refl;
@@ -338,6 +408,10 @@ module _ {awaited : Awaited} {lines then_lines : Stream} {packer hand : PageInHa
         same_end = packs.same_end ∙ keeps.same_end;
         pushed = keeps.pushed ++ packs.lines;
         stands = stands;
+        found = keeps.found;
+        named = named-then keeps loaded then_lines packs.same_wanted;
+        as_many = keeps.as_many;
+        none_wanted = λ e. packs.same_wanted ∙ none keeps loaded;
         next = λ e.
             ap (drop (length sent)) (all
             ∙ ap (λ t. marked false (pages_given first_page (keeps.pushed ++ packs.lines))
@@ -356,10 +430,11 @@ module _ {awaited : Awaited} {lines then_lines : Stream} {packer hand : PageInHa
       let put : HasSent hand (keeps.pushed ++ packs.lines) (sent
       ++ []) = has-pushed packer keeps.pushed packs.lines sent [] [] hand kept packs.pushed refl packs.in_hand in
       let put-same : HasSent hand (keeps.pushed ++ packs.lines) sent = subst (HasSent hand (keeps.pushed ++ packs.lines)) (append-nil sent) put in
-      let stands = packs.gives (items (unpacked 0 taken)) keeps.pushed keeps.stands in
-      let told = packs.told refl (items (unpacked 0 taken)) keeps.pushed keeps.stands in
+      let stands = packs.gives (items (unpacked 0 taken)) (loads taken) keeps.pushed keeps.stands in
+      let told = packs.told refl (items (unpacked 0 taken)) (loads taken) keeps.pushed keeps.stands in
       let ends = not-not awaited.ended (goes_on then_lines.end) (packs.same_end ∙ keeps.same_end) in
-      let all = sends-at taken (keeps.pushed ++ packs.lines) [] awaited.ended keeps.end_is (ap (lines_so_far (items (unpacked 0 taken))) (sym ends) ∙ told
+      let all = sends-at taken (keeps.pushed ++ packs.lines) [] awaited.ended keeps.end_is (whole keeps loaded)
+      (ap (lines_so_far (items (unpacked 0 taken)) (loads taken)) (sym ends) ∙ told
       ∙ sym (append-nil (keeps.pushed ++ packs.lines))) in
       let closed : mark page ≡ true = ap mark is ∙ mark-of hand.place true hand.content in
       record {
@@ -370,6 +445,10 @@ module _ {awaited : Awaited} {lines then_lines : Stream} {packer hand : PageInHa
         same_end = packs.same_end ∙ keeps.same_end;
         pushed = keeps.pushed ++ packs.lines;
         stands = stands;
+        found = keeps.found;
+        named = named-then keeps loaded then_lines packs.same_wanted;
+        as_many = keeps.as_many;
+        none_wanted = λ e. packs.same_wanted ∙ none keeps loaded;
         next = λ e. (
           [],
           ap (drop (length sent)) (all
@@ -386,3 +465,68 @@ module _ {awaited : Awaited} {lines then_lines : Stream} {packer hand : PageInHa
         last = λ p e same is_last. over;
         awaiting = λ e same. absurd cc;
       }
+
+-- ---- a file is loaded
+ended-load : (taken : List Parcel) (load : Loaded) → is_ended (taken ++ OfLoad load ∷ []) ≡ is_ended taken
+ended-load [] load = refl
+ended-load (x ∷ taken) load = ap (λ t. is_last x || t) (ended-load taken load)
+
+one-more : (xs : List (List ℕ)) (x : List ℕ) (ys : List Loaded) (y : Loaded) → length xs ≡ length ys → length (xs ++ x ∷ []) ≡ length (ys ++ y ∷ [])
+one-more [] x [] y e = refl
+one-more [] x (z ∷ ys) y e = absurd cc
+one-more (z ∷ xs) x [] y e = absurd cc
+one-more (z ∷ xs) x (w ∷ ys) y e = (let less : length xs ≡ length ys = omega (arith, e) in ap suc (one-more xs x ys y less))
+
+reads-on : (place : ℕ) (taken : List Parcel) (load : Loaded) → ReadsOn place taken → ReadsOn place (taken ++ OfLoad load ∷ [])
+reads-on place taken load reads = record {
+  counted = reads.counted ∙ ap (λ n. n % 2 ^ 16) (ap length (sym (pages-load taken load)));
+  goes_on = λ rest.
+      ap (unpacked 0) (append_assoc taken (OfLoad load ∷ []) rest)
+      ∙ reads.goes_on (OfLoad load ∷ rest)
+      ∙ ap (λ fs. fs ++ unpacked place rest) (sym (unpacked-load 0 taken load));
+  no_end = ap has_end (unpacked-load 0 taken load) ∙ reads.no_end;
+}
+  where
+    pages-load : (taken : List Parcel) (load : Loaded) → pages (taken ++ OfLoad load ∷ []) ≡ pages taken
+    pages-load [] load = refl
+    pages-load (OfPage page last ∷ taken) load = ap (λ ps. page ∷ ps) (pages-load taken load)
+    pages-load (OfFeed f ∷ taken) load = pages-load taken load
+    pages-load (OfLine line ∷ taken) load = pages-load taken load
+    pages-load (OfLoad first ∷ taken) load = pages-load taken load
+
+pub job-loads : (awaited : Awaited) (lines then_lines : Stream) (packer : PageInHand) (due : Option Page) (toil : Bool) (taken sent : List Parcel)
+    (load : Loaded) (file : List ℕ) (later : List (List ℕ))
+    → ((file : List ℕ) (later : List (List ℕ)) → lines.wanted ≡ file ∷ later → then_lines ≡ with_load lines load)
+    → ((file : List ℕ) (later : List (List ℕ)) → lines.wanted ≡ file ∷ later → (items : List Item) (found : List Loaded) (pushed : List (List ℕ))
+    → StandsFor lines items found pushed → StandsFor then_lines items (found ++ load ∷ []) pushed)
+    → KeepsJob awaited lines packer due toil taken sent true → job_wants taken ≡ file ∷ later
+    → KeepsJob awaited then_lines packer due toil (taken ++ OfLoad load ∷ []) sent true
+job-loads awaited lines then_lines packer due toil taken sent load file later is stands keeps wants =
+    let on : toil ≡ true = sym keeps.work_is in
+    let wanted : lines.wanted ≡ file ∷ later = sym (wanted-is awaited lines packer due toil taken sent true keeps) ∙ wants in
+    let same : items (unpacked 0 (taken ++ OfLoad load ∷ [])) ≡ items (unpacked 0 taken) = ap items (unpacked-load 0 taken load) in
+    let then_is = is file later wanted in
+    let now = stands file later wanted (items (unpacked 0 taken)) (loads taken) keeps.pushed keeps.stands in
+    let goes : goes_on then_lines.end ≡ not awaited.ended = ap (λ l. goes_on l.end) then_is ∙ keeps.same_end in
+    let left : then_lines.wanted ≡ later = ap (λ l. l.wanted) then_is ∙ ap (λ w. drop 1 w) wanted in
+    rw on record {
+      work_is = refl;
+      ended_is = keeps.ended_is ∙ sym (ended-load taken load);
+      end_is = ap has_end (unpacked-load 0 taken load) ∙ keeps.end_is;
+      reads = λ open_still. reads-on awaited.place taken load (keeps.reads open_still);
+      same_end = goes;
+      pushed = keeps.pushed;
+      stands = subst (λ xs. StandsFor then_lines xs (loads (taken ++ OfLoad load ∷ [])) keeps.pushed) (sym same)
+          (subst (λ l. StandsFor then_lines (items (unpacked 0 taken)) l keeps.pushed) (sym (loads-one taken load)) now);
+      found = keeps.found ++ file ∷ [];
+      named =
+          ap files_named same ∙ keeps.named ∙ ap (λ w. keeps.found ++ w) wanted ∙ sym (append_assoc keeps.found (file ∷ []) later)
+          ∙ ap (λ w. (keeps.found ++ file ∷ []) ++ w) (sym left);
+      as_many = one-more keeps.found file (loads taken) load keeps.as_many ∙ ap length (sym (loads-one taken load));
+      none_wanted = λ e. absurd cc;
+      next = λ e. absurd cc;
+      toiling = λ e. keeps.toiling on;
+      putting = λ p e. absurd cc;
+      last = λ p e. absurd cc;
+      awaiting = λ e. absurd cc;
+    }

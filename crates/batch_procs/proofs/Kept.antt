@@ -5,6 +5,7 @@ use Rattle.batch_procs.specs.Process.{Process, Follows}
 use Rattle.batch_procs.specs.Laws.{IsRelay, Keeps}
 use Rattle.batch_procs.proofs.Relay.{sent-is-part, open-next}
 use Rattle.batch_procs.proofs.Closing.{unstopped}
+use Rattle.batch_procs.proofs.Nexts.{next-load}
 use Rattle.batch_procs.proofs.Holding.{none-next, holder-next, ended-holds_not, release-holds, request-holds_not, puts-awaited, takes-awaited}
 use Rattle.batch_procs.proofs.Ended.{ended-rightly, done-free}
 
@@ -22,4 +23,5 @@ histories_keep p h relay follows = record {
   requests = request-holds_not p h relay follows;
   room = λ page next. puts-awaited p h page relay follows next;
   item = takes-awaited p h relay follows;
+  load = λ file next. next-load p h file relay follows next;
 }

@@ -38,6 +38,7 @@ held-after p h act.Request relay follows next = refl
 held-after p h act.Release relay follows next = refl
 held-after p h (act.PutPage page) relay follows next = moves-holding p h (act.PutPage page) relay follows next tt
 held-after p h act.TakePage relay follows next = moves-holding p h act.TakePage relay follows next tt
+held-after p h (act.Load file) relay follows next = moves-holding p h (act.Load file) relay follows next tt
 held-after p h other relay follows next = not-held p h other relay follows next (λ is. is)
 
 held-lacking : (p : Process) (h : List Entry) (a : Action) (r : Reply) → IsRelay p → Follows p h → next_action p h ≡ Some a → MayLack a r
@@ -170,7 +171,8 @@ stands-new p keeps work begins = record {
 stop-caused : (p : Process) (cause : Option Outcome) (h : List Entry) (b : ℕ) → IsRelay p → next_by p cause h ≡ Some (act.Stop b)
     → (how : Outcome) × (stops_next p.buffers how h ≡ act.Stop b)
 stop-caused p None h b relay next =
-    absurd (working-no_stop (newest h) (aim p h) (act.Stop b) (aimed-no_stop p.takes (due p h) (is_ended (taken h)) (unworked p h) relay.takes) next)
+    absurd (working-no_stop (newest h) (aim p h) (act.Stop b) (aimed-no_stop p.takes (p.wants (taken h)) (due p h) (is_ended (taken h))
+    (unworked p h) relay.takes) next)
 stop-caused p (Some how) h b relay next =
     let is = closing-next (newest h) (closes p.buffers how h) (act.Stop b) next in
     let P : Bool → Type 0 = λ t. (if t then act.Release else stops_next p.buffers how h) ≡ act.Stop b → stops_next p.buffers how h ≡ act.Stop b in

@@ -8,7 +8,7 @@ use Rattle.solo_base.specs.declared.item.Feed.TheVariants as feed
 use Rattle.solo_base.specs.declared.page.Page.{Page}
 use Rattle.page_codec.specs.Reading.{PageContent, page_read}
 use Rattle.page_codec.specs.Stream.{Awaited, awaited_after}
-use Rattle.batch_procs.specs.Parcels.{Parcel, OfFeed, OfPage, OfLine, is_ended, pages}
+use Rattle.batch_procs.specs.Parcels.{Parcel, OfFeed, OfPage, OfLine, OfLoad, is_ended, pages}
 use Rattle.batch_procs.specs.Sends.{as_parcels, has_end, items, stream, end_if, items_then, behind, unpacked_by, unpacked, lines_of, lines_stream, output_lines, output_sends}
 use Rattle.batch_procs.specs.declared.actions.Reply.{Reply}
 use Rattle.batch_procs.specs.declared.actions.Reply.TheVariants as reply
@@ -53,6 +53,7 @@ pages-more [] page last = refl
 pages-more (OfPage first mark ∷ taken) page last = let rest = pages-more taken page last in omega (arith, rest)
 pages-more (OfFeed f ∷ taken) page last = pages-more taken page last
 pages-more (OfLine line ∷ taken) page last = pages-more taken page last
+pages-more (OfLoad load ∷ taken) page last = pages-more taken page last
 
 counts-on : (place n m : ℕ) → place ≡ n % 2 ^ 16 → m ≡ n + 1 → (place + 1) % 2 ^ 16 ≡ m % 2 ^ 16
 counts-on place n m is more = omega (arith, is, more)

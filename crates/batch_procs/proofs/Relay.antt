@@ -8,10 +8,10 @@ use Rattle.batch_procs.specs.declared.actions.Action.TheVariants as act
 use Rattle.batch_procs.specs.declared.actions.Reply.{Reply}
 use Rattle.batch_procs.specs.declared.actions.Reply.TheVariants as reply
 use Rattle.batch_job.specs.LinesSoFar.{IsPrefixOf}
-use Rattle.batch_procs.specs.Parcels.{Parcel, OfFeed, OfPage, OfLine, is_ended, IsMarked}
+use Rattle.batch_procs.specs.Parcels.{Parcel, OfFeed, OfPage, OfLine, OfLoad, is_ended, IsMarked}
 use Rattle.batch_procs.specs.History.{Entry, Does, LacksMemory, Delays, taken, taken_by, sent, put_by, if_done, put, holds, has_stopped, newest}
 use Rattle.batch_procs.specs.Causes.{caused}
-use Rattle.batch_procs.specs.Process.{Process, unworked, so_far, due, puts, aimed, aim, begins, working, stops_next, closes, closing, next_by, next_action, Follows}
+use Rattle.batch_procs.specs.Process.{Process, unworked, so_far, due, puts, works_on, aimed, aim, begins, working, stops_next, closes, closing, next_by, next_action, Follows}
 use Rattle.batch_procs.specs.Laws.{IsTake, IsOpen, IsRelay}
 use Rattle.batch_procs.specs.Parts.{some-same, part-same, drop-part, drop-longer}
 
@@ -25,6 +25,7 @@ IsPut other = ⊥
 pub begins-put : (aim a : Action) → begins aim ≡ a → IsPut a → aim ≡ a
 begins-put (act.PutPage page) a e put = absurd (subst IsPut (sym e) put)
 begins-put act.TakePage a e put = absurd (subst IsPut (sym e) put)
+begins-put (act.Load file) a e put = absurd (subst IsPut (sym e) put)
 begins-put other a e put = e
 
 working-put : (newest : Option Action) (aim a : Action) → working newest aim ≡ Some a → IsPut a → aim ≡ a
@@ -34,6 +35,7 @@ working-put (Some act.AwaitItem) aim a e put = absurd (subst IsPut (sym (some-sa
 working-put (Some act.Request) aim a e put = some-same aim a e
 working-put (Some (act.PutPage page)) aim a e put = absurd (subst IsPut (sym (some-same act.Release a e)) put)
 working-put (Some act.TakePage) aim a e put = absurd (subst IsPut (sym (some-same act.Release a e)) put)
+working-put (Some (act.Load file)) aim a e put = absurd (subst IsPut (sym (some-same act.Release a e)) put)
 working-put (Some (act.Ended how)) aim a e put = absurd cc
 working-put (Some other) aim a e put = begins-put aim a (some-same (begins aim) a e) put
 
@@ -71,18 +73,23 @@ takes-no_put act.TakeFeed a take e put = subst IsPut (sym e) put
 takes-no_put act.TakePage a take e put = subst IsPut (sym e) put
 takes-no_put other a take e put = absurd take
 
-pub aimed-put : (takes : Action) (due : List Parcel) (ended unworked : Bool) (a : Action) → IsTake takes → aimed takes due ended unworked ≡ a → IsPut a
-    → IsDue due a
-aimed-put takes [] true false a take e put = absurd (subst IsPut (sym e) put)
-aimed-put takes [] true true a take e put = absurd (subst IsPut (sym e) put)
-aimed-put takes [] false true a take e put = absurd (subst IsPut (sym e) put)
-aimed-put takes [] false false a take e put = absurd (takes-no_put takes a take e put)
-aimed-put takes (parcel ∷ more) ended unworked a take e put = record { first = parcel; more = more; due_is = refl; puts_it = e }
+works-no_put : (wanted : List (List ℕ)) (a : Action) → works_on wanted ≡ a → IsPut a → ⊥
+works-no_put [] a e put = subst IsPut (sym e) put
+works-no_put (file ∷ later) a e put = subst IsPut (sym e) put
+
+pub aimed-put : (takes : Action) (wanted : List (List ℕ)) (due : List Parcel) (ended unworked : Bool) (a : Action) → IsTake takes
+    → aimed takes wanted due ended unworked ≡ a → IsPut a → IsDue due a
+aimed-put takes wanted [] true false a take e put = absurd (subst IsPut (sym e) put)
+aimed-put takes wanted [] true true a take e put = absurd (works-no_put wanted a e put)
+aimed-put takes wanted [] false true a take e put = absurd (works-no_put wanted a e put)
+aimed-put takes wanted [] false false a take e put = absurd (takes-no_put takes a take e put)
+aimed-put takes wanted (parcel ∷ more) ended unworked a take e put = record { first = parcel; more = more; due_is = refl; puts_it = e }
 
 pub put-of : (parcel : Parcel) (r : Reply) → IsMarked parcel → put_by (puts parcel) r ≡ if_done r parcel
 put-of (OfFeed f) r marked = refl
 put-of (OfPage page last) r marked = ap (λ m. if_done r (OfPage page m)) marked
 put-of (OfLine line) r marked = refl
+put-of (OfLoad load) r marked = absurd marked
 
 put-none : (a : Action) (r : Reply) → ((parcel : Parcel) → if_done r parcel ≡ []) → put_by a r ≡ []
 put-none (act.PutFeed f) r none = none _
@@ -141,7 +148,7 @@ sent-done : (p : Process) (h : List Entry) (a : Action) → IsRelay p → next_a
     → IsPrefixOf (sent h ++ put_by a reply.Done) (p.sends (taken h))
 sent-done p h a relay next part =
     elim (put-or_not a reply.Done) as (λ _. IsPrefixOf (sent h ++ put_by a reply.Done) (p.sends (taken h))) [
-      | inl put ↦ put-more p h a relay part (aimed-put p.takes (due p h) (is_ended (taken h)) (unworked p h) a relay.takes
+      | inl put ↦ put-more p h a relay part (aimed-put p.takes (p.wants (taken h)) (due p h) (is_ended (taken h)) (unworked p h) a relay.takes
           (next-put p (caused h) h a next put).1 put)
       | inr none ↦ rw (none, append-nil (sent h)) part
     ]

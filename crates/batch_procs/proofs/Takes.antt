@@ -8,7 +8,7 @@ use Rattle.solo_base.specs.declared.item.Feed.TheVariants as feed
 use Rattle.page_codec.specs.Packing.{PageInHand, first_page, page_given, hand_after}
 use Rattle.batch_procs.specs.declared.actions.Reply.{Reply}
 use Rattle.batch_procs.specs.declared.actions.Reply.TheVariants as reply
-use Rattle.batch_procs.specs.Parcels.{Parcel, OfFeed, OfPage, OfLine, is_last, is_ended}
+use Rattle.batch_procs.specs.Parcels.{Parcel, OfFeed, OfPage, OfLine, OfLoad, is_last, is_ended}
 use Rattle.batch_procs.specs.History.{taken_by}
 use Rattle.batch_procs.specs.Process.{Process}
 use Rattle.batch_procs.specs.Sends.{feeds, as_parcels, as_lines, marked, has_end, items, packed, until_end, lines_of, card_sends, input_sends, printer_sends}
@@ -48,6 +48,7 @@ feeds-more [] f = refl
 feeds-more (OfFeed g ∷ some) f = ap (λ fs. g ∷ fs) (feeds-more some f)
 feeds-more (OfPage page last ∷ some) f = feeds-more some f
 feeds-more (OfLine line ∷ some) f = feeds-more some f
+feeds-more (OfLoad load ∷ some) f = feeds-more some f
 
 or-false : (t u : Bool) → (t || u) ≡ false → u ≡ false
 or-false true u e = absurd cc
@@ -59,6 +60,7 @@ no-end (OfFeed (feed.Item item) ∷ some) e = no-end some e
 no-end (OfFeed feed.End ∷ some) e = absurd cc
 no-end (OfPage page last ∷ some) e = no-end some (or-false last (is_ended some) e)
 no-end (OfLine line ∷ some) e = no-end some e
+no-end (OfLoad load ∷ some) e = no-end some e
 
 parcels-more : (some : List Feed) (f : Feed) → as_parcels (some ++ f ∷ []) ≡ as_parcels some ++ OfFeed f ∷ []
 parcels-more [] f = refl

@@ -1,10 +1,11 @@
 -- How much a process may still do before it takes again: a number that falls with each of its actions.
-use Rattle.std.specs.Prelude.{ℕ, ◌+◌, ◌*◌, ◌-◌, ◌≤◌, ◌==◌, Bool, true, false, List, [], ◌∷◌, length, Option, None, Some, if◌then◌else◌}
+use Rattle.std.specs.Prelude.{ℕ, ◌+◌, ◌*◌, ◌-◌, ◌≤◌, ◌==◌, Bool, true, false, List, [], ◌∷◌, ◌++◌, length, Option, None, Some, if◌then◌else◌}
 use Rattle.solo_base.specs.declared.outcome.Outcome.{Outcome}
 use Rattle.batch_procs.specs.declared.round.Step.{Step}
 use Rattle.batch_procs.specs.declared.round.Step.TheVariants as step
 use Rattle.batch_job.specs.LinesSoFar.{lines_of_an_item}
-use Rattle.batch_procs.specs.Parcels.{Parcel}
+use Rattle.batch_job.specs.Loads.{AreLoaded}
+use Rattle.batch_procs.specs.Parcels.{Parcel, loads, handed}
 use Rattle.batch_procs.specs.History.{Entry, Does, LacksMemory, Delays, took, put, taken, sent, holds, has_stopped, newest}
 use Rattle.batch_procs.specs.Causes.{caused}
 use Rattle.batch_procs.specs.Process.{Process, unworked, Follows}
@@ -12,13 +13,20 @@ use Rattle.batch_procs.specs.Table.{process}
 use Rattle.batch_procs.specs.Machine.{step_after}
 use Rattle.batch_procs.specs.Laws.{IsRelay}
 
--- Each parcel that is taken gives at most so many, and the end one more.
-abbrev pub GivesAtMost : ℕ → Process → Type 0
-GivesAtMost most p = (all : List Parcel) → length (p.sends all) ≤ most * length all + 1
+-- each load keeps the rules of code
+abbrev pub AreLoadsGood : List Parcel → Type 0
+AreLoadsGood all = AreLoaded (loads all)
+
+-- Each parcel that a buffer or the deck hands over gives at most so many parcels, and the end one more; and
+-- it names at most so many files.
+pub record GivesAtMost (most : ℕ) (p : Process) : Type 0 where
+  pub gives : (all : List Parcel) → AreLoadsGood all → length (p.sends all) ≤ most * length (handed all) + 1
+  pub names : (all : List Parcel) (parcel : Parcel) → length (p.wants (all ++ parcel ∷ []))
+      ≤ length (p.wants all) + most * length (handed (parcel ∷ []))
 
 -- how many parcels it may still put for what it took
 abbrev pub puts_ahead : ℕ → List Entry → ℕ
-puts_ahead most h = most * length (taken h) + 1 - length (sent h)
+puts_ahead most h = most * length (handed (taken h)) + 1 - length (sent h)
 
 -- what is left of a move of a page
 abbrev pub moves_ahead : Step → ℕ
@@ -38,12 +46,13 @@ abbrev pub unstopped : List ℕ → List Entry → ℕ
 unstopped [] h = 0
 unstopped (b ∷ later) h = (if has_stopped b h then 0 else 1) + unstopped later h
 
--- of one that closes down, and of one that works; a put weighs so much more than its calls
+-- of one that closes down, and of one that works; a put weighs so much more than its calls, and a load has
+-- two calls around it
 abbrev pub ahead_by : ℕ → ℕ → Process → Option Outcome → List Entry → ℕ
 ahead_by weight most p (Some how) h = one_if (holds h) + unstopped p.buffers h + 1
 ahead_by weight most p None h =
-    (weight + 5) * puts_ahead most h + moves_ahead (step_after (newest h)) + one_if (unworked p h)
-    + length p.buffers + 3
+    (weight + 5) * puts_ahead most h + 4 * length (p.wants (taken h)) + moves_ahead (step_after (newest h))
+    + one_if (unworked p h) + length p.buffers + 3
 
 -- behind its end there is nothing more
 abbrev pub ahead_at : Step → ℕ → ℕ
@@ -60,14 +69,15 @@ IsAnswered (Does action r) = Unit {0}
 IsAnswered (LacksMemory action r) = Unit {0}
 IsAnswered (Delays action) = ⊥
 
--- Each answered action lowers it, whatever weight is given to what it puts; only what it takes raises it.
+-- Each answered action lowers it, whatever weight is given to what it puts; only what a buffer or the deck
+-- hands over raises it.
 abbrev pub AheadFalls : Type 0
 AheadFalls =
     (weight most : ℕ) (p : Process) (h : List Entry) (entry : Entry) → IsRelay p → GivesAtMost most p
     → Follows p (entry ∷ h) →
     IsAnswered entry →
     ahead weight most p (entry ∷ h) + weight * length (put entry) + 1
-    ≤ ahead weight most p h + ((weight + 5) * most + 5) * length (took entry)
+    ≤ ahead weight most p h + ((weight + 9) * most + 5) * length (handed (took entry))
 
 -- how many parcels each of the five puts at most for one that it takes: a page has at most 506 items and its
 -- end, and for an item of a deck a program may print as many lines as the limits of ticks allow

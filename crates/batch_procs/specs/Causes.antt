@@ -46,6 +46,7 @@ given_cause action reply.NoMemory before = Some (outcome.Fault cause.NoMemory)
 given_cause action (reply.Card answer) before = fault_read answer
 given_cause action (reply.Feed f) before = None
 given_cause action (reply.Page page last) before = damage (page_read (place before) last page)
+given_cause action (reply.Loaded load) before = None
 
 -- the earlier cause stays
 abbrev pub or_new : Option Outcome → Option Outcome → Option Outcome

@@ -1,11 +1,13 @@
 -- Which replies an action may have.
+use Rattle.batch_job.specs.Loads.{IsLoaded}
 use Rattle.batch_procs.specs.declared.actions.Action.{Action}
 use Rattle.batch_procs.specs.declared.actions.Action.TheVariants as act
 use Rattle.batch_procs.specs.declared.actions.Reply.{Reply}
 use Rattle.batch_procs.specs.declared.actions.Reply.TheVariants as reply
 
 -- A take is given what it takes. A call at a buffer may be told that the other side has stopped, and a call
--- of a device that it failed; a print may be refused memory. Any other call is done.
+-- of a device that it failed; a load and a print may be refused memory. Code that is loaded keeps the rules
+-- of code. Any other call is done.
 abbrev pub Fits : Action → Reply → Type 0
 Fits act.ReadCard (reply.Card answer) = Unit {0}
 Fits (act.PutFeed f) reply.Done = Unit {0}
@@ -22,6 +24,9 @@ Fits (act.PutPage page) reply.Failed = Unit {0}
 Fits act.TakePage (reply.Page page last) = Unit {0}
 Fits act.TakePage reply.Failed = Unit {0}
 Fits act.Release reply.Done = Unit {0}
+Fits (act.Load file) (reply.Loaded load) = IsLoaded load
+Fits (act.Load file) reply.Failed = Unit {0}
+Fits (act.Load file) reply.NoMemory = Unit {0}
 Fits act.Local reply.Done = Unit {0}
 Fits (act.Print line) reply.Done = Unit {0}
 Fits (act.Print line) reply.Failed = Unit {0}

@@ -8,7 +8,7 @@ use Rattle.batch_procs.specs.declared.actions.Action.{Action}
 use Rattle.batch_procs.specs.declared.actions.Action.TheVariants as act
 use Rattle.batch_procs.specs.declared.actions.Reply.{Reply}
 use Rattle.batch_procs.specs.declared.actions.Reply.TheVariants as reply
-use Rattle.batch_procs.specs.Parcels.{Parcel, OfFeed, OfPage, OfLine, is_last, mark}
+use Rattle.batch_procs.specs.Parcels.{Parcel, OfFeed, OfPage, OfLine, OfLoad, is_last, mark}
 
 -- An action with its reply; one whose reply came without the memory to use it; or a call that waits.
 pub data Entry : Type 0 where
@@ -39,6 +39,7 @@ taken_by reply.NoMemory = []
 taken_by (reply.Card answer) = card_taken answer
 taken_by (reply.Feed f) = OfFeed f ∷ []
 taken_by (reply.Page page last) = OfPage page last ∷ []
+taken_by (reply.Loaded load) = OfLoad load ∷ []
 
 -- what one entry took
 abbrev pub took : Entry → List Parcel

@@ -4,7 +4,8 @@ use Rattle.solo_base.specs.declared.page.Page.{Page}
 use Rattle.page_codec.specs.Packing.{PageInHand, first_page}
 use Rattle.page_codec.specs.Stream.{Awaited}
 use Rattle.batch_job.specs.JobStream.{Stream, StandsFor, IsSpent, goes_on, pages_given, hand_behind}
-use Rattle.batch_procs.specs.Parcels.{Parcel, OfPage, is_ended, mark}
+use Rattle.batch_job.specs.Loads.{files_named}
+use Rattle.batch_procs.specs.Parcels.{Parcel, OfPage, is_ended, mark, loads}
 use Rattle.batch_procs.specs.Sends.{items, has_end, unpacked, marked, job_sends}
 use Rattle.batch_procs.specs.Pages.{ReadsOn}
 
@@ -28,7 +29,12 @@ pub record KeepsJob (awaited : Awaited) (lines : Stream) (packer : PageInHand) (
   -- the lines of all items that were taken are pushed, or still to be pushed
   pub same_end : goes_on lines.end ≡ not awaited.ended
   pub pushed : List (List ℕ)
-  pub stands : StandsFor lines (items (unpacked 0 taken)) pushed
+  pub stands : StandsFor lines (items (unpacked 0 taken)) (loads taken) pushed
+  -- of the files of its jobs the first are loaded, and these are wanted; none is where there is no work
+  pub found : List (List ℕ)
+  pub named : files_named (items (unpacked 0 taken)) ≡ found ++ lines.wanted
+  pub as_many : length found ≡ length (loads taken)
+  pub none_wanted : toil ≡ false → lines.wanted ≡ []
   -- what is due is the first that is left
   pub next : toil ≡ false → IsNext due (drop (length sent) (job_sends taken))
   -- where there is work to do, where a page is due, and where the next page is awaited

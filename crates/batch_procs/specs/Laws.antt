@@ -7,10 +7,11 @@ use Rattle.solo_base.specs.declared.page.Page.{Page}
 use Rattle.batch_job.specs.LinesSoFar.{IsPrefixOf}
 use Rattle.batch_procs.specs.declared.actions.Action.{Action}
 use Rattle.batch_procs.specs.declared.actions.Action.TheVariants as act
-use Rattle.batch_procs.specs.Parcels.{Parcel, is_ended, IsMarked, NothingBehind}
+use Rattle.disk_system.specs.declared.loading.Loaded.{Loaded}
+use Rattle.batch_procs.specs.Parcels.{Parcel, OfLoad, is_ended, IsMarked, NothingBehind}
 use Rattle.batch_procs.specs.History.{Entry, Does, LacksMemory, Delays, taken, sent, holds, has_stopped, newest}
 use Rattle.batch_procs.specs.Causes.{caused}
-use Rattle.batch_procs.specs.Process.{Process, Follows, next_action}
+use Rattle.batch_procs.specs.Process.{Process, unworked, Follows, next_action}
 use Rattle.batch_procs.specs.Table.{process}
 
 -- ---- kinds of actions
@@ -31,6 +32,7 @@ IsOpen other = Unit {0}
 abbrev pub IsHeld : Action → Type 0
 IsHeld (act.PutPage page) = Unit {0}
 IsHeld act.TakePage = Unit {0}
+IsHeld (act.Load file) = Unit {0}
 IsHeld act.Release = Unit {0}
 IsHeld other = ⊥
 
@@ -45,12 +47,15 @@ AreOrdered [] = Unit {0}
 AreOrdered (b ∷ later) = AreAbove b later × AreOrdered later
 
 -- It takes; a prefix of what it takes gives a prefix of what it puts; its pages carry their marks, and
--- nothing comes behind its last; its buffers stand in order, fewer than 256.
+-- nothing comes behind its last; files are loaded in order; its buffers stand in order, fewer than 256.
 pub record IsRelay (p : Process) : Type 0 where
   pub takes : IsTake p.takes
   pub monotone : (some more : List Parcel) → IsPrefixOf (p.sends some) (p.sends (some ++ more))
   pub marked : (all : List Parcel) → AllByRecursion IsMarked (p.sends all)
   pub stream : (all : List Parcel) → NothingBehind (p.sends all)
+  -- A file that is wanted is no longer so once it is loaded.
+  pub loads : (all : List Parcel) (load : Loaded) (file : List ℕ) (later : List (List ℕ))
+      → p.wants all ≡ file ∷ later → p.wants (all ++ OfLoad load ∷ []) ≡ later
   pub ordered : AreOrdered p.buffers
   pub few : length p.buffers < 2 ^ 8
 
@@ -93,6 +98,12 @@ pub record HoldsOn (next : Option Action) : Type 0 where
   pub is : next ≡ Some action
   pub held : IsHeld action
 
+-- this file is wanted first, and there is work to do
+pub record Wants (p : Process) (h : List Entry) (file : List ℕ) : Type 0 where
+  pub works : unworked p h ≡ true
+  pub later : List (List ℕ)
+  pub first : p.wants (taken h) ≡ file ∷ later
+
 -- what every history of a process has
 pub record Keeps (p : Process) (h : List Entry) : Type 0 where
   -- What it put is a prefix of its list function of what it took.
@@ -105,7 +116,7 @@ pub record Keeps (p : Process) (h : List Entry) : Type 0 where
   -- a cause closes it down
   pub closes : (a : Action) → next_action p h ≡ Some a → IsOpen a → caused h ≡ None
   pub unstopped : (b : ℕ) → caused h ≡ None → has_stopped b h ≡ false
-  -- Who holds the disk puts or takes a page next, or releases it.
+  -- Who holds the disk puts or takes a page next, loads a file, or releases it.
   pub holder : holds h ≡ true → HoldsOn (next_action p h)
   pub ended_free : HasEnded h → holds h ≡ false
   pub releases : next_action p h ≡ Some act.Release → holds h ≡ true
@@ -113,6 +124,8 @@ pub record Keeps (p : Process) (h : List Entry) : Type 0 where
   -- a page is put where room was awaited, and taken where an item was
   pub room : (page : Page) → next_action p h ≡ Some (act.PutPage page) → AwaitedRoom h
   pub item : next_action p h ≡ Some act.TakePage → AwaitedItem h
+  -- a file is loaded that is wanted first, before the work on what was taken
+  pub load : (file : List ℕ) → next_action p h ≡ Some (act.Load file) → Wants p h file
 
 -- Each of the five is a relay, and every history that it may have keeps this.
 abbrev pub TheFiveAreRelays : Type 0

@@ -21,6 +21,7 @@ step_of act.AwaitItem = step.Awaited
 step_of act.Request = step.Granted
 step_of (act.PutPage page) = step.Moved
 step_of act.TakePage = step.Moved
+step_of (act.Load file) = step.Moved
 step_of (act.Ended how) = step.Ended
 step_of other = step.Free
 

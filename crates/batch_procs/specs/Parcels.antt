@@ -3,13 +3,15 @@ use Rattle.std.specs.Prelude.{◌≡◌, ℕ, Bool, true, false, not, ◌==◌, 
 use Rattle.solo_base.specs.declared.item.Feed.{Feed}
 use Rattle.solo_base.specs.declared.item.Feed.TheVariants as feed
 use Rattle.solo_base.specs.declared.page.Page.{Page}
+use Rattle.disk_system.specs.declared.loading.Loaded.{Loaded}
 
--- What a process takes or puts: what a line buffer hands over, a page with its mark, or a line that is
--- printed.
+-- What a process takes or puts: what a line buffer hands over, a page with its mark, a line that is printed,
+-- or what a file is loaded as.
 pub data Parcel : Type 0 where
   OfFeed : Feed → Parcel
   OfPage : Page → Bool → Parcel
   OfLine : List ℕ → Parcel
+  OfLoad : Loaded → Parcel
 
 -- the mark of a last page: its byte 2 isn't 0
 abbrev pub mark : Page → Bool
@@ -21,6 +23,7 @@ is_last (OfFeed (feed.Item item)) = false
 is_last (OfFeed feed.End) = true
 is_last (OfPage page last) = last
 is_last (OfLine line) = false
+is_last (OfLoad load) = false
 
 -- whether the last is among them
 abbrev pub is_ended : List Parcel → Bool
@@ -33,30 +36,51 @@ pages [] = []
 pages (OfPage page last ∷ rest) = page ∷ pages rest
 pages (OfFeed f ∷ rest) = pages rest
 pages (OfLine line ∷ rest) = pages rest
+pages (OfLoad load ∷ rest) = pages rest
+
+-- the loads among them
+abbrev pub loads : List Parcel → List Loaded
+loads [] = []
+loads (OfLoad load ∷ rest) = load ∷ loads rest
+loads (OfFeed f ∷ rest) = loads rest
+loads (OfPage page last ∷ rest) = loads rest
+loads (OfLine line ∷ rest) = loads rest
+
+-- those that a buffer, or the deck, handed over: all but the loads
+abbrev pub handed : List Parcel → List Parcel
+handed [] = []
+handed (OfLoad load ∷ rest) = handed rest
+handed (OfFeed f ∷ rest) = OfFeed f ∷ handed rest
+handed (OfPage page last ∷ rest) = OfPage page last ∷ handed rest
+handed (OfLine line ∷ rest) = OfLine line ∷ handed rest
 
 -- ---- kinds
 abbrev pub IsAFeed : Parcel → Type 0
 IsAFeed (OfFeed f) = Unit {0}
 IsAFeed (OfPage page last) = ⊥
 IsAFeed (OfLine line) = ⊥
+IsAFeed (OfLoad load) = ⊥
 
 -- a page with its mark
 abbrev pub IsAPage : Parcel → Type 0
 IsAPage (OfFeed f) = ⊥
 IsAPage (OfPage page last) = Unit {0}
 IsAPage (OfLine line) = ⊥
+IsAPage (OfLoad load) = ⊥
 
 -- a line that is printed
 abbrev pub IsALine : Parcel → Type 0
 IsALine (OfFeed f) = ⊥
 IsALine (OfPage page last) = ⊥
 IsALine (OfLine line) = Unit {0}
+IsALine (OfLoad load) = ⊥
 
--- a page carries its own mark
+-- a page carries its own mark, and a load is never put
 abbrev pub IsMarked : Parcel → Type 0
 IsMarked (OfFeed f) = Unit {0}
 IsMarked (OfPage page last) = mark page ≡ last
 IsMarked (OfLine line) = Unit {0}
+IsMarked (OfLoad load) = ⊥
 
 -- ---- lists of them
 -- nothing comes behind the last

@@ -4,17 +4,19 @@ use Rattle.solo_base.specs.declared.outcome.Outcome.{Outcome}
 use Rattle.solo_base.specs.declared.outcome.Outcome.TheVariants as outcome
 use Rattle.batch_procs.specs.declared.actions.Action.{Action}
 use Rattle.batch_procs.specs.declared.actions.Action.TheVariants as act
-use Rattle.batch_procs.specs.Parcels.{Parcel, OfFeed, OfPage, OfLine, is_ended}
+use Rattle.batch_procs.specs.Parcels.{Parcel, OfFeed, OfPage, OfLine, OfLoad, is_ended}
 use Rattle.batch_procs.specs.History.{Entry, Does, LacksMemory, Delays, action_of, taken, sent, holds, has_stopped, newest, is_unworked}
 use Rattle.batch_procs.specs.Fits.{Fits, MayLack, MayWait}
 use Rattle.batch_procs.specs.Causes.{caused}
 
 -- What tells one process from another: how it takes; its list function, from all that it takes to all that it
--- puts; whether it works on a page before it puts; and its buffers in order of number.
+-- puts; whether it works on a page before it puts; the files that are still to be loaded before its work is
+-- done, in order; and its buffers in order of number.
 pub record Process : Type 0 where
   pub takes : Action
   pub sends : List Parcel → List Parcel
   pub works : Bool
+  pub wants : List Parcel → List (List ℕ)
   pub buffers : List ℕ
 
 -- ---- what is due
@@ -35,28 +37,37 @@ abbrev pub puts : Parcel → Action
 puts (OfFeed f) = act.PutFeed f
 puts (OfPage page last) = act.PutPage page
 puts (OfLine line) = act.Print line
+puts (OfLoad load) = act.Local
+
+-- before it works it loads the files that are wanted
+abbrev pub works_on : List (List ℕ) → Action
+works_on [] = act.Local
+works_on (file ∷ later) = act.Load file
 
 -- It puts what is due, else works, else takes. Its work is done when all is put and the last was taken.
-abbrev pub aimed : Action → List Parcel → Bool → Bool → Action
-aimed takes (parcel ∷ more) ended unworked = puts parcel
-aimed takes [] true false = act.Ended outcome.Done
-aimed takes [] false false = takes
-aimed takes [] true true = act.Local
-aimed takes [] false true = act.Local
+abbrev pub aimed : Action → List (List ℕ) → List Parcel → Bool → Bool → Action
+aimed takes wanted (parcel ∷ more) ended unworked = puts parcel
+aimed takes wanted [] true false = act.Ended outcome.Done
+aimed takes wanted [] false false = takes
+aimed takes wanted [] true true = works_on wanted
+aimed takes wanted [] false true = works_on wanted
 
 -- what it aims at behind this history
 abbrev pub aim : Process → List Entry → Action
-aim p h = aimed p.takes (due p h) (is_ended (taken h)) (unworked p h)
+aim p h = aimed p.takes (p.wants (taken h)) (due p h) (is_ended (taken h)) (unworked p h)
 
 -- the same by what it took and put, and whether there is work to do
 abbrev pub aim_at : Process → List Parcel → List Parcel → Bool → Action
 aim_at p taken sent unworked =
-    aimed p.takes (drop (length sent) (if unworked then sent else p.sends taken)) (is_ended taken) unworked
+    aimed p.takes (p.wants taken) (drop (length sent) (if unworked then sent else p.sends taken))
+    (is_ended taken)
+    unworked
 
--- ---- the calls around a move of a page: await, request, move, release
+-- ---- the calls around a move of a page: await, request, move, release; a load awaits nothing
 abbrev pub begins : Action → Action
 begins (act.PutPage page) = act.AwaitRoom
 begins act.TakePage = act.AwaitItem
+begins (act.Load file) = act.Request
 begins other = other
 
 -- by the newest action: what comes next on the way to its aim
@@ -67,6 +78,7 @@ working (Some act.AwaitItem) aim = Some act.Request
 working (Some act.Request) aim = Some aim
 working (Some (act.PutPage page)) aim = Some act.Release
 working (Some act.TakePage) aim = Some act.Release
+working (Some (act.Load file)) aim = Some act.Release
 working (Some (act.Ended how)) aim = None
 working (Some other) aim = Some (begins aim)
 

@@ -1,5 +1,5 @@
 -- The five processes are relays.
-use Rattle.std.proofs.Common.{lit<, ◌≡◌, ℕ, ◌+◌, ◌%◌, ◌^◌, ◌==◌, Bool, true, false, if◌then◌else◌, List, [], ◌∷◌, ◌++◌, Option, None, Some, Result, Ok, Err, refl, sym, ap, subst}
+use Rattle.std.proofs.Common.{lit<, ◌≡◌, ℕ, zero, suc, ◌+◌, ◌%◌, ◌^◌, ◌==◌, Bool, true, false, if◌then◌else◌, List, [], ◌∷◌, ◌++◌, length, drop, Option, None, Some, Result, Ok, Err, refl, sym, ◌∙◌, ap, subst}
 use Rattle.std.specs.Prelude.{map, option_to_list}
 use Rattle.std.specs.List.{AllByRecursion}
 use Rattle.solo_base.specs.declared.item.Item.{Item}
@@ -11,12 +11,14 @@ use Rattle.page_codec.specs.declared.judge.BadPage.{BadPage}
 use Rattle.page_codec.specs.Form.{page_of}
 use Rattle.page_codec.specs.Packing.{PageInHand, fits, first_page, page_given, hand_after}
 use Rattle.page_codec.specs.Reading.{PageContent, page_read}
-use Rattle.batch_job.specs.LinesSoFar.{IsPrefixOf, lines_so_far}
-use Rattle.batch_job.proofs.LinesSoFar.{lines_go_on}
-use Rattle.batch_procs.specs.Parcels.{Parcel, OfFeed, OfPage, OfLine, mark, IsMarked, NothingBehind}
+use Rattle.disk_system.specs.declared.loading.Loaded.{Loaded}
+use Rattle.batch_job.specs.Loads.{files_named}
+use Rattle.batch_job.specs.LinesSoFar.{IsPrefixOf, lines_so_far, is_whole}
+use Rattle.batch_job.proofs.LinesSoFar.{lines_go_on, loads_go_on, never_whole}
+use Rattle.batch_procs.specs.Parcels.{Parcel, OfFeed, OfPage, OfLine, OfLoad, loads, mark, IsMarked, NothingBehind}
 use Rattle.batch_procs.specs.Process.{Process}
-use Rattle.batch_procs.specs.Sends.{feeds, as_parcels, as_lines, marked, has_end, items, stream, packed, items_then, behind, unpacked_by, unpacked, until_end, lines_of, job_lines, output_lines}
-use Rattle.batch_procs.specs.Table.{card, input, job, output, printer, nobody, process}
+use Rattle.batch_procs.specs.Sends.{feeds, as_parcels, as_lines, marked, has_end, items, stream, packed, items_then, behind, unpacked_by, unpacked, until_end, lines_of, lines_stream, job_lines, job_sends, job_wants, output_lines}
+use Rattle.batch_procs.specs.Table.{no_wants, card, input, job, output, printer, nobody, process}
 use Rattle.batch_procs.specs.Laws.{IsRelay}
 use Rattle.batch_procs.specs.Parts.{IsMonotone, behind-both, part-same, part-cons, part-front}
 
@@ -26,6 +28,7 @@ feeds-monotone [] more = (feeds more, refl)
 feeds-monotone (OfFeed f ∷ some) more = part-cons f _ _ (feeds-monotone some more)
 feeds-monotone (OfPage page last ∷ some) more = feeds-monotone some more
 feeds-monotone (OfLine line ∷ some) more = feeds-monotone some more
+feeds-monotone (OfLoad load ∷ some) more = feeds-monotone some more
 
 as_parcels-monotone : IsMonotone as_parcels
 as_parcels-monotone [] more = (as_parcels more, refl)
@@ -68,6 +71,7 @@ pub unpacked-monotone : (place : ℕ) → IsMonotone (unpacked place)
 unpacked-monotone place [] more = (unpacked place more, refl)
 unpacked-monotone place (OfPage page last ∷ some) more = unpacked-part (page_read place last page) last _ _
     (unpacked-monotone ((place + 1) % 2 ^ 16) some more)
+unpacked-monotone place (OfLoad load ∷ some) more = unpacked-monotone place some more
 unpacked-monotone place (OfFeed f ∷ some) more = ([], refl)
 unpacked-monotone place (OfLine line ∷ some) more = ([], refl)
 
@@ -121,6 +125,100 @@ stream-monotone makes part some more =
           ++ more)))) (sym on.items_are) (part (items some) (items more) (has_end (some ++ more)))))
     ] refl
 
+-- ---- the lines of a job process, with more pages and more loads
+same-part : {A : Type 0} (part whole : List A) → part ≡ whole → IsPrefixOf part whole
+same-part part whole is = subst (λ all. IsPrefixOf part all) is (part-same part)
+
+jobs-on-ended : (xs : List Item) (found later : List Loaded) (t : Bool) → is_whole xs found true ≡ t
+    → IsPrefixOf (stream (map Line (lines_so_far xs found true)) t)
+    (stream (map Line (lines_so_far xs (found ++ later) true)) (is_whole xs (found ++ later) true))
+jobs-on-ended xs found later true whole =
+    let on = (loads_go_on xs found later).1 whole in
+    same-part _ _ (ap (λ ls. stream (map Line ls) true) (sym on.0) ∙ ap (λ t. stream (map Line (lines_so_far xs (found ++ later) true)) t) (sym on.1))
+jobs-on-ended xs found later false lacks =
+    stream-part (map Line (lines_so_far xs found true)) (map Line (lines_so_far xs (found ++ later) true)) (is_whole xs (found ++ later) true)
+    (map-part _ _ ((loads_go_on xs found later).0 lacks))
+
+job_lines-on : (some more : List Feed) (found later : List Loaded) → IsPrefixOf (job_lines some found) (job_lines (some ++ more) (found ++ later))
+job_lines-on some more found later = by (has_end some) refl
+  where
+    by : (t : Bool) → has_end some ≡ t → IsPrefixOf (job_lines some found) (job_lines (some ++ more) (found ++ later))
+    by true e =
+        let same = ended-same some more e in
+        let now : stream (map Line (lines_so_far (items some) found true)) (is_whole (items some) found true) ≡ job_lines some found =
+        ap (λ t. stream (map Line (lines_so_far (items some) found t)) (is_whole (items some) found t)) (sym e) in
+        let then_is : stream (map Line (lines_so_far (items some) (found ++ later) true)) (is_whole (items some) (found ++ later) true)
+        ≡ job_lines (some ++ more) (found ++ later) =
+        ap (λ t. stream (map Line (lines_so_far (items some) (found ++ later) t)) (is_whole (items some) (found ++ later) t)) (sym same.1)
+        ∙ ap (λ xs. stream (map Line (lines_so_far xs (found ++ later) (has_end (some ++ more)))) (is_whole xs (found ++ later) (has_end (some ++ more))))
+        (sym same.0) in
+        subst (λ part. IsPrefixOf part (job_lines (some ++ more) (found ++ later))) now
+        (subst (λ whole. IsPrefixOf (stream (map Line (lines_so_far (items some) found true)) (is_whole (items some) found true)) whole) then_is
+        (jobs-on-ended (items some) found later (is_whole (items some) found true) refl))
+    by false e =
+        let on = goes-on some more e in
+        let t = has_end (some ++ more) in
+        let now : stream (map Line (lines_so_far (items some) found false)) false ≡ job_lines some found =
+        ap (λ w. stream (map Line (lines_so_far (items some) found false)) w) (sym (never_whole (items some) found))
+        ∙ ap (λ t. stream (map Line (lines_so_far (items some) found t)) (is_whole (items some) found t)) (sym e) in
+        let then_is : stream (map Line (lines_so_far (items some ++ items more) (found ++ later) t)) (is_whole (items (some ++ more)) (found ++ later) t)
+        ≡ job_lines (some ++ more) (found ++ later) =
+        ap (λ xs. stream (map Line (lines_so_far xs (found ++ later) t)) (is_whole (items (some ++ more)) (found ++ later) t)) (sym on.items_are) in
+        subst (λ part. IsPrefixOf part (job_lines (some ++ more) (found ++ later))) now
+        (subst (λ whole. IsPrefixOf (stream (map Line (lines_so_far (items some) found false)) false) whole) then_is
+        (stream-part (map Line (lines_so_far (items some) found false)) (map Line (lines_so_far (items some ++ items more) (found ++ later) t))
+        (is_whole (items (some ++ more)) (found ++ later) t)
+        (map-part _ _ (lines_go_on (items some) (items more) found later t))))
+
+pub loads-append : (some more : List Parcel) → loads (some ++ more) ≡ loads some ++ loads more
+loads-append [] more = refl
+loads-append (OfLoad load ∷ some) more = ap (λ ls. load ∷ ls) (loads-append some more)
+loads-append (OfFeed f ∷ some) more = loads-append some more
+loads-append (OfPage page last ∷ some) more = loads-append some more
+loads-append (OfLine line ∷ some) more = loads-append some more
+
+job-monotone : IsMonotone job_sends
+job-monotone some more =
+    let (rest, e) = unpacked-monotone 0 some more in
+    let (later, is) = job_lines-on (unpacked 0 some) rest (loads some) (loads more) in
+    let whole : job_lines (unpacked 0 some) (loads some) ++ later ≡ job_lines (unpacked 0 (some ++ more)) (loads (some ++ more)) =
+    is ∙ ap (λ fs. job_lines fs (loads some ++ loads more)) e ∙ ap (λ ls. job_lines (unpacked 0 (some ++ more)) ls) (sym (loads-append some more)) in
+    let (new, all) = packed-monotone first_page (job_lines (unpacked 0 some) (loads some)) later in
+    (new, all ∙ ap (packed first_page) whole)
+
+-- ---- a load takes the first file that is wanted
+pub unpacked-load : (place : ℕ) (all : List Parcel) (load : Loaded) → unpacked place (all ++ OfLoad load ∷ []) ≡ unpacked place all
+unpacked-load place [] load = refl
+unpacked-load place (OfPage page last ∷ all) load =
+    ap (λ fs. unpacked_by (page_read place last page) last fs) (unpacked-load ((place + 1) % 2 ^ 16) all load)
+unpacked-load place (OfLoad first ∷ all) load = unpacked-load place all load
+unpacked-load place (OfFeed f ∷ all) load = refl
+unpacked-load place (OfLine line ∷ all) load = refl
+
+one-longer : {A : Type 0} (xs : List A) (x : A) → length (xs ++ x ∷ []) ≡ suc (length xs)
+one-longer [] x = refl
+one-longer (y ∷ xs) x = ap suc (one-longer xs x)
+
+drop-next : {A : Type 0} (n : ℕ) (xs : List A) (x : A) (later : List A) → drop n xs ≡ x ∷ later → drop (suc n) xs ≡ later
+drop-next zero xs x later e = ap (λ ys. drop 1 ys) e
+drop-next (suc n) [] x later e = absurd cc
+drop-next (suc n) (y ∷ xs) x later e = drop-next n xs x later e
+
+pub loads-one : (all : List Parcel) (load : Loaded) → loads (all ++ OfLoad load ∷ []) ≡ loads all ++ load ∷ []
+loads-one all load = loads-append all (OfLoad load ∷ [])
+
+job-loads : (all : List Parcel) (load : Loaded) (file : List ℕ) (later : List (List ℕ)) → job_wants all ≡ file ∷ later
+    → job_wants (all ++ OfLoad load ∷ []) ≡ later
+job-loads all load file later e =
+    ap (λ ls. drop (length ls) (files_named (items (unpacked 0 (all ++ OfLoad load ∷ []))))) (loads-one all load)
+    ∙ ap (λ n. drop n (files_named (items (unpacked 0 (all ++ OfLoad load ∷ []))))) (one-longer (loads all) load)
+    ∙ ap (λ fs. drop (suc (length (loads all))) (files_named (items fs))) (unpacked-load 0 all load)
+    ∙ drop-next (length (loads all)) (files_named (items (unpacked 0 all))) file later e
+
+none-wanted : (all : List Parcel) (load : Loaded) (file : List ℕ) (later : List (List ℕ)) → no_wants all ≡ file ∷ later
+    → no_wants (all ++ OfLoad load ∷ []) ≡ later
+none-wanted all load file later e = absurd cc
+
 -- ---- nothing comes behind the last
 stream-ends : (xs : List Item) (ended : Bool) → NothingBehind (as_parcels (stream xs ended))
 stream-ends [] true = ((λ e. refl), tt)
@@ -173,6 +271,7 @@ card-relay = record {
       (behind-both until_end as_parcels (stream-monotone (λ xs ended. xs) (λ some more ended. (more, refl))) as_parcels-monotone);
   marked = λ all. parcels-marked (until_end (feeds all));
   stream = λ all. stream-ends (items (feeds all)) (has_end (feeds all));
+  loads = none-wanted;
   ordered = (tt, tt);
   few = lit< tt;
 }
@@ -183,21 +282,18 @@ input-relay = record {
   monotone = behind-both feeds (packed first_page) feeds-monotone (packed-monotone first_page);
   marked = λ all. packed-marked first_page (feeds all);
   stream = λ all. packed-ends first_page (feeds all);
+  loads = none-wanted;
   ordered = ((lit< tt, tt), (tt, tt));
   few = lit< tt;
 }
 
-job_lines-monotone : IsMonotone job_lines
-job_lines-monotone = stream-monotone (λ xs ended. map Line (lines_so_far xs ended)) (λ some more ended. map-part _ _ (lines_go_on some more ended))
-
 pub job-relay : IsRelay job
 job-relay = record {
   takes = tt;
-  monotone =
-      behind-both (unpacked 0) (λ all. packed first_page (job_lines all)) (unpacked-monotone 0)
-      (behind-both job_lines (packed first_page) job_lines-monotone (packed-monotone first_page));
-  marked = λ all. packed-marked first_page (job_lines (unpacked 0 all));
-  stream = λ all. packed-ends first_page (job_lines (unpacked 0 all));
+  monotone = job-monotone;
+  marked = λ all. packed-marked first_page (job_lines (unpacked 0 all) (loads all));
+  stream = λ all. packed-ends first_page (job_lines (unpacked 0 all) (loads all));
+  loads = job-loads;
   ordered = ((lit< tt, tt), (tt, tt));
   few = lit< tt;
 }
@@ -213,6 +309,7 @@ output-relay = record {
       (behind-both output_lines as_parcels output_lines-monotone as_parcels-monotone);
   marked = λ all. parcels-marked (output_lines (unpacked 0 all));
   stream = λ all. stream-ends (map Line (lines_of (items (unpacked 0 all)))) (has_end (unpacked 0 all));
+  loads = none-wanted;
   ordered = ((lit< tt, tt), (tt, tt));
   few = lit< tt;
 }
@@ -225,12 +322,21 @@ printer-relay = record {
       (behind-both items (λ xs. as_lines (lines_of xs)) items-monotone (behind-both lines_of as_lines lines_of-monotone as_lines-monotone));
   marked = λ all. lines-marked (lines_of (items (feeds all)));
   stream = λ all. lines-end (lines_of (items (feeds all)));
+  loads = none-wanted;
   ordered = (tt, tt);
   few = lit< tt;
 }
 
 nobody-relay : IsRelay nobody
-nobody-relay = record { takes = tt; monotone = λ some more. ([], refl); marked = λ all. tt; stream = λ all. tt; ordered = tt; few = lit< tt }
+nobody-relay = record {
+  takes = tt;
+  monotone = λ some more. ([], refl);
+  marked = λ all. tt;
+  stream = λ all. tt;
+  loads = none-wanted;
+  ordered = tt;
+  few = lit< tt;
+}
 
 -- what holds of two processes holds of either
 either : (Is : Process → Type 0) (t : Bool) (yes_p no_p : Process) → Is yes_p → Is no_p → Is (if t then yes_p else no_p)

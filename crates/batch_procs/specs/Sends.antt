@@ -1,5 +1,5 @@
 -- The list functions of the five processes: from all that one took to all that it should put.
-use Rattle.std.specs.Prelude.{ℕ, ◌+◌, ◌%◌, ◌^◌, Bool, true, false, List, [], ◌∷◌, ◌++◌, map, option_to_list, Result, Ok, Err}
+use Rattle.std.specs.Prelude.{ℕ, ◌+◌, ◌%◌, ◌^◌, Bool, true, false, List, [], ◌∷◌, ◌++◌, length, drop, map, option_to_list, Result, Ok, Err}
 use Rattle.solo_base.specs.declared.item.Item.{Item}
 use Rattle.solo_base.specs.declared.item.Item.TheVariants.{Line, Spoiled}
 use Rattle.solo_base.specs.declared.item.Feed.{Feed}
@@ -9,8 +9,10 @@ use Rattle.page_codec.specs.declared.judge.BadPage.{BadPage}
 use Rattle.page_codec.specs.Form.{page_of}
 use Rattle.page_codec.specs.Packing.{PageInHand, first_page, page_given, hand_after}
 use Rattle.page_codec.specs.Reading.{PageContent, page_read}
-use Rattle.batch_job.specs.LinesSoFar.{lines_so_far}
-use Rattle.batch_procs.specs.Parcels.{Parcel, OfFeed, OfPage, OfLine}
+use Rattle.disk_system.specs.declared.loading.Loaded.{Loaded}
+use Rattle.batch_job.specs.Loads.{files_named}
+use Rattle.batch_job.specs.LinesSoFar.{lines_so_far, is_whole}
+use Rattle.batch_procs.specs.Parcels.{Parcel, OfFeed, OfPage, OfLine, OfLoad, loads}
 
 -- ---- parcels and what they hold
 -- the feeds among them
@@ -19,6 +21,7 @@ feeds [] = []
 feeds (OfFeed f ∷ rest) = f ∷ feeds rest
 feeds (OfPage page last ∷ rest) = feeds rest
 feeds (OfLine line ∷ rest) = feeds rest
+feeds (OfLoad load ∷ rest) = feeds rest
 
 -- each as a parcel
 abbrev pub as_parcels : List Feed → List Parcel
@@ -79,11 +82,12 @@ abbrev pub unpacked_by : Result PageContent BadPage → Bool → List Feed → L
 unpacked_by (Ok content) last rest = items_then content.items (behind last rest)
 unpacked_by (Err bad) last rest = []
 
--- of the pages from this place of their stream on
+-- of the pages from this place of their stream on; loads are passed over
 abbrev pub unpacked : ℕ → List Parcel → List Feed
 unpacked place [] = []
 unpacked place (OfPage page last ∷ rest) =
     unpacked_by (page_read place last page) last (unpacked ((place + 1) % 2 ^ 16) rest)
+unpacked place (OfLoad load ∷ rest) = unpacked place rest
 unpacked place (OfFeed f ∷ rest) = []
 unpacked place (OfLine line ∷ rest) = []
 
@@ -110,13 +114,18 @@ card_sends taken = as_parcels (until_end (feeds taken))
 abbrev pub input_sends : List Parcel → List Parcel
 input_sends taken = packed first_page (feeds taken)
 
--- the lines so far of the items of its pages, in pages of its own
-abbrev pub job_lines : List Feed → List Feed
-job_lines all = lines_stream (lines_so_far (items all) (has_end all)) (has_end all)
+-- the lines so far of the items of its pages, up to the first job of a file that isn't loaded yet
+abbrev pub job_lines : List Feed → List Loaded → List Feed
+job_lines all found =
+    lines_stream (lines_so_far (items all) found (has_end all)) (is_whole (items all) found (has_end all))
 
--- of pages of cards, pages of the lines of their jobs
+-- of pages of cards and loads, pages of the lines of their jobs
 abbrev pub job_sends : List Parcel → List Parcel
-job_sends taken = packed first_page (job_lines (unpacked 0 taken))
+job_sends taken = packed first_page (job_lines (unpacked 0 taken) (loads taken))
+
+-- the files of its jobs that aren't loaded yet
+abbrev pub job_wants : List Parcel → List (List ℕ)
+job_wants taken = drop (length (loads taken)) (files_named (items (unpacked 0 taken)))
 
 -- the lines up to the end and with it
 abbrev pub output_lines : List Feed → List Feed

@@ -1,6 +1,7 @@
 // What a process does, and what it is answered.
 
-use solo_base::{BufferNo, Feed, Line, Outcome, Page};
+use disk_system::Loaded;
+use solo_base::{BufferNo, Feed, Ident, Line, Outcome, Page};
 use solo_devices::CardRead;
 
 /// What a process does.
@@ -22,6 +23,8 @@ pub enum Action {
     PutPage(Page),
     /// Takes a page from the spool before it.
     TakePage,
+    /// Loads the program of a job from the file of this name.
+    Load(Ident),
     /// Gives the disk back.
     Release,
     /// Works on what it took.
@@ -51,4 +54,6 @@ pub enum Reply {
     Feed(Feed),
     /// The page that was taken from a spool, and the mark with which it was put.
     Page { page: Page, last: bool },
+    /// What was found of the program of a job.
+    Loaded(Loaded),
 }

@@ -5,6 +5,7 @@ use crate::feeds::copy;
 use crate::machine::Machine;
 use crate::work::Work;
 use crate::{Action, Reply};
+use disk_system::Loaded;
 use solo_base::{BufferNo, Cause, Feed, Item, NoMemory, Outcome};
 use solo_devices::CardRead;
 use std::alloc::Global;
@@ -65,10 +66,12 @@ impl Work for CardWork {
             }
             Reply::Card(CardRead::Failed) => return Ok(Some(Outcome::Fault(Cause::ReadFault))),
             Reply::Card(CardRead::Limit) => return Ok(Some(Outcome::Fault(Cause::DeckLimit))),
-            _ => {}
+            _other => {}
         }
         Ok(None)
     }
+
+    fn load(&mut self, _loaded: Loaded) {}
 
     fn work(&mut self) -> Result<(), NoMemory> {
         Ok(())

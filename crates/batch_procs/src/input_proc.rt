@@ -3,6 +3,7 @@ ghost use Rattle.std.specs.Prelude.{◌≡◌, option_to_list};
 use crate::machine::Machine;
 use crate::work::Work;
 use crate::{Action, Reply};
+use disk_system::Loaded;
 use page_codec::Packer;
 use solo_base::{BufferNo, Feed, NoMemory, Outcome, Page};
 use std::alloc::Global;
@@ -65,10 +66,12 @@ impl Work for InputWork {
                 self.due = Some(packer.finish());
                 self.ended = true;
             }
-            _ => {}
+            _other => {}
         }
         Ok(None)
     }
+
+    fn load(&mut self, _loaded: Loaded) {}
 
     fn work(&mut self) -> Result<(), NoMemory> {
         Ok(())

@@ -1,4 +1,6 @@
-ghost use Rattle.std.specs.Prelude.{◌≡◌};
+ghost use Rattle.std.specs.Prelude.{◌≡◌, ℕ, List};
+ghost use Rattle.batch_job.specs.Loads.{first_of};
+ghost use Rattle.batch_procs.specs.Process.{works_on};
 
 use crate::machine::Machine;
 use crate::output_proc::damage;
@@ -6,8 +8,9 @@ use crate::pages::Pages;
 use crate::work::Work;
 use crate::{Action, Reply};
 use batch_job::JobStream;
+use disk_system::Loaded;
 use page_codec::Packer;
-use solo_base::{BufferNo, NoMemory, Outcome, Page};
+use solo_base::{BufferNo, Ident, NoMemory, Outcome, Page};
 use std::alloc::Global;
 use std::mem;
 
@@ -16,7 +19,7 @@ use std::mem;
 pub type JobProc = Machine<JobWork>;
 
 /// What the job process keeps: the pages that it awaits, the lines of their items, the page in hand and
-/// the page that is due, and whether there is work to do.
+/// the page that is due, and whether there is work to do. Files are loaded before the work on a page.
 #[derive(Debug, Drop)]
 pub struct JobWork {
     pages: Pages,
@@ -54,7 +57,7 @@ impl Work for JobWork {
     fn aim(&self) -> Action {
         match &self.due {
             Some(page) => Action::PutPage(*page),
-            None if self.unworked => Action::Local,
+            None if self.unworked => work_on(self.lines.wants()),
             None if self.pages.is_ended() => Action::Ended(Outcome::Done),
             None => Action::TakePage,
         }
@@ -83,7 +86,14 @@ impl Work for JobWork {
         }
     }
 
+    fn load(&mut self, loaded: Loaded) {
+        self.lines.load(loaded);
+    }
+
     fn work(&mut self) -> Result<(), NoMemory> {
+        if self.lines.wants().is_some() {
+            return Ok(());
+        }
         self.unworked = false;
         match self.lines.pack(&mut self.packer)? {
             Some(page) => {
@@ -97,5 +107,15 @@ impl Work for JobWork {
             }
             None => Ok(()),
         }
+    }
+}
+
+/// Before it works the process loads the files that are wanted.
+fn work_on(wanted: Option<Ident>) -> Action
+    ensures { (files : List (List ℕ)) → wanted ≡ first_of files → result ≡ works_on files }
+{
+    match wanted {
+        Some(file) => Action::Load(file),
+        None => Action::Local,
     }
 }

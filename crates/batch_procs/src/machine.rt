@@ -127,13 +127,15 @@ ghost use Rattle.batch_procs.specs.Process.{begins};
 ghost use Rattle.batch_procs.specs.Causes.{fault_at, or_new};
 ghost use Rattle.batch_procs.specs.Machine.{Answers, stops_after};
 
-/// The first call of what a process aims at: a move of a page begins with an await.
+/// The first call of what a process aims at: a move of a page begins with an await, and a load asks for the
+/// disk.
 fn begin(aim: Action) -> Action
     ensures { result ≡ begins aim }
 {
     match aim {
         Action::PutPage(_) => Action::AwaitRoom,
         Action::TakePage => Action::AwaitItem,
+        Action::Load(_) => Action::Request,
         other => other,
     }
 }
@@ -166,6 +168,10 @@ fn answer<W: Work>(work: &mut W, action: &Action, reply: Reply) -> Result<Option
         Reply::Stopped => Ok(Some(Outcome::Stopped)),
         Reply::Failed => Ok(Some(Outcome::Fault(fault_at(action)))),
         Reply::NoMemory => Ok(Some(Outcome::Fault(Cause::NoMemory))),
+        Reply::Loaded(loaded) => {
+            work.load(loaded);
+            Ok(None)
+        }
         handed => work.take(handed),
     }
 }

@@ -8,6 +8,7 @@ use crate::machine::Machine;
 use crate::pages::Pages;
 use crate::work::Work;
 use crate::{Action, Reply};
+use disk_system::Loaded;
 use page_codec::{BadPage, PageItems};
 use solo_base::{BufferNo, Cause, Feed, Item, Line, NoMemory, Outcome};
 use std::alloc::Global;
@@ -80,6 +81,8 @@ impl Work for OutputWork {
             Err(bad) => Ok(Some(Outcome::Fault(damage(bad)))),
         }
     }
+
+    fn load(&mut self, _loaded: Loaded) {}
 
     fn work(&mut self) -> Result<(), NoMemory> {
         Ok(())

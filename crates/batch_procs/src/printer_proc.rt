@@ -3,6 +3,7 @@ ghost use Rattle.std.specs.Prelude.{◌≡◌, option_to_list};
 use crate::machine::Machine;
 use crate::work::Work;
 use crate::{Action, Reply};
+use disk_system::Loaded;
 use solo_base::{BufferNo, Feed, Item, Line, NoMemory, Outcome};
 use std::alloc::Global;
 
@@ -53,12 +54,17 @@ impl Work for PrinterWork {
     }
 
     fn take(&mut self, reply: Reply) -> Result<Option<Outcome>, NoMemory> {
-        if let Reply::Feed(feed) = reply {
-            self.ended = is_end(&feed);
-            self.due = line_of(feed);
+        match reply {
+            Reply::Feed(feed) => {
+                self.ended = is_end(&feed);
+                self.due = line_of(feed);
+            }
+            _other => {}
         }
         Ok(None)
     }
+
+    fn load(&mut self, _loaded: Loaded) {}
 
     fn work(&mut self) -> Result<(), NoMemory> {
         Ok(())

@@ -10,9 +10,9 @@ pub enum Step {
     Free,
     /// It awaited room or a page, and asks for the disk.
     Awaited,
-    /// It holds the disk, and moves a page.
+    /// It holds the disk, and moves a page or loads a file.
     Granted,
-    /// It moved the page, and gives the disk back.
+    /// It did so, and gives the disk back.
     Moved,
     /// It has ended.
     Ended,
@@ -26,7 +26,7 @@ impl Step {
         match action {
             Action::AwaitRoom | Action::AwaitItem => Step::Awaited,
             Action::Request => Step::Granted,
-            Action::PutPage(_) | Action::TakePage => Step::Moved,
+            Action::PutPage(_) | Action::TakePage | Action::Load(_) => Step::Moved,
             Action::Ended(_) => Step::Ended,
             _ => Step::Free,
         }

@@ -2,6 +2,7 @@
 
 use crate::work::Work;
 use crate::{Action, Machine, Reply};
+use disk_system::Loaded;
 use page_codec::Packer;
 use solo_base::{Cause, Feed, Item, Line, Outcome, Page};
 use solo_devices::CardRead;
@@ -76,6 +77,10 @@ pub fn put_action(text: &mut Vec<u8>, action: &Action) -> Result<(), Fail> {
         Action::PutPage(page) => put_page(text, page)?,
         Action::TakePage => text.extend_from_slice(b"TakePage")?,
         Action::Release => text.extend_from_slice(b"Release")?,
+        Action::Load(file) => {
+            text.extend_from_slice(b"Load ")?;
+            text.extend_from_slice(file.name())?;
+        }
         Action::Local => text.extend_from_slice(b"Local")?,
         Action::Print(line) => {
             text.extend_from_slice(b"Print ")?;
@@ -155,6 +160,7 @@ impl Supply<'_> {
             Action::ReadCard => Reply::Card(self.card()),
             Action::TakeFeed => Reply::Feed(self.feed()),
             Action::TakePage => self.page(),
+            Action::Load(_) => Reply::Loaded(Loaded::NoFile),
             _ => Reply::Done,
         }
     }

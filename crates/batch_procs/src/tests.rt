@@ -119,6 +119,35 @@ fn the_job_process_works_behind_each_page(rt: HostRuntime) -> Result<(), Fail> {
 }
 
 #[test]
+fn the_job_process_loads_each_file_before_it_works(rt: HostRuntime) -> Result<(), Fail> {
+    for (trouble, want) in [
+        (
+            Trouble::None,
+            b"AwaitItem|Request|TakePage|Release|Request|Load PROG|Release|Request|Load OTHER|\
+              Release|Local|AwaitRoom|Request|PutPage 0 034 last|Release|Ended Done|"
+                .as_slice(),
+        ),
+        (
+            Trouble::Failure(5),
+            b"AwaitItem|Request|TakePage|Release|Request|Load PROG|Release|Stop 2|Stop 3|\
+              Ended DiskFault|"
+                .as_slice(),
+        ),
+        (
+            Trouble::Refusal(8),
+            b"AwaitItem|Request|TakePage|Release|Request|Load PROG|Release|Request|Load OTHER|\
+              Release|Stop 2|Stop 3|Ended NoMemory|"
+                .as_slice(),
+        ),
+    ] {
+        let cards = [b"#RUN A PROG".as_slice(), b"X", b"#RUN B OTHER"];
+        let text = actions::<JobWork>(rt.alloc(), &cards, trouble)?;
+        assert_eq!(rt; text.as_slice(), want);
+    }
+    Ok(())
+}
+
+#[test]
 fn a_listing_of_two_pages_goes_out_as_they_fill(rt: HostRuntime) -> Result<(), Fail> {
     for (columns, want) in [
         (

@@ -1,5 +1,5 @@
 ghost use Rattle.std.specs.Prelude.{◌≡◌, ◌++◌, ◌∷◌, ◌&&◌, ℕ, Bool, true, false, not, List, [], length, drop, slice_get, IfOk, OnOk, OnErr};
-ghost use Rattle.batch_procs.specs.Parcels.{Parcel, is_last};
+ghost use Rattle.batch_procs.specs.Parcels.{Parcel, OfLoad, is_last};
 ghost use Rattle.batch_procs.specs.Process.{Process, aim_at};
 ghost use Rattle.batch_procs.specs.declared.actions.Action.TheVariants as act;
 ghost use Rattle.batch_procs.specs.Fits.{MayLack};
@@ -7,6 +7,7 @@ ghost use Rattle.batch_procs.specs.Laws.{IsRelay};
 ghost use Rattle.batch_procs.specs.Work.{MayTake, Takes};
 
 use crate::{Action, Reply};
+use disk_system::Loaded;
 use solo_base::{BufferNo, NoMemory, Outcome};
 use std::alloc::Global;
 
@@ -44,9 +45,15 @@ pub trait Work {
             IfOk result (λ cause. Takes process (keeps self.new) taken sent reply cause) }
         ensures err { OnErr result ((process.works ≡ true) × MayLack act.TakePage reply) };
 
-    /// Works on what was taken.
+    /// Takes what the file was loaded as that is wanted first.
+    fn load(&mut self, loaded: Loaded)
+        ensures { (taken sent : List Parcel) (file : List ℕ) (later : List (List ℕ))
+            → keeps self.old taken sent true → process.wants taken ≡ file ∷ later
+            → keeps self.new (taken ++ OfLoad loaded ∷ []) sent true };
+
+    /// Works on what was taken. No file is wanted.
     fn work(&mut self) -> Result<(), NoMemory>
-        ensures ok { (taken sent : List Parcel) → keeps self.old taken sent true
+        ensures ok { (taken sent : List Parcel) → keeps self.old taken sent true → process.wants taken ≡ []
             → OnOk result (keeps self.new taken sent false) }
         ensures err { OnErr result (process.works ≡ true) };
 
