@@ -17,7 +17,7 @@ use Rattle.batch_procs.specs.Laws.{AwaitedRoom, AwaitedItem}
 use Rattle.batch_procs.proofs.Closing.{or-none}
 use Rattle.batch_procs.proofs.Holding.{some-not_none}
 use Rattle.network_law.specs.Acts as acts
-use Rattle.network_law.specs.Acts.{Call, Alone, At, Asks, Gives, Visit, Awaits, Passes, Moves, Stops, Went, Delayed, Told, Done, Moved, is_same, if_at, moved_by, made_stop, found_by, found_ready, holds_by}
+use Rattle.network_law.specs.Acts.{Delayed, is_same, made_stop, found_by, found_ready, holds_by}
 use Rattle.network_law.specs.Network as law
 use Rattle.network_law.proofs.Numbers.{same-number, other-number}
 use Rattle.core_law.specs.Core.{upstream, seat, side_at, call, went_by, went, core}
@@ -64,6 +64,7 @@ stop-does p b side act.Request is = refl
 stop-does p b side (act.PutPage page) is = refl
 stop-does p b side act.TakePage is = refl
 stop-does p b side act.Release is = refl
+stop-does p b side (act.Load file) is = refl
 stop-does p b side act.Local is = refl
 stop-does p b side (act.Print line) is = refl
 stop-does p b side (act.Ended how) is = refl
@@ -104,6 +105,7 @@ holds-does p before act.AwaitRoom r fits = refl
 holds-does p before act.AwaitItem r fits = refl
 holds-does p before (act.PutPage page) r fits = refl
 holds-does p before act.TakePage r fits = refl
+holds-does p before (act.Load file) r fits = refl
 holds-does p before act.Local r fits = refl
 holds-does p before (act.Print line) r fits = refl
 holds-does p before (act.Stop b) r fits = refl

@@ -1,217 +1,34 @@
 -- A call that may be made is answered: no device has to fail, and no memory to be refused.
 use Rattle.std.proofs.Common.{◌≡◌, ℕ, zero, suc, ◌<◌, Bool, false, List, [], ◌∷◌, ◌++◌, length, drop, map, Option, None, Some, refl, sym, ◌∙◌, ap, subst, arith}
 use Rattle.std.specs.List.{AllByRecursion}
-use Rattle.solo_base.specs.declared.item.Item.{Item}
-use Rattle.solo_base.specs.declared.item.Item.TheVariants.{Line, Spoiled}
 use Rattle.solo_base.specs.declared.item.Feed.{Feed}
 use Rattle.solo_base.specs.declared.page.Page.{Page}
 use Rattle.solo_base.specs.declared.outcome.Side.{Side}
 use Rattle.solo_base.specs.declared.outcome.Side.TheVariants.{Sender, Receiver}
 use Rattle.solo_base.specs.Text.{line_text}
-use Rattle.solo_devices.specs.declared.card_read.CardRead.TheVariants as read
 use Rattle.page_codec.specs.Form.{page_of}
 use Rattle.queue_var.specs.Sides.{stopped_by}
 use Rattle.batch_procs.specs.declared.actions.Action.{Action}
 use Rattle.batch_procs.specs.declared.actions.Action.TheVariants as act
 use Rattle.batch_procs.specs.declared.actions.Reply.TheVariants as reply
-use Rattle.batch_procs.specs.Parcels.{Parcel, OfFeed, OfPage, OfLine, is_last, IsAFeed, IsAPage}
-use Rattle.batch_procs.specs.History.{Entry, Does, Delays, action_of, taken, sent}
-use Rattle.batch_procs.specs.Process.{Process, IsFitting, Follows, next_action}
+use Rattle.batch_procs.specs.Parcels.{Parcel, OfFeed, OfPage, OfLine, OfLoad, is_last, IsAFeed, IsAPage}
+use Rattle.batch_procs.specs.History.{Entry, Does, taken, sent}
+use Rattle.batch_procs.specs.Process.{Process, Follows, next_action}
 use Rattle.batch_procs.proofs.Relay.{open-next, sent-is-part}
 use Rattle.batch_procs.proofs.Holding.{takes-awaited}
 use Rattle.network_law.specs.Acts.{Passes, Moves}
-use Rattle.network_law.specs.Buffer.{Buffer, Found, Ready, Lacking, Closed, found, parcel_found, IsFirst}
+use Rattle.network_law.specs.Buffer.{Buffer, Ready, found, parcel_found, IsFirst}
 use Rattle.network_law.specs.Network.{IsEnabled, MayCall, Fits}
 use Rattle.network_law.specs.Kept.{IsTold, Stands, passed}
-use Rattle.core_law.specs.Core.{Allows, upstream, call, went, core, CoreState, CoreEvent, IsBuffer}
+use Rattle.core_law.specs.Core.{call, went, core, CoreState, CoreEvent, IsBuffer}
 use Rattle.core_law.specs.Ends.{IsProcess, IsSmooth}
+use Rattle.core_law.specs.Opening.{AreGoodFiles}
+use Rattle.core_law.proofs.Coming.{Comes, deck-comes, ask-comes, load-comes, put-comes, room-comes, item-comes, take-comes}
 use Rattle.core_law.proofs.Row.{IsRow}
 use Rattle.core_law.proofs.Taking.{next-take}
 use Rattle.core_law.proofs.Acting.{follows-of, item-ready}
 use Rattle.core_law.proofs.Passed.{passed-sent}
 use Rattle.core_law.proofs.Places.{call-buffer}
-
--- an entry that may come, with the bytes that the devices gain
-pub record Comes (row : ℕ → Process) (s : CoreState) (p : ℕ) (a : Action) : Type 0 where
-  pub entry : Entry
-  pub gained : List ℕ
-  pub action_is : action_of entry ≡ a
-  pub suits : IsFitting (row p) entry
-  pub fits : Fits is_last s (call p a) (went entry)
-  pub allowed : Allows s.devices entry gained
-  pub smooth : IsSmooth entry
-
--- ---- the deck
-deck-comes : (row : ℕ → Process) (s : CoreState) (p : ℕ) (deck : Option (List Item)) → s.devices.deck ≡ deck → Comes row s p act.ReadCard
-deck-comes row s p None e = record {
-  entry = Does act.ReadCard (reply.Card read.End);
-  gained = [];
-  action_is = refl;
-  suits = tt;
-  fits = refl;
-  allowed = (record { item = λ items told. absurd (let no = sym e ∙ told in cc); end = λ items told is. absurd (let no = sym e ∙ told in cc) }, refl);
-  smooth = tt;
-}
-deck-comes row s p (Some []) e = record {
-  entry = Does act.ReadCard (reply.Card read.End);
-  gained = [];
-  action_is = refl;
-  suits = tt;
-  fits = refl;
-  allowed = (record { item = λ items told. (items, refl); end = λ items told is. (let same = sym e ∙ told in cc) }, refl);
-  smooth = tt;
-}
-deck-comes row s p (Some (Line line ∷ rest)) e = record {
-  entry = Does act.ReadCard (reply.Card (read.Card line));
-  gained = [];
-  action_is = refl;
-  suits = tt;
-  fits = refl;
-  allowed = (record { item = λ items told. (rest, (let same = sym told ∙ e in cc)); end = λ items told is. absurd cc }, refl);
-  smooth = tt;
-}
-deck-comes row s p (Some (Spoiled ∷ rest)) e = record {
-  entry = Does act.ReadCard (reply.Card read.Spoiled);
-  gained = [];
-  action_is = refl;
-  suits = tt;
-  fits = refl;
-  allowed = (record { item = λ items told. (rest, (let same = sym told ∙ e in cc)); end = λ items told is. absurd cc }, refl);
-  smooth = tt;
-}
-
--- ---- the desk
-ask-comes : (row : ℕ → Process) (s : CoreState) (p : ℕ) (handed holder : Option ℕ) → s.desk.claims.handed ≡ handed → s.desk.claims.holder ≡ holder
-    → Comes row s p act.Request
-ask-comes row s p (Some q) holder turn held = record {
-  entry = Does act.Request reply.Done;
-  gained = [];
-  action_is = refl;
-  suits = tt;
-  fits = rw turn refl;
-  allowed = refl;
-  smooth = tt;
-}
-ask-comes row s p None None turn held = record {
-  entry = Does act.Request reply.Done;
-  gained = [];
-  action_is = refl;
-  suits = tt;
-  fits = rw (turn, held) refl;
-  allowed = refl;
-  smooth = tt;
-}
-ask-comes row s p None (Some q) turn held = record {
-  entry = Delays act.Request;
-  gained = [];
-  action_is = refl;
-  suits = tt;
-  fits = rw (turn, held) refl;
-  allowed = refl;
-  smooth = tt;
-}
-
--- ---- waiting calls
-put-comes : (row : ℕ → Process) (s : CoreState) (p : ℕ) (f : Feed) (finds : Found) → found (s.buffers p) Sender ≡ finds → Comes row s p (act.PutFeed f)
-put-comes row s p f Ready e = record {
-  entry = Does (act.PutFeed f) reply.Done;
-  gained = [];
-  action_is = refl;
-  suits = tt;
-  fits = rw e tt;
-  allowed = refl;
-  smooth = tt;
-}
-put-comes row s p f Lacking e = record {
-  entry = Delays (act.PutFeed f);
-  gained = [];
-  action_is = refl;
-  suits = tt;
-  fits = rw e tt;
-  allowed = refl;
-  smooth = tt;
-}
-put-comes row s p f Closed e = record {
-  entry = Does (act.PutFeed f) reply.Stopped;
-  gained = [];
-  action_is = refl;
-  suits = tt;
-  fits = rw e tt;
-  allowed = refl;
-  smooth = tt;
-}
-
-room-comes : (row : ℕ → Process) (s : CoreState) (p : ℕ) (finds : Found) → found (s.buffers p) Sender ≡ finds → Comes row s p act.AwaitRoom
-room-comes row s p Ready e = record {
-  entry = Does act.AwaitRoom reply.Done;
-  gained = [];
-  action_is = refl;
-  suits = tt;
-  fits = rw e refl;
-  allowed = refl;
-  smooth = tt;
-}
-room-comes row s p Lacking e = record { entry = Delays act.AwaitRoom; gained = []; action_is = refl; suits = tt; fits = rw e refl; allowed = refl; smooth = tt }
-room-comes row s p Closed e = record {
-  entry = Does act.AwaitRoom reply.Stopped;
-  gained = [];
-  action_is = refl;
-  suits = tt;
-  fits = rw e refl;
-  allowed = refl;
-  smooth = tt;
-}
-
-item-comes : (row : ℕ → Process) (s : CoreState) (p : ℕ) (finds : Found) → found (s.buffers (upstream p)) Receiver ≡ finds → Comes row s p act.AwaitItem
-item-comes row s p Ready e = record {
-  entry = Does act.AwaitItem reply.Done;
-  gained = [];
-  action_is = refl;
-  suits = tt;
-  fits = rw e refl;
-  allowed = refl;
-  smooth = tt;
-}
-item-comes row s p Lacking e = record { entry = Delays act.AwaitItem; gained = []; action_is = refl; suits = tt; fits = rw e refl; allowed = refl; smooth = tt }
-item-comes row s p Closed e = record {
-  entry = Does act.AwaitItem reply.Stopped;
-  gained = [];
-  action_is = refl;
-  suits = tt;
-  fits = rw e refl;
-  allowed = refl;
-  smooth = tt;
-}
-
-take-comes : (row : ℕ → Process) (s : CoreState) (p : ℕ) (finds : Found) → found (s.buffers (upstream p)) Receiver ≡ finds
-    → (finds ≡ Ready → (f : Feed) × IsFirst is_last (s.buffers (upstream p)) (OfFeed f)) → Comes row s p act.TakeFeed
-take-comes row s p Ready e first = (let (f, is) = first refl in record {
-  entry = Does act.TakeFeed (reply.Feed f);
-  gained = [];
-  action_is = refl;
-  suits = tt;
-  fits = rw e is;
-  allowed = refl;
-  smooth = tt;
-})
-take-comes row s p Lacking e first = record {
-  entry = Delays act.TakeFeed;
-  gained = [];
-  action_is = refl;
-  suits = tt;
-  fits = rw e tt;
-  allowed = refl;
-  smooth = tt;
-}
-take-comes row s p Closed e first = record {
-  entry = Does act.TakeFeed reply.Stopped;
-  gained = [];
-  action_is = refl;
-  suits = tt;
-  fits = rw e tt;
-  allowed = refl;
-  smooth = tt;
-}
 
 -- ---- the first inside
 same-front : (front a b : List Bool) → front ++ a ≡ front ++ b → a ≡ b
@@ -246,6 +63,7 @@ first-feed buffer [] told marks are some = absurd (none-inside buffer.marks some
 first-feed buffer (OfFeed f ∷ rest) told marks are some = (f, first-is buffer (OfFeed f) rest told marks)
 first-feed buffer (OfPage page last ∷ rest) told marks are some = absurd are.0
 first-feed buffer (OfLine line ∷ rest) told marks are some = absurd are.0
+first-feed buffer (OfLoad load ∷ rest) told marks are some = absurd are.0
 
 abbrev FirstPage : Buffer Parcel → Type 0
 FirstPage buffer = (page : Page) × (last : Bool) × IsFirst is_last buffer (OfPage page last)
@@ -256,6 +74,7 @@ first-page buffer [] told marks are some = absurd (none-inside buffer.marks some
 first-page buffer (OfPage page last ∷ rest) told marks are some = (page, last, first-is buffer (OfPage page last) rest told marks)
 first-page buffer (OfFeed f ∷ rest) told marks are some = absurd are.0
 first-page buffer (OfLine line ∷ rest) told marks are some = absurd are.0
+first-page buffer (OfLoad load ∷ rest) told marks are some = absurd are.0
 
 -- where the area isn't told any page may come
 untold-page : (buffer : Buffer Parcel) (marks : List Bool) → buffer.marks ≡ marks → buffer.inside ≡ None → 0 < length buffer.marks → FirstPage buffer
@@ -270,7 +89,7 @@ some-found (Some Receiver) [] e = absurd cc
 some-found by (m ∷ marks) e = omega arith
 
 module _ {row : ℕ → Process} (laws : IsRow row) (opening s : CoreState) (st : Stands (core row) opening s)
-    (lines_told : (b : ℕ) → IsBuffer b → (row (suc b)).takes ≡ act.TakeFeed → IsTold (opening.buffers b)) where
+    (lines_told : (b : ℕ) → IsBuffer b → (row (suc b)).takes ≡ act.TakeFeed → IsTold (opening.buffers b)) (good : AreGoodFiles s.devices.files) where
   marks-inside : (b : ℕ) (inside : List Parcel) → (s.buffers b).inside ≡ Some inside → (s.buffers b).marks ≡ map is_last inside
   marks-inside b inside e =
       let h = st.buffers.hand_over b in
@@ -341,6 +160,7 @@ module _ {row : ℕ → Process} (laws : IsRow row) (opening s : CoreState) (st 
       smooth = tt;
     }
     comes-next act.TakePage next = page-comes next
+    comes-next (act.Load file) next = load-comes row s (suc k) file s.devices.files refl good
     comes-next act.Release next = record {
       entry = Does act.Release reply.Done;
       gained = [];

@@ -1,5 +1,5 @@
 -- Over told devices a run is no longer than its cards and lines allow.
-use Rattle.std.proofs.Common.{◌≡◌, ℕ, suc, ◌+◌, ◌*◌, ◌≤◌, Bool, true, false, List, [], ◌∷◌, ◌++◌, map, length, length-append, Option, None, Some, refl, sym, ◌∙◌, ap, subst, arith, lit≤}
+use Rattle.std.proofs.Common.{◌≡◌, ℕ, suc, ◌+◌, ◌*◌, ◌≤◌, Bool, true, false, List, [], ◌∷◌, ◌++◌, map, length, length-append, Option, None, Some, refl, sym, ◌∙◌, ap, subst, arith}
 use Rattle.std.specs.Prelude.{option_to_list}
 use Rattle.std.proofs.lemmas.List.{length-map}
 use Rattle.solo_base.specs.declared.item.Item.{Item}
@@ -9,18 +9,25 @@ use Rattle.solo_base.specs.declared.item.Feed.TheVariants as feed
 use Rattle.solo_base.specs.declared.page.Page.{Page}
 use Rattle.page_codec.specs.Items.{AreItems}
 use Rattle.page_codec.specs.Packing.{PageInHand, first_page, page_given, hand_after}
-use Rattle.batch_job.specs.LinesSoFar.{IsPrefixOf}
+use Rattle.deck_format.specs.declared.control.Opener.{Opener}
+use Rattle.deck_format.specs.declared.control.Opener.TheVariants as opener
+use Rattle.deck_format.specs.Jobs.{opener_of}
+use Rattle.disk_system.specs.declared.loading.Loaded.{Loaded}
+use Rattle.batch_job.specs.Report.{Loads}
+use Rattle.batch_job.specs.Loads.{file_named, files_named, loads_of}
+use Rattle.batch_job.specs.LinesSoFar.{lines_so_far, IsPrefixOf}
+use Rattle.batch_job.proofs.LinesSoFar.{whole_lines}
 use Rattle.batch_procs.specs.declared.actions.Action.{Action}
 use Rattle.batch_procs.specs.declared.actions.Action.TheVariants as act
 use Rattle.batch_procs.specs.declared.actions.Reply.{Reply}
 use Rattle.batch_procs.specs.declared.actions.Reply.TheVariants as reply
 use Rattle.batch_procs.specs.Ahead.{one_if}
-use Rattle.batch_procs.specs.Parcels.{Parcel}
+use Rattle.batch_procs.specs.Parcels.{Parcel, loads, handed}
 use Rattle.batch_procs.specs.History.{Entry, Does, LacksMemory, Delays, action_of, taken, sent, holds}
 use Rattle.batch_procs.specs.Fits.{Fits, MayLack}
 use Rattle.batch_procs.specs.Laws.{IsRelay, IsHeld}
 use Rattle.batch_procs.specs.Process.{Process, IsFitting, Follows, aim}
-use Rattle.batch_procs.specs.Sends.{as_parcels, as_lines, marked, packed, card_sends, input_sends, job_sends, output_sends}
+use Rattle.batch_procs.specs.Sends.{as_parcels, as_lines, marked, packed, card_sends, input_sends, output_sends}
 use Rattle.batch_procs.specs.Table.{process}
 use Rattle.batch_procs.proofs.Bounds.{parcels-length, packed-length}
 use Rattle.batch_procs.proofs.Falling.{one-most}
@@ -33,8 +40,7 @@ use Rattle.network_law.proofs.Reached.{stands-event}
 use Rattle.core_law.specs.Bound.{longest_run}
 use Rattle.core_law.specs.Core.{call, core, went, CoreState, CoreEvent, IsBuffer}
 use Rattle.core_law.specs.Ends.{IsProcess}
-use Rattle.batch_job.specs.OneThread.{one_thread_lines}
-use Rattle.core_law.specs.Holds.{AreTold}
+use Rattle.core_law.specs.Holds.{AreTold, AreFound}
 use Rattle.core_law.specs.Opening.{Spools, AreInBounds, opened, IsReached}
 use Rattle.core_law.specs.Work.{sleepers}
 use Rattle.core_law.proofs.Acting.{follows-of}
@@ -44,12 +50,13 @@ use Rattle.core_law.proofs.Ends.{the-five}
 use Rattle.core_law.proofs.FewSleep.{IsPlain, plain-next, card-aims, printer-aims, seven-sleep}
 use Rattle.core_law.proofs.KeepsDevices.{prefix-longer}
 use Rattle.core_law.proofs.Lawful.{lawful}
-use Rattle.core_law.proofs.Passing.{HandOver, read-part, next-part, sent-part, part-of}
-use Rattle.core_law.proofs.Reached.{centre-run, opening-centre, told-is, all-told, all-sized, hands-over}
+use Rattle.core_law.proofs.HandedLists.{loads-handed, job_puts}
+use Rattle.core_law.proofs.Passing.{HandOver, AreFoundBy, all-taken, loads-part, loaded-part, sent-part, part-of, took-1, took-2, took-3, put-3, took-4, took-5}
+use Rattle.core_law.proofs.Reached.{centre-run, opening-centre, told-is, all-told, all-sized, hands-over, found-by}
 use Rattle.core_law.proofs.Row.{each-process}
-use Rattle.core_law.proofs.RoundTrip.{whole, job_reports, card-gives, input-gives, job-gives, output-gives, output-is}
+use Rattle.core_law.proofs.RoundTrip.{whole, card-gives, input-gives, job-gives, output-gives, output-is, as-named}
 use Rattle.core_law.proofs.Sleeping.{Slept, wakes}
-use Rattle.core_law.proofs.Streams.{deck_parcels, output_of, DevicesStand}
+use Rattle.core_law.proofs.Streams.{deck_parcels, output_of, ReadsOf, DevicesStand}
 use Rattle.core_law.proofs.WorkFalls.{slept, answered}
 
 -- ---- an event counts itself and what it wakes
@@ -69,6 +76,9 @@ wakes-does p (act.PutPage page) reply.Failed fits = omega arith
 wakes-does p act.TakePage (reply.Page page last) fits = omega arith
 wakes-does p act.TakePage reply.Failed fits = omega arith
 wakes-does p act.Release reply.Done fits = omega arith
+wakes-does p (act.Load file) (reply.Loaded load) fits = omega arith
+wakes-does p (act.Load file) reply.Failed fits = omega arith
+wakes-does p (act.Load file) reply.NoMemory fits = omega arith
 wakes-does p act.Local reply.Done fits = omega arith
 wakes-does p (act.Print line) reply.Done fits = omega arith
 wakes-does p (act.Print line) reply.Failed fits = omega arith
@@ -146,12 +156,14 @@ plain-is_free act.Request is = absurd is
 plain-is_free act.Release is = absurd is
 plain-is_free (act.PutPage page) is = absurd is
 plain-is_free act.TakePage is = absurd is
+plain-is_free (act.Load file) is = absurd is
 plain-is_free other is = tt
 
 plain-not_held : (a : Action) → IsPlain a → IsHeld a → ⊥
 plain-not_held (act.PutPage page) is held = is
 plain-not_held act.TakePage is held = is
 plain-not_held act.Release is held = is
+plain-not_held (act.Load file) is held = is
 plain-not_held other is held = held
 
 plain-slack : (p : Process) → IsRelay p → ((h : List Entry) → IsPlain (aim p h)) → length p.buffers ≡ 1 → HasSlack p 2
@@ -165,7 +177,7 @@ pages-slack : (p : Process) → length p.buffers ≡ 2 → HasSlack p 8
 pages-slack p two h a follows none next = (let most = one-most (holds h) in omega (arith, two, most))
 
 -- ---- sums over whole lists
-part-length : (part all : List Parcel) → IsPrefixOf part all → length part ≤ length all
+part-length : {X : Type 0} (part all : List X) → IsPrefixOf part all → length part ≤ length all
 part-length part all (rest, e) = (let same = sym (length-append part rest) ∙ ap length e in omega (arith, same))
 
 part-sum : (works : Bool) (part all : List Parcel) → IsPrefixOf part all → put_sum works part ≤ put_sum works all
@@ -209,98 +221,141 @@ whole-length : (items : List Item) → length (whole items) ≡ length items + 1
 whole-length [] = refl
 whole-length (item ∷ rest) = (let more = whole-length rest in omega (arith, more))
 
+-- an item names one file at most
+named-one : (o : Option Opener) → length (file_named o) ≤ 1
+named-one None = omega arith
+named-one (Some (opener.List name)) = omega arith
+named-one (Some (opener.Job name limit)) = omega arith
+named-one (Some (opener.Run name file)) = omega arith
+
+named-few : (items : List Item) → length (files_named items) ≤ length items
+named-few [] = omega arith
+named-few (item ∷ rest) =
+    let one = named-one (opener_of item) in
+    let few = named-few rest in
+    let both = length-append (file_named (opener_of item)) (files_named rest) in
+    omega (arith, one, few, both)
+
 -- ---- a reached state over told devices
-all-in-all : (c l t1 p1 t2 p2 t3 p3 t4 p4 t5 p5 m1 m2 m3 m4 m5 : ℕ) → m1 ≤ 2 + (1 * t1 + p1) + 2 → m2 ≤ 2 + (2 * t2 + p2) + 8 → m3 ≤ 2 + (7 * t3 + p3) + 8
-    → m4 ≤ 2 + (6 * t4 + p4) + 8 → m5 ≤ 2 + (2 * t5 + p5) + 2 → t1 ≤ c + 1 → p1 ≤ 2 * (c + 1) → t2 ≤ c + 1 → p2 ≤ 6 * (c + 1) → t3 ≤ c + 1
-    → p3 ≤ 7 * (l + 1) → t4 ≤ l + 1 → p4 ≤ 2 * (l + 1) → t5 ≤ l + 1 → p5 ≤ l → m1 + m2 + m3 + m4 + m5 ≤ 18 * c + 18 * l + 73
-all-in-all c l t1 p1 t2 p2 t3 p3 t4 p4 t5 p5 m1 m2 m3 m4 m5 a b d e f g h i j k n o q r u = omega (arith, a, b, d, e, f, g, h, i, j, k, n, o, q, r, u)
+all-in-all : (c l t1 n1 p1 t2 n2 p2 t3 n3 p3 t4 n4 p4 t5 n5 p5 m1 m2 m3 m4 m5 : ℕ) → m1 ≤ 2 + (1 * t1 + 5 * n1 + p1) + 2
+    → m2 ≤ 2 + (2 * t2 + 5 * n2 + p2) + 8 → m3 ≤ 2 + (7 * t3 + 5 * n3 + p3) + 8 → m4 ≤ 2 + (6 * t4 + 5 * n4 + p4) + 8
+    → m5 ≤ 2 + (2 * t5 + 5 * n5 + p5) + 2 → n1 ≡ 0 → n2 ≡ 0 → n3 ≤ c → n4 ≡ 0 → n5 ≡ 0
+    → t1 ≤ c + 1 → p1 ≤ 2 * (c + 1) → t2 ≤ c + 1 → p2 ≤ 6 * (c + 1) → t3 ≤ c + 1
+    → p3 ≤ 7 * (l + 1) → t4 ≤ l + 1 → p4 ≤ 2 * (l + 1) → t5 ≤ l + 1 → p5 ≤ l → m1 + m2 + m3 + m4 + m5 ≤ 23 * c + 18 * l + 73
+all-in-all c l t1 n1 p1 t2 n2 p2 t3 n3 p3 t4 n4 p4 t5 n5 p5 m1 m2 m3 m4 m5 a b d e f v w x y z g h i j k n o q r u =
+    omega (arith, a, b, d, e, f, v, w, x, y, z, g, h, i, j, k, n, o, q, r, u)
 
 module _ (opening s : CoreState) (st : Stands (core process) opening s) (d : DevicesStand process opening s)
-    (hand_over : HandOver s.histories) (items : List Item) (deck : opening.devices.deck ≡ Some items) (are : AreItems items) where
-  abbrev lines : List (List ℕ)
-  lines = job_reports items
-
+    (hand_over : HandOver s.histories) (items : List Item) (deck : opening.devices.deck ≡ Some items) (are : AreItems items)
+    (found : Loads) (known : AreFoundBy found items (s.histories 3)) where
   follows : (p : ℕ) → Follows (process p) (s.histories p)
   follows p = follows-of process p (s.histories p) (st.follows p)
 
-  took-1 : IsPrefixOf (taken (s.histories 1)) (deck_parcels items)
-  took-1 = read-part items s.devices.deck (taken (s.histories 1)) _ refl (d.read items deck)
+  read : ReadsOf items s.devices.deck (taken (s.histories 1))
+  read = d.read items deck
 
-  took-2 : IsPrefixOf (taken (s.histories 2)) (card_sends (deck_parcels items))
-  took-2 = next-part the-five s.histories follows hand_over 1 _ (lit≤ tt, lit≤ tt) took-1
+  abbrev all : List Loaded
+  all = loads_of found items
 
-  took-3 : IsPrefixOf (taken (s.histories 3)) (input_sends (card_sends (deck_parcels items)))
-  took-3 = next-part the-five s.histories follows hand_over 2 _ (lit≤ tt, lit≤ tt) took-2
+  abbrev lines : List (List ℕ)
+  lines = lines_so_far items (loads_of found items) true
 
-  took-4 : IsPrefixOf (taken (s.histories 4)) (job_sends (input_sends (card_sends (deck_parcels items))))
-  took-4 = next-part the-five s.histories follows hand_over 3 _ (lit≤ tt, lit≤ tt) took-3
+  enough : length (files_named items) ≤ length (loads_of found items)
+  enough = as-named found items
 
-  took-5 : IsPrefixOf (taken (s.histories 5)) (output_sends (job_sends (input_sends (card_sends (deck_parcels items)))))
-  took-5 = next-part the-five s.histories follows hand_over 4 _ (lit≤ tt, lit≤ tt) took-4
+  loaded : IsPrefixOf (loads (taken (s.histories 3))) (loads_of found items)
+  loaded = loads-part found items (s.histories 3) (follows 3) (loaded-part s.histories follows hand_over items s.devices.deck read are) known
 
-  put-of : (p : ℕ) (all : List Parcel) → IsPrefixOf (taken (s.histories p)) all → IsPrefixOf (sent (s.histories p)) ((process p).sends all)
-  put-of p all part =
-      prefix-longer _ _ _ (sent-part the-five s.histories follows hand_over p) (part-of (process p) (taken (s.histories p)) all (the-five.relays p) part)
+  no-load : (p : ℕ) → (p ≡ 3 → ⊥) → length (loads (taken (s.histories p))) ≡ 0
+  no-load p not = ap (λ ps. length (loads ps)) (sym (all-taken the-five s.histories follows p not)) ∙ ap length (loads-handed (taken (s.histories p)))
+
+  first : IsPrefixOf (handed (taken (s.histories 1))) (deck_parcels items)
+  first = took-1 s.histories follows hand_over items s.devices.deck read
+
+  second : IsPrefixOf (handed (taken (s.histories 2))) (card_sends (deck_parcels items))
+  second = took-2 s.histories follows hand_over items s.devices.deck read
+
+  third : IsPrefixOf (handed (taken (s.histories 3))) (input_sends (card_sends (deck_parcels items)))
+  third = took-3 s.histories follows hand_over items s.devices.deck read
+
+  fourth : IsPrefixOf (handed (taken (s.histories 4))) (job_puts all (input_sends (card_sends (deck_parcels items))))
+  fourth = took-4 s.histories follows hand_over items s.devices.deck read are all loaded
+
+  fifth : IsPrefixOf (handed (taken (s.histories 5))) (output_sends (job_puts all (input_sends (card_sends (deck_parcels items)))))
+  fifth = took-5 s.histories follows hand_over items s.devices.deck read are all loaded
+
+  put-of : (p : ℕ) (ps : List Parcel) → (p ≡ 3 → ⊥) → IsPrefixOf (handed (taken (s.histories p))) ps → IsPrefixOf (sent (s.histories p)) ((process p).sends ps)
+  put-of p ps not part =
+      prefix-longer _ _ _ (sent-part s.histories follows hand_over items s.devices.deck read p)
+      (part-of (process p) (taken (s.histories p)) ps (the-five.relays p)
+      (subst (λ tk. IsPrefixOf tk ps) (all-taken the-five s.histories follows p not) part))
 
   line-count : length (whole (map Line lines)) ≡ length lines + 1
   line-count = whole-length (map Line lines) ∙ ap (λ n. n + 1) (length-map lines Line)
 
-  pub made-few : all_made s ≤ 18 * length items + 18 * length (one_thread_lines items) + 73
+  pub made-few : all_made s ≤ 23 * length items + 18 * length (lines_so_far items (loads_of found items) true) + 73
   made-few =
       let c = length items in
+      let few : length (loads (taken (s.histories 3))) ≤ c =
+      (let a = part-length _ _ loaded in let b = length-map (files_named items) found in let d = named-few items in omega (arith, a, b, d)) in
       let n1 = deck-length items in
       let n2 : length (card_sends (deck_parcels items)) ≡ c + 1 = ap length (card-gives items are) ∙ parcels-length (whole items) ∙ whole-length items in
       let n3 = packed-length first_page (whole items) in
       let n3_is = ap length (input-gives items are) in
       let w = whole-length items in
       let n4 = packed-length first_page (whole (map Line lines)) in
-      let n4_is = ap length (job-gives items are) in
-      let n5 : length (output_sends (job_sends (input_sends (card_sends (deck_parcels items))))) ≡ length lines + 1
-      = ap length (output-gives items are) ∙ parcels-length (whole (map Line lines)) ∙ line-count in
-      let t1 = part-length _ _ took-1 in
-      let t2 = part-length _ _ took-2 in
-      let t3 = part-length _ _ took-3 in
-      let t4 = part-length _ _ took-4 in
-      let t5 = part-length _ _ took-5 in
-      let p1 = part-sum false _ _ (put-of 1 _ took-1) in
+      let n4_is = ap length (job-gives items are all enough) in
+      let n5 : length (output_sends (job_puts all (input_sends (card_sends (deck_parcels items))))) ≡ length lines + 1
+      = ap length (output-gives items are all enough) ∙ parcels-length (whole (map Line lines)) ∙ line-count in
+      let t1 = part-length _ _ first in
+      let t2 = part-length _ _ second in
+      let t3 = part-length _ _ third in
+      let t4 = part-length _ _ fourth in
+      let t5 = part-length _ _ fifth in
+      let p1 = part-sum false _ _ (put-of 1 _ (λ e. omega (arith, e)) first) in
       let p1_is : put_sum false (card_sends (deck_parcels items)) ≡ 2 * length (whole items) = ap (put_sum false) (card-gives items are)
       ∙ sum-feeds (whole items) in
-      let p2 = part-sum false _ _ (put-of 2 _ took-2) in
+      let p2 = part-sum false _ _ (put-of 2 _ (λ e. omega (arith, e)) second) in
       let p2_is = ap (put_sum false) (input-gives items are) in
       let p2_most = packed-six first_page (whole items) in
-      let p3 = part-sum true _ _ (put-of 3 _ took-3) in
-      let p3_is = ap (put_sum true) (job-gives items are) in
+      let p3 = part-sum true _ _ (put-3 s.histories follows hand_over items s.devices.deck read are all loaded) in
+      let p3_is = ap (put_sum true) (job-gives items are all enough) in
       let p3_most = packed-seven first_page (whole (map Line lines)) in
-      let p4 = part-sum false _ _ (put-of 4 _ took-4) in
-      let p4_is : put_sum false (output_sends (job_sends (input_sends (card_sends (deck_parcels items))))) ≡ 2 * length (whole (map Line lines))
-      = ap (put_sum false) (output-gives items are) ∙ sum-feeds (whole (map Line lines)) in
-      let p5 = part-sum false _ _ (put-of 5 _ took-5) in
-      let p5_is : put_sum false (output_of process (deck_parcels items)) ≡ length lines = ap (put_sum false) (output-is items are) ∙ sum-lines lines in
+      let p4 = part-sum false _ _ (put-of 4 _ (λ e. omega (arith, e)) fourth) in
+      let p4_is : put_sum false (output_sends (job_puts all (input_sends (card_sends (deck_parcels items))))) ≡ 2 * length (whole (map Line lines))
+      = ap (put_sum false) (output-gives items are all enough) ∙ sum-feeds (whole (map Line lines)) in
+      let p5 = part-sum false _ _ (put-of 5 _ (λ e. omega (arith, e)) fifth) in
+      let p5_is : put_sum false (output_of all (deck_parcels items)) ≡ length lines = ap (put_sum false) (output-is items are all enough) ∙ sum-lines lines in
       let l = line-count in
-      all-in-all c (length lines) (length (taken (s.histories 1))) (put_sum false (sent (s.histories 1))) (length (taken (s.histories 2)))
-      (put_sum false (sent (s.histories 2))) (length (taken (s.histories 3))) (put_sum true (sent (s.histories 3))) (length (taken (s.histories 4)))
-      (put_sum false (sent (s.histories 4))) (length (taken (s.histories 5))) (put_sum false (sent (s.histories 5))) _ _ _ _ _
+      all-in-all c (length lines) (length (handed (taken (s.histories 1)))) (length (loads (taken (s.histories 1)))) (put_sum false (sent (s.histories 1)))
+      (length (handed (taken (s.histories 2)))) (length (loads (taken (s.histories 2)))) (put_sum false (sent (s.histories 2)))
+      (length (handed (taken (s.histories 3)))) (length (loads (taken (s.histories 3)))) (put_sum true (sent (s.histories 3)))
+      (length (handed (taken (s.histories 4)))) (length (loads (taken (s.histories 4)))) (put_sum false (sent (s.histories 4)))
+      (length (handed (taken (s.histories 5)))) (length (loads (taken (s.histories 5)))) (put_sum false (sent (s.histories 5))) _ _ _ _ _
       (made-most (process 1) 2 (the-five.relays 1) (plain-slack (process 1) (the-five.relays 1) card-aims refl) (s.histories 1) (follows 1))
       (made-most (process 2) 8 (the-five.relays 2) (pages-slack (process 2) refl) (s.histories 2) (follows 2))
       (made-most (process 3) 8 (the-five.relays 3) (pages-slack (process 3) refl) (s.histories 3) (follows 3))
       (made-most (process 4) 8 (the-five.relays 4) (pages-slack (process 4) refl) (s.histories 4) (follows 4))
       (made-most (process 5) 2 (the-five.relays 5) (plain-slack (process 5) (the-five.relays 5) printer-aims refl) (s.histories 5) (follows 5))
+      (no-load 1 (λ e. omega (arith, e))) (no-load 2 (λ e. omega (arith, e))) few (no-load 4 (λ e. omega (arith, e))) (no-load 5 (λ e. omega (arith, e)))
       (omega (arith, t1, n1)) (omega (arith, p1, p1_is, w)) (omega (arith, t2, n2)) (omega (arith, p2, p2_is, p2_most, w)) (omega (arith, t3, n3, n3_is, w))
       (omega (arith, p3, p3_is, p3_most, l)) (omega (arith, t4, n4, n4_is, l)) (omega (arith, p4, p4_is, l)) (omega (arith, t5, n5)) (omega (arith, p5, p5_is))
 
 -- No list of events from an opening over told devices is longer.
-pub no-longer : (spools : Spools) (deck : Option (List Item)) (paper : Option (List ℕ)) (items : List Item) (events : List CoreEvent) → AreInBounds spools
-    → AreTold spools → deck ≡ Some items → AreItems items → AreEnabled (core process) (opened spools deck paper) events
-    → length events ≤ longest_run items
-no-longer spools deck paper items events bounds are_told deck_is are enabled =
-    let opening = opened spools deck paper in
-    let last = centre-run opening opening events enabled (opening-centre spools deck paper) in
+pub no-longer : (spools : Spools) (deck : Option (List Item)) (paper : Option (List ℕ)) (files : Option Loads) (items : List Item) (found : Loads)
+    (events : List CoreEvent) → AreInBounds spools → AreTold spools → deck ≡ Some items → AreItems items → AreFound files found items
+    → AreEnabled (core process) (opened spools deck paper files) events → length events ≤ longest_run found items
+no-longer spools deck paper files items found events bounds are_told deck_is are known enabled =
+    let opening = opened spools deck paper files in
+    let end = run (core process) opening events in
+    let last = centre-run opening opening events enabled (opening-centre spools deck paper files) in
     let told = λ (b : ℕ) (at : IsBuffer b). told-is spools b (all-told spools are_told b at) in
-    let counted = events-counted opening opening events enabled (opening-centre spools deck paper).stands in
-    let few = made-few opening (run (core process) opening events) last.stands last.devices (hands-over opening (run
-    (core process) opening events) last.stands told) items deck_is are in
-    let asleep = seven-sleep opening (run (core process) opening events) last.stands (all-sized spools bounds) in
-    omega (arith, counted, few, asleep)
+    let counted = events-counted opening opening events enabled (opening-centre spools deck paper files).stands in
+    let few = made-few opening end last.stands last.devices (hands-over opening end last.stands told) items deck_is are found
+    (found-by files opening end found items refl last.devices known) in
+    let asleep = seven-sleep opening end last.stands (all-sized spools bounds) in
+    let same = ap length (whole_lines found items).0 in
+    omega (arith, counted, few, asleep, same)
 
 enabled-more : (s : CoreState) (some more : List CoreEvent) → AreEnabled (core process) s some → AreEnabled (core process) (run (core process) s some) more
     → AreEnabled (core process) s (some ++ more)
@@ -308,13 +363,14 @@ enabled-more s [] more are rest = rest
 enabled-more s (event ∷ some) more are rest = (are.0, enabled-more (happens (core process) s event) some more are.1 rest)
 
 -- Nor one from a reached state.
-pub no-run_longer : (spools : Spools) (deck : Option (List Item)) (paper : Option (List ℕ)) (s : CoreState) (items : List Item) (events : List CoreEvent)
-    → IsReached spools deck paper s → AreTold spools → deck ≡ Some items → AreItems items → AreEnabled (core process) s events
-    → length events ≤ longest_run items
-no-run_longer spools deck paper s items events r are_told deck_is are enabled =
-    let opening = opened spools deck paper in
+pub no-run_longer : (spools : Spools) (deck : Option (List Item)) (paper : Option (List ℕ)) (files : Option Loads) (s : CoreState) (items : List Item)
+    (found : Loads) (events : List CoreEvent) → IsReached spools deck paper files s → AreTold spools → deck ≡ Some items → AreItems items
+    → AreFound files found items → AreEnabled (core process) s events → length events ≤ longest_run found items
+no-run_longer spools deck paper files s items found events r are_told deck_is are known enabled =
+    let opening = opened spools deck paper files in
     let before = r.reached.events in
     let here = subst (λ s. AreEnabled (core process) s events) (sym r.reached.leads) enabled in
-    let all = no-longer spools deck paper items (before ++ events) r.bounds are_told deck_is are (enabled-more opening before events r.reached.enabled here) in
+    let all = no-longer spools deck paper files items found (before ++ events) r.bounds are_told deck_is are known
+    (enabled-more opening before events r.reached.enabled here) in
     let both = length-append before events in
     omega (arith, all, both)

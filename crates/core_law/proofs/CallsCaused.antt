@@ -1,5 +1,5 @@
 -- What a process has done, where it is given a cause and closes down; and so in every history.
-use Rattle.std.proofs.Common.{◌≡◌, ◌⊎◌, inl, inr, ℕ, ◌+◌, ◌*◌, ◌≤◌, Bool, true, false, ◌&&◌, if◌then◌else◌, List, [], ◌∷◌, ◌++◌, length, length-append, Option, None, Some, refl, sym, ◌∙◌, ap, subst, arith}
+use Rattle.std.proofs.Common.{◌≡◌, ◌⊎◌, inl, inr, ℕ, ◌+◌, ◌*◌, ◌≤◌, Bool, true, false, ◌&&◌, if◌then◌else◌, List, [], ◌∷◌, ◌++◌, length, Option, None, Some, refl, sym, ◌∙◌, ap, subst, arith}
 use Rattle.std.proofs.lemmas.List.{append-nil}
 use Rattle.solo_base.specs.declared.outcome.Outcome.{Outcome}
 use Rattle.solo_devices.specs.declared.card_read.CardRead.TheVariants as read
@@ -19,7 +19,7 @@ use Rattle.batch_procs.proofs.Relay.{closing-next, open-next}
 use Rattle.batch_procs.proofs.Closing.{works-next}
 use Rattle.batch_procs.proofs.Falling.{unstopped-most, unstopped-same, stop-falls}
 use Rattle.core_law.proofs.Taking.{next-take}
-use Rattle.core_law.proofs.CallsMade.{counts_by, counts, made, take_cost, put_sum, left, spent, closing_left, Within, at-most, working-counts, closing-counts, spent-more, cost-is, works-within, and-nothing}
+use Rattle.core_law.proofs.CallsMade.{counts_by, counts, made, take_cost, put_sum, left, taken_cost, one-costs, none-costs, cost-append, spent, closing_left, Within, at-most, working-counts, closing-counts, spent-more, cost-is, works-within, and-nothing}
 
 -- ---- one that is given a cause
 -- What is left of closing down, where a process that is given a cause finds this step.
@@ -53,13 +53,12 @@ record CauseOf (p : Process) (h : List Entry) (entry : Entry) : Type 0 where
 
 spent-none : (p : Process) (h : List Entry) (a : Action) (r : Reply) → taken_by r ≡ [] → put_by a r ≡ [] → spent p (Does a r ∷ h) ≡ spent p h + 0
 spent-none p h a r takes puts_are =
-    let same = spent-more p h a r 0 [] (ap length takes) puts_are in
-    let zero : (take_cost p.takes + one_if p.works) * 0 ≡ 0 = omega arith in
-    omega (arith, same, zero)
+    let same = spent-more p h a r 0 [] (ap (taken_cost p) takes ∙ none-costs p) puts_are in
+    omega (arith, same)
 
 -- A page that is taken costs more than its entry counts.
-taken-cost : (c w n k : ℕ) → c ≡ 6 → k ≡ n + (c + w) * 1 + 0 → k ≡ n + (6 + w)
-taken-cost c w n k e is = omega (arith, e, is)
+page-cost : (c w n k : ℕ) → c ≡ 6 → k ≡ n + (c + w) + 0 → k ≡ n + (6 + w)
+page-cost c w n k e is = omega (arith, e, is)
 
 causes : (p : Process) (h : List Entry) (a : Action) (r : Reply) (how : Outcome) → Follows p (Does a r ∷ h) → given_cause a r h ≡ Some how
     → CauseOf p h (Does a r)
@@ -103,11 +102,18 @@ causes p h act.TakePage (reply.Page page last) how follows given =
       more = 6 + one_if p.works;
       held = refl;
       few = omega arith;
-      spent_is = taken-cost _ _ _ _ cost (spent-more p h act.TakePage (reply.Page page last) 1 [] refl refl);
+      spent_is = page-cost _ _ _ _ cost
+          (spent-more p h act.TakePage (reply.Page page last) (take_cost p.takes + one_if p.works) [] (one-costs p (OfPage page last ∷ []) refl refl) refl);
     }
 causes p h act.TakePage other how follows given = absurd follows.1
 causes p h act.Release reply.Done how follows given = absurd cc
 causes p h act.Release other how follows given = absurd follows.1
+causes p h (act.Load file) reply.Failed how follows given =
+    record { more = 0; held = refl; few = omega arith; spent_is = spent-none p h (act.Load file) reply.Failed refl refl }
+causes p h (act.Load file) reply.NoMemory how follows given =
+    record { more = 0; held = refl; few = omega arith; spent_is = spent-none p h (act.Load file) reply.NoMemory refl refl }
+causes p h (act.Load file) (reply.Loaded load) how follows given = absurd cc
+causes p h (act.Load file) other how follows given = absurd follows.1
 causes p h act.Local reply.Done how follows given = absurd cc
 causes p h act.Local other how follows given = absurd follows.1
 causes p h (act.Print line) reply.Done how follows given = absurd cc
@@ -128,19 +134,17 @@ lacks p h act.TakePage (reply.Page page last) next may =
       more = 6 + one_if p.works;
       held = refl;
       few = omega arith;
-      spent_is = lack-cost (take_cost p.takes) (one_if p.works) (length (taken h)) (put_sum p.works (sent h)) _ cost (length-append (taken h)
-          (OfPage page last ∷ []));
+      spent_is = lack-cost (taken_cost p (taken h)) (put_sum p.works (sent h)) _ _ _ cost
+          (cost-append p (taken h) (OfPage page last ∷ []) ∙ ap (λ n. taken_cost p (taken h) + n) (one-costs p (OfPage page last ∷ []) refl refl));
     }
   where
-    lack-cost : (c w n k m : ℕ) → c ≡ 6 → m ≡ n + 1 → (c + w) * m + k ≡ (c + w) * n + k + (6 + w)
-    lack-cost c w n k m e is =
-        let times : (c + w) * (n + 1) ≡ (c + w) * n + (c + w) = grind arith in
-        ap (λ m. (c + w) * m + k) is ∙ ap (λ m. m + k) times ∙ omega (arith, e)
+    lack-cost : (t k c w m : ℕ) → c ≡ 6 → m ≡ t + (c + w) → m + k ≡ t + k + (6 + w)
+    lack-cost t k c w m e is = omega (arith, e, is)
 lacks p h act.Local reply.Done next may =
-    record { more = 0; held = refl; few = omega arith; spent_is = lack-same (take_cost p.takes + one_if p.works) (taken h) (put_sum p.works (sent h)) }
+    record { more = 0; held = refl; few = omega arith; spent_is = lack-same (taken h) (put_sum p.works (sent h)) }
   where
-    lack-same : (c : ℕ) (ps : List Parcel) (k : ℕ) → c * length (ps ++ []) + k ≡ c * length ps + k + 0
-    lack-same c ps k = ap (λ ps. c * length ps + k) (append-nil ps) ∙ omega arith
+    lack-same : (ps : List Parcel) (k : ℕ) → taken_cost p (ps ++ []) + k ≡ taken_cost p ps + k + 0
+    lack-same ps k = ap (λ ps. taken_cost p ps + k) (append-nil ps) ∙ omega arith
 lacks p h a r next may = absurd may
 
 -- ---- one that closes down
@@ -198,8 +202,8 @@ lack-open act.TakePage r may = tt
 lack-open act.Local r may = tt
 lack-open other r may = absurd may
 
-nothing-made : (c k x : ℕ) → x ≡ 0 → 0 + (2 + x) ≤ 2 + (c * 0 + k)
-nothing-made c k x e = omega (arith, e)
+nothing-made : (n x : ℕ) → x ≡ 0 → 0 + (2 + x) ≤ 2 + n
+nothing-made n x e = omega (arith, e)
 
 module _ (p : Process) (slack : ℕ) (relay : IsRelay p) (has : HasSlack p slack) where
   no-ahead : (h : List Entry) (a : Action) → next_action p h ≡ Some a → caused h ≡ None → Within p slack None h
@@ -234,7 +238,7 @@ module _ (p : Process) (slack : ℕ) (relay : IsRelay p) (has : HasSlack p slack
       absurd (let none = open-next p h a follows.0 (lack-open a r follows.1.1) in cc)
 
   within : (h : List Entry) → Follows p h → Within p slack (caused h) h
-  within [] follows = nothing-made (take_cost p.takes + one_if p.works) 0 (one_if (p.works && false)) (ap one_if (and-nothing p.works))
+  within [] follows = nothing-made (spent p []) (one_if (p.works && false)) (ap one_if (and-nothing p.works))
   within (Does a r ∷ h) follows = done-within h a r (caused h) (given_cause a r h) follows refl refl (within h follows.2)
   within (LacksMemory a r ∷ h) follows = lack-within h a r (caused h) _ follows refl (within h follows.2)
   within (Delays a ∷ h) follows = delay-within h a (caused h) (within h follows.2)

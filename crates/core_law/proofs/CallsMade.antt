@@ -1,5 +1,5 @@
 -- What a process has done, by what it took and put: each entry, and one more where it may wake another process.
-use Rattle.std.proofs.Common.{◌≡◌, ℕ, ◌+◌, ◌*◌, ◌≤◌, Bool, true, false, ◌&&◌, not, List, [], ◌∷◌, ◌++◌, length, length-append, Option, None, Some, refl, sym, ◌∙◌, ap, subst, arith}
+use Rattle.std.proofs.Common.{◌≡◌, ℕ, ◌+◌, ◌*◌, ◌≤◌, Bool, true, false, ◌&&◌, not, List, [], ◌∷◌, ◌++◌, length, length-append, Option, None, Some, refl, sym, ◌∙◌, ap, arith}
 use Rattle.solo_base.specs.declared.outcome.Outcome.{Outcome}
 use Rattle.solo_devices.specs.declared.card_read.CardRead.TheVariants as read
 use Rattle.batch_procs.specs.declared.actions.Action.{Action}
@@ -7,20 +7,23 @@ use Rattle.batch_procs.specs.declared.actions.Action.TheVariants as act
 use Rattle.batch_procs.specs.declared.actions.Reply.{Reply}
 use Rattle.batch_procs.specs.declared.actions.Reply.TheVariants as reply
 use Rattle.batch_procs.specs.declared.round.Step.{Step}
+use Rattle.disk_system.specs.declared.loading.Loaded.{Loaded}
 use Rattle.batch_procs.specs.declared.round.Step.TheVariants as step
-use Rattle.batch_procs.specs.Parcels.{Parcel, OfFeed, OfPage, OfLine, is_ended}
+use Rattle.batch_procs.specs.Parcels.{Parcel, OfFeed, OfPage, OfLine, OfLoad, loads, handed, is_ended}
 use Rattle.batch_procs.specs.History.{Entry, Does, LacksMemory, Delays, taken_by, taken, put_by, sent, holds, newest}
 use Rattle.batch_procs.specs.Causes.{given_cause, caused}
 use Rattle.batch_procs.specs.Fits.{Fits}
-use Rattle.batch_procs.specs.Process.{Process, unworked, due, aim, aimed, working, begins, closing, next_action, Follows}
+use Rattle.batch_procs.specs.Process.{Process, unworked, due, aim, working, closing, next_action, Follows}
 use Rattle.batch_procs.specs.Laws.{IsTake, IsHeld, IsRelay}
 use Rattle.batch_procs.specs.Machine.{step_of, step_after}
 use Rattle.batch_procs.specs.Ahead.{moves_ahead, one_if, unstopped, ahead_at}
-use Rattle.batch_procs.specs.Parts.{some-same}
+use Rattle.batch_procs.specs.Relays.{loads-append}
 use Rattle.batch_procs.proofs.Closing.{works-next, working-no_stop, aimed-no_stop}
 use Rattle.batch_procs.proofs.Held.{IsFree, aim-is}
+use Rattle.batch_procs.proofs.Nexts.{next-local}
 use Rattle.batch_procs.proofs.Machines.{held-by, not-held}
 use Rattle.batch_procs.proofs.Falling.{free-step, request-step, release-step, one-most}
+use Rattle.core_law.proofs.HandedLists.{handed-append}
 use Rattle.core_law.proofs.Taking.{next-take}
 
 -- ---- what an entry counts
@@ -53,6 +56,7 @@ abbrev pub put_cost : Parcel → ℕ
 put_cost (OfFeed f) = 2
 put_cost (OfPage page last) = 6
 put_cost (OfLine line) = 1
+put_cost (OfLoad load) = 0
 
 abbrev pub put_sum : Bool → List Parcel → ℕ
 put_sum works [] = 0
@@ -70,8 +74,33 @@ left step.Granted = 0
 left step.Moved = 4
 left step.Ended = 0
 
+-- what was taken, and a load with its two calls
+abbrev pub taken_cost : Process → List Parcel → ℕ
+taken_cost p tk = (take_cost p.takes + one_if p.works) * length (handed tk) + 5 * length (loads tk)
+
 abbrev pub spent : Process → List Entry → ℕ
-spent p h = (take_cost p.takes + one_if p.works) * length (taken h) + put_sum p.works (sent h)
+spent p h = taken_cost p (taken h) + put_sum p.works (sent h)
+
+-- a parcel that was handed over
+pub one-costs : (p : Process) (tk : List Parcel) → length (handed tk) ≡ 1 → loads tk ≡ [] → taken_cost p tk ≡ take_cost p.takes + one_if p.works
+one-costs p tk one none =
+    let c = take_cost p.takes + one_if p.works in
+    let once : c * 1 ≡ c = omega arith in
+    ap (λ n. c * n + 5 * length (loads tk)) one ∙ ap (λ ls. c * 1 + 5 * length ls) none ∙ ap (λ m. m + 0) once ∙ omega arith
+
+pub none-costs : (p : Process) → taken_cost p [] ≡ 0
+none-costs p = omega arith
+
+pub cost-append : (p : Process) (some more : List Parcel) → taken_cost p (some ++ more) ≡ taken_cost p some + taken_cost p more
+cost-append p some more =
+    let c = take_cost p.takes + one_if p.works in
+    let hd : length (handed (some ++ more)) ≡ length (handed some) + length (handed more) =
+    ap length (handed-append some more) ∙ length-append (handed some) (handed more) in
+    let ld : length (loads (some ++ more)) ≡ length (loads some) + length (loads more) =
+    ap length (loads-append some more) ∙ length-append (loads some) (loads more) in
+    let times : c * (length (handed some) + length (handed more)) ≡ c * length (handed some) + c * length (handed more) = grind arith in
+    ap (λ n. c * n + 5 * length (loads (some ++ more))) hd ∙ ap (λ n. c * (length (handed some) + length (handed more)) + 5 * n) ld
+    ∙ ap (λ n. n + 5 * (length (loads some) + length (loads more))) times ∙ omega arith
 
 abbrev pub closing_left : Process → List Entry → ℕ
 closing_left p h = ahead_at (step_after (newest h)) (2 * one_if (holds h) + 2 * unstopped p.buffers h + 1)
@@ -88,12 +117,12 @@ left-free step.Granted e = absurd cc
 left-free step.Moved e = absurd cc
 left-free step.Ended e = absurd cc
 
-left-awaited : (s : Step) → moves_ahead s ≡ 1 → left s ≡ 1
-left-awaited step.Free e = absurd cc
-left-awaited step.Awaited e = refl
-left-awaited step.Granted e = absurd cc
-left-awaited step.Moved e = absurd cc
-left-awaited step.Ended e = absurd cc
+left-some : (s : Step) → 1 ≤ moves_ahead s → 1 ≤ left s
+left-some step.Free some = omega arith
+left-some step.Awaited some = omega arith
+left-some step.Granted some = some
+left-some step.Moved some = omega arith
+left-some step.Ended some = some
 
 left-moved : (s : Step) → moves_ahead s ≡ 3 → left s ≡ 4
 left-moved step.Free e = absurd cc
@@ -116,6 +145,7 @@ working-counts (Some act.AwaitItem) aim a n e = refl
 working-counts (Some act.Request) aim a n e = refl
 working-counts (Some (act.PutPage page)) aim a n e = refl
 working-counts (Some act.TakePage) aim a n e = refl
+working-counts (Some (act.Load file)) aim a n e = refl
 working-counts (Some (act.Ended how)) aim a n e = absurd cc
 working-counts (Some other) aim a n e = refl
 
@@ -127,6 +157,7 @@ closing-counts (Some act.AwaitItem) next a n e = refl
 closing-counts (Some act.Request) next a n e = refl
 closing-counts (Some (act.PutPage page)) next a n e = refl
 closing-counts (Some act.TakePage) next a n e = refl
+closing-counts (Some (act.Load file)) next a n e = refl
 closing-counts (Some other) next a n e = refl
 
 pub free-left : (p : Process) (h : List Entry) (a : Action) → IsRelay p → Follows p h → next_action p h ≡ Some a → caused h ≡ None → IsFree a → (IsHeld a → ⊥)
@@ -140,45 +171,48 @@ and-most true u = one-most u
 and-most false u = omega arith
 
 -- ---- one that has no cause, and is given none
--- what is spent behind an entry that took so many and put these
-pub spent-more : (p : Process) (h : List Entry) (a : Action) (r : Reply) (n : ℕ) (ps : List Parcel) → length (taken_by r) ≡ n → put_by a r ≡ ps
-    → spent p (Does a r ∷ h) ≡ spent p h + (take_cost p.takes + one_if p.works) * n + put_sum p.works ps
+-- what is spent behind an entry whose take costs so much, and that put these
+pub spent-more : (p : Process) (h : List Entry) (a : Action) (r : Reply) (n : ℕ) (ps : List Parcel) → taken_cost p (taken_by r) ≡ n → put_by a r ≡ ps
+    → spent p (Does a r ∷ h) ≡ spent p h + n + put_sum p.works ps
 spent-more p h a r n ps takes puts_are =
-    let c = take_cost p.takes + one_if p.works in
-    let tk : length (taken h ++ taken_by r) ≡ length (taken h) + n = length-append (taken h) (taken_by r) ∙ ap (λ m. length (taken h) + m) takes in
+    let tk : taken_cost p (taken h ++ taken_by r) ≡ taken_cost p (taken h) + n =
+    cost-append p (taken h) (taken_by r) ∙ ap (λ m. taken_cost p (taken h) + m) takes in
     let st : put_sum p.works (sent h ++ put_by a r) ≡ put_sum p.works (sent h) + put_sum p.works ps
     = sum-append p.works (sent h) (put_by a r) ∙ ap (λ ps. put_sum p.works (sent h) + put_sum p.works ps) puts_are in
-    let times : c * (length (taken h) + n) ≡ c * length (taken h) + c * n = grind arith in
-    ap (λ m. c * m + put_sum p.works (sent h ++ put_by a r)) tk ∙ ap (λ m. m + put_sum p.works (sent h ++ put_by a r)) times
-    ∙ ap (λ m. c * length (taken h) + c * n + m) st ∙ omega arith
+    ap (λ m. m + put_sum p.works (sent h ++ put_by a r)) tk ∙ ap (λ m. taken_cost p (taken h) + n + m) st ∙ omega arith
 
 sum-up : (m l u s e l' u' s' more g : ℕ) → m + (l + u) ≤ 2 + s → s' ≡ s + more → e + l' + u' ≤ l + u + more → g ≤ l' + u' → e + m + g ≤ 2 + s'
 sum-up m l u s e l' u' s' more g was is less most = omega (arith, was, is, less, most)
 
 module _ (p : Process) (h : List Entry) (a : Action) (r : Reply) (relay : IsRelay p) (follows : Follows p (Does a r ∷ h)) (none : caused h ≡ None)
     (was : made h + (left (step_after (newest h)) + one_if (unworked p h)) ≤ 2 + spent p h) where
-  -- of a number that was taken and a list that was put
-  steps : (n : ℕ) (ps : List Parcel) → length (taken_by r) ≡ n → put_by a r ≡ ps
+  -- of the cost of what was taken, and a list that was put
+  steps : (n : ℕ) (ps : List Parcel) → taken_cost p (taken_by r) ≡ n → put_by a r ≡ ps
       → counts_by a r + left (step_of a) + one_if (unworked p (Does a r ∷ h))
-      ≤ left (step_after (newest h)) + one_if (unworked p h) + ((take_cost p.takes + one_if p.works) * n + put_sum p.works ps)
+      ≤ left (step_after (newest h)) + one_if (unworked p h) + (n + put_sum p.works ps)
       → Within p 0 None (Does a r ∷ h)
   steps n ps takes puts_are less =
       sum-up (made h) _ _ (spent p h) (counts_by a r) _ _ _ _ _ was (spent-more p h a r n ps takes puts_are ∙ omega arith) less (at-most (step_of a) _)
 
-take-one : (a : Action) (r : Reply) (h : List Entry) → IsTake a → Fits a r → given_cause a r h ≡ None → length (taken_by r) ≡ 1
-take-one act.ReadCard (reply.Card (read.Card line)) h take fits none = refl
-take-one act.ReadCard (reply.Card read.Spoiled) h take fits none = refl
-take-one act.ReadCard (reply.Card read.End) h take fits none = refl
+take-one : (a : Action) (r : Reply) (h : List Entry) → IsTake a → Fits a r → given_cause a r h ≡ None
+    → (length (handed (taken_by r)) ≡ 1) × (loads (taken_by r) ≡ [])
+take-one act.ReadCard (reply.Card (read.Card line)) h take fits none = (refl, refl)
+take-one act.ReadCard (reply.Card read.Spoiled) h take fits none = (refl, refl)
+take-one act.ReadCard (reply.Card read.End) h take fits none = (refl, refl)
 take-one act.ReadCard (reply.Card read.Failed) h take fits none = absurd cc
 take-one act.ReadCard (reply.Card read.Limit) h take fits none = absurd cc
 take-one act.ReadCard other h take fits none = absurd fits
-take-one act.TakeFeed (reply.Feed f) h take fits none = refl
+take-one act.TakeFeed (reply.Feed f) h take fits none = (refl, refl)
 take-one act.TakeFeed reply.Stopped h take fits none = absurd cc
 take-one act.TakeFeed other h take fits none = absurd fits
-take-one act.TakePage (reply.Page page last) h take fits none = refl
+take-one act.TakePage (reply.Page page last) h take fits none = (refl, refl)
 take-one act.TakePage reply.Failed h take fits none = absurd cc
 take-one act.TakePage other h take fits none = absurd fits
 take-one other r h take fits none = absurd take
+
+take-costs : (p : Process) (a : Action) (r : Reply) (h : List Entry) → IsTake a → Fits a r → given_cause a r h ≡ None
+    → taken_cost p (taken_by r) ≡ take_cost p.takes + one_if p.works
+take-costs p a r h take fits none = (let one = take-one a r h take fits none in one-costs p (taken_by r) one.0 one.1)
 
 counts-most : (a : Action) (r : Reply) → counts_by a r ≤ 2
 counts-most (act.PutFeed f) reply.Done = omega arith
@@ -193,44 +227,21 @@ counts-most action r = omega arith
 pub cost-is : (takes a : Action) → takes ≡ a → take_cost takes ≡ take_cost a
 cost-is takes a e = ap take_cost e
 
-take-less : (e l' u' l u c w : ℕ) → e + l' ≤ l + c → u' ≤ w → e + l' + u' ≤ l + u + ((c + w) * 1 + 0)
+take-less : (e l' u' l u c w : ℕ) → e + l' ≤ l + c → u' ≤ w → e + l' + u' ≤ l + u + (c + w + 0)
 take-less e l' u' l u c w less work = omega (arith, less, work)
 
-put-less : (e l' u' l u c w k : ℕ) → e + l' ≤ l + c → u' ≤ w → e + l' + u' ≤ l + u + (k * 0 + (c + w + 0))
-put-less e l' u' l u c w k less work = omega (arith, less, work)
+put-less : (e l' u' l u c w : ℕ) → e + l' ≤ l + c → u' ≤ w → e + l' + u' ≤ l + u + (0 + (c + w + 0))
+put-less e l' u' l u c w less work = omega (arith, less, work)
 
-still-less : (e l' u' l u k : ℕ) → e + l' + u' ≤ l + u → e + l' + u' ≤ l + u + (k * 0 + 0)
-still-less e l' u' l u k less = omega (arith, less)
+-- a load, whose release is to come
+load-costs : (p : Process) (load : Loaded) → taken_cost p (OfLoad load ∷ []) ≡ 5
+load-costs p load = omega arith
 
-working-local : (p : Process) (h : List Entry) → IsRelay p → next_action p h ≡ Some act.Local → caused h ≡ None → unworked p h ≡ true
-working-local p h relay next none = by (newest h) (works-next p h act.Local next none)
-  where
-    aimed-local : (takes : Action) (due : List Parcel) (ended work : Bool) → IsTake takes → aimed takes due ended work ≡ act.Local → work ≡ true
-    aimed-local takes [] true false take e = absurd cc
-    aimed-local takes [] true true take e = refl
-    aimed-local takes [] false true take e = refl
-    aimed-local takes [] false false take e = absurd (subst IsTake e take)
-    aimed-local takes (OfFeed f ∷ more) ended work take e = absurd cc
-    aimed-local takes (OfPage page last ∷ more) ended work take e = absurd cc
-    aimed-local takes (OfLine line ∷ more) ended work take e = absurd cc
+load-less : (e l' u' l u : ℕ) → e + l' ≤ 5 → u' ≤ u → e + l' + u' ≤ l + u + (5 + 0)
+load-less e l' u' l u few work = omega (arith, few, work)
 
-    here : aim p h ≡ act.Local → unworked p h ≡ true
-    here e = aimed-local p.takes (due p h) (is_ended (taken h)) (unworked p h) relay.takes e
-
-    begun : (aim : Action) → begins aim ≡ act.Local → aim ≡ act.Local
-    begun (act.PutPage page) e = absurd cc
-    begun act.TakePage e = absurd cc
-    begun other e = e
-
-    by : (newest : Option Action) → working newest (aim p h) ≡ Some act.Local → unworked p h ≡ true
-    by None e = here (begun (aim p h) (some-same _ _ e))
-    by (Some act.AwaitRoom) e = absurd cc
-    by (Some act.AwaitItem) e = absurd cc
-    by (Some act.Request) e = here (some-same _ _ e)
-    by (Some (act.PutPage page)) e = absurd cc
-    by (Some act.TakePage) e = absurd cc
-    by (Some (act.Ended how)) e = absurd cc
-    by (Some other) e = here (begun (aim p h) (some-same _ _ e))
+still-less : (e l' u' l u : ℕ) → e + l' + u' ≤ l + u → e + l' + u' ≤ l + u + (0 + 0)
+still-less e l' u' l u less = omega (arith, less)
 
 local-less : (l : ℕ) (u now : Bool) → l ≡ 2 → u ≡ true → now ≡ false → 1 + 2 + one_if now ≤ l + one_if u
 local-less l true false is on off = omega (arith, is)
@@ -246,66 +257,72 @@ pub works-within : (p : Process) (h : List Entry) (a : Action) (r : Reply) → I
 works-within p h act.ReadCard r relay follows none given was =
     let cost = cost-is p.takes act.ReadCard (next-take p h act.ReadCard follows.0 tt).same in
     let free = free-left p h act.ReadCard relay follows.2 follows.0 none tt (λ is. is) in
-    steps p h act.ReadCard r relay follows none was 1 [] (take-one act.ReadCard r h tt follows.1 given) refl
+    steps p h act.ReadCard r relay follows none was (take_cost p.takes + one_if p.works) [] (take-costs p act.ReadCard r h tt follows.1 given) refl
     (take-less 1 2 _ _ _ (take_cost p.takes) (one_if p.works) (omega (arith, cost, free)) (and-most p.works true))
 works-within p h act.TakeFeed r relay follows none given was =
     let cost = cost-is p.takes act.TakeFeed (next-take p h act.TakeFeed follows.0 tt).same in
     let free = free-left p h act.TakeFeed relay follows.2 follows.0 none tt (λ is. is) in
     let most = counts-most act.TakeFeed r in
-    steps p h act.TakeFeed r relay follows none was 1 [] (take-one act.TakeFeed r h tt follows.1 given) refl
+    steps p h act.TakeFeed r relay follows none was (take_cost p.takes + one_if p.works) [] (take-costs p act.TakeFeed r h tt follows.1 given) refl
     (take-less (counts_by act.TakeFeed r) 2 _ _ _ (take_cost p.takes) (one_if p.works) (omega (arith, cost, free, most)) (and-most p.works true))
 works-within p h act.TakePage r relay follows none given was =
     let cost = cost-is p.takes act.TakePage (next-take p h act.TakePage follows.0 tt).same in
     let most = counts-most act.TakePage r in
-    steps p h act.TakePage r relay follows none was 1 [] (take-one act.TakePage r h tt follows.1 given) refl
+    steps p h act.TakePage r relay follows none was (take_cost p.takes + one_if p.works) [] (take-costs p act.TakePage r h tt follows.1 given) refl
     (take-less (counts_by act.TakePage r) 4 _ _ _ (take_cost p.takes) (one_if p.works) (omega (arith, cost, most)) (and-most p.works true))
 works-within p h (act.PutFeed f) reply.Done relay follows none given was =
     let free = free-left p h (act.PutFeed f) relay follows.2 follows.0 none tt (λ is. is) in
-    steps p h (act.PutFeed f) reply.Done relay follows none was 0 (OfFeed f ∷ []) refl refl
-    (put-less 2 2 _ _ _ 2 (one_if p.works) _ (omega (arith, free)) (and-most p.works _))
+    steps p h (act.PutFeed f) reply.Done relay follows none was 0 (OfFeed f ∷ []) (none-costs p) refl
+    (put-less 2 2 _ _ _ 2 (one_if p.works) (omega (arith, free)) (and-most p.works _))
 works-within p h (act.PutFeed f) reply.Stopped relay follows none given was = absurd cc
 works-within p h (act.PutFeed f) other relay follows none given was = absurd follows.1
 works-within p h (act.PutPage page) reply.Done relay follows none given was =
-    steps p h (act.PutPage page) reply.Done relay follows none was 0 (OfPage page (Rattle.batch_procs.specs.Parcels.mark page) ∷ []) refl refl
-    (put-less 2 4 _ _ _ 6 (one_if p.works) _ (omega arith) (and-most p.works (not (Rattle.batch_procs.specs.Parcels.mark page))))
+    steps p h (act.PutPage page) reply.Done relay follows none was 0 (OfPage page (Rattle.batch_procs.specs.Parcels.mark page) ∷ []) (none-costs p) refl
+    (put-less 2 4 _ _ _ 6 (one_if p.works) (omega arith) (and-most p.works (not (Rattle.batch_procs.specs.Parcels.mark page))))
 works-within p h (act.PutPage page) reply.Failed relay follows none given was = absurd cc
 works-within p h (act.PutPage page) other relay follows none given was = absurd follows.1
 works-within p h (act.Print line) reply.Done relay follows none given was =
     let free = free-left p h (act.Print line) relay follows.2 follows.0 none tt (λ is. is) in
-    steps p h (act.Print line) reply.Done relay follows none was 0 (OfLine line ∷ []) refl refl
-    (put-less 1 2 _ _ _ 1 (one_if p.works) _ (omega (arith, free)) (and-most p.works _))
+    steps p h (act.Print line) reply.Done relay follows none was 0 (OfLine line ∷ []) (none-costs p) refl
+    (put-less 1 2 _ _ _ 1 (one_if p.works) (omega (arith, free)) (and-most p.works _))
 works-within p h (act.Print line) reply.Failed relay follows none given was = absurd cc
 works-within p h (act.Print line) reply.NoMemory relay follows none given was = absurd cc
 works-within p h (act.Print line) other relay follows none given was = absurd follows.1
+works-within p h (act.Load file) (reply.Loaded load) relay follows none given was =
+    steps p h (act.Load file) (reply.Loaded load) relay follows none was 5 [] (load-costs p load) refl
+    (load-less 1 4 (one_if (unworked p h)) (left (step_after (newest h))) (one_if (unworked p h)) (omega arith) (omega arith))
+works-within p h (act.Load file) reply.Failed relay follows none given was = absurd cc
+works-within p h (act.Load file) reply.NoMemory relay follows none given was = absurd cc
+works-within p h (act.Load file) other relay follows none given was = absurd follows.1
 works-within p h act.AwaitRoom reply.Done relay follows none given was =
     let free = free-left p h act.AwaitRoom relay follows.2 follows.0 none tt (λ is. is) in
-    steps p h act.AwaitRoom reply.Done relay follows none was 0 [] refl refl (still-less 1 1 _ _ _ _ (omega (arith, free)))
+    steps p h act.AwaitRoom reply.Done relay follows none was 0 [] (none-costs p) refl (still-less 1 1 _ _ _ (omega (arith, free)))
 works-within p h act.AwaitRoom reply.Stopped relay follows none given was = absurd cc
 works-within p h act.AwaitRoom other relay follows none given was = absurd follows.1
 works-within p h act.AwaitItem reply.Done relay follows none given was =
     let free = free-left p h act.AwaitItem relay follows.2 follows.0 none tt (λ is. is) in
-    steps p h act.AwaitItem reply.Done relay follows none was 0 [] refl refl (still-less 1 1 _ _ _ _ (omega (arith, free)))
+    steps p h act.AwaitItem reply.Done relay follows none was 0 [] (none-costs p) refl (still-less 1 1 _ _ _ (omega (arith, free)))
 works-within p h act.AwaitItem reply.Stopped relay follows none given was = absurd cc
 works-within p h act.AwaitItem other relay follows none given was = absurd follows.1
 works-within p h act.Request reply.Done relay follows none given was =
-    let one = left-awaited (step_after (newest h)) (request-step (newest h) (aim p h) (aim-is p h relay) (works-next p h act.Request follows.0 none)) in
-    steps p h act.Request reply.Done relay follows none was 0 [] refl refl (still-less 1 0 _ _ _ _ (omega (arith, one)))
+    let one = left-some (step_after (newest h)) (request-step (newest h) (aim p h) (aim-is p h relay) (works-next p h act.Request follows.0 none)) in
+    steps p h act.Request reply.Done relay follows none was 0 [] (none-costs p) refl (still-less 1 0 _ _ _ (omega (arith, one)))
 works-within p h act.Request other relay follows none given was = absurd follows.1
 works-within p h act.Release reply.Done relay follows none given was =
     let moved = left-moved (step_after (newest h)) (release-step (newest h) (aim p h) (aim-is p h relay) (works-next p h act.Release follows.0 none)) in
-    steps p h act.Release reply.Done relay follows none was 0 [] refl refl (still-less 2 2 _ _ _ _ (omega (arith, moved)))
+    steps p h act.Release reply.Done relay follows none was 0 [] (none-costs p) refl (still-less 2 2 _ _ _ (omega (arith, moved)))
 works-within p h act.Release other relay follows none given was = absurd follows.1
 works-within p h act.Local reply.Done relay follows none given was =
     let free = free-left p h act.Local relay follows.2 follows.0 none tt (λ is. is) in
-    steps p h act.Local reply.Done relay follows none was 0 [] refl refl
-    (still-less 1 2 _ _ _ _ (local-less _ (unworked p h) (p.works && false) free (working-local p h relay follows.0 none) (and-nothing p.works)))
+    steps p h act.Local reply.Done relay follows none was 0 [] (none-costs p) refl
+    (still-less 1 2 _ _ _ (local-less _ (unworked p h) (p.works && false) free (next-local p h relay follows.2 follows.0).0 (and-nothing p.works)))
 works-within p h act.Local other relay follows none given was = absurd follows.1
 works-within p h (act.Ended how) reply.Done relay follows none given was =
     let free = free-left p h (act.Ended how) relay follows.2 follows.0 none tt (λ is. is) in
-    let same = spent-more p h (act.Ended how) reply.Done 0 [] refl refl in
-    let zero : (take_cost p.takes + one_if p.works) * 0 ≡ 0 = omega arith in
-    omega (arith, was, free, same, zero)
+    let same = spent-more p h (act.Ended how) reply.Done 0 [] (none-costs p) refl in
+    omega (arith, was, free, same)
 works-within p h (act.Ended how) other relay follows none given was = absurd follows.1
 works-within p h (act.Stop b) r relay follows none given was =
-    absurd (working-no_stop (newest h) (aim p h) (act.Stop b) (aimed-no_stop p.takes (due p h) (is_ended (taken h)) (unworked p h) relay.takes)
+    absurd (working-no_stop (newest h) (aim p h) (act.Stop b)
+    (aimed-no_stop p.takes (p.wants (taken h)) (due p h) (is_ended (taken h)) (unworked p h) relay.takes)
     (works-next p h (act.Stop b) follows.0 none))

@@ -12,7 +12,7 @@ use Rattle.queue_var.specs.HandsOver.{Lacks, WaitsWithCause}
 use Rattle.resource_mon.specs.Claims.{EachOnce}
 use Rattle.batch_procs.specs.declared.actions.Action.{Action}
 use Rattle.batch_procs.specs.declared.actions.Action.TheVariants as act
-use Rattle.batch_procs.specs.Parcels.{Parcel, OfFeed, OfPage, OfLine, IsAFeed, IsALine, is_ended}
+use Rattle.batch_procs.specs.Parcels.{Parcel, OfFeed, OfPage, OfLine, OfLoad, IsAFeed, IsALine, is_ended}
 use Rattle.batch_procs.specs.History.{Entry, Does, LacksMemory, Delays, taken, sent, holds, has_stopped, newest}
 use Rattle.batch_procs.specs.Causes.{caused}
 use Rattle.batch_procs.specs.Process.{Process, unworked, due, aim, aimed, working, begins, stops_next, closes, closing, next_by, next_action, Follows}
@@ -43,6 +43,7 @@ IsPlain act.Request = ⊥
 IsPlain (act.PutPage page) = ⊥
 IsPlain act.TakePage = ⊥
 IsPlain act.Release = ⊥
+IsPlain (act.Load file) = ⊥
 IsPlain other = Unit {0}
 
 abbrev NewestPlain : Option Action → Type 0
@@ -52,6 +53,7 @@ NewestPlain (Some a) = IsPlain a
 plain-begins : (aim : Action) → IsPlain aim → IsPlain (begins aim)
 plain-begins (act.PutPage page) is = absurd is
 plain-begins act.TakePage is = absurd is
+plain-begins (act.Load file) is = absurd is
 plain-begins other is = is
 
 plain-working : (newest : Option Action) (aim a : Action) → NewestPlain newest → IsPlain aim → working newest aim ≡ Some a → IsPlain a
@@ -62,6 +64,7 @@ plain-working (Some act.Request) aim a was is e = absurd was
 plain-working (Some (act.PutPage page)) aim a was is e = absurd was
 plain-working (Some act.TakePage) aim a was is e = absurd was
 plain-working (Some act.Release) aim a was is e = absurd was
+plain-working (Some (act.Load file)) aim a was is e = absurd was
 plain-working (Some (act.Ended how)) aim a was is e = absurd cc
 plain-working (Some other) aim a was is e = subst IsPlain (some-same (begins aim) a e) (plain-begins aim is)
 
@@ -73,6 +76,7 @@ plain-free (Some act.Request) was = absurd was
 plain-free (Some (act.PutPage page)) was = absurd was
 plain-free (Some act.TakePage) was = absurd was
 plain-free (Some act.Release) was = absurd was
+plain-free (Some (act.Load file)) was = absurd was
 plain-free (Some (act.Ended how)) was = refl
 plain-free (Some other) was = refl
 
@@ -110,25 +114,29 @@ abbrev IsNoPage : Parcel → Type 0
 IsNoPage (OfFeed f) = Unit {0}
 IsNoPage (OfPage page last) = ⊥
 IsNoPage (OfLine line) = Unit {0}
+IsNoPage (OfLoad load) = Unit {0}
 
 feeds-no_page : (ps : List Parcel) → AllByRecursion IsAFeed ps → AllByRecursion IsNoPage ps
 feeds-no_page [] are = tt
 feeds-no_page (OfFeed f ∷ rest) are = (tt, feeds-no_page rest are.1)
 feeds-no_page (OfPage page last ∷ rest) are = absurd are.0
 feeds-no_page (OfLine line ∷ rest) are = absurd are.0
+feeds-no_page (OfLoad load ∷ rest) are = absurd are.0
 
 lines-no_page : (ps : List Parcel) → AllByRecursion IsALine ps → AllByRecursion IsNoPage ps
 lines-no_page [] are = tt
 lines-no_page (OfLine line ∷ rest) are = (tt, lines-no_page rest are.1)
 lines-no_page (OfPage page last ∷ rest) are = absurd are.0
 lines-no_page (OfFeed f ∷ rest) are = absurd are.0
+lines-no_page (OfLoad load ∷ rest) are = absurd are.0
 
 all-drop : (n : ℕ) (ps : List Parcel) → AllByRecursion IsNoPage ps → AllByRecursion IsNoPage (drop n ps)
 all-drop zero ps are = are
 all-drop (suc n) [] are = are
 all-drop (suc n) (x ∷ ps) are = all-drop n ps are.1
 
-aimed-plain : (takes : Action) (due : List Parcel) (ended work : Bool) → IsPlain takes → AllByRecursion IsNoPage due → IsPlain (aimed takes due ended work)
+-- it wants no file
+aimed-plain : (takes : Action) (due : List Parcel) (ended work : Bool) → IsPlain takes → AllByRecursion IsNoPage due → IsPlain (aimed takes [] due ended work)
 aimed-plain takes [] true false is are = tt
 aimed-plain takes [] true true is are = tt
 aimed-plain takes [] false true is are = tt
@@ -136,6 +144,7 @@ aimed-plain takes [] false false is are = is
 aimed-plain takes (OfFeed f ∷ more) ended work is are = tt
 aimed-plain takes (OfPage page last ∷ more) ended work is are = absurd are.0
 aimed-plain takes (OfLine line ∷ more) ended work is are = tt
+aimed-plain takes (OfLoad load ∷ more) ended work is are = tt
 
 pub card-aims : (h : List Entry) → IsPlain (aim (process 1) h)
 card-aims h =

@@ -13,8 +13,8 @@ use Rattle.batch_procs.specs.declared.actions.Action.{Action}
 use Rattle.batch_procs.specs.declared.actions.Action.TheVariants as act
 use Rattle.batch_procs.specs.declared.actions.Reply.{Reply}
 use Rattle.batch_procs.specs.declared.actions.Reply.TheVariants as reply
-use Rattle.batch_procs.specs.Parcels.{Parcel, OfFeed, OfPage, OfLine, is_last, is_ended}
-use Rattle.batch_procs.specs.History.{Entry, Does, LacksMemory, Delays, action_of, card_taken, took, taken, taken_by, put, put_by, sent}
+use Rattle.batch_procs.specs.Parcels.{Parcel, OfFeed, OfPage, OfLine, OfLoad, is_last, is_ended}
+use Rattle.batch_procs.specs.History.{Entry, Does, LacksMemory, Delays, action_of, card_taken, taken, taken_by, put, put_by}
 use Rattle.batch_procs.specs.Fits.{Fits, MayLack}
 use Rattle.batch_procs.specs.Process.{Process, IsFitting, next_action}
 use Rattle.batch_procs.specs.Laws.{IsTake}
@@ -22,7 +22,7 @@ use Rattle.core_law.specs.Core.{Devices, DeckGives, Allows, items_by, read_off}
 use Rattle.core_law.proofs.Streams.{deck_parcels, text_of, ReadsOf}
 use Rattle.core_law.proofs.Taking.{next-take}
 use Rattle.core_law.proofs.Passed.{IsNoPrint, IsNoRead}
-use Rattle.core_law.proofs.Ends.{takes-nothing}
+use Rattle.core_law.proofs.Loading.{plain-reply}
 
 -- ---- the deck
 or-assoc : (a b c t : Bool) → t ≡ (b || c) → (a || t) ≡ ((a || b) || c)
@@ -101,17 +101,19 @@ lacks-nothing p h act.Local reply.Done first next may = refl
 lacks-nothing p h a r first next may = absurd may
 
 pub reads-own : (p : Process) (devices : Devices) (entry : Entry) (h : List Entry) (gained : List ℕ) (items : List Item) → p.takes ≡ act.ReadCard
-    → next_action p h ≡ Some (action_of entry) → IsFitting p entry → Allows devices entry gained
+    → ((file : List ℕ) → next_action p h ≡ Some (act.Load file) → ⊥) → next_action p h ≡ Some (action_of entry) → IsFitting p entry
+    → Allows devices entry gained
     → ReadsOf items devices.deck (taken h) → ReadsOf items (option_map (drop (length (read_off entry))) devices.deck) (taken (entry ∷ h))
-reads-own p devices (Does act.ReadCard r) h gained items first next fits allows reads =
+reads-own p devices (Does (act.Load file) r) h gained items first not next fits allows reads = absurd (not file next)
+reads-own p devices (Does act.ReadCard r) h gained items first not next fits allows reads =
     reads-answer items devices (taken h) r gained (next-take p h act.ReadCard next tt).goes_on fits allows reads
-reads-own p devices (Does act.TakeFeed r) h gained items first next fits allows reads = absurd (let e = takes-card p h act.TakeFeed first next tt in cc)
-reads-own p devices (Does act.TakePage r) h gained items first next fits allows reads = absurd (let e = takes-card p h act.TakePage first next tt in cc)
-reads-own p devices (Does a r) h gained items first next fits allows reads =
-    reads-plain items devices.deck (taken h) (taken_by r) (takes-nothing a r fits (λ is. is)) reads
-reads-own p devices (LacksMemory a r) h gained items first next fits allows reads =
+reads-own p devices (Does act.TakeFeed r) h gained items first not next fits allows reads = absurd (let e = takes-card p h act.TakeFeed first next tt in cc)
+reads-own p devices (Does act.TakePage r) h gained items first not next fits allows reads = absurd (let e = takes-card p h act.TakePage first next tt in cc)
+reads-own p devices (Does a r) h gained items first not next fits allows reads =
+    reads-plain items devices.deck (taken h) (taken_by r) (plain-reply a r fits tt) reads
+reads-own p devices (LacksMemory a r) h gained items first not next fits allows reads =
     reads-plain items devices.deck (taken h) (taken_by r) (lacks-nothing p h a r first next fits.1) reads
-reads-own p devices (Delays a) h gained items first next fits allows reads = reads-still items devices.deck (taken h) reads
+reads-own p devices (Delays a) h gained items first not next fits allows reads = reads-still items devices.deck (taken h) reads
 
 pub read_off-none : (entry : Entry) → IsNoRead (action_of entry) → read_off entry ≡ []
 read_off-none (Does act.ReadCard r) is = absurd is
@@ -124,6 +126,7 @@ pub text-more : (some more : List Parcel) → text_of (some ++ more) ≡ text_of
 text-more [] more = refl
 text-more (OfFeed f ∷ some) more = text-more some more
 text-more (OfPage page last ∷ some) more = text-more some more
+text-more (OfLoad load ∷ some) more = text-more some more
 text-more (OfLine line ∷ some) more = ap (λ rest. line_text line ++ rest) (text-more some more)
     ∙ sym (append_assoc (line_text line) (text_of some) (text_of more))
 
@@ -153,9 +156,17 @@ read-gained : (devices : Devices) (r : Reply) (gained : List ℕ) → Fits act.R
 read-gained devices (reply.Card answer) gained fits allows = allows.1
 read-gained devices r gained fits allows = absurd fits
 
+load-gained : (devices : Devices) (file : List ℕ) (r : Reply) (gained : List ℕ) → Fits (act.Load file) r → Allows devices (Does (act.Load file) r) gained
+    → gained ≡ []
+load-gained devices file (reply.Loaded load) gained fits allows = allows.1
+load-gained devices file reply.Failed gained fits allows = allows
+load-gained devices file reply.NoMemory gained fits allows = allows
+load-gained devices file r gained fits allows = absurd fits
+
 pub gained-none : (p : Process) (devices : Devices) (entry : Entry) (gained : List ℕ) → IsFitting p entry → IsNoPrint (action_of entry)
     → Allows devices entry gained → gained ≡ []
 gained-none p devices (Does act.ReadCard r) gained fits is allows = read-gained devices r gained fits allows
+gained-none p devices (Does (act.Load file) r) gained fits is allows = load-gained devices file r gained fits allows
 gained-none p devices (Does (act.Print line) r) gained fits is allows = absurd is
 gained-none p devices (Does a r) gained fits is allows = allows
 gained-none p devices (LacksMemory a r) gained fits is allows = allows

@@ -1,14 +1,16 @@
--- Each enabled event keeps what the paper gained, and with it what the devices tell.
-use Rattle.std.proofs.Common.{◌≡◌, inl, inr, ℕ, ◌<◌, List, [], ◌∷◌, ◌++◌, length, drop, Option, None, Some, refl, sym, ◌∙◌, ap, subst, append_assoc, option_map, arith}
+-- Each enabled event keeps what the paper gained and what the files were loaded as, and with it what the devices tell.
+use Rattle.std.proofs.Common.{◌≡◌, inl, inr, ℕ, ◌<◌, List, [], ◌∷◌, ◌++◌, length, drop, map, Option, None, Some, refl, sym, ◌∙◌, ap, subst, append_assoc, option_map, arith}
 use Rattle.std.proofs.lemmas.Bool.Decides.{eqb_tells}
 use Rattle.std.proofs.lemmas.List.{append-nil}
 use Rattle.solo_base.specs.declared.item.Item.{Item}
 use Rattle.solo_base.specs.Text.{line_text}
+use Rattle.batch_job.specs.Report.{Loads}
 use Rattle.batch_job.specs.LinesSoFar.{IsPrefixOf}
+use Rattle.batch_procs.specs.declared.actions.Action.{Action}
 use Rattle.batch_procs.specs.declared.actions.Action.TheVariants as act
 use Rattle.batch_procs.specs.declared.actions.Reply.{Reply}
 use Rattle.batch_procs.specs.declared.actions.Reply.TheVariants as reply
-use Rattle.batch_procs.specs.Parcels.{Parcel, OfLine}
+use Rattle.batch_procs.specs.Parcels.{Parcel, OfLine, loads}
 use Rattle.batch_procs.specs.History.{Entry, Does, LacksMemory, Delays, action_of, took, taken, taken_by, put, sent}
 use Rattle.batch_procs.specs.Fits.{Fits}
 use Rattle.batch_procs.specs.Causes.{caused, given_cause}
@@ -20,11 +22,33 @@ use Rattle.batch_procs.proofs.Holding.{some-not_none}
 use Rattle.network_law.specs.Network.{IsEnabled, happens}
 use Rattle.network_law.proofs.Numbers.{set-same, set-other}
 use Rattle.core_law.specs.Core.{Devices, Allows, read_off, given, core, CoreState, CoreEvent}
+use Rattle.core_law.specs.FilesLoaded.{file_loaded, AreLoadedSo}
 use Rattle.core_law.proofs.Streams.{text_of, ReadsOf, Gained, DevicesStand}
+use Rattle.core_law.proofs.Loading.{loaded-more, wants-none, card-loads, lack-loads}
 use Rattle.core_law.proofs.Row.{IsRow}
 use Rattle.core_law.proofs.Taking.{next-take}
 use Rattle.core_law.proofs.Passed.{IsNoPrint, no-print, no-read, prints-line}
 use Rattle.core_law.proofs.KeepsDevices.{reads-own, reads-still, read_off-none, text-more, text-part, prefix-longer, entry-no_text, gained-none}
+
+-- ---- the files
+-- an entry loads a file as told files say
+reply-so : (devices : Devices) (a : Action) (r : Reply) (found : Loads) (gained : List ℕ) → devices.files ≡ Some found → Fits a r
+    → Allows devices (Does a r) gained → loads (taken_by r) ≡ map found (file_loaded (Does a r))
+reply-so devices (act.Load file) (reply.Loaded load) found gained told fits allows = ap (λ load. load ∷ []) (allows.0 found told)
+reply-so devices act.ReadCard (reply.Card answer) found gained told fits allows = card-loads answer
+reply-so devices act.TakeFeed (reply.Feed f) found gained told fits allows = refl
+reply-so devices act.TakePage (reply.Page page last) found gained told fits allows = refl
+reply-so devices a reply.Done found gained told fits allows = refl
+reply-so devices a reply.Stopped found gained told fits allows = refl
+reply-so devices a reply.Failed found gained told fits allows = refl
+reply-so devices a reply.NoMemory found gained told fits allows = refl
+reply-so devices a r found gained told fits allows = absurd fits
+
+loads-so : (p : Process) (devices : Devices) (entry : Entry) (found : Loads) (gained : List ℕ) → devices.files ≡ Some found → IsFitting p entry
+    → Allows devices entry gained → loads (took entry) ≡ map found (file_loaded entry)
+loads-so p devices (Does a r) found gained told fits allows = reply-so devices a r found gained told fits allows
+loads-so p devices (LacksMemory a r) found gained told fits allows = lack-loads a r fits.1
+loads-so p devices (Delays a) found gained told fits allows = refl
 
 -- ---- the histories
 pub sent-more : (entry : Entry) (h : List Entry) → sent (entry ∷ h) ≡ sent h ++ put entry
@@ -145,7 +169,10 @@ module _ {row : ℕ → Process} (laws : IsRow row) (opening s : CoreState) (eve
             let first = subst (λ q. (row q).takes ≡ act.ReadCard) (sym is.1) laws.first in
             subst (λ q. ReadsOf items after.devices.deck (taken (after.histories q))) is.1
             (subst (λ h. ReadsOf items after.devices.deck (taken h)) (sym (set-same s.histories p own))
-            (reads-own (row p) s.devices event.entry (s.histories p) event.gained items first enabled.next enabled.suits enabled.allowed
+            (reads-own (row p) s.devices event.entry (s.histories p) event.gained items first
+            (λ file. wants-none (row p) (s.histories p) file (laws.relays p) (follows p)
+            (laws.loads p (λ three. (let one = is.1 in omega (arith, one, three)))))
+            enabled.next enabled.suits enabled.allowed
             (subst (λ q. ReadsOf items s.devices.deck (taken (s.histories q))) (sym is.1) (d.read items told))))
         | inr differ ↦
             let none = read_off-none event.entry (no-read (action_of event.entry)
@@ -174,10 +201,24 @@ module _ {row : ℕ → Process} (laws : IsRow row) (opening s : CoreState) (eve
             record { gained = g.gained; paper_is = rw none (none-gained given s.devices.paper g.gained g.paper_is); printed = g.printed; part = g.part }
       ]
 
+  loaded-after : (found : Loads) → opening.devices.files ≡ Some found → (q : ℕ) → AreLoadedSo found (after.histories q)
+  loaded-after found told q =
+      elim (eqb_tells q p) as (λ _. AreLoadedSo found (after.histories q)) [
+        | inl is ↦
+            subst (λ q. AreLoadedSo found (after.histories q)) (sym is.1)
+            (subst (AreLoadedSo found) (sym (set-same s.histories p own))
+            (loaded-more found event.entry (s.histories p) (loads-so (row p) s.devices event.entry found event.gained (d.files_same ∙ told) enabled.suits
+            enabled.allowed)
+            (d.loaded found told p)))
+        | inr differ ↦ subst (AreLoadedSo found) (sym (set-other s.histories p own q differ.1)) (d.loaded found told q)
+      ]
+
   pub keeps-devices : DevicesStand row opening after
   keeps-devices = record {
     read = reads-after;
     gained = gained-after;
     deck_untold = λ e. ap (option_map (drop (length (read_off event.entry)))) (d.deck_untold e);
     paper_untold = λ e. ap (option_map (λ before. before ++ event.gained)) (d.paper_untold e);
+    files_same = d.files_same;
+    loaded = loaded-after;
   }

@@ -47,7 +47,8 @@ closes-among buffers Is how h c all e =
 stops-by : (p : Process) (cause : Option Outcome) (Is : ℕ → Type 0) (h : List Entry) (c : ℕ) → IsRelay p → AllByRecursion Is p.buffers
     → next_by p cause h ≡ Some (act.Stop c) → IsStop Is h c
 stops-by p None Is h c relay all e =
-    absurd (working-no_stop (newest h) (aim p h) (act.Stop c) (aimed-no_stop p.takes (due p h) (is_ended (taken h)) (unworked p h) relay.takes) e)
+    absurd (working-no_stop (newest h) (aim p h) (act.Stop c)
+    (aimed-no_stop p.takes (p.wants (taken h)) (due p h) (is_ended (taken h)) (unworked p h) relay.takes) e)
 stops-by p (Some how) Is h c relay all e = closes-among p.buffers Is how h c all (closing-next (newest h) (closes p.buffers how h) (act.Stop c) e)
 
 pub stops-among : (p : Process) (Is : ℕ → Type 0) (h : List Entry) (c : ℕ) → IsRelay p → AllByRecursion Is p.buffers → next_action p h ≡ Some (act.Stop c)
@@ -99,6 +100,7 @@ module _ {row : ℕ → Process} (laws : IsRow row) (p : ℕ) (h : List Entry) (
   seated-by act.ReadCard b side visit next e = absurd cc
   seated-by act.Request b side visit next e = absurd cc
   seated-by act.Release b side visit next e = absurd cc
+  seated-by (act.Load file) b side visit next e = absurd cc
   seated-by act.Local b side visit next e = absurd cc
   seated-by (act.Print line) b side visit next e = absurd cc
   seated-by (act.Ended how) b side visit next e = absurd cc
@@ -137,6 +139,7 @@ module _ {row : ℕ → Process} (laws : IsRow row) (p : ℕ) (h : List Entry) (
   prompt : (a : Action) → IsHeld a → IsPrompt (call p a)
   prompt (act.PutPage page) is = tt
   prompt act.TakePage is = tt
+  prompt (act.Load file) is = tt
   prompt act.Release is = tt
   prompt a is = absurd is
 

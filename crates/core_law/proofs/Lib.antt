@@ -1,3 +1,5 @@
+pub mod HandedLists
+pub mod Loading
 pub mod Row
 pub mod Taking
 pub mod Ends
@@ -10,6 +12,7 @@ pub mod KeepsPaper
 pub mod Places
 pub mod Told
 pub mod Outcomes
+pub mod Coming
 pub mod Answers
 pub mod Handed
 pub mod NeverStuck
@@ -26,6 +29,8 @@ pub mod Undamaged
 pub mod Reached
 pub mod DeskRoom
 pub mod Sleeping
+pub mod DeckFalls
+pub mod CallsFall
 pub mod WorkFalls
 mod CallsMade
 mod CallsCaused

@@ -10,10 +10,10 @@ use Rattle.queue_var.specs.declared.stops.Stops.TheVariants as marks
 use Rattle.queue_var.specs.Sides.{stopped_by, is_among, first_of}
 use Rattle.queue_var.specs.HandsOver.{Lacks}
 use Rattle.batch_procs.specs.declared.actions.Action.TheVariants as act
-use Rattle.batch_procs.specs.Parcels.{Parcel, is_last, is_ended}
+use Rattle.batch_procs.specs.Parcels.{Parcel, is_last, is_ended, handed}
 use Rattle.batch_procs.specs.History.{taken, sent, has_stopped, newest}
 use Rattle.batch_procs.specs.Process.{Process, next_action}
-use Rattle.batch_procs.specs.Laws.{EndsRightly, HasEnded as IsAtEnd}
+use Rattle.batch_procs.specs.Laws.{EndsRightly}
 use Rattle.batch_procs.proofs.Holding.{none-next}
 use Rattle.batch_procs.proofs.Ended.{ended-rightly, done-free}
 use Rattle.network_law.specs.Acts.{Call, At, Visit, Awaits, Passes, Moves, Stops}
@@ -23,12 +23,15 @@ use Rattle.network_law.specs.Kept.{CanWait, IsTold, Stands}
 use Rattle.network_law.proofs.Rests.{IsBlocked, rests}
 use Rattle.core_law.specs.Core.{seat, core, CoreState, CoreEvent, IsBuffer}
 use Rattle.core_law.specs.Ends.{IsProcess, IsSmooth, HasEnded}
+use Rattle.core_law.specs.Opening.{AreGoodFiles}
 use Rattle.core_law.proofs.Row.{IsRow, Among, among-all}
 use Rattle.core_law.proofs.Acting.{follows-of, stops-are}
 use Rattle.core_law.proofs.Lawful.{lawful}
 use Rattle.core_law.proofs.Places.{call-buffer, sender-due, receiver-unended, none-due}
 use Rattle.core_law.proofs.Answers.{smooth-event}
-use Rattle.core_law.proofs.Handed.{handed}
+use Rattle.core_law.proofs.Handed.{stands-between}
+use Rattle.core_law.proofs.HandedLists.{ended-handed}
+use Rattle.core_law.proofs.Loading.{done-worked}
 
 -- ---- marks of the last
 abbrev any-last : List Bool → Bool
@@ -94,24 +97,26 @@ module _ {row : ℕ → Process} (laws : IsRow row) (opening s : CoreState) (st 
   -- ---- both sides agree on the last
   last-sent : (b : ℕ) → IsBuffer b → is_ended (taken (s.histories (suc b))) ≡ true → is_ended (sent (s.histories b)) ≡ true
   last-sent b is e =
-      let order = (handed laws opening s st b is).marks.in_order in
+      let order = (stands-between laws opening s st b is).marks.in_order in
       ended-marks (sent (s.histories b)) ∙ ap any-last (sym order)
-      ∙ any-longer (map is_last (taken (s.histories (suc b)))) (s.buffers b).marks (sym (ended-marks (taken (s.histories (suc b)))) ∙ e)
+      ∙ any-longer (map is_last (handed (taken (s.histories (suc b))))) (s.buffers b).marks
+      (sym (ended-marks (handed (taken (s.histories (suc b))))) ∙ ended-handed (taken (s.histories (suc b))) ∙ e)
 
   last-taken : (b : ℕ) → IsBuffer b → (s.buffers b).marks ≡ [] → is_ended (sent (s.histories b)) ≡ true → is_ended (taken (s.histories (suc b))) ≡ true
   last-taken b is empty e =
-      let order = (handed laws opening s st b is).marks.in_order in
-      let all = map is_last (taken (s.histories (suc b))) in
-      ended-marks (taken (s.histories (suc b))) ∙ ap any-last (sym (append-nil all) ∙ ap (λ ms. all ++ ms) (sym empty) ∙ order)
+      let order = (stands-between laws opening s st b is).marks.in_order in
+      let all = map is_last (handed (taken (s.histories (suc b)))) in
+      sym (ended-handed (taken (s.histories (suc b)))) ∙ ended-marks (handed (taken (s.histories (suc b))))
+      ∙ ap any-last (sym (append-nil all) ∙ ap (λ ms. all ++ ms) (sym empty) ∙ order)
       ∙ sym (ended-marks (sent (s.histories b))) ∙ e
 
 module _ {row : ℕ → Process} (laws : IsRow row) (opening s : CoreState) (st : Stands (core row) opening s)
     (lines_told : (b : ℕ) → IsBuffer b → (row (suc b)).takes ≡ act.TakeFeed → IsTold (opening.buffers b))
-    (sizes : (b : ℕ) → IsBuffer b → 1 ≤ (opening.buffers b).capacity)
+    (sizes : (b : ℕ) → IsBuffer b → 1 ≤ (opening.buffers b).capacity) (good : AreGoodFiles s.devices.files)
     (none : (event : CoreEvent) → IsEnabled (core row) s event → IsSmooth event.entry → ⊥) where
   may-not : (p : ℕ) (c : Call) → IsProcess p → CallsNext (core row) p (s.histories p) c → MayCall s p c → ⊥
   may-not p c one calls may =
-      let is = smooth-event laws opening s st lines_told p calls.action one calls.next (subst (MayCall s p) (sym calls.call) may) in
+      let is = smooth-event laws opening s st lines_told good p calls.action one calls.next (subst (MayCall s p) (sym calls.call) may) in
       none is.event is.enabled is.smooth
 
   abbrev Rests : ℕ → Type 0
@@ -200,8 +205,10 @@ module _ {row : ℕ → Process} (laws : IsRow row) (opening s : CoreState) (st 
             let (how, last) = none-next (row b) h ended in
             let done = ended-done laws opening s st b Sender how is w.not_stopped last in
             let r = ends-at laws opening s st b how last in
-            let free = done-free (row b) h follows (last ∙ ap (λ how. Some (act.Ended how)) done) in
-            let sent_last = ap is_ended (r.done done).0 ∙ laws.ends b is h follows free (r.done done).1 in
+            let at_end = last ∙ ap (λ how. Some (act.Ended how)) done in
+            let free = done-free (row b) h follows at_end in
+            let worked = done-worked (row b) h (laws.relays b) follows at_end in
+            let sent_last = ap is_ended (r.done done).0 ∙ laws.ends b is h follows free worked (r.done done).1 in
             let on = receiver-unended (row (suc b)) (s.histories (suc b))
             (suc b) b w.visit w.calls.action (laws.relays (suc b)) w.calls.next w.calls.call (no-stop w.visit w.can_wait) in
             let off = last-taken laws opening s st b is w.lacks sent_last in

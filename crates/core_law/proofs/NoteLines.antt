@@ -11,7 +11,7 @@ use Rattle.deck_format.specs.declared.job.CardFaultKind.{CardFaultKind}
 use Rattle.deck_format.specs.declared.job.CardFaultKind.TheVariants as kind
 use Rattle.deck_format.specs.Jobs.{card_count}
 use Rattle.batch_job.specs.Report.{heading, listed_line, kind_text, fault_line, listing_end, skipped_line}
-use Rattle.program_lines.specs.Texts.{number_text, note, numbered_note, result_line, bad_word_line, syntax_line, semantic_line, code_limit_line, no_file_line}
+use Rattle.program_lines.specs.Texts.{number_text, note, numbered_note, result_line, bad_word_line, syntax_line, semantic_line, code_limit_line, no_file_line, not_code_line, bad_code_line}
 use Rattle.core_law.proofs.PrintedTexts.{Prints, append-prints, is-line, IsNamed, number-prints}
 
 pub count-small : (n : ℕ) → card_count n < 2 ^ 32
@@ -104,3 +104,10 @@ code-limit-line name is = note-line 12 name (codes ": CODE LIMIT") (omega arith)
 
 pub no-file-line : (name : List ℕ) → IsNamed name → IsLine (no_file_line name)
 no-file-line name is = note-line 9 name (codes ": NO FILE") (omega arith) record { short = omega arith; printable = refl } is
+
+pub not-code-line : (name : List ℕ) → IsNamed name → IsLine (not_code_line name)
+not-code-line name is = note-line 10 name (codes ": NOT CODE") (omega arith) record { short = omega arith; printable = refl } is
+
+pub bad-code-line : (name : List ℕ) (at : ℕ) → IsNamed name → IsLine (bad_code_line name at)
+bad-code-line name at is =
+    numbered-line 14 name (codes ": BAD CODE AT ") at (omega arith) record { short = omega arith; printable = refl } is

@@ -19,7 +19,9 @@ use Rattle.core_law.specs.Ends.{outcome_by}
 
 ends-as : (p : Process) (cause : Option Outcome) (h : List Entry) (how : Outcome) → IsRelay p → next_by p cause h ≡ Some (act.Ended how)
     → outcome_by cause ≡ how
-ends-as p None h how relay next = sym (aimed-end p.takes (due p h) (is_ended (taken h)) (unworked p h) how relay.takes (working-end (newest h) _ how next)).done
+ends-as p None h how relay next =
+    let aims = working-end (newest h) _ how next in
+    sym (aimed-end p.takes (p.wants (taken h)) (due p h) (is_ended (taken h)) (unworked p h) how relay.takes aims).done
 ends-as p (Some cause) h how relay next = sym (closes-end p.buffers cause how h (closing-next (newest h) (closes p.buffers cause h) (act.Ended how) next)).same
 
 end-reply : (how : Outcome) (r : Reply) → Fits (act.Ended how) r → r ≡ reply.Done

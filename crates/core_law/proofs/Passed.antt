@@ -8,7 +8,7 @@ use Rattle.batch_procs.specs.declared.actions.Action.{Action}
 use Rattle.batch_procs.specs.declared.actions.Action.TheVariants as act
 use Rattle.batch_procs.specs.declared.actions.Reply.{Reply}
 use Rattle.batch_procs.specs.declared.actions.Reply.TheVariants as reply
-use Rattle.batch_procs.specs.Parcels.{Parcel, OfFeed, OfPage, OfLine, is_ended}
+use Rattle.batch_procs.specs.Parcels.{Parcel, OfFeed, OfPage, OfLine, OfLoad, is_ended, handed}
 use Rattle.batch_procs.specs.History.{Entry, Does, LacksMemory, Delays, taken, taken_by, sent, put_by}
 use Rattle.batch_procs.specs.Fits.{Fits, MayLack, MayWait}
 use Rattle.batch_procs.specs.Causes.{caused}
@@ -21,6 +21,7 @@ use Rattle.core_law.specs.Core.{upstream, call, went_by, went, core, IsBuffer}
 use Rattle.core_law.proofs.Row.{IsNoLine, IsRow}
 use Rattle.core_law.proofs.Taking.{next-take}
 use Rattle.core_law.proofs.Acting.{same-here}
+use Rattle.core_law.proofs.HandedLists.{handed-append}
 
 -- ---- who prints and who reads
 no_line-behind : (part rest : List Parcel) → AllByRecursion IsNoLine (part ++ rest) → AllByRecursion IsNoLine rest
@@ -31,11 +32,12 @@ line-not : (parcel : Parcel) (line : List ℕ) → puts parcel ≡ act.Print lin
 line-not (OfFeed f) line e is = cc
 line-not (OfPage page last) line e is = cc
 line-not (OfLine text) line e is = is
+line-not (OfLoad load) line e is = cc
 
 pub prints-line : (p : Process) (h : List Entry) (line : List ℕ) → IsRelay p → Follows p h → next_action p h ≡ Some (act.Print line)
     → AllByRecursion IsNoLine (p.sends (taken h)) → ⊥
 prints-line p h line relay follows next all =
-    let is = aimed-put p.takes (due p h) (is_ended (taken h)) (unworked p h)
+    let is = aimed-put p.takes (p.wants (taken h)) (due p h) (is_ended (taken h)) (unworked p h)
     (act.Print line) relay.takes (next-put p (caused h) h (act.Print line) next tt).1 tt in
     let (rest, whole) = sent-is-part p h relay follows in
     let (left, rest-is) = due-rest p h is.first is.more rest relay whole is.due_is in
@@ -86,13 +88,14 @@ sent-does p (act.PutPage page) reply.Failed fits not = refl
 sent-does p act.TakePage (reply.Page page last) fits not = (across p (upstream p) (OfPage page last)).0
 sent-does p act.TakePage reply.Failed fits not = refl
 sent-does p act.Release r fits not = refl
+sent-does p (act.Load file) r fits not = refl
 sent-does p act.Local r fits not = refl
 sent-does p (act.Print line) r fits not = absurd not
 sent-does p (act.Stop b) reply.Done fits not = refl
 sent-does p (act.Ended how) r fits not = refl
 sent-does p a r fits not = absurd fits
 
-taken-does : (p : ℕ) (a : Action) (r : Reply) → Fits a r → IsNoRead a → moved_by (upstream p) Receiver (call p a) (went_by a r) ≡ taken_by r
+taken-does : (p : ℕ) (a : Action) (r : Reply) → Fits a r → IsNoRead a → moved_by (upstream p) Receiver (call p a) (went_by a r) ≡ handed (taken_by r)
 taken-does p act.ReadCard r fits not = absurd not
 taken-does p (act.PutFeed f) reply.Done fits not = (across (upstream p) p (OfFeed f)).1
 taken-does p (act.PutFeed f) reply.Stopped fits not = refl
@@ -108,6 +111,9 @@ taken-does p (act.PutPage page) reply.Failed fits not = refl
 taken-does p act.TakePage (reply.Page page last) fits not = at-own (upstream p) Receiver (OfPage page last)
 taken-does p act.TakePage reply.Failed fits not = refl
 taken-does p act.Release reply.Done fits not = refl
+taken-does p (act.Load file) (reply.Loaded load) fits not = refl
+taken-does p (act.Load file) reply.Failed fits not = refl
+taken-does p (act.Load file) reply.NoMemory fits not = refl
 taken-does p act.Local reply.Done fits not = refl
 taken-does p (act.Print line) reply.Done fits not = refl
 taken-does p (act.Print line) reply.Failed fits not = refl
@@ -121,7 +127,7 @@ sent-lacks p act.TakePage (reply.Page page last) may = (across p (upstream p) (O
 sent-lacks p act.Local reply.Done may = refl
 sent-lacks p a r may = absurd may
 
-taken-lacks : (p : ℕ) (a : Action) (r : Reply) → MayLack a r → moved_by (upstream p) Receiver (call p a) (went_by a r) ≡ taken_by r
+taken-lacks : (p : ℕ) (a : Action) (r : Reply) → MayLack a r → moved_by (upstream p) Receiver (call p a) (went_by a r) ≡ handed (taken_by r)
 taken-lacks p act.TakePage (reply.Page page last) may = at-own (upstream p) Receiver (OfPage page last)
 taken-lacks p act.Local reply.Done may = refl
 taken-lacks p a r may = absurd may
@@ -148,15 +154,16 @@ module _ {row : ℕ → Process} (laws : IsRow row) (p : ℕ) where
       ap (λ before. before ++ moved_by p Sender (call p a) (went (Delays a))) (passed-sent is h follows.2)
       ∙ ap (λ more. sent h ++ more) (delay-moves p p Sender a follows.1) ∙ append-nil (sent h)
 
-  pub passed-taken : (p ≡ 1 → ⊥) → (h : List Entry) → Follows (row p) h → moved (upstream p) Receiver (law.acts (core row) p h) ≡ taken h
+  pub passed-taken : (p ≡ 1 → ⊥) → (h : List Entry) → Follows (row p) h → moved (upstream p) Receiver (law.acts (core row) p h) ≡ handed (taken h)
   passed-taken not [] follows = refl
   passed-taken not (Does a r ∷ h) follows =
       ap (λ before. before ++ moved_by (upstream p) Receiver (call p a) (went_by a r)) (passed-taken not h follows.2)
-      ∙ ap (λ more. taken h ++ more) (taken-does p a r follows.1 (no-read a
+      ∙ ap (λ more. handed (taken h) ++ more) (taken-does p a r follows.1 (no-read a
       (λ e. not (laws.reads p (next-take (row p) h act.ReadCard (follows.0 ∙ ap Some e) tt).same))))
+      ∙ sym (handed-append (taken h) (taken_by r))
   passed-taken not (LacksMemory a r ∷ h) follows =
       ap (λ before. before ++ moved_by (upstream p) Receiver (call p a) (went_by a r)) (passed-taken not h follows.2)
-      ∙ ap (λ more. taken h ++ more) (taken-lacks p a r follows.1.1)
+      ∙ ap (λ more. handed (taken h) ++ more) (taken-lacks p a r follows.1.1) ∙ sym (handed-append (taken h) (taken_by r))
   passed-taken not (Delays a ∷ h) follows =
       ap (λ before. before ++ moved_by (upstream p) Receiver (call p a) (went (Delays a))) (passed-taken not h follows.2)
-      ∙ ap (λ more. taken h ++ more) (delay-moves (upstream p) p Receiver a follows.1) ∙ append-nil (taken h)
+      ∙ ap (λ more. handed (taken h) ++ more) (delay-moves (upstream p) p Receiver a follows.1) ∙ append-nil (handed (taken h))

@@ -6,7 +6,7 @@ use Rattle.solo_base.specs.declared.outcome.Side.{Side}
 use Rattle.solo_base.specs.declared.outcome.Side.TheVariants.{Sender, Receiver}
 use Rattle.batch_procs.specs.declared.actions.Action.{Action}
 use Rattle.batch_procs.specs.declared.actions.Action.TheVariants as act
-use Rattle.batch_procs.specs.Parcels.{Parcel, OfFeed, OfPage, OfLine, is_ended, IsALine, NothingBehind}
+use Rattle.batch_procs.specs.Parcels.{Parcel, OfFeed, OfPage, OfLine, OfLoad, is_ended, IsALine, NothingBehind}
 use Rattle.batch_procs.specs.History.{Entry, taken, sent, newest}
 use Rattle.batch_procs.specs.Causes.{caused}
 use Rattle.batch_procs.specs.Process.{Process, Follows, next_action, aim, aimed, due, puts, unworked}
@@ -24,26 +24,27 @@ use Rattle.core_law.proofs.Taking.{next-take, aimed-take}
 use Rattle.core_law.proofs.Lawful.{stops-among}
 
 -- ---- who waits by its sender's side has something due; by its receiver's, hasn't taken the last
-pub page-due : (takes : Action) (due : List Parcel) (ended unworked : Bool) (a : Action) → IsTake takes → aimed takes due ended unworked ≡ a → IsPagePut a
-    → IsDue due a
-page-due takes due ended unworked (act.PutPage page) take e is = aimed-put takes due ended unworked (act.PutPage page) take e tt
-page-due takes due ended unworked other take e is = absurd is
+pub page-due : (takes : Action) (wanted : List (List ℕ)) (due : List Parcel) (ended unworked : Bool) (a : Action) → IsTake takes
+    → aimed takes wanted due ended unworked ≡ a → IsPagePut a → IsDue due a
+page-due takes wanted due ended unworked (act.PutPage page) take e is = aimed-put takes wanted due ended unworked (act.PutPage page) take e tt
+page-due takes wanted due ended unworked other take e is = absurd is
 
 pub put-due : (p : Process) (h : List Entry) (f : Rattle.solo_base.specs.declared.item.Feed.Feed) → IsRelay p → next_action p h ≡ Some (act.PutFeed f)
     → IsDue (due p h) (act.PutFeed f)
-put-due p h f relay next = aimed-put p.takes (due p h) (is_ended (taken h)) (unworked p h)
+put-due p h f relay next = aimed-put p.takes (p.wants (taken h)) (due p h) (is_ended (taken h)) (unworked p h)
     (act.PutFeed f) relay.takes (next-put p (caused h) h (act.PutFeed f) next tt).1 tt
 
 pub move-due : (p : Process) (h : List Entry) (page : Rattle.solo_base.specs.declared.page.Page.Page) → IsRelay p → next_action p h ≡ Some (act.PutPage page)
     → IsDue (due p h) (act.PutPage page)
-move-due p h page relay next = aimed-put p.takes (due p h) (is_ended (taken h)) (unworked p h)
+move-due p h page relay next = aimed-put p.takes (p.wants (taken h)) (due p h) (is_ended (taken h)) (unworked p h)
     (act.PutPage page) relay.takes (next-put p (caused h) h (act.PutPage page) next tt).1 tt
 
 pub room-put : (p : Process) (h : List Entry) → IsRelay p → next_action p h ≡ Some act.AwaitRoom → IsPagePut (aim p h)
 room-put p h relay next = awaits-room (newest h) (aim p h) (works-next p h act.AwaitRoom next (open-next p h act.AwaitRoom next tt)) (aim-is p h relay)
 
 pub room-due : (p : Process) (h : List Entry) → IsRelay p → next_action p h ≡ Some act.AwaitRoom → IsDue (due p h) (aim p h)
-room-due p h relay next = page-due p.takes (due p h) (is_ended (taken h)) (unworked p h) (aim p h) relay.takes refl (room-put p h relay next)
+room-due p h relay next =
+    page-due p.takes (p.wants (taken h)) (due p h) (is_ended (taken h)) (unworked p h) (aim p h) relay.takes refl (room-put p h relay next)
 
 pub sender-due : (p : Process) (h : List Entry) (k b : ℕ) (visit : Visit) (a : Action) → IsRelay p → next_action p h ≡ Some a → call k a ≡ At b Sender visit
     → (visit ≡ Stops → ⊥) → (first : Parcel) × (more : List Parcel) × (due p h ≡ first ∷ more)
@@ -56,15 +57,15 @@ sender-due p h k b visit (act.Stop c) relay next is not = absurd (not (sym (stop
     stop-visit c b x of visit e = cc
 sender-due p h k b visit other relay next is not = absurd cc
 
-page-taking : (takes : Action) (due : List Parcel) (ended unworked : Bool) (a : Action) → aimed takes due ended unworked ≡ a → IsPageTake a
-    → (ended ≡ false) × (takes ≡ act.TakePage)
-page-taking takes due ended unworked act.TakePage e is = let t = aimed-take takes act.TakePage due ended unworked e tt in (t.goes_on, t.same)
-page-taking takes due ended unworked other e is = absurd is
+page-taking : (takes : Action) (wanted : List (List ℕ)) (due : List Parcel) (ended unworked : Bool) (a : Action) → aimed takes wanted due ended unworked ≡ a
+    → IsPageTake a → (ended ≡ false) × (takes ≡ act.TakePage)
+page-taking takes wanted due ended unworked act.TakePage e is = let t = aimed-take takes act.TakePage wanted due ended unworked e tt in (t.goes_on, t.same)
+page-taking takes wanted due ended unworked other e is = absurd is
 
 pub item-taking : (p : Process) (h : List Entry) → IsRelay p → next_action p h ≡ Some act.AwaitItem → (is_ended (taken h) ≡ false) × (p.takes ≡ act.TakePage)
 item-taking p h relay next =
     let item = awaits-item (newest h) (aim p h) (works-next p h act.AwaitItem next (open-next p h act.AwaitItem next tt)) (aim-is p h relay) in
-    page-taking p.takes (due p h) (is_ended (taken h)) (unworked p h) (aim p h) refl item
+    page-taking p.takes (p.wants (taken h)) (due p h) (is_ended (taken h)) (unworked p h) (aim p h) refl item
 
 pub receiver-unended : (p : Process) (h : List Entry) (k b : ℕ) (visit : Visit) (a : Action) → IsRelay p → next_action p h ≡ Some a
     → call k a ≡ At b Receiver visit → (visit ≡ Stops → ⊥) → is_ended (taken h) ≡ false
@@ -97,6 +98,7 @@ puts-no_line : (parcel : Parcel) (a : Action) → puts parcel ≡ a → IsBuffer
 puts-no_line (OfFeed f) a e put line = line
 puts-no_line (OfPage page last) a e put line = line
 puts-no_line (OfLine text) a e put line = subst IsBufferPut (sym e) put
+puts-no_line (OfLoad load) a e put line = line
 
 lines-behind : (part rest : List Parcel) → AllByRecursion IsALine (part ++ rest) → AllByRecursion IsALine rest
 lines-behind [] rest all = all
@@ -157,6 +159,7 @@ module _ {row : ℕ → Process} (laws : IsRow row) (p : ℕ) (h : List Entry) (
   call-buffer act.ReadCard b side visit next e = absurd cc
   call-buffer act.Request b side visit next e = absurd cc
   call-buffer act.Release b side visit next e = absurd cc
+  call-buffer (act.Load file) b side visit next e = absurd cc
   call-buffer act.Local b side visit next e = absurd cc
   call-buffer (act.Print line) b side visit next e = absurd cc
   call-buffer (act.Ended how) b side visit next e = absurd cc

@@ -11,10 +11,15 @@ use Rattle.solo_base.specs.Text.{text}
 use Rattle.pascal_mean.specs.Meaning.{meaning_with}
 use Rattle.pascal_mean.specs.Batch.{batch_answers, characters_of, shown, Printed, nothing_printed, with_character, with_characters, last_line, lines_in, output_of, ending_of}
 use Rattle.pascal_compile.specs.Compiling.{Compiling, compiled, bad_word, syntax_error, semantic_error, code_limit}
+use Rattle.batch_program.specs.Outcome.{lines_of, printed_by}
+use Rattle.batch_program.specs.RunSoFar.{run_so_far}
+use Rattle.disk_system.specs.declared.loading.Loaded.{Loaded}
+use Rattle.disk_system.specs.declared.loading.Loaded.TheVariants.{Code, NoFile, NotCode, BadCode}
+use Rattle.batch_job.specs.Report.{source_loaded}
 use Rattle.program_lines.specs.Texts.{result_line}
-use Rattle.program_lines.specs.Task.{Source, Runs, Says, source_of, ending_lines, program_lines}
+use Rattle.program_lines.specs.Task.{Source, Runs, RunsCode, Says, source_of, end_lines, outcome_lines, ending_lines, program_lines}
 use Rattle.core_law.proofs.PrintedTexts.{AreLinesOf, append-lines, IsNamed}
-use Rattle.core_law.proofs.NoteLines.{result-line, bad-word-line, syntax-line, semantic-line, code-limit-line}
+use Rattle.core_law.proofs.NoteLines.{result-line, bad-word-line, syntax-line, semantic-line, code-limit-line, no-file-line, not-code-line, bad-code-line}
 
 -- ---- what a program prints
 record AreInLines (p : Printed) : Type 0 where
@@ -72,10 +77,11 @@ last-is-line (code ∷ rest) is = (is, tt)
 in-lines : (p : Printed) → AreInLines p → AreLinesOf (lines_in p)
 in-lines p a = append-lines p.lines (last_line p.line) a.lines (last-is-line p.line a.line)
 
+printed-in-lines : (calls : List SysCall) → AreInLines (printed_by calls)
+printed-in-lines calls = characters-in-lines nothing_printed (flat_map characters_of calls) record { lines = tt; line = no-codes }
+
 output-lines : (calls : List SysCall) → AreLinesOf (output_of calls)
-output-lines calls =
-    in-lines (with_characters nothing_printed (flat_map characters_of calls))
-    (characters-in-lines nothing_printed (flat_map characters_of calls) record { lines = tt; line = no-codes })
+output-lines calls = in-lines (printed_by calls) (printed-in-lines calls)
 
 -- ---- how it ended
 outcome-lines : (outcome : RunOutcome) → AreLinesOf (ending_of outcome).output
@@ -87,9 +93,22 @@ ended-lines name outcome is =
     append-lines (ending_of outcome).output (result_line name (ending_of outcome).result (ending_of outcome).line ∷ [])
     (outcome-lines outcome) (result-line name (ending_of outcome).result (ending_of outcome).line is, tt)
 
+-- ---- what the code of a file prints, and how it ended
+so-far-lines : (outcome : RunOutcome) → AreLinesOf (lines_of outcome)
+so-far-lines (Ends r line ticks calls) = output-lines calls
+so-far-lines (Waits calls) = (printed-in-lines calls).lines
+
+end-lines : (name : List ℕ) (outcome : RunOutcome) → IsNamed name → AreLinesOf (end_lines name outcome)
+end-lines name (Ends r line ticks calls) is = (result-line name r line is, tt)
+end-lines name (Waits calls) is = tt
+
+code-lines : (name : List ℕ) (outcome : RunOutcome) → IsNamed name → AreLinesOf (outcome_lines name outcome)
+code-lines name outcome is = append-lines (lines_of outcome) (end_lines name outcome) (so-far-lines outcome) (end-lines name outcome is)
+
 -- ---- or why there is none to run
 abbrev pub SaysLine : Source → Type 0
 SaysLine (Runs p) = Unit {0}
+SaysLine (RunsCode code) = Unit {0}
 SaysLine (Says line) = IsLine line
 
 pub source-says : (name : List ℕ) (c : Compiling) → IsNamed name → SaysLine (source_of name c)
@@ -99,7 +118,14 @@ source-says name (syntax_error line) is = syntax-line name line is
 source-says name (semantic_error line rule) is = semantic-line name line rule is
 source-says name code_limit is = code-limit-line name is
 
+pub loaded-says : (name : List ℕ) (load : Loaded) → IsNamed name → SaysLine (source_loaded name load)
+loaded-says name (Code code) is = tt
+loaded-says name NoFile is = no-file-line name is
+loaded-says name NotCode is = not-code-line name is
+loaded-says name (BadCode at) is = bad-code-line name at is
+
 pub lines-of-program : (name : List ℕ) (limit : ℕ) (source : Source) (input : List (List ℕ)) → IsNamed name → SaysLine source
     → AreLinesOf (program_lines name limit source input)
 lines-of-program name limit (Runs p) input is says = ended-lines name (meaning_with (batch_answers (text input)) p limit) is
+lines-of-program name limit (RunsCode code) input is says = code-lines name (run_so_far code limit input true) is
 lines-of-program name limit (Says line) input is says = (says, tt)

@@ -15,10 +15,11 @@ use Rattle.network_law.specs.Network.{IsEnabled, AreEnabled, run, happens, insid
 use Rattle.network_law.specs.Kept.{IsTold, Stands}
 use Rattle.network_law.proofs.Reached.{stands-event, opening-stands}
 use Rattle.core_law.specs.Core.{core, CoreState, CoreEvent, IsBuffer, seat}
-use Rattle.core_law.specs.Opening.{Spools, AreInBounds, size_of, told_of, opened, IsReached}
+use Rattle.batch_job.specs.Report.{Loads}
+use Rattle.core_law.specs.Opening.{Spools, AreInBounds, AreGoodFiles, size_of, told_of, opened, IsReached}
 use Rattle.core_law.specs.Ends.{IsProcess, HasEnded, AllDone, IsSmooth}
 use Rattle.batch_job.specs.OneThread.{one_thread_lines}
-use Rattle.core_law.specs.Holds.{AreTold, GoesOn, Holds, IsStuck}
+use Rattle.core_law.specs.Holds.{AreTold, AreFound, LoadsInOrder, GoesOn, Holds, IsStuck}
 use Rattle.core_law.proofs.Streams.{text_of, DevicesStand}
 use Rattle.core_law.proofs.Row.{feeds-at, each-buffer}
 use Rattle.core_law.proofs.Ends.{the-five}
@@ -27,8 +28,8 @@ use Rattle.core_law.proofs.Lawful.{lawful}
 use Rattle.core_law.proofs.Undamaged.{have-causes, undamaged}
 use Rattle.core_law.proofs.KeepsPaper.{keeps-devices}
 use Rattle.core_law.proofs.NeverStuck.{ended-all}
-use Rattle.core_law.proofs.Passing.{HandOver, gains-of, reads-all}
-use Rattle.core_law.proofs.Handed.{handed}
+use Rattle.core_law.proofs.Passing.{HandOver, AreFoundBy, loaded-part, loaded-all, gains-of, reads-all}
+use Rattle.core_law.proofs.Handed.{stands-between}
 use Rattle.core_law.proofs.Together.{ends-together}
 
 -- all that every event keeps
@@ -52,9 +53,10 @@ text-nothing p = (text_of (p.sends []), refl)
 paper-nothing : (paper : Option (List ℕ)) (given : List ℕ) → paper ≡ Some given → paper ≡ Some (given ++ [])
 paper-nothing paper given e = rw (append-nil given) e
 
-pub opening-centre : (spools : Spools) (deck : Option (List Item)) (paper : Option (List ℕ)) → Centre (opened spools deck paper) (opened spools deck paper)
-opening-centre spools deck paper = record {
-  stands = opening-stands (core process) record { deck = deck; paper = paper } (size_of spools) (told_of spools);
+pub opening-centre : (spools : Spools) (deck : Option (List Item)) (paper : Option (List ℕ)) (files : Option Loads)
+    → Centre (opened spools deck paper files) (opened spools deck paper files)
+opening-centre spools deck paper files = record {
+  stands = opening-stands (core process) record { deck = deck; paper = paper; files = files } (size_of spools) (told_of spools);
   devices = record {
     read = λ items e. record { left = items; left_is = e; parts = λ _. refl; whole = λ e. absurd cc };
     gained = λ given e. (let (rest, whole) = text-nothing (process 5) in record {
@@ -65,14 +67,16 @@ opening-centre spools deck paper = record {
     });
     deck_untold = λ e. e;
     paper_untold = λ e. e;
+    files_same = refl;
+    loaded = λ found told p. refl;
   };
 }
 
-pub reached-centre : (spools : Spools) (deck : Option (List Item)) (paper : Option (List ℕ)) (s : CoreState) → IsReached spools deck paper s
-    → Centre (opened spools deck paper) s
-reached-centre spools deck paper s r =
-    subst (Centre (opened spools deck paper)) r.reached.leads (centre-run (opened spools deck paper)
-    (opened spools deck paper) r.reached.events r.reached.enabled (opening-centre spools deck paper))
+pub reached-centre : (spools : Spools) (deck : Option (List Item)) (paper : Option (List ℕ)) (files : Option Loads) (s : CoreState)
+    → IsReached spools deck paper files s → Centre (opened spools deck paper files) s
+reached-centre spools deck paper files s r =
+    subst (Centre (opened spools deck paper files)) r.reached.leads (centre-run (opened spools deck paper files)
+    (opened spools deck paper files) r.reached.events r.reached.enabled (opening-centre spools deck paper files))
 
 -- ---- what is told, and the sizes
 pub told-is : (spools : Spools) (b : ℕ) → told_of spools b ≡ true → IsTold {Parcel = Parcel} (fresh (size_of spools b) (inside_at (told_of spools b)))
@@ -96,26 +100,43 @@ follows-in : (opening s : CoreState) → Stands (core process) opening s → (p 
 follows-in opening s st p = follows-of process p (s.histories p) (st.follows p)
 
 pub hands-over : (opening s : CoreState) → Stands (core process) opening s → ((b : ℕ) → IsBuffer b → IsTold (opening.buffers b)) → HandOver s.histories
-hands-over opening s st told b is = (let (inside, e) = st.told b (told b is) in (inside, (handed the-five opening s st b is).parcels inside e))
+hands-over opening s st told b is = (let (inside, e) = st.told b (told b is) in (inside, (stands-between the-five opening s st b is).parcels inside e))
 
-gained-whole : (spools : Spools) (deck : Option (List Item)) (paper : Option (List ℕ)) (s : CoreState) → Centre (opened spools deck paper) s → AreTold spools
-    → (items : List Item) → deck ≡ Some items → AreItems items
-    → (given : List ℕ) → paper ≡ Some given → GainsOf given s.devices.paper (text (one_thread_lines items)) (AllDone s)
-gained-whole spools deck paper s c are items is valid given paper_is =
-    let opening = opened spools deck paper in
+pub found-by : (files : Option Loads) (opening s : CoreState) (found : Loads) (items : List Item) → opening.devices.files ≡ files
+    → DevicesStand process opening s → AreFound files found items → AreFoundBy found items (s.histories 3)
+found-by files opening s found items same d (inl told) = inl (d.loaded found (same ∙ told) 3)
+found-by files opening s found items same d (inr none) = inr none
+
+gained-whole : (spools : Spools) (deck : Option (List Item)) (paper : Option (List ℕ)) (files : Option Loads) (s : CoreState)
+    → Centre (opened spools deck paper files) s → AreTold spools → (items : List Item) (found : Loads) → deck ≡ Some items → AreItems items
+    → AreFound files found items → (given : List ℕ) → paper ≡ Some given → GainsOf given s.devices.paper (text (one_thread_lines found items)) (AllDone s)
+gained-whole spools deck paper files s c are items found is valid known given paper_is =
+    let opening = opened spools deck paper files in
     let told = λ (b : ℕ) (at : IsBuffer b). told-is spools b (all-told spools are b at) in
     gains-of s.histories (follows-in opening s c.stands) (hands-over opening s c.stands told) items s.devices.deck given s.devices.paper valid
-    (c.devices.read items is) (c.devices.gained given paper_is)
+    (c.devices.read items is) found (found-by files opening s found items refl c.devices known) (c.devices.gained given paper_is)
 
-module _ (spools : Spools) (deck : Option (List Item)) (paper : Option (List ℕ)) (s : CoreState) (r : IsReached spools deck paper s) where
-  abbrev c : Centre (opened spools deck paper) s
-  c = reached-centre spools deck paper s r
+module _ (spools : Spools) (deck : Option (List Item)) (paper : Option (List ℕ)) (files : Option Loads) (s : CoreState)
+    (r : IsReached spools deck paper files s) where
+  abbrev c : Centre (opened spools deck paper files) s
+  c = reached-centre spools deck paper files s r
 
   abbrev opening : CoreState
-  opening = opened spools deck paper
+  opening = opened spools deck paper files
 
-  gains : AreTold spools → (items : List Item) → deck ≡ Some items → AreItems items → Gains paper s.devices.paper (text (one_thread_lines items)) (AllDone s)
-  gains are items is valid = record { told = gained-whole spools deck paper s c are items is valid; untold = λ e. c.devices.paper_untold e }
+  gains : AreTold spools → (items : List Item) (found : Loads) → deck ≡ Some items → AreItems items → AreFound files found items
+      → Gains paper s.devices.paper (text (one_thread_lines found items)) (AllDone s)
+  gains are items found is valid known =
+      record { told = gained-whole spools deck paper files s c are items found is valid known; untold = λ e. c.devices.paper_untold e }
+
+  loads-in_order : AreTold spools → (items : List Item) → deck ≡ Some items → AreItems items → LoadsInOrder s items
+  loads-in_order are items is valid =
+      let over = hands-over opening s c.stands (λ b at. told-is spools b (all-told spools are b at)) in
+      let read = c.devices.read items is in
+      record {
+        prefix = loaded-part s.histories (follows-in opening s c.stands) over items s.devices.deck read valid;
+        all = λ done. loaded-all s.histories (follows-in opening s c.stands) over items s.devices.deck read done valid;
+      }
 
   goes-on : (p : ℕ) → s.desk.claims.holder ≡ Some p → GoesOn s p
   goes-on p e =
@@ -125,11 +146,13 @@ module _ (spools : Spools) (deck : Option (List Item)) (paper : Option (List ℕ
         | inr on ↦ inr (holder-next (process p) (s.histories p) (the-five.relays p) follows (sym (holds-are process p (s.histories p) follows) ∙ on))
       ]
 
-  pub reached-holds : Holds spools deck paper s
+  pub reached-holds : Holds spools deck paper files s
   reached-holds = record {
     prints = gains;
+    loads = loads-in_order;
+    loads_so = c.devices.loaded;
     reads = λ items is done. reads-all the-five s.histories (follows-in opening s c.stands) items s.devices.deck (c.devices.read items is) done;
-    hands_over = λ b is. handed the-five opening s c.stands b is;
+    hands_over = λ b is. stands-between the-five opening s c.stands b is;
     stops = λ b side. c.stands.buffers.stops b side ∙ stops-are process (seat b side) b side (s.histories (seat b side)) refl
         (follows-of process (seat b side) (s.histories (seat b side)) (c.stands.follows (seat b side)));
     told = c.stands.buffers.told;
@@ -144,7 +167,8 @@ module _ (spools : Spools) (deck : Option (List Item)) (paper : Option (List ℕ
 
   -- where no event may happen in which no device fails and no memory is refused, all have ended
   pub ended-where : ((event : CoreEvent) → IsEnabled (core process) s event → IsSmooth event.entry → ⊥) → (p : ℕ) → IsProcess p → HasEnded s p
-  ended-where none = ended-all the-five opening s c.stands (λ b is takes. told-is spools b (lines-told spools b takes)) (all-sized spools r.bounds) none
+  ended-where none = ended-all the-five opening s c.stands (λ b is takes. told-is spools b (lines-told spools b takes)) (all-sized spools r.bounds)
+      (subst AreGoodFiles (sym c.devices.files_same) r.good) none
 
   pub never-stuck : IsStuck s → ⊥
   never-stuck stuck = stuck.not_ended (ended-where stuck.none_enabled)

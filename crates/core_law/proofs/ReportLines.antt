@@ -1,5 +1,5 @@
 -- The lines that the jobs of a deck report are lines of the line length, where its cards are.
-use Rattle.std.proofs.Common.{◌≡◌, ℕ, ◌+◌, ◌^◌, ◌<◌, ◌==◌, Bool, true, false, if◌then◌else◌, List, [], ◌∷◌, ◌++◌, length, Option, None, Some, refl, arith}
+use Rattle.std.proofs.Common.{◌≡◌, ℕ, ◌+◌, ◌^◌, ◌<◌, ◌==◌, Bool, true, false, if◌then◌else◌, List, [], ◌∷◌, ◌++◌, length, Option, None, Some, refl, subst, arith}
 use Rattle.std.specs.Prelude.{flat_map, count_by}
 use Rattle.std.specs.List.{AllByRecursion}
 use Rattle.solo_base.specs.declared.item.Item.{Item}
@@ -8,19 +8,22 @@ use Rattle.solo_base.specs.Line.{IsLine}
 use Rattle.page_codec.specs.Items.{IsItem, AreItems}
 use Rattle.deck_format.specs.declared.control.Opener.{Opener}
 use Rattle.deck_format.specs.declared.control.Opener.TheVariants as opener
-use Rattle.deck_format.specs.declared.job.Job.{Job}
+use Rattle.disk_system.specs.declared.loading.Loaded.{Loaded}
 use Rattle.deck_format.specs.declared.job.Job.TheVariants as job
 use Rattle.deck_format.specs.declared.job.CardFault.{CardFault}
 use Rattle.deck_format.specs.Control.{control_of}
-use Rattle.deck_format.specs.Jobs.{card_count, is_some, opener_of, is_end, Groups, before_groups, cut, before_end, after_end, counts, skipped, stretch, control_at, listed, first_fault, before_data, behind_data, first_of, program, job_of, group_jobs, jobs}
+use Rattle.deck_format.specs.Jobs.{card_count, is_some, opener_of, is_end, Groups, before_groups, cut, before_end, after_end, counts, skipped, control_at, listed, first_fault, before_data, behind_data, first_of, program, job_of}
 use Rattle.pascal_compile.specs.Compiling.{compiling}
-use Rattle.program_lines.specs.Texts.{no_file_line}
-use Rattle.program_lines.specs.Task.{Source, Says, source_of, program_lines}
-use Rattle.batch_job.specs.Report.{fault_line, listing_end, run_lines, file_limit, report}
+use Rattle.program_lines.specs.Task.{Source, source_of, program_lines}
+use Rattle.batch_job.specs.Report.{Loads, no_files, fault_line, listing_end, run_lines, file_limit, source_loaded, report}
+use Rattle.batch_job.specs.OneThread.{one_thread_lines}
+use Rattle.batch_job.specs.Loads.{loads_of, Begun, Deck, load_for, begin_by, begun}
+use Rattle.batch_job.specs.LinesSoFar.{stretch_lines, closed_group, group_lines, lines_by, lines_so_far, is_whole}
+use Rattle.batch_job.proofs.LinesSoFar.{whole_lines}
 use Rattle.core_law.proofs.PrintedTexts.{AreLinesOf, append-lines, IsNamed}
 use Rattle.core_law.proofs.NamedOpeners.{name_of, opener-named}
-use Rattle.core_law.proofs.NoteLines.{count-small, heading-line, fault-line, IsSmallFault, end-line, skipped-line, no-file-line}
-use Rattle.core_law.proofs.ProgramLines.{SaysLine, source-says, lines-of-program}
+use Rattle.core_law.proofs.NoteLines.{count-small, heading-line, fault-line, IsSmallFault, end-line, skipped-line}
+use Rattle.core_law.proofs.ProgramLines.{SaysLine, source-says, loaded-says, lines-of-program}
 
 -- ---- the lines of a job
 fault-small : (in_input : Bool) (number : ℕ) (items : List Item) → number < 2 ^ 32 → IsSmallFault (first_fault in_input number items)
@@ -61,28 +64,6 @@ listed-lines (Line card ∷ rest) are =
     let P : Bool → Type 0 = λ t. AreLinesOf (if t then [] else card ∷ listed rest) in
     elim (is_some (control_of card)) as P [ true ↦ tt | false ↦ (are.0, listed-lines rest are.1) ]
 
-job-lines : (o : Opener) (items : List Item) → IsNamed (name_of o) → AreItems items → AreLinesOf (report (job_of o items))
-job-lines (opener.List name) items is are = (
-  heading-line name is,
-  append-lines (listed items) (listing_end name (listed items) (first_fault false 1 items) ∷ []) (listed-lines items are)
-      (end-line name (listed items) (first_fault false 1 items) (fault-small false 1 items (omega arith)) is, tt),
-)
-job-lines (opener.Job name limit) items is are = (
-  heading-line name is,
-  run-lines name limit (source_of name (compiling (program 1 items).cards)) (program 1 items).input (program 1 items).fault is
-      (source-says name (compiling (program 1 items).cards) is) (program-small items),
-)
-job-lines (opener.Run name file) items is are = (
-  heading-line name is,
-  run-lines name file_limit (Says (no_file_line name)) (listed items) (first_fault true 1 items) is (no-file-line name is)
-      (fault-small true 1 items (omega arith)),
-)
-
-skipped-lines : (n : ℕ) → AreLinesOf (flat_map report (skipped (card_count n)))
-skipped-lines n =
-    let P : Bool → Type 0 = λ t. AreLinesOf (flat_map report (if t then [] else job.Skipped (card_count n) ∷ [])) in
-    elim (card_count n == 0) as P [ true ↦ tt | false ↦ (skipped-line n, tt) ]
-
 -- ---- the parts of a deck
 before-items : (items : List Item) → AreItems items → AreItems (before_end items)
 before-items [] are = tt
@@ -105,27 +86,74 @@ cut-rightly : (items : List Item) → AreItems items → IsCutRightly (cut items
 cut-rightly [] are = record { front = tt; groups = tt }
 cut-rightly (item ∷ rest) are = cut-more item (opener_of item) (cut rest) refl are.0 (cut-rightly rest are.1)
 
-more-jobs : (a b : List Job) → AreLinesOf (flat_map report a) → AreLinesOf (flat_map report b) → AreLinesOf (flat_map report (a ++ b))
-more-jobs [] b x y = y
-more-jobs (j ∷ a) b x y =
-    let parts = parts-of (report j) (flat_map report a) x in
-    append-lines (report j) (flat_map report (a ++ b)) parts.0 (more-jobs a b parts.1 y)
-  where
-    parts-of : (a b : List (List ℕ)) → AreLinesOf (a ++ b) → AreLinesOf a × AreLinesOf b
-    parts-of [] b all = (tt, all)
-    parts-of (line ∷ a) b all = (let rest = parts-of a b all.1 in ((all.0, rest.0), rest.1))
+-- ---- a group and the stretch behind its end
+job-lines : (load : Loaded) (o : Opener) (items : List Item) → IsNamed (name_of o) → AreItems items → AreLinesOf (report (λ file. load) (job_of o items))
+job-lines load (opener.List name) items is are = (
+  heading-line name is,
+  append-lines (listed items) (listing_end name (listed items) (first_fault false 1 items) ∷ []) (listed-lines items are)
+      (end-line name (listed items) (first_fault false 1 items) (fault-small false 1 items (omega arith)) is, tt),
+)
+job-lines load (opener.Job name limit) items is are = (
+  heading-line name is,
+  run-lines name limit (source_of name (compiling (program 1 items).cards)) (program 1 items).input (program 1 items).fault is
+      (source-says name (compiling (program 1 items).cards) is) (program-small items),
+)
+job-lines load (opener.Run name file) items is are = (
+  heading-line name is,
+  run-lines name file_limit (source_loaded name load) (listed items) (first_fault true 1 items) is (loaded-says name load is)
+      (fault-small true 1 items (omega arith)),
+)
 
-groups-lines : (groups : List (Opener × List Item)) → AreGroups groups → AreLinesOf (flat_map report (flat_map group_jobs groups))
-groups-lines [] are = tt
-groups-lines (group ∷ rest) are =
-    more-jobs (group_jobs group) (flat_map group_jobs rest)
-    (append-lines (report (job_of group.0 (before_end group.1))) (flat_map report (stretch (after_end group.1)))
-    (job-lines group.0 (before_end group.1) are.0.0 (before-items group.1 are.0.1)) (skipped-lines (count_by counts (after_end group.1))))
-    (groups-lines rest are.1)
+skipped-lines : (n : ℕ) → AreLinesOf (flat_map (report no_files) (skipped (card_count n)))
+skipped-lines n =
+    let P : Bool → Type 0 = λ t. AreLinesOf (flat_map (report no_files) (if t then [] else job.Skipped (card_count n) ∷ [])) in
+    elim (card_count n == 0) as P [ true ↦ tt | false ↦ (skipped-line n, tt) ]
 
--- The lines of a deck's jobs are lines, where its cards are.
-pub report-lines : (items : List Item) → AreItems items → AllByRecursion IsLine (flat_map report (jobs items))
-report-lines items are =
-    let r = cut-rightly items are in
-    more-jobs (stretch (cut items).front) (flat_map group_jobs (cut items).groups) (skipped-lines (count_by counts (cut items).front))
-    (groups-lines (cut items).groups r.groups)
+stretch-lines : (items : List Item) → AreLinesOf (stretch_lines items)
+stretch-lines items = skipped-lines (count_by counts items)
+
+abbrev IsBegun : Begun → Type 0
+IsBegun g = IsNamed (name_of g.opener) × AreItems g.items
+
+closed-lines : (g : Begun) → IsBegun g → AreLinesOf (closed_group g)
+closed-lines g is =
+    append-lines (report (λ file. g.load) (job_of g.opener (before_end g.items))) (stretch_lines (after_end g.items))
+    (job-lines g.load g.opener (before_end g.items) is.0 (before-items g.items is.1)) (stretch-lines (after_end g.items))
+
+-- ---- all groups
+abbrev AreBegun : List Begun → Type 0
+AreBegun groups = AllByRecursion IsBegun groups
+
+begins-by : (found : Option (Loaded × List Loaded)) (o : Opener) (items : List Item) (behind : List Loaded → Deck) → IsNamed (name_of o) → AreItems items
+    → ((later : List Loaded) → AreBegun (behind later).groups) → AreBegun (begin_by found o items behind).groups
+begins-by None o items behind is are rest = tt
+begins-by (Some (load, later)) o items behind is are rest = ((is, are), rest later)
+
+groups-begun : (groups : List (Opener × List Item)) (loads : List Loaded) (ended : Bool) → AreGroups groups → AreBegun (begun groups loads ended).groups
+groups-begun [] loads ended are = tt
+groups-begun ((o, items) ∷ rest) loads ended are =
+    begins-by (load_for o loads) o items (λ later. begun rest later ended) are.0.0 are.0.1 (λ later. groups-begun rest later ended are.1)
+
+group-lines : (groups : List Begun) → AreBegun groups → AreLinesOf (group_lines groups true)
+group-lines [] are = tt
+group-lines (g ∷ []) are = closed-lines g are.0
+group-lines (g ∷ next ∷ rest) are =
+    append-lines (closed_group g) (group_lines (next ∷ rest) true) (closed-lines g are.0) (group-lines (next ∷ rest) are.1)
+
+all-lines : (front : List Item) (groups : List Begun) (ended : Bool) → ended ≡ true → AreBegun groups → AreLinesOf (lines_by front groups ended)
+all-lines front [] true e are = stretch-lines front
+all-lines front [] false e are = absurd cc
+all-lines front (g ∷ rest) true e are = append-lines (stretch_lines front) (group_lines (g ∷ rest) true) (stretch-lines front) (group-lines (g ∷ rest) are)
+all-lines front (g ∷ rest) false e are = absurd cc
+
+-- The lines of a deck are lines, where its cards are, whatever its files are loaded as.
+pub deck-lines : (items : List Item) (loads : List Loaded) → AreItems items → is_whole items loads true ≡ true
+    → AllByRecursion IsLine (lines_so_far items loads true)
+deck-lines items loads are whole =
+    all-lines (cut items).front (begun (cut items).groups loads true).groups (begun (cut items).groups loads true).ended whole
+    (groups-begun (cut items).groups loads true (cut-rightly items are).groups)
+
+pub report-lines : (found : Loads) (items : List Item) → AreItems items → AllByRecursion IsLine (one_thread_lines found items)
+report-lines found items are =
+    let all = whole_lines found items in
+    subst (λ ls. AllByRecursion IsLine ls) all.0 (deck-lines items (loads_of found items) are all.1)

@@ -1,7 +1,7 @@
 -- What is packed is read back, so the five list functions give the lines of the whole deck.
-use Rattle.std.proofs.Common.{◌≡◌, ℕ, ◌+◌, ◌%◌, ◌^◌, Bool, true, false, List, [], ◌∷◌, ◌++◌, map, Result, Ok, refl, sym, ◌∙◌, ap, subst, append_assoc, arith}
-use Rattle.std.specs.Prelude.{option_to_list, flat_map}
-use Rattle.std.proofs.lemmas.List.{append-nil}
+use Rattle.std.proofs.Common.{◌≡◌, ℕ, ◌+◌, ◌%◌, ◌^◌, ◌≤◌, Bool, true, false, List, [], ◌∷◌, ◌++◌, map, length, Result, Ok, refl, sym, ◌∙◌, ap, subst, append_assoc, arith}
+use Rattle.std.specs.Prelude.{option_to_list}
+use Rattle.std.proofs.lemmas.List.{append-nil, length-map}
 use Rattle.std.specs.List.{AllByRecursion}
 use Rattle.solo_base.specs.declared.item.Item.{Item}
 use Rattle.solo_base.specs.declared.item.Item.TheVariants.{Line}
@@ -19,13 +19,17 @@ use Rattle.page_codec.specs.Stream.{IsStream}
 use Rattle.page_codec.proofs.Pages.{nothing_wrong_again, items_again}
 use Rattle.page_codec.proofs.Taking.{read_taken}
 use Rattle.page_codec.proofs.Cutting.{page_of-same, packing_goes_on, pages_are_a_stream}
-use Rattle.deck_format.specs.Jobs.{jobs}
-use Rattle.batch_job.specs.Report.{report}
+use Rattle.disk_system.specs.declared.loading.Loaded.{Loaded}
+use Rattle.batch_job.specs.Report.{Loads}
+use Rattle.batch_job.specs.Loads.{files_named, loads_of}
+use Rattle.batch_job.specs.LinesSoFar.{lines_so_far, is_whole}
+use Rattle.batch_job.specs.OneThread.{one_thread_lines}
+use Rattle.batch_job.proofs.LinesSoFar.{whole_lines, all_loaded}
 use Rattle.batch_procs.specs.Parcels.{Parcel, OfPage}
-use Rattle.batch_procs.specs.Sends.{feeds, as_parcels, marked, packed, items_then, unpacked_by, unpacked, items, has_end, stream, lines_of, lines_stream, job_lines, output_lines, as_lines, card_sends, input_sends, job_sends, output_sends, printer_sends}
-use Rattle.batch_procs.specs.Table.{process}
+use Rattle.batch_procs.specs.Sends.{feeds, as_parcels, marked, packed, items_then, unpacked_by, unpacked, items, has_end, stream, lines_of, lines_stream, job_lines, output_lines, as_lines, card_sends, input_sends, output_sends, printer_sends}
+use Rattle.core_law.proofs.HandedLists.{job_puts}
 use Rattle.core_law.proofs.Streams.{deck_parcels, text_of, output_of}
-use Rattle.core_law.proofs.ReportLines.{report-lines}
+use Rattle.core_law.proofs.ReportLines.{deck-lines}
 
 abbrev pub good : List Item → Bool → Result PageContent BadPage
 good all last = Ok (record { items = all; last = last })
@@ -141,10 +145,6 @@ pub line-items : (lines : List (List ℕ)) → AllByRecursion IsLine lines → A
 line-items [] are = tt
 line-items (line ∷ rest) are = (are.0, line-items rest are.1)
 
--- the lines of the jobs of these items
-abbrev pub job_reports : List Item → List (List ℕ)
-job_reports all = flat_map report (jobs all)
-
 module _ (deck : List Item) (are : AreItems deck) where
   pub card-gives : card_sends (deck_parcels deck) ≡ as_parcels (whole deck)
   card-gives = ap (λ fs. as_parcels (stream (items fs) (has_end fs))) (deck-feeds deck)
@@ -153,31 +153,53 @@ module _ (deck : List Item) (are : AreItems deck) where
   pub input-gives : input_sends (card_sends (deck_parcels deck)) ≡ packed first_page (whole deck)
   input-gives = ap input_sends card-gives ∙ ap (packed first_page) (feeds-back (whole deck))
 
-  pub job-gives : job_sends (input_sends (card_sends (deck_parcels deck))) ≡ packed first_page (whole (map Line (job_reports deck)))
-  job-gives =
-      ap job_sends input-gives ∙ ap (λ fs. packed first_page (job_lines fs)) (round-trip deck are)
-      ∙ ap (λ all. packed first_page (lines_stream (Rattle.batch_job.specs.LinesSoFar.lines_so_far all (has_end (whole deck))) (has_end (whole deck))))
-      (whole-items deck)
-      ∙ ap (λ ended. packed first_page (lines_stream (Rattle.batch_job.specs.LinesSoFar.lines_so_far deck ended) ended)) (whole-ends deck)
+  -- the pages of cards hold the items of the deck
+  pub pages-give : unpacked 0 (input_sends (card_sends (deck_parcels deck))) ≡ whole deck
+  pages-give = ap (unpacked 0) input-gives ∙ round-trip deck are
 
-  pub output-gives : output_sends (job_sends (input_sends (card_sends (deck_parcels deck)))) ≡ as_parcels (whole (map Line (job_reports deck)))
-  output-gives =
-      let lines = job_reports deck in
-      ap output_sends job-gives ∙ ap (λ fs. as_parcels (output_lines fs)) (round-trip (map Line lines) (line-items lines (report-lines deck are)))
-      ∙ ap (λ all. as_parcels (lines_stream (lines_of all) (has_end (whole (map Line lines))))) (whole-items (map Line lines))
-      ∙ ap (λ ls. as_parcels (lines_stream ls (has_end (whole (map Line lines))))) (lines-back lines)
-      ∙ ap (λ ended. as_parcels (lines_stream lines ended)) (whole-ends (map Line lines))
+  pub items-given : items (unpacked 0 (input_sends (card_sends (deck_parcels deck)))) ≡ deck
+  items-given = ap items pages-give ∙ whole-items deck
 
-  -- The five, one after the other, give the lines of the whole deck.
-  pub output-is : output_of process (deck_parcels deck) ≡ as_lines (job_reports deck)
-  output-is =
-      let lines = job_reports deck in
-      ap printer_sends output-gives ∙ ap (λ fs. as_lines (lines_of (items fs))) (feeds-back (whole (map Line lines)))
-      ∙ ap (λ all. as_lines (lines_of all)) (whole-items (map Line lines)) ∙ ap as_lines (lines-back lines)
+  -- ---- with as many loads as files are named
+  module _ (loads : List Loaded) (enough : length (files_named deck) ≤ length loads) where
+    abbrev lines : List (List ℕ)
+    lines = lines_so_far deck loads true
+
+    pub are-lines : AllByRecursion IsLine (lines_so_far deck loads true)
+    are-lines = deck-lines deck loads are (all_loaded deck loads true enough)
+
+    pub job-gives : job_puts loads (input_sends (card_sends (deck_parcels deck))) ≡ packed first_page (whole (map Line (lines_so_far deck loads true)))
+    job-gives =
+        ap (λ fs. packed first_page (job_lines fs loads)) pages-give
+        ∙ ap (λ all. packed first_page (lines_stream (lines_so_far all loads (has_end (whole deck))) (is_whole all loads (has_end (whole deck)))))
+        (whole-items deck)
+        ∙ ap (λ ended. packed first_page (lines_stream (lines_so_far deck loads ended) (is_whole deck loads ended))) (whole-ends deck)
+        ∙ ap (λ ended. packed first_page (lines_stream (lines_so_far deck loads true) ended)) (all_loaded deck loads true enough)
+
+    pub output-gives : output_sends (job_puts loads (input_sends (card_sends (deck_parcels deck))))
+        ≡ as_parcels (whole (map Line (lines_so_far deck loads true)))
+    output-gives =
+        ap output_sends job-gives ∙ ap (λ fs. as_parcels (output_lines fs)) (round-trip (map Line lines) (line-items lines are-lines))
+        ∙ ap (λ all. as_parcels (lines_stream (lines_of all) (has_end (whole (map Line lines))))) (whole-items (map Line lines))
+        ∙ ap (λ ls. as_parcels (lines_stream ls (has_end (whole (map Line lines))))) (lines-back lines)
+        ∙ ap (λ ended. as_parcels (lines_stream lines ended)) (whole-ends (map Line lines))
+
+    -- The five, one after the other, give the lines of the whole deck.
+    pub output-is : output_of loads (deck_parcels deck) ≡ as_lines (lines_so_far deck loads true)
+    output-is =
+        ap printer_sends output-gives ∙ ap (λ fs. as_lines (lines_of (items fs))) (feeds-back (whole (map Line lines)))
+        ∙ ap (λ all. as_lines (lines_of all)) (whole-items (map Line lines)) ∙ ap as_lines (lines-back lines)
 
 text-lines : (lines : List (List ℕ)) → text_of (as_lines lines) ≡ text lines
 text-lines [] = refl
 text-lines (line ∷ rest) = ap (λ more. line_text line ++ more) (text-lines rest)
 
-pub output-text : (deck : List Item) → AreItems deck → text_of (output_of process (deck_parcels deck)) ≡ text (job_reports deck)
-output-text deck are = ap text_of (output-is deck are) ∙ text-lines (job_reports deck)
+-- told files give as many loads as they are named
+pub as-named : (found : Loads) (deck : List Item) → length (files_named deck) ≤ length (loads_of found deck)
+as-named found deck = (let same = length-map (files_named deck) found in omega (arith, same))
+
+pub output-text : (deck : List Item) → AreItems deck → (found : Loads)
+    → text_of (output_of (loads_of found deck) (deck_parcels deck)) ≡ text (one_thread_lines found deck)
+output-text deck are found =
+    ap text_of (output-is deck are (loads_of found deck) (as-named found deck)) ∙ text-lines (lines_so_far deck (loads_of found deck) true)
+    ∙ ap text (whole_lines found deck).0

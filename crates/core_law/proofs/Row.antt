@@ -9,10 +9,10 @@ use Rattle.solo_base.specs.declared.item.Feed.TheVariants as feed
 use Rattle.solo_base.specs.declared.page.Page.{Page}
 use Rattle.page_codec.specs.Packing.{PageInHand, first_page, page_given, hand_after}
 use Rattle.batch_procs.specs.declared.actions.Action.TheVariants as act
-use Rattle.batch_procs.specs.Parcels.{Parcel, OfFeed, OfPage, OfLine, is_ended, IsAFeed, IsAPage, IsALine}
+use Rattle.batch_procs.specs.Parcels.{Parcel, OfFeed, OfPage, OfLine, OfLoad, loads, is_ended, IsAFeed, IsAPage, IsALine}
 use Rattle.batch_procs.specs.History.{Entry, taken}
 use Rattle.batch_procs.specs.Causes.{caused}
-use Rattle.batch_procs.specs.Process.{Process, Follows}
+use Rattle.batch_procs.specs.Process.{Process, Follows, unworked}
 use Rattle.batch_procs.specs.Laws.{IsRelay}
 use Rattle.batch_procs.specs.Sends.{feeds, as_parcels, as_lines, marked, packed, unpacked, until_end, job_lines, output_lines}
 use Rattle.batch_procs.specs.Table.{card, input, job, output, printer, nobody, process}
@@ -23,6 +23,7 @@ abbrev pub IsNoLine : Parcel → Type 0
 IsNoLine (OfFeed f) = Unit {0}
 IsNoLine (OfPage page last) = Unit {0}
 IsNoLine (OfLine line) = ⊥
+IsNoLine (OfLoad load) = Unit {0}
 
 abbrev pub Among : ℕ → List ℕ → Type 0
 Among b [] = ⊥
@@ -46,9 +47,11 @@ pub record IsRow (row : ℕ → Process) : Type 0 where
   pub bounds : (p : ℕ) → AllByRecursion IsBuffer (row p).buffers
   pub both : (b : ℕ) → IsBuffer b → Among b (row b).buffers × Among b (row (suc b)).buffers
   pub beside : (p : ℕ) → AllByRecursion (λ b. (b ≡ p) ⊎ (suc b ≡ p)) (row p).buffers
-  -- where the last was taken and nothing was damaged, the last is put
-  pub ends : (p : ℕ) → IsBuffer p → (h : List Entry) → Follows (row p) h → caused h ≡ None → is_ended (taken h) ≡ true
+  -- where the last was taken, nothing was damaged and no work is left, the last is put
+  pub ends : (p : ℕ) → IsBuffer p → (h : List Entry) → Follows (row p) h → caused h ≡ None → unworked (row p) h ≡ false → is_ended (taken h) ≡ true
       → is_ended ((row p).sends (taken h)) ≡ true
+  -- only the third loads files
+  pub loads : (p : ℕ) → (p ≡ 3 → ⊥) → (all : List Parcel) → (row p).wants all ≡ []
 
 -- ---- by its number
 by-test : (Is : Process → Type 0) (p n : ℕ) (t : Bool) (this other : Process) → (p == n) ≡ t → (p ≡ n → Is this) → ((p ≡ n → ⊥) → Is other)
@@ -105,11 +108,12 @@ page-no_line [] are = tt
 page-no_line (OfPage page last ∷ rest) are = (tt, page-no_line rest are.1)
 page-no_line (OfFeed f ∷ rest) are = absurd are.0
 page-no_line (OfLine line ∷ rest) are = absurd are.0
+page-no_line (OfLoad load ∷ rest) are = absurd are.0
 
 pub prints-law : (p : ℕ) → IsBuffer p → (all : List Parcel) → AllByRecursion IsNoLine ((process p).sends all)
 prints-law p is all =
     by-number (λ q. AllByRecursion IsNoLine (q.sends all)) p (λ e. feeds-no_line (until_end (feeds all)))
-    (λ e. page-no_line _ (packed-pages first_page (feeds all))) (λ e. page-no_line _ (packed-pages first_page (job_lines (unpacked 0 all))))
+    (λ e. page-no_line _ (packed-pages first_page (feeds all))) (λ e. page-no_line _ (packed-pages first_page (job_lines (unpacked 0 all) (loads all))))
     (λ e. feeds-no_line (output_lines (unpacked 0 all)))
     (λ e. (let below = is.1 in absurd (omega (arith, e, below)))) (λ none. tt)
 
@@ -117,6 +121,10 @@ pub reads-law : (p : ℕ) → (process p).takes ≡ act.ReadCard → p ≡ 1
 reads-law p =
     by-number (λ q. q.takes ≡ act.ReadCard → p ≡ 1) p (λ one e. one) (λ two e. absurd cc) (λ three e. absurd cc) (λ four e. absurd cc) (λ five e. absurd cc)
     (λ none e. absurd cc)
+
+pub loads-law : (p : ℕ) → (p ≡ 3 → ⊥) → (all : List Parcel) → (process p).wants all ≡ []
+loads-law p not all =
+    by-number (λ q. q.wants all ≡ []) p (λ one. refl) (λ two. refl) (λ three. absurd (not three)) (λ four. refl) (λ five. refl) (λ none. refl)
 
 pub feeds-at : (b : ℕ) → (process (suc b)).takes ≡ act.TakeFeed → (b ≡ 1) ⊎ (b ≡ 4)
 feeds-at b =
@@ -140,7 +148,7 @@ pages-law : (b : ℕ) → IsBuffer b → (process (suc b)).takes ≡ act.TakePag
 pages-law b is takes all =
     elim (pages-at b is takes) as (λ _. AllByRecursion IsAPage ((process b).sends all)) [
       | inl two ↦ subst (λ b. AllByRecursion IsAPage ((process b).sends all)) (sym two) (packed-pages first_page (feeds all))
-      | inr three ↦ subst (λ b. AllByRecursion IsAPage ((process b).sends all)) (sym three) (packed-pages first_page (job_lines (unpacked 0 all)))
+      | inr three ↦ subst (λ b. AllByRecursion IsAPage ((process b).sends all)) (sym three) (packed-pages first_page (job_lines (unpacked 0 all) (loads all)))
     ]
 
 -- ---- buffers

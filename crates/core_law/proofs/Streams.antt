@@ -1,14 +1,19 @@
--- What the deck and the paper tell, as streams of parcels.
+-- What the deck, the paper and the files tell, as streams of parcels.
 use Rattle.std.specs.Prelude.{◌≡◌, ℕ, true, false, List, [], ◌∷◌, ◌++◌, Option, None, Some}
 use Rattle.solo_base.specs.declared.item.Item.{Item}
 use Rattle.solo_base.specs.declared.item.Feed.TheVariants as feed
 use Rattle.solo_base.specs.Text.{line_text}
+use Rattle.disk_system.specs.declared.loading.Loaded.{Loaded}
+use Rattle.batch_job.specs.Report.{Loads}
 use Rattle.batch_job.specs.LinesSoFar.{IsPrefixOf}
-use Rattle.batch_procs.specs.Parcels.{Parcel, OfFeed, OfPage, OfLine, is_ended}
+use Rattle.batch_procs.specs.Parcels.{Parcel, OfFeed, OfPage, OfLine, OfLoad, is_ended}
 use Rattle.batch_procs.specs.History.{Entry, taken, sent}
 use Rattle.batch_procs.specs.Causes.{caused}
 use Rattle.batch_procs.specs.Process.{Process}
+use Rattle.batch_procs.specs.Sends.{card_sends, input_sends, output_sends, printer_sends}
 use Rattle.core_law.specs.Core.{CoreState}
+use Rattle.core_law.specs.FilesLoaded.{AreLoadedSo}
+use Rattle.core_law.proofs.HandedLists.{job_puts}
 
 -- what the card process takes of a whole deck: its items, and then the end
 abbrev pub deck_parcels : List Item → List Parcel
@@ -20,10 +25,11 @@ text_of [] = []
 text_of (OfFeed f ∷ rest) = text_of rest
 text_of (OfPage page last ∷ rest) = text_of rest
 text_of (OfLine line ∷ rest) = line_text line ++ text_of rest
+text_of (OfLoad load ∷ rest) = text_of rest
 
--- the five list functions, one after the other
-abbrev pub output_of : (ℕ → Process) → List Parcel → List Parcel
-output_of row all = (row 5).sends ((row 4).sends ((row 3).sends ((row 2).sends ((row 1).sends all))))
+-- what the five put in all, one after the other, where these are the loads of the jobs
+abbrev pub output_of : List Loaded → List Parcel → List Parcel
+output_of found all = printer_sends (output_sends (job_puts found (input_sends (card_sends all))))
 
 -- what was read of a told deck
 pub record ReadsOf (items : List Item) (deck : Option (List Item)) (read : List Parcel) : Type 0 where
@@ -44,3 +50,6 @@ pub record DevicesStand (row : ℕ → Process) (opening s : CoreState) : Type 0
   pub gained : (given : List ℕ) → opening.devices.paper ≡ Some given → Gained given s.devices.paper (row 5).sends (s.histories 5)
   pub deck_untold : opening.devices.deck ≡ None → s.devices.deck ≡ None
   pub paper_untold : opening.devices.paper ≡ None → s.devices.paper ≡ None
+  -- the files stay as they are, and are loaded as they say
+  pub files_same : s.devices.files ≡ opening.devices.files
+  pub loaded : (found : Loads) → opening.devices.files ≡ Some found → (p : ℕ) → AreLoadedSo found (s.histories p)

@@ -18,7 +18,6 @@ use Rattle.batch_procs.specs.Causes.{caused, or_new, given_cause, fault_read, da
 use Rattle.batch_procs.specs.Process.{Process, Follows, next_action}
 use Rattle.network_law.specs.Acts.{At, Visit, Awaits, Passes, told_at, was_told}
 use Rattle.network_law.specs.Network as law
-use Rattle.network_law.specs.Network.{IsEnabled, happens}
 use Rattle.network_law.specs.Kept.{Stands}
 use Rattle.core_law.specs.Core.{upstream, seat, call, went, core, CoreState, IsBuffer}
 use Rattle.core_law.specs.Ends.{IsProcess, WasTold}
@@ -47,6 +46,7 @@ given-stopped a reply.NoMemory h e = absurd cc
 given-stopped a (reply.Card answer) h e = absurd (read-not answer e)
 given-stopped a (reply.Feed f) h e = absurd cc
 given-stopped a (reply.Page page last) h e = absurd (damage-not (page_read (place h) last page) e)
+given-stopped a (reply.Loaded load) h e = absurd cc
 
 or-stopped : (old new : Option Outcome) → or_new old new ≡ Some outcome.Stopped → (old ≡ Some outcome.Stopped) ⊎ (new ≡ Some outcome.Stopped)
 or-stopped None new e = inr e

@@ -1,6 +1,6 @@
 -- Each cause has its entry; and over told areas each page that is taken is one that was put, so none is damaged.
-use Rattle.std.proofs.Common.{◌≡◌, inl, inr, ℕ, suc, ◌+◌, ◌%◌, ◌^◌, Bool, true, false, List, [], ◌∷◌, ◌++◌, length, map, Option, None, Some, refl, sym, ◌∙◌, ap, subst, append_assoc, arith, lit≤}
-use Rattle.std.proofs.lemmas.List.{append-nil}
+use Rattle.std.proofs.Common.{◌≡◌, inl, inr, ℕ, suc, ◌+◌, ◌%◌, ◌^◌, ◌≤◌, Bool, true, false, List, [], ◌∷◌, ◌++◌, length, length-append, map, Option, None, Some, refl, sym, ◌∙◌, ap, subst, append_assoc, arith}
+use Rattle.std.proofs.lemmas.List.{append-nil, length-map}
 use Rattle.solo_base.specs.declared.item.Item.{Item}
 use Rattle.solo_base.specs.declared.item.Item.TheVariants.{Line}
 use Rattle.solo_base.specs.declared.page.Page.{Page}
@@ -12,17 +12,19 @@ use Rattle.solo_devices.specs.declared.card_read.CardRead.TheVariants as read
 use Rattle.page_codec.specs.Items.{AreItems}
 use Rattle.page_codec.specs.Reading.{page_read}
 use Rattle.page_codec.specs.Stream.{IsStream}
-use Rattle.batch_job.specs.LinesSoFar.{IsPrefixOf}
+use Rattle.disk_system.specs.declared.loading.Loaded.{Loaded}
+use Rattle.disk_system.specs.declared.loading.Loaded.TheVariants.{NoFile}
+use Rattle.batch_job.specs.Loads.{files_named}
+use Rattle.batch_job.specs.LinesSoFar.{lines_so_far, IsPrefixOf}
 use Rattle.batch_procs.specs.declared.actions.Action.{Action}
 use Rattle.batch_procs.specs.declared.actions.Action.TheVariants as act
 use Rattle.batch_procs.specs.declared.actions.Reply.TheVariants as reply
-use Rattle.batch_procs.specs.Parcels.{Parcel, OfPage, pages}
+use Rattle.batch_procs.specs.Parcels.{Parcel, OfPage, pages, loads, handed}
 use Rattle.batch_procs.specs.History.{Entry, Does, LacksMemory, Delays, taken, taken_by, newest}
 use Rattle.batch_procs.specs.Causes.{fault_at, damage, place, caused}
 use Rattle.batch_procs.specs.Faults.{cause_by, FaultsOf, IsDamaged}
 use Rattle.batch_procs.specs.Laws.{IsNotDone}
 use Rattle.batch_procs.specs.Process.{Follows}
-use Rattle.batch_procs.specs.Sends.{input_sends, card_sends, job_sends}
 use Rattle.batch_procs.specs.Table.{process}
 use Rattle.batch_procs.proofs.Faulty.{each_cause_is_given, faults_of_the_five}
 use Rattle.network_law.specs.Kept.{Stands}
@@ -30,11 +32,11 @@ use Rattle.core_law.specs.Core.{core, CoreState}
 use Rattle.core_law.specs.Ends.{IsProcess, HasEndedSo, HaveCauses, outcome_by}
 use Rattle.core_law.proofs.Acting.{follows-of}
 use Rattle.core_law.proofs.Ends.{the-five}
-use Rattle.core_law.proofs.Passing.{HandOver, read-part, next-part}
-use Rattle.core_law.proofs.ReportLines.{report-lines}
+use Rattle.core_law.proofs.HandedLists.{handed-append, pages-handed}
+use Rattle.core_law.proofs.Passing.{HandOver, took-3, took-4}
 use Rattle.core_law.proofs.Row.{each-process}
-use Rattle.core_law.proofs.RoundTrip.{Packs, good, as_stream, read-back, packs, line-items, input-gives, job-gives, job_reports}
-use Rattle.core_law.proofs.Streams.{deck_parcels, ReadsOf, DevicesStand}
+use Rattle.core_law.proofs.RoundTrip.{Packs, good, as_stream, read-back, packs, line-items, input-gives, are-lines, job-gives}
+use Rattle.core_law.proofs.Streams.{ReadsOf, DevicesStand}
 use Rattle.core_law.proofs.Outcomes.{ended-as}
 
 -- ---- causes
@@ -92,6 +94,7 @@ gives-page (Does a (reply.Card read.End)) before c e is = absurd cc
 gives-page (Does a (reply.Card read.Failed)) before c e is = absurd (subst IsDamaged (sym (same-fault cause.ReadFault c e)) is)
 gives-page (Does a (reply.Card read.Limit)) before c e is = absurd (subst IsDamaged (sym (same-fault cause.DeckLimit c e)) is)
 gives-page (Does a (reply.Feed f)) before c e is = absurd cc
+gives-page (Does a (reply.Loaded load)) before c e is = absurd cc
 gives-page (LacksMemory a r) before c e is = absurd (subst IsDamaged (sym (same-fault cause.NoMemory c e)) is)
 gives-page (Delays a) before c e is = absurd cc
 
@@ -152,45 +155,58 @@ all-pages (p ∷ next ∷ more) (x ∷ front) rest e =
     (ap suc (all-pages (next ∷ more) front rest (tail-same x (OfPage p false) (front ++ rest) (as_stream (next ∷ more)) e)))
 
 -- a history whose pages are those of a stream, or the first of them, meets none that is damaged
-no-damage : (h : List Entry) (parcels : List Parcel) (all : List Item) (c : Cause) → Packs parcels all → IsPrefixOf (taken h) parcels
+no-damage : (h : List Entry) (parcels : List Parcel) (all : List Item) (c : Cause) → Packs parcels all → IsPrefixOf (handed (taken h)) parcels
     → caused h ≡ Some (outcome.Fault c) → IsDamaged c → ⊥
 no-damage h parcels all c is (rest, part) fault damaged =
     let given = each_cause_is_given h (outcome.Fault c) fault in
     let gives = gives-page given.entry given.before c given.gives damaged in
     let (more, later) = taken-later given.later given.entry given.before in
-    let front = taken given.before in
-    let here : front ++ OfPage gives.page gives.last ∷ (more ++ rest) ≡ as_stream is.pages =
-    sym (append_assoc front (OfPage gives.page gives.last ∷ []) (more ++ rest))
-    ∙ ap (λ ps. ps ++ (more ++ rest)) (sym gives.took) ∙ sym (append_assoc (taken (given.entry ∷ given.before)) more rest)
-    ∙ ap (λ ps. ps ++ rest) (later ∙ ap taken (sym given.is)) ∙ part ∙ is.same in
-    let count = all-pages is.pages front (OfPage gives.page gives.last ∷ (more ++ rest)) here in
-    let none = undamaged-at is.pages 0 all front gives.page gives.last (more ++ rest) is.is_stream here in
-    let from : 0 + length front ≡ length (pages front) = omega (arith, count) in
+    let front = handed (taken given.before) in
+    let behind = handed more ++ rest in
+    let took : handed (taken (given.entry ∷ given.before)) ≡ front ++ OfPage gives.page gives.last ∷ [] =
+    ap handed gives.took ∙ handed-append (taken given.before) (OfPage gives.page gives.last ∷ []) in
+    let all_of_it : handed (taken (given.entry ∷ given.before)) ++ handed more ≡ handed (taken h) =
+    sym (handed-append (taken (given.entry ∷ given.before)) more) ∙ ap handed (later ∙ ap taken (sym given.is)) in
+    let here : front ++ OfPage gives.page gives.last ∷ behind ≡ as_stream is.pages =
+    sym (append_assoc front (OfPage gives.page gives.last ∷ []) behind)
+    ∙ ap (λ ps. ps ++ behind) (sym took) ∙ sym (append_assoc (handed (taken (given.entry ∷ given.before))) (handed more) rest)
+    ∙ ap (λ ps. ps ++ rest) all_of_it ∙ part ∙ is.same in
+    let count = all-pages is.pages front (OfPage gives.page gives.last ∷ behind) here in
+    let none = undamaged-at is.pages 0 all front gives.page gives.last behind is.is_stream here in
+    let same = ap length (pages-handed (taken given.before)) in
+    let from : 0 + length front ≡ length (pages (taken given.before)) = omega (arith, count, same) in
     let at : (0 + length front) % 2 ^ 16 ≡ place given.before = ap (λ n. n % 2 ^ 16) from in
     let no : Some (outcome.Fault c) ≡ None = sym gives.damaged ∙ ap (λ n. damage (page_read n gives.last gives.page)) (sym at) ∙ none in
     cc
 
 -- ---- five histories side by side
+-- loads of files that aren't there
+abbrev missing : List (List ℕ) → List Loaded
+missing files = map (λ file. NoFile) files
+
+as-missing : (files : List (List ℕ)) → length (missing files) ≡ length files
+as-missing files = length-map files (λ file. NoFile)
+
 module _ (histories : ℕ → List Entry) (follows : (p : ℕ) → Follows (process p) (histories p)) (hand_over : HandOver histories) (items : List Item)
     (deck : Option (List Item)) (read : ReadsOf items deck (taken (histories 1))) (are : AreItems items) where
-  first : IsPrefixOf (taken (histories 1)) (deck_parcels items)
-  first = read-part items deck (taken (histories 1)) _ refl read
-
-  third : IsPrefixOf (taken (histories 3)) (input_sends (card_sends (deck_parcels items)))
-  third = next-part the-five histories follows hand_over 2 _ (lit≤ tt, lit≤ tt) (next-part the-five histories follows hand_over 1 _ (lit≤ tt, lit≤ tt) first)
-
-  fourth : IsPrefixOf (taken (histories 4)) (job_sends (input_sends (card_sends (deck_parcels items))))
-  fourth = next-part the-five histories follows hand_over 3 _ (lit≤ tt, lit≤ tt) third
-
   job-undamaged : (c : Cause) → caused (histories 3) ≡ Some (outcome.Fault c) → IsDamaged c → ⊥
   job-undamaged c =
-      no-damage (histories 3) _ items c (subst (λ ps. Packs ps items) (sym (input-gives items are)) (packs items are)) third
+      no-damage (histories 3) _ items c (subst (λ ps. Packs ps items) (sym (input-gives items are)) (packs items are))
+      (took-3 histories follows hand_over items deck read)
 
+  -- whatever the files are loaded as that it has loaded, and as many more
   output-undamaged : (c : Cause) → caused (histories 4) ≡ Some (outcome.Fault c) → IsDamaged c → ⊥
   output-undamaged c =
-      let lines = map Line (job_reports items) in
-      no-damage (histories 4) _ lines c
-      (subst (λ ps. Packs ps lines) (sym (job-gives items are)) (packs lines (line-items (job_reports items) (report-lines items are)))) fourth
+      let found = loads (taken (histories 3)) in
+      let more = missing (files_named items) in
+      let all = found ++ more in
+      let enough : length (files_named items) ≤ length all =
+      (let sum = length-append found more in let many = as-missing (files_named items) in omega (arith, sum, many)) in
+      let lines = lines_so_far items all true in
+      no-damage (histories 4) _ (map Line lines) c
+      (subst (λ ps. Packs ps (map Line lines)) (sym (job-gives items are all enough))
+      (packs (map Line lines) (line-items lines (are-lines items are all enough))))
+      (took-4 histories follows hand_over items deck read are all (more, refl))
 
   not-disk : (c : Cause) (other : Cause) → (IsDamaged other → ⊥) → c ≡ other → IsDamaged c → ⊥
   not-disk c other not e is = not (subst IsDamaged e is)

@@ -9,6 +9,8 @@ use Rattle.solo_base.specs.Text.{line_text}
 use Rattle.solo_devices.specs.declared.card_read.CardRead.{CardRead}
 use Rattle.solo_devices.specs.declared.card_read.CardRead.TheVariants as read
 use Rattle.solo_devices.specs.CardUnit.{item_of}
+use Rattle.disk_system.specs.declared.loading.Loaded.{Loaded}
+use Rattle.batch_job.specs.Report.{Loads}
 use Rattle.batch_job.specs.LinesSoFar.{IsPrefixOf}
 use Rattle.batch_procs.specs.declared.actions.Action.{Action}
 use Rattle.batch_procs.specs.declared.actions.Action.TheVariants as act
@@ -44,6 +46,7 @@ call p act.Request = Asks
 call p (act.PutPage page) = At p Sender Moves
 call p act.TakePage = At (upstream p) Receiver Moves
 call p act.Release = Gives
+call p (act.Load file) = Alone
 call p act.Local = Alone
 call p (act.Print line) = Alone
 call p (act.Stop b) = At b (side_at p b) Stops
@@ -63,20 +66,28 @@ went (Does action r) = went_by action r
 went (LacksMemory action r) = went_by action r
 went (Delays action) = Delayed
 
--- ---- the devices: the items ahead on the deck and the bytes that the paper was given, where they are told
+-- ---- the devices: the items ahead on the deck, the bytes that the paper was given, and what each file is
+-- loaded as, where they are told
 pub record Devices : Type 0 where
   pub deck : Option (List Item)
   pub paper : Option (List ℕ)
+  pub files : Option Loads
 
 -- A told deck gives its first item, and its end only where there is none. It may fail at any time.
 pub record DeckGives (deck : Option (List Item)) (answer : CardRead) : Type 0 where
   pub item : (items : List Item) → deck ≡ Some items → (rest : List Item) × (items ≡ item_of answer ++ rest)
   pub end : (items : List Item) → deck ≡ Some items → answer ≡ read.End → items ≡ []
 
+-- A told file area loads a file as it stands there. It may fail at any time.
+abbrev pub FilesGive : Option Loads → List ℕ → Loaded → Type 0
+FilesGive files file load = (found : Loads) → files ≡ Some found → load ≡ found file
+
 -- A print gives the paper its line, and where it fails a part of it. No other action gives the paper
 -- anything.
 abbrev pub Allows : Devices → Entry → List ℕ → Type 0
 Allows devices (Does act.ReadCard (reply.Card answer)) gained = DeckGives devices.deck answer × (gained ≡ [])
+Allows devices (Does (act.Load file) (reply.Loaded load)) gained =
+    FilesGive devices.files file load × (gained ≡ [])
 Allows devices (Does (act.Print line) reply.Done) gained = gained ≡ line_text line
 Allows devices (Does (act.Print line) r) gained = IsPrefixOf gained (line_text line)
 Allows devices entry gained = gained ≡ []
@@ -94,6 +105,7 @@ abbrev pub given : Devices → Entry → List ℕ → Devices
 given devices entry gained = record {
   deck = option_map (drop (length (read_off entry))) devices.deck;
   paper = option_map (λ before. before ++ gained) devices.paper;
+  files = devices.files;
 }
 
 -- ---- the network

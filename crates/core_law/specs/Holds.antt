@@ -10,9 +10,12 @@ use Rattle.solo_devices.specs.PrinterUnit.{Gains}
 use Rattle.page_codec.specs.Items.{AreItems}
 use Rattle.queue_var.specs.HandsOver.{is_one_of}
 use Rattle.resource_mon.specs.Claims.{HasOneHolder}
+use Rattle.batch_job.specs.Report.{Loads}
+use Rattle.batch_job.specs.Loads.{files_named}
+use Rattle.batch_job.specs.LinesSoFar.{IsPrefixOf}
 use Rattle.batch_job.specs.OneThread.{one_thread_lines}
 use Rattle.batch_procs.specs.Faults.{IsDamaged}
-use Rattle.batch_procs.specs.Parcels.{is_last}
+use Rattle.batch_procs.specs.Parcels.{is_last, handed}
 use Rattle.batch_procs.specs.History.{taken, sent, has_stopped}
 use Rattle.batch_procs.specs.Process.{Follows, next_action}
 use Rattle.batch_procs.specs.Laws.{HoldsOn}
@@ -21,6 +24,7 @@ use Rattle.network_law.specs.Acts.{was_told}
 use Rattle.network_law.specs.Network.{IsEnabled, acts}
 use Rattle.network_law.specs.Kept.{StandsFor, WasToldRightly}
 use Rattle.core_law.specs.Core.{core, CoreState, CoreEvent, IsBuffer, seat}
+use Rattle.core_law.specs.FilesLoaded.{files_loaded, AreLoadedSo}
 use Rattle.core_law.specs.Opening.{Spools}
 use Rattle.core_law.specs.Ends.{IsProcess, HasEnded, HasEndedSo, AllDone, EndsTogether, HaveCauses, IsSmooth}
 
@@ -29,21 +33,35 @@ pub record AreTold (spools : Spools) : Type 0 where
   pub input : spools.input_told ≡ true
   pub output : spools.output_told ≡ true
 
--- The holder of the disk puts or takes a page next or releases it, or the turn of the desk is handed to it.
+-- What the files are loaded as that these items name: the file area tells it, or none is named.
+abbrev pub AreFound : Option Loads → Loads → List Item → Type 0
+AreFound files found items = (files ≡ Some found) ⊎ (files_named items ≡ [])
+
+-- The holder of the disk puts or takes a page next, loads a file or releases it, or the turn of the desk is
+-- handed to it.
 abbrev pub GoesOn : CoreState → ℕ → Type 0
 GoesOn s p = (s.desk.claims.handed ≡ Some p) ⊎ HoldsOn (next_action (process p) (s.histories p))
 
+-- What was loaded is the first of what these items name, and all of it where all five are done.
+pub record LoadsInOrder (s : CoreState) (items : List Item) : Type 0 where
+  pub prefix : IsPrefixOf (files_loaded (s.histories 3)) (files_named items)
+  pub all : AllDone s → files_loaded (s.histories 3) ≡ files_named items
+
 pub record Holds (spools : Spools) (deck : Option (List Item)) (paper : Option (List ℕ))
-    (s : CoreState) : Type 0 where
+    (files : Option Loads) (s : CoreState) : Type 0 where
   -- What the paper gained is a prefix of what one thread prints, and all of it where all five ended with
   -- their work done.
-  pub prints : AreTold spools → (items : List Item) → deck ≡ Some items → AreItems items
-      → Gains paper s.devices.paper (text (one_thread_lines items)) (AllDone s)
-  -- Then nothing is left of the deck.
+  pub prints : AreTold spools → (items : List Item) (found : Loads) → deck ≡ Some items → AreItems items
+      → AreFound files found items
+      → Gains paper s.devices.paper (text (one_thread_lines found items)) (AllDone s)
+  -- The job process loads the files that the jobs of the deck name, in order, and each as the files say.
+  pub loads : AreTold spools → (items : List Item) → deck ≡ Some items → AreItems items → LoadsInOrder s items
+  pub loads_so : (found : Loads) → files ≡ Some found → (p : ℕ) → AreLoadedSo found (s.histories p)
+  -- Where all are done nothing is left of the deck.
   pub reads : (items : List Item) → deck ≡ Some items → AllDone s → s.devices.deck ≡ Some []
   -- Each buffer hands over in order what its sender sent, and who waits there has a cause to.
   pub hands_over : (b : ℕ) → IsBuffer b → StandsFor is_last (sent (s.histories b))
-      (taken (s.histories (suc b))) (s.buffers b)
+      (handed (taken (s.histories (suc b)))) (s.buffers b)
   -- The stops of a buffer are those of its two processes.
   pub stops : (b : ℕ) (side : Side) → is_one_of side (s.buffers b).stops
       ≡ has_stopped b (s.histories (seat b side))

@@ -1,4 +1,5 @@
 pub mod Core
+pub mod FilesLoaded
 pub mod Opening
 pub mod Ends
 pub mod Holds

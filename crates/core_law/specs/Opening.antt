@@ -1,6 +1,8 @@
 -- The opening of the core, and its reached states.
-use Rattle.std.specs.Prelude.{◌≤◌, ◌==◌, ℕ, Bool, true, if◌then◌else◌, List, Option}
+use Rattle.std.specs.Prelude.{◌≡◌, ◌≤◌, ◌==◌, ℕ, Bool, true, if◌then◌else◌, List, Option, Some}
 use Rattle.solo_base.specs.declared.item.Item.{Item}
+use Rattle.batch_job.specs.Report.{Loads}
+use Rattle.batch_job.specs.Loads.{IsLoaded}
 use Rattle.batch_procs.specs.Table.{process}
 use Rattle.network_law.specs.Network as law
 use Rattle.core_law.specs.Core.{core, CoreState}
@@ -26,11 +28,17 @@ size_of spools b = if b == 2 then spools.input_size else if b == 3 then spools.o
 abbrev pub told_of : Spools → ℕ → Bool
 told_of spools b = if b == 2 then spools.input_told else if b == 3 then spools.output_told else true
 
-abbrev pub opened : Spools → Option (List Item) → Option (List ℕ) → CoreState
-opened spools deck paper = law.opening record { deck = deck; paper = paper } (size_of spools) (told_of spools)
+abbrev pub opened : Spools → Option (List Item) → Option (List ℕ) → Option Loads → CoreState
+opened spools deck paper files =
+    law.opening record { deck = deck; paper = paper; files = files } (size_of spools) (told_of spools)
+
+-- code that stands in told files keeps the rules of code
+abbrev pub AreGoodFiles : Option Loads → Type 0
+AreGoodFiles files = (found : Loads) → files ≡ Some found → (file : List ℕ) → IsLoaded (found file)
 
 -- A state of the five that some list of enabled events leads to, from spools of such sizes.
 pub record IsReached (spools : Spools) (deck : Option (List Item)) (paper : Option (List ℕ))
-    (s : CoreState) : Type 0 where
+    (files : Option Loads) (s : CoreState) : Type 0 where
   pub bounds : AreInBounds spools
-  pub reached : law.IsReached (core process) (opened spools deck paper) s
+  pub good : AreGoodFiles files
+  pub reached : law.IsReached (core process) (opened spools deck paper files) s

@@ -16,9 +16,10 @@ use Rattle.batch_procs.specs.Table.{process}
 use Rattle.core_law.specs.Core.{CoreState, items_by}
 
 -- ---- the calls that are left
--- What comes of a parcel that is taken, where each of the parcels that it gives has this weight.
+-- What comes of a parcel that is handed over, where each of the parcels that it gives has this weight: their
+-- puts with the calls around them, and the loads of the files that it names with theirs.
 abbrev pub taken_weight : ℕ → ℕ → ℕ
-taken_weight weight most = (weight + 5) * most + 5
+taken_weight weight most = (weight + 9) * most + 5
 
 -- what comes of one that so many processes are still to take, one after the other up to the printer
 abbrev pub weight_before : ℕ → ℕ

@@ -3,48 +3,48 @@ ghost use Rattle.solo_base.specs.declared.item.Item.{Item};
 ghost use Rattle.batch_procs.specs.Table.{process};
 ghost use Rattle.network_law.specs.Network.{AreEnabled, IsEnabled, happens};
 ghost use Rattle.core_law.specs.Core.{core, CoreState, CoreEvent};
+ghost use Rattle.batch_job.specs.Report.{Loads};
 ghost use Rattle.core_law.specs.Opening.{Spools, IsReached};
 ghost use Rattle.page_codec.specs.Items.{AreItems};
 ghost use Rattle.core_law.specs.Bound.{longest_run};
-ghost use Rattle.core_law.specs.Holds.{AreTold, Holds, IsStuck};
+ghost use Rattle.core_law.specs.Holds.{AreTold, AreFound, Holds, IsStuck};
 ghost use Rattle.core_law.specs.Work.{events_left, LeavesFewer};
 
-/// Whatever the order of the events, whichever calls of the devices fail and wherever memory is refused:
-/// in each
-/// state that can be reached the paper gained a prefix of the one-thread output, each buffer hands over in
-/// order,
-/// one process has the disk, and a stop is told rightly. Where all five ended with their work done, the paper
-/// gained all of it. Nothing is done here: the contract is the law.
+/// Whatever the order of the events, whichever calls of the devices fail and wherever memory is refused: in
+/// each state that can be reached the paper gained a prefix of the one-thread output, the files that the jobs
+/// name are loaded in order, each buffer hands over in order, one process has the disk, and a stop is told
+/// rightly. Where all five ended with their work done, the paper gained all of it. Nothing is done here: the
+/// contract is the law.
 pub fn every_interleaving()
-    ensures { (spools : Spools) (deck : Option (List Item)) (paper : Option (List ℕ)) (s : CoreState) →
-        IsReached spools deck paper s → Holds spools deck paper s }
+    ensures { (spools : Spools) (deck : Option (List Item)) (paper : Option (List ℕ)) (files : Option Loads)
+        (s : CoreState) → IsReached spools deck paper files s → Holds spools deck paper files s }
 {}
 
 /// No state that can be reached is stuck, whichever calls of the devices failed and wherever memory was
-/// refused:
-/// where no event may happen but by a failure, all processes have ended. Nothing is done here: the
-/// contract is
-/// the law.
+/// refused: where no event may happen but by a failure, all processes have ended. Nothing is done here: the
+/// contract is the law.
 pub fn no_state_is_stuck()
-    ensures { (spools : Spools) (deck : Option (List Item)) (paper : Option (List ℕ)) (s : CoreState) →
-        IsReached spools deck paper s → IsStuck s → ⊥ }
+    ensures { (spools : Spools) (deck : Option (List Item)) (paper : Option (List ℕ)) (files : Option Loads)
+        (s : CoreState) → IsReached spools deck paper files s → IsStuck s → ⊥ }
 {}
 
 /// Each event leaves less to do, whatever the devices tell and whichever of them fails: so no run goes on for
 /// ever. Nothing is done here: the contract is the law.
 pub fn each_event_leaves_less()
-    ensures { (spools : Spools) (deck : Option (List Item)) (paper : Option (List ℕ)) (s : CoreState)
-        (event : CoreEvent) (before after : ℕ) → IsReached spools deck paper s
+    ensures { (spools : Spools) (deck : Option (List Item)) (paper : Option (List ℕ)) (files : Option Loads)
+        (s : CoreState) (event : CoreEvent) (before after : ℕ) → IsReached spools deck paper files s
         → IsEnabled (core process) s event → LeavesFewer event.entry before after
         → events_left after (happens (core process) s event) < events_left before s }
 {}
 
 /// Over told devices no run is longer than the cards of its deck and the lines that one thread prints for
-/// them allow,
-/// whichever calls fail and wherever memory is refused. Nothing is done here: the contract is the law.
+/// them allow, whichever calls fail and wherever memory is refused. Nothing is done here: the contract is the
+/// law.
 pub fn no_run_is_longer()
-    ensures { (spools : Spools) (deck : Option (List Item)) (paper : Option (List ℕ)) (s : CoreState)
-        (items : List Item) (events : List CoreEvent) → IsReached spools deck paper s → AreTold spools
-        → deck ≡ Some items → AreItems items → AreEnabled (core process) s events
-        → length events ≤ longest_run items }
+    ensures { (spools : Spools) (deck : Option (List Item)) (paper : Option (List ℕ)) (files : Option Loads)
+        (s : CoreState) (items : List Item) (found : Loads) (events : List CoreEvent)
+        → IsReached spools deck paper files s → AreTold spools
+        → deck ≡ Some items → AreItems items → AreFound files found items
+        → AreEnabled (core process) s events
+        → length events ≤ longest_run found items }
 {}
