@@ -1,8 +1,13 @@
 //! Times so many runs of the core on a deck of lists, under a numbered schedule.
 #![tactic(auto)]
 
+ghost use Rattle.std.specs.Prelude.{◌≡◌, true, IfSome};
+
 use anyhow::{Context, Result};
 use core_net::{Counts, Net, Rule};
+use disk_files::FileArea;
+use disk_pages::AREA_PAGES;
+use disk_system::format;
 use solo_devices::{SureArea, SureSink, SureSource};
 use std::alloc::Global;
 use std::env;
@@ -37,6 +42,15 @@ fn deck(alloc: Global, lists: u32) -> Result<Vec<u8>> {
     Ok(deck)
 }
 
+/// The files of an area in memory, of which there are none. None: memory was refused.
+fn no_files(alloc: Global) -> Option<FileArea<SureArea>>
+    ensures { IfSome result (λ files. files.sound ≡ true) }
+{
+    let mut area = SureArea::new(alloc, AREA_PAGES).ok()?;
+    format(&mut area).ok()?;
+    FileArea::mount(alloc, area).ok()
+}
+
 /// Runs a deck of so many lists, and adds the processor time of the run to the time.
 fn run(rt: &HostRuntime, lists: u32, time: &mut u128) -> Result<Counts> {
     let deck = deck(rt.alloc(), lists)?;
@@ -48,7 +62,8 @@ fn run(rt: &HostRuntime, lists: u32, time: &mut u128) -> Result<Counts> {
         .ok()
         .context("no memory")?;
     let paper = SureSink::new(rt.alloc());
-    let mut net = Net::make(rt.alloc(), source, input, output, paper);
+    let files = no_files(rt.alloc()).context("no memory")?;
+    let mut net = Net::make(rt.alloc(), source, input, output, paper, files);
     let began = rt.thread_cpu_time()?;
     let counts = net.run(Rule::Numbered { number: SCHEDULE });
     let took = rt

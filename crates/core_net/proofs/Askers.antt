@@ -1,13 +1,15 @@
 -- Which of the five makes which call.
-use Rattle.std.proofs.Common.{◌≡◌, ◌⊎◌, inl, inr, ℕ, ◌≤◌, ◌<◌, List, [], ◌∷◌, ◌++◌, Some, refl, sym, subst, arith, lit≤}
+use Rattle.std.proofs.Common.{◌≡◌, ◌⊎◌, inl, inr, ℕ, ◌≤◌, ◌<◌, List, [], ◌∷◌, ◌++◌, true, Some, refl, sym, subst, arith, lit≤}
+use Rattle.std.proofs.lemmas.Bool.{and_parts}
 use Rattle.std.proofs.lemmas.Bool.Decides.{eqb_tells}
 use Rattle.std.specs.List.{AllByRecursion}
 use Rattle.batch_procs.specs.declared.actions.Action.{Action}
 use Rattle.batch_procs.specs.declared.actions.Action.TheVariants as act
-use Rattle.batch_procs.specs.Parcels.{Parcel, OfFeed, OfPage, OfLine, IsAFeed, IsAPage, IsALine}
-use Rattle.batch_procs.specs.History.{Entry, taken, sent}
+use Rattle.batch_procs.specs.Parcels.{Parcel, OfFeed, OfPage, OfLine, OfLoad, IsAFeed, IsAPage, IsALine}
+use Rattle.batch_procs.specs.History.{Entry, taken, sent, is_unworked}
 use Rattle.batch_procs.specs.Process.{Follows, next_action, due, puts, aim}
 use Rattle.batch_procs.specs.Table.{process}
+use Rattle.batch_procs.proofs.Nexts.{next-load}
 use Rattle.batch_procs.proofs.Relay.{IsDue, due-rest, sent-is-part}
 use Rattle.core_law.specs.Core.{IsBuffer}
 use Rattle.core_law.specs.Ends.{IsProcess}
@@ -53,11 +55,13 @@ feed-no_page : (parcel : Parcel) (f : Rattle.solo_base.specs.declared.item.Feed.
 feed-no_page (OfFeed g) f e is = is
 feed-no_page (OfPage page last) f e is = cc
 feed-no_page (OfLine line) f e is = is
+feed-no_page (OfLoad load) f e is = is
 
 feed-no_line : (parcel : Parcel) (f : Rattle.solo_base.specs.declared.item.Feed.Feed) → puts parcel ≡ act.PutFeed f → IsALine parcel → ⊥
 feed-no_line (OfFeed g) f e is = is
 feed-no_line (OfPage page last) f e is = is
 feed-no_line (OfLine line) f e is = cc
+feed-no_line (OfLoad load) f e is = is
 
 abbrev pub IsPageAction : Action → Type 0
 IsPageAction (act.PutPage page) = Unit {0}
@@ -67,11 +71,13 @@ page-no_feed : (parcel : Parcel) (a : Action) → puts parcel ≡ a → IsPageAc
 page-no_feed (OfFeed g) a e put is = subst IsPageAction (sym e) put
 page-no_feed (OfPage page last) a e put is = is
 page-no_feed (OfLine line) a e put is = is
+page-no_feed (OfLoad load) a e put is = is
 
 page-no_line : (parcel : Parcel) (a : Action) → puts parcel ≡ a → IsPageAction a → IsALine parcel → ⊥
 page-no_line (OfFeed g) a e put is = is
 page-no_line (OfPage page last) a e put is = is
 page-no_line (OfLine line) a e put is = subst IsPageAction (sym e) put
+page-no_line (OfLoad load) a e put is = is
 
 a_buffer : (b : ℕ) → 1 ≤ b → b < 5 → IsBuffer b
 a_buffer b low high = (low, high)
@@ -165,3 +171,11 @@ prints-paper p h line one follows next =
             not.1 in let below = one.1 in omega (arith, differ, below)),
       ) (taken h)))
     ]
+
+-- ---- who loads files
+working-p : (p : ℕ) → IsProcess p → (process p).works ≡ true → p ≡ 3
+working-p p one = by-five (λ p. (process p).works ≡ true → p ≡ 3) p one (λ e. absurd cc) (λ e. absurd cc) (λ e. refl) (λ e. absurd cc) (λ e. absurd cc)
+
+pub loads-files : (p : ℕ) (h : List Entry) (file : List ℕ) → IsProcess p → Follows (process p) h → next_action (process p) h ≡ Some (act.Load file) → p ≡ 3
+loads-files p h file one follows next =
+    working-p p one (and_parts (process p).works (is_unworked h) (next-load (process p) h file (the-five.relays p) follows next).works).0

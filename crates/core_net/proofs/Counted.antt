@@ -11,6 +11,7 @@ use Rattle.network_law.specs.Desk.{Desk, asked, after_asking}
 use Rattle.network_law.specs.Network.{Fits, happens, desk_after}
 use Rattle.network_law.proofs.Numbers.{same-number, other-number}
 use Rattle.solo_base.specs.declared.item.Item.{Item}
+use Rattle.batch_job.specs.Report.{Loads}
 use Rattle.core_law.specs.Core.{call, core, went, CoreState}
 use Rattle.core_law.specs.Opening.{Spools, IsReached}
 use Rattle.core_law.proofs.Reached.{reached-centre}
@@ -67,14 +68,15 @@ by-call s p (At b side visit) w once fits = same-holder s.desk.claims.holder ∙
 by-call s p Asks w once fits = asking s.desk p s.desk.claims.handed s.desk.claims.holder w refl refl fits
 by-call s p Gives w once fits = giving s.desk.claims.holder s.desk.claims.waiting s.desk.granted once
 
-module _ {S K A B : Type 0} (keeps : Keeps) (tells : Tells S K A B) (counts : causes.Counts S K A B) (old new : Net S K A B) where
+module _ {S K A B F : Type 0} (keeps : Keeps) (tells : Tells S K A B F) (counts : causes.Counts S K A B F) (old new : Net S K A B F) where
   -- A step that is counted is a turn.
-  pub turn-taken : (spools : Spools) (deck : Option (List Item)) (paper : Option (List ℕ)) (s : CoreState) (p : ℕ) (stepped : Stepped) (before after : Counts)
-      → IsReached spools deck paper s → NetStands keeps tells old s → (may : MayGo s p) → StepsNet keeps tells counts old new s p may.0 stepped
+  pub turn-taken : (spools : Spools) (deck : Option (List Item)) (paper : Option (List ℕ)) (files : Option Loads) (s : CoreState) (p : ℕ) (stepped : Stepped)
+      (before after : Counts)
+      → IsReached spools deck paper files s → NetStands keeps tells old s → (may : MayGo s p) → StepsNet keeps tells counts old new s p may.0 stepped
       → after ≡ counted_by before stepped old.shared.desk.holder new.shared.desk.holder → TurnTaken keeps tells old new s p before after
-  turn-taken spools deck paper s p stepped before after reached stands may steps counted =
+  turn-taken spools deck paper files s p stepped before after reached stands may steps counted =
       let e = steps.event in
-      let once = (reached-centre spools deck paper s reached).stands.desk.one_holder.each_once in
+      let once = (reached-centre spools deck paper files s reached).stands.desk.one_holder.each_once in
       let told : grants_by s.desk.claims.holder (happens (core process) s e).desk.claims.holder ≡ grants_at s e
       = by-call s e.process (call e.process (action_of e.entry)) (went e.entry) once steps.enabled.fits in
       let was : s.desk.claims.holder ≡ old.shared.desk.holder = ap (λ (c : Claims). c.holder) stands.shared.desk in

@@ -12,12 +12,13 @@ use Rattle.core_net.specs.Shared.{Tells, SharedStands}
 use Rattle.core_net.specs.Steps.{Enters}
 
 -- an enabled event of a process, and what is shared stands for the state behind it
-pub record IsEvent {S K A B : Type 0} (tells : Tells S K A B) (new : Shared S K A B) (s : CoreState) (p : ℕ) (entry : Entry) : Type 0 where
+pub record IsEvent {S K A B F : Type 0} (tells : Tells S K A B F) (new : Shared S K A B F) (s : CoreState) (p : ℕ) (entry : Entry) : Type 0 where
   pub gained : List ℕ
   pub enabled : IsEnabled (core process) s record { process = p; entry = entry; gained = gained }
   pub after : SharedStands tells new (happens (core process) s record { process = p; entry = entry; gained = gained })
 
-module _ {S K A B : Type 0} (tells : Tells S K A B) (old new : Shared S K A B) (s : CoreState) (ss : SharedStands tells old s) (p : ℕ) (one : IsProcess p) where
+module _ {S K A B F : Type 0} (tells : Tells S K A B F) (old new : Shared S K A B F) (s : CoreState) (ss : SharedStands tells old s) (p : ℕ)
+    (one : IsProcess p) where
   by-action : (entry : Entry) → next_action (process p) (s.histories p) ≡ Some (action_of entry) → MayCall s p (call p (action_of entry))
       → IsFitting (process p) entry → Enters tells old new p (action_of entry) entry
       → IsEvent tells new s p entry

@@ -6,6 +6,7 @@ use Rattle.solo_base.specs.declared.outcome.Outcome.{Outcome}
 use Rattle.solo_base.specs.declared.outcome.Outcome.TheVariants as outcome
 use Rattle.solo_base.specs.declared.outcome.Cause.{Cause}
 use Rattle.solo_base.specs.declared.outcome.Cause.TheVariants as cause
+use Rattle.batch_job.specs.Report.{Loads}
 use Rattle.solo_devices.specs.Count.{Rose}
 use Rattle.solo_devices.specs.CardUnit.{Held, byte_limit}
 use Rattle.solo_devices.specs.declared.card_read.CardRead.{CardRead}
@@ -32,12 +33,12 @@ use Rattle.core_law.proofs.Reached.{reached-centre}
 use Rattle.core_net.specs.declared.finish.Outcomes.{Outcomes}
 use Rattle.core_net.specs.declared.net.Net.{Net}
 use Rattle.core_net.specs.declared.step.Stepped.{Stepped}
-use Rattle.core_net.specs.Causes.{Counts, HasCauses, IsPrint, MovesInput, MovesOutput}
+use Rattle.core_net.specs.Causes.{Counts, HasCauses, IsPrint, IsLoad, MovesInput, MovesOutput}
 use Rattle.core_net.specs.Faults.{Peripherals, devices_of, AreCounted, outcomes_in, CausesAreCounted}
 use Rattle.core_net.specs.Net.{Keeps, NetStands, MayStepNet, StepsNet}
 use Rattle.core_net.specs.Shared.{Tells}
 use Rattle.core_net.specs.Steps.{reply_of}
-use Rattle.core_net.proofs.Askers.{moves-page, takes-page, reads-deck}
+use Rattle.core_net.proofs.Askers.{moves-page, takes-page, reads-deck, loads-files}
 
 -- ---- what an entry that gave a fault was told
 abbrev IsMove : Action → Type 0
@@ -45,10 +46,14 @@ IsMove (act.PutPage page) = Unit {0}
 IsMove act.TakePage = Unit {0}
 IsMove action = ⊥
 
+-- a call that a disk may fail
+abbrev IsDisk : Action → Type 0
+IsDisk a = IsMove a ⊎ IsLoad a
+
 abbrev Told : Cause → Action → Option Reply → Type 0
 Told cause.ReadFault a r = r ≡ Some (reply.Card card_read.Failed)
 Told cause.DeckLimit a r = r ≡ Some (reply.Card card_read.Limit)
-Told cause.DiskFault a r = IsMove a × (r ≡ Some reply.Failed)
+Told cause.DiskFault a r = IsDisk a × (r ≡ Some reply.Failed)
 Told cause.PrintFault a r = IsPrint a × (r ≡ Some reply.Failed)
 Told other a r = Unit {0}
 
@@ -71,8 +76,9 @@ module _ (c : Cause) (a : Action) where
   told-memory r e = subst (λ c. Told c a r) (same-fault cause.NoMemory c e) tt
 
 told-failed : (c : Cause) (a : Action) → Fits a reply.Failed → Some (outcome.Fault (fault_at a)) ≡ Some (outcome.Fault c) → Told c a (Some reply.Failed)
-told-failed c (act.PutPage page) fits e = subst (λ c. Told c (act.PutPage page) (Some reply.Failed)) (same-fault cause.DiskFault c e) (tt, refl)
-told-failed c act.TakePage fits e = subst (λ c. Told c act.TakePage (Some reply.Failed)) (same-fault cause.DiskFault c e) (tt, refl)
+told-failed c (act.PutPage page) fits e = subst (λ c. Told c (act.PutPage page) (Some reply.Failed)) (same-fault cause.DiskFault c e) (inl tt, refl)
+told-failed c act.TakePage fits e = subst (λ c. Told c act.TakePage (Some reply.Failed)) (same-fault cause.DiskFault c e) (inl tt, refl)
+told-failed c (act.Load file) fits e = subst (λ c. Told c (act.Load file) (Some reply.Failed)) (same-fault cause.DiskFault c e) (inr tt, refl)
 told-failed c (act.Print line) fits e = subst (λ c. Told c (act.Print line) (Some reply.Failed)) (same-fault cause.PrintFault c e) (tt, refl)
 told-failed c a fits e = absurd fits
 
@@ -85,6 +91,7 @@ told-so p (Does a reply.NoMemory) h c fits e = told-memory c a (Some reply.NoMem
 told-so p (Does a (reply.Card answer)) h c fits e = told-read c a answer e
 told-so p (Does a (reply.Feed f)) h c fits e = absurd cc
 told-so p (Does a (reply.Page page last)) h c fits e = told-damage c a (page_read (place h) last page) (Some (reply.Page page last)) e
+told-so p (Does a (reply.Loaded load)) h c fits e = absurd cc
 told-so p (LacksMemory a r) h c fits e = told-memory c a (Some r) e
 told-so p (Delays a) h c fits e = absurd cc
 
@@ -177,6 +184,11 @@ no-input p (act.PutPage page) four is = let same = sym four ∙ is in cc
 no-input p act.TakePage four is = let same = sym four ∙ is in cc
 no-input p a four is = is
 
+-- ---- who loads a file
+loads-so : (p : ℕ) (h : List Entry) (a : Action) → IsProcess p → Follows (process p) h → next_action (process p) h ≡ Some a → IsLoad a → p ≡ 3
+loads-so p h (act.Load file) one follows next is = loads-files p h file one follows next
+loads-so p h a one follows next is = absurd is
+
 -- ---- counts that rise
 rose-then : (a b c : ℕ) → Rose a b → b ≤ c → Rose a c
 rose-then a b c rose on = omega (arith, rose, on)
@@ -192,28 +204,30 @@ same-five : (a b c d e x y z v w : Outcome) → a ≡ x → b ≡ y → c ≡ z 
     → the_five ≡ record { card = x; input = y; job = z; output = v; printer = w }
 same-five a b c d e x y z v w i j k l m the_five is = cc
 
-abbrev these : {S K A B : Type 0} → S → K → A → B → Peripherals S K A B
-these source sink input output = record { source = source; sink = sink; input = input; output = output }
+abbrev these : {S K A B F : Type 0} → S → K → A → B → F → Peripherals S K A B F
+these source sink input output files = record { source = source; sink = sink; input = input; output = output; files = files }
 
-pub same-devices : {S K A B : Type 0} (source : S) (sink : K) (a c : A) (b d : B) → a ≡ c → b ≡ d → these source sink a b ≡ these source sink c d
-same-devices source sink a c b d x y = cc
+pub same-devices : {S K A B F : Type 0} (source : S) (sink : K) (a c : A) (b d : B) (files : F) → a ≡ c → b ≡ d
+    → these source sink a b files ≡ these source sink c d files
+same-devices source sink a c b d files x y = cc
 
-module _ {S K A B : Type 0} (keeps : Keeps) (tells : Tells S K A B) (counts : Counts S K A B) where
+module _ {S K A B F : Type 0} (keeps : Keeps) (tells : Tells S K A B F) (counts : Counts S K A B F) where
   -- a network's processes have the same causes in each state that it stands for
-  same-outcomes : (net : Net S K A B) (s t : CoreState) → NetStands keeps tells net s → NetStands keeps tells net t → outcomes_in s ≡ outcomes_in t
+  same-outcomes : (net : Net S K A B F) (s t : CoreState) → NetStands keeps tells net s → NetStands keeps tells net t → outcomes_in s ≡ outcomes_in t
   same-outcomes net s t a b =
       same-five _ _ _ _ _ _ _ _ _ _ (ap outcome_by (sym a.card.cause ∙ b.card.cause)) (ap outcome_by (sym a.input.cause ∙ b.input.cause))
       (ap outcome_by (sym a.job.cause ∙ b.job.cause)) (ap outcome_by (sym a.output.cause ∙ b.output.cause))
       (ap outcome_by (sym a.printer.cause ∙ b.printer.cause)) (outcomes_in s) refl
 
   -- what is counted in one state that it stands for is in each
-  counted-each : (net : Net S K A B) (before : Peripherals S K A B) (s : CoreState) → NetStands keeps tells net s
+  counted-each : (net : Net S K A B F) (before : Peripherals S K A B F) (s : CoreState) → NetStands keeps tells net s
       → AreCounted counts before (devices_of net.shared) (outcomes_in s) → CausesAreCounted keeps tells counts before net
   counted-each net before s stands are = λ t other. subst (AreCounted counts before (devices_of net.shared)) (same-outcomes net s t stands other) are
 
   -- ---- one step
-  module _ (old new : Net S K A B) (spools : Spools) (deck : Option (List Item)) (paper : Option (List ℕ)) (s : CoreState) (p : ℕ) (action : Action)
-      (stepped : Stepped) (reached : IsReached spools deck paper s)
+  module _ (old new : Net S K A B F) (spools : Spools) (deck : Option (List Item)) (paper : Option (List ℕ)) (files : Option Loads) (s : CoreState) (p : ℕ)
+      (action : Action)
+      (stepped : Stepped) (reached : IsReached spools deck paper files s)
       (step : StepsNet keeps tells counts old new s p action stepped) where
     abbrev event : CoreEvent
     event = step.event
@@ -230,7 +244,7 @@ module _ {S K A B : Type 0} (keeps : Keeps) (tells : Tells S K A B) (counts : Co
         (subst (λ a. HasCauses counts old.shared new.shared p a (reply_of event.entry)) (sym step.action_is) step.causes)
 
     follows : Follows (process q) (s.histories q)
-    follows = follows-of process q (s.histories q) ((reached-centre spools deck paper s reached).stands.follows q)
+    follows = follows-of process q (s.histories q) ((reached-centre spools deck paper files s reached).stands.follows q)
 
     next : next_action (process q) (s.histories q) ≡ Some made
     next = step.enabled.next
@@ -253,7 +267,7 @@ module _ {S K A B : Type 0} (keeps : Keeps) (tells : Tells S K A B) (counts : Co
         let here : caused (s.histories 1) ≡ None = subst (λ p. caused (s.histories p) ≡ None) (reads-deck q (s.histories q) asked) none in
         let both = sym here ∙ is in cc)
 
-    module _ (before : Peripherals S K A B) (was : AreCounted counts before (devices_of old.shared) (outcomes_in s)) where
+    module _ (before : Peripherals S K A B F) (was : AreCounted counts before (devices_of old.shared) (outcomes_in s)) where
       moves : IsMove made → MovesInput q made ⊎ MovesOutput q made
       moves is = moves-so q (s.histories q) made step.enabled.one follows next is
 
@@ -270,6 +284,16 @@ module _ {S K A B : Type 0} (keeps : Keeps) (tells : Tells S K A B) (counts : Co
 
       abbrev OutputRose : Type 0
       OutputRose = Rose (counts.output_faults before.output) (counts.output_faults new.shared.output.area)
+
+      abbrev FilesRose : Type 0
+      FilesRose = Rose (counts.file_faults before.files) (counts.file_faults new.shared.files.area)
+
+      loads : IsLoad made → q ≡ 3
+      loads is = loads-so q (s.histories q) made step.enabled.one follows next is
+
+      files-rose : IsLoad made → reply_of event.entry ≡ Some reply.Failed
+          → Rose (counts.file_faults before.files) (counts.file_faults new.shared.files.area)
+      files-rose is failed = then-rose _ _ _ was.files_on (causes.load is failed)
 
       read : outcome_by (caused ((happens (core process) s event).histories 1)) ≡ outcome.Fault cause.ReadFault
           → Rose (counts.read_faults before.source) (counts.read_faults new.shared.deck.source)
@@ -303,22 +327,31 @@ module _ {S K A B : Type 0} (keeps : Keeps) (tells : Tells S K A B) (counts : Co
       input is =
           elim (now-or-before 2 cause.DiskFault is) as (λ _. InputRose) [
             | inl had ↦ rose-then _ _ _ (was.input had) causes.input_on
-            | inr gave ↦ elim (moves gave.1.0) as (λ _. InputRose) [
-              | inl there ↦ input-rose there gave.1.1
-              | inr there ↦ absurd (no-output q made gave.0 there)
+            | inr gave ↦ elim gave.1.0 as (λ _. InputRose) [
+              | inl page ↦ elim (moves page) as (λ _. InputRose) [
+                | inl there ↦ input-rose there gave.1.1
+                | inr there ↦ absurd (no-output q made gave.0 there)
+              ]
+              | inr file ↦ absurd (let same = sym gave.0 ∙ loads file in cc)
             ]
           ]
 
-      job : outcome_by (caused ((happens (core process) s event).histories 3)) ≡ outcome.Fault cause.DiskFault → InputRose ⊎ OutputRose
+      job : outcome_by (caused ((happens (core process) s event).histories 3)) ≡ outcome.Fault cause.DiskFault → InputRose ⊎ OutputRose ⊎ FilesRose
       job is =
-          elim (now-or-before 3 cause.DiskFault is) as (λ _. InputRose ⊎ OutputRose) [
-            | inl had ↦ elim (was.job had) as (λ _. InputRose ⊎ OutputRose) [
+          elim (now-or-before 3 cause.DiskFault is) as (λ _. InputRose ⊎ OutputRose ⊎ FilesRose) [
+            | inl had ↦ elim (was.job had) as (λ _. InputRose ⊎ OutputRose ⊎ FilesRose) [
               | inl rose ↦ inl (rose-then _ _ _ rose causes.input_on)
-              | inr rose ↦ inr (rose-then _ _ _ rose causes.output_on)
+              | inr later ↦ elim later as (λ _. InputRose ⊎ OutputRose ⊎ FilesRose) [
+                | inl rose ↦ inr (inl (rose-then _ _ _ rose causes.output_on))
+                | inr rose ↦ inr (inr (rose-then _ _ _ rose causes.files_on))
+              ]
             ]
-            | inr gave ↦ elim (moves gave.1.0) as (λ _. InputRose ⊎ OutputRose) [
-              | inl there ↦ inl (input-rose there gave.1.1)
-              | inr there ↦ inr (output-rose there gave.1.1)
+            | inr gave ↦ elim gave.1.0 as (λ _. InputRose ⊎ OutputRose ⊎ FilesRose) [
+              | inl page ↦ elim (moves page) as (λ _. InputRose ⊎ OutputRose ⊎ FilesRose) [
+                | inl there ↦ inl (input-rose there gave.1.1)
+                | inr there ↦ inr (inl (output-rose there gave.1.1))
+              ]
+              | inr file ↦ inr (inr (files-rose file gave.1.1))
             ]
           ]
 
@@ -326,9 +359,12 @@ module _ {S K A B : Type 0} (keeps : Keeps) (tells : Tells S K A B) (counts : Co
       output is =
           elim (now-or-before 4 cause.DiskFault is) as (λ _. OutputRose) [
             | inl had ↦ rose-then _ _ _ (was.output had) causes.output_on
-            | inr gave ↦ elim (moves gave.1.0) as (λ _. OutputRose) [
-              | inl there ↦ absurd (no-input q made gave.0 there)
-              | inr there ↦ output-rose there gave.1.1
+            | inr gave ↦ elim gave.1.0 as (λ _. OutputRose) [
+              | inl page ↦ elim (moves page) as (λ _. OutputRose) [
+                | inl there ↦ absurd (no-input q made gave.0 there)
+                | inr there ↦ output-rose there gave.1.1
+              ]
+              | inr file ↦ absurd (let same = sym gave.0 ∙ loads file in cc)
             ]
           ]
 
@@ -353,22 +389,23 @@ module _ {S K A B : Type 0} (keeps : Keeps) (tells : Tells S K A B) (counts : Co
         input_on = on-then _ _ _ was.input_on causes.input_on;
         output_on = on-then _ _ _ was.output_on causes.output_on;
         print_on = on-then _ _ _ was.print_on causes.print_on;
+        files_on = on-then _ _ _ was.files_on causes.files_on;
       }
 
   -- A turn keeps that they were counted.
-  pub turn-counted : (old new : Net S K A B) (p : ℕ) (stepped : Stepped) (may : MayStepNet keeps tells old p)
+  pub turn-counted : (old new : Net S K A B F) (p : ℕ) (stepped : Stepped) (may : MayStepNet keeps tells old p)
       → StepsNet keeps tells counts old new may.state p may.action stepped
-      → (before : Peripherals S K A B) → CausesAreCounted keeps tells counts before old → CausesAreCounted keeps tells counts before new
+      → (before : Peripherals S K A B F) → CausesAreCounted keeps tells counts before old → CausesAreCounted keeps tells counts before new
   turn-counted old new p stepped may step before were =
       counted-each new before (happens (core process) may.state step.event) step.stands
-      (counted old new may.spools may.deck may.paper may.state p may.action stepped may.reached step before (were may.state may.stands))
+      (counted old new may.spools may.deck may.paper may.files may.state p may.action stepped may.reached step before (were may.state may.stands))
 
   -- What was counted until all ended is what the run tells.
-  pub ended-counted : (net : Net S K A B) (outcomes : Outcomes) (now : Peripherals S K A B) (s : CoreState) → NetStands keeps tells net s
+  pub ended-counted : (net : Net S K A B F) (outcomes : Outcomes) (now : Peripherals S K A B F) (s : CoreState) → NetStands keeps tells net s
       → outcomes.card ≡ outcome_by (caused (s.histories 1)) → outcomes.input ≡ outcome_by (caused (s.histories 2))
       → outcomes.job ≡ outcome_by (caused (s.histories 3)) → outcomes.output ≡ outcome_by (caused (s.histories 4))
       → outcomes.printer ≡ outcome_by (caused (s.histories 5)) → now ≡ devices_of net.shared
-      → (before : Peripherals S K A B) → CausesAreCounted keeps tells counts before net → AreCounted counts before now outcomes
+      → (before : Peripherals S K A B F) → CausesAreCounted keeps tells counts before net → AreCounted counts before now outcomes
   ended-counted net outcomes now s stands card input job output printer devices before were =
       subst (λ now. AreCounted counts before now outcomes) (sym devices)
       (subst (AreCounted counts before (devices_of net.shared)) (sym (same-five _ _ _ _ _ _ _ _ _ _ card input job output printer outcomes refl))

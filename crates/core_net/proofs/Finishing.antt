@@ -6,6 +6,7 @@ use Rattle.solo_base.specs.declared.outcome.Outcome.{Outcome}
 use Rattle.solo_base.specs.declared.outcome.Outcome.TheVariants as outcome
 use Rattle.solo_base.specs.declared.outcome.Cause.{Cause}
 use Rattle.solo_base.specs.Text.{text}
+use Rattle.batch_job.specs.Report.{Loads}
 use Rattle.solo_devices.specs.CardUnit.{items_ahead}
 use Rattle.solo_devices.specs.PrinterUnit.{Gains}
 use Rattle.page_codec.specs.Items.{AreItems}
@@ -27,7 +28,7 @@ use Rattle.batch_procs.proofs.Faulty.{each_cause_is_given, faults_of_the_five}
 use Rattle.core_law.specs.Core.{CoreState, IsBuffer}
 use Rattle.core_law.specs.Ends.{IsProcess, HasEndedSo, AllDone, EndsTogether, outcome_by}
 use Rattle.batch_job.specs.OneThread.{one_thread_lines}
-use Rattle.core_law.specs.Holds.{AreTold, Holds}
+use Rattle.core_law.specs.Holds.{AreTold, AreFound, Holds}
 use Rattle.core_law.specs.Opening.{Spools}
 use Rattle.core_law.proofs.Outcomes.{ended-as}
 use Rattle.core_law.proofs.Reached.{reached-holds}
@@ -50,6 +51,7 @@ ended-step (Some act.AwaitItem) e = absurd cc
 ended-step (Some act.Request) e = absurd cc
 ended-step (Some (act.PutPage page)) e = absurd cc
 ended-step (Some act.TakePage) e = absurd cc
+ended-step (Some (act.Load file)) e = absurd cc
 ended-step (Some act.Release) e = absurd cc
 ended-step (Some act.Local) e = absurd cc
 ended-step (Some (act.Print line)) e = absurd cc
@@ -85,7 +87,8 @@ done-so a b c d e x y z v w = cc
 same-four : (a b c d x y z v : Option Side) → a ≡ x → b ≡ y → c ≡ z → d ≡ v → (a ∷ b ∷ c ∷ d ∷ []) ≡ (x ∷ y ∷ z ∷ v ∷ [])
 same-four a b c d x y z v i j k l = cc
 
-pub sides-are : {S K A B : Type 0} (tells : Tells S K A B) (shared : Shared S K A B) (s : CoreState) → SharedStands tells shared s → (a b c d : Option Side)
+pub sides-are : {S K A B F : Type 0} (tells : Tells S K A B F) (shared : Shared S K A B F) (s : CoreState) → SharedStands tells shared s →
+    (a b c d : Option Side)
     → a ≡ stopped_by shared.cards.sides → b ≡ stopped_by shared.input.sides → c ≡ stopped_by shared.output.sides → d ≡ stopped_by shared.lines.sides
     → (a ∷ b ∷ c ∷ d ∷ []) ≡ sides_of s
 sides-are tells shared s st a b c d i j k l =
@@ -111,7 +114,7 @@ gains-where before now whole X Y if gains = record {
   untold = gains.untold;
 }
 
-module _ {S K A B : Type 0} (keeps : Keeps) (tells : Tells S K A B) (net : Net S K A B) (outcomes : Outcomes) (stops : List (Option Side))
+module _ {S K A B F : Type 0} (keeps : Keeps) (tells : Tells S K A B F) (net : Net S K A B F) (outcomes : Outcomes) (stops : List (Option Side))
     (some : HaveEnded keeps tells net)
     (card-is : (h : List Entry) → StandsFor card keeps.card net.card h → outcomes.card ≡ outcome_by (caused h))
     (input-is : (h : List Entry) → StandsFor input keeps.input net.input h → outcomes.input ≡ outcome_by (caused h))
@@ -164,7 +167,7 @@ module _ {S K A B : Type 0} (keeps : Keeps) (tells : Tells S K A B) (net : Net S
   all-are s st e p one = subst (λ how. HasEndedSo s how p) (ap (λ o. outcome_at o p) e ∙ all-done p one) (ended s st p one)
 
   law : EndsTogether first
-  law = (reached-holds some.spools some.deck some.paper first some.is.reached).ends
+  law = (reached-holds some.spools some.deck some.paper some.files first some.is.reached).ends
 
   stopped-first : (b : ℕ) → IsBuffer b → stopped_at stops b ≡ stopped_by (first.buffers b).sides
   stopped-first b is = ap (λ all. stopped_at all b) (stops-are first stood) ∙ stopped-so first b is
@@ -205,15 +208,16 @@ module _ {S K A B : Type 0} (keeps : Keeps) (tells : Tells S K A B) (net : Net S
   together = record { done = (done-none, none-done); stopped = beside }
 
   -- ---- for an opening
-  module _ (spools : Spools) (deck : Option (List Item)) (paper : Option (List ℕ)) (st : StandsReached keeps tells net spools deck paper) where
-    holds : Holds spools deck paper st.state
-    holds = reached-holds spools deck paper st.state st.reached
+  module _ (spools : Spools) (deck : Option (List Item)) (paper : Option (List ℕ)) (files : Option Loads)
+      (st : StandsReached keeps tells net spools deck paper files) where
+    holds : Holds spools deck paper files st.state
+    holds = reached-holds spools deck paper files st.state st.reached
 
-    pub prints : AreTold spools → (items : List Item) → deck ≡ Some items → AreItems items
-        → Gains paper (tells.given net.shared.paper.sink) (text (one_thread_lines items)) (outcomes ≡ all_done)
-    prints told items is valid =
-        subst (λ now. Gains paper now (text (one_thread_lines items)) (outcomes ≡ all_done)) st.stands.shared.paper
-        (gains-where paper st.state.devices.paper _ _ _ (all-are st.state st.stands) (holds.prints told items is valid))
+    pub prints : AreTold spools → (items : List Item) (found : Loads) → deck ≡ Some items → AreItems items → AreFound files found items
+        → Gains paper (tells.given net.shared.paper.sink) (text (one_thread_lines found items)) (outcomes ≡ all_done)
+    prints told items found is valid are_found =
+        subst (λ now. Gains paper now (text (one_thread_lines found items)) (outcomes ≡ all_done)) st.stands.shared.paper
+        (gains-where paper st.state.devices.paper _ _ _ (all-are st.state st.stands) (holds.prints told items found is valid are_found))
 
     pub reads : (items : List Item) → deck ≡ Some items → outcomes ≡ all_done
         → items_ahead (tells.left net.shared.deck.source) net.shared.deck.pending ≡ Some []

@@ -2,7 +2,7 @@ mod SpoolVisits
 mod DeviceVisits
 mod Performing
 mod Stepping
-mod Askers
+pub mod Askers
 mod MayPerforming
 mod Entering
 mod Causing
@@ -17,3 +17,4 @@ mod Counted
 mod FaultsCounted
 mod WholeRuns
 mod Within
+pub mod GoodFiles

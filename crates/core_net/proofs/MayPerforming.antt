@@ -32,7 +32,7 @@ use Rattle.core_law.proofs.NeverStuck.{mark-is}
 use Rattle.core_law.proofs.Places.{call-buffer}
 use Rattle.core_net.specs.declared.shared.Shared.{Shared}
 use Rattle.core_net.specs.Shared.{Tells, SharedStands, Choice, AtNumbers, WaitsAt, PutsAt, TakesAt, StopsAt, MayPerform}
-use Rattle.core_net.proofs.Askers.{feed-puts, room-waits, moves-page, takes-feed, takes-page, item-waits, reads-deck, prints-paper}
+use Rattle.core_net.proofs.Askers.{feed-puts, room-waits, moves-page, takes-feed, takes-page, item-waits, reads-deck, prints-paper, loads-files}
 
 -- ---- numbers
 given-first : (t : Bool) (X Y : Type 0) → t ≡ true → X → Choice t X Y
@@ -53,7 +53,7 @@ second-number p m n X Y differ e is =
 some-marks : (marks : List Bool) → 0 < length marks → marks ≡ [] → ⊥
 some-marks marks some e = let none : length marks ≡ 0 = ap length e in omega (arith, some, none)
 
-module _ {S K A B : Type 0} (tells : Tells S K A B) (opening s : CoreState) (st : Stands (core process) opening s) (shared : Shared S K A B)
+module _ {S K A B F : Type 0} (tells : Tells S K A B F) (opening s : CoreState) (st : Stands (core process) opening s) (shared : Shared S K A B F)
     (ss : SharedStands tells shared s)
     (p : ℕ) (one : IsProcess p) where
   abbrev follows : Follows (process p) (s.histories p)
@@ -268,21 +268,29 @@ module _ {S K A B : Type 0} (tells : Tells S K A B) (opening s : CoreState) (st 
       let is = prints-paper p (s.histories p) line one follows next in
       live (subst (λ q. caused (s.histories q) ≡ None) is (open-next (process p) (s.histories p) (act.Print line) next tt))
 
+  may-load : (caused (s.histories 3) ≡ None → shared.files.sound ≡ true) → (file : List ℕ) → next_action (process p) (s.histories p) ≡ Some (act.Load file)
+      → MayPerform shared p (act.Load file)
+  may-load sound file next =
+      let is = loads-files p (s.histories p) file one follows next in
+      sound (subst (λ q. caused (s.histories q) ≡ None) is (open-next (process p) (s.histories p) (act.Load file) next tt))
+
   -- What is next at its turn may be performed.
   pub may-perform : (caused (s.histories 1) ≡ None → shared.deck.live ≡ true) → (caused (s.histories 5) ≡ None → shared.paper.live ≡ true)
-      → length s.desk.claims.waiting < 5 → (a : Action) → next_action (process p) (s.histories p) ≡ Some a → MayCall s p (call p a) → MayPerform shared p a
-  may-perform deck paper room act.ReadCard next may = may-read deck next
-  may-perform deck paper room (act.PutFeed f) next may = may-put_feed f next may
-  may-perform deck paper room act.TakeFeed next may = may-take_feed next may
-  may-perform deck paper room act.AwaitRoom next may = may-await_room next may
-  may-perform deck paper room act.AwaitItem next may = may-await_item next may
-  may-perform deck paper room act.Request next may =
+      → (caused (s.histories 3) ≡ None → shared.files.sound ≡ true) → length s.desk.claims.waiting < 5 → (a : Action) → next_action (process p) (s.histories p)
+      ≡ Some a → MayCall s p (call p a) → MayPerform shared p a
+  may-perform deck paper files room act.ReadCard next may = may-read deck next
+  may-perform deck paper files room (act.PutFeed f) next may = may-put_feed f next may
+  may-perform deck paper files room act.TakeFeed next may = may-take_feed next may
+  may-perform deck paper files room act.AwaitRoom next may = may-await_room next may
+  may-perform deck paper files room act.AwaitItem next may = may-await_item next may
+  may-perform deck paper files room act.Request next may =
       (subst (λ (c : Claims). MayRequest c p) ss.desk (may-request next may), subst (λ (c : Claims). length c.waiting < 5) ss.desk room)
-  may-perform deck paper room (act.PutPage page) next may = may-put_page page next may
-  may-perform deck paper room act.TakePage next may = may-take_page next may
-  may-perform deck paper room act.Release next may =
+  may-perform deck paper files room (act.PutPage page) next may = may-put_page page next may
+  may-perform deck paper files room act.TakePage next may = may-take_page next may
+  may-perform deck paper files room (act.Load file) next may = may-load files file next
+  may-perform deck paper files room act.Release next may =
       subst (λ (c : Claims). IsSome c.holder × (c.handed ≡ None)) ss.desk (may-release next may)
-  may-perform deck paper room act.Local next may = tt
-  may-perform deck paper room (act.Print line) next may = may-print paper line next
-  may-perform deck paper room (act.Stop b) next may = may-stop b next may
-  may-perform deck paper room (act.Ended how) next may = tt
+  may-perform deck paper files room act.Local next may = tt
+  may-perform deck paper files room (act.Print line) next may = may-print paper line next
+  may-perform deck paper files room (act.Stop b) next may = may-stop b next may
+  may-perform deck paper files room (act.Ended how) next may = tt

@@ -1,6 +1,7 @@
 -- A step of one of the machines is a step of the network.
 use Rattle.std.proofs.Common.{◌≡◌, ◌≢◌, ℕ, true, List, ◌∷◌, Option, None, Some, refl, sym, ◌∙◌, ap, subst, arith}
 use Rattle.solo_base.specs.declared.item.Item.{Item}
+use Rattle.batch_job.specs.Report.{Loads}
 use Rattle.solo_devices.specs.declared.card_read.CardRead.{CardRead}
 use Rattle.solo_devices.specs.declared.card_read.CardRead.TheVariants as card_read
 use Rattle.batch_procs.specs.declared.actions.Action.{Action}
@@ -31,11 +32,11 @@ use Rattle.core_law.proofs.Acting.{follows-of}
 use Rattle.core_net.specs.declared.net.Net.{Net}
 use Rattle.core_net.specs.declared.shared.Shared.{Shared}
 use Rattle.core_net.specs.declared.step.Stepped.{Stepped}
-use Rattle.core_net.specs.Causes.{Counts, IsPrint, HasCauses}
+use Rattle.core_net.specs.Causes.{Counts, IsPrint, IsLoad, HasCauses}
 use Rattle.core_net.specs.Shared.{Tells, SharedStands, MayPerform}
 use Rattle.core_net.specs.Steps.{reply_of, MayStep, Steps}
 use Rattle.core_net.specs.Net.{Keeps, NetStands, MayStepIn, MayStepNet, StepsNet}
-use Rattle.core_net.proofs.Askers.{reads-deck, prints-paper}
+use Rattle.core_net.proofs.Askers.{reads-deck, prints-paper, loads-files}
 use Rattle.core_net.proofs.MayPerforming.{may-perform}
 use Rattle.core_law.proofs.DeskRoom.{desk-room}
 use Rattle.core_net.proofs.Entering.{is-event}
@@ -51,12 +52,16 @@ pub record IsFree (entry : Entry) (h : List Entry) : Type 0 where
   pub before : caused h ≡ None
   pub no_failed : reply_of entry ≢ Some (reply.Card card_read.Failed)
   pub no_limit : reply_of entry ≢ Some (reply.Card card_read.Limit)
+  pub no_failure : reply_of entry ≢ Some reply.Failed
 
 failed-cause : (a : Action) (r : Reply) (h : List Entry) → caused (Does a r ∷ h) ≡ None → r ≡ reply.Card card_read.Failed → ⊥
 failed-cause a r h none e = some-not_none (caused h) _ (sym (ap (λ r. or_new (caused h) (given_cause a r h)) e) ∙ none)
 
 limit-cause : (a : Action) (r : Reply) (h : List Entry) → caused (Does a r ∷ h) ≡ None → r ≡ reply.Card card_read.Limit → ⊥
 limit-cause a r h none e = some-not_none (caused h) _ (sym (ap (λ r. or_new (caused h) (given_cause a r h)) e) ∙ none)
+
+failure-cause : (a : Action) (r : Reply) (h : List Entry) → caused (Does a r ∷ h) ≡ None → r ≡ reply.Failed → ⊥
+failure-cause a r h none e = some-not_none (caused h) _ (sym (ap (λ r. or_new (caused h) (given_cause a r h)) e) ∙ none)
 
 some-reply : (r s : Reply) → Some r ≡ Some s → r ≡ s
 some-reply r s e = cc
@@ -66,9 +71,10 @@ free-of (Does a r) h none = record {
   before = or-none (caused h) (given_cause a r h) none;
   no_failed = λ e. failed-cause a r h none (some-reply r _ e);
   no_limit = λ e. limit-cause a r h none (some-reply r _ e);
+  no_failure = λ e. failure-cause a r h none (some-reply r _ e);
 }
 free-of (LacksMemory a r) h none = absurd (some-not_none (caused h) _ none)
-free-of (Delays a) h none = record { before = none; no_failed = λ e. cc; no_limit = λ e. cc }
+free-of (Delays a) h none = record { before = none; no_failed = λ e. cc; no_limit = λ e. cc; no_failure = λ e. cc }
 
 -- another process reads no card
 card-fits : (a : Action) (answer : CardRead) → Fits a (reply.Card answer) → a ≡ act.ReadCard
@@ -102,23 +108,29 @@ line-of : (a : Action) → IsPrint a → (line : List ℕ) × (a ≡ act.Print l
 line-of (act.Print line) is = (line, refl)
 line-of a is = absurd is
 
+file-of : (a : Action) → IsLoad a → (file : List ℕ) × (a ≡ act.Load file)
+file-of (act.Load file) is = (file, refl)
+file-of a is = absurd is
+
 -- ---- one step
-module _ {S K A B : Type 0} (keeps : Keeps) (tells : Tells S K A B) (counts : Counts S K A B) (net : Net S K A B) (spools : Spools) (deck : Option (List Item))
-    (paper : Option (List ℕ)) (s : CoreState)
-    (reached : IsReached spools deck paper s) (stands : NetStands keeps tells net s) where
-  abbrev centre : Centre (opened spools deck paper) s
-  centre = reached-centre spools deck paper s reached
+module _ {S K A B F : Type 0} (keeps : Keeps) (tells : Tells S K A B F) (counts : Counts S K A B F) (net : Net S K A B F) (spools : Spools) (deck : Option
+    (List Item))
+    (paper : Option (List ℕ)) (files : Option Loads) (s : CoreState)
+    (reached : IsReached spools deck paper files s) (stands : NetStands keeps tells net s) where
+  abbrev centre : Centre (opened spools deck paper files) s
+  centre = reached-centre spools deck paper files s reached
 
   follows : (p : ℕ) → Follows (process p) (s.histories p)
   follows p = follows-of process p (s.histories p) (centre.stands.follows p)
 
   pub may-now : (p : ℕ) (action : Action) → MayStepIn s p action → MayPerform net.shared p action
   may-now p action step =
-      may-perform tells (opened spools deck paper) s centre.stands net.shared stands.shared p step.one stands.deck_live stands.paper_live
-      (desk-room (opened spools deck paper) s centre.stands) action step.next step.may
+      may-perform tells (opened spools deck paper files) s centre.stands net.shared stands.shared p step.one stands.deck_live stands.paper_live
+      stands.files_sound
+      (desk-room (opened spools deck paper files) s centre.stands) action step.next step.may
 
   -- ---- the devices after it
-  module _ (p : ℕ) (action : Action) (step : MayStepIn s p action) (new : Shared S K A B) (entry : Entry) (same : action_of entry ≡ action)
+  module _ (p : ℕ) (action : Action) (step : MayStepIn s p action) (new : Shared S K A B F) (entry : Entry) (same : action_of entry ≡ action)
       (suits : IsFitting (process p) entry) (causes : HasCauses counts net.shared new p action (reply_of entry)) where
     pub deck-own : p ≡ 1 → caused (entry ∷ s.histories p) ≡ None → new.deck.live ≡ true
     deck-own is none =
@@ -144,8 +156,18 @@ module _ {S K A B : Type 0} (keeps : Keeps) (tells : Tells S K A B) (counts : Co
         causes.paper_live (stands.paper_live none)
         (λ print. (let (line, is) = line-of action print in absurd (not (prints-paper p (s.histories p) line step.one (follows p) (step.next ∙ ap Some is)))))
 
+    pub files-own : p ≡ 3 → caused (entry ∷ s.histories p) ≡ None → new.files.sound ≡ true
+    files-own is none =
+        causes.files_sound (stands.files_sound (subst (λ q. caused (s.histories q) ≡ None) is (before-free none)))
+        (λ load. (free-of entry (s.histories p) none).no_failure)
+
+    pub files-other : (p ≡ 3 → ⊥) → caused (s.histories 3) ≡ None → new.files.sound ≡ true
+    files-other not none =
+        causes.files_sound (stands.files_sound none)
+        (λ load. (let (file, is) = file-of action load in absurd (not (loads-files p (s.histories p) file step.one (follows p) (step.next ∙ ap Some is)))))
+
   -- ---- by the machine
-  card-stands : (m : Machine CardWork) (new : Shared S K A B) (action : Action) (entry : Entry) (gained : List ℕ)
+  card-stands : (m : Machine CardWork) (new : Shared S K A B F) (action : Action) (entry : Entry) (gained : List ℕ)
       → StandsFor card keeps.card m (entry ∷ s.histories 1) → MayStepIn s 1 action → action_of entry ≡ action
       → HasCauses counts net.shared new 1 action (reply_of entry)
       → SharedStands tells new (happens (core process) s record {
@@ -169,9 +191,10 @@ module _ {S K A B : Type 0} (keeps : Keeps) (tells : Tells S K A B) (counts : Co
     shared = shared;
     deck_live = deck-own 1 action step new entry same st.follows.1 causes refl;
     paper_live = paper-other 1 action step new entry same st.follows.1 causes (λ e. cc);
+    files_sound = files-other 1 action step new entry same st.follows.1 causes (λ e. cc);
   }
 
-  input-stands : (m : Machine InputWork) (new : Shared S K A B) (action : Action) (entry : Entry) (gained : List ℕ)
+  input-stands : (m : Machine InputWork) (new : Shared S K A B F) (action : Action) (entry : Entry) (gained : List ℕ)
       → StandsFor input keeps.input m (entry ∷ s.histories 2) → MayStepIn s 2 action → action_of entry ≡ action
       → HasCauses counts net.shared new 2 action (reply_of entry)
       → SharedStands tells new (happens (core process) s record {
@@ -195,9 +218,10 @@ module _ {S K A B : Type 0} (keeps : Keeps) (tells : Tells S K A B) (counts : Co
     shared = shared;
     deck_live = deck-other 2 action step new entry same st.follows.1 causes (λ e. cc);
     paper_live = paper-other 2 action step new entry same st.follows.1 causes (λ e. cc);
+    files_sound = files-other 2 action step new entry same st.follows.1 causes (λ e. cc);
   }
 
-  job-stands : (m : Machine JobWork) (new : Shared S K A B) (action : Action) (entry : Entry) (gained : List ℕ)
+  job-stands : (m : Machine JobWork) (new : Shared S K A B F) (action : Action) (entry : Entry) (gained : List ℕ)
       → StandsFor job keeps.job m (entry ∷ s.histories 3) → MayStepIn s 3 action → action_of entry ≡ action
       → HasCauses counts net.shared new 3 action (reply_of entry)
       → SharedStands tells new (happens (core process) s record {
@@ -221,9 +245,10 @@ module _ {S K A B : Type 0} (keeps : Keeps) (tells : Tells S K A B) (counts : Co
     shared = shared;
     deck_live = deck-other 3 action step new entry same st.follows.1 causes (λ e. cc);
     paper_live = paper-other 3 action step new entry same st.follows.1 causes (λ e. cc);
+    files_sound = files-own 3 action step new entry same st.follows.1 causes refl;
   }
 
-  output-stands : (m : Machine OutputWork) (new : Shared S K A B) (action : Action) (entry : Entry) (gained : List ℕ)
+  output-stands : (m : Machine OutputWork) (new : Shared S K A B F) (action : Action) (entry : Entry) (gained : List ℕ)
       → StandsFor output keeps.output m (entry ∷ s.histories 4) → MayStepIn s 4 action → action_of entry ≡ action
       → HasCauses counts net.shared new 4 action (reply_of entry)
       → SharedStands tells new (happens (core process) s record {
@@ -247,9 +272,10 @@ module _ {S K A B : Type 0} (keeps : Keeps) (tells : Tells S K A B) (counts : Co
     shared = shared;
     deck_live = deck-other 4 action step new entry same st.follows.1 causes (λ e. cc);
     paper_live = paper-other 4 action step new entry same st.follows.1 causes (λ e. cc);
+    files_sound = files-other 4 action step new entry same st.follows.1 causes (λ e. cc);
   }
 
-  printer-stands : (m : Machine PrinterWork) (new : Shared S K A B) (action : Action) (entry : Entry) (gained : List ℕ)
+  printer-stands : (m : Machine PrinterWork) (new : Shared S K A B F) (action : Action) (entry : Entry) (gained : List ℕ)
       → StandsFor printer keeps.printer m (entry ∷ s.histories 5) → MayStepIn s 5 action → action_of entry ≡ action
       → HasCauses counts net.shared new 5 action (reply_of entry)
       → SharedStands tells new (happens (core process) s record {
@@ -273,10 +299,11 @@ module _ {S K A B : Type 0} (keeps : Keeps) (tells : Tells S K A B) (counts : Co
     shared = shared;
     deck_live = deck-other 5 action step new entry same st.follows.1 causes (λ e. cc);
     paper_live = paper-own 5 action step new entry same st.follows.1 causes refl;
+    files_sound = files-other 5 action step new entry same st.follows.1 causes (λ e. cc);
   }
 
   -- A step of one machine is a step of the network that this machine and what is shared make of it.
-  step-of : (p : ℕ) (next : Net S K A B) (Stands : List Entry → Type 0) (action : Action) (result : Stepped) → MayStepIn s p action
+  step-of : (p : ℕ) (next : Net S K A B F) (Stands : List Entry → Type 0) (action : Action) (result : Stepped) → MayStepIn s p action
       → (st : Steps Stands tells counts net.shared next.shared p action (s.histories p) result) → IsFitting (process p) st.entry
       → ((gained : List ℕ) → SharedStands tells next.shared (happens (core process) s record { process = p; entry = st.entry; gained = gained })
       → NetStands keeps tells next (happens (core process) s record { process = p; entry = st.entry; gained = gained }))
@@ -293,37 +320,38 @@ module _ {S K A B : Type 0} (keeps : Keeps) (tells : Tells S K A B) (counts : Co
         causes = st.causes;
         deck = st.enters.deck;
         total = st.enters.total;
+        files = st.enters.files;
       }
 
-  pub at-card : (m : Machine CardWork) (new : Shared S K A B) (action : Action) (result : Stepped) → MayStepIn s 1 action
+  pub at-card : (m : Machine CardWork) (new : Shared S K A B F) (action : Action) (result : Stepped) → MayStepIn s 1 action
       → Steps (StandsFor card keeps.card m) tells counts net.shared new 1 action (s.histories 1) result
       → StepsNet keeps tells counts net (record net { card = m; shared = new }) s 1 action result
   at-card m new action result step st =
       step-of 1 (record net { card = m; shared = new }) (StandsFor card keeps.card m) action result step st st.stands.follows.1
       (λ gained shared. card-stands m new action st.entry gained st.stands step st.action_is st.causes shared)
 
-  pub at-input : (m : Machine InputWork) (new : Shared S K A B) (action : Action) (result : Stepped) → MayStepIn s 2 action
+  pub at-input : (m : Machine InputWork) (new : Shared S K A B F) (action : Action) (result : Stepped) → MayStepIn s 2 action
       → Steps (StandsFor input keeps.input m) tells counts net.shared new 2 action (s.histories 2) result
       → StepsNet keeps tells counts net (record net { input = m; shared = new }) s 2 action result
   at-input m new action result step st =
       step-of 2 (record net { input = m; shared = new }) (StandsFor input keeps.input m) action result step st st.stands.follows.1
       (λ gained shared. input-stands m new action st.entry gained st.stands step st.action_is st.causes shared)
 
-  pub at-job : (m : Machine JobWork) (new : Shared S K A B) (action : Action) (result : Stepped) → MayStepIn s 3 action
+  pub at-job : (m : Machine JobWork) (new : Shared S K A B F) (action : Action) (result : Stepped) → MayStepIn s 3 action
       → Steps (StandsFor job keeps.job m) tells counts net.shared new 3 action (s.histories 3) result
       → StepsNet keeps tells counts net (record net { job = m; shared = new }) s 3 action result
   at-job m new action result step st =
       step-of 3 (record net { job = m; shared = new }) (StandsFor job keeps.job m) action result step st st.stands.follows.1
       (λ gained shared. job-stands m new action st.entry gained st.stands step st.action_is st.causes shared)
 
-  pub at-output : (m : Machine OutputWork) (new : Shared S K A B) (action : Action) (result : Stepped) → MayStepIn s 4 action
+  pub at-output : (m : Machine OutputWork) (new : Shared S K A B F) (action : Action) (result : Stepped) → MayStepIn s 4 action
       → Steps (StandsFor output keeps.output m) tells counts net.shared new 4 action (s.histories 4) result
       → StepsNet keeps tells counts net (record net { output = m; shared = new }) s 4 action result
   at-output m new action result step st =
       step-of 4 (record net { output = m; shared = new }) (StandsFor output keeps.output m) action result step st st.stands.follows.1
       (λ gained shared. output-stands m new action st.entry gained st.stands step st.action_is st.causes shared)
 
-  pub at-printer : (m : Machine PrinterWork) (new : Shared S K A B) (action : Action) (result : Stepped) → MayStepIn s 5 action
+  pub at-printer : (m : Machine PrinterWork) (new : Shared S K A B F) (action : Action) (result : Stepped) → MayStepIn s 5 action
       → Steps (StandsFor printer keeps.printer m) tells counts net.shared new 5 action (s.histories 5) result
       → StepsNet keeps tells counts net (record net { printer = m; shared = new }) s 5 action result
   at-printer m new action result step st =
@@ -335,7 +363,7 @@ pub next-at : (s : CoreState) (p q : ℕ) (action : Action) → p ≡ q → MayS
 next-at s p q action e step = subst (λ q. next_action (process q) (s.histories q) ≡ Some action) e step.next
 
 -- that a machine may step
-pub may-step : {S K A B : Type 0} (keeps : Keeps) (tells : Tells S K A B) (net : Net S K A B) (p q : ℕ) (Stands : List Entry → Type 0) → p ≡ q
+pub may-step : {S K A B F : Type 0} (keeps : Keeps) (tells : Tells S K A B F) (net : Net S K A B F) (p q : ℕ) (Stands : List Entry → Type 0) → p ≡ q
     → (m : MayStepNet keeps tells net p) → Stands (m.state.histories q) → MayStep (process q) Stands net.shared p
 may-step keeps tells net p q Stands e m stands = record {
   history = m.state.histories q;
@@ -352,10 +380,12 @@ may-step keeps tells net p q Stands e m stands = record {
             λ x. 0;
         input_faults = λ x. 0;
         output_faults = λ x. 0;
-      } net m.spools m.deck m.paper m.state m.reached m.stands p m.action m.step;
+        file_faults = λ x. 0;
+      } net m.spools m.deck m.paper m.files m.state m.reached m.stands p m.action m.step;
 }
 
-pub steps-at : {S K A B : Type 0} (keeps : Keeps) (tells : Tells S K A B) (counts : Counts S K A B) (old new : Net S K A B) (s : CoreState) (Stands : List Entry
+pub steps-at : {S K A B F : Type 0} (keeps : Keeps) (tells : Tells S K A B F) (counts : Counts S K A B F) (old new : Net S K A B F) (s : CoreState)
+    (Stands : List Entry
     → Type 0) (p q : ℕ) (action : Action) (result : Stepped) (h : List Entry) → p ≡ q
     → (MayStepIn s q action → Steps Stands tells counts old.shared new.shared q action h result → StepsNet keeps tells counts old new s q action result)
     → MayStepIn s p action → Steps Stands tells counts old.shared new.shared p action h result → StepsNet keeps tells counts old new s p action result

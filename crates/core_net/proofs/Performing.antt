@@ -9,6 +9,7 @@ use Rattle.solo_devices.specs.PrinterUnit.{Printing}
 use Rattle.queue_var.specs.Sides.{MayStop}
 use Rattle.resource_mon.specs.Claims.{Claims}
 use Rattle.slot_buffer.specs.Slot.{Slot}
+use Rattle.disk_files.specs.Answers.{FileTable}
 use Rattle.disk_spool.specs.Spool.{Spool}
 use Rattle.batch_procs.specs.declared.actions.Action.{Action}
 use Rattle.batch_procs.specs.declared.actions.Action.TheVariants as act
@@ -22,7 +23,8 @@ use Rattle.core_net.specs.Calls.{entry_of, Visited}
 use Rattle.core_net.specs.Lines.{LineStands}
 use Rattle.core_net.specs.Spools.{SpoolStands}
 use Rattle.core_net.specs.Desks.{Asked, Given}
-use Rattle.core_net.specs.Devices.{ReadsCard, PrintsLine}
+use Rattle.core_net.specs.Devices.{ReadsCard, PrintsLine, LoadsFile}
+use Rattle.core_net.specs.Openings.{files_found}
 use Rattle.core_net.specs.Shared.{Tells, Choice, AtNumbers, StopsAt, Performs, cards_left, deck_total}
 
 -- ---- numbers
@@ -62,7 +64,8 @@ pub at-second : (p m n : ℕ) (X Y : ℕ → Type 0) → AtNumbers p m n X Y →
 at-second p m n X Y is not = choice-last p n (Y p) (choice-rest p m (X p) _ is not)
 
 -- a buffer that may be stopped is one of the four
-pub stops-last : {S K A B : Type 0} (shared : Shared S K A B) (b : ℕ) (side : Side) → StopsAt shared b side → (b ≡ 1 → ⊥) → (b ≡ 2 → ⊥) → (b ≡ 3 → ⊥) → b ≡ 4
+pub stops-last : {S K A B F : Type 0} (shared : Shared S K A B F) (b : ℕ) (side : Side) → StopsAt shared b side → (b ≡ 1 → ⊥) → (b ≡ 2 → ⊥) → (b ≡ 3 → ⊥) → b
+    ≡ 4
 stops-last shared b side is one two three =
     let behind_one = choice-rest b 1 (MayStop shared.cards.sides side) (Choice (b == 2) (MayStop shared.input.sides side)
     (Choice (b == 3) (MayStop shared.output.sides side) (Choice (b == 4) (MayStop shared.lines.sides side) ⊥))) is one in
@@ -88,11 +91,13 @@ pub record IsSilent (action : Action) (result : Option Reply) : Type 0 where
 abbrev pub NoDevice : Action → Type 0
 NoDevice act.ReadCard = ⊥
 NoDevice (act.Print line) = ⊥
+NoDevice (act.Load file) = ⊥
 NoDevice action = Unit {0}
 
 pub silent : (action : Action) (result : Option Reply) → NoDevice action → IsSilent action result
 silent act.ReadCard result is = absurd is
 silent (act.Print line) result is = absurd is
+silent (act.Load file) result is = absurd is
 silent action None is = record { allowed = λ devices. refl; none_read = refl }
 silent action (Some r) is = record { allowed = λ devices. refl; none_read = refl }
 
@@ -102,7 +107,7 @@ none-fewer act.ReadCard result cards is = absurd is
 none-fewer action None cards is = refl
 none-fewer action (Some r) cards is = refl
 
-module _ {S K A B : Type 0} (tells : Tells S K A B) (old : Shared S K A B) (p : ℕ) (action : Action) (result : Option Reply) where
+module _ {S K A B F : Type 0} (tells : Tells S K A B F) (old : Shared S K A B F) (p : ℕ) (action : Action) (result : Option Reply) where
   deck-stays : (s : CoreState) → IsSilent action result → s.devices.deck ≡ items_ahead (tells.left old.deck.source) old.deck.pending
       → (given s.devices (entry_of action result) []).deck ≡ items_ahead (tells.left old.deck.source) old.deck.pending
   deck-stays s quiet e = ap (λ items. option_map (drop (length items)) s.devices.deck) quiet.none_read ∙ same-deck s.devices.deck ∙ e
@@ -119,11 +124,13 @@ module _ {S K A B : Type 0} (tells : Tells S K A B) (old : Shared S K A B) (p : 
     gained = [];
     deck = none-fewer action result _ quiet;
     total = refl;
+    files = refl;
     fits = λ s st. rw e (v.fits (s.buffers 1) st.cards);
     allowed = λ s st. (silent action result quiet).allowed s.devices;
     after = λ s hs st. record {
       deck = deck-stays s (silent action result quiet) st.deck;
       paper = paper-stays s st.paper;
+      files = st.files;
       cards = rw e (v.after (s.buffers 1) st.cards);
       input = rw e st.input;
       output = rw e st.output;
@@ -139,11 +146,13 @@ module _ {S K A B : Type 0} (tells : Tells S K A B) (old : Shared S K A B) (p : 
     gained = [];
     deck = none-fewer action result _ quiet;
     total = refl;
+    files = refl;
     fits = λ s st. rw e (v.fits (s.buffers 4) st.lines);
     allowed = λ s st. (silent action result quiet).allowed s.devices;
     after = λ s hs st. record {
       deck = deck-stays s (silent action result quiet) st.deck;
       paper = paper-stays s st.paper;
+      files = st.files;
       cards = rw e st.cards;
       input = rw e st.input;
       output = rw e st.output;
@@ -159,11 +168,13 @@ module _ {S K A B : Type 0} (tells : Tells S K A B) (old : Shared S K A B) (p : 
     gained = [];
     deck = none-fewer action result _ quiet;
     total = refl;
+    files = refl;
     fits = λ s st. rw e (v.fits (s.buffers 2) st.input);
     allowed = λ s st. (silent action result quiet).allowed s.devices;
     after = λ s hs st. record {
       deck = deck-stays s (silent action result quiet) st.deck;
       paper = paper-stays s st.paper;
+      files = st.files;
       cards = rw e st.cards;
       input = rw e (v.after (s.buffers 2) st.input);
       output = rw e st.output;
@@ -179,11 +190,13 @@ module _ {S K A B : Type 0} (tells : Tells S K A B) (old : Shared S K A B) (p : 
     gained = [];
     deck = none-fewer action result _ quiet;
     total = refl;
+    files = refl;
     fits = λ s st. rw e (v.fits (s.buffers 3) st.output);
     allowed = λ s st. (silent action result quiet).allowed s.devices;
     after = λ s hs st. record {
       deck = deck-stays s (silent action result quiet) st.deck;
       paper = paper-stays s st.paper;
+      files = st.files;
       cards = rw e st.cards;
       input = rw e st.input;
       output = rw e (v.after (s.buffers 3) st.output);
@@ -192,7 +205,7 @@ module _ {S K A B : Type 0} (tells : Tells S K A B) (old : Shared S K A B) (p : 
     };
   }
 
-module _ {S K A B : Type 0} (tells : Tells S K A B) (old : Shared S K A B) (p : ℕ) where
+module _ {S K A B F : Type 0} (tells : Tells S K A B F) (old : Shared S K A B F) (p : ℕ) where
   -- ---- at the desk
   pub at-request : (new : Claims) (result : Option Reply) → Asked old.desk new p result → Performs tells old (record old { desk = new }) p act.Request result
   at-request new result a = record {
@@ -200,11 +213,13 @@ module _ {S K A B : Type 0} (tells : Tells S K A B) (old : Shared S K A B) (p : 
     gained = [];
     deck = none-fewer act.Request result _ tt;
     total = refl;
+    files = refl;
     fits = λ s st. a.fits ∙ ap (λ (c : Claims). Rattle.network_law.specs.Desk.asked c.handed c.holder) (sym st.desk);
     allowed = λ s st. (silent act.Request result tt).allowed s.devices;
     after = λ s hs st. record {
       deck = deck-stays tells old p act.Request result s (silent act.Request result tt) st.deck;
       paper = paper-stays tells old p act.Request result s st.paper;
+      files = st.files;
       cards = st.cards;
       input = st.input;
       output = st.output;
@@ -219,11 +234,13 @@ module _ {S K A B : Type 0} (tells : Tells S K A B) (old : Shared S K A B) (p : 
     gained = [];
     deck = refl;
     total = refl;
+    files = refl;
     fits = λ s st. a.fits;
     allowed = λ s st. refl;
     after = λ s hs st. record {
       deck = deck-stays tells old p act.Release (Some result) s (silent act.Release (Some result) tt) st.deck;
       paper = paper-stays tells old p act.Release (Some result) s st.paper;
+      files = st.files;
       cards = st.cards;
       input = st.input;
       output = st.output;
@@ -247,11 +264,13 @@ module _ {S K A B : Type 0} (tells : Tells S K A B) (old : Shared S K A B) (p : 
     gained = [];
     deck = fewer;
     total = total;
+    files = refl;
     fits = λ s st. card-fits r reads.suits;
     allowed = λ s st. reads.allowed s.devices st.deck;
     after = λ s hs st. record {
       deck = ap (option_map (drop (length (items_by r)))) st.deck ∙ reads.after;
       paper = paper-stays tells old p act.ReadCard (Some r) s st.paper;
+      files = st.files;
       cards = st.cards;
       input = st.input;
       output = st.output;
@@ -274,11 +293,43 @@ module _ {S K A B : Type 0} (tells : Tells S K A B) (old : Shared S K A B) (p : 
     gained = prints.gained;
     deck = refl;
     total = refl;
+    files = refl;
     fits = λ s st. print-fits line r prints.suits;
     allowed = λ s st. prints.allowed s.devices;
     after = λ s hs st. record {
       deck = same-deck s.devices.deck ∙ st.deck;
       paper = ap (option_map (λ before. before ++ prints.gained)) st.paper ∙ prints.after;
+      files = st.files;
+      cards = st.cards;
+      input = st.input;
+      output = st.output;
+      lines = st.lines;
+      desk = st.desk;
+    };
+  }
+
+  load-fits : (file : List ℕ) (r : Reply) → Rattle.batch_procs.specs.Fits.Fits (act.Load file) r
+      → went (entry_of (act.Load file) (Some r)) ≡ Rattle.network_law.specs.Acts.Done
+  load-fits file (reply.Loaded load) fits = refl
+  load-fits file reply.Failed fits = refl
+  load-fits file reply.NoMemory fits = refl
+  load-fits file r fits = absurd fits
+
+  pub at-files : (new : FileTable F) (file : List ℕ) (r : Reply) → LoadsFile (files_found (tells.file_pages old.files.area)) file r
+      → tells.file_pages new.area ≡ tells.file_pages old.files.area
+      → Performs tells old (record old { files = new }) p (act.Load file) (Some r)
+  at-files new file r loads left = record {
+    suits = loads.suits;
+    gained = [];
+    deck = refl;
+    total = refl;
+    files = left;
+    fits = λ s st. load-fits file r loads.suits;
+    allowed = λ s st. loads.allowed s.devices st.files;
+    after = λ s hs st. record {
+      deck = same-deck s.devices.deck ∙ st.deck;
+      paper = same-paper s.devices.paper ∙ st.paper;
+      files = st.files ∙ ap files_found (sym left);
       cards = st.cards;
       input = st.input;
       output = st.output;
@@ -294,11 +345,13 @@ module _ {S K A B : Type 0} (tells : Tells S K A B) (old : Shared S K A B) (p : 
     gained = [];
     deck = refl;
     total = refl;
+    files = refl;
     fits = λ s st. refl;
     allowed = λ s st. refl;
     after = λ s hs st. record {
       deck = same-deck s.devices.deck ∙ st.deck;
       paper = same-paper s.devices.paper ∙ st.paper;
+      files = st.files;
       cards = st.cards;
       input = st.input;
       output = st.output;
@@ -313,11 +366,13 @@ module _ {S K A B : Type 0} (tells : Tells S K A B) (old : Shared S K A B) (p : 
     gained = [];
     deck = refl;
     total = refl;
+    files = refl;
     fits = λ s st. refl;
     allowed = λ s st. refl;
     after = λ s hs st. record {
       deck = same-deck s.devices.deck ∙ st.deck;
       paper = same-paper s.devices.paper ∙ st.paper;
+      files = st.files;
       cards = st.cards;
       input = st.input;
       output = st.output;
@@ -327,6 +382,6 @@ module _ {S K A B : Type 0} (tells : Tells S K A B) (old : Shared S K A B) (p : 
   }
 
 -- ---- by what the action is
-pub at-action : {S K A B : Type 0} (tells : Tells S K A B) (old new : Shared S K A B) (p : ℕ) (a b : Action) (result : Option Reply) → a ≡ b
+pub at-action : {S K A B F : Type 0} (tells : Tells S K A B F) (old new : Shared S K A B F) (p : ℕ) (a b : Action) (result : Option Reply) → a ≡ b
     → Performs tells old new p b result → Performs tells old new p a result
 at-action tells old new p a b result e is = subst (λ a. Performs tells old new p a result) (sym e) is

@@ -3,6 +3,7 @@ use Rattle.std.proofs.Common.{◌≡◌, ℕ, zero, suc, ◌%◌, ◌/◌, ◌<�
 use Rattle.std.specs.Prelude.{IsNone, IfSome, nat_lt, if◌then◌else◌, slice_get}
 use Rattle.std.specs.List.{AllByRecursion}
 use Rattle.solo_base.specs.declared.item.Item.{Item}
+use Rattle.batch_job.specs.Report.{Loads}
 use Rattle.core_law.specs.Core.{CoreState}
 use Rattle.core_law.specs.Opening.{Spools, IsReached}
 use Rattle.core_net.specs.declared.rules.Rule.{Rule}
@@ -96,8 +97,9 @@ none-is None is = refl
 none-is (Some p) is = absurd cc
 
 -- where none is picked, all have ended
-pub ended-picked : (r : Rule) (spools : Spools) (deck : Option (List Item)) (paper : Option (List ℕ)) (s : CoreState) (row : List Bool) (result : Option ℕ)
-    → length row ≡ 5 → IsReached spools deck paper s → AreGoing s 1 row → result ≡ pick r (numbers_from 1 row) → IsNone result → AllEnded s
-ended-picked r spools deck paper s row result five reached going is none =
+pub ended-picked : (r : Rule) (spools : Spools) (deck : Option (List Item)) (paper : Option (List ℕ)) (files : Option Loads) (s : CoreState) (row : List Bool)
+    (result : Option ℕ)
+    → length row ≡ 5 → IsReached spools deck paper files s → AreGoing s 1 row → result ≡ pick r (numbers_from 1 row) → IsNone result → AllEnded s
+ended-picked r spools deck paper files s row result five reached going is none =
     let nobody = none-goes s 1 row going (none-picked r (numbers_from 1 row) (sym is ∙ none-is result none)) in
-    who.none-goes spools deck paper s reached (λ q below may. five-none s row five nobody q may.1.one may)
+    who.none-goes spools deck paper files s reached (λ q below may. five-none s row five nobody q may.1.one may)

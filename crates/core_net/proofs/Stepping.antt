@@ -14,16 +14,25 @@ use Rattle.core_net.specs.Causes.{Counts, HasCauses}
 use Rattle.core_net.specs.Shared.{Tells, Performs}
 use Rattle.core_net.specs.Steps.{Enters, Steps}
 
-module _ {S K A B : Type 0} (tells : Tells S K A B) (old new : Shared S K A B) (p : ℕ) where
+module _ {S K A B F : Type 0} (tells : Tells S K A B F) (old new : Shared S K A B F) (p : ℕ) where
   pub enters : (action : Action) (result : Option Reply) → Performs tells old new p action result → Enters tells old new p action (entry_of action result)
-  enters action result is = record { gained = is.gained; deck = is.deck; total = is.total; fits = is.fits; allowed = is.allowed; after = is.after }
+  enters action result is = record {
+    gained = is.gained;
+    deck = is.deck;
+    total = is.total;
+    files = is.files;
+    fits = is.fits;
+    allowed = is.allowed;
+    after =
+        is.after;
+  }
 
   pub enters-lacking : (action : Action) (r : Reply) → MayLack action r → Performs tells old new p action (Some r)
       → Enters tells old new p action (LacksMemory action r)
   enters-lacking act.TakePage (reply.Page page last) may is =
-      record { gained = is.gained; deck = is.deck; total = is.total; fits = is.fits; allowed = is.allowed; after = is.after }
+      record { gained = is.gained; deck = is.deck; total = is.total; files = is.files; fits = is.fits; allowed = is.allowed; after = is.after }
   enters-lacking act.Local reply.Done may is =
-      record { gained = is.gained; deck = is.deck; total = is.total; fits = is.fits; allowed = is.allowed; after = is.after }
+      record { gained = is.gained; deck = is.deck; total = is.total; files = is.files; fits = is.fits; allowed = is.allowed; after = is.after }
   enters-lacking action r may is = absurd may
 
 -- ---- a step of a machine
@@ -31,7 +40,8 @@ pub next-is : (next : Option Action) (a r : Action) → NextIs next r → next �
 next-is None a r is e = absurd cc
 next-is (Some b) a r is e = (let same : b ≡ a = cc in sym same ∙ is)
 
-module _ {S K A B : Type 0} (Stands : List Entry → Type 0) (tells : Tells S K A B) (counts : Counts S K A B) (old new : Shared S K A B) (p : ℕ) (a r : Action)
+module _ {S K A B F : Type 0} (Stands : List Entry → Type 0) (tells : Tells S K A B F) (counts : Counts S K A B F) (old new : Shared S K A B F) (p : ℕ)
+    (a r : Action)
     (h : List Entry) (same : a ≡ r) where
   same-action : (result : Option Reply) → Performs tells old new p r result → Performs tells old new p a result
   same-action result is = subst (λ a. Performs tells old new p a result) (sym same) is

@@ -2,6 +2,7 @@
 use Rattle.std.proofs.Common.{◌≡◌, ◌↔◌, ℕ, Bool, false, List, [], ◌∷◌, ◌++◌, Option, None, Some, refl, sym, ◌∙◌, ap, subst, arith}
 use Rattle.std.specs.Prelude.{IsTrue}
 use Rattle.solo_base.specs.declared.item.Item.{Item}
+use Rattle.batch_job.specs.Report.{Loads}
 use Rattle.batch_procs.specs.declared.actions.Action.{Action}
 use Rattle.batch_procs.specs.Laws.{HasEnded}
 use Rattle.batch_procs.specs.Process.{next_action}
@@ -28,17 +29,19 @@ pub run-more : (s : CoreState) (events : List CoreEvent) (event : CoreEvent)
 run-more s [] event = refl
 run-more s (first ∷ events) event = run-more (happens (core process) s first) events event
 
-pub reached-more : (spools : Spools) (deck : Option (List Item)) (paper : Option (List ℕ)) (s : CoreState) (event : CoreEvent) → IsReached spools deck paper s
+pub reached-more : (spools : Spools) (deck : Option (List Item)) (paper : Option (List ℕ)) (files : Option Loads) (s : CoreState) (event : CoreEvent)
+    → IsReached spools deck paper files s
     → IsEnabled (core process) s event
-    → IsReached spools deck paper (happens (core process) s event)
-reached-more spools deck paper s event r enabled = record {
+    → IsReached spools deck paper files (happens (core process) s event)
+reached-more spools deck paper files s event r enabled = record {
   bounds = r.bounds;
+  good = r.good;
   reached = record {
     events = r.reached.events ++ event ∷ [];
     enabled =
-        one-more (opened spools deck paper) r.reached.events event r.reached.enabled
+        one-more (opened spools deck paper files) r.reached.events event r.reached.enabled
         (subst (λ s. IsEnabled (core process) s event) (sym r.reached.leads) enabled);
-    leads = run-more (opened spools deck paper) r.reached.events event ∙ ap (λ s. happens (core process) s event) r.reached.leads;
+    leads = run-more (opened spools deck paper files) r.reached.events event ∙ ap (λ s. happens (core process) s event) r.reached.leads;
   };
 }
 
@@ -52,26 +55,29 @@ some-next p s t is not = some-of (next_action (process p) (s.histories p)) refl
     some-of (Some action) e = (action, e)
     some-of None e = absurd (let ended = is.1 (none-next (process p) (s.histories p) e) in cc)
 
-module _ {S K A B : Type 0} (keeps : Keeps) (tells : Tells S K A B) (counts : Counts S K A B) (old : Net S K A B) (p : ℕ) (ended turn : Bool)
+module _ {S K A B F : Type 0} (keeps : Keeps) (tells : Tells S K A B F) (counts : Counts S K A B F) (old : Net S K A B F) (p : ℕ) (ended turn : Bool)
     (ended-is : (s : CoreState) → NetStands keeps tells old s → IsTrue ended ↔ HasEnded (s.histories p))
-    (turn-is : (spools : Spools) (deck : Option (List Item)) (paper : Option (List ℕ)) (s : CoreState) (action : Action) → IsReached spools deck paper s
+    (turn-is : (spools : Spools) (deck : Option (List Item)) (paper : Option (List ℕ)) (files : Option Loads) (s : CoreState) (action : Action)
+    → IsReached spools deck paper files s
     → NetStands keeps tells old s → next_action (process p) (s.histories p) ≡ Some action → IsTrue turn ↔ MayStepIn s p action)
     (not : ended ≡ false) (is : IsTrue turn) where
-  step-in : (spools : Spools) (deck : Option (List Item)) (paper : Option (List ℕ)) (st : StandsReached keeps tells old spools deck paper)
+  step-in : (spools : Spools) (deck : Option (List Item)) (paper : Option (List ℕ)) (files : Option Loads)
+      (st : StandsReached keeps tells old spools deck paper files)
       → (action : Action) × MayStepIn st.state p action
-  step-in spools deck paper st =
+  step-in spools deck paper files st =
       let (action, next) = some-next p st.state ended (ended-is st.state st.stands) not in
-      (action, (turn-is spools deck paper st.state action st.reached st.stands next).0 is)
+      (action, (turn-is spools deck paper files st.state action st.reached st.stands next).0 is)
 
   pub may-turn : StandsSomewhere keeps tells old → MayStepNet keeps tells old p
   may-turn some =
-      let step = step-in some.spools some.deck some.paper some.is in
+      let step = step-in some.spools some.deck some.paper some.files some.is in
       record {
         spools =
             some.spools;
         deck =
             some.deck;
         paper = some.paper;
+        files = some.files;
         state = some.is.state;
         reached = some.is.reached;
         stands = some.is.stands;
@@ -79,20 +85,21 @@ module _ {S K A B : Type 0} (keeps : Keeps) (tells : Tells S K A B) (counts : Co
         step = step.1;
       }
 
-  pub turned : (new : Net S K A B) (result : Stepped)
-      → ((spools : Spools) (deck : Option (List Item)) (paper : Option (List ℕ)) (s : CoreState) (action : Action) → IsReached spools deck paper s
+  pub turned : (new : Net S K A B F) (result : Stepped)
+      → ((spools : Spools) (deck : Option (List Item)) (paper : Option (List ℕ)) (files : Option Loads) (s : CoreState) (action : Action)
+      → IsReached spools deck paper files s
       → NetStands keeps tells old s → MayStepIn s p action → StepsNet keeps tells counts old new s p action result)
-      → (spools : Spools) (deck : Option (List Item)) (paper : Option (List ℕ)) → StandsReached keeps tells old spools deck paper
-      → StandsReached keeps tells new spools deck paper
-  turned new result steps spools deck paper st =
-      let step = step-in spools deck paper st in
-      let goes = steps spools deck paper st.state step.0 st.reached st.stands step.1 in
-      let less = work-falls spools deck paper st.state goes.event (cards_left tells.taken old.shared.deck) (cards_left tells.taken new.shared.deck)
+      → (spools : Spools) (deck : Option (List Item)) (paper : Option (List ℕ)) (files : Option Loads) → StandsReached keeps tells old spools deck paper files
+      → StandsReached keeps tells new spools deck paper files
+  turned new result steps spools deck paper files st =
+      let step = step-in spools deck paper files st in
+      let goes = steps spools deck paper files st.state step.0 st.reached st.stands step.1 in
+      let less = work-falls spools deck paper files st.state goes.event (cards_left tells.taken old.shared.deck) (cards_left tells.taken new.shared.deck)
       st.reached goes.enabled goes.deck in
       let all = st.within in
       record {
         state = happens (core process) st.state goes.event;
-        reached = reached-more spools deck paper st.state goes.event st.reached goes.enabled;
+        reached = reached-more spools deck paper files st.state goes.event st.reached goes.enabled;
         stands = goes.stands;
         within = omega (arith, less, all);
       }

@@ -4,6 +4,7 @@ use Rattle.std.proofs.lemmas.Bool.Decides.{eqb_tells}
 use Rattle.std.specs.Prelude.{IsTrue}
 use Rattle.solo_base.specs.declared.item.Item.{Item}
 use Rattle.solo_base.specs.declared.outcome.Outcome.{Outcome}
+use Rattle.batch_job.specs.Report.{Loads}
 use Rattle.batch_procs.specs.declared.actions.Action.{Action}
 use Rattle.batch_procs.specs.declared.actions.Action.TheVariants as act
 use Rattle.batch_procs.specs.History.{Entry, action_of, newest}
@@ -37,10 +38,11 @@ may-turn s p ended turn not is turns =
     (λ yes. (action, (turns action next).0 yes), λ may. (turns may.0 may.1.next).1 may.1)
 
 -- Where none may, all have ended.
-pub none-goes : (spools : Spools) (deck : Option (List Item)) (paper : Option (List ℕ)) (s : CoreState) → IsReached spools deck paper s
+pub none-goes : (spools : Spools) (deck : Option (List Item)) (paper : Option (List ℕ)) (files : Option Loads) (s : CoreState)
+    → IsReached spools deck paper files s
     → ((q : ℕ) → q < 6 → MayGo s q → ⊥) → AllEnded s
-none-goes spools deck paper s reached none =
-    ended-where spools deck paper s reached (λ event is smooth. (let one = is.one in let high = one.1 in
+none-goes spools deck paper files s reached none =
+    ended-where spools deck paper files s reached (λ event is smooth. (let one = is.one in let high = one.1 in
     none event.process (omega (arith, high)) (action_of event.entry, record { one = one; next = is.next; may = is.may })))
 
 -- Those before the next one are those before this one, and this one.

@@ -3,6 +3,8 @@ use Rattle.std.proofs.Common.{◌≡◌, ◌≤◌, ◌==◌, if◌then◌else�
 use Rattle.solo_base.specs.Card.{lines, before_lines, card_of, cards}
 use Rattle.solo_base.specs.declared.item.Item.{Item}
 use Rattle.solo_base.specs.declared.outcome.Side.{Side}
+use Rattle.batch_job.specs.Report.{Loads}
+use Rattle.disk_files.specs.Answers.{FileTable}
 use Rattle.batch_procs.specs.Table.{process}
 use Rattle.solo_devices.specs.CardUnit.{Held, items_ahead, bytes_total, IsAllTaken}
 use Rattle.solo_devices.specs.PrinterUnit.{Printing}
@@ -16,15 +18,16 @@ use Rattle.core_net.specs.declared.finish.Outcomes.{Outcomes}
 use Rattle.core_net.specs.declared.net.Net.{Net}
 use Rattle.core_net.specs.declared.rules.Rule.{Rule}
 use Rattle.core_net.specs.Ended.{EndsSo}
+use Rattle.core_net.specs.Openings.{files_found}
 use Rattle.core_net.specs.Net.{Keeps, NetStands, StandsReached, most_events}
 use Rattle.core_net.specs.Runs.{RunsBy, TurnTaken}
 use Rattle.core_net.specs.Shared.{Tells, cards_left}
 use Rattle.core_net.specs.WholeRuns.{RunsToEnd}
 use Rattle.core_net.proofs.TurnTaken.{reached-more}
 
-same-told : (devices : Devices) (deck : Option (List Item)) (paper : Option (List ℕ)) → devices.deck ≡ deck → devices.paper ≡ paper
-    → devices ≡ record { deck = deck; paper = paper }
-same-told devices deck paper a b = rw (sym a, sym b) refl
+same-told : (devices : Devices) (deck : Option (List Item)) (paper : Option (List ℕ)) (files : Option Loads) → devices.deck ≡ deck → devices.paper ≡ paper
+    → devices.files ≡ files → devices ≡ record { deck = deck; paper = paper; files = files }
+same-told devices deck paper files a b c = rw (sym a, sym b, sym c) refl
 
 -- ---- a deck of which no card is left was taken whole
 before-some : (code : ℕ) (others : List (List ℕ)) → before_lines code others ≡ [] → ⊥
@@ -57,41 +60,47 @@ all-taken (Some bytes) now taken_before taken_now pending total reads = λ rest 
     let none : Some (cards (pending ++ rest)) ≡ Some [] = subst (λ now. items_ahead now pending ≡ Some []) is (reads (cards bytes) refl) in
     last-none pending rest (lines-none (pending ++ rest) (map-none card_of (lines (pending ++ rest)) (some-none (cards (pending ++ rest)) none)))
 
-module _ {S K A B : Type 0} (keeps : Keeps) (tells : Tells S K A B) where
+module _ {S K A B F : Type 0} (keeps : Keeps) (tells : Tells S K A B F) where
   -- a turn leads from a reached state to a reached state of the same opening
-  pub turn-reaches : (old new : Net S K A B) (p : ℕ) (before after : Counts) (spools : Spools) (deck : Option (List Item)) (paper : Option (List ℕ))
-      (st : StandsReached keeps tells old spools deck paper) → TurnTaken keeps tells old new st.state p before after
-      → StandsReached keeps tells new spools deck paper
-  turn-reaches old new p before after spools deck paper st turn =
-      let less = work-falls spools deck paper st.state turn.event (cards_left tells.taken old.shared.deck) (cards_left tells.taken new.shared.deck)
+  pub turn-reaches : (old new : Net S K A B F) (p : ℕ) (before after : Counts) (spools : Spools) (deck : Option (List Item)) (paper : Option (List ℕ))
+      (files : Option Loads)
+      (st : StandsReached keeps tells old spools deck paper files) → TurnTaken keeps tells old new st.state p before after
+      → StandsReached keeps tells new spools deck paper files
+  turn-reaches old new p before after spools deck paper files st turn =
+      let less = work-falls spools deck paper files st.state turn.event (cards_left tells.taken old.shared.deck) (cards_left tells.taken new.shared.deck)
       st.reached turn.enabled turn.deck in
       let all = st.within in
       record {
         state = happens (core process) st.state turn.event;
-        reached = reached-more spools deck paper st.state turn.event st.reached turn.enabled;
+        reached = reached-more spools deck paper files st.state turn.event st.reached turn.enabled;
         stands = turn.stands;
         within = omega (arith, less, all);
       }
 
   -- where a network begins, as one that is reached
-  pub reached-first : (net : Net S K A B) (spools : Spools) (deck : Option (List Item)) (paper : Option (List ℕ)) (s : CoreState)
-      → IsReached spools deck paper s → NetStands keeps tells net s → events_left (cards_left tells.taken net.shared.deck) s ≤ most_events
-      → StandsReached keeps tells net spools deck paper
-  reached-first net spools deck paper s reached stands within = record { state = s; reached = reached; stands = stands; within = within }
+  pub reached-first : (net : Net S K A B F) (spools : Spools) (deck : Option (List Item)) (paper : Option (List ℕ)) (files : Option Loads) (s : CoreState)
+      → IsReached spools deck paper files s → NetStands keeps tells net s → events_left (cards_left tells.taken net.shared.deck) s ≤ most_events
+      → StandsReached keeps tells net spools deck paper files
+  reached-first net spools deck paper files s reached stands within = record { state = s; reached = reached; stands = stands; within = within }
 
   -- how a run went, once it has ended, told without its network
-  pub runs-to-end : (rule : Rule) (net : Net S K A B) (s : CoreState) (counts : Counts) → RunsBy keeps tells rule net s counts
+  pub runs-to-end : (rule : Rule) (net : Net S K A B F) (s : CoreState) (counts : Counts) → RunsBy keeps tells rule net s counts
       → (outcomes : Outcomes) (stops : List (Option Side)) → ((s : CoreState) → NetStands keeps tells net s → EndsSo s outcomes stops)
-      → (deck : Held S) (paper : Printing K) → deck ≡ net.shared.deck → paper ≡ net.shared.paper
-      → RunsToEnd rule s counts outcomes stops record { deck = items_ahead (tells.left deck.source) deck.pending; paper = tells.given paper.sink }
-  runs-to-end rule net s counts ran outcomes stops ends deck paper deck_is paper_is = record {
+      → (deck : Held S) (paper : Printing K) (files : FileTable F) → deck ≡ net.shared.deck → paper ≡ net.shared.paper → files ≡ net.shared.files
+      → RunsToEnd rule s counts outcomes stops record {
+        deck = items_ahead (tells.left deck.source) deck.pending;
+        paper = tells.given paper.sink;
+        files = files_found (tells.file_pages files.area);
+      }
+  runs-to-end rule net s counts ran outcomes stops ends deck paper files deck_is paper_is files_are = record {
     events = ran.events;
     enabled = ran.enabled;
     by_rule = ran.by_rule;
     counts_are = ran.counts_are;
     ends = ends (run (core process) s ran.events) ran.stands;
     devices_are =
-        same-told (run (core process) s ran.events).devices _ _
+        same-told (run (core process) s ran.events).devices _ _ _
         (ran.stands.shared.deck ∙ ap (λ (d : Held S). items_ahead (tells.left d.source) d.pending) (sym deck_is))
-        (ran.stands.shared.paper ∙ ap (λ (d : Printing K). tells.given d.sink) (sym paper_is));
+        (ran.stands.shared.paper ∙ ap (λ (d : Printing K). tells.given d.sink) (sym paper_is))
+        (ran.stands.shared.files ∙ ap (λ (t : FileTable F). files_found (tells.file_pages t.area)) (sym files_are));
   }

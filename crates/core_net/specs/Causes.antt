@@ -10,21 +10,24 @@ use Rattle.batch_procs.specs.declared.actions.Reply.TheVariants as reply
 use Rattle.core_net.specs.declared.shared.Shared.{Shared}
 
 -- what the devices count: the faults of each, and the bytes that were taken of the source
-pub record Counts (S K A B : Type 0) : Type 0 where
+pub record Counts (S K A B F : Type 0) : Type 0 where
   pub read_faults : S → ℕ
   pub taken : S → ℕ
   pub print_faults : K → ℕ
   pub input_faults : A → ℕ
   pub output_faults : B → ℕ
+  pub file_faults : F → ℕ
 
 -- what these devices count
-abbrev pub counting : {S K A B : Type 0} → (S → ℕ) → (S → ℕ) → (K → ℕ) → (A → ℕ) → (B → ℕ) → Counts S K A B
-counting read_faults taken print_faults input_faults output_faults = record {
+abbrev pub counting : {S K A B F : Type 0} → (S → ℕ) → (S → ℕ) → (K → ℕ) → (A → ℕ) → (B → ℕ) → (F → ℕ)
+    → Counts S K A B F
+counting read_faults taken print_faults input_faults output_faults file_faults = record {
   read_faults = read_faults;
   taken = taken;
   print_faults = print_faults;
   input_faults = input_faults;
   output_faults = output_faults;
+  file_faults = file_faults;
 }
 
 -- a move of a page at the input spool: put by the input process, taken by the job process
@@ -43,8 +46,12 @@ abbrev pub IsPrint : Action → Type 0
 IsPrint (act.Print line) = Unit {0}
 IsPrint action = ⊥
 
+abbrev pub IsLoad : Action → Type 0
+IsLoad (act.Load file) = Unit {0}
+IsLoad action = ⊥
+
 -- Each failure was counted by its own device, and the limit is told where too many bytes were taken.
-pub record HasCauses {S K A B : Type 0} (counts : Counts S K A B) (old new : Shared S K A B) (p : ℕ)
+pub record HasCauses {S K A B F : Type 0} (counts : Counts S K A B F) (old new : Shared S K A B F) (p : ℕ)
     (action : Action) (result : Option Reply) : Type 0 where
   pub read : result ≡ Some (reply.Card card_read.Failed)
       → Rose (counts.read_faults old.deck.source) (counts.read_faults new.deck.source)
@@ -57,14 +64,19 @@ pub record HasCauses {S K A B : Type 0} (counts : Counts S K A B) (old new : Sha
       → Rose (counts.input_faults old.input.area) (counts.input_faults new.input.area)
   pub output : MovesOutput p action → result ≡ Some reply.Failed
       → Rose (counts.output_faults old.output.area) (counts.output_faults new.output.area)
+  pub load : IsLoad action → result ≡ Some reply.Failed
+      → Rose (counts.file_faults old.files.area) (counts.file_faults new.files.area)
   -- no count falls
   pub read_on : counts.read_faults old.deck.source ≤ counts.read_faults new.deck.source
   pub print_on : counts.print_faults old.paper.sink ≤ counts.print_faults new.paper.sink
   pub input_on : counts.input_faults old.input.area ≤ counts.input_faults new.input.area
   pub output_on : counts.output_faults old.output.area ≤ counts.output_faults new.output.area
+  pub files_on : counts.file_faults old.files.area ≤ counts.file_faults new.files.area
   -- a device may be used again unless it failed
   pub deck_live : old.deck.live ≡ true → result ≢ Some (reply.Card card_read.Failed)
       → result ≢ Some (reply.Card card_read.Limit) → new.deck.live ≡ true
   pub paper_live : old.paper.live ≡ true → (IsPrint action → result ≡ Some reply.Done) → new.paper.live ≡ true
+  pub files_sound : old.files.sound ≡ true → (IsLoad action → result ≢ Some reply.Failed)
+      → new.files.sound ≡ true
   -- the deck changes by a read alone
   pub deck_stays : action ≢ act.ReadCard → new.deck ≡ old.deck

@@ -2,6 +2,7 @@
 use Rattle.std.specs.Prelude.{◌≡◌, ℕ, List, [], ◌++◌, length, drop, Option}
 use Rattle.std.specs.Option.{option_map}
 use Rattle.solo_base.specs.declared.item.Item.{Item}
+use Rattle.batch_job.specs.Report.{Loads}
 use Rattle.batch_procs.specs.declared.actions.Action.TheVariants as act
 use Rattle.batch_procs.specs.declared.actions.Reply.{Reply}
 use Rattle.batch_procs.specs.Fits.{Fits}
@@ -20,3 +21,9 @@ pub record PrintsLine (old new : Option (List ℕ)) (line : List ℕ) (result : 
   pub gained : List ℕ
   pub allowed : (devices : Devices) → Allows devices (Does (act.Print line) result) gained
   pub after : option_map (λ before. before ++ gained) old ≡ new
+
+-- a file that is loaded, by what each file is loaded as
+pub record LoadsFile (found : Option Loads) (file : List ℕ) (result : Reply) : Type 0 where
+  pub suits : Fits (act.Load file) result
+  pub allowed : (devices : Devices) → devices.files ≡ found
+      → Allows devices (Does (act.Load file) result) []

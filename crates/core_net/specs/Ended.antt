@@ -6,6 +6,7 @@ use Rattle.solo_base.specs.declared.outcome.Outcome.{Outcome}
 use Rattle.solo_base.specs.declared.outcome.Outcome.TheVariants as outcome
 use Rattle.solo_base.specs.declared.outcome.Cause.{Cause}
 use Rattle.solo_base.specs.declared.outcome.Cause.TheVariants as cause
+use Rattle.batch_job.specs.Report.{Loads}
 use Rattle.queue_var.specs.Sides.{stopped_by, other}
 use Rattle.batch_procs.specs.Faults.{GivenBy, IsDamaged}
 use Rattle.batch_procs.specs.Laws.{IsNotDone}
@@ -22,12 +23,13 @@ abbrev pub AllEnded : CoreState → Type 0
 AllEnded s = (p : ℕ) → IsProcess p → HasEnded s p
 
 -- The network stands for some reached state in which all five have ended.
-pub record HaveEnded {S K A B : Type 0} (keeps : Keeps) (tells : Tells S K A B)
-    (net : Net S K A B) : Type 0 where
+pub record HaveEnded {S K A B F : Type 0} (keeps : Keeps) (tells : Tells S K A B F)
+    (net : Net S K A B F) : Type 0 where
   pub spools : Spools
   pub deck : Option (List Item)
   pub paper : Option (List ℕ)
-  pub is : StandsReached keeps tells net spools deck paper
+  pub files : Option Loads
+  pub is : StandsReached keeps tells net spools deck paper files
   pub all : AllEnded is.state
 
 -- the outcome of a process, by its number

@@ -15,34 +15,37 @@ use Rattle.core_net.specs.Causes.{Counts}
 use Rattle.core_net.specs.Net.{Keeps, NetStands}
 use Rattle.core_net.specs.Shared.{Tells}
 
--- what the deck is read from, what the paper is printed on, and the areas of the two spools
-pub record Peripherals (S K A B : Type 0) : Type 0 where
+-- what the deck is read from, what the paper is printed on, and the areas of the two spools and of the files
+pub record Peripherals (S K A B F : Type 0) : Type 0 where
   pub source : S
   pub sink : K
   pub input : A
   pub output : B
+  pub files : F
 
 -- those that the five share
-abbrev pub devices_of : {S K A B : Type 0} → Shared S K A B → Peripherals S K A B
+abbrev pub devices_of : {S K A B F : Type 0} → Shared S K A B F → Peripherals S K A B F
 devices_of shared = record {
   source = shared.deck.source;
   sink = shared.paper.sink;
   input = shared.input.area;
   output = shared.output.area;
+  files = shared.files.area;
 }
 
 -- those that a run left
-abbrev pub devices_left : {S K A B : Type 0} → Ran S K A B → Peripherals S K A B
+abbrev pub devices_left : {S K A B F : Type 0} → Ran S K A B F → Peripherals S K A B F
 devices_left ran = record {
   source = ran.deck.source;
   sink = ran.paper.sink;
   input = ran.input;
   output = ran.output;
+  files = ran.files.area;
 }
 
 -- Where a process has a fault of its device, this device has counted it since. The limit is told exactly
--- where too many bytes were taken since. The job process uses both areas. No count falls.
-pub record AreCounted {S K A B : Type 0} (counts : Counts S K A B) (before now : Peripherals S K A B)
+-- where too many bytes were taken since. The job process uses all three areas. No count falls.
+pub record AreCounted {S K A B F : Type 0} (counts : Counts S K A B F) (before now : Peripherals S K A B F)
     (outcomes : Outcomes) : Type 0 where
   pub read : outcomes.card ≡ outcome.Fault cause.ReadFault
       → Rose (counts.read_faults before.source) (counts.read_faults now.source)
@@ -54,6 +57,7 @@ pub record AreCounted {S K A B : Type 0} (counts : Counts S K A B) (before now :
   pub job : outcomes.job ≡ outcome.Fault cause.DiskFault
       → Rose (counts.input_faults before.input) (counts.input_faults now.input)
       ⊎ Rose (counts.output_faults before.output) (counts.output_faults now.output)
+      ⊎ Rose (counts.file_faults before.files) (counts.file_faults now.files)
   pub output : outcomes.output ≡ outcome.Fault cause.DiskFault
       → Rose (counts.output_faults before.output) (counts.output_faults now.output)
   pub print : outcomes.printer ≡ outcome.Fault cause.PrintFault
@@ -62,9 +66,10 @@ pub record AreCounted {S K A B : Type 0} (counts : Counts S K A B) (before now :
   pub input_on : counts.input_faults before.input ≤ counts.input_faults now.input
   pub output_on : counts.output_faults before.output ≤ counts.output_faults now.output
   pub print_on : counts.print_faults before.sink ≤ counts.print_faults now.sink
+  pub files_on : counts.file_faults before.files ≤ counts.file_faults now.files
 
 -- ---- once all five have ended
-abbrev pub FaultsAreCounted : {S K A B : Type 0} → Counts S K A B → Peripherals S K A B → Ran S K A B
+abbrev pub FaultsAreCounted : {S K A B F : Type 0} → Counts S K A B F → Peripherals S K A B F → Ran S K A B F
     → Type 0
 FaultsAreCounted counts before ran = AreCounted counts before (devices_left ran) ran.outcomes
 
@@ -80,7 +85,7 @@ outcomes_in s = record {
 }
 
 -- The faults of each state that the network stands for were counted since.
-abbrev pub CausesAreCounted : {S K A B : Type 0} → Keeps → Tells S K A B → Counts S K A B
-    → Peripherals S K A B → Net S K A B → Type 0
+abbrev pub CausesAreCounted : {S K A B F : Type 0} → Keeps → Tells S K A B F → Counts S K A B F
+    → Peripherals S K A B F → Net S K A B F → Type 0
 CausesAreCounted keeps tells counts before net = (s : CoreState) → NetStands keeps tells net s
     → AreCounted counts before (devices_of net.shared) (outcomes_in s)

@@ -1,6 +1,7 @@
 -- The five machines over what they share, and the states of the core that they stand for.
 use Rattle.std.specs.Prelude.{◌≡◌, ◌≤◌, ℕ, Bool, true, List, Option, None, Some}
 use Rattle.solo_base.specs.declared.item.Item.{Item}
+use Rattle.batch_job.specs.Report.{Loads}
 use Rattle.batch_procs.specs.declared.actions.Action.{Action}
 use Rattle.batch_procs.specs.declared.card_proc.CardWork.{CardWork}
 use Rattle.batch_procs.specs.declared.input_proc.InputWork.{InputWork}
@@ -49,7 +50,7 @@ the_keeps = record {
 
 -- Each machine stands for the history of its process, and what is shared for the rest. A device may be used
 -- as long as its process has no cause to stop.
-pub record NetStands {S K A B : Type 0} (keeps : Keeps) (tells : Tells S K A B) (net : Net S K A B)
+pub record NetStands {S K A B F : Type 0} (keeps : Keeps) (tells : Tells S K A B F) (net : Net S K A B F)
     (s : CoreState) : Type 0 where
   pub card : StandsFor card keeps.card net.card (s.histories 1)
   pub input : StandsFor input keeps.input net.input (s.histories 2)
@@ -59,6 +60,7 @@ pub record NetStands {S K A B : Type 0} (keeps : Keeps) (tells : Tells S K A B) 
   pub shared : SharedStands tells net.shared s
   pub deck_live : caused (s.histories 1) ≡ None → net.shared.deck.live ≡ true
   pub paper_live : caused (s.histories 5) ≡ None → net.shared.paper.live ≡ true
+  pub files_sound : caused (s.histories 3) ≡ None → net.shared.files.sound ≡ true
 
 -- A process may step in a state: it has a next action, and is at its turn.
 pub record MayStepIn (s : CoreState) (p : ℕ) (action : Action) : Type 0 where
@@ -67,20 +69,21 @@ pub record MayStepIn (s : CoreState) (p : ℕ) (action : Action) : Type 0 where
   pub may : MayCall s p (call p action)
 
 -- The network stands for some reached state in which the process may step.
-pub record MayStepNet {S K A B : Type 0} (keeps : Keeps) (tells : Tells S K A B) (net : Net S K A B)
+pub record MayStepNet {S K A B F : Type 0} (keeps : Keeps) (tells : Tells S K A B F) (net : Net S K A B F)
     (p : ℕ) : Type 0 where
   pub spools : Spools
   pub deck : Option (List Item)
   pub paper : Option (List ℕ)
+  pub files : Option Loads
   pub state : CoreState
-  pub reached : IsReached spools deck paper state
+  pub reached : IsReached spools deck paper files state
   pub stands : NetStands keeps tells net state
   pub action : Action
   pub step : MayStepIn state p action
 
 -- One enabled event of the process, and the network stands for the state behind it.
-pub record StepsNet {S K A B : Type 0} (keeps : Keeps) (tells : Tells S K A B) (counts : Counts S K A B)
-    (old new : Net S K A B) (s : CoreState) (p : ℕ) (action : Action) (result : Stepped) : Type 0 where
+pub record StepsNet {S K A B F : Type 0} (keeps : Keeps) (tells : Tells S K A B F) (counts : Counts S K A B F)
+    (old new : Net S K A B F) (s : CoreState) (p : ℕ) (action : Action) (result : Stepped) : Type 0 where
   pub event : CoreEvent
   pub process_is : event.process ≡ p
   pub action_is : action_of event.entry ≡ action
@@ -91,23 +94,26 @@ pub record StepsNet {S K A B : Type 0} (keeps : Keeps) (tells : Tells S K A B) (
   pub deck : LeavesFewer event.entry (cards_left tells.taken old.shared.deck)
       (cards_left tells.taken new.shared.deck)
   pub total : deck_total tells new.shared.deck ≡ deck_total tells old.shared.deck
+  pub files : tells.file_pages new.shared.files.area ≡ tells.file_pages old.shared.files.area
 
 -- no run from an opening has more events
 abbrev pub most_events : ℕ
 most_events = 200000000000000000000000000000
 
 -- The network stands for a state that is reached from this opening.
-pub record StandsReached {S K A B : Type 0} (keeps : Keeps) (tells : Tells S K A B) (net : Net S K A B)
-    (spools : Spools) (deck : Option (List Item)) (paper : Option (List ℕ)) : Type 0 where
+pub record StandsReached {S K A B F : Type 0} (keeps : Keeps) (tells : Tells S K A B F) (net : Net S K A B F)
+    (spools : Spools) (deck : Option (List Item)) (paper : Option (List ℕ)) (files : Option Loads)
+    : Type 0 where
   pub state : CoreState
-  pub reached : IsReached spools deck paper state
+  pub reached : IsReached spools deck paper files state
   pub stands : NetStands keeps tells net state
   pub within : events_left (cards_left tells.taken net.shared.deck) state ≤ most_events
 
 -- It stands for a state that is reached from some opening.
-pub record StandsSomewhere {S K A B : Type 0} (keeps : Keeps) (tells : Tells S K A B)
-    (net : Net S K A B) : Type 0 where
+pub record StandsSomewhere {S K A B F : Type 0} (keeps : Keeps) (tells : Tells S K A B F)
+    (net : Net S K A B F) : Type 0 where
   pub spools : Spools
   pub deck : Option (List Item)
   pub paper : Option (List ℕ)
-  pub is : StandsReached keeps tells net spools deck paper
+  pub files : Option Loads
+  pub is : StandsReached keeps tells net spools deck paper files

@@ -1,6 +1,7 @@
 -- A run by a rule.
 use Rattle.std.specs.Prelude.{◌≡◌, ◌≤◌, ◌+◌, ◌↔◌, ℕ, suc, Bool, IsTrue, List, [], ◌∷◌, length, Option, Some}
 use Rattle.solo_base.specs.declared.item.Item.{Item}
+use Rattle.batch_job.specs.Report.{Loads}
 use Rattle.batch_procs.specs.Table.{process}
 use Rattle.network_law.specs.Network.{AreEnabled, IsEnabled, run, happens}
 use Rattle.core_law.specs.Core.{core, CoreState, CoreEvent}
@@ -40,8 +41,8 @@ AreByRule rule s (event ∷ events) = IsPicked rule s event.process
     × AreByRule (behind rule (Some event.process)) (happens (core process) s event) events
 
 -- Enabled events by the rule, which come to these counts, and the network stands for the state behind them.
-pub record RunsBy {S K A B : Type 0} (keeps : Keeps) (tells : Tells S K A B) (rule : Rule) (new : Net S K A B)
-    (s : CoreState) (counts : Counts) : Type 0 where
+pub record RunsBy {S K A B F : Type 0} (keeps : Keeps) (tells : Tells S K A B F) (rule : Rule)
+    (new : Net S K A B F) (s : CoreState) (counts : Counts) : Type 0 where
   pub events : List CoreEvent
   pub enabled : AreEnabled (core process) s events
   pub by_rule : AreByRule rule s events
@@ -55,17 +56,18 @@ pub record AreFew (counts : Counts) : Type 0 where
   pub grants : counts.grants ≤ counts.events
 
 -- The network stands for a reached state, and with so many events behind it no run has more than it may.
-pub record HasLeft {S K A B : Type 0} (keeps : Keeps) (tells : Tells S K A B) (net : Net S K A B)
+pub record HasLeft {S K A B F : Type 0} (keeps : Keeps) (tells : Tells S K A B F) (net : Net S K A B F)
     (events : ℕ) : Type 0 where
   pub spools : Spools
   pub deck : Option (List Item)
   pub paper : Option (List ℕ)
-  pub is : StandsReached keeps tells net spools deck paper
+  pub files : Option Loads
+  pub is : StandsReached keeps tells net spools deck paper files
   pub left : events_left (cards_left tells.taken net.shared.deck) is.state + events ≤ most_events
 
 -- One enabled event of the process, which leaves the deck no more cards than it had; it is counted, and the
 -- network stands for the state behind it.
-pub record TurnTaken {S K A B : Type 0} (keeps : Keeps) (tells : Tells S K A B) (old new : Net S K A B)
+pub record TurnTaken {S K A B F : Type 0} (keeps : Keeps) (tells : Tells S K A B F) (old new : Net S K A B F)
     (s : CoreState) (p : ℕ) (before after : Counts) : Type 0 where
   pub event : CoreEvent
   pub process_is : event.process ≡ p

@@ -17,26 +17,30 @@ use Rattle.core_law.specs.Work.{LeavesFewer}
 use Rattle.core_net.specs.declared.shared.Shared.{Shared}
 use Rattle.core_net.specs.Calls.{entry_of, ReplyFits}
 use Rattle.core_net.specs.Lines.{LineStands}
+use Rattle.core_net.specs.Openings.{files_found}
 use Rattle.core_net.specs.Spools.{SpoolStands}
 
 -- what the devices tell: what is left of a source and how many bytes were taken of it, what a sink was given,
--- and the pages of the two areas
-pub record Tells (S K A B : Type 0) : Type 0 where
+-- and the pages of the two areas of the spools and of that of the files
+pub record Tells (S K A B F : Type 0) : Type 0 where
   pub left : S → Option (List ℕ)
   pub taken : S → ℕ
   pub given : K → Option (List ℕ)
   pub input_pages : A → Option (List (List ℕ))
   pub output_pages : B → Option (List (List ℕ))
+  pub file_pages : F → Option (List (List ℕ))
 
 -- what these devices tell
-abbrev pub telling : {S K A B : Type 0} → (S → Option (List ℕ)) → (S → ℕ) → (K → Option (List ℕ))
-    → (A → Option (List (List ℕ))) → (B → Option (List (List ℕ))) → Tells S K A B
-telling left taken given input_pages output_pages = record {
+abbrev pub telling : {S K A B F : Type 0} → (S → Option (List ℕ)) → (S → ℕ) → (K → Option (List ℕ))
+    → (A → Option (List (List ℕ))) → (B → Option (List (List ℕ))) → (F → Option (List (List ℕ)))
+    → Tells S K A B F
+telling left taken given input_pages output_pages file_pages = record {
   left = left;
   taken = taken;
   given = given;
   input_pages = input_pages;
   output_pages = output_pages;
+  file_pages = file_pages;
 }
 
 -- how many cards the deck may still give: no more than this number, which falls with each
@@ -44,13 +48,14 @@ abbrev pub cards_left : {S : Type 0} → (S → ℕ) → Held S → ℕ
 cards_left taken deck = work_ahead (taken deck.source) deck.pending deck.ended
 
 -- how many bytes a source that tells them had in all
-abbrev pub deck_total : {S K A B : Type 0} → Tells S K A B → Held S → Option ℕ
+abbrev pub deck_total : {S K A B F : Type 0} → Tells S K A B F → Held S → Option ℕ
 deck_total tells deck = bytes_total (tells.taken deck.source) (tells.left deck.source)
 
-pub record SharedStands {S K A B : Type 0} (tells : Tells S K A B) (shared : Shared S K A B)
+pub record SharedStands {S K A B F : Type 0} (tells : Tells S K A B F) (shared : Shared S K A B F)
     (s : CoreState) : Type 0 where
   pub deck : s.devices.deck ≡ items_ahead (tells.left shared.deck.source) shared.deck.pending
   pub paper : s.devices.paper ≡ tells.given shared.paper.sink
+  pub files : s.devices.files ≡ files_found (tells.file_pages shared.files.area)
   pub cards : LineStands shared.cards (s.buffers 1)
   pub input : SpoolStands tells.input_pages shared.input (s.buffers 2)
   pub output : SpoolStands tells.output_pages shared.output (s.buffers 3)
@@ -78,14 +83,14 @@ Choice false X Y = Y
 abbrev pub AtNumbers : ℕ → ℕ → ℕ → (ℕ → Type 0) → (ℕ → Type 0) → Type 0
 AtNumbers p m n X Y = Choice (p == m) (X p) (Choice (p == n) (Y p) ⊥)
 
-abbrev pub StopsAt : {S K A B : Type 0} → Shared S K A B → ℕ → Side → Type 0
+abbrev pub StopsAt : {S K A B F : Type 0} → Shared S K A B F → ℕ → Side → Type 0
 StopsAt shared b side =
     Choice (b == 1) (MayStop shared.cards.sides side)
     (Choice (b == 2) (MayStop shared.input.sides side)
     (Choice (b == 3) (MayStop shared.output.sides side)
     (Choice (b == 4) (MayStop shared.lines.sides side) ⊥)))
 
-abbrev pub MayPerform : {S K A B : Type 0} → Shared S K A B → ℕ → Action → Type 0
+abbrev pub MayPerform : {S K A B F : Type 0} → Shared S K A B F → ℕ → Action → Type 0
 MayPerform shared p act.ReadCard = shared.deck.live ≡ true
 MayPerform shared p (act.PutFeed f) =
     AtNumbers p 1 4 (WaitsAt shared.cards.sides Sender) (WaitsAt shared.lines.sides Sender)
@@ -99,6 +104,7 @@ MayPerform shared p act.Request = MayRequest shared.desk p × (length shared.des
 MayPerform shared p (act.PutPage page) =
     AtNumbers p 2 3 (λ p. PutsAt shared.input) (λ p. PutsAt shared.output)
 MayPerform shared p act.TakePage = AtNumbers p 3 4 (λ p. TakesAt shared.input) (λ p. TakesAt shared.output)
+MayPerform shared p (act.Load file) = shared.files.sound ≡ true
 MayPerform shared p act.Release = IsSome shared.desk.holder × (shared.desk.handed ≡ None)
 MayPerform shared p act.Local = Unit {0}
 MayPerform shared p (act.Print line) = shared.paper.live ≡ true
@@ -108,13 +114,14 @@ MayPerform shared p (act.Ended how) = Unit {0}
 -- ---- what a call does
 -- It goes as the law allows in each state that is stood for, and what is shared stands for the state behind
 -- it.
-pub record Performs {S K A B : Type 0} (tells : Tells S K A B) (old new : Shared S K A B) (p : ℕ)
+pub record Performs {S K A B F : Type 0} (tells : Tells S K A B F) (old new : Shared S K A B F) (p : ℕ)
     (action : Action) (result : Option Reply) : Type 0 where
   pub suits : ReplyFits action result
   pub gained : List ℕ
   pub deck : LeavesFewer (entry_of action result) (cards_left tells.taken old.deck)
       (cards_left tells.taken new.deck)
   pub total : deck_total tells new.deck ≡ deck_total tells old.deck
+  pub files : tells.file_pages new.files.area ≡ tells.file_pages old.files.area
   pub fits : (s : CoreState) → SharedStands tells old s
       → Fits is_last s (call p action) (went (entry_of action result))
   pub allowed : (s : CoreState) → SharedStands tells old s → Allows s.devices (entry_of action result) gained

@@ -16,11 +16,12 @@ use Rattle.core_net.specs.Shared.{Tells, SharedStands, MayPerform, cards_left, d
 
 -- An entry of a process goes as the law allows in each state that is stood for, and what is shared stands for
 -- the state behind it.
-pub record Enters {S K A B : Type 0} (tells : Tells S K A B) (old new : Shared S K A B) (p : ℕ)
+pub record Enters {S K A B F : Type 0} (tells : Tells S K A B F) (old new : Shared S K A B F) (p : ℕ)
     (action : Action) (entry : Entry) : Type 0 where
   pub gained : List ℕ
   pub deck : LeavesFewer entry (cards_left tells.taken old.deck) (cards_left tells.taken new.deck)
   pub total : deck_total tells new.deck ≡ deck_total tells old.deck
+  pub files : tells.file_pages new.files.area ≡ tells.file_pages old.files.area
   pub fits : (s : CoreState) → SharedStands tells old s → Fits is_last s (call p action) (went entry)
   pub allowed : (s : CoreState) → SharedStands tells old s → Allows s.devices entry gained
   pub after : (s : CoreState) (histories : ℕ → List Entry) → SharedStands tells old s
@@ -32,8 +33,8 @@ pub record Enters {S K A B : Type 0} (tells : Tells S K A B) (old new : Shared S
       }
 
 -- A machine of this process stands for a history after which it does this, and that may be performed.
-pub record MayStep {S K A B : Type 0} (process : Process) (Stands : List Entry → Type 0)
-    (shared : Shared S K A B)
+pub record MayStep {S K A B F : Type 0} (process : Process) (Stands : List Entry → Type 0)
+    (shared : Shared S K A B F)
     (p : ℕ) : Type 0 where
   pub history : List Entry
   pub action : Action
@@ -55,8 +56,8 @@ reply_of (Delays action) = None
 
 -- Behind a history after which it does this, the machine stands for one entry more, and the answer says which
 -- kind.
-pub record Steps {S K A B : Type 0} (Stands : List Entry → Type 0) (tells : Tells S K A B)
-    (counts : Counts S K A B) (old new : Shared S K A B) (p : ℕ) (action : Action) (history : List Entry)
+pub record Steps {S K A B F : Type 0} (Stands : List Entry → Type 0) (tells : Tells S K A B F)
+    (counts : Counts S K A B F) (old new : Shared S K A B F) (p : ℕ) (action : Action) (history : List Entry)
     (result : Stepped) : Type 0 where
   pub entry : Entry
   pub told : result ≡ stepped_by entry

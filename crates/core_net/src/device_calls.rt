@@ -4,12 +4,16 @@ ghost use Rattle.solo_devices.specs.CardUnit.{items_ahead, byte_limit, bytes_tot
 ghost use Rattle.solo_devices.specs.declared.card_read.CardRead.TheVariants as card_read;
 ghost use Rattle.batch_procs.specs.declared.actions.Reply.TheVariants as reply;
 ghost use Rattle.core_law.specs.Core.{items_by};
-ghost use Rattle.core_net.specs.Devices.{ReadsCard, PrintsLine};
+ghost use Rattle.core_net.specs.Devices.{ReadsCard, PrintsLine, LoadsFile};
+ghost use Rattle.core_net.specs.Openings.{files_found};
 ghost use Rattle.core_net.specs.Shared.{cards_left};
 
 use batch_procs::Reply;
-use solo_base::Line;
-use solo_devices::{CardRead, CardUnit, PrintFault, PrinterUnit, Sink, Source};
+use disk_files::FileArea;
+use disk_system::{LoadFault, load_job};
+use solo_base::{Ident, Line};
+use solo_devices::{Area, CardRead, CardUnit, PrintFault, PrinterUnit, Sink, Source};
+use std::alloc::Global;
 
 /// Reads the next card of the deck.
 pub fn read_card<S: Source>(deck: &mut CardUnit<S>) -> Reply
@@ -42,5 +46,21 @@ pub fn print<K: Sink>(paper: &mut PrinterUnit<K>, line: &Line) -> Reply
         Ok(()) => Reply::Done,
         Err(PrintFault::Failed) => Reply::Failed,
         Err(PrintFault::NoMemory) => Reply::NoMemory,
+    }
+}
+
+/// Loads the program of a job from the file of this name. It changes no file.
+pub fn load_file<F: Area>(alloc: Global, files: &mut FileArea<F>, file: &Ident) -> Reply
+    requires sound { files.old.sound ≡ true }
+    ensures loads { LoadsFile (files_found (F.pages files.old.area)) file.now result }
+    ensures failed { result ≡ reply.Failed → Rose (F.faults files.old.area) (F.faults files.new.area) }
+    ensures counts { F.faults files.old.area ≤ F.faults files.new.area }
+    ensures left { F.pages files.new.area ≡ F.pages files.old.area }
+    ensures sound { result ≢ reply.Failed → files.new.sound ≡ true }
+{
+    match load_job(alloc, file, files) {
+        Ok(load) => Reply::Loaded(load),
+        Err(LoadFault::DiskFault) => Reply::Failed,
+        Err(LoadFault::NoMemory) => Reply::NoMemory,
     }
 }

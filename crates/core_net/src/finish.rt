@@ -1,5 +1,6 @@
 ghost use Rattle.std.specs.Prelude.{◌≡◌, ℕ, List, [], Option, Some};
 ghost use Rattle.solo_base.specs.declared.item.Item.{Item};
+ghost use Rattle.batch_job.specs.Report.{Loads};
 ghost use Rattle.solo_base.specs.Text.{text};
 ghost use Rattle.solo_devices.specs.CardUnit.{items_ahead};
 ghost use Rattle.solo_devices.specs.PrinterUnit.{Gains};
@@ -10,7 +11,7 @@ ghost use Rattle.batch_procs.specs.Machine.{StandsFor};
 ghost use Rattle.core_law.specs.Core.{CoreState};
 ghost use Rattle.core_law.specs.Ends.{outcome_by};
 ghost use Rattle.batch_job.specs.OneThread.{one_thread_lines};
-ghost use Rattle.core_law.specs.Holds.{AreTold};
+ghost use Rattle.core_law.specs.Holds.{AreTold, AreFound};
 ghost use Rattle.core_law.specs.Opening.{Spools};
 ghost use Rattle.core_net.specs.Causes.{counting};
 ghost use Rattle.core_net.specs.Faults.{Peripherals, CausesAreCounted, FaultsAreCounted};
@@ -20,6 +21,7 @@ ghost use Rattle.core_net.specs.Ended.{HaveEnded, EndsSo, EndTogether, FaultsAre
 
 use crate::{Net, Shared};
 use batch_procs::{Machine, Work};
+use disk_files::FileArea;
 use solo_base::{Outcome, Side};
 use solo_devices::{Area, CardUnit, PrinterUnit, Sink, Source};
 
@@ -35,53 +37,60 @@ pub struct Outcomes {
 
 /// How a network ended: the outcomes of its processes, the sides that stopped the buffers 1 to 4 first, and
 /// the devices.
-#[derive(Debug, Drop)]
-pub struct Ran<S: Source, K: Sink, A: Area, B: Area> {
+#[derive(Drop)]
+pub struct Ran<S: Source, K: Sink, A: Area, B: Area, F: Area> {
     pub outcomes: Outcomes,
     pub stopped_by: [Option<Side>; 4],
     pub deck: CardUnit<S>,
     pub input: A,
     pub output: B,
     pub paper: PrinterUnit<K>,
+    pub files: FileArea<F>,
 }
 
-impl<S: Source, K: Sink, A: Area, B: Area> Net<S, K, A, B> {
+impl<S: Source, K: Sink, A: Area, B: Area, F: Area> Net<S, K, A, B, F> {
     /// How the network ended, once all five processes have.
-    pub fn finish(self) -> Ran<S, K, A, B>
+    pub fn finish(self) -> Ran<S, K, A, B, F>
         requires ended { HaveEnded the_keeps
-            (telling S.left S.taken K.given A.pages B.pages) self }
+            (telling S.left S.taken K.given A.pages B.pages F.pages) self }
 
         // In every state that it stands for.
         ensures ends { (s : CoreState) →
             NetStands the_keeps
-            (telling S.left S.taken K.given A.pages B.pages) self s →
+            (telling S.left S.taken K.given A.pages B.pages F.pages) self s →
             EndsSo s result.outcomes result.stopped_by }
         ensures together { EndTogether result.outcomes result.stopped_by }
         ensures faults { FaultsAre result.outcomes }
-        ensures counted { (before : Peripherals S K A B) →
-            CausesAreCounted the_keeps (telling S.left S.taken K.given A.pages B.pages)
-            (counting S.faults S.taken K.faults A.faults B.faults) before self →
-            FaultsAreCounted (counting S.faults S.taken K.faults A.faults B.faults) before result }
+        ensures counted { (before : Peripherals S K A B F) →
+            CausesAreCounted the_keeps (telling S.left S.taken K.given A.pages B.pages F.pages)
+            (counting S.faults S.taken K.faults A.faults B.faults F.faults) before self →
+            FaultsAreCounted (counting S.faults S.taken K.faults A.faults B.faults F.faults) before result }
 
         // For each opening that it is reached from: the paper gained what one thread prints or a part of it,
         // all of it where all are done, and then nothing is left of the deck.
-        ensures prints { (spools : Spools) (deck : Option (List Item)) (paper : Option (List ℕ)) →
+        ensures prints { (spools : Spools) (deck : Option (List Item)) (paper : Option (List ℕ))
+            (files : Option Loads) →
             StandsReached the_keeps
-            (telling S.left S.taken K.given A.pages B.pages) self spools deck paper →
-            AreTold spools → (items : List Item) → deck ≡ Some items → AreItems items →
-            Gains paper (K.given result.paper.sink) (text (one_thread_lines items))
+            (telling S.left S.taken K.given A.pages B.pages F.pages) self spools deck paper files →
+            AreTold spools → (items : List Item) (found : Loads) → deck ≡ Some items → AreItems items →
+            AreFound files found items →
+            Gains paper (K.given result.paper.sink) (text (one_thread_lines found items))
             (result.outcomes ≡ all_done) }
-        ensures reads { (spools : Spools) (deck : Option (List Item)) (paper : Option (List ℕ)) →
+        ensures reads { (spools : Spools) (deck : Option (List Item)) (paper : Option (List ℕ))
+            (files : Option Loads) →
             StandsReached the_keeps
-            (telling S.left S.taken K.given A.pages B.pages) self spools deck paper →
+            (telling S.left S.taken K.given A.pages B.pages F.pages) self spools deck paper files →
             (items : List Item) → deck ≡ Some items → result.outcomes ≡ all_done →
             items_ahead (S.left result.deck.source) result.deck.pending ≡ Some [] }
         // and no page was damaged
-        ensures undamaged { (spools : Spools) (deck : Option (List Item)) (paper : Option (List ℕ)) →
-            StandsReached the_keeps (telling S.left S.taken K.given A.pages B.pages) self spools deck paper →
+        ensures undamaged { (spools : Spools) (deck : Option (List Item)) (paper : Option (List ℕ))
+            (files : Option Loads) →
+            StandsReached the_keeps (telling S.left S.taken K.given A.pages B.pages F.pages) self
+            spools deck paper files →
             AreTold spools → (items : List Item) → deck ≡ Some items → AreItems items →
             NoneDamaged result.outcomes }
         ensures units { (result.deck ≡ self.shared.deck) × (result.paper ≡ self.shared.paper) }
+        ensures files { result.files ≡ self.shared.files }
         ensures areas { (result.input ≡ self.shared.input.area) × (result.output ≡ self.shared.output.area) }
     {
         let Net {
@@ -106,7 +115,9 @@ impl<S: Source, K: Sink, A: Area, B: Area> Net<S, K, A, B> {
             output,
             lines,
             paper,
+            files,
             desk: _,
+            alloc: _,
         } = shared;
         Ran {
             outcomes,
@@ -120,6 +131,7 @@ impl<S: Source, K: Sink, A: Area, B: Area> Net<S, K, A, B> {
             input: input.into_inner(),
             output: output.into_inner(),
             paper,
+            files,
         }
     }
 }

@@ -1,5 +1,6 @@
 ghost use Rattle.std.specs.Prelude.{◌≡◌, ◌↔◌, ℕ, List, Option, IsTrue, IsNone, IfSome};
 ghost use Rattle.solo_base.specs.declared.item.Item.{Item};
+ghost use Rattle.batch_job.specs.Report.{Loads};
 ghost use Rattle.core_law.specs.Core.{CoreState};
 ghost use Rattle.core_law.specs.Ends.{IsProcess};
 ghost use Rattle.core_law.specs.Opening.{Spools, IsReached};
@@ -12,14 +13,15 @@ use crate::Net;
 use solo_base::ProcNo;
 use solo_devices::{Area, Sink, Source};
 
-impl<S: Source, K: Sink, A: Area, B: Area> Net<S, K, A, B> {
+impl<S: Source, K: Sink, A: Area, B: Area, F: Area> Net<S, K, A, B, F> {
     /// Whether a process may go on: it has not ended, and is at its turn.
     pub fn may_go(&self, p: ProcNo) -> bool
         requires one { IsProcess p }
-        ensures { (spools : Spools) (deck : Option (List Item)) (paper : Option (List ℕ)) (s : CoreState) →
-            IsReached spools deck paper s →
+        ensures { (spools : Spools) (deck : Option (List Item)) (paper : Option (List ℕ))
+            (files : Option Loads) (s : CoreState) →
+            IsReached spools deck paper files s →
             NetStands the_keeps
-            (telling S.left S.taken K.given A.pages B.pages) self.now s →
+            (telling S.left S.taken K.given A.pages B.pages F.pages) self.now s →
             IsTrue result ↔ MayGo s p }
     {
         !self.has_ended(p) && self.enabled(p)
@@ -29,16 +31,16 @@ impl<S: Source, K: Sink, A: Area, B: Area> Net<S, K, A, B> {
     /// stuck.
     pub fn first_enabled(&self) -> Option<ProcNo>
         ensures first { (spools : Spools) (deck : Option (List Item)) (paper : Option (List ℕ))
-            (s : CoreState) →
-            IsReached spools deck paper s →
+            (files : Option Loads) (s : CoreState) →
+            IsReached spools deck paper files s →
             NetStands the_keeps
-            (telling S.left S.taken K.given A.pages B.pages) self.now s →
+            (telling S.left S.taken K.given A.pages B.pages F.pages) self.now s →
             IfSome result (λ p. IsFirst s p) }
         ensures ended { (spools : Spools) (deck : Option (List Item)) (paper : Option (List ℕ))
-            (s : CoreState) →
-            IsReached spools deck paper s →
+            (files : Option Loads) (s : CoreState) →
+            IsReached spools deck paper files s →
             NetStands the_keeps
-            (telling S.left S.taken K.given A.pages B.pages) self.now s →
+            (telling S.left S.taken K.given A.pages B.pages F.pages) self.now s →
             IsNone result ↔ AllEnded s }
     {
         'asking: for p in 1..=5 {

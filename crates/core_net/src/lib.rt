@@ -20,7 +20,7 @@ mod turns;
 pub use core_run::run_core;
 pub use counts::Counts;
 pub use desk_calls::{release, request};
-pub use device_calls::{print, read_card};
+pub use device_calls::{load_file, print, read_card};
 pub use finish::{Outcomes, Ran};
 pub use line_calls::{put_feed, stop_line, take_feed};
 pub use net::Net;
@@ -30,6 +30,10 @@ pub use spool_calls::{await_item, await_room, put_page, stop_spool, take_page};
 pub use step::{Stepped, step_machine};
 
 #[cfg(test)]
+mod made_files;
+#[cfg(test)]
 mod test_failures;
+#[cfg(test)]
+mod test_files;
 #[cfg(test)]
 mod tests;

@@ -1,5 +1,6 @@
-ghost use Rattle.std.specs.Prelude.{◌≡◌, ◌≤◌, ◌<◌, ◌↔◌, IsTrue, ℕ, List, [], Option, Some};
+ghost use Rattle.std.specs.Prelude.{◌≡◌, ◌≤◌, ◌<◌, ◌↔◌, IsTrue, true, ℕ, List, [], Option, Some};
 ghost use Rattle.solo_base.specs.declared.item.Item.{Item};
+ghost use Rattle.batch_job.specs.Report.{Loads};
 ghost use Rattle.batch_procs.specs.declared.actions.Action.{Action as ActionOf};
 ghost use Rattle.batch_procs.specs.Laws.{HasEnded};
 ghost use Rattle.batch_procs.specs.Process.{next_action};
@@ -8,7 +9,7 @@ ghost use Rattle.core_law.specs.Core.{CoreState};
 ghost use Rattle.core_law.specs.Ends.{IsProcess};
 ghost use Rattle.core_law.specs.Opening.{Spools, opened, IsReached};
 ghost use Rattle.solo_devices.specs.CardUnit.{items_ahead};
-ghost use Rattle.core_net.specs.Openings.{spools_over};
+ghost use Rattle.core_net.specs.Openings.{spools_over, files_found};
 ghost use Rattle.core_net.specs.Causes.{counting};
 ghost use Rattle.core_law.specs.Work.{events_left};
 ghost use Rattle.core_net.specs.Faults.{devices_of, CausesAreCounted};
@@ -19,51 +20,55 @@ use crate::step::step_machine;
 use crate::turns::may_step;
 use crate::{Shared, Stepped};
 use batch_procs::{CardProc, InputProc, JobProc, Machine, OutputProc, PrinterProc};
+use disk_files::FileArea;
 use solo_base::ProcNo;
 use solo_devices::{Area, Sink, Source};
 use std::alloc::Global;
 
 /// The network of the Job Stream System, which is stepped one event at a time. It keeps no histories:
 /// contracts say which states of the core it stands for.
-#[derive(Debug, Drop)]
-pub struct Net<S: Source, K: Sink, A: Area, B: Area> {
+#[derive(Drop)]
+pub struct Net<S: Source, K: Sink, A: Area, B: Area, F: Area> {
     pub card: CardProc,
     pub input: InputProc,
     pub job: JobProc,
     pub output: OutputProc,
     pub printer: PrinterProc,
-    pub shared: Shared<S, K, A, B>,
+    pub shared: Shared<S, K, A, B, F>,
 }
 
-impl<S: Source, K: Sink, A: Area, B: Area> Net<S, K, A, B> {
-    /// The network before its first step: a deck of which nothing was read, and an area of 1 to 256 pages
-    /// for each
-    /// spool.
-    pub fn make(alloc: Global, source: S, input: A, output: B, sink: K) -> Self
+impl<S: Source, K: Sink, A: Area, B: Area, F: Area> Net<S, K, A, B, F> {
+    /// The network before its first step: a deck of which nothing was read, an area of 1 to 256 pages for
+    /// each spool, and sound files.
+    pub fn make(alloc: Global, source: S, input: A, output: B, sink: K, files: FileArea<F>) -> Self
         requires unread { S.taken source ≡ 0 }
         requires input_some { 0 < A.size input }
         requires input_few { A.size input ≤ 256 }
         requires output_some { 0 < B.size output }
         requires output_few { B.size output ≤ 256 }
+        requires sound { files.sound ≡ true }
         ensures stands { NetStands the_keeps
-            (telling S.left S.taken K.given A.pages B.pages)
+            (telling S.left S.taken K.given A.pages B.pages F.pages)
             result
             (opened (spools_over (A.size input) (A.pages input) (B.size output) (B.pages output))
-            (items_ahead (S.left source) []) (K.given sink)) }
+            (items_ahead (S.left source) []) (K.given sink) (files_found (F.pages files.area))) }
         ensures reached { IsReached (spools_over (A.size input) (A.pages input) (B.size output)
             (B.pages output)) (items_ahead (S.left source) []) (K.given sink)
+            (files_found (F.pages files.area))
             (opened (spools_over (A.size input) (A.pages input) (B.size output) (B.pages output))
-            (items_ahead (S.left source) []) (K.given sink)) }
+            (items_ahead (S.left source) []) (K.given sink) (files_found (F.pages files.area))) }
         ensures devices { devices_of result.shared
-            ≡ record { source = source; sink = sink; input = input; output = output } }
+            ≡ record { source = source; sink = sink; input = input; output = output; files = files.area } }
         ensures counted { CausesAreCounted the_keeps
-            (telling S.left S.taken K.given A.pages B.pages)
-            (counting S.faults S.taken K.faults A.faults B.faults)
-            record { source = source; sink = sink; input = input; output = output }
+            (telling S.left S.taken K.given A.pages B.pages F.pages)
+            (counting S.faults S.taken K.faults A.faults B.faults F.faults)
+            record { source = source; sink = sink; input = input; output = output; files = files.area }
             result }
+        ensures files { result.shared.files ≡ files }
         ensures within { events_left (cards_left S.taken result.shared.deck)
             (opened (spools_over (A.size input) (A.pages input) (B.size output) (B.pages output))
-            (items_ahead (S.left source) []) (K.given sink)) ≤ most_events }
+            (items_ahead (S.left source) []) (K.given sink) (files_found (F.pages files.area)))
+            ≤ most_events }
     {
         Net {
             card: Machine::new(alloc),
@@ -71,7 +76,7 @@ impl<S: Source, K: Sink, A: Area, B: Area> Net<S, K, A, B> {
             job: Machine::new(alloc),
             output: Machine::new(alloc),
             printer: Machine::new(alloc),
-            shared: Shared::make(source, input, output, sink),
+            shared: Shared::make(alloc, source, input, output, sink, files),
         }
     }
 
@@ -79,11 +84,11 @@ impl<S: Source, K: Sink, A: Area, B: Area> Net<S, K, A, B> {
     pub fn enabled(&self, p: ProcNo) -> bool
         requires one { IsProcess p }
         ensures turn { (spools : Spools) (deck : Option (List Item)) (paper : Option (List ℕ))
-            (s : CoreState) →
+            (files : Option Loads) (s : CoreState) →
             (action : ActionOf) →
-            IsReached spools deck paper s →
+            IsReached spools deck paper files s →
             NetStands the_keeps
-            (telling S.left S.taken K.given A.pages B.pages) self.now s →
+            (telling S.left S.taken K.given A.pages B.pages F.pages) self.now s →
             next_action (process p) (s.histories p) ≡ Some action →
             IsTrue result ↔ MayStepIn s p action }
     {
@@ -105,7 +110,7 @@ impl<S: Source, K: Sink, A: Area, B: Area> Net<S, K, A, B> {
         requires one { IsProcess p }
         ensures ended { (s : CoreState) →
             NetStands the_keeps
-            (telling S.left S.taken K.given A.pages B.pages) self.now s →
+            (telling S.left S.taken K.given A.pages B.pages F.pages) self.now s →
             IsTrue result ↔ HasEnded (s.histories p) }
     {
         if p == 1 {
@@ -126,12 +131,13 @@ impl<S: Source, K: Sink, A: Area, B: Area> Net<S, K, A, B> {
     pub fn turn(&mut self, p: ProcNo) -> Option<Stepped>
         requires one { IsProcess p }
         requires reached { StandsSomewhere the_keeps
-            (telling S.left S.taken K.given A.pages B.pages) self.old }
-        ensures reached { (spools : Spools) (deck : Option (List Item)) (paper : Option (List ℕ)) →
+            (telling S.left S.taken K.given A.pages B.pages F.pages) self.old }
+        ensures reached { (spools : Spools) (deck : Option (List Item)) (paper : Option (List ℕ))
+            (files : Option Loads) →
             StandsReached the_keeps
-            (telling S.left S.taken K.given A.pages B.pages) self.old spools deck paper →
+            (telling S.left S.taken K.given A.pages B.pages F.pages) self.old spools deck paper files →
             StandsReached the_keeps
-            (telling S.left S.taken K.given A.pages B.pages) self.new spools deck paper }
+            (telling S.left S.taken K.given A.pages B.pages F.pages) self.new spools deck paper files }
     {
         if self.has_ended(p) {
             return None;
@@ -146,17 +152,17 @@ impl<S: Source, K: Sink, A: Area, B: Area> Net<S, K, A, B> {
     /// Lets the next action of a process happen.
     pub fn step(&mut self, p: ProcNo) -> Stepped
         requires may { MayStepNet the_keeps
-            (telling S.left S.taken K.given A.pages B.pages) self.old p }
+            (telling S.left S.taken K.given A.pages B.pages F.pages) self.old p }
         ensures steps { (spools : Spools) (deck : Option (List Item)) (paper : Option (List ℕ))
-            (s : CoreState) →
+            (files : Option Loads) (s : CoreState) →
             (action : ActionOf) →
-            IsReached spools deck paper s →
+            IsReached spools deck paper files s →
             NetStands the_keeps
-            (telling S.left S.taken K.given A.pages B.pages) self.old s →
+            (telling S.left S.taken K.given A.pages B.pages F.pages) self.old s →
             MayStepIn s p action →
             StepsNet the_keeps
-            (telling S.left S.taken K.given A.pages B.pages)
-            (counting S.faults S.taken K.faults A.faults B.faults)
+            (telling S.left S.taken K.given A.pages B.pages F.pages)
+            (counting S.faults S.taken K.faults A.faults B.faults F.faults)
             self.old self.new s p action result }
     {
         if p == 1 {

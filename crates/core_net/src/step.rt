@@ -24,16 +24,18 @@ pub enum Stepped {
 }
 
 /// Takes the next action of a process.
-pub fn step_machine<W: Work, S: Source, K: Sink, A: Area, B: Area>(
+pub fn step_machine<W: Work, S: Source, K: Sink, A: Area, B: Area, F: Area>(
     machine: &mut Machine<W>,
     p: ProcNo,
-    shared: &mut Shared<S, K, A, B>,
+    shared: &mut Shared<S, K, A, B, F>,
 ) -> Stepped
     requires may { MayStep W.process (StandsFor W.process W.keeps machine.old) shared.old p }
     ensures { (h : List Entry) (action : ActionOf) → StandsFor W.process W.keeps machine.old h →
         next_action W.process h ≡ Some action →
-        Steps (StandsFor W.process W.keeps machine.new) (telling S.left S.taken K.given A.pages B.pages)
-        (counting S.faults S.taken K.faults A.faults B.faults) shared.old shared.new p action h result }
+        Steps (StandsFor W.process W.keeps machine.new)
+        (telling S.left S.taken K.given A.pages B.pages F.pages)
+        (counting S.faults S.taken K.faults A.faults B.faults F.faults)
+        shared.old shared.new p action h result }
 {
     let action = machine.next();
     match shared.perform(p, action) {

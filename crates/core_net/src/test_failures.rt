@@ -3,6 +3,7 @@ ghost use Rattle.std.specs.Prelude.{◌≡◌, ◌≤◌, ◌<◌, IfOk};
 ghost use Rattle.core_net.specs.Net.{StandsSomewhere, the_keeps};
 ghost use Rattle.core_net.specs.Shared.{telling};
 
+use crate::made_files::no_files;
 use crate::{Net, Outcomes, Ran, Rule};
 use solo_base::{Cause, Outcome};
 use solo_devices::{Area, BlankArea, MemArea, MemSink, MemSource, Sink, Source, SureArea};
@@ -10,7 +11,7 @@ use std::alloc::Global;
 use std::process::Abort;
 use std::test::*;
 
-type Network = Net<MemSource, MemSink, MemArea, MemArea>;
+type Network = Net<MemSource, MemSink, MemArea, MemArea, SureArea>;
 
 /// A kind of call of a device.
 #[derive(Clone, Copy, Debug, PartialEq, Eq)]
@@ -72,7 +73,8 @@ fn network(
         ⟦<MemSource as Source>⟧.taken
         ⟦<MemSink as Sink>⟧.given
         ⟦<MemArea as Area>⟧.pages
-        ⟦<MemArea as Area>⟧.pages) net) }
+        ⟦<MemArea as Area>⟧.pages
+        ⟦<SureArea as Area>⟧.pages) net) }
 {
     let [
         read,
@@ -100,7 +102,7 @@ fn network(
     .ok()
     .expect(rt, "ample memory");
     let paper = MemSink::new(alloc, calls(alloc, print)?);
-    Ok(Net::make(alloc, source, input, output, paper))
+    Ok(Net::make(alloc, source, input, output, paper, no_files(rt, alloc)))
 }
 
 const DECK: &str = "#LIST A\n1\n2\n#END\nSTRAY\n#LIST B\n3\n";
@@ -200,7 +202,8 @@ fn a_zero_page_is_damaged(rt: HostRuntime) -> Result<(), Fail> {
     let source = MemSource::new(DECK.as_bytes().to_vec(alloc)?, 7, Vec::new(alloc));
     let output = SureArea::new(alloc, 4).ok().expect(&rt, "ample memory");
     let paper = MemSink::new(alloc, Vec::new(alloc));
-    let mut net = Net::make(alloc, source, BlankArea::new(4), output, paper);
+    let files = no_files(&rt, alloc);
+    let mut net = Net::make(alloc, source, BlankArea::new(4), output, paper, files);
     net.run(Rule::Cyclic { last: 5 });
     let Ran {
         outcomes,

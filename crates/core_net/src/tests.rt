@@ -1,6 +1,7 @@
 // Whole runs over memory: whichever process goes first, the paper is the one-thread output.
 ghost use Rattle.std.specs.Prelude.{◌≤◌, ◌<◌};
 
+use crate::made_files::no_files;
 use crate::{Counts, Outcomes, Ran, Rule, run_core};
 use solo_base::Outcome;
 use solo_devices::{MemSink, MemSource, SureArea};
@@ -8,7 +9,7 @@ use std::alloc::Global;
 use std::process::Abort;
 use std::test::*;
 
-type Run = Ran<MemSource, MemSink, SureArea, SureArea>;
+type Run = Ran<MemSource, MemSink, SureArea, SureArea, SureArea>;
 
 const DONE: Outcomes = Outcomes {
     card: Outcome::Done,
@@ -39,7 +40,8 @@ fn run(
         .ok()
         .expect(rt, "ample memory");
     let paper = MemSink::new(alloc, Vec::new(alloc));
-    Ok(run_core(alloc, source, input, output, paper, rule))
+    let files = no_files(rt, alloc);
+    Ok(run_core(alloc, source, input, output, paper, files, rule))
 }
 
 // What a run counts; its paper is this one.

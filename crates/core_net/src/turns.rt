@@ -16,11 +16,11 @@ use batch_procs::{Action, Machine, Work};
 use solo_base::{BufferNo, ProcNo, Side};
 use solo_devices::{Area, Sink, Source};
 
-impl<S: Source, K: Sink, A: Area, B: Area> Shared<S, K, A, B> {
+impl<S: Source, K: Sink, A: Area, B: Area, F: Area> Shared<S, K, A, B, F> {
     /// Whether a process may enter a buffer by a side.
     fn may_enter(&self, b: BufferNo, side: Side, p: ProcNo) -> bool
         ensures { (s : CoreState) →
-            SharedStands (telling S.left S.taken K.given A.pages B.pages) self.now s →
+            SharedStands (telling S.left S.taken K.given A.pages B.pages F.pages) self.now s →
             IsBuffer b → IsTrue result ↔ MayEnter (s.buffers b).sides side p }
     {
         if b == 1 {
@@ -37,7 +37,7 @@ impl<S: Source, K: Sink, A: Area, B: Area> Shared<S, K, A, B> {
     /// Whether a side of a buffer may move a page or stop.
     fn may_stop(&self, b: BufferNo, side: Side) -> bool
         ensures { (s : CoreState) →
-            SharedStands (telling S.left S.taken K.given A.pages B.pages) self.now s →
+            SharedStands (telling S.left S.taken K.given A.pages B.pages F.pages) self.now s →
             IsBuffer b → IsTrue result ↔ MayStop (s.buffers b).sides side }
     {
         if b == 1 {
@@ -54,7 +54,7 @@ impl<S: Source, K: Sink, A: Area, B: Area> Shared<S, K, A, B> {
     /// Whether the monitors let a process make its call now.
     pub fn may_call(&self, p: ProcNo, action: &Action) -> bool
         ensures { (s : CoreState) →
-            SharedStands (telling S.left S.taken K.given A.pages B.pages) self.now s →
+            SharedStands (telling S.left S.taken K.given A.pages B.pages F.pages) self.now s →
             HasPlace s p action.now → IsTrue result ↔ MayCall s p (call p action.now) }
     {
         match action {
@@ -65,7 +65,11 @@ impl<S: Source, K: Sink, A: Area, B: Area> Shared<S, K, A, B> {
             Action::TakePage => self.may_stop(upstream(p), Side::Receiver),
             Action::Release => self.desk.handed().is_none(),
             Action::Stop(b) => self.may_stop(*b, side_at(p, *b)),
-            Action::ReadCard | Action::Local | Action::Print(_) | Action::Ended(_) => true,
+            Action::ReadCard
+            | Action::Load(_)
+            | Action::Local
+            | Action::Print(_)
+            | Action::Ended(_) => true,
         }
     }
 }
@@ -78,15 +82,15 @@ fn upstream(p: ProcNo) -> BufferNo
 }
 
 /// Whether a process may make the call that its machine makes next.
-pub fn may_step<W: Work, S: Source, K: Sink, A: Area, B: Area>(
+pub fn may_step<W: Work, S: Source, K: Sink, A: Area, B: Area, F: Area>(
     machine: &Machine<W>,
     p: ProcNo,
-    shared: &Shared<S, K, A, B>,
+    shared: &Shared<S, K, A, B, F>,
 ) -> bool
     ensures { (h : List Entry) (action : ActionOf) (s : CoreState) →
         StandsFor W.process W.keeps machine.now h →
         next_action W.process h ≡ Some action →
-        SharedStands (telling S.left S.taken K.given A.pages B.pages) shared.now s →
+        SharedStands (telling S.left S.taken K.given A.pages B.pages F.pages) shared.now s →
         HasPlace s p action → IsTrue result ↔ MayCall s p (call p action) }
 {
     let action = machine.next();

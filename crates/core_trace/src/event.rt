@@ -32,14 +32,16 @@ pub struct Event {
 }
 
 /// Lets the next action of a process happen. None: the process may not go on.
-pub fn happen<S: Source, K: Sink, A: Area, B: Area>(
-    net: &mut Net<S, K, A, B>,
+pub fn happen<S: Source, K: Sink, A: Area, B: Area, F: Area>(
+    net: &mut Net<S, K, A, B, F>,
     process: ProcNo,
     board: &mut Board,
 ) -> Option<Event>
     requires one { IsProcess process }
-    requires before { StandsSomewhere the_keeps (telling S.left S.taken K.given A.pages B.pages) net.old }
-    ensures { StandsSomewhere the_keeps (telling S.left S.taken K.given A.pages B.pages) net.new }
+    requires before { StandsSomewhere the_keeps
+        (telling S.left S.taken K.given A.pages B.pages F.pages) net.old }
+    ensures { StandsSomewhere the_keeps
+        (telling S.left S.taken K.given A.pages B.pages F.pages) net.new }
 {
     let action = next_of(net, process);
     let closed_before = cause_of(net, process).is_some();
@@ -62,8 +64,8 @@ pub fn happen<S: Source, K: Sink, A: Area, B: Area>(
 
 /// What came of an action that neither waits nor gives a cause. A card that was read is put next, and what
 /// was taken is what the line buffer held.
-fn came_of<S: Source, K: Sink, A: Area, B: Area>(
-    net: &Net<S, K, A, B>,
+fn came_of<S: Source, K: Sink, A: Area, B: Area, F: Area>(
+    net: &Net<S, K, A, B, F>,
     process: ProcNo,
     action: &Action,
     board: &mut Board,
@@ -80,7 +82,10 @@ fn came_of<S: Source, K: Sink, A: Area, B: Area>(
 }
 
 /// What a process does next.
-fn next_of<S: Source, K: Sink, A: Area, B: Area>(net: &Net<S, K, A, B>, process: ProcNo) -> Action {
+fn next_of<S: Source, K: Sink, A: Area, B: Area, F: Area>(
+    net: &Net<S, K, A, B, F>,
+    process: ProcNo,
+) -> Action {
     match process {
         1 => net.card.next(),
         2 => net.input.next(),
@@ -91,8 +96,8 @@ fn next_of<S: Source, K: Sink, A: Area, B: Area>(net: &Net<S, K, A, B>, process:
 }
 
 /// Why a process closes down, where it does.
-fn cause_of<S: Source, K: Sink, A: Area, B: Area>(
-    net: &Net<S, K, A, B>,
+fn cause_of<S: Source, K: Sink, A: Area, B: Area, F: Area>(
+    net: &Net<S, K, A, B, F>,
     process: ProcNo,
 ) -> Option<Outcome> {
     match process {

@@ -2,6 +2,8 @@
 //! disk hold then.
 #![tactic(auto)]
 
+ghost use Rattle.std.specs.Prelude.{◌≡◌, true, IfSome};
+
 mod board;
 mod event;
 mod row;
@@ -11,8 +13,12 @@ mod words;
 
 use anyhow::{Context, Result};
 use core_net::{Counts, Net};
+use disk_files::FileArea;
+use disk_pages::AREA_PAGES;
+use disk_system::format;
 use solo_devices::{SureArea, SureSink};
 use solo_edge::ReaderSource;
+use std::alloc::Global;
 use std::env;
 use words::asked_by;
 
@@ -35,7 +41,8 @@ fn main(rt: HostRuntime) -> Result<()> {
         .context("no memory")?;
     let paper = SureSink::new(rt.alloc());
     let source = ReaderSource::new(rt.reader());
-    let mut net = Net::make(rt.alloc(), source, input, output, paper);
+    let files = no_files(rt.alloc()).context("no memory")?;
+    let mut net = Net::make(rt.alloc(), source, input, output, paper, files);
     println!(rt; "{}", row::HEAD)?;
     let counts = trace::trace(&rt, &mut net, asked)?;
     let Counts {
@@ -45,4 +52,13 @@ fn main(rt: HostRuntime) -> Result<()> {
     } = counts;
     println!(rt; "{events} events, {delays} delays, {grants} grants")?;
     Ok(())
+}
+
+/// The files of an area in memory, of which there are none. None: memory was refused.
+fn no_files(alloc: Global) -> Option<FileArea<SureArea>>
+    ensures { IfSome result (λ files. files.sound ≡ true) }
+{
+    let mut area = SureArea::new(alloc, AREA_PAGES).ok()?;
+    format(&mut area).ok()?;
+    FileArea::mount(alloc, area).ok()
 }

@@ -12,12 +12,12 @@ pub const HEAD: &str =
     "event process  what it does -> what came of it    1 cards         2 in   3 out  4 lines         disk";
 
 /// The line of an event, with what the buffers and the disk hold behind it.
-pub fn row_of<S: Source, K: Sink, A: Area, B: Area>(
+pub fn row_of<S: Source, K: Sink, A: Area, B: Area, F: Area>(
     alloc: Global,
     number: u64,
     event: &Event,
     board: &Board,
-    shared: &Shared<S, K, A, B>,
+    shared: &Shared<S, K, A, B, F>,
 ) -> Result<String, AllocError> {
     let process = event.process;
     let name = name_of(process);

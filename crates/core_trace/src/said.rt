@@ -1,6 +1,6 @@
 use crate::event::Told;
 use batch_procs::Action;
-use solo_base::{Cause, Feed, Item, Line, Outcome, ProcNo};
+use solo_base::{Cause, Feed, Ident, Item, Line, Outcome, ProcNo};
 use std::alloc::{AllocError, Global};
 
 /// How many characters of a card or a line are shown.
@@ -41,6 +41,15 @@ fn line_text(alloc: Global, line: &Line) -> Result<String, AllocError> {
     Ok(text)
 }
 
+/// The characters of a name.
+fn name_text(alloc: Global, name: &Ident) -> Result<String, AllocError> {
+    let mut text = String::new(alloc);
+    for byte in name.name() {
+        text.push(char::from(*byte))?;
+    }
+    Ok(text)
+}
+
 /// What a process does.
 pub fn action_of(alloc: Global, action: &Action) -> Result<String, AllocError> {
     match action {
@@ -53,6 +62,7 @@ pub fn action_of(alloc: Global, action: &Action) -> Result<String, AllocError> {
         Action::PutPage(page) if page.last() => String::from_str(alloc, "puts the last page"),
         Action::PutPage(_) => String::from_str(alloc, "puts a page"),
         Action::TakePage => String::from_str(alloc, "takes a page"),
+        Action::Load(file) => format!(in alloc; "loads {}", name_text(alloc, file)?),
         Action::Release => String::from_str(alloc, "releases the disk"),
         Action::Local => String::from_str(alloc, "works"),
         Action::Print(line) => format!(in alloc; "prints {}", line_text(alloc, line)?),

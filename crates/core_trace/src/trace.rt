@@ -20,12 +20,12 @@ struct Run {
 
 /// Runs the network to its end by the rule that was asked for, and prints a line for each event that is
 /// shown.
-pub fn trace<S: Source, K: Sink, A: Area, B: Area>(
+pub fn trace<S: Source, K: Sink, A: Area, B: Area, F: Area>(
     rt: &(impl Print + AllocGlobal),
-    net: &mut Net<S, K, A, B>,
+    net: &mut Net<S, K, A, B, F>,
     asked: Asked,
 ) -> Result<Counts>
-    requires { StandsSomewhere the_keeps (telling S.left S.taken K.given A.pages B.pages) net.old }
+    requires { StandsSomewhere the_keeps (telling S.left S.taken K.given A.pages B.pages F.pages) net.old }
 {
     let mut run = Run {
         rule: asked.rule,
@@ -46,15 +46,15 @@ pub fn trace<S: Source, K: Sink, A: Area, B: Area>(
 
 /// Lets the next event happen, which has this number, and prints its line where it is shown. Answers whether
 /// there was one.
-fn go_on<S: Source, K: Sink, A: Area, B: Area>(
+fn go_on<S: Source, K: Sink, A: Area, B: Area, F: Area>(
     rt: &(impl Print + AllocGlobal),
-    net: &mut Net<S, K, A, B>,
+    net: &mut Net<S, K, A, B, F>,
     asked: Asked,
     run: &mut Run,
     number: u64,
 ) -> Result<bool>
-    requires { StandsSomewhere the_keeps (telling S.left S.taken K.given A.pages B.pages) net.old }
-    ensures { StandsSomewhere the_keeps (telling S.left S.taken K.given A.pages B.pages) net.new }
+    requires { StandsSomewhere the_keeps (telling S.left S.taken K.given A.pages B.pages F.pages) net.old }
+    ensures { StandsSomewhere the_keeps (telling S.left S.taken K.given A.pages B.pages F.pages) net.new }
 {
     let Some(process) = net.next_by(&mut run.rule) else {
         return Ok(false);

@@ -6,6 +6,7 @@ use Rattle.solo_base.specs.declared.outcome.Outcome.{Outcome}
 use Rattle.solo_base.specs.declared.outcome.Outcome.TheVariants as outcome
 use Rattle.solo_base.specs.declared.outcome.Cause.{Cause}
 use Rattle.solo_base.specs.declared.outcome.Cause.TheVariants as cause
+use Rattle.batch_job.specs.Report.{Loads}
 use Rattle.solo_devices.specs.Count.{Rose, Stayed}
 use Rattle.page_codec.specs.Items.{AreItems}
 use Rattle.batch_procs.specs.declared.actions.Action.{Action}
@@ -39,14 +40,15 @@ done-so s outcomes stops ends are p one =
     let done : outcome_at all_done p ≡ outcome.Done = each-process (λ p. outcome_at all_done p ≡ outcome.Done) p one refl refl refl refl refl in
     subst (λ how. HasEndedSo s how p) (ap (λ all. outcome_at all p) are ∙ done) (ends.ended p one)
 
-module _ (spools : Spools) (deck : Option (List Item)) (paper : Option (List ℕ)) (items : List Item) (are : AreTold spools) (deck_is : deck ≡ Some items)
+module _ (spools : Spools) (deck : Option (List Item)) (paper : Option (List ℕ)) (files : Option Loads) (items : List Item) (are : AreTold spools)
+    (deck_is : deck ≡ Some items)
     (valid : AreItems items)
-    (s : CoreState) (c : Centre (opened spools deck paper) s)
-    {S K A B : Type 0} (counts : Counts S K A B) (before now : Peripherals S K A B) (outcomes : Outcomes) (stops : List (Option Side))
+    (s : CoreState) (c : Centre (opened spools deck paper files) s)
+    {S K A B F : Type 0} (counts : Counts S K A B F) (before now : Peripherals S K A B F) (outcomes : Outcomes) (stops : List (Option Side))
     (ends : EndsSo s outcomes stops) (counted : AreCounted counts before now outcomes) (none : NoneCounted counts before now)
     (lacked : NoneLacked outcomes) where
   abbrev opening : CoreState
-  opening = opened spools deck paper
+  opening = opened spools deck paper files
 
   whole : (p : ℕ) (x : Cause) → IsProcess p → outcome_at outcomes p ≡ outcome.Fault x → IsDamaged x → ⊥
   whole p x one e =
@@ -75,7 +77,8 @@ module _ (spools : Spools) (deck : Option (List Item)) (paper : Option (List ℕ
   job-disk e =
       elim (counted.job e) as (λ _. ⊥) [
         | inl rose ↦ stays-not _ _ rose none.input
-        | inr rose ↦ stays-not _ _ rose none.output
+        | inr (inl rose) ↦ stays-not _ _ rose none.output
+        | inr (inr rose) ↦ stays-not _ _ rose none.files
       ]
 
   job-none : NoFault 3

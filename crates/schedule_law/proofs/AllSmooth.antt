@@ -45,6 +45,7 @@ entry-smooth (Does a reply.Done) h e = tt
 entry-smooth (Does a reply.Stopped) h e = tt
 entry-smooth (Does a (reply.Feed f)) h e = tt
 entry-smooth (Does a (reply.Page page last)) h e = tt
+entry-smooth (Does a (reply.Loaded load)) h e = tt
 entry-smooth (Delays a) h e = tt
 
 -- ---- a run

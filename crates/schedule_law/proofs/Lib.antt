@@ -1,3 +1,4 @@
+mod Knowing
 mod OneEvent
 pub mod OneRun
 mod Choosing

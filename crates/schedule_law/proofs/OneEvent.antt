@@ -5,6 +5,7 @@ use Rattle.solo_base.specs.declared.item.Item.TheVariants.{Line, Spoiled}
 use Rattle.solo_base.specs.declared.outcome.Side.TheVariants.{Sender, Receiver}
 use Rattle.solo_devices.specs.declared.card_read.CardRead.{CardRead}
 use Rattle.solo_devices.specs.declared.card_read.CardRead.TheVariants as read
+use Rattle.batch_job.specs.Report.{Loads}
 use Rattle.batch_procs.specs.declared.actions.Action.{Action}
 use Rattle.batch_procs.specs.declared.actions.Action.TheVariants as act
 use Rattle.batch_procs.specs.declared.actions.Reply.{Reply}
@@ -20,6 +21,7 @@ use Rattle.network_law.specs.Network.{IsEnabled, Fits}
 use Rattle.core_law.specs.Core.{DeckGives, Devices, Allows, upstream, call, went, core, CoreState, CoreEvent}
 use Rattle.core_law.specs.Ends.{IsSmooth}
 use Rattle.core_net.specs.Calls.{entry_of, ReplyFits}
+use Rattle.schedule_law.proofs.Knowing.{FindsSo}
 
 -- ---- what a call is answered, by how it went
 abbrev answered : Went Parcel → Option Reply
@@ -32,6 +34,7 @@ abbrev IsNoTake : Action → Type 0
 IsNoTake act.ReadCard = ⊥
 IsNoTake act.TakeFeed = ⊥
 IsNoTake act.TakePage = ⊥
+IsNoTake (act.Load file) = ⊥
 IsNoTake other = Unit {0}
 
 as-it_went : (a : Action) (answer : Option Reply) → IsNoTake a → ReplyFits a answer → IsSmooth (entry_of a answer)
@@ -39,6 +42,7 @@ as-it_went : (a : Action) (answer : Option Reply) → IsNoTake a → ReplyFits a
 as-it_went act.ReadCard answer free suits smooth = absurd free
 as-it_went act.TakeFeed answer free suits smooth = absurd free
 as-it_went act.TakePage answer free suits smooth = absurd free
+as-it_went (act.Load file) answer free suits smooth = absurd free
 as-it_went (act.PutFeed f) None free suits smooth = refl
 as-it_went (act.PutFeed f) (Some reply.Done) free suits smooth = refl
 as-it_went (act.PutFeed f) (Some reply.Stopped) free suits smooth = refl
@@ -125,8 +129,16 @@ read-is devices items gained (Some (reply.Card answer)) told suits smooth allows
     ap (λ answer. Some (reply.Card answer)) (card-is devices.deck items answer told smooth allows.0)
 read-is devices items gained answer told suits smooth allows = absurd suits
 
+-- ---- a load: what the file is loaded as
+load-is : (found : Loads) (file : List ℕ) (answer : Option Reply) → ReplyFits (act.Load file) answer → IsSmooth (entry_of (act.Load file) answer)
+    → FindsSo found (entry_of (act.Load file) answer) → answer ≡ Some (reply.Loaded (found file))
+load-is found file (Some (reply.Loaded load)) suits smooth finds = ap (λ load. Some (reply.Loaded load)) finds
+load-is found file (Some reply.Failed) suits smooth finds = absurd smooth
+load-is found file (Some reply.NoMemory) suits smooth finds = absurd smooth
+load-is found file answer suits smooth finds = absurd suits
+
 -- ---- the one answer to each action
-module _ (s : CoreState) (p : ℕ) (items : List Item) (deck_is : s.devices.deck ≡ Some items) (inside : List Parcel)
+module _ (s : CoreState) (p : ℕ) (found_as : Loads) (items : List Item) (deck_is : s.devices.deck ≡ Some items) (inside : List Parcel)
     (inside_is : (s.buffers (upstream p)).inside ≡ Some inside) where
   abbrev expected : Action → Option Reply
   expected act.ReadCard = Some (reply.Card (card_for items))
@@ -136,37 +148,41 @@ module _ (s : CoreState) (p : ℕ) (items : List Item) (deck_is : s.devices.deck
   expected act.AwaitItem = answered (awaited (found (s.buffers (upstream p)) Receiver))
   expected act.Request = answered (asked s.desk.claims.handed s.desk.claims.holder)
   expected act.TakePage = page_for inside
+  expected (act.Load file) = Some (reply.Loaded (found_as file))
   expected other = Some reply.Done
 
   is-expected : (a : Action) (answer : Option Reply) (gained : List ℕ) → ReplyFits a answer → IsSmooth (entry_of a answer)
-      → Fits is_last s (call p a) (went (entry_of a answer)) → Allows s.devices (entry_of a answer) gained → answer ≡ expected a
-  is-expected act.ReadCard answer gained suits smooth fits allows = read-is s.devices items gained answer deck_is suits smooth allows
-  is-expected (act.PutFeed f) answer gained suits smooth fits allows =
+      → Fits is_last s (call p a) (went (entry_of a answer)) → Allows s.devices (entry_of a answer) gained → FindsSo found_as (entry_of a answer)
+      → answer ≡ expected a
+  is-expected act.ReadCard answer gained suits smooth fits allows finds = read-is s.devices items gained answer deck_is suits smooth allows
+  is-expected (act.PutFeed f) answer gained suits smooth fits allows finds =
       as-it_went (act.PutFeed f) answer tt suits smooth ∙ pass-answer (s.buffers p) (found (s.buffers p) Sender) _ fits
-  is-expected act.TakeFeed answer gained suits smooth fits allows =
+  is-expected act.TakeFeed answer gained suits smooth fits allows finds =
       feed-is (s.buffers (upstream p)) inside (found (s.buffers (upstream p)) Receiver) answer inside_is suits fits
-  is-expected act.AwaitRoom answer gained suits smooth fits allows = as-it_went act.AwaitRoom answer tt suits smooth ∙ ap answered fits
-  is-expected act.AwaitItem answer gained suits smooth fits allows = as-it_went act.AwaitItem answer tt suits smooth ∙ ap answered fits
-  is-expected act.Request answer gained suits smooth fits allows = as-it_went act.Request answer tt suits smooth ∙ ap answered fits
-  is-expected (act.PutPage page) answer gained suits smooth fits allows =
+  is-expected act.AwaitRoom answer gained suits smooth fits allows finds = as-it_went act.AwaitRoom answer tt suits smooth ∙ ap answered fits
+  is-expected act.AwaitItem answer gained suits smooth fits allows finds = as-it_went act.AwaitItem answer tt suits smooth ∙ ap answered fits
+  is-expected act.Request answer gained suits smooth fits allows finds = as-it_went act.Request answer tt suits smooth ∙ ap answered fits
+  is-expected (act.PutPage page) answer gained suits smooth fits allows finds =
       as-it_went (act.PutPage page) answer tt suits smooth ∙ move-answer (s.buffers p) _ fits
-  is-expected act.TakePage answer gained suits smooth fits allows = page-is (s.buffers (upstream p)) inside answer inside_is suits smooth fits
-  is-expected act.Release answer gained suits smooth fits allows = as-it_went act.Release answer tt suits smooth ∙ ap answered fits
-  is-expected act.Local answer gained suits smooth fits allows = as-it_went act.Local answer tt suits smooth ∙ ap answered fits
-  is-expected (act.Print line) answer gained suits smooth fits allows = as-it_went (act.Print line) answer tt suits smooth ∙ ap answered fits
-  is-expected (act.Stop b) answer gained suits smooth fits allows = as-it_went (act.Stop b) answer tt suits smooth ∙ ap answered fits
-  is-expected (act.Ended how) answer gained suits smooth fits allows = as-it_went (act.Ended how) answer tt suits smooth ∙ ap answered fits
+  is-expected act.TakePage answer gained suits smooth fits allows finds = page-is (s.buffers (upstream p)) inside answer inside_is suits smooth fits
+  is-expected (act.Load file) answer gained suits smooth fits allows finds = load-is found_as file answer suits smooth finds
+  is-expected act.Release answer gained suits smooth fits allows finds = as-it_went act.Release answer tt suits smooth ∙ ap answered fits
+  is-expected act.Local answer gained suits smooth fits allows finds = as-it_went act.Local answer tt suits smooth ∙ ap answered fits
+  is-expected (act.Print line) answer gained suits smooth fits allows finds = as-it_went (act.Print line) answer tt suits smooth ∙ ap answered fits
+  is-expected (act.Stop b) answer gained suits smooth fits allows finds = as-it_went (act.Stop b) answer tt suits smooth ∙ ap answered fits
+  is-expected (act.Ended how) answer gained suits smooth fits allows finds = as-it_went (act.Ended how) answer tt suits smooth ∙ ap answered fits
 
   entry-is : (entry : Entry) (gained : List ℕ) → IsFitting (process p) entry → IsSmooth entry → Fits is_last s (call p (action_of entry)) (went entry)
-      → Allows s.devices entry gained → entry ≡ entry_of (action_of entry) (expected (action_of entry))
-  entry-is (Does a r) gained suits smooth fits allows = ap (entry_of a) (is-expected a (Some r) gained suits smooth fits allows)
-  entry-is (LacksMemory a r) gained suits smooth fits allows = absurd smooth
-  entry-is (Delays a) gained suits smooth fits allows = ap (entry_of a) (is-expected a None gained suits smooth fits allows)
+      → Allows s.devices entry gained → FindsSo found_as entry → entry ≡ entry_of (action_of entry) (expected (action_of entry))
+  entry-is (Does a r) gained suits smooth fits allows finds = ap (entry_of a) (is-expected a (Some r) gained suits smooth fits allows finds)
+  entry-is (LacksMemory a r) gained suits smooth fits allows finds = absurd smooth
+  entry-is (Delays a) gained suits smooth fits allows finds = ap (entry_of a) (is-expected a None gained suits smooth fits allows finds)
 
 -- ---- what the devices gain by it
 same-gained : (p : Process) (devices : Devices) (entry : Entry) (some others : List ℕ) → IsFitting p entry → IsSmooth entry → Allows devices entry some
     → Allows devices entry others → others ≡ some
 same-gained p devices (Does act.ReadCard (reply.Card answer)) some others suits smooth first second = second.1 ∙ sym first.1
+same-gained p devices (Does (act.Load file) (reply.Loaded load)) some others suits smooth first second = second.1 ∙ sym first.1
 same-gained p devices (Does act.ReadCard r) some others suits smooth first second = absurd suits
 same-gained p devices (Does (act.Print line) reply.Done) some others suits smooth first second = second ∙ sym first
 same-gained p devices (Does (act.Print line) reply.Failed) some others suits smooth first second = absurd smooth
@@ -186,23 +202,25 @@ same-parts : (p q : ℕ) (x y : Entry) (g h : List ℕ) → p ≡ q → x ≡ y 
 same-parts p q x y g h a b c = cc
 
 -- of one process
-same-entry : (s : CoreState) (p : ℕ) (items : List Item) (inside : List Parcel) → s.devices.deck ≡ Some items
+same-entry : (s : CoreState) (p : ℕ) (found_as : Loads) (items : List Item) (inside : List Parcel) → s.devices.deck ≡ Some items
     → (s.buffers (upstream p)).inside ≡ Some inside
     → (x y : Entry) (g h : List ℕ) → IsEnabled (core process) s (event_of p x g) → IsEnabled (core process) s (event_of p y h) → IsSmooth x → IsSmooth y
-    → y ≡ x
-same-entry s p items inside deck_is inside_is x y g h first second smooth too =
+    → FindsSo found_as x → FindsSo found_as y → y ≡ x
+same-entry s p found_as items inside deck_is inside_is x y g h first second smooth too finds finds_too =
     let same = same-action (action_of y) (action_of x) (next_action (process p) (s.histories p)) second.next first.next in
-    entry-is s p items deck_is inside inside_is y h second.suits too second.fits second.allowed
-    ∙ ap (λ a. entry_of a (expected s p items deck_is inside inside_is a)) same
-    ∙ sym (entry-is s p items deck_is inside inside_is x g first.suits smooth first.fits first.allowed)
+    entry-is s p found_as items deck_is inside inside_is y h second.suits too second.fits second.allowed finds_too
+    ∙ ap (λ a. entry_of a (expected s p found_as items deck_is inside inside_is a)) same
+    ∙ sym (entry-is s p found_as items deck_is inside inside_is x g first.suits smooth first.fits first.allowed finds)
 
-pub one-event : (s : CoreState) (items : List Item) (event other : CoreEvent) → s.devices.deck ≡ Some items
+pub one-event : (s : CoreState) (found_as : Loads) (items : List Item) (event other : CoreEvent) → s.devices.deck ≡ Some items
     → (inside : List Parcel) → (s.buffers (upstream event.process)).inside ≡ Some inside → IsEnabled (core process) s event
-    → IsEnabled (core process) s other → IsSmooth event.entry → IsSmooth other.entry → other.process ≡ event.process → other ≡ event
-one-event s items event other deck_is inside inside_is first second smooth too same =
+    → IsEnabled (core process) s other → IsSmooth event.entry → IsSmooth other.entry → FindsSo found_as event.entry → FindsSo found_as other.entry
+    → other.process ≡ event.process → other ≡ event
+one-event s found_as items event other deck_is inside inside_is first second smooth too finds finds_too same =
     let p = event.process in
     let here = subst (λ q. IsEnabled (core process) s (event_of q other.entry other.gained)) same second in
-    let entries = same-entry s p items inside deck_is inside_is event.entry other.entry event.gained other.gained first here smooth too in
+    let entries = same-entry s p found_as items inside deck_is inside_is event.entry other.entry event.gained other.gained first here smooth too finds finds_too
+    in
     let gains = same-gained (process p) s.devices event.entry event.gained other.gained first.suits smooth first.allowed
     (subst (λ entry. Allows s.devices entry other.gained) entries second.allowed) in
     same-parts other.process event.process other.entry event.entry other.gained event.gained same entries gains

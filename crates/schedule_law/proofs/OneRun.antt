@@ -3,6 +3,7 @@ use Rattle.std.proofs.Common.{◌≡◌, ℕ, suc, Bool, true, List, [], ◌∷�
 use Rattle.std.proofs.lemmas.Bool.Decides.{same_from_decides}
 use Rattle.solo_base.specs.declared.item.Item.{Item}
 use Rattle.solo_base.specs.declared.outcome.Outcome.{Outcome}
+use Rattle.batch_job.specs.Report.{Loads}
 use Rattle.batch_procs.specs.declared.actions.Action.TheVariants as act
 use Rattle.batch_procs.specs.History.{Entry, action_of, newest}
 use Rattle.batch_procs.specs.Causes.{caused}
@@ -19,7 +20,9 @@ use Rattle.core_net.specs.declared.rules.Rule.{Rule}
 use Rattle.core_net.specs.Ended.{AllEnded}
 use Rattle.core_net.specs.Rules.{numbers_from, pick, behind}
 use Rattle.core_net.specs.Runs.{AreGoing, IsPicked}
+use Rattle.schedule_law.specs.FilesKnown.{AreFilesKnown}
 use Rattle.schedule_law.specs.Undisturbed.{IsUndisturbed}
+use Rattle.schedule_law.proofs.Knowing.{loads_in, finds-so}
 use Rattle.schedule_law.proofs.OneEvent as single
 
 -- ---- a rule picks one process
@@ -60,9 +63,11 @@ pub later : (r : Rule) (s : CoreState) (event : CoreEvent) (events : List CoreEv
     → IsUndisturbed (behind r (Some event.process)) (happens (core process) s event) events
 later r s event events is = record { enabled = is.enabled.1; by_rule = is.by_rule.1; smooth = is.smooth.1; ends = is.ends }
 
-module _ (spools : Spools) (deck : Option (List Item)) (paper : Option (List ℕ)) (items : List Item) (are : AreTold spools) (deck_is : deck ≡ Some items) where
+module _ (spools : Spools) (deck : Option (List Item)) (paper : Option (List ℕ)) (files : Option Loads) (items : List Item) (are : AreTold spools)
+    (deck_is : deck ≡ Some items)
+    (known : AreFilesKnown files items) where
   abbrev opening : CoreState
-  opening = opened spools deck paper
+  opening = opened spools deck paper files
 
   told-before : (p : ℕ) → IsProcess p → told_of spools (upstream p) ≡ true
   told-before p one = each-process (λ p. told_of spools (upstream p) ≡ true) p one refl refl are.input are.output refl
@@ -73,7 +78,9 @@ module _ (spools : Spools) (deck : Option (List Item)) (paper : Option (List ℕ
       let read = c.devices.read items deck_is in
       let b = upstream event.process in
       let (inside, inside_is) = c.stands.told b (told-is spools b (told-before event.process first.one)) in
-      single.one-event s read.left event other read.left_is inside inside_is first second smooth too same
+      single.one-event s (loads_in files) read.left event other read.left_is inside inside_is first second smooth too
+      (finds-so spools deck paper files items are deck_is s c event first known)
+      (finds-so spools deck paper files items are deck_is s c other second known) same
 
   pub one-run : (r : Rule) (s : CoreState) (events others : List CoreEvent) → Centre opening s → IsUndisturbed r s events → IsUndisturbed r s others
       → others ≡ events
@@ -90,14 +97,18 @@ module _ (spools : Spools) (deck : Option (List Item)) (paper : Option (List ℕ
       ap (λ e. e ∷ others) same ∙ ap (λ all. event ∷ all) rest
 
 -- from a reached state
-pub events-are_one : (spools : Spools) (deck : Option (List Item)) (paper : Option (List ℕ)) (s : CoreState) (items : List Item) (event other : CoreEvent)
-    → IsReached spools deck paper s → AreTold spools → deck ≡ Some items → IsEnabled (core process) s event → IsEnabled (core process) s other
+pub events-are_one : (spools : Spools) (deck : Option (List Item)) (paper : Option (List ℕ)) (files : Option Loads) (s : CoreState) (items : List Item)
+    (event other : CoreEvent)
+    → IsReached spools deck paper files s → AreTold spools → deck ≡ Some items → AreFilesKnown files items → IsEnabled (core process) s event → IsEnabled
+    (core process) s other
     → IsSmooth event.entry → IsSmooth other.entry → other.process ≡ event.process → other ≡ event
-events-are_one spools deck paper s items event other r are deck_is =
-    one-event spools deck paper items are deck_is s event other (reached-centre spools deck paper s r)
+events-are_one spools deck paper files s items event other r are deck_is known =
+    one-event spools deck paper files items are deck_is known s event other (reached-centre spools deck paper files s r)
 
-pub runs-are_one : (spools : Spools) (deck : Option (List Item)) (paper : Option (List ℕ)) (s : CoreState) (items : List Item) (rule : Rule)
-    (events others : List CoreEvent) → IsReached spools deck paper s → AreTold spools → deck ≡ Some items → IsUndisturbed rule s events
+pub runs-are_one : (spools : Spools) (deck : Option (List Item)) (paper : Option (List ℕ)) (files : Option Loads) (s : CoreState) (items : List Item)
+    (rule : Rule)
+    (events others : List CoreEvent) → IsReached spools deck paper files s → AreTold spools → deck ≡ Some items → AreFilesKnown files items
+    → IsUndisturbed rule s events
     → IsUndisturbed rule s others → others ≡ events
-runs-are_one spools deck paper s items rule events others r are deck_is =
-    one-run spools deck paper items are deck_is rule s events others (reached-centre spools deck paper s r)
+runs-are_one spools deck paper files s items rule events others r are deck_is known =
+    one-run spools deck paper files items are deck_is known rule s events others (reached-centre spools deck paper files s r)

@@ -3,14 +3,15 @@ use Rattle.std.proofs.Common.{◌≡◌, ℕ, List, [], Option, Some, refl, sym,
 use Rattle.solo_base.specs.declared.item.Item.{Item}
 use Rattle.solo_base.specs.declared.outcome.Side.{Side}
 use Rattle.solo_base.specs.declared.outcome.Outcome.TheVariants as outcome
+use Rattle.batch_job.specs.Report.{Loads}
 use Rattle.page_codec.specs.Items.{AreItems}
 use Rattle.batch_procs.specs.Table.{process}
 use Rattle.network_law.specs.Network.{run}
 use Rattle.core_law.specs.Core.{core, CoreState, Devices}
 use Rattle.core_law.specs.Ends.{AllDone}
 use Rattle.core_law.specs.Holds.{AreTold}
-use Rattle.core_law.specs.Opening.{Spools, AreInBounds, opened, IsReached}
-use Rattle.core_law.proofs.Reached.{Centre, centre-run, reached-centre}
+use Rattle.core_law.specs.Opening.{Spools, AreInBounds, AreGoodFiles, opened, IsReached}
+use Rattle.core_law.proofs.Reached.{Centre, centre-run}
 use Rattle.core_net.specs.declared.counts.Counts.{Counts}
 use Rattle.core_net.specs.declared.finish.Outcomes.{Outcomes}
 use Rattle.core_net.specs.declared.net.Net.{Net}
@@ -24,27 +25,26 @@ use Rattle.core_net.specs.Runs.{RunsBy}
 use Rattle.core_net.specs.Shared.{Tells}
 use Rattle.core_net.specs.WholeRuns.{RunsToEnd}
 use Rattle.schedule_law.specs.NoneCounted.{NoneCounted, NoneLacked}
+use Rattle.schedule_law.specs.FilesKnown.{AreFilesKnown}
 use Rattle.schedule_law.specs.Undisturbed.{IsUndisturbed, AreItsCounts}
 use Rattle.schedule_law.proofs.AllDone.{done-so, all-done}
 use Rattle.schedule_law.proofs.AllSmooth.{done-smooth}
 use Rattle.schedule_law.proofs.OneRun.{one-run}
 
 -- the opening is reached
-pub opening-reached : (spools : Spools) (deck : Option (List Item)) (paper : Option (List ℕ)) → AreInBounds spools
-    → IsReached spools deck paper (opened spools deck paper)
-opening-reached spools deck paper bounds = record { bounds = bounds; reached = record { events = []; enabled = tt; leads = refl } }
+pub opening-reached : (spools : Spools) (deck : Option (List Item)) (paper : Option (List ℕ)) (files : Option Loads) → AreInBounds spools → AreGoodFiles files
+    → IsReached spools deck paper files (opened spools deck paper files)
+opening-reached spools deck paper files bounds good = record { bounds = bounds; good = good; reached = record { events = []; enabled = tt; leads = refl } }
 
-module _ {spools : Spools} {deck : Option (List Item)} {paper : Option (List ℕ)} {s : CoreState} {items : List Item} {rule : Rule} {counts : Counts}
-    {outcomes : Outcomes} {stops : List (Option Side)} {devices : Devices} (r : IsReached spools deck paper s) (are : AreTold spools)
-    (deck_is : deck ≡ Some items) (ran : RunsToEnd rule s counts outcomes stops devices) where
+module _ {spools : Spools} {deck : Option (List Item)} {paper : Option (List ℕ)} {files : Option Loads} {s : CoreState} {items : List Item} {rule : Rule}
+    {counts : Counts}
+    {outcomes : Outcomes} {stops : List (Option Side)} {devices : Devices} (first : Centre (opened spools deck paper files) s) (are : AreTold spools)
+    (deck_is : deck ≡ Some items) (known : AreFilesKnown files items) (ran : RunsToEnd rule s counts outcomes stops devices) where
   abbrev opening : CoreState
-  opening = opened spools deck paper
+  opening = opened spools deck paper files
 
   abbrev end : CoreState
   end = run (core process) s ran.events
-
-  first : Centre opening s
-  first = reached-centre spools deck paper s r
 
   last : Centre opening end
   last = centre-run opening s ran.events ran.enabled first
@@ -58,7 +58,7 @@ module _ {spools : Spools} {deck : Option (List Item)} {paper : Option (List ℕ
         the_run = record {
           events = ran.events;
           is = is;
-          only = λ others too. one-run spools deck paper items are deck_is rule s ran.events others first is too;
+          only = λ others too. one-run spools deck paper files items are deck_is known rule s ran.events others first is too;
         };
         counts_are = ran.counts_are;
       }
@@ -66,13 +66,13 @@ module _ {spools : Spools} {deck : Option (List Item)} {paper : Option (List ℕ
   pub where-done : outcomes ≡ all_done → AreItsCounts rule s counts
   where-done all = of-done (done-so end outcomes stops ran.ends all)
 
-  pub where-none_counted : AreItems items → {S K A B : Type 0} {counting : device.Counts S K A B} {before now : Peripherals S K A B}
+  pub where-none_counted : AreItems items → {S K A B F : Type 0} {counting : device.Counts S K A B F} {before now : Peripherals S K A B F}
       → AreCounted counting before now outcomes → NoneCounted counting before now → NoneLacked outcomes → AreItsCounts rule s counts
   where-none_counted valid {counting = counting} {before = before} {now = now} counted none lacked =
-      of-done (all-done spools deck paper items are deck_is valid end last counting before now outcomes stops ran.ends counted none lacked)
+      of-done (all-done spools deck paper files items are deck_is valid end last counting before now outcomes stops ran.ends counted none lacked)
 
 -- a run of a network whose end is told, without the network
-pub to-end : {S K A B : Type 0} {keeps : Keeps} {tells : Tells S K A B} {rule : Rule} {net : Net S K A B} {s : CoreState} {counts : Counts}
+pub to-end : {S K A B F : Type 0} {keeps : Keeps} {tells : Tells S K A B F} {rule : Rule} {net : Net S K A B F} {s : CoreState} {counts : Counts}
     {outcomes : Outcomes} {stops : List (Option Side)} → (by : RunsBy keeps tells rule net s counts)
     → ((t : CoreState) → NetStands keeps tells net t → EndsSo t outcomes stops)
     → RunsToEnd rule s counts outcomes stops (run (core process) s by.events).devices

@@ -1,2 +1,3 @@
 pub mod Undisturbed
 pub mod NoneCounted
+pub mod FilesKnown

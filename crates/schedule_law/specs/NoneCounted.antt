@@ -11,12 +11,13 @@ use Rattle.core_net.specs.Ended.{outcome_at}
 use Rattle.core_net.specs.Faults.{Peripherals}
 
 -- No count rose, and no more bytes were taken than the limit allows.
-pub record NoneCounted {S K A B : Type 0} (counts : Counts S K A B) (before now : Peripherals S K A B)
+pub record NoneCounted {S K A B F : Type 0} (counts : Counts S K A B F) (before now : Peripherals S K A B F)
     : Type 0 where
   pub read : Stayed (counts.read_faults before.source) (counts.read_faults now.source)
   pub print : Stayed (counts.print_faults before.sink) (counts.print_faults now.sink)
   pub input : Stayed (counts.input_faults before.input) (counts.input_faults now.input)
   pub output : Stayed (counts.output_faults before.output) (counts.output_faults now.output)
+  pub files : Stayed (counts.file_faults before.files) (counts.file_faults now.files)
   pub within : counts.taken now.source ≤ byte_limit
 
 -- Memory was refused to none of the five.

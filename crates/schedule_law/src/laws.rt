@@ -2,6 +2,7 @@
 
 ghost use Rattle.std.specs.Prelude.{◌≡◌, ℕ, List, Option, Some};
 ghost use Rattle.solo_base.specs.declared.item.Item.{Item};
+ghost use Rattle.batch_job.specs.Report.{Loads};
 ghost use Rattle.solo_base.specs.declared.outcome.Side.{Side};
 ghost use Rattle.page_codec.specs.Items.{AreItems};
 ghost use Rattle.batch_procs.specs.Table.{process};
@@ -23,30 +24,36 @@ ghost use Rattle.core_net.specs.Net.{NetStands, the_keeps};
 ghost use Rattle.core_net.specs.Runs.{RunsBy};
 ghost use Rattle.core_net.specs.Shared.{telling};
 ghost use Rattle.core_net.specs.WholeRuns.{RunsToEnd};
+ghost use Rattle.schedule_law.specs.FilesKnown.{AreFilesKnown};
 ghost use Rattle.schedule_law.specs.NoneCounted.{NoneCounted, NoneLacked};
 ghost use Rattle.schedule_law.specs.Undisturbed.{IsUndisturbed, TheRun, AreItsCounts};
 
 use solo_devices::{Area, Sink, Source};
 
 /// In each state that is reached over told devices a process has at most one event in which no device fails
-/// and no memory is refused. Nothing is done here: the contract is the law.
+/// and no memory is refused. The files may be untold where the deck names none. Nothing is done here: the
+/// contract is the law.
 pub fn one_event()
-    ensures { (spools : Spools) (deck : Option (List Item)) (paper : Option (List ℕ)) (s : CoreState)
-        (items : List Item) (event other : CoreEvent) → IsReached spools deck paper s → AreTold spools
-        → deck ≡ Some items → IsEnabled (core process) s event → IsEnabled (core process) s other
+    ensures { (spools : Spools) (deck : Option (List Item)) (paper : Option (List ℕ)) (files : Option Loads)
+        (s : CoreState) (items : List Item) (event other : CoreEvent)
+        → IsReached spools deck paper files s → AreTold spools
+        → deck ≡ Some items → AreFilesKnown files items
+        → IsEnabled (core process) s event → IsEnabled (core process) s other
         → IsSmooth event.entry → IsSmooth other.entry → other.process ≡ event.process → other ≡ event }
 {}
 
 /// Over told devices there is, under each rule, one run to the end in which no device fails and no memory is
 /// refused: some run, and no other. So its counts are one. Nothing is done here: the contract is the law.
 pub fn one_run()
-    ensures some { (spools : Spools) (deck : Option (List Item)) (paper : Option (List ℕ)) (s : CoreState)
-        (items : List Item) (rule : Rule) → IsReached spools deck paper s → AreTold spools
-        → deck ≡ Some items → AreItems items → TheRun rule s }
-    ensures only { (spools : Spools) (deck : Option (List Item)) (paper : Option (List ℕ)) (s : CoreState)
-        (items : List Item) (rule : Rule) (events others : List CoreEvent) → IsReached spools deck paper s
-        → AreTold spools → deck ≡ Some items → IsUndisturbed rule s events → IsUndisturbed rule s others
-        → others ≡ events }
+    ensures some { (spools : Spools) (deck : Option (List Item)) (paper : Option (List ℕ))
+        (files : Option Loads) (s : CoreState) (items : List Item) (rule : Rule)
+        → IsReached spools deck paper files s → AreTold spools
+        → deck ≡ Some items → AreItems items → AreFilesKnown files items → TheRun rule s }
+    ensures only { (spools : Spools) (deck : Option (List Item)) (paper : Option (List ℕ))
+        (files : Option Loads) (s : CoreState) (items : List Item) (rule : Rule)
+        (events others : List CoreEvent) → IsReached spools deck paper files s
+        → AreTold spools → deck ≡ Some items → AreFilesKnown files items → IsUndisturbed rule s events
+        → IsUndisturbed rule s others → others ≡ events }
     ensures counts { (s : CoreState) (rule : Rule) (some others : Counts) → AreItsCounts rule s some
         → AreItsCounts rule s others → others ≡ some }
 {}
@@ -54,47 +61,55 @@ pub fn one_run()
 /// What `run_core` answers over told devices are the counts of the one run of its rule from the opening. That
 /// no device failed and no memory was refused is seen from the outcomes, or from the counts of the devices.
 /// Nothing is done here: the contract is the law.
-pub fn counts_of_a_whole_run<S: Source, K: Sink, A: Area, B: Area>()
+pub fn counts_of_a_whole_run<S: Source, K: Sink, A: Area, B: Area, F: Area>()
     // where all five are done
-    ensures done { (spools : Spools) (deck : Option (List Item)) (paper : Option (List ℕ)) (items : List Item)
-        (rule : Rule) (counts : Counts) (outcomes : Outcomes) (stops : List (Option Side)) (devices : Devices)
-        → AreInBounds spools → AreTold spools → deck ≡ Some items
-        → RunsToEnd rule (opened spools deck paper) counts outcomes stops devices → outcomes ≡ all_done
-        → AreItsCounts rule (opened spools deck paper) counts }
+    ensures done { (spools : Spools) (deck : Option (List Item)) (paper : Option (List ℕ))
+        (files : Option Loads) (items : List Item) (rule : Rule) (counts : Counts) (outcomes : Outcomes)
+        (stops : List (Option Side)) (devices : Devices)
+        → AreInBounds spools → AreTold spools → deck ≡ Some items → AreFilesKnown files items
+        → RunsToEnd rule (opened spools deck paper files) counts outcomes stops devices → outcomes ≡ all_done
+        → AreItsCounts rule (opened spools deck paper files) counts }
     // where no count rose and memory was refused to none
     ensures uncounted { (spools : Spools) (deck : Option (List Item)) (paper : Option (List ℕ))
-        (items : List Item) (rule : Rule) (counts : Counts) (outcomes : Outcomes) (stops : List (Option Side))
-        (devices : Devices) (before now : Peripherals S K A B)
+        (files : Option Loads) (items : List Item) (rule : Rule) (counts : Counts) (outcomes : Outcomes)
+        (stops : List (Option Side)) (devices : Devices) (before now : Peripherals S K A B F)
         → AreInBounds spools → AreTold spools → deck ≡ Some items → AreItems items
-        → RunsToEnd rule (opened spools deck paper) counts outcomes stops devices
-        → AreCounted (counting S.faults S.taken K.faults A.faults B.faults) before now outcomes
-        → NoneCounted (counting S.faults S.taken K.faults A.faults B.faults) before now
-        → NoneLacked outcomes → AreItsCounts rule (opened spools deck paper) counts }
+        → AreFilesKnown files items
+        → RunsToEnd rule (opened spools deck paper files) counts outcomes stops devices
+        → AreCounted (counting S.faults S.taken K.faults A.faults B.faults F.faults) before now outcomes
+        → NoneCounted (counting S.faults S.taken K.faults A.faults B.faults F.faults) before now
+        → NoneLacked outcomes → AreItsCounts rule (opened spools deck paper files) counts }
 {}
 
 /// What `run_numbered` answers over told devices are the counts of the one run of the schedule of its number.
 /// That no device failed and no memory was refused is seen from what `finish` answers behind it. Nothing is
 /// done here: the contract is the law.
-pub fn counts_of_a_schedule<S: Source, K: Sink, A: Area, B: Area>()
+pub fn counts_of_a_schedule<S: Source, K: Sink, A: Area, B: Area, F: Area>()
     // where all five are done
-    ensures done { (spools : Spools) (deck : Option (List Item)) (paper : Option (List ℕ)) (s : CoreState)
-        (items : List Item) (number : ℕ) (counts : Counts) (net : Net S K A B) (ran : Ran S K A B)
-        → IsReached spools deck paper s → AreTold spools → deck ≡ Some items
-        → RunsBy the_keeps (telling S.left S.taken K.given A.pages B.pages) (rule.Numbered number) net s
-        counts
-        → ((t : CoreState) → NetStands the_keeps (telling S.left S.taken K.given A.pages B.pages) net t
+    ensures done { (spools : Spools) (deck : Option (List Item)) (paper : Option (List ℕ))
+        (files : Option Loads) (s : CoreState) (items : List Item) (number : ℕ) (counts : Counts)
+        (net : Net S K A B F) (ran : Ran S K A B F)
+        → IsReached spools deck paper files s → AreTold spools → deck ≡ Some items
+        → AreFilesKnown files items
+        → RunsBy the_keeps (telling S.left S.taken K.given A.pages B.pages F.pages)
+        (rule.Numbered number) net s counts
+        → ((t : CoreState)
+        → NetStands the_keeps (telling S.left S.taken K.given A.pages B.pages F.pages) net t
         → EndsSo t ran.outcomes ran.stopped_by)
         → ran.outcomes ≡ all_done → AreItsCounts (rule.Numbered number) s counts }
     // where no count rose and memory was refused to none
     ensures uncounted { (spools : Spools) (deck : Option (List Item)) (paper : Option (List ℕ))
-        (s : CoreState) (items : List Item) (number : ℕ) (counts : Counts) (net : Net S K A B)
-        (ran : Ran S K A B) (before : Peripherals S K A B)
-        → IsReached spools deck paper s → AreTold spools → deck ≡ Some items → AreItems items
-        → RunsBy the_keeps (telling S.left S.taken K.given A.pages B.pages) (rule.Numbered number) net s
-        counts
-        → ((t : CoreState) → NetStands the_keeps (telling S.left S.taken K.given A.pages B.pages) net t
+        (files : Option Loads) (s : CoreState) (items : List Item) (number : ℕ) (counts : Counts)
+        (net : Net S K A B F) (ran : Ran S K A B F) (before : Peripherals S K A B F)
+        → IsReached spools deck paper files s → AreTold spools → deck ≡ Some items → AreItems items
+        → AreFilesKnown files items
+        → RunsBy the_keeps (telling S.left S.taken K.given A.pages B.pages F.pages)
+        (rule.Numbered number) net s counts
+        → ((t : CoreState)
+        → NetStands the_keeps (telling S.left S.taken K.given A.pages B.pages F.pages) net t
         → EndsSo t ran.outcomes ran.stopped_by)
-        → FaultsAreCounted (counting S.faults S.taken K.faults A.faults B.faults) before ran
-        → NoneCounted (counting S.faults S.taken K.faults A.faults B.faults) before (devices_left ran)
+        → FaultsAreCounted (counting S.faults S.taken K.faults A.faults B.faults F.faults) before ran
+        → NoneCounted (counting S.faults S.taken K.faults A.faults B.faults F.faults) before
+        (devices_left ran)
         → NoneLacked ran.outcomes → AreItsCounts (rule.Numbered number) s counts }
 {}

@@ -1,4 +1,4 @@
-ghost use Rattle.std.specs.Prelude.{◌≡◌, ◌≤◌, ◌<◌, List, [], Some};
+ghost use Rattle.std.specs.Prelude.{◌≡◌, ◌≤◌, ◌<◌, true, List, [], Some};
 ghost use Rattle.solo_base.specs.declared.item.Item.{Item};
 ghost use Rattle.solo_devices.specs.CardUnit.{items_ahead};
 ghost use Rattle.page_codec.specs.Items.{AreItems};
@@ -8,52 +8,61 @@ ghost use Rattle.core_net.specs.declared.rules.Rule.TheVariants as rule;
 ghost use Rattle.core_net.specs.Causes.{counting};
 ghost use Rattle.core_net.specs.Ended.{all_done};
 ghost use Rattle.core_net.specs.Faults.{devices_left};
-ghost use Rattle.core_net.specs.Openings.{spools_over};
+ghost use Rattle.core_net.specs.Openings.{spools_over, files_found};
+ghost use Rattle.schedule_law.specs.FilesKnown.{AreFilesKnown};
 ghost use Rattle.schedule_law.specs.NoneCounted.{NoneCounted, NoneLacked};
 ghost use Rattle.schedule_law.specs.Undisturbed.{AreItsCounts};
 
 use core_net::{Counts, Net, Ran};
+use disk_files::FileArea;
 use solo_devices::{Area, Sink, Source};
 use std::alloc::Global;
 
 /// Runs a deck of which nothing was read to the paper under the schedule of a number, over an area of 1 to
-/// 256 pages for each spool. Over told devices the answer has the counts of the one run of this schedule,
-/// where no device failed and no memory was refused.
-pub fn run_schedule<S: Source, K: Sink, A: Area, B: Area>(
+/// 256 pages for each spool, with sound files. Over told devices the answer has the counts of the one run of
+/// this schedule, where no device failed and no memory was refused.
+pub fn run_schedule<S: Source, K: Sink, A: Area, B: Area, F: Area>(
     alloc: Global,
     source: S,
     input: A,
     output: B,
     sink: K,
+    files: FileArea<F>,
     number: u32,
-) -> (Ran<S, K, A, B>, Counts)
+) -> (Ran<S, K, A, B, F>, Counts)
     requires unread { S.taken source ≡ 0 }
     requires input { (0 < A.size input) × (A.size input ≤ 256) }
     requires output { (0 < B.size output) × (B.size output ≤ 256) }
+    requires sound { files.sound ≡ true }
 
     // That none did is seen from the outcomes,
     ensures done { (items : List Item) → items_ahead (S.left source) [] ≡ Some items →
+        AreFilesKnown (files_found (F.pages files.area)) items →
         AreTold (spools_over (A.size input) (A.pages input) (B.size output) (B.pages output)) →
         result.0.outcomes ≡ all_done →
         AreItsCounts (rule.Numbered number)
         (opened
         (spools_over (A.size input) (A.pages input) (B.size output) (B.pages output))
         (items_ahead (S.left source) [])
-        (K.given sink)) result.1 }
+        (K.given sink)
+        (files_found (F.pages files.area))) result.1 }
 
     // or from the devices, none of which counted a failure, where no process ended for want of memory.
     ensures uncounted { (items : List Item) → items_ahead (S.left source) [] ≡ Some items → AreItems items →
+        AreFilesKnown (files_found (F.pages files.area)) items →
         AreTold (spools_over (A.size input) (A.pages input) (B.size output) (B.pages output)) →
-        NoneCounted (counting S.faults S.taken K.faults A.faults B.faults)
-        record { source = source; sink = sink; input = input; output = output } (devices_left result.0) →
+        NoneCounted (counting S.faults S.taken K.faults A.faults B.faults F.faults)
+        record { source = source; sink = sink; input = input; output = output; files = files.area }
+        (devices_left result.0) →
         NoneLacked result.0.outcomes →
         AreItsCounts (rule.Numbered number)
         (opened
         (spools_over (A.size input) (A.pages input) (B.size output) (B.pages output))
         (items_ahead (S.left source) [])
-        (K.given sink)) result.1 }
+        (K.given sink)
+        (files_found (F.pages files.area))) result.1 }
 {
-    let mut net = Net::make(alloc, source, input, output, sink);
+    let mut net = Net::make(alloc, source, input, output, sink, files);
     let counts = net.run_numbered(number);
     (net.finish(), counts)
 }

@@ -5,7 +5,8 @@ returns-in_err-stepped g c = record {
   spools = c.requires.before.spools;
   deck = c.requires.before.deck;
   paper = c.requires.before.paper;
-  is = c.turn.ensures.reached c.requires.before.spools c.requires.before.deck c.requires.before.paper c.requires.before.is;
+  files = c.requires.before.files;
+  is = c.turn.ensures.reached c.requires.before.spools c.requires.before.deck c.requires.before.paper c.requires.before.files c.requires.before.is;
 }
 
 pub returns : goal.returns
@@ -13,5 +14,6 @@ returns g c = record {
   spools = c.requires.before.spools;
   deck = c.requires.before.deck;
   paper = c.requires.before.paper;
-  is = c.turn.ensures.reached c.requires.before.spools c.requires.before.deck c.requires.before.paper c.requires.before.is;
+  files = c.requires.before.files;
+  is = c.turn.ensures.reached c.requires.before.spools c.requires.before.deck c.requires.before.paper c.requires.before.files c.requires.before.is;
 }

@@ -28,7 +28,8 @@ returns g c = record {
       ended-counted _ _ _ c.args.self _ _ some.state some.stands (c.outcome.ensures (some.state.histories 1) some.stands.card)
       (c.outcome-2.ensures (some.state.histories 2) some.stands.input) (c.outcome-3.ensures (some.state.histories 3) some.stands.job)
       (c.outcome-4.ensures (some.state.histories 4) some.stands.output) (c.outcome-5.ensures (some.state.histories 5) some.stands.printer)
-      (same-devices _ _ _ _ _ _ c.into_inner.ensures c.into_inner-2.ensures) before were;
+      (same-devices _ _ _ _ _ _ _ c.into_inner.ensures c.into_inner-2.ensures) before were;
   units = (refl, refl);
+  files = refl;
   areas = (c.into_inner.ensures, c.into_inner-2.ensures);
 }

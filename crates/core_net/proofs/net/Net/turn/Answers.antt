@@ -15,6 +15,8 @@ step-requires g c = record {
             λ x. 0;
         output_faults =
             λ x. 0;
+        file_faults =
+            λ x. 0;
       } c.args.self.now c.args.p c.has_ended.result c.enabled.result c.has_ended.ensures.ended c.enabled.ensures.turn c.if-has_ended.false c.if-enabled.true
       c.requires.reached;
 }

@@ -23,9 +23,9 @@ returns-else-p-eq3-clause-performs g c =
 pub returns-then-p-eq3-clause-causes : goal.returns-then-p-eq3-clause-causes
 returns-then-p-eq3-clause-causes g c =
     quiet-causes _ c.args.self.now _ c.args.p act.AwaitItem c.await_item.result tt c.await_item.ensures.visited.suits
-    record { deck = refl; paper = refl; input = c.await_item.ensures.area; output = refl }
+    record { deck = refl; paper = refl; input = c.await_item.ensures.area; output = refl; files = refl }
 
 pub returns-else-p-eq3-clause-causes : goal.returns-else-p-eq3-clause-causes
 returns-else-p-eq3-clause-causes g c =
     quiet-causes _ c.args.self.now _ c.args.p act.AwaitItem c.await_item-else-p-eq3.result tt c.await_item-else-p-eq3.ensures.visited.suits
-    record { deck = refl; paper = refl; input = refl; output = c.await_item-else-p-eq3.ensures.area }
+    record { deck = refl; paper = refl; input = refl; output = c.await_item-else-p-eq3.ensures.area; files = refl }

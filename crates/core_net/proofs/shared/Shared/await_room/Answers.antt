@@ -23,9 +23,9 @@ returns-else-p-eq2-clause-performs g c =
 pub returns-then-p-eq2-clause-causes : goal.returns-then-p-eq2-clause-causes
 returns-then-p-eq2-clause-causes g c =
     quiet-causes _ c.args.self.now _ c.args.p act.AwaitRoom c.await_room.result tt c.await_room.ensures.visited.suits
-    record { deck = refl; paper = refl; input = c.await_room.ensures.area; output = refl }
+    record { deck = refl; paper = refl; input = c.await_room.ensures.area; output = refl; files = refl }
 
 pub returns-else-p-eq2-clause-causes : goal.returns-else-p-eq2-clause-causes
 returns-else-p-eq2-clause-causes g c =
     quiet-causes _ c.args.self.now _ c.args.p act.AwaitRoom c.await_room-else-p-eq2.result tt c.await_room-else-p-eq2.ensures.visited.suits
-    record { deck = refl; paper = refl; input = refl; output = c.await_room-else-p-eq2.ensures.area }
+    record { deck = refl; paper = refl; input = refl; output = c.await_room-else-p-eq2.ensures.area; files = refl }

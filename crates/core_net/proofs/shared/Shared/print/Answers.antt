@@ -8,5 +8,5 @@ returns-clause-performs g c = at-paper _ c.args.self.now c.args.p c.print.new.pa
 
 pub returns-clause-causes : goal.returns-clause-causes
 returns-clause-causes g c =
-    print-causes _ c.args.self.now _ c.args.p c.args.line c.print.result c.print.ensures.prints.suits refl refl refl
+    print-causes _ c.args.self.now _ c.args.p c.args.line c.print.result c.print.ensures.prints.suits refl refl refl refl
     c.print.ensures.failed c.print.ensures.counts c.print.ensures.live

@@ -23,9 +23,9 @@ returns-else-p-eq1-clause-performs g c =
 pub returns-then-p-eq1-clause-causes : goal.returns-then-p-eq1-clause-causes
 returns-then-p-eq1-clause-causes g c =
     quiet-causes _ c.args.self.now _ c.args.p (act.PutFeed c.args.feed) c.put_feed.result tt c.put_feed.ensures.suits
-    record { deck = refl; paper = refl; input = refl; output = refl }
+    record { deck = refl; paper = refl; input = refl; output = refl; files = refl }
 
 pub returns-else-p-eq1-clause-causes : goal.returns-else-p-eq1-clause-causes
 returns-else-p-eq1-clause-causes g c =
     quiet-causes _ c.args.self.now _ c.args.p (act.PutFeed c.args.feed) c.put_feed-else-p-eq1.result tt c.put_feed-else-p-eq1.ensures.suits
-    record { deck = refl; paper = refl; input = refl; output = refl }
+    record { deck = refl; paper = refl; input = refl; output = refl; files = refl }

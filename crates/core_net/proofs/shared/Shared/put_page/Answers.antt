@@ -22,9 +22,9 @@ returns-else-p-eq2-clause-performs g c =
 pub returns-then-p-eq2-clause-causes : goal.returns-then-p-eq2-clause-causes
 returns-then-p-eq2-clause-causes g c =
     input-causes _ c.args.self.now _ c.args.p (act.PutPage c.args.page) c.put_page.result tt (c.put_page.ensures.visited c.args.p).suits
-    (λ other. (let same = sym c.if-p-eq2.true ∙ other in cc)) refl refl refl c.put_page.ensures.failed c.put_page.ensures.counts
+    (λ other. (let same = sym c.if-p-eq2.true ∙ other in cc)) refl refl refl refl c.put_page.ensures.failed c.put_page.ensures.counts
 
 pub returns-else-p-eq2-clause-causes : goal.returns-else-p-eq2-clause-causes
 returns-else-p-eq2-clause-causes g c =
     output-causes _ c.args.self.now _ c.args.p (act.PutPage c.args.page) c.put_page-else-p-eq2.result tt (c.put_page-else-p-eq2.ensures.visited c.args.p).suits
-    c.if-p-eq2.false refl refl refl c.put_page-else-p-eq2.ensures.failed c.put_page-else-p-eq2.ensures.counts
+    c.if-p-eq2.false refl refl refl refl c.put_page-else-p-eq2.ensures.failed c.put_page-else-p-eq2.ensures.counts

@@ -37,21 +37,21 @@ returns-else-buffer-eq3-clause-performs g c =
 pub returns-then-buffer-eq1-clause-causes : goal.returns-then-buffer-eq1-clause-causes
 returns-then-buffer-eq1-clause-causes g c =
     quiet-causes _ c.args.self.now _ c.args.p (act.Stop c.args.buffer) (Some c.stop_line.result) tt (c.stop_line.ensures c.args.p).suits
-    record { deck = refl; paper = refl; input = refl; output = refl }
+    record { deck = refl; paper = refl; input = refl; output = refl; files = refl }
 
 pub returns-then-buffer-eq2-clause-causes : goal.returns-then-buffer-eq2-clause-causes
 returns-then-buffer-eq2-clause-causes g c =
     quiet-causes _ c.args.self.now _ c.args.p (act.Stop c.args.buffer) (Some c.stop_spool.result) tt (c.stop_spool.ensures.visited c.args.p).suits
-    record { deck = refl; paper = refl; input = c.stop_spool.ensures.area; output = refl }
+    record { deck = refl; paper = refl; input = c.stop_spool.ensures.area; output = refl; files = refl }
 
 pub returns-then-buffer-eq3-clause-causes : goal.returns-then-buffer-eq3-clause-causes
 returns-then-buffer-eq3-clause-causes g c =
     quiet-causes _ c.args.self.now _ c.args.p (act.Stop c.args.buffer) (Some c.stop_spool-then-buffer-eq3.result) tt
     (c.stop_spool-then-buffer-eq3.ensures.visited c.args.p).suits
-    record { deck = refl; paper = refl; input = refl; output = c.stop_spool-then-buffer-eq3.ensures.area }
+    record { deck = refl; paper = refl; input = refl; output = c.stop_spool-then-buffer-eq3.ensures.area; files = refl }
 
 pub returns-else-buffer-eq3-clause-causes : goal.returns-else-buffer-eq3-clause-causes
 returns-else-buffer-eq3-clause-causes g c =
     quiet-causes _ c.args.self.now _ c.args.p (act.Stop c.args.buffer) (Some c.stop_line-else-buffer-eq3.result) tt
     (c.stop_line-else-buffer-eq3.ensures c.args.p).suits
-    record { deck = refl; paper = refl; input = refl; output = refl }
+    record { deck = refl; paper = refl; input = refl; output = refl; files = refl }

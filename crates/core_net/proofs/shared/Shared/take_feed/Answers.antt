@@ -23,9 +23,9 @@ returns-else-p-eq2-clause-performs g c =
 pub returns-then-p-eq2-clause-causes : goal.returns-then-p-eq2-clause-causes
 returns-then-p-eq2-clause-causes g c =
     quiet-causes _ c.args.self.now _ c.args.p act.TakeFeed c.take_feed.result tt c.take_feed.ensures.suits
-    record { deck = refl; paper = refl; input = refl; output = refl }
+    record { deck = refl; paper = refl; input = refl; output = refl; files = refl }
 
 pub returns-else-p-eq2-clause-causes : goal.returns-else-p-eq2-clause-causes
 returns-else-p-eq2-clause-causes g c =
     quiet-causes _ c.args.self.now _ c.args.p act.TakeFeed c.take_feed-else-p-eq2.result tt c.take_feed-else-p-eq2.ensures.suits
-    record { deck = refl; paper = refl; input = refl; output = refl }
+    record { deck = refl; paper = refl; input = refl; output = refl; files = refl }

@@ -22,9 +22,9 @@ returns-else-p-eq3-clause-performs g c =
 pub returns-then-p-eq3-clause-causes : goal.returns-then-p-eq3-clause-causes
 returns-then-p-eq3-clause-causes g c =
     input-causes _ c.args.self.now _ c.args.p act.TakePage c.take_page.result tt (c.take_page.ensures.visited c.args.p).suits
-    (λ other. (let same = sym c.if-p-eq3.true ∙ other in cc)) refl refl refl c.take_page.ensures.failed c.take_page.ensures.counts
+    (λ other. (let same = sym c.if-p-eq3.true ∙ other in cc)) refl refl refl refl c.take_page.ensures.failed c.take_page.ensures.counts
 
 pub returns-else-p-eq3-clause-causes : goal.returns-else-p-eq3-clause-causes
 returns-else-p-eq3-clause-causes g c =
     output-causes _ c.args.self.now _ c.args.p act.TakePage c.take_page-else-p-eq3.result tt (c.take_page-else-p-eq3.ensures.visited c.args.p).suits
-    c.if-p-eq3.false refl refl refl c.take_page-else-p-eq3.ensures.failed c.take_page-else-p-eq3.ensures.counts
+    c.if-p-eq3.false refl refl refl refl c.take_page-else-p-eq3.ensures.failed c.take_page-else-p-eq3.ensures.counts
