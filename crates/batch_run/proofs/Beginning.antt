@@ -7,6 +7,7 @@ use Rattle.solo_devices.specs.CardUnit.{Held}
 use Rattle.solo_devices.specs.PrinterUnit.{Printing}
 use Rattle.resource_mon.specs.Seats.{Desk, Seat}
 use Rattle.resource_mon.specs.declared.disk.DiskResource.{DiskResource}
+use Rattle.disk_files.specs.Answers.{FileTable}
 use Rattle.disk_spool.specs.Ends.{known}
 use Rattle.batch_run.specs.declared.gates.Gates.{Gates}
 use Rattle.batch_run.specs.declared.gates.Ends.{Ends}
@@ -15,6 +16,7 @@ use Rattle.batch_run.specs.Begun.{AreFresh, BeginsBy, fresh_seat}
 use Rattle.batch_run.specs.Cards.{CardRan, DeckRan}
 use Rattle.batch_run.specs.Lines.{PrinterRan, PaperRan}
 use Rattle.batch_run.specs.Desks.{DeskRan, at_desk}
+use Rattle.batch_run.specs.Files.{FilesRan}
 use Rattle.batch_run.specs.Pages.{InputRan, JobRan, OutputRan, input_connected, job_connected, output_connected}
 use Rattle.batch_run.specs.Row.{RowBegins}
 
@@ -45,6 +47,16 @@ paper-begins given faults paper live = record {
   live = λ none. live;
 }
 
+files-begin : {F : Type 0} (pages : F → Option (List (List ℕ))) (faults : F → ℕ) (files : FileTable F) → files.sound ≡ true
+    → FilesRan pages faults files files []
+files-begin pages faults files sound = record {
+  stay = refl;
+  loads = λ found told. tt;
+  counts = same≤ (faults files.area);
+  failed = λ e. absurd cc;
+  sound = λ none. sound;
+}
+
 desk-begins : (desk : Desk) (disk : Bor DiskResource) (number : ℕ) (seat : Seat) → disk.now ≡ desk → seat ≡ fresh_seat desk number
     → DeskRan (at_desk disk seat) (at_desk disk seat) []
 desk-begins desk disk number seat same is = record {
@@ -57,10 +69,11 @@ desk-begins desk disk number seat same is = record {
   };
 }
 
-module _ {S K A B : Type 0} (left : S → Option (List ℕ)) (taken source_faults : S → ℕ) (given : K → Option (List ℕ)) (sink_faults : K → ℕ)
-    (from_size : A → ℕ) (to_size : B → ℕ) (gates : Gates A B) (ends : Ends A B) (deck : Held S) (paper : Printing K) (row : Row S K A B)
-    (fresh : AreFresh (from_size gates.input.area) (to_size gates.output.area) gates ends)
-    (begins : BeginsBy gates ends deck paper row) (deck_live : deck.live ≡ true) (paper_live : paper.live ≡ true) where
+module _ {S K A B F : Type 0} (left : S → Option (List ℕ)) (taken source_faults : S → ℕ) (given : K → Option (List ℕ)) (sink_faults : K → ℕ)
+    (from_size : A → ℕ) (to_size : B → ℕ) (file_pages : F → Option (List (List ℕ))) (file_faults : F → ℕ) (gates : Gates A B) (ends : Ends A B)
+    (deck : Held S) (paper : Printing K) (files : FileTable F) (row : Row S K A B F)
+    (fresh : AreFresh (from_size gates.input.area) (to_size gates.output.area) gates ends) (begins : BeginsBy gates ends deck paper files row)
+    (deck_live : deck.live ≡ true) (paper_live : paper.live ≡ true) (files_sound : files.sound ≡ true) where
   card-begins : CardRan left taken source_faults row.cards row.cards []
   card-begins = record {
     gate = (refl, ap (λ e. e.gate) (begins.card_end ∙ fresh.cards_sender) ∙ sym begins.card_gate);
@@ -84,13 +97,14 @@ module _ {S K A B : Type 0} (left : S → Option (List ℕ)) (taken source_fault
     desk = desk-begins gates.disk row.pages.disk 1 row.pages.seat begins.input_disk (begins.input_seat ∙ fresh.seats.input);
   }
 
-  job-begins : JobRan from_size to_size (job_connected row.jobs) (job_connected row.jobs) []
+  job-begins : JobRan from_size to_size file_pages file_faults (job_connected row.jobs) (job_connected row.jobs) []
   job-begins = record {
     from_gate = (refl, ap (λ e. e.gate) (begins.job_from_end ∙ fresh.input_receiver) ∙ ap (λ g. known (from_size g.area) g) (sym begins.job_from_gate));
     from_calls = ap (λ e. e.calls) (begins.job_from_end ∙ fresh.input_receiver);
     to_gate = (refl, ap (λ e. e.gate) (begins.job_to_end ∙ fresh.output_sender) ∙ ap (λ g. known (to_size g.area) g) (sym begins.job_to_gate));
     to_calls = ap (λ e. e.calls) (begins.job_to_end ∙ fresh.output_sender);
     desk = desk-begins gates.disk row.jobs.disk 2 row.jobs.seat begins.job_disk (begins.job_seat ∙ fresh.seats.job);
+    files = files-begin file_pages file_faults row.jobs.files (ap (λ f. f.sound) begins.files_are ∙ files_sound);
   }
 
   output-begins : OutputRan to_size (output_connected row.lines) (output_connected row.lines) []
@@ -102,7 +116,7 @@ module _ {S K A B : Type 0} (left : S → Option (List ℕ)) (taken source_fault
     desk = desk-begins gates.disk row.lines.disk 3 row.lines.seat begins.output_disk (begins.output_seat ∙ fresh.seats.output);
   }
 
-  pub row-begins : RowBegins left taken source_faults given sink_faults from_size to_size row
+  pub row-begins : RowBegins left taken source_faults given sink_faults from_size to_size file_pages file_faults row
   row-begins = record {
     front_begins = record { cards_begin = card-begins; pages_begin = input-begins };
     rest_begins = record {

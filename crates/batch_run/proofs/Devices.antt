@@ -19,11 +19,12 @@ use Rattle.batch_procs.specs.History.{Entry, Does, LacksMemory, Delays, card_tak
 use Rattle.batch_procs.specs.Causes.{caused, given_cause}
 use Rattle.batch_procs.specs.Process.{Process, Follows, next_action}
 use Rattle.batch_procs.specs.Laws.{IsRelay}
+use Rattle.batch_procs.specs.Relays.{card-relay}
 use Rattle.batch_procs.specs.Table.{card}
 use Rattle.batch_procs.proofs.Closing.{or-none}
 use Rattle.batch_procs.proofs.Holding.{some-not_none}
 use Rattle.batch_procs.proofs.Relay.{open-next, sent-is-part}
-use Rattle.core_law.proofs.Ends.{takes-nothing}
+use Rattle.core_law.proofs.Loading.{plain-reply, wants-none}
 use Rattle.core_law.proofs.Taking.{next-take}
 use Rattle.core_law.proofs.Passed.{IsNoPrint}
 use Rattle.core_law.proofs.KeepsDevices.{ended-more, entry-no_text, text-more, text-part, prefix-longer}
@@ -103,16 +104,17 @@ card-taken h read.Limit goes_on before =
       ended = λ e. absurd (true-false (is_ended (taken h)) (ap is_ended (sym same) ∙ e) goes_on);
     }
 
-card-other : (h : List Entry) (a : Action) (r : Reply) → next_action card h ≡ Some a → Fits a r → CardsTaken h → CardsTaken (Does a r ∷ h)
-card-other h act.ReadCard (reply.Card answer) next fits before = card-taken h answer (next-take card h act.ReadCard next tt).goes_on before
-card-other h act.ReadCard r next fits before = absurd fits
-card-other h act.TakeFeed r next fits before = absurd (let e = (next-take card h act.TakeFeed next tt).same in cc)
-card-other h act.TakePage r next fits before = absurd (let e = (next-take card h act.TakePage next tt).same in cc)
-card-other h a r next fits before = same-taken h (Does a r) (nothing-more h (taken_by r) (takes-nothing a r fits (λ is. is))) refl refl before
+card-other : (h : List Entry) (a : Action) (r : Reply) → Follows card h → next_action card h ≡ Some a → Fits a r → CardsTaken h → CardsTaken (Does a r ∷ h)
+card-other h act.ReadCard (reply.Card answer) follows next fits before = card-taken h answer (next-take card h act.ReadCard next tt).goes_on before
+card-other h act.ReadCard r follows next fits before = absurd fits
+card-other h act.TakeFeed r follows next fits before = absurd (let e = (next-take card h act.TakeFeed next tt).same in cc)
+card-other h act.TakePage r follows next fits before = absurd (let e = (next-take card h act.TakePage next tt).same in cc)
+card-other h (act.Load file) r follows next fits before = absurd (wants-none card h file card-relay follows (λ all. refl) next)
+card-other h a r follows next fits before = same-taken h (Does a r) (nothing-more h (taken_by r) (plain-reply a r fits tt)) refl refl before
 
 pub cards-taken : (h : List Entry) → Follows card h → CardsTaken h
 cards-taken [] follows = record { goes_on = λ e. refl; ended = λ e. absurd cc }
-cards-taken (Does a r ∷ h) follows = card-other h a r follows.0 follows.1 (cards-taken h follows.2)
+cards-taken (Does a r ∷ h) follows = card-other h a r follows.2 follows.0 follows.1 (cards-taken h follows.2)
 cards-taken (LacksMemory a r ∷ h) follows = absurd (let no = follows.1.0 in cc)
 cards-taken (Delays a ∷ h) follows =
     (let before = cards-taken h follows.2 in record { goes_on = before.goes_on; ended = before.ended })

@@ -17,6 +17,7 @@ use Rattle.batch_job.specs.LinesSoFar.{IsPrefixOf}
 use Rattle.batch_procs.specs.declared.actions.Action.{Action}
 use Rattle.batch_procs.specs.declared.actions.Action.TheVariants as act
 use Rattle.batch_procs.specs.declared.actions.Reply.TheVariants as reply
+use Rattle.batch_procs.specs.Parcels.{handed}
 use Rattle.batch_procs.specs.Fits.{Fits}
 use Rattle.batch_procs.specs.History.{Entry, Does, taken, sent, has_stopped}
 use Rattle.batch_procs.specs.Causes.{caused}
@@ -198,24 +199,24 @@ module _ {A B : Type 0} {input_told : A → Option (List (List ℕ))} {input_fau
       (either-follows (p == 5) printer nobody ran.printer_history [] ran.printer_follows tt))))
 
   -- ---- what was handed over
-  cards-part : IsPrefixOf (taken ran.input_history) (sent ran.card_history)
+  cards-part : IsPrefixOf (handed (taken ran.input_history)) (sent ran.card_history)
   cards-part =
       line-part _ _ _ _ _ ran.cards.in_order (line-taken input 1 input-does input-takes ran.input_history ran.input_follows)
       (line-sent card 1 card-does card-puts ran.card_history ran.card_follows)
 
-  lines-part : IsPrefixOf (taken ran.printer_history) (sent ran.output_history)
+  lines-part : IsPrefixOf (handed (taken ran.printer_history)) (sent ran.output_history)
   lines-part =
       line-part _ _ _ _ _ ran.lines.in_order (line-taken printer 4 printer-does printer-takes ran.printer_history ran.printer_follows)
       (line-sent output 4 output-does output-puts ran.output_history ran.output_follows)
 
-  input-part : is_some (input_told input_opening) ≡ true → IsPrefixOf (taken ran.job_history) (sent ran.input_history)
+  input-part : is_some (input_told input_opening) ≡ true → IsPrefixOf (handed (taken ran.job_history)) (sent ran.input_history)
   input-part told =
       let (pages, is) = told-some (input_told input_area) (ran.input_meets.tells told) in
       spool-part _ _ _ _ _ (ran.input_meets.pages pages is) ran.input_meets.marks
       (spool-taken job 2 job-does job-takes ran.job_history ran.job_follows)
       (spool-sent input 2 input-does input-puts ran.input_history ran.input_follows)
 
-  output-part : is_some (output_told output_opening) ≡ true → IsPrefixOf (taken ran.output_history) (sent ran.job_history)
+  output-part : is_some (output_told output_opening) ≡ true → IsPrefixOf (handed (taken ran.output_history)) (sent ran.job_history)
   output-part told =
       let (pages, is) = told-some (output_told output_area) (ran.output_meets.tells told) in
       spool-part _ _ _ _ _ (ran.output_meets.pages pages is) ran.output_meets.marks
@@ -224,7 +225,8 @@ module _ {A B : Type 0} {input_told : A → Option (List (List ℕ))} {input_fau
 
   pub hand-over : is_some (input_told input_opening) ≡ true → is_some (output_told output_opening) ≡ true → HandOver histories
   hand-over input_is output_is b is =
-      each-buffer (λ b. IsPrefixOf (taken (histories (suc b))) (sent (histories b))) b is cards-part (input-part input_is) (output-part output_is) lines-part
+      each-buffer (λ b. IsPrefixOf (handed (taken (histories (suc b)))) (sent (histories b))) b is cards-part (input-part input_is)
+      (output-part output_is) lines-part
 
   -- ---- who stopped first
   cards-first : StoppedFirst 1 ran.card_history ran.input_history (first 1)

@@ -26,7 +26,7 @@ use Rattle.batch_procs.specs.History.{Entry, Does, LacksMemory, Delays}
 use Rattle.batch_procs.specs.Causes.{caused, given_cause, or_new, fault_at, fault_read, damage, place}
 use Rattle.batch_procs.specs.Laws.{IsOpen}
 use Rattle.batch_procs.specs.Parts.{some-same}
-use Rattle.batch_procs.specs.Table.{card, printer}
+use Rattle.batch_procs.specs.Table.{card, job, printer}
 use Rattle.batch_procs.proofs.Relay.{open-next}
 use Rattle.batch_procs.specs.Faults.{cause_by}
 use Rattle.batch_procs.specs.Process.{Process, Follows, next_action}
@@ -34,6 +34,7 @@ use Rattle.batch_procs.proofs.Faulty.{each_cause_is_given}
 use Rattle.batch_run.specs.Calls.{line_call, line_calls, spool_call, spool_calls}
 use Rattle.batch_run.specs.Connections.{DoesOnly}
 use Rattle.batch_run.specs.Cards.{newest_read, does_card}
+use Rattle.batch_run.specs.Files.{newest_load}
 use Rattle.batch_run.specs.Lines.{newest_print}
 use Rattle.batch_run.proofs.LineCalls.{any-then}
 use Rattle.core_law.proofs.Told.{given-stopped}
@@ -176,6 +177,7 @@ given-failed c a reply.NoMemory h is e = absurd (is-other c cause.NoMemory e is)
 given-failed c a (reply.Card answer) h is e = absurd (read-other c answer is e)
 given-failed c a (reply.Feed f) h is e = absurd cc
 given-failed c a (reply.Page page last) h is e = absurd (page-other c (page_read (place h) last page) is e)
+given-failed c a (reply.Loaded load) h is e = absurd cc
 
 pub record HasFailed (does : Action → Type 0) (c : Cause) (h : List Entry) : Type 0 where
   pub action : Action
@@ -219,7 +221,7 @@ pub take-failed : (b : ℕ) (h later before : List Entry) → h ≡ later ++ Doe
 take-failed b h later before is =
     ap (λ h. pages.has_failure (spool_calls Receiver b h)) is ∙ spool-among Receiver b pages.is_failure later (Does act.TakePage reply.Failed) before refl
 
--- ---- the newest answer of the deck and of the paper: with a cause neither is asked
+-- ---- the newest answer of the deck, of the paper and of the files: with a cause none is asked
 cause-stays : (later rest : List Entry) (how : Outcome) → caused rest ≡ Some how → caused (later ++ rest) ≡ Some how
 cause-stays [] rest how e = e
 cause-stays (Does a r ∷ later) rest how e = rw (cause-stays later rest how e) refl
@@ -246,6 +248,13 @@ module _ (p : Process) (rest : List Entry) (how : Outcome) (e : caused rest ≡ 
   print-before (Does a r ∷ later) follows = print-before later follows.2
   print-before (LacksMemory a r ∷ later) follows = print-before later follows.2
   print-before (Delays a ∷ later) follows = print-before later follows.2
+
+  pub load-before : (later : List Entry) → Follows p (later ++ rest) → newest_load (later ++ rest) ≡ newest_load rest
+  load-before [] follows = refl
+  load-before (Does (act.Load file) r ∷ later) follows = absurd (not-asked later (act.Load file) follows.0 tt)
+  load-before (Does a r ∷ later) follows = load-before later follows.2
+  load-before (LacksMemory a r ∷ later) follows = load-before later follows.2
+  load-before (Delays a ∷ later) follows = load-before later follows.2
 
 -- the deck gave this fault
 abbrev pub answer_of : Cause → Option CardRead
@@ -319,3 +328,10 @@ pub print-failed : (h later before : List Entry) (line : List ℕ) → Follows p
 print-failed h later before line follows is =
     let (how, e) = some-cause (caused before) (outcome.Fault cause.PrintFault) in
     ap newest_print is ∙ print-before printer (Does (act.Print line) reply.Failed ∷ before) how e later (subst (Follows printer) is follows)
+
+-- the job process
+pub load-failed : (h later before : List Entry) (file : List ℕ) → Follows job h → h ≡ later ++ Does (act.Load file) reply.Failed ∷ before
+    → newest_load h ≡ Some reply.Failed
+load-failed h later before file follows is =
+    let (how, e) = some-cause (caused before) (outcome.Fault cause.DiskFault) in
+    ap newest_load is ∙ load-before job (Does (act.Load file) reply.Failed ∷ before) how e later (subst (Follows job) is follows)

@@ -2,6 +2,7 @@ pub mod Running
 pub mod LineCalls
 pub mod Decks
 pub mod Papers
+pub mod FileLoads
 pub mod SpoolCalls
 pub mod Streams
 pub mod Given

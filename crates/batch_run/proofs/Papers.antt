@@ -42,7 +42,8 @@ module _ {K : Type 0} {given : K → Option (List ℕ)} {faults : K → ℕ} (st
       → (r ≡ reply.Failed → Rose (faults old.sink) (faults new.sink)) → faults old.sink ≤ faults new.sink → (r ≡ reply.Done → new.live ≡ true)
       → PaperRan given faults start new (Does (act.Print line) r ∷ h)
   paper-printed ran free print failed counts live =
-      let part = part-printed line print.gained h record { deck = None; paper = None } r print.suits (print.allowed record { deck = None; paper = None }) in
+      let devices : Devices = record { deck = None; paper = None; files = None } in
+      let part = part-printed line print.gained h devices r print.suits (print.allowed devices) in
       record {
         prints = λ before told.
             let (gained, now_is, prefix, all) = ran.prints before told in (

@@ -15,6 +15,7 @@ use Rattle.solo_devices.specs.CardUnit.{Held, items_ahead, byte_limit, bytes_tot
 use Rattle.solo_devices.specs.declared.card_read.CardRead.TheVariants as read
 use Rattle.solo_devices.specs.PrinterUnit.{Printing, Gains}
 use Rattle.page_codec.specs.Items.{AreItems}
+use Rattle.disk_files.specs.Answers.{FileTable}
 use Rattle.disk_spool.specs.Ends.{known}
 use Rattle.resource_mon.specs.Seats.{Desk}
 use Rattle.batch_procs.specs.declared.actions.Action.{Action}
@@ -32,10 +33,12 @@ use Rattle.batch_procs.proofs.Ended.{ended-rightly}
 use Rattle.batch_procs.proofs.Faulty.{faults_of_the_five}
 use Rattle.core_law.specs.Core.{IsBuffer}
 use Rattle.core_law.specs.Ends.{IsProcess, outcome_by}
+use Rattle.batch_job.specs.Report.{Loads}
 use Rattle.batch_job.specs.OneThread.{one_thread_lines}
+use Rattle.core_law.specs.Holds.{AreFound}
 use Rattle.core_law.proofs.Ends.{the-five}
 use Rattle.core_law.proofs.Outcomes.{ended-as}
-use Rattle.core_law.proofs.Passing.{EndDone, gains-of, reads-all}
+use Rattle.core_law.proofs.Passing.{EndDone, AreFoundBy, gains-of, reads-all}
 use Rattle.core_law.proofs.Row.{each-buffer}
 use Rattle.core_law.proofs.Stopping.{done-none, none-done, stopped-by}
 use Rattle.core_law.proofs.Streams.{ReadsOf, Gained}
@@ -44,6 +47,7 @@ use Rattle.core_net.specs.declared.finish.Outcomes.{Outcomes}
 use Rattle.core_net.specs.Causes.{Counts, counting}
 use Rattle.core_net.specs.Ended.{outcome_at, all_done, none_stopped, stopped_at, StoppedBeside, SomeFault, EndTogether, FaultsAre, NoneDamaged}
 use Rattle.core_net.specs.Faults.{FaultsAreCounted}
+use Rattle.core_net.specs.Openings.{files_found}
 use Rattle.batch_run.specs.declared.batch.Parted.{Parted}
 use Rattle.batch_run.specs.declared.desk.Desk.{Desk as Place}
 use Rattle.batch_run.specs.declared.gates.AllMet.{AllMet as Met}
@@ -54,13 +58,15 @@ use Rattle.batch_run.specs.declared.row.RowEnded.{RowEnded}
 use Rattle.batch_run.specs.Begun.{AreFresh, BeginsBy}
 use Rattle.batch_run.specs.Desks.{DeskRan}
 use Rattle.batch_run.specs.DoesOnly.{card-does, input-does, job-does, output-does, printer-does}
+use Rattle.batch_run.specs.Files.{FilesRan, newest_load}
 use Rattle.batch_run.specs.Lines.{does_printer, newest_print}
 use Rattle.batch_run.specs.Met.{IsSeatAt, AreEndsOf, AllMeet, IsParted}
 use Rattle.batch_run.specs.Pages.{does_input, does_job, does_output}
 use Rattle.batch_run.specs.Row.{RowRan}
 use Rattle.batch_run.proofs.Devices.{deck-reads, cards-taken, paper-gained}
+use Rattle.batch_run.proofs.FileLoads.{all-loaded}
 use Rattle.batch_run.proofs.Ending.{FiveRan, each-process, histories, follows, hand-over, are-first, line-met, spool-met}
-use Rattle.batch_run.proofs.Given.{has-failed, put-failed, take-failed, read-failed, print-failed, limit-cause}
+use Rattle.batch_run.proofs.Given.{has-failed, put-failed, take-failed, read-failed, print-failed, load-failed, limit-cause}
 
 -- ---- one process
 fault-cause : (found : Option Outcome) (c : Cause) → outcome_by found ≡ outcome.Fault c → found ≡ Some (outcome.Fault c)
@@ -71,13 +77,14 @@ caused-so : (p : Process) (h : List Entry) (how : Outcome) (c : Cause) → IsRel
     → caused h ≡ Some (outcome.Fault c)
 caused-so p h how c relay follows ended e = fault-cause (caused h) c (ended-as p h how relay follows ended ∙ e)
 
--- the three actions of which a device may fail
+-- the four actions of which a device may fail
 by-failed : (P : Action → Type 0) (a : Action) → Fits a reply.Failed → ((page : Page) → P (act.PutPage page)) → P act.TakePage
-    → ((line : List ℕ) → P (act.Print line)) → P a
-by-failed P (act.PutPage page) fits put take print = put page
-by-failed P act.TakePage fits put take print = take
-by-failed P (act.Print line) fits put take print = print line
-by-failed P a fits put take print = absurd fits
+    → ((line : List ℕ) → P (act.Print line)) → ((file : List ℕ) → P (act.Load file)) → P a
+by-failed P (act.PutPage page) fits put take print load = put page
+by-failed P act.TakePage fits put take print load = take
+by-failed P (act.Print line) fits put take print load = print line
+by-failed P (act.Load file) fits put take print load = load file
+by-failed P a fits put take print load = absurd fits
 
 same-end : (last : Option Action) (a b : Outcome) → last ≡ Some (act.Ended a) → last ≡ Some (act.Ended b) → a ≡ b
 same-end last a b x y = cc
@@ -103,12 +110,11 @@ seat-after desk number start now h ran disk is = record {
   alone = ran.at.alone;
 }
 
-module _ {S K A B : Type 0} (left : S → Option (List ℕ)) (taken source_faults : S → ℕ) (given : K → Option (List ℕ)) (sink_faults : K → ℕ)
-    (from_size : A → ℕ) (to_size : B → ℕ) (gates : Gates A B) (ends : Ends A B) (deck : Held S) (paper : Printing K) (row : Row S K A B)
-    (ended : RowEnded S K A B) (parted : Parted S K A B)
-    (fresh : AreFresh (from_size gates.input.area) (to_size gates.output.area) gates ends)
-    (begins : BeginsBy gates ends deck paper row) (ran : RowRan left taken source_faults given sink_faults from_size to_size row ended)
-    (is : IsParted ended parted) where
+module _ {S K A B F : Type 0} (left : S → Option (List ℕ)) (taken source_faults : S → ℕ) (given : K → Option (List ℕ)) (sink_faults : K → ℕ)
+    (from_size : A → ℕ) (to_size : B → ℕ) (file_pages : F → Option (List (List ℕ))) (file_faults : F → ℕ) (gates : Gates A B) (ends : Ends A B)
+    (deck : Held S) (paper : Printing K) (files : FileTable F) (row : Row S K A B F) (ended : RowEnded S K A B F) (parted : Parted S K A B F)
+    (fresh : AreFresh (from_size gates.input.area) (to_size gates.output.area) gates ends) (begins : BeginsBy gates ends deck paper files row)
+    (ran : RowRan left taken source_faults given sink_faults from_size to_size file_pages file_faults row ended) (is : IsParted ended parted) where
   -- ---- the ends are still those of their gates
   pub ends-are : AreEndsOf (from_size gates.input.area) (to_size gates.output.area) gates parted.ends
   ends-are =
@@ -261,13 +267,27 @@ module _ {S K A B : Type 0} (left : S → Option (List ℕ)) (taken source_fault
         let (gained, now, part, all) = end.stands.paper.prints before (ap (λ p. given p.sink) begins.paper_is ∙ told) in
         paper-gained printer printer-relay end.history before gained _ end.follows (ap (λ p. given p.sink) is.paper ∙ now) part all
 
-    pub prints : is_some (input_told gates.input.area) ≡ true → is_some (output_told gates.output.area) ≡ true → (items : List Item)
-        → items_ahead (left deck.source) deck.pending ≡ Some items → AreItems items
-        → Gains (given paper.sink) (given parted.paper.sink) (text (one_thread_lines items)) (outcomes ≡ all_done)
-    prints input_is output_is items told valid = record {
+    -- ---- the files
+    abbrev loaded : FilesRan file_pages file_faults row.jobs.files ended.rest.0.0.files five.job_history
+    loaded = ran.rest_ended.jobs_ended.stands.files
+
+    pub files-stay : file_pages parted.files.area ≡ file_pages files.area
+    files-stay = ap (λ f. file_pages f.area) is.files ∙ loaded.stay ∙ ap (λ f. file_pages f.area) begins.files_are
+
+    found-by : (items : List Item) (found : Loads) → AreFound (files_found (file_pages files.area)) found items
+        → AreFoundBy found items (histories five 3)
+    found-by items found (inl told) =
+        inl (all-loaded found job five.job_history five.job_follows
+        (loaded.loads found (ap (λ f. files_found (file_pages f.area)) begins.files_are ∙ told)))
+    found-by items found (inr none) = inr none
+
+    pub prints : is_some (input_told gates.input.area) ≡ true → is_some (output_told gates.output.area) ≡ true → (items : List Item) (found : Loads)
+        → items_ahead (left deck.source) deck.pending ≡ Some items → AreItems items → AreFound (files_found (file_pages files.area)) found items
+        → Gains (given paper.sink) (given parted.paper.sink) (text (one_thread_lines found items)) (outcomes ≡ all_done)
+    prints input_is output_is items found told valid are = record {
       told = λ before paper_told.
           (let gains = gains-of (histories five) (follows five) (hand-over five input_is output_is) items _ before _ valid (deck-read items told)
-          (paper-gains before paper_told) in
+          found (found-by items found are) (paper-gains before paper_told) in
           record { part = gains.part; now_is = gains.now_is; prefix = gains.prefix; all_is = λ e. gains.all_is (end-done e) });
       untold = λ none. ap (λ p. given p.sink) is.paper
           ∙ ran.rest_ended.back_ended.paper_ended.stands.paper.untold (ap (λ p. given p.sink) begins.paper_is ∙ none);
@@ -328,7 +348,8 @@ module _ {S K A B : Type 0} (left : S → Option (List ℕ)) (taken source_fault
         let newest = by-failed (λ a. (later before : List Entry) → h ≡ later ++ Does a reply.Failed ∷ before → does_printer a
         → newest_print h ≡ Some reply.Failed)
         failed.action failed.fits (λ page later before at does. absurd does) (λ later before at does. absurd does)
-        (λ line later before at does. print-failed h later before line five.printer_follows at) failed.later failed.before failed.is failed.does_it in
+        (λ line later before at does. print-failed h later before line five.printer_follows at)
+        (λ file later before at does. absurd does) failed.later failed.before failed.is failed.does_it in
         rose-by (ap (λ p. sink_faults p.sink) begins.paper_is) (ap (λ p. sink_faults p.sink) (sym is.paper))
         (ran.rest_ended.back_ended.paper_ended.stands.paper.failed newest)
 
@@ -340,19 +361,28 @@ module _ {S K A B : Type 0} (left : S → Option (List ℕ)) (taken source_fault
         by-failed (λ a. (later before : List Entry) → h ≡ later ++ Does a reply.Failed ∷ before → does_input a
         → Rose (input_faults gates.input.area) (input_faults met.input))
         failed.action failed.fits (λ page later before at does. five.input_meets.of_area.failed Sender (put-failed 2 h later before page at))
-        (λ later before at does. absurd does) (λ line later before at does. absurd does) failed.later failed.before failed.is failed.does_it
+        (λ later before at does. absurd does) (λ line later before at does. absurd does) (λ file later before at does. absurd does)
+        failed.later failed.before failed.is failed.does_it
 
-    job-rose : outcomes.job ≡ outcome.Fault cause.DiskFault
-        → Rose (input_faults gates.input.area) (input_faults met.input) ⊎ Rose (output_faults gates.output.area) (output_faults met.output)
+    files-rose : newest_load five.job_history ≡ Some reply.Failed → Rose (file_faults files.area) (file_faults parted.files.area)
+    files-rose newest = rose-by (ap (λ f. file_faults f.area) begins.files_are) (ap (λ f. file_faults f.area) (sym is.files)) (loaded.failed newest)
+
+    abbrev JobRose : Type 0
+    JobRose = Rose (input_faults gates.input.area) (input_faults met.input) ⊎ Rose (output_faults gates.output.area) (output_faults met.output)
+        ⊎ Rose (file_faults files.area) (file_faults parted.files.area)
+
+    job-rose : outcomes.job ≡ outcome.Fault cause.DiskFault → JobRose
     job-rose e =
         let h = five.job_history in
         let gave = caused-so job h outcomes.job cause.DiskFault job-relay five.job_follows (ended-at 3 (lit≤ tt, lit≤ tt)) e in
         let failed = has-failed job job-does cause.DiskFault tt h five.job_follows gave in
-        by-failed (λ a. (later before : List Entry) → h ≡ later ++ Does a reply.Failed ∷ before → does_job a
-        → Rose (input_faults gates.input.area) (input_faults met.input) ⊎ Rose (output_faults gates.output.area) (output_faults met.output))
-        failed.action failed.fits (λ page later before at does. inr (five.output_meets.of_area.failed Sender (put-failed 3 h later before page at)))
+        by-failed (λ a. (later before : List Entry) → h ≡ later ++ Does a reply.Failed ∷ before → does_job a → JobRose)
+        failed.action failed.fits
+        (λ page later before at does. inr (inl (five.output_meets.of_area.failed Sender (put-failed 3 h later before page at))))
         (λ later before at does. inl (five.input_meets.of_area.failed Receiver (take-failed 2 h later before at)))
-        (λ line later before at does. absurd does) failed.later failed.before failed.is failed.does_it
+        (λ line later before at does. absurd does)
+        (λ file later before at does. inr (inr (files-rose (load-failed h later before file five.job_follows at))))
+        failed.later failed.before failed.is failed.does_it
 
     output-rose : outcomes.output ≡ outcome.Fault cause.DiskFault → Rose (output_faults gates.output.area) (output_faults met.output)
     output-rose e =
@@ -363,14 +393,22 @@ module _ {S K A B : Type 0} (left : S → Option (List ℕ)) (taken source_fault
         → Rose (output_faults gates.output.area) (output_faults met.output))
         failed.action failed.fits (λ page later before at does. absurd does)
         (λ later before at does. five.output_meets.of_area.failed Receiver (take-failed 3 h later before at))
-        (λ line later before at does. absurd does) failed.later failed.before failed.is failed.does_it
+        (λ line later before at does. absurd does) (λ file later before at does. absurd does) failed.later failed.before failed.is failed.does_it
 
-    abbrev pub counts : Counts S K A B
-    counts = counting source_faults taken sink_faults input_faults output_faults
+    abbrev pub counts : Counts S K A B F
+    counts = counting source_faults taken sink_faults input_faults output_faults file_faults
 
     pub counted : FaultsAreCounted counts
-        record { source = deck.source; sink = paper.sink; input = gates.input.area; output = gates.output.area }
-        record { outcomes = outcomes; stopped_by = met.stopped_by; deck = parted.deck; input = met.input; output = met.output; paper = parted.paper }
+        record { source = deck.source; sink = paper.sink; input = gates.input.area; output = gates.output.area; files = files.area }
+        record {
+          outcomes = outcomes;
+          stopped_by = met.stopped_by;
+          deck = parted.deck;
+          input = met.input;
+          output = met.output;
+          paper = parted.paper;
+          files = parted.files;
+        }
     counted = record {
       read = deck-rose;
       limit = deck-long;
@@ -385,4 +423,5 @@ module _ {S K A B : Type 0} (left : S → Option (List ℕ)) (taken source_fault
       output_on = five.output_meets.of_area.later;
       print_on = later-by (ap (λ p. sink_faults p.sink) begins.paper_is) (ap (λ p. sink_faults p.sink) (sym is.paper))
           ran.rest_ended.back_ended.paper_ended.stands.paper.counts;
+      files_on = later-by (ap (λ f. file_faults f.area) begins.files_are) (ap (λ f. file_faults f.area) (sym is.files)) loaded.counts;
     }

@@ -1,4 +1,4 @@
--- What the calls at a buffer put and took is what the process of their history sent and took.
+-- What the calls at a buffer put is what the process of their history sent, and what they took is what was handed over to it.
 use Rattle.std.proofs.Common.{◌≡◌, ℕ, ◌==◌, Bool, true, false, if◌then◌else◌, List, [], ◌∷◌, ◌++◌, map, take, drop, refl, sym, ◌∙◌, ap}
 use Rattle.std.specs.List.{flat_map}
 use Rattle.std.proofs.lemmas.Grind.{flat_map-append}
@@ -18,12 +18,13 @@ use Rattle.batch_procs.specs.declared.actions.Action.{Action}
 use Rattle.batch_procs.specs.declared.actions.Action.TheVariants as act
 use Rattle.batch_procs.specs.declared.actions.Reply.{Reply}
 use Rattle.batch_procs.specs.declared.actions.Reply.TheVariants as reply
-use Rattle.batch_procs.specs.Parcels.{Parcel, OfFeed, OfPage}
+use Rattle.batch_procs.specs.Parcels.{Parcel, OfFeed, OfPage, handed}
 use Rattle.batch_procs.specs.Fits.{Fits, MayLack}
 use Rattle.batch_procs.specs.History.{Entry, Does, LacksMemory, Delays, taken, taken_by, sent, put_by}
 use Rattle.batch_procs.specs.Process.{Process, Follows}
 use Rattle.batch_procs.specs.Sends.{as_parcels}
 use Rattle.core_law.proofs.Ends.{takes-nothing}
+use Rattle.core_law.proofs.HandedLists.{handed-append}
 use Rattle.core_net.specs.Spools.{page_parcel}
 use Rattle.batch_run.specs.Calls.{and_then, line_call, line_calls, spool_call, spool_calls}
 use Rattle.batch_run.specs.Connections.{DoesOnly}
@@ -77,7 +78,7 @@ line-puts b (act.Print line) r is = absurd is
 line-puts b (act.Stop c) r is = line-stop-puts Sender (b == c)
 line-puts b a r is = refl
 
-line-takes : (b : ℕ) (a : Action) (r : Reply) → TakesFeeds a → Fits a r → as_parcels (line.taken_of (line_call Receiver b a r)) ≡ taken_by r
+line-takes : (b : ℕ) (a : Action) (r : Reply) → TakesFeeds a → Fits a r → as_parcels (line.taken_of (line_call Receiver b a r)) ≡ handed (taken_by r)
 line-takes b act.TakeFeed (reply.Feed f) is fits = refl
 line-takes b act.TakeFeed reply.Stopped is fits = refl
 line-takes b act.TakeFeed r is fits = absurd fits
@@ -86,7 +87,7 @@ line-takes b act.TakePage r is fits = absurd is
 line-takes b (act.Stop c) r is fits = line-stop-takes Receiver (b == c) ∙ sym (takes-nothing (act.Stop c) r fits (λ is. is))
 line-takes b a r is fits = sym (takes-nothing a r fits (λ is. is))
 
-lack-takes : (a : Action) (r : Reply) → TakesFeeds a → MayLack a r → taken_by r ≡ []
+lack-takes : (a : Action) (r : Reply) → TakesFeeds a → MayLack a r → handed (taken_by r) ≡ []
 lack-takes act.TakePage r is may = absurd is
 lack-takes act.Local reply.Done is may = refl
 lack-takes a r is may = absurd may
@@ -109,16 +110,16 @@ module _ (p : Process) (b : ℕ) where
       ∙ line-sent only kind h follows.2
   line-sent only kind (Delays a ∷ h) follows = line-sent only kind h follows.2
 
-  line-took : (more : List (SlotCall Feed)) (by : List Parcel) (h : List Entry) → as_parcels (line.taken_of more) ≡ by
-      → as_parcels (line.taken_of (line_calls Receiver b h)) ≡ taken h
-      → as_parcels (line.taken_of (and_then (line_calls Receiver b h) more)) ≡ taken h ++ by
+  line-took : (more : List (SlotCall Feed)) (by : List Parcel) (h : List Entry) → as_parcels (line.taken_of more) ≡ handed by
+      → as_parcels (line.taken_of (line_calls Receiver b h)) ≡ handed (taken h)
+      → as_parcels (line.taken_of (and_then (line_calls Receiver b h) more)) ≡ handed (taken h ++ by)
   line-took more by h is before =
       ap as_parcels (flat-then line.item_taken (line_calls Receiver b h) more)
       ∙ as_parcels-append (line.taken_of (line_calls Receiver b h)) (line.taken_of more)
-      ∙ ap (λ front. front ++ as_parcels (line.taken_of more)) before ∙ ap (λ rest. taken h ++ rest) is
+      ∙ ap (λ front. front ++ as_parcels (line.taken_of more)) before ∙ ap (λ rest. handed (taken h) ++ rest) is ∙ sym (handed-append (taken h) by)
 
   pub line-taken : {does : Action → Type 0} → DoesOnly p does → ((a : Action) → does a → TakesFeeds a) → (h : List Entry) → Follows p h
-      → as_parcels (line.taken_of (line_calls Receiver b h)) ≡ taken h
+      → as_parcels (line.taken_of (line_calls Receiver b h)) ≡ handed (taken h)
   line-taken only kind [] follows = refl
   line-taken only kind (Does a r ∷ h) follows =
       let is = kind a (only h a follows.2 follows.0) in
@@ -159,7 +160,8 @@ spool-puts b (act.Print line) r is fits = absurd is
 spool-puts b (act.Stop c) r is fits = spool-stop-puts Sender (b == c)
 spool-puts b a r is fits = refl
 
-spool-takes : (b : ℕ) (a : Action) (r : Reply) → TakesPages a → Fits a r → map received_parcel (pages.taken_of (spool_call Receiver b a r)) ≡ taken_by r
+spool-takes : (b : ℕ) (a : Action) (r : Reply) → TakesPages a → Fits a r
+    → map received_parcel (pages.taken_of (spool_call Receiver b a r)) ≡ handed (taken_by r)
 spool-takes b act.TakePage (reply.Page page last) is fits = refl
 spool-takes b act.TakePage reply.Failed is fits = refl
 spool-takes b act.TakePage r is fits = absurd fits
@@ -176,7 +178,8 @@ spool-lack-puts b act.TakePage (reply.Page page last) may = refl
 spool-lack-puts b act.Local reply.Done may = refl
 spool-lack-puts b a r may = absurd may
 
-spool-lack-takes : (b : ℕ) (a : Action) (r : Reply) → MayLack a r → map received_parcel (pages.taken_of (spool_call Receiver b a r)) ≡ taken_by r
+spool-lack-takes : (b : ℕ) (a : Action) (r : Reply) → MayLack a r
+    → map received_parcel (pages.taken_of (spool_call Receiver b a r)) ≡ handed (taken_by r)
 spool-lack-takes b act.TakePage (reply.Page page last) may = refl
 spool-lack-takes b act.Local reply.Done may = refl
 spool-lack-takes b a r may = absurd may
@@ -200,16 +203,17 @@ module _ (p : Process) (b : ℕ) where
       spool-put (spool_call Sender b a r) [] h (spool-lack-puts b a r follows.1.1) (spool-sent only kind h follows.2) ∙ append-nil (sent h)
   spool-sent only kind (Delays a ∷ h) follows = spool-sent only kind h follows.2
 
-  spool-took : (more : List (SpoolCall (List ℕ))) (by : List Parcel) (h : List Entry) → map received_parcel (pages.taken_of more) ≡ by
-      → map received_parcel (pages.taken_of (spool_calls Receiver b h)) ≡ taken h
-      → map received_parcel (pages.taken_of (and_then (spool_calls Receiver b h) more)) ≡ taken h ++ by
+  spool-took : (more : List (SpoolCall (List ℕ))) (by : List Parcel) (h : List Entry) → map received_parcel (pages.taken_of more) ≡ handed by
+      → map received_parcel (pages.taken_of (spool_calls Receiver b h)) ≡ handed (taken h)
+      → map received_parcel (pages.taken_of (and_then (spool_calls Receiver b h) more)) ≡ handed (taken h ++ by)
   spool-took more by h is before =
       ap (map received_parcel) (flat-then pages.page_taken (spool_calls Receiver b h) more)
       ∙ map-append received_parcel (pages.taken_of (spool_calls Receiver b h)) (pages.taken_of more)
-      ∙ ap (λ front. front ++ map received_parcel (pages.taken_of more)) before ∙ ap (λ rest. taken h ++ rest) is
+      ∙ ap (λ front. front ++ map received_parcel (pages.taken_of more)) before ∙ ap (λ rest. handed (taken h) ++ rest) is
+      ∙ sym (handed-append (taken h) by)
 
   pub spool-taken : {does : Action → Type 0} → DoesOnly p does → ((a : Action) → does a → TakesPages a) → (h : List Entry) → Follows p h
-      → map received_parcel (pages.taken_of (spool_calls Receiver b h)) ≡ taken h
+      → map received_parcel (pages.taken_of (spool_calls Receiver b h)) ≡ handed (taken h)
   spool-taken only kind [] follows = refl
   spool-taken only kind (Does a r ∷ h) follows =
       spool-took (spool_call Receiver b a r) (taken_by r) h (spool-takes b a r (kind a (only h a follows.2 follows.0)) follows.1)

@@ -2,6 +2,7 @@
 use Rattle.std.specs.Prelude.{◌≡◌, ℕ, []}
 use Rattle.solo_devices.specs.CardUnit.{Held}
 use Rattle.solo_devices.specs.PrinterUnit.{Printing}
+use Rattle.disk_files.specs.Answers.{FileTable}
 use Rattle.resource_mon.specs.Seats.{Desk, Seat}
 use Rattle.disk_spool.specs.Ends.{known}
 use Rattle.batch_run.specs.declared.buffers.RunningLine.{RunningLine}
@@ -50,10 +51,11 @@ pub record AreFresh {A B : Type 0} (input_size output_size : ℕ) (gates : Gates
   pub seats : AreFreshSeats gates.disk ends.seats
 
 -- ---- the five processes at these gates, each with its own ends and devices
-pub record BeginsBy {S K A B : Type 0} (gates : Gates A B) (ends : Ends A B) (deck : Held S)
-    (paper : Printing K) (row : Row S K A B) : Type 0 where
+pub record BeginsBy {S K A B F : Type 0} (gates : Gates A B) (ends : Ends A B) (deck : Held S)
+    (paper : Printing K) (files : FileTable F) (row : Row S K A B F) : Type 0 where
   pub deck_is : row.cards.deck ≡ deck
   pub paper_is : row.paper.paper ≡ paper
+  pub files_are : row.jobs.files ≡ files
   pub card_gate : row.cards.gate.now ≡ gates.cards
   pub card_end : row.cards.lines ≡ ends.cards.0
   pub input_from_gate : row.pages.cards_gate.now ≡ gates.cards

@@ -9,10 +9,10 @@ use Rattle.solo_base.specs.declared.item.Feed.TheVariants as feed
 use Rattle.page_codec.specs.Packing.{PageInHand, first_page, page_given, hand_after}
 use Rattle.batch_procs.specs.declared.actions.Action.{Action}
 use Rattle.batch_procs.specs.declared.actions.Action.TheVariants as act
-use Rattle.batch_procs.specs.Parcels.{Parcel, is_ended}
+use Rattle.batch_procs.specs.Parcels.{Parcel, is_ended, loads}
 use Rattle.batch_procs.specs.History.{Entry, Does, LacksMemory, Delays, taken, sent, holds, holds_after, has_stopped, is_unworked, newest}
 use Rattle.batch_procs.specs.Causes.{caused}
-use Rattle.batch_procs.specs.Process.{Process, Follows, next_by, aim, aimed, begins, working, closes, stops_next, puts, due, unworked}
+use Rattle.batch_procs.specs.Process.{Process, Follows, next_by, aim, aimed, works_on, begins, working, closes, stops_next, puts, due, unworked}
 use Rattle.batch_procs.specs.Laws.{IsRelay}
 use Rattle.batch_procs.specs.Parts.{some-same}
 use Rattle.batch_procs.specs.Sends.{as_parcels, as_lines, feeds, until_end, items, lines_of, marked, packed, unpacked, job_lines, output_lines}
@@ -37,6 +37,9 @@ pub record HasAll (p : Process) (Is : Action → Type 0) : Type 0 where
   pub gives : Is act.Request → Is act.Release
   pub put : (page : Page) → Is (act.PutPage page) → Is act.Release
   pub taken : Is act.TakePage → Is act.Release
+  pub load : (file : List ℕ) (later : List (List ℕ)) (all : List Parcel) → p.wants all ≡ file ∷ later
+      → Is (act.Load file) × Is act.Request
+  pub loaded : (file : List ℕ) → Is (act.Load file) → Is act.Release
 
 -- ---- lists of what is put
 first-behind : {X : Type 0} (Has : X → Type 0) (front : List X) (x : X) (more : List X) → AllByRecursion Has (front ++ x ∷ more) → Has x
@@ -77,18 +80,25 @@ module _ {p : Process} {Is : Action → Type 0} (relay : IsRelay p) (all : HasAl
       (subst (λ ps. AllByRecursion (λ parcel. Is (puts parcel) × Is (begins (puts parcel))) ps) (sym whole
       ∙ ap (λ r. sent h ++ r) rest-is) (all.puts_all (taken h)))
 
-  aimed-is : (due : List Parcel) (ended unworked : Bool)
+  -- the work, or the load of a file that it wants
+  works-are : (taken : List Parcel) (wanted : List (List ℕ)) → p.wants taken ≡ wanted → Is act.Local
+      → Is (works_on wanted) × Is (begins (works_on wanted))
+  works-are taken [] e local = (local, local)
+  works-are taken (file ∷ later) e local = all.load file later taken e
+
+  aimed-is : (taken due : List Parcel) (ended unworked : Bool)
       → ((first : Parcel) (more : List Parcel) → due ≡ first ∷ more → Is (puts first) × Is (begins (puts first)))
-      → (unworked ≡ true → Is act.Local) → Is (aimed p.takes due ended unworked) × Is (begins (aimed p.takes due ended unworked))
-  aimed-is [] true false first local = (all.ends outcome.Done, all.ends outcome.Done)
-  aimed-is [] true true first local = (local refl, local refl)
-  aimed-is [] false true first local = (local refl, local refl)
-  aimed-is [] false false first local = all.takes
-  aimed-is (parcel ∷ more) ended unworked first local = first parcel more refl
+      → (unworked ≡ true → Is act.Local)
+      → Is (aimed p.takes (p.wants taken) due ended unworked) × Is (begins (aimed p.takes (p.wants taken) due ended unworked))
+  aimed-is taken [] true false first local = (all.ends outcome.Done, all.ends outcome.Done)
+  aimed-is taken [] true true first local = works-are taken (p.wants taken) refl (local refl)
+  aimed-is taken [] false true first local = works-are taken (p.wants taken) refl (local refl)
+  aimed-is taken [] false false first local = all.takes
+  aimed-is taken (parcel ∷ more) ended unworked first local = first parcel more refl
 
   aim-is : (h : List Entry) → Follows p h → Is (aim p h) × Is (begins (aim p h))
   aim-is h follows =
-      aimed-is (due p h) (is_ended (taken h)) (unworked p h) (λ first more e. first-is h first more follows e)
+      aimed-is (taken h) (due p h) (is_ended (taken h)) (unworked p h) (λ first more e. first-is h first more follows e)
       (λ e. all.works (both-true p.works (is_unworked h) e))
 
   working-is : (newest : Option Action) (aim a : Action) → ((b : Action) → newest ≡ Some b → Is b) → Is aim × Is (begins aim) → working newest aim ≡ Some a
@@ -99,6 +109,7 @@ module _ {p : Process} {Is : Action → Type 0} (relay : IsRelay p) (all : HasAl
   working-is (Some act.Request) aim a old is e = subst Is (some-same aim a e) is.0
   working-is (Some (act.PutPage page)) aim a old is e = subst Is (some-same act.Release a e) (all.put page (old (act.PutPage page) refl))
   working-is (Some act.TakePage) aim a old is e = subst Is (some-same act.Release a e) (all.taken (old act.TakePage refl))
+  working-is (Some (act.Load file)) aim a old is e = subst Is (some-same act.Release a e) (all.loaded file (old (act.Load file) refl))
   working-is (Some (act.Ended how)) aim a old is e = absurd cc
   working-is (Some other) aim a old is e = subst Is (some-same (begins aim) a e) is.1
 
@@ -158,6 +169,8 @@ card-all = record {
   gives = λ is. is;
   put = λ page is. is;
   taken = λ is. is;
+  load = λ file later all e. absurd cc;
+  loaded = λ file is. is;
 }
 
 pub card-does : DoesOnly card does_card
@@ -175,6 +188,8 @@ printer-all = record {
   gives = λ is. is;
   put = λ page is. is;
   taken = λ is. is;
+  load = λ file later all e. absurd cc;
+  loaded = λ file is. is;
 }
 
 pub printer-does : DoesOnly printer does_printer
@@ -192,6 +207,8 @@ input-all = record {
   gives = λ is. tt;
   put = λ page is. tt;
   taken = λ is. tt;
+  load = λ file later all e. absurd cc;
+  loaded = λ file is. tt;
 }
 
 pub input-does : DoesOnly input does_input
@@ -200,7 +217,7 @@ input-does = does-only input-relay input-all
 job-all : HasAll job does_job
 job-all = record {
   takes = (tt, tt);
-  puts_all = λ all. pages-put does_job (λ page. tt) tt first_page (job_lines (unpacked 0 all));
+  puts_all = λ all. pages-put does_job (λ page. tt) tt first_page (job_lines (unpacked 0 all) (loads all));
   works = λ e. tt;
   stops = (inl refl, (inr refl, tt));
   ends = λ how. tt;
@@ -209,6 +226,8 @@ job-all = record {
   gives = λ is. tt;
   put = λ page is. tt;
   taken = λ is. tt;
+  load = λ file later all e. (tt, tt);
+  loaded = λ file is. tt;
 }
 
 pub job-does : DoesOnly job does_job
@@ -226,6 +245,8 @@ output-all = record {
   gives = λ is. tt;
   put = λ page is. tt;
   taken = λ is. tt;
+  load = λ file later all e. absurd cc;
+  loaded = λ file is. tt;
 }
 
 pub output-does : DoesOnly output does_output

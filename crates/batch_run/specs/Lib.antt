@@ -3,6 +3,7 @@ pub mod Calls
 pub mod Cards
 pub mod Lines
 pub mod Desks
+pub mod Files
 pub mod Pages
 pub mod Row
 pub mod DoesOnly

@@ -60,7 +60,8 @@ pub record AllMeet {A B : Type 0} (input_told : A → Option (List (List ℕ))) 
       ∷ stopped_at met.stopped_by 3 ∷ stopped_at met.stopped_by 4 ∷ []
 
 -- These are the outcomes, the ends and the devices of the five.
-pub record IsParted {S K A B : Type 0} (ended : RowEnded S K A B) (parted : Parted S K A B) : Type 0 where
+pub record IsParted {S K A B F : Type 0} (ended : RowEnded S K A B F)
+    (parted : Parted S K A B F) : Type 0 where
   pub card : parted.outcomes.card ≡ ended.front.0.1
   pub input : parted.outcomes.input ≡ ended.front.1.1
   pub job : parted.outcomes.job ≡ ended.rest.0.1
@@ -68,6 +69,7 @@ pub record IsParted {S K A B : Type 0} (ended : RowEnded S K A B) (parted : Part
   pub printer : parted.outcomes.printer ≡ ended.rest.1.1.1
   pub deck : parted.deck ≡ ended.front.0.0.deck
   pub paper : parted.paper ≡ ended.rest.1.1.0.paper
+  pub files : parted.files ≡ ended.rest.0.0.files
   pub cards_sender : parted.ends.cards.0 ≡ ended.front.0.0.lines
   pub cards_receiver : parted.ends.cards.1 ≡ ended.front.1.0.cards
   pub input_sender : parted.ends.input.0 ≡ ended.front.1.0.pages

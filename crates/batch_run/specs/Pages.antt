@@ -1,5 +1,5 @@
 -- The connections of the three processes that move pages, and what became of them in the course of a history.
-use Rattle.std.specs.Prelude.{◌≡◌, ◌⊎◌, ℕ, List}
+use Rattle.std.specs.Prelude.{◌≡◌, ◌⊎◌, ℕ, List, Option}
 use Rattle.disk_spool.specs.Ends.{known}
 use Rattle.solo_base.specs.declared.outcome.Side.TheVariants.{Sender, Receiver}
 use Rattle.batch_procs.specs.declared.actions.Action.{Action}
@@ -13,6 +13,7 @@ use Rattle.batch_run.specs.declared.output_connections.OutputConnections.{Output
 use Rattle.batch_run.specs.declared.output_connections.OutputEnds.{OutputEnds}
 use Rattle.batch_run.specs.Calls.{line_calls, spool_calls}
 use Rattle.batch_run.specs.Desks.{DeskRan, at_desk}
+use Rattle.batch_run.specs.Files.{FilesRan}
 
 -- ---- their actions
 abbrev pub does_input : Action → Type 0
@@ -31,6 +32,7 @@ does_job act.AwaitItem = Unit {0}
 does_job act.Request = Unit {0}
 does_job (act.PutPage page) = Unit {0}
 does_job act.TakePage = Unit {0}
+does_job (act.Load file) = Unit {0}
 does_job act.Release = Unit {0}
 does_job act.Local = Unit {0}
 does_job (act.Stop b) = (b ≡ 2) ⊎ (b ≡ 3)
@@ -47,7 +49,7 @@ does_output (act.Stop b) = (b ≡ 3) ⊎ (b ≡ 4)
 does_output (act.Ended how) = Unit {0}
 does_output other = ⊥
 
--- ---- each buffer has had the calls of the history at the side of the process
+-- ---- each buffer has had the calls of the history at the side of the process; and the files were loaded
 pub record InputRan {A : Type 0} (size : A → ℕ) (start now : InputConnections A)
     (h : List Entry) : Type 0 where
   pub from_gate : (start.cards_gate.now ≡ now.cards_gate.now) × (now.cards.gate ≡ now.cards_gate.now)
@@ -57,7 +59,8 @@ pub record InputRan {A : Type 0} (size : A → ℕ) (start now : InputConnection
   pub to_calls : now.pages.calls ≡ spool_calls Sender 2 h
   pub desk : DeskRan start.desk now.desk h
 
-pub record JobRan {A B : Type 0} (from_size : A → ℕ) (to_size : B → ℕ) (start now : JobConnections A B)
+pub record JobRan {A B F : Type 0} (from_size : A → ℕ) (to_size : B → ℕ)
+    (file_pages : F → Option (List (List ℕ))) (file_faults : F → ℕ) (start now : JobConnections A B F)
     (h : List Entry) : Type 0 where
   pub from_gate : (start.cards_gate.now ≡ now.cards_gate.now)
       × (now.cards.gate ≡ known (from_size now.cards_gate.now.area) now.cards_gate.now)
@@ -66,6 +69,7 @@ pub record JobRan {A B : Type 0} (from_size : A → ℕ) (to_size : B → ℕ) (
       × (now.pages.gate ≡ known (to_size now.pages_gate.now.area) now.pages_gate.now)
   pub to_calls : now.pages.calls ≡ spool_calls Sender 3 h
   pub desk : DeskRan start.desk now.desk h
+  pub files : FilesRan file_pages file_faults start.files now.files h
 
 pub record OutputRan {B : Type 0} (size : B → ℕ) (start now : OutputConnections B)
     (h : List Entry) : Type 0 where
@@ -90,7 +94,7 @@ input_connected ends =
       desk = at_desk ends.disk ends.seat;
     }
 
-abbrev pub job_connected : {A : Type 0} {B : Type 0} → JobEnds A B → JobConnections A B
+abbrev pub job_connected : {A : Type 0} {B : Type 0} {F : Type 0} → JobEnds A B F → JobConnections A B F
 job_connected ends =
     record {
       cards_gate =
@@ -100,6 +104,7 @@ job_connected ends =
       pages_gate = ends.pages_gate;
       pages = ends.pages;
       desk = at_desk ends.disk ends.seat;
+      files = ends.files;
     }
 
 abbrev pub output_connected : {B : Type 0} → OutputEnds B → OutputConnections B

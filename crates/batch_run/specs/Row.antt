@@ -36,31 +36,35 @@ module _ {K B : Type 0} (given : K → Option (List ℕ)) (faults : K → ℕ) (
         (OutputRan size (output_connected lines) (output_connected ended.0.0)) ended.0.1
     pub paper_ended : EndsSo printer (PrinterRan given faults paper ended.1.0) ended.1.1
 
-module _ {K A B : Type 0} (given : K → Option (List ℕ)) (faults : K → ℕ) (from_size : A → ℕ)
-    (to_size : B → ℕ) where
-  pub record RestBegins (jobs : JobEnds A B) (lines : OutputEnds B)
+module _ {K A B F : Type 0} (given : K → Option (List ℕ)) (faults : K → ℕ) (from_size : A → ℕ)
+    (to_size : B → ℕ) (file_pages : F → Option (List (List ℕ))) (file_faults : F → ℕ) where
+  pub record RestBegins (jobs : JobEnds A B F) (lines : OutputEnds B)
       (paper : PrinterConnections K) : Type 0 where
-    pub jobs_begin : JobRan from_size to_size (job_connected jobs) (job_connected jobs) []
+    pub jobs_begin : JobRan from_size to_size file_pages file_faults (job_connected jobs)
+        (job_connected jobs) []
     pub back_begins : BackBegins given faults to_size lines paper
 
-  pub record RestRan (jobs : JobEnds A B) (lines : OutputEnds B) (paper : PrinterConnections K)
-      (ended : (JobEnds A B × Outcome)
+  pub record RestRan (jobs : JobEnds A B F) (lines : OutputEnds B) (paper : PrinterConnections K)
+      (ended : (JobEnds A B F × Outcome)
       × ((OutputEnds B × Outcome) × (PrinterConnections K × Outcome))) : Type 0 where
     pub jobs_ended : EndsSo job
-        (JobRan from_size to_size (job_connected jobs) (job_connected ended.0.0)) ended.0.1
+        (JobRan from_size to_size file_pages file_faults (job_connected jobs) (job_connected ended.0.0))
+        ended.0.1
     pub back_ended : BackRan given faults to_size lines paper ended.1
 
 -- The ends have had no call, no process has the disk, and the devices may be used.
-pub record RowBegins {S K A B : Type 0} (left : S → Option (List ℕ)) (taken source_faults : S → ℕ)
-    (given : K → Option (List ℕ))
-    (sink_faults : K → ℕ) (from_size : A → ℕ) (to_size : B → ℕ) (row : Row S K A B) : Type 0 where
+pub record RowBegins {S K A B F : Type 0} (left : S → Option (List ℕ)) (taken source_faults : S → ℕ)
+    (given : K → Option (List ℕ)) (sink_faults : K → ℕ) (from_size : A → ℕ) (to_size : B → ℕ)
+    (file_pages : F → Option (List (List ℕ))) (file_faults : F → ℕ) (row : Row S K A B F) : Type 0 where
   pub front_begins : FrontBegins left taken source_faults from_size row.cards row.pages
-  pub rest_begins : RestBegins given sink_faults from_size to_size row.jobs row.lines row.paper
+  pub rest_begins : RestBegins given sink_faults from_size to_size file_pages file_faults
+      row.jobs row.lines row.paper
 
 -- Each of the five did what its history asks for, over its own connections.
-pub record RowRan {S K A B : Type 0} (left : S → Option (List ℕ)) (taken source_faults : S → ℕ)
-    (given : K → Option (List ℕ))
-    (sink_faults : K → ℕ) (from_size : A → ℕ) (to_size : B
-    → ℕ) (row : Row S K A B) (ended : RowEnded S K A B) : Type 0 where
+pub record RowRan {S K A B F : Type 0} (left : S → Option (List ℕ)) (taken source_faults : S → ℕ)
+    (given : K → Option (List ℕ)) (sink_faults : K → ℕ) (from_size : A → ℕ) (to_size : B → ℕ)
+    (file_pages : F → Option (List (List ℕ))) (file_faults : F → ℕ) (row : Row S K A B F)
+    (ended : RowEnded S K A B F) : Type 0 where
   pub front_ended : FrontRan left taken source_faults from_size row.cards row.pages ended.front
-  pub rest_ended : RestRan given sink_faults from_size to_size row.jobs row.lines row.paper ended.rest
+  pub rest_ended : RestRan given sink_faults from_size to_size file_pages file_faults
+      row.jobs row.lines row.paper ended.rest

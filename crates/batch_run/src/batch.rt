@@ -1,6 +1,7 @@
 //! The batch: the five processes on threads, from the making of their buffers to the meeting of the ends.
 ghost use Rattle.std.specs.Prelude.{◌≡◌, ◌<◌, ◌≤◌, true, List, [], Some, IsSome, IfOk, IfErr};
 ghost use Rattle.solo_base.specs.declared.item.Item.{Item};
+ghost use Rattle.batch_job.specs.Report.{Loads};
 ghost use Rattle.solo_base.specs.Text.{text};
 ghost use Rattle.solo_base.specs.declared.outcome.Cause.TheVariants as cause;
 ghost use Rattle.solo_base.specs.declared.outcome.Outcome.TheVariants as outcome;
@@ -8,11 +9,11 @@ ghost use Rattle.solo_devices.specs.CardUnit.{items_ahead, byte_limit, bytes_tot
 ghost use Rattle.solo_devices.specs.PrinterUnit.{Gains};
 ghost use Rattle.page_codec.specs.Items.{AreItems};
 ghost use Rattle.batch_job.specs.OneThread.{one_thread_lines};
-ghost use Rattle.core_law.specs.Holds.{AreTold};
+ghost use Rattle.core_law.specs.Holds.{AreTold, AreFound};
 ghost use Rattle.core_net.specs.Causes.{counting};
 ghost use Rattle.core_net.specs.Ended.{all_done, EndTogether, FaultsAre, NoneDamaged};
 ghost use Rattle.core_net.specs.Faults.{FaultsAreCounted};
-ghost use Rattle.core_net.specs.Openings.{spools_over};
+ghost use Rattle.core_net.specs.Openings.{spools_over, files_found};
 ghost use Rattle.batch_run.specs.Begun.{AreFresh};
 ghost use Rattle.batch_run.specs.Met.{IsParted};
 
@@ -22,6 +23,7 @@ use crate::making::make_all;
 use crate::row::{RowEnded, run_five};
 use crate::units::Units;
 use core_net::{Outcomes, Ran};
+use disk_files::FileArea;
 use solo_base::NoMemory;
 use solo_devices::{Area, CardUnit, PrinterUnit, Sink, Source};
 use std::alloc::Global;
@@ -29,55 +31,63 @@ use std::sync::Wait;
 use std::thread::Threads;
 
 /// How the five ended, with their ends and the devices.
-struct Parted<S: Source, K: Sink, A: Area + Send, B: Area + Send> {
+struct Parted<S: Source, K: Sink, A: Area + Send, B: Area + Send, F: Area> {
     outcomes: Outcomes,
     ends: Ends<A, B>,
     deck: CardUnit<S>,
     paper: PrinterUnit<K>,
+    files: FileArea<F>,
 }
 
-/// Runs the deck to the paper on five threads. Where memory is refused, no process has begun, and the
-/// units come back as they were.
+/// Runs the deck to the paper on five threads. No file is changed. Where memory is refused, no process has
+/// begun, and the units come back as they were.
 #[inline(never)]
 pub fn run_batch<
     S: Source + Drop + Send,
     K: Sink + Drop + Send,
     A: Area + Send,
     B: Area + Send,
+    F: Area + Drop + Send,
     R: Threads + Wait + Sync,
 >(
     rt: &R,
     alloc: Global,
-    units: Units<S, K, A, B>,
-) -> Result<Ran<S, K, A, B>, (Units<S, K, A, B>, NoMemory)>
+    units: Units<S, K, A, B, F>,
+) -> Result<Ran<S, K, A, B, F>, (Units<S, K, A, B, F>, NoMemory)>
     requires live { (units.deck.live ≡ true) × (units.paper.live ≡ true) }
     requires input { (0 < A.size units.input) × (A.size units.input ≤ 256) }
     requires output { (0 < B.size units.output) × (B.size units.output ≤ 256) }
+    requires sound { units.files.sound ≡ true }
     ensures refused { IfErr result (λ back. back.0 ≡ units) }
 
     // How the five ended together, and where their faults come from.
     ensures together { IfOk result (λ ran. EndTogether ran.outcomes ran.stopped_by) }
     ensures faults { IfOk result (λ ran. FaultsAre ran.outcomes) }
     ensures counted { IfOk result (λ ran.
-        FaultsAreCounted (counting S.faults S.taken K.faults A.faults B.faults) record {
+        FaultsAreCounted (counting S.faults S.taken K.faults A.faults B.faults F.faults) record {
           source = units.deck.source;
           sink = units.paper.sink;
           input = units.input;
           output = units.output;
+          files = units.files.area;
         } ran) }
 
     // The paper gained what one thread prints or a part of it, all of it where all are done, and then
     // nothing is left of the deck.
-    ensures prints { IfOk result (λ ran. (items : List Item) →
+    ensures prints { IfOk result (λ ran. (items : List Item) (found : Loads) →
         items_ahead (S.left units.deck.source) units.deck.pending ≡ Some items → AreItems items →
+        AreFound (files_found (F.pages units.files.area)) found items →
         AreTold (spools_over (A.size units.input) (A.pages units.input)
         (B.size units.output) (B.pages units.output)) →
         Gains (K.given units.paper.sink) (K.given ran.paper.sink)
-        (text (one_thread_lines items)) (ran.outcomes ≡ all_done)) }
+        (text (one_thread_lines found items)) (ran.outcomes ≡ all_done)) }
     ensures reads { IfOk result (λ ran. (items : List Item) →
         items_ahead (S.left units.deck.source) units.deck.pending ≡ Some items → ran.outcomes ≡ all_done →
         items_ahead (S.left ran.deck.source) ran.deck.pending ≡ Some []) }
     ensures all_taken { IfOk result (λ ran. ran.outcomes ≡ all_done → IsAllTaken (S.left ran.deck.source)) }
+
+    // No file is changed.
+    ensures files { IfOk result (λ ran. F.pages ran.files.area ≡ F.pages units.files.area) }
 
     // Over areas that tell their pages no page was damaged.
     ensures undamaged { IfOk result (λ ran. (items : List Item) →
@@ -97,15 +107,17 @@ pub fn run_batch<
         input,
         output,
         paper,
+        files,
     } = units;
     match make_all(alloc, input, output) {
-        Ok((gates, ends)) => Ok(run_made(rt, alloc, gates, ends, deck, paper)),
+        Ok((gates, ends)) => Ok(run_made(rt, alloc, gates, ends, deck, paper, files)),
         Err(((input, output), refused)) => {
             let units = Units {
                 deck,
                 input,
                 output,
                 paper,
+                files,
             };
             Err((units, refused))
         }
@@ -118,6 +130,7 @@ fn run_made<
     K: Sink + Drop + Send,
     A: Area + Send,
     B: Area + Send,
+    F: Area + Drop + Send,
     R: Threads + Wait + Sync,
 >(
     rt: &R,
@@ -126,22 +139,27 @@ fn run_made<
     ends: Ends<A, B>,
     deck: CardUnit<S>,
     paper: PrinterUnit<K>,
-) -> Ran<S, K, A, B>
+    files: FileArea<F>,
+) -> Ran<S, K, A, B, F>
     requires live { (deck.live ≡ true) × (paper.live ≡ true) }
+    requires sound { files.sound ≡ true }
     requires fresh { AreFresh (A.size gates.input.area) (B.size gates.output.area) gates ends }
     ensures together { EndTogether result.outcomes result.stopped_by }
     ensures faults { FaultsAre result.outcomes }
-    ensures counted { FaultsAreCounted (counting S.faults S.taken K.faults A.faults B.faults) record {
-      source = deck.source;
-      sink = paper.sink;
-      input = gates.input.area;
-      output = gates.output.area;
-    } result }
-    ensures prints { (items : List Item) →
+    ensures counted { FaultsAreCounted
+        (counting S.faults S.taken K.faults A.faults B.faults F.faults) record {
+          source = deck.source;
+          sink = paper.sink;
+          input = gates.input.area;
+          output = gates.output.area;
+          files = files.area;
+        } result }
+    ensures prints { (items : List Item) (found : Loads) →
         items_ahead (S.left deck.source) deck.pending ≡ Some items → AreItems items →
+        AreFound (files_found (F.pages files.area)) found items →
         IsSome (A.pages gates.input.area) → IsSome (B.pages gates.output.area) →
         Gains (K.given paper.sink) (K.given result.paper.sink)
-        (text (one_thread_lines items)) (result.outcomes ≡ all_done) }
+        (text (one_thread_lines found items)) (result.outcomes ≡ all_done) }
     ensures reads { (items : List Item) →
         items_ahead (S.left deck.source) deck.pending ≡ Some items → result.outcomes ≡ all_done →
         items_ahead (S.left result.deck.source) result.deck.pending ≡ Some [] }
@@ -154,13 +172,15 @@ fn run_made<
         result.outcomes.card ≡ outcome.Fault cause.DeckLimit }
     ensures total { bytes_total (S.taken result.deck.source) (S.left result.deck.source)
         ≡ bytes_total (S.taken deck.source) (S.left deck.source) }
+    ensures files { F.pages result.files.area ≡ F.pages files.area }
 {
-    let ended = run_five(rt, alloc, gates.row(ends, deck, paper));
+    let ended = run_five(rt, alloc, gates.row(ends, deck, paper, files));
     let Parted {
         outcomes,
         ends,
         deck,
         paper,
+        files,
     } = take_apart(ended);
     let AllMet {
         input,
@@ -174,13 +194,14 @@ fn run_made<
         input,
         output,
         paper,
+        files,
     }
 }
 
 // How the five ended, apart from the gates that they were at.
-fn take_apart<'a, S: Source + Drop, K: Sink + Drop, A: Area + Send, B: Area + Send>(
-    ended: RowEnded<'a, S, K, A, B>,
-) -> Parted<S, K, A, B>
+fn take_apart<'a, S: Source + Drop, K: Sink + Drop, A: Area + Send, B: Area + Send, F: Area>(
+    ended: RowEnded<'a, S, K, A, B, F>,
+) -> Parted<S, K, A, B, F>
     ensures { IsParted ended.entry result }
 {
     let RowEnded { front, rest } = ended;
@@ -207,5 +228,6 @@ fn take_apart<'a, S: Source + Drop, K: Sink + Drop, A: Area + Send, B: Area + Se
         },
         deck: cards.deck,
         paper: paper.paper,
+        files: jobs.files,
     }
 }

@@ -28,7 +28,7 @@ impl<'a, S: Source + Drop> CardConnections<'a, S> {
         requires { CardRan S.left S.taken S.faults self.old self.old [] }
         ensures { EndsSo card (CardRan S.left S.taken S.faults self.old self.new) result }
     {
-        run_to_end!(self, CardWork, rt, alloc)
+        run_to_end!(CardWork, rt, alloc, |action| self.perform(action, rt))
     }
 
     /// The same, and hands the connections back.

@@ -10,6 +10,7 @@ use crate::job_connections::JobEnds;
 use crate::output_connections::OutputEnds;
 use crate::printer_connections::PrinterConnections;
 use crate::row::Row;
+use disk_files::FileArea;
 use disk_spool::{SpoolGate, SpoolMet, SpoolRecv, SpoolSend};
 use resource_mon::DiskResource;
 use slot_buffer::{RecvEnd, SendEnd, SlotGate};
@@ -44,13 +45,14 @@ pub(crate) struct AllMet<A, B> {
 
 impl<A: Area + Send, B: Area + Send> Gates<A, B> {
     /// The five processes at their ends, before their first action.
-    pub(crate) fn row<'a, S: Source + Drop, K: Sink + Drop>(
+    pub(crate) fn row<'a, S: Source + Drop, K: Sink + Drop, F: Area>(
         &'a self,
         ends: Ends<A, B>,
         deck: CardUnit<S>,
         paper: PrinterUnit<K>,
-    ) -> Row<'a, S, K, A, B>
-        ensures { BeginsBy self.now ends deck paper result }
+        files: FileArea<F>,
+    ) -> Row<'a, S, K, A, B, F>
+        ensures { BeginsBy self.now ends deck paper files result }
     {
         let Ends {
             cards,
@@ -80,6 +82,7 @@ impl<A: Area + Send, B: Area + Send> Gates<A, B> {
                 pages: output.0,
                 disk: &self.disk,
                 seat: seats.job,
+                files,
             },
             lines: OutputEnds {
                 pages_gate: &self.output,

@@ -44,7 +44,7 @@ impl<'a, A: Area + Send> InputConnections<'a, A> {
         requires { InputRan A.size self.old self.old [] }
         ensures { EndsSo input (InputRan A.size self.old self.new) result }
     {
-        run_to_end!(self, InputWork, rt, alloc)
+        run_to_end!(InputWork, rt, alloc, |action| self.perform(action, rt))
     }
 
     /// Performs an action of the process, and waits where the other side of a buffer isn't ready.

@@ -8,6 +8,8 @@ ghost use Rattle.batch_run.specs.Pages.{JobRan, does_job, job_connected};
 use crate::desk::Desk;
 use crate::run::{end_of, run_to_end};
 use batch_procs::{Action, JobWork, Machine, Reply};
+use core_net::load_file;
+use disk_files::FileArea;
 use disk_spool::{Fetched, SpoolGate, SpoolRecv, SpoolSend};
 use resource_mon::{DiskResource, DiskSeat};
 use solo_base::{Outcome, Page};
@@ -16,45 +18,51 @@ use std::alloc::Global;
 use std::sync::Wait;
 use std::thread::Threads;
 
-/// What the job process is connected to: the spool 2 as its receiver, the spool 3 as its sender, and the
-/// disk.
-pub struct JobConnections<'a, A: Area + Send, B: Area + Send> {
+/// What the job process is connected to: the spool 2 as its receiver, the spool 3 as its sender, the disk,
+/// and the files.
+pub struct JobConnections<'a, A: Area + Send, B: Area + Send, F: Area> {
     pub cards_gate: &'a SpoolGate<A>,
     pub cards: SpoolRecv<A>,
     pub pages_gate: &'a SpoolGate<B>,
     pub pages: SpoolSend<B>,
     pub desk: Desk<'a>,
+    pub files: FileArea<F>,
 }
 
 /// The same before and after the process has run: it hasn't got the disk.
 #[derive(Drop)]
-pub struct JobEnds<'a, A: Area + Send, B: Area + Send> {
+pub struct JobEnds<'a, A: Area + Send, B: Area + Send, F: Area> {
     pub cards_gate: &'a SpoolGate<A>,
     pub cards: SpoolRecv<A>,
     pub pages_gate: &'a SpoolGate<B>,
     pub pages: SpoolSend<B>,
     pub disk: &'a DiskResource,
     pub seat: DiskSeat,
+    pub files: FileArea<F>,
 }
 
-impl<'a, A: Area + Send, B: Area + Send> JobConnections<'a, A, B> {
+impl<'a, A: Area + Send, B: Area + Send, F: Area> JobConnections<'a, A, B, F> {
     /// Runs the job process up to its end.
     fn run<R: Threads + Wait + Sync>(&mut self, rt: &R, alloc: Global) -> Outcome
-        requires { JobRan A.size B.size self.old self.old [] }
-        ensures { EndsSo job (JobRan A.size B.size self.old self.new) result }
+        requires { JobRan A.size B.size F.pages F.faults self.old self.old [] }
+        ensures { EndsSo job (JobRan A.size B.size F.pages F.faults self.old self.new) result }
     {
-        run_to_end!(self, JobWork, rt, alloc)
+        run_to_end!(JobWork, rt, alloc, |action| self.perform(action, rt, alloc))
     }
 
     /// Performs an action of the process, and waits where the other side of a buffer isn't ready.
-    fn perform<R: Threads + Wait + Sync>(&mut self, action: Action, rt: &R) -> Reply
+    fn perform<R: Threads + Wait + Sync>(&mut self, action: Action, rt: &R, alloc: Global) -> Reply
         requires does { does_job action }
-        requires comes { (start : JobConnections A B)
-            × Comes job (JobRan A.size B.size start self.old) action }
+        requires comes { (start : JobConnections A B F)
+            × Comes job (JobRan A.size B.size F.pages F.faults start self.old) action }
         ensures fits { Fits action result }
-        ensures performs { (start : JobConnections A B)
-            → Performs job (JobRan A.size B.size start self.old) (JobRan A.size B.size start self.new) action result }
+        ensures performs { (start : JobConnections A B F)
+            → Performs job (JobRan A.size B.size F.pages F.faults start self.old)
+            (JobRan A.size B.size F.pages F.faults start self.new) action result }
     {
+        if let Action::Load(file) = &action {
+            return load_file(alloc, &mut self.files, file);
+        }
         match action {
             Action::AwaitItem => match self.cards.await_item(self.cards_gate, rt) {
                 Ok(()) => Reply::Done,
@@ -102,15 +110,17 @@ impl<'a, A: Area + Send, B: Area + Send> JobConnections<'a, A, B> {
     }
 }
 
-impl<'a, A: Area + Send, B: Area + Send> JobEnds<'a, A, B> {
+impl<'a, A: Area + Send, B: Area + Send, F: Area> JobEnds<'a, A, B, F> {
     /// Runs the job process up to its end.
     pub fn ran<R: Threads + Wait + Sync>(
         self,
         rt: &R,
         alloc: Global,
-    ) -> (JobEnds<'a, A, B>, Outcome)
-        requires { JobRan A.size B.size (job_connected self) (job_connected self) [] }
-        ensures { EndsSo job (JobRan A.size B.size (job_connected self.entry) (job_connected result.0)) result.1 }
+    ) -> (JobEnds<'a, A, B, F>, Outcome)
+        requires { JobRan A.size B.size F.pages F.faults (job_connected self) (job_connected self) [] }
+        ensures { EndsSo job
+            (JobRan A.size B.size F.pages F.faults (job_connected self.entry) (job_connected result.0))
+            result.1 }
     {
         let JobEnds {
             cards_gate,
@@ -119,6 +129,7 @@ impl<'a, A: Area + Send, B: Area + Send> JobEnds<'a, A, B> {
             pages,
             disk,
             seat,
+            files,
         } = self;
         let mut connections = JobConnections {
             cards_gate,
@@ -126,6 +137,7 @@ impl<'a, A: Area + Send, B: Area + Send> JobEnds<'a, A, B> {
             pages_gate,
             pages,
             desk: Desk::new(disk, seat),
+            files,
         };
         let how = connections.run(rt, alloc);
         let JobConnections {
@@ -134,6 +146,7 @@ impl<'a, A: Area + Send, B: Area + Send> JobEnds<'a, A, B> {
             pages_gate,
             pages,
             desk,
+            files,
         } = connections;
         let (disk, seat) = desk.into_parts();
         let ends = JobEnds {
@@ -143,6 +156,7 @@ impl<'a, A: Area + Send, B: Area + Send> JobEnds<'a, A, B> {
             pages,
             disk,
             seat,
+            files,
         };
         (ends, how)
     }

@@ -26,4 +26,8 @@ pub use row::{Ended, Row, RowEnded, run_five};
 pub use units::Units;
 
 #[cfg(test)]
+mod file_tests;
+#[cfg(test)]
+mod made_files;
+#[cfg(test)]
 mod tests;

@@ -44,7 +44,7 @@ impl<'a, B: Area + Send> OutputConnections<'a, B> {
         requires { OutputRan B.size self.old self.old [] }
         ensures { EndsSo output (OutputRan B.size self.old self.new) result }
     {
-        run_to_end!(self, OutputWork, rt, alloc)
+        run_to_end!(OutputWork, rt, alloc, |action| self.perform(action, rt))
     }
 
     /// Performs an action of the process, and waits where the other side of a buffer isn't ready.

@@ -29,7 +29,7 @@ impl<'a, K: Sink + Drop> PrinterConnections<'a, K> {
         requires { PrinterRan K.given K.faults self.old self.old [] }
         ensures { EndsSo printer (PrinterRan K.given K.faults self.old self.new) result }
     {
-        run_to_end!(self, PrinterWork, rt, alloc)
+        run_to_end!(PrinterWork, rt, alloc, |action| self.perform(action, rt))
     }
 
     /// The same, and hands the connections back.

@@ -22,19 +22,19 @@ use std::thread::{Threads, join};
 pub type Ended<C> = (C, Outcome);
 
 /// The connections of the five processes, in their order.
-pub struct Row<'a, S: Source + Drop, K: Sink + Drop, A: Area + Send, B: Area + Send> {
+pub struct Row<'a, S: Source + Drop, K: Sink + Drop, A: Area + Send, B: Area + Send, F: Area> {
     pub cards: CardConnections<'a, S>,
     pub pages: InputEnds<'a, A>,
-    pub jobs: JobEnds<'a, A, B>,
+    pub jobs: JobEnds<'a, A, B, F>,
     pub lines: OutputEnds<'a, B>,
     pub paper: PrinterConnections<'a, K>,
 }
 
 /// The same once all have ended: the card and the input process, and the three others.
-pub struct RowEnded<'a, S: Source + Drop, K: Sink + Drop, A: Area + Send, B: Area + Send> {
+pub struct RowEnded<'a, S: Source + Drop, K: Sink + Drop, A: Area + Send, B: Area + Send, F: Area> {
     pub front: (Ended<CardConnections<'a, S>>, Ended<InputEnds<'a, A>>),
     pub rest: (
-        Ended<JobEnds<'a, A, B>>,
+        Ended<JobEnds<'a, A, B, F>>,
         (Ended<OutputEnds<'a, B>>, Ended<PrinterConnections<'a, K>>),
     ),
 }
@@ -93,25 +93,29 @@ pub fn run_rest<
     K: Sink + Drop + Send,
     A: Area + Send,
     B: Area + Send,
+    F: Area + Drop + Send,
     R: Threads + Wait + Sync,
 >(
     rt: &R,
     alloc: Global,
-    jobs: JobEnds<'a, A, B>,
+    jobs: JobEnds<'a, A, B, F>,
     lines: OutputEnds<'b, B>,
     paper: PrinterConnections<'c, K>,
 ) -> (
-    Ended<JobEnds<'a, A, B>>,
+    Ended<JobEnds<'a, A, B, F>>,
     (Ended<OutputEnds<'b, B>>, Ended<PrinterConnections<'c, K>>),
 )
-    requires { RestBegins K.given K.faults A.size B.size jobs lines paper }
-    ensures { RestRan K.given K.faults A.size B.size jobs.entry lines.entry paper.entry result }
+    requires { RestBegins K.given K.faults A.size B.size F.pages F.faults jobs lines paper }
+    ensures { RestRan K.given K.faults A.size B.size F.pages F.faults
+        jobs.entry lines.entry paper.entry result }
 {
     join(
         rt,
-        move || -> Ended<JobEnds<A, B>>
-            requires { JobRan A.size B.size (job_connected jobs) (job_connected jobs) [] }
-            ensures { EndsSo job (JobRan A.size B.size (job_connected jobs.entry) (job_connected result.0)) result.1 }
+        move || -> Ended<JobEnds<A, B, F>>
+            requires { JobRan A.size B.size F.pages F.faults (job_connected jobs) (job_connected jobs) [] }
+            ensures { EndsSo job
+                (JobRan A.size B.size F.pages F.faults (job_connected jobs.entry) (job_connected result.0))
+                result.1 }
         { jobs.ran(rt, alloc) },
         move || -> (Ended<OutputEnds<B>>, Ended<PrinterConnections<K>>)
             requires { BackBegins K.given K.faults B.size lines paper }
@@ -127,10 +131,12 @@ pub fn run_five<
     K: Sink + Drop + Send,
     A: Area + Send,
     B: Area + Send,
+    F: Area + Drop + Send,
     R: Threads + Wait + Sync,
->(rt: &R, alloc: Global, row: Row<'a, S, K, A, B>) -> RowEnded<'a, S, K, A, B>
-    requires { RowBegins S.left S.taken S.faults K.given K.faults A.size B.size row }
-    ensures { RowRan S.left S.taken S.faults K.given K.faults A.size B.size row.entry result }
+>(rt: &R, alloc: Global, row: Row<'a, S, K, A, B, F>) -> RowEnded<'a, S, K, A, B, F>
+    requires { RowBegins S.left S.taken S.faults K.given K.faults A.size B.size F.pages F.faults row }
+    ensures { RowRan S.left S.taken S.faults K.given K.faults A.size B.size F.pages F.faults
+        row.entry result }
 {
     let Row {
         cards,
@@ -146,11 +152,12 @@ pub fn run_five<
             ensures { FrontRan S.left S.taken S.faults A.size cards.entry pages.entry result }
         { run_front(rt, alloc, cards, pages) },
         move || -> (
-            Ended<JobEnds<A, B>>,
+            Ended<JobEnds<A, B, F>>,
             (Ended<OutputEnds<B>>, Ended<PrinterConnections<K>>),
         )
-            requires { RestBegins K.given K.faults A.size B.size jobs lines paper }
-            ensures { RestRan K.given K.faults A.size B.size jobs.entry lines.entry paper.entry result }
+            requires { RestBegins K.given K.faults A.size B.size F.pages F.faults jobs lines paper }
+            ensures { RestRan K.given K.faults A.size B.size F.pages F.faults
+                jobs.entry lines.entry paper.entry result }
         { run_rest(rt, alloc, jobs, lines, paper) },
     );
     RowEnded { front, rest }

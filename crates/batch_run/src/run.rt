@@ -5,15 +5,15 @@ ghost use Rattle.batch_run.specs.Connections.{end_of};
 use batch_procs::Action;
 use solo_base::Outcome;
 
-/// Runs the machine of a process over its connections up to its end. It stands in a function of each of the
-/// connections, since what they send to a thread isn't known behind a trait.
+/// Runs the machine of a process, of which each action is performed so, up to its end. It stands in a
+/// function of each of the connections, since what they send to a thread isn't known behind a trait.
 macro_rules! run_to_end {
-    ($connections:expr, $work:ty, $rt:expr, $alloc:expr) => {{
+    ($work:ty, $rt:expr, $alloc:expr, |$action:ident| $perform:expr) => {{
         let mut machine = Machine::<$work>::new($alloc);
         for _ in $rt.forever() {
-            let action = machine.next();
-            let end = end_of(&action);
-            let reply = $connections.perform(action, $rt);
+            let $action = machine.next();
+            let end = end_of(&$action);
+            let reply = $perform;
             if let Some(how) = end {
                 return how;
             }

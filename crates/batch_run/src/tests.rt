@@ -1,17 +1,18 @@
 // Whole batches on five threads, over devices in memory.
 ghost use Rattle.std.specs.Prelude.{◌≡◌, ◌<◌, ◌≤◌, IfOk};
 
+use crate::made_files::no_files;
 use crate::{Units, run_batch};
 use core_net::{Outcomes, Ran};
 use solo_base::{Cause, Outcome};
-use solo_devices::{Area, CardUnit, MemArea, MemSink, MemSource, PrinterUnit};
+use solo_devices::{Area, CardUnit, MemArea, MemSink, MemSource, PrinterUnit, SureArea};
 use std::alloc::Global;
 use std::process::Abort;
 use std::sync::Wait;
 use std::test::*;
 use std::thread::Threads;
 
-type Batch = Ran<MemSource, MemSink, MemArea, MemArea>;
+type Batch = Ran<MemSource, MemSink, MemArea, MemArea, SureArea>;
 
 // The calls of the devices that fail, by number from 1 on; no call has the number 0.
 #[derive(Clone, Copy)]
@@ -62,6 +63,7 @@ fn run<R: Threads + Wait + Sync + Abort>(
         input: area(rt, alloc, pages, failing.input_read, failing.input_write)?,
         output: area(rt, alloc, pages, failing.output_read, failing.output_write)?,
         paper: PrinterUnit::new(MemSink::new(alloc, gives)),
+        files: no_files(rt, alloc),
     };
     Ok(run_batch(rt, alloc, units).ok().expect(rt, "ample memory"))
 }

@@ -3,7 +3,9 @@ use Rattle.solo_base.specs.declared.outcome.Side.TheVariants.{Sender, Receiver}
 use Rattle.batch_procs.specs.Relays.{job-relay}
 use Rattle.batch_procs.specs.Table.{job}
 use Rattle.batch_procs.proofs.Holding.{moves-holding, release-holds, request-holds_not}
+use Rattle.batch_procs.proofs.Relay.{open-next}
 use Rattle.batch_run.specs.Desks.{IsAt}
+use Rattle.batch_run.proofs.FileLoads.{file-loaded}
 use Rattle.batch_run.proofs.SpoolCalls as spools
 use Rattle.batch_run.proofs.job_connections.JobConnections.perform.Goals as goal
 
@@ -60,3 +62,24 @@ release-requires-after_bounds g c κs within =
     let (start, comes) = c.requires.comes in
     subst (λ has. IsAt c.args.self.now.desk has) (release-holds job comes.history job-relay comes.follows (comes.next
     ∙ ap Some c.in-Release.is)) comes.stands.desk.at
+
+pub load_file-requires : goal.load_file-requires
+load_file-requires g c =
+    let (start, comes) = c.requires.comes in
+    record { sound = comes.stands.files.sound (open-next job comes.history _ (comes.next ∙ ap Some c.in-Load.is) tt) }
+
+pub returns-in-Load-clause-performs : goal.returns-in-Load-clause-performs
+returns-in-Load-clause-performs g c start h ran follows next =
+    rw c.in-Load.is
+    record {
+      done = record {
+        from_gate = ran.from_gate;
+        from_calls = ran.from_calls;
+        to_gate = ran.to_gate;
+        to_calls = ran.to_calls;
+        desk = record { same = ran.desk.same; at = ran.desk.at };
+        files = file-loaded start.files c.args.self.now.files c.load_file.new.files h c.in-Load.file c.load_file.result ran.files c.load_file.ensures.loads
+            c.load_file.ensures.failed c.load_file.ensures.counts c.load_file.ensures.left c.load_file.ensures.sound;
+      };
+      lacks = λ may. absurd may;
+    }
