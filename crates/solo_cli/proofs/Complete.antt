@@ -11,7 +11,7 @@ use Rattle.solo_cli.specs.declared.words.Command.{Command}
 use Rattle.solo_cli.specs.declared.words.Command.TheVariants as command
 use Rattle.solo_cli.specs.Status.{number_of, status_of}
 use Rattle.solo_cli.specs.Causes.{IsMakeCause}
-use Rattle.solo_cli.specs.Refusals.{IsDeckCause, IsMigrateCause, IsNotSolo, MayBeRefused, OfFault}
+use Rattle.solo_cli.specs.Refusals.{IsDeckCause, IsMadeDeckCause, IsMigrateCause, IsNotSolo, MayBeRefused, OfFault}
 
 -- a command that there is has one of these causes
 among-run : (why : Cause) → IsMakeCause why → IsDeckCause why
@@ -19,6 +19,10 @@ among-run why (inl is) = inl (inr (inl is))
 among-run why (inr (inl is)) = inl (inr (inr (inl is)))
 among-run why (inr (inr (inl is))) = inl (inr (inr (inr (inr (inl is)))))
 among-run why (inr (inr (inr is))) = inl (inr (inr (inr (inr (inr is)))))
+
+among-made : (why : Cause) → IsMadeDeckCause why → IsDeckCause why
+among-made why (inl is) = among-run why is
+among-made why (inr is) = inr is
 
 among-migrate : (why : Cause) → IsMigrateCause why → IsDeckCause why
 among-migrate why (inl is) = inl (inr (inl is))
@@ -32,7 +36,7 @@ among : (asked : Option Command) (why : Cause) → MayBeRefused asked (Fault why
 among None why is = inl (fault-of is)
 among (Some command.Batch) why is = inr is
 among (Some (command.Core schedule)) why is = inr is
-among (Some (command.Make number)) why is = inr (among-run why is)
+among (Some (command.Make number)) why is = inr (among-made why is)
 among (Some command.Format) why is = inr (inl (inr (inl (fault-of is))))
 among (Some command.Migrate) why is = inr (among-migrate why is)
 

@@ -14,9 +14,8 @@ use Rattle.solo_cli.specs.declared.words.Command.TheVariants as command
 use Rattle.solo_cli.specs.FileCommands.{CanUse, KeepsItsFormat, MigratesTo}
 use Rattle.solo_cli.specs.Refusals.{MayBeRefused, refusal_of}
 use Rattle.solo_cli.specs.Status.{status_of}
-use Rattle.solo_cli.specs.Uses.{ReadsDeck}
+use Rattle.solo_cli.specs.Uses.{MountsFiles}
 use Rattle.solo_cli.proofs.Mounts.{no_solo}
-use Rattle.solo_cli.proofs.Statuses.{not_solo_made}
 
 -- what holds unless the area failed holds at each status but 0 and 3
 pub unless_fault : (answer : Option Refusal) (holds : Type 0) → IfSome answer (λ it. (it ≡ Fault cause.DiskFault) ⊎ holds)
@@ -54,7 +53,7 @@ neither pages now page (newer, older) (it, is, by_newer, by_older) =
 -- no page of an area that the command can use is named
 pub usable : (asked : Option Command) (told now : Option (List (List ℕ))) (answer : Option Refusal) (page : ℕ)
     → IfSome answer (MayBeRefused asked) → CanUse asked told
-    → (ReadsDeck asked → (pages : List (List ℕ)) → told ≡ Some pages → IsBad pages page)
+    → (MountsFiles asked → (pages : List (List ℕ)) → told ≡ Some pages → IsBad pages page)
     → (asked ≡ Some command.Migrate → (pages : List (List ℕ)) → told ≡ Some pages → MigratesTo pages now answer)
     → answer ≡ Some (Fault (cause.NotSolo page)) → ⊥
 usable None told now answer page known can mounts migrates at =
@@ -62,8 +61,8 @@ usable None told now answer page known can mounts migrates at =
 usable (Some command.Batch) told now answer page known (pages, is, solo) mounts migrates at = no_solo pages page solo (mounts tt pages is)
 usable (Some (command.Core schedule)) told now answer page known (pages, is, solo) mounts migrates at =
     no_solo pages page solo (mounts tt pages is)
-usable (Some (command.Make number)) told now answer page known can mounts migrates at =
-    not_solo_made page (subst (λ it. IfSome it (MayBeRefused (Some (command.Make number)))) at known)
+usable (Some (command.Make number)) told now answer page known (pages, is, solo) mounts migrates at =
+    no_solo pages page solo (mounts tt pages is)
 usable (Some command.Format) told now answer page known can mounts migrates at =
     let is : Fault (cause.NotSolo page) ≡ Fault cause.DiskFault = subst (λ it. IfSome it (MayBeRefused (Some command.Format))) at known in cc
 usable (Some command.Migrate) told now answer page known (pages, is, keeps) mounts migrates at =

@@ -95,16 +95,17 @@ module _ (outcomes : Outcomes) (faults : FaultsAre outcomes) (card : outcomes.ca
       no-lower c is (least (list_of outcomes) c is cause.DeckLimit (inl card)) (run-cause outcomes faults c is)
 
 -- ---- all of it
-module _ {S K A B : Type 0} (counts : Counts S K A B) (left : S → Option (List ℕ)) (before now : Peripherals S K A B)
+module _ {S K A B F : Type 0} (counts : Counts S K A B F) (left : S → Option (List ℕ)) (before now : Peripherals S K A B F)
     (outcomes : Outcomes) where
   disk-of : AreCounted counts before now outcomes
       → (outcomes.input ≡ outcome.Fault cause.DiskFault)
       ⊎ ((outcomes.job ≡ outcome.Fault cause.DiskFault) ⊎ (outcomes.output ≡ outcome.Fault cause.DiskFault))
       → Rose (counts.input_faults before.input) (counts.input_faults now.input)
       ⊎ Rose (counts.output_faults before.output) (counts.output_faults now.output)
+      ⊎ Rose (counts.file_faults before.files) (counts.file_faults now.files)
   disk-of counted (inl is) = inl (counted.input is)
   disk-of counted (inr (inl is)) = counted.job is
-  disk-of counted (inr (inr is)) = inr (counted.output is)
+  disk-of counted (inr (inr is)) = inr (inl (counted.output is))
 
   pub reason : FaultsAre outcomes → AreCounted counts before now outcomes
       → counts.taken before.source ≡ 0
@@ -144,7 +145,7 @@ module _ {S K A B : Type 0} (counts : Counts S K A B) (left : S → Option (List
   }
 
 -- ---- behind a run without a cause a line more is printed
-module _ {S K A B : Type 0} (counts : Counts S K A B) (left : S → Option (List ℕ)) (before mid now : Peripherals S K A B) where
+module _ {S K A B F : Type 0} (counts : Counts S K A B F) (left : S → Option (List ℕ)) (before mid now : Peripherals S K A B F) where
   pub printed-on : HasItsCause counts left before mid None → counts.print_faults before.sink ≤ counts.print_faults mid.sink
       → now.source ≡ mid.source → (why : Option Cause)
       → (why ≡ None) ⊎ ((why ≡ Some cause.PrintFault) ⊎ (why ≡ Some cause.NoMemory))
@@ -170,18 +171,22 @@ module _ {S K A B : Type 0} (counts : Counts S K A B) (left : S → Option (List
     never (inr (inr is)) = cc
 
 -- ---- the same of equals
-same-devices : {S K A B : Type 0} (s s' : S) (k k' : K) (a a' : A) (b b' : B) → s ≡ s' → k ≡ k' → a ≡ a' → b ≡ b'
-    → ◌≡◌ {A = Peripherals S K A B} record { source = s; sink = k; input = a; output = b } record { source = s'; sink = k'; input = a'; output = b' }
-same-devices s s' k k' a a' b b' is-s is-k is-a is-b = cc
+same-devices : {S K A B F : Type 0} (s s' : S) (k k' : K) (a a' : A) (b b' : B) (f f' : F) → s ≡ s' → k ≡ k' → a ≡ a' → b ≡ b' → f ≡ f'
+    → ◌≡◌ {A = Peripherals S K A B F} record { source = s; sink = k; input = a; output = b; files = f }
+    record { source = s'; sink = k'; input = a'; output = b'; files = f' }
+same-devices s s' k k' a a' b b' f f' is-s is-k is-a is-b is-f = cc
 
-module _ {S K A B : Type 0} (counts : Counts S K A B) (left : S → Option (List ℕ)) (before before' now now' : Peripherals S K A B) (why why' : Option Cause) where
+module _ {S K A B F : Type 0} (counts : Counts S K A B F) (left : S → Option (List ℕ)) (before before' now now' : Peripherals S K A B F)
+    (why why' : Option Cause) where
   pub same-reason : HasItsCause counts left before now why
       → before.source ≡ before'.source → before.sink ≡ before'.sink → before.input ≡ before'.input → before.output ≡ before'.output
-      → now.source ≡ now'.source → now.sink ≡ now'.sink → now.input ≡ now'.input → now.output ≡ now'.output
+      → before.files ≡ before'.files
+      → now.source ≡ now'.source → now.sink ≡ now'.sink → now.input ≡ now'.input → now.output ≡ now'.output → now.files ≡ now'.files
       → why ≡ why' → HasItsCause counts left before' now' why'
-  same-reason reason bs bk ba bb ns nk na nb w =
+  same-reason reason bs bk ba bb bf ns nk na nb nf w =
       subst (λ d. HasItsCause counts left d now' why')
-      (same-devices before.source before'.source before.sink before'.sink before.input before'.input before.output before'.output bs bk ba bb)
+      (same-devices before.source before'.source before.sink before'.sink before.input before'.input before.output before'.output
+      before.files before'.files bs bk ba bb bf)
       (subst (λ d. HasItsCause counts left before d why')
-      (same-devices now.source now'.source now.sink now'.sink now.input now'.input now.output now'.output ns nk na nb)
+      (same-devices now.source now'.source now.sink now'.sink now.input now'.input now.output now'.output now.files now'.files ns nk na nb nf)
       (subst (λ w. HasItsCause counts left before now w) w reason))

@@ -7,8 +7,7 @@ use Rattle.batch_procs.specs.Faults.{IsDamaged}
 use Rattle.solo_cli.specs.declared.refusal.Refusal.{Refusal}
 use Rattle.solo_cli.specs.declared.refusal.Refusal.TheVariants.{Fault, NoRoom}
 use Rattle.solo_cli.specs.Status.{number_of, status_of}
-use Rattle.solo_cli.specs.Causes.{IsMakeCause}
-use Rattle.solo_cli.specs.Refusals.{OfFault}
+use Rattle.solo_cli.specs.Refusals.{IsMadeDeckCause, OfFault}
 
 no-number : (why : Cause) → number_of why ≡ 0 → ⊥
 no-number Usage zero = cc
@@ -143,26 +142,22 @@ by_fault (Some (NoRoom needed free)) holds fault (inl is) = absurd cc
 by_fault (Some (NoRoom needed free)) holds fault (inr is) = absurd cc
 
 -- a deck that isn't read is no cause
-not-read : IsMakeCause ReadFault → ⊥
-not-read (inl is) = cc
-not-read (inr (inl is)) = cc
-not-read (inr (inr (inl is))) = is
-not-read (inr (inr (inr is))) = cc
+pub not_read : IsMadeDeckCause ReadFault → ⊥
+not_read (inl (inl is)) = cc
+not_read (inl (inr (inl is))) = cc
+not_read (inl (inr (inr (inl is)))) = is
+not_read (inl (inr (inr (inr is)))) = cc
+not_read (inr (page, is)) = cc
 
-pub not_limit : IsMakeCause DeckLimit → ⊥
-not_limit (inl is) = cc
-not_limit (inr (inl is)) = cc
-not_limit (inr (inr (inl is))) = is
-not_limit (inr (inr (inr is))) = cc
+pub not_limit : IsMadeDeckCause DeckLimit → ⊥
+not_limit (inl (inl is)) = cc
+not_limit (inl (inr (inl is))) = cc
+not_limit (inl (inr (inr (inl is)))) = is
+not_limit (inl (inr (inr (inr is)))) = cc
+not_limit (inr (page, is)) = cc
 
-pub not_solo_made : (page : ℕ) → IsMakeCause (NotSolo page) → ⊥
-not_solo_made page (inl is) = cc
-not_solo_made page (inr (inl is)) = cc
-not_solo_made page (inr (inr (inl is))) = is
-not_solo_made page (inr (inr (inr is))) = cc
-
-pub made_status : (answer : Option Refusal) → IfSome answer (OfFault IsMakeCause) → (status_of answer ≢ 2) × (status_of answer ≢ 6)
+pub made_status : (answer : Option Refusal) → IfSome answer (OfFault IsMadeDeckCause) → (status_of answer ≢ 2) × (status_of answer ≢ 6)
 made_status answer known = (
-  λ at. not-read (subst (λ it. IfSome it (OfFault IsMakeCause)) (by_two answer at) known),
-  λ at. not_limit (subst (λ it. IfSome it (OfFault IsMakeCause)) (by_six answer at) known),
+  λ at. not_read (subst (λ it. IfSome it (OfFault IsMadeDeckCause)) (by_two answer at) known),
+  λ at. not_limit (subst (λ it. IfSome it (OfFault IsMadeDeckCause)) (by_six answer at) known),
 )

@@ -23,16 +23,17 @@ abbrev pub IsWithinLimit : Option (List ℕ) → Type 0
 IsWithinLimit None = ⊥
 IsWithinLimit (Some bytes) = length bytes ≤ byte_limit
 
--- A fault of a device that ended the run was counted by that device since, and the limit came where too many
--- bytes were taken; then only a fault of the disk or of the printer ends the run in its place. No byte of the
--- deck is lost.
-pub record HasItsCause {S K A B : Type 0} (counts : Counts S K A B) (left : S → Option (List ℕ))
-    (before now : Peripherals S K A B) (why : Option Cause) : Type 0 where
+-- A fault of a device that ended the run was counted by that device since; one of the disk by a spool's area
+-- or by that of the files. The limit came where too many bytes were taken; then only a fault of the disk or
+-- of the printer ends the run in its place. No byte of the deck is lost.
+pub record HasItsCause {S K A B F : Type 0} (counts : Counts S K A B F) (left : S → Option (List ℕ))
+    (before now : Peripherals S K A B F) (why : Option Cause) : Type 0 where
   pub read : why ≡ Some cause.ReadFault
       → Rose (counts.read_faults before.source) (counts.read_faults now.source)
   pub disk : why ≡ Some cause.DiskFault
       → Rose (counts.input_faults before.input) (counts.input_faults now.input)
       ⊎ Rose (counts.output_faults before.output) (counts.output_faults now.output)
+      ⊎ Rose (counts.file_faults before.files) (counts.file_faults now.files)
   pub print : why ≡ Some cause.PrintFault
       → Rose (counts.print_faults before.sink) (counts.print_faults now.sink)
   pub limit : why ≡ Some cause.DeckLimit → byte_limit < counts.taken now.source

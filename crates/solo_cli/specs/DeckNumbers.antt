@@ -3,6 +3,7 @@ use Rattle.std.specs.Prelude.{ℕ, ◌+◌, List, [], ◌∷◌, ◌++◌, lengt
 use Rattle.std.specs.Fmt.{decimal}
 use Rattle.solo_base.specs.Card.{cards}
 use Rattle.deck_format.specs.Jobs.{jobs}
+use Rattle.batch_job.specs.Report.{Loads}
 use Rattle.batch_job.specs.OneThread.{one_thread_output}
 use Rattle.core_net.specs.declared.counts.Counts.{Counts}
 use Rattle.solo_cli.specs.CountsLine.{counts_line}
@@ -22,8 +23,8 @@ five_lines job_count cards_in_all line_count character_count counts =
     ∷ counts_line counts.events counts.delays counts.grants ∷ []
 
 -- Of a deck: its jobs; all its cards, those that control it included; and the lines and characters that one
--- thread prints of it. Then what a run of it counted.
-abbrev pub deck_lines : List ℕ → Counts → List (List ℕ)
-deck_lines deck counts =
-    five_lines (length (jobs (cards deck))) (length (cards deck)) (length (one_thread_output deck))
-    (characters_of (one_thread_output deck)) counts
+-- thread prints of it with these files. Then what a run of it counted.
+abbrev pub deck_lines : Loads → List ℕ → Counts → List (List ℕ)
+deck_lines found deck counts =
+    five_lines (length (jobs (cards deck))) (length (cards deck)) (length (one_thread_output found deck))
+    (characters_of (one_thread_output found deck)) counts

@@ -49,6 +49,6 @@ abbrev pub CanUse : Option Command → Option (List (List ℕ)) → Type 0
 CanUse None told = Unit {0}
 CanUse (Some command.Batch) told = Told told IsSoloDisk
 CanUse (Some (command.Core schedule)) told = Told told IsSoloDisk
-CanUse (Some (command.Make number)) told = Unit {0}
+CanUse (Some (command.Make number)) told = Told told IsSoloDisk
 CanUse (Some command.Format) told = Unit {0}
 CanUse (Some command.Migrate) told = Told told KeepsItsFormat

@@ -2,17 +2,18 @@
 use Rattle.std.specs.Prelude.{ℕ, List, Option}
 use Rattle.solo_base.specs.Text.{text}
 use Rattle.solo_devices.specs.PrinterUnit.{Gains}
+use Rattle.batch_job.specs.Report.{Loads}
 use Rattle.core_law.specs.Core.{CoreState}
 use Rattle.core_net.specs.declared.counts.Counts.{Counts}
 use Rattle.core_net.specs.declared.rules.Rule.{Rule}
 use Rattle.schedule_law.specs.Undisturbed.{AreItsCounts}
 use Rattle.solo_cli.specs.DeckNumbers.{deck_lines}
 
--- The paper gains the numbers of a deck with the counts of its run, or a prefix of these lines; all of them
--- where this holds. The counts are those of the one run by the rule from this state in which no device fails
--- and no memory is refused.
-pub record GainsNumbers (rule : Rule) (s : CoreState) (deck : List ℕ) (before now : Option (List ℕ))
-    (all : Type 0) : Type 0 where
+-- The paper gains the numbers of a deck, with these files, and the counts of its run, or a prefix of these
+-- lines; all of them where this holds. The counts are those of the one run by the rule from this state in
+-- which no device fails and no memory is refused.
+pub record GainsNumbers (rule : Rule) (s : CoreState) (found : Loads) (deck : List ℕ)
+    (before now : Option (List ℕ)) (all : Type 0) : Type 0 where
   pub counts : Counts
   pub counted : AreItsCounts rule s counts
-  pub gains : Gains before now (text (deck_lines deck counts)) all
+  pub gains : Gains before now (text (deck_lines found deck counts)) all

@@ -53,6 +53,10 @@ IsNotSolo why = (page : ℕ) × (why ≡ cause.NotSolo page)
 abbrev pub IsDeckCause : Cause → Type 0
 IsDeckCause why = IsRunCause why ⊎ IsNotSolo why
 
+-- what may end a command that mounts the files and runs a deck that it makes
+abbrev pub IsMadeDeckCause : Cause → Type 0
+IsMadeDeckCause why = IsMakeCause why ⊎ IsNotSolo why
+
 -- what may end a migration beside want of room
 abbrev pub IsMigrateCause : Cause → Type 0
 IsMigrateCause why = (why ≡ cause.DiskFault) ⊎ ((why ≡ cause.NoMemory) ⊎ IsNotSolo why)
@@ -66,20 +70,19 @@ abbrev pub MayBeRefused : Option Command → Refusal → Type 0
 MayBeRefused None refusal = refusal ≡ Fault cause.Usage
 MayBeRefused (Some command.Batch) refusal = OfFault IsDeckCause refusal
 MayBeRefused (Some (command.Core schedule)) refusal = OfFault IsDeckCause refusal
-MayBeRefused (Some (command.Make number)) refusal = OfFault IsMakeCause refusal
+MayBeRefused (Some (command.Make number)) refusal = OfFault IsMadeDeckCause refusal
 MayBeRefused (Some command.Format) refusal = refusal ≡ Fault cause.DiskFault
 MayBeRefused (Some command.Migrate) refusal = MayRefuseMigration refusal
 
--- Each cause has its reason, as in a run; a fault of the disk may be one of the files, whose count was the
--- first of these numbers and is the second.
-pub record HasItsReason {S K A B : Type 0} (counts : Counts S K A B) (left : S → Option (List ℕ))
-    (before now : Peripherals S K A B) (files_before files_now : ℕ) (answer : Option Refusal) : Type 0 where
+-- Each cause has its reason, as in a run.
+pub record HasItsReason {S K A B F : Type 0} (counts : Counts S K A B F) (left : S → Option (List ℕ))
+    (before now : Peripherals S K A B F) (answer : Option Refusal) : Type 0 where
   pub read : answer ≡ Some (Fault cause.ReadFault)
       → Rose (counts.read_faults before.source) (counts.read_faults now.source)
   pub disk : answer ≡ Some (Fault cause.DiskFault)
       → Rose (counts.input_faults before.input) (counts.input_faults now.input)
       ⊎ Rose (counts.output_faults before.output) (counts.output_faults now.output)
-      ⊎ Rose files_before files_now
+      ⊎ Rose (counts.file_faults before.files) (counts.file_faults now.files)
   pub print : answer ≡ Some (Fault cause.PrintFault)
       → Rose (counts.print_faults before.sink) (counts.print_faults now.sink)
   pub limit : answer ≡ Some (Fault cause.DeckLimit) → byte_limit < counts.taken now.source

@@ -3,7 +3,16 @@ use Rattle.std.specs.Prelude.{Option, Some, None}
 use Rattle.solo_cli.specs.declared.words.Command.{Command}
 use Rattle.solo_cli.specs.declared.words.Command.TheVariants as command
 
--- the command reads the deck, and mounts the files before
+-- the command mounts the files before anything else
+abbrev pub MountsFiles : Option Command → Type 0
+MountsFiles (Some command.Batch) = Unit {0}
+MountsFiles (Some (command.Core schedule)) = Unit {0}
+MountsFiles (Some (command.Make number)) = Unit {0}
+MountsFiles (Some command.Format) = ⊥
+MountsFiles (Some command.Migrate) = ⊥
+MountsFiles None = ⊥
+
+-- the command reads the deck
 abbrev pub ReadsDeck : Option Command → Type 0
 ReadsDeck (Some command.Batch) = Unit {0}
 ReadsDeck (Some (command.Core schedule)) = Unit {0}

@@ -6,22 +6,23 @@ ghost use Rattle.solo_devices.specs.CardUnit.{IsAllTaken};
 ghost use Rattle.solo_devices.specs.PrinterUnit.{Gains};
 ghost use Rattle.disk_layout.specs.Format.{IsBad, IsSoloDisk};
 ghost use Rattle.disk_system.specs.Formatted.{KeepsFilePages};
+ghost use Rattle.batch_job.specs.Report.{Loads};
 ghost use Rattle.batch_job.specs.OneThread.{one_thread_output};
 ghost use Rattle.batch_procs.specs.Faults.{IsDamaged};
 ghost use Rattle.made_deck.specs.MadeDeck.{made_deck};
+ghost use Rattle.core_law.specs.Holds.{AreFound};
 ghost use Rattle.core_law.specs.Opening.{opened};
 ghost use Rattle.core_net.specs.Causes.{counting};
-ghost use Rattle.core_net.specs.Openings.{spools_over};
+ghost use Rattle.core_net.specs.Openings.{spools_over, files_found};
 ghost use Rattle.solo_cli.specs.Words.{form};
 ghost use Rattle.solo_cli.specs.CountsPaper.{GainsCounted};
 ghost use Rattle.solo_cli.specs.MadePaper.{GainsNumbers};
 ghost use Rattle.solo_cli.specs.FileCommands.{FormatsTo, MigratesTo, RefusesFiles};
 ghost use Rattle.solo_cli.specs.Refusals.{HasItsReason, MayBeRefused, OfFault};
-ghost use Rattle.solo_cli.specs.Uses.{ReadsDeck, UsesFilesAlone};
+ghost use Rattle.solo_cli.specs.Uses.{MountsFiles, ReadsDeck, UsesFilesAlone};
 
 use crate::file_commands::{format_files, migrate_files};
-use crate::making::{Made, make};
-use crate::mounting::{Mode, Used, run_deck};
+use crate::mounting::{Mode, Used, run_deck, run_made_deck};
 use crate::refusal::Refusal;
 use crate::words::{Command, command_of};
 use core_net::Rule;
@@ -35,7 +36,7 @@ use std::thread::Threads;
 pub fn run_command<
     S: Source + Drop + Send,
     K: Sink + Drop + Send,
-    F: Area,
+    F: Area + Drop + Send,
     I: Area + Send,
     O: Area + Send,
     R: Threads + Wait + Sync,
@@ -56,25 +57,31 @@ pub fn run_command<
 
     // What the paper gains of each command.
     ensures batch { form (map (λ word. string_bytes word) words.now) ≡ Some Command.Batch →
-        (bytes : List ℕ) → S.left deck ≡ Some bytes → IsSome (I.pages input) → IsSome (O.pages output) →
-        Gains (K.given paper) (K.given result.paper) (text (one_thread_output bytes)) (result.cause ≡ None) }
+        (bytes : List ℕ) (found : Loads) → S.left deck ≡ Some bytes →
+        AreFound (files_found (F.pages files)) found (cards bytes) →
+        IsSome (I.pages input) → IsSome (O.pages output) →
+        Gains (K.given paper) (K.given result.paper) (text (one_thread_output found bytes))
+        (result.cause ≡ None) }
     ensures core { (schedule : ℕ) →
         form (map (λ word. string_bytes word) words.now) ≡ Some (Command.Core schedule) →
-        (bytes : List ℕ) → S.left deck ≡ Some bytes → IsSome (I.pages input) → IsSome (O.pages output) →
+        (bytes : List ℕ) (found : Loads) → S.left deck ≡ Some bytes →
+        AreFound (files_found (F.pages files)) found (cards bytes) →
+        IsSome (I.pages input) → IsSome (O.pages output) →
         GainsCounted (Rule.Numbered schedule)
         (opened (spools_over (I.size input) (I.pages input) (O.size output) (O.pages output))
-        (Some (cards bytes)) (K.given paper))
-        (K.given paper) (K.given result.paper) (one_thread_output bytes) (result.cause ≡ None) }
+        (Some (cards bytes)) (K.given paper) (files_found (F.pages files)))
+        (K.given paper) (K.given result.paper) (one_thread_output found bytes) (result.cause ≡ None) }
     ensures make { (number : ℕ) →
         form (map (λ word. string_bytes word) words.now) ≡ Some (Command.Make number) →
+        (found : Loads) → AreFound (files_found (F.pages files)) found (cards (made_deck number)) →
         IsSome (I.pages input) → IsSome (O.pages output) →
         GainsNumbers (Rule.Numbered number)
         (opened (spools_over (I.size input) (I.pages input) (O.size output) (O.pages output))
-        (Some (cards (made_deck number))) (Some []))
-        (made_deck number) (K.given paper) (K.given result.paper) (result.cause ≡ None) }
+        (Some (cards (made_deck number))) (Some []) (files_found (F.pages files)))
+        found (made_deck number) (K.given paper) (K.given result.paper) (result.cause ≡ None) }
     ensures unread { (number : ℕ) →
         form (map (λ word. string_bytes word) words.now) ≡ Some (Command.Make number) →
-        (result.deck ≡ deck) × (result.files ≡ files) }
+        result.deck ≡ deck }
     ensures unprinted { (number : ℕ) →
         form (map (λ word. string_bytes word) words.now) ≡ Some (Command.Make number) →
         IfSome result.cause (λ refusal.
@@ -92,16 +99,16 @@ pub fn run_command<
     ensures unmigrated { form (map (λ word. string_bytes word) words.now) ≡ Some Command.Migrate →
         IfSome result.cause (λ refusal. (refusal ≡ Refusal.Fault Cause.DiskFault)
         ⊎ (F.pages result.files ≡ F.pages files)) }
-    ensures left { ReadsDeck (form (map (λ word. string_bytes word) words.now)) →
+    ensures left { MountsFiles (form (map (λ word. string_bytes word) words.now)) →
         F.pages result.files ≡ F.pages files }
     ensures size { F.size result.files ≡ F.size files }
 
     // Files that can't be mounted.
-    ensures mounts { ReadsDeck (form (map (λ word. string_bytes word) words.now)) →
+    ensures mounts { MountsFiles (form (map (λ word. string_bytes word) words.now)) →
         (pages : List (List ℕ)) → F.pages files ≡ Some pages → IsSoloDisk pages
         ⊎ (RefusesFiles pages (F.faults files) (F.faults result.files) result.cause
         × (result.deck ≡ deck) × (result.paper ≡ paper) × (result.input ≡ input) × (result.output ≡ output)) }
-    ensures not_solo { ReadsDeck (form (map (λ word. string_bytes word) words.now)) →
+    ensures not_solo { MountsFiles (form (map (λ word. string_bytes word) words.now)) →
         (page : ℕ) → result.cause ≡ Some (Refusal.Fault (Cause.NotSolo page)) →
         ((pages : List (List ℕ)) → F.pages files ≡ Some pages → IsBad pages page)
         × (result.deck ≡ deck) × (result.paper ≡ paper) × (result.input ≡ input) × (result.output ≡ output) }
@@ -118,10 +125,16 @@ pub fn run_command<
     // The cause is one of those that there can be, and each has its reason.
     ensures all_taken { ReadsDeck (form (map (λ word. string_bytes word) words.now)) → result.cause ≡ None →
         IsAllTaken (S.left result.deck) }
-    ensures caused { HasItsReason (counting S.faults S.taken K.faults I.faults O.faults) S.left
-        record { source = deck; sink = paper; input = input; output = output }
-        record { source = result.deck; sink = result.paper; input = result.input; output = result.output }
-        (F.faults files) (F.faults result.files) result.cause }
+    ensures caused { HasItsReason (counting S.faults S.taken K.faults I.faults O.faults F.faults) S.left
+        record { source = deck; sink = paper; input = input; output = output; files = files }
+        record {
+          source = result.deck;
+          sink = result.paper;
+          input = result.input;
+          output = result.output;
+          files = result.files;
+        }
+        result.cause }
     ensures undamaged { IsSome (I.pages input) → IsSome (O.pages output) →
         (ReadsDeck (form (map (λ word. string_bytes word) words.now)) → IsSome (S.left deck)) →
         IfSome result.cause (λ refusal. OfFault IsDamaged refusal → ⊥) }
@@ -145,20 +158,7 @@ pub fn run_command<
             run_deck(rt, alloc, mode, deck, paper, files, input, output)
         }
         Some(Command::Make { number }) => {
-            let Made {
-                cause,
-                paper,
-                input,
-                output,
-            } = make(alloc, number, paper, input, output);
-            Used {
-                cause: Refusal::of_run(cause),
-                deck,
-                paper,
-                files,
-                input,
-                output,
-            }
+            run_made_deck(alloc, number, deck, paper, files, input, output)
         }
         Some(Command::Format) => {
             let (cause, files) = format_files(files);

@@ -6,16 +6,18 @@ ghost use Rattle.solo_devices.specs.CardUnit.{byte_limit};
 ghost use Rattle.solo_devices.specs.PrinterUnit.{Gains};
 ghost use Rattle.disk_layout.specs.Format.{IsBad};
 ghost use Rattle.disk_system.specs.Formatted.{KeepsFilePages};
+ghost use Rattle.batch_job.specs.Report.{Loads};
 ghost use Rattle.batch_job.specs.OneThread.{one_thread_output};
 ghost use Rattle.made_deck.specs.MadeDeck.{made_deck};
+ghost use Rattle.core_law.specs.Holds.{AreFound};
 ghost use Rattle.core_law.specs.Opening.{opened};
-ghost use Rattle.core_net.specs.Openings.{spools_over};
+ghost use Rattle.core_net.specs.Openings.{spools_over, files_found};
 ghost use Rattle.solo_cli.specs.Words.{form};
 ghost use Rattle.solo_cli.specs.Status.{status_of};
 ghost use Rattle.solo_cli.specs.Causes.{IsWithinLimit};
 ghost use Rattle.solo_cli.specs.CountsPaper.{GainsCounted};
 ghost use Rattle.solo_cli.specs.MadePaper.{GainsNumbers};
-ghost use Rattle.solo_cli.specs.Uses.{ReadsDeck, UsesFilesAlone};
+ghost use Rattle.solo_cli.specs.Uses.{MountsFiles, ReadsDeck, UsesFilesAlone};
 ghost use Rattle.solo_cli.specs.FileCommands.{CanUse, FormatsTo, MigratesTo, RefusesFiles};
 ghost use Rattle.solo_cli.specs.Refusals.{MayBeRefused};
 
@@ -45,18 +47,18 @@ pub struct Finished<S, Y, K, T, F, I, O> {
     pub output: O,
 }
 
-/// Runs the command that the words are, over these devices. `batch` and `core` mount the files, and then
-/// they run the card deck and print the report of each of its jobs: `batch` on threads, `core` under the
-/// schedule of a number, and behind the reports it prints what it counted. `make` makes the deck of a
-/// number, runs it in memory under the schedule of this number, and prints the numbers of both. `format`
-/// makes the area of the files one without a file, and `migrate` makes one of format 1 one of format 2 with
-/// the same files. Where the words are no command, nothing is done.
+/// Runs the command that the words are, over these devices. `batch`, `core` and `make` mount the files
+/// before anything else. `batch` and `core` then run the card deck and print the report of each of its jobs:
+/// `batch` on threads, `core` under the schedule of a number, and behind the reports it prints what it
+/// counted. `make` makes the deck of a number, runs it in memory under the schedule of this number, and
+/// prints the numbers of both. `format` makes the area of the files one without a file, and `migrate` makes
+/// one of format 1 one of format 2 with the same files. Where the words are no command, nothing is done.
 pub fn top<
     S: Source + Drop + Send,
     Y: Source,
     K: Sink + Drop + Send,
     T: Sink,
-    F: Area,
+    F: Area + Drop + Send,
     I: Area + Send,
     O: Area + Send,
     R: Threads + Wait + Sync,
@@ -78,33 +80,37 @@ pub fn top<
     requires input { (0 < I.size input) × (I.size input ≤ 256) }
     requires output { (0 < O.size output) × (O.size output ≤ 256) }
 
-    // The paper gains the one-thread output of the deck's jobs, or a prefix of it; at status 0 all of it,
-    // and the deck still tells what it has left: nothing. Behind it `core` prints the counts of the run of its
-    // schedule.
-    ensures output { (bytes : List ℕ) → S.left deck ≡ Some bytes →
+    // The paper gains the one-thread output of the deck's jobs, with the files as they are told, or with any
+    // where no job names one; or a prefix of it. At status 0 it is all of it, and the deck still tells what
+    // it has left: nothing. Behind it `core` prints the counts of the run of its schedule.
+    ensures output { (bytes : List ℕ) (found : Loads) → S.left deck ≡ Some bytes →
+        AreFound (files_found (F.pages files)) found (cards bytes) →
         IsSome (I.pages input) → IsSome (O.pages output) →
         form (map (λ word. string_bytes word) words.now) ≡ Some Command.Batch →
-        Gains (K.given paper) (K.given result.paper) (text (one_thread_output bytes)) (result.status ≡ 0) }
-    ensures core_output { (bytes : List ℕ) → S.left deck ≡ Some bytes →
+        Gains (K.given paper) (K.given result.paper) (text (one_thread_output found bytes))
+        (result.status ≡ 0) }
+    ensures core_output { (bytes : List ℕ) (found : Loads) → S.left deck ≡ Some bytes →
+        AreFound (files_found (F.pages files)) found (cards bytes) →
         IsSome (I.pages input) → IsSome (O.pages output) → (schedule : ℕ) →
         form (map (λ word. string_bytes word) words.now) ≡ Some (Command.Core schedule) →
         GainsCounted (Rule.Numbered schedule)
         (opened (spools_over (I.size input) (I.pages input) (O.size output) (O.pages output))
-        (Some (cards bytes)) (K.given paper))
-        (K.given paper) (K.given result.paper) (one_thread_output bytes) (result.status ≡ 0) }
+        (Some (cards bytes)) (K.given paper) (files_found (F.pages files)))
+        (K.given paper) (K.given result.paper) (one_thread_output found bytes) (result.status ≡ 0) }
     ensures emptied { ReadsDeck (form (map (λ word. string_bytes word) words.now)) →
         (bytes : List ℕ) → S.left deck ≡ Some bytes → result.status ≡ 0 → S.left result.deck ≡ Some [] }
 
-    // `make` leaves the deck. The paper gains the numbers of the deck of its number, and the counts of the run
-    // of this deck to a paper in memory, under the schedule of this number; or a prefix of these lines. Where
-    // the run met a fault it gains nothing.
+    // `make` leaves the deck. The paper gains the numbers of the deck of its number, and the counts of the
+    // run of this deck to a paper in memory, under the schedule of this number; or a prefix of these lines.
+    // Where an area failed or a spool gave a damaged page it gains nothing.
     ensures make_output { (number : ℕ) →
         form (map (λ word. string_bytes word) words.now) ≡ Some (Command.Make number) →
+        (found : Loads) → AreFound (files_found (F.pages files)) found (cards (made_deck number)) →
         IsSome (I.pages input) → IsSome (O.pages output) →
         GainsNumbers (Rule.Numbered number)
         (opened (spools_over (I.size input) (I.pages input) (O.size output) (O.pages output))
-        (Some (cards (made_deck number))) (Some []))
-        (made_deck number) (K.given paper) (K.given result.paper) (result.status ≡ 0) }
+        (Some (cards (made_deck number))) (Some []) (files_found (F.pages files)))
+        found (made_deck number) (K.given paper) (K.given result.paper) (result.status ≡ 0) }
     ensures make_unread { (number : ℕ) →
         form (map (λ word. string_bytes word) words.now) ≡ Some (Command.Make number) →
         (result.deck ≡ deck) × (result.status ≢ 2) × (result.status ≢ 6) }
@@ -127,16 +133,16 @@ pub fn top<
     ensures unmigrated { form (map (λ word. string_bytes word) words.now) ≡ Some Command.Migrate →
         result.status ≢ 0 → result.status ≢ 3 → F.pages result.files ≡ F.pages files }
 
-    // `batch` and `core` leave the pages of the files. Where a page of these breaks the format, the least
-    // such page is named, and no other device is used, unless a read of the files failed or memory was
-    // refused.
-    ensures left { ReadsDeck (form (map (λ word. string_bytes word) words.now)) →
+    // `batch`, `core` and `make` leave the pages of the files. Where a page of these breaks the format, the
+    // least such page is named, unless a read of the files failed or memory was refused, and no other device
+    // is used.
+    ensures left { MountsFiles (form (map (λ word. string_bytes word) words.now)) →
         F.pages result.files ≡ F.pages files }
-    ensures broken { ReadsDeck (form (map (λ word. string_bytes word) words.now)) →
+    ensures broken { MountsFiles (form (map (λ word. string_bytes word) words.now)) →
         (pages : List (List ℕ)) → F.pages files ≡ Some pages → (page : ℕ) → IsBad pages page →
         RefusesFiles pages (F.faults files) (F.faults result.files) result.cause
         × (result.deck ≡ deck) × (result.paper ≡ paper) × (result.input ≡ input) × (result.output ≡ output) }
-    ensures not_solo { ReadsDeck (form (map (λ word. string_bytes word) words.now)) →
+    ensures not_solo { MountsFiles (form (map (λ word. string_bytes word) words.now)) →
         (page : ℕ) → result.cause ≡ Some (Refusal.Fault (Cause.NotSolo page)) →
         ((pages : List (List ℕ)) → F.pages files ≡ Some pages → IsBad pages page)
         × (result.deck ≡ deck) × (result.paper ≡ paper) × (result.input ≡ input) × (result.output ≡ output) }
@@ -185,9 +191,6 @@ pub fn top<
     ensures unused { (result.keys ≡ keys) × (result.console ≡ console) }
     ensures files_alone { UsesFilesAlone (form (map (λ word. string_bytes word) words.now)) →
         (result.deck ≡ deck) × (result.paper ≡ paper) × (result.input ≡ input) × (result.output ≡ output) }
-    ensures files_unused { (number : ℕ) →
-        form (map (λ word. string_bytes word) words.now) ≡ Some (Command.Make number) →
-        result.files ≡ files }
     ensures files_size { F.size result.files ≡ F.size files }
 {
     let Used {

@@ -41,7 +41,7 @@ pub fn run<
 
 /// Runs these words over these devices.
 pub fn run_over<
-    F: Area + Drop,
+    F: Area + Drop + Send,
     S: Source + Drop + Send,
     K: Sink + Drop + Send,
     I: Area + Drop + Send,
@@ -156,8 +156,8 @@ fn an_area_of_files_of_zeros_is_refused(rt: HostRuntime) -> Result<(), Fail> {
     Ok(())
 }
 
-/// A list of eight lines of 80 columns. In pieces of 324 bytes the third call asks for the ninth card, and the
-/// eighth one fills the first page.
+/// A list of eight lines of 80 columns. In pieces of 324 bytes the third call asks for the ninth card, and
+/// the eighth one fills the first page.
 pub fn eight_lines(alloc: Global) -> Result<Vec<u8>, Fail> {
     let mut deck = b"#LIST A\n".to_vec(alloc)?;
     for _ in 0..8 {
@@ -210,7 +210,8 @@ const TURNS: u32 = 1_000_000;
 /// The last card.
 const LAST: &[u8] = b"#END\n";
 
-/// Whether the two lists are printed whole by devices of which each waits at most so many turns for the other.
+/// Whether the two lists are printed whole by devices of which each waits at most so many turns for the
+/// other.
 fn prints_held(
     rt: &(impl Threads + Wait + Sync + AllocGlobal),
     source_turns: u32,

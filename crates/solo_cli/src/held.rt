@@ -30,7 +30,8 @@ pub struct HeldSource {
     faults: u64,
 }
 
-/// A sink that waits so until the source was asked for what it holds back. It marks that it was given a piece.
+/// A sink that waits so until the source was asked for what it holds back. It marks that it was given a
+/// piece.
 #[derive(Drop)]
 pub struct HeldSink {
     text: Vec<u8>,

@@ -21,6 +21,8 @@ pub use words::{Command, Numbered};
 #[cfg(test)]
 mod device_tests;
 #[cfg(test)]
+mod drive_tests;
+#[cfg(test)]
 mod failure_tests;
 #[cfg(test)]
 mod held;
@@ -32,6 +34,8 @@ mod make_tests;
 mod part_tests;
 #[cfg(test)]
 mod program_tests;
+#[cfg(test)]
+mod run_tests;
 #[cfg(test)]
 mod tests;
 #[cfg(test)]

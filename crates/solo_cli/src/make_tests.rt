@@ -1,9 +1,12 @@
 // Decks that are made, run in memory and counted.
-ghost use Rattle.std.specs.Prelude.{◌≡◌, IfOk};
+ghost use Rattle.std.specs.Prelude.{◌≡◌, ◌<◌, IfOk};
 
-use crate::device_tests::{area, run, sure_area};
+use crate::Refusal;
+use crate::device_tests::{area, run, run_over, sure_area};
+use crate::made_area::{formatted, zeros};
 use made_deck::make_deck;
-use solo_devices::{BlankArea, MemSink, MemSource, Source};
+use solo_base::{Cause, Page};
+use solo_devices::{Area, BlankArea, MemSink, MemSource, Source, SureArea};
 use std::alloc::Global;
 use std::sync::Wait;
 use std::test::Fail;
@@ -144,5 +147,60 @@ fn a_damaged_page_leaves_the_paper(rt: HostRuntime) -> Result<(), Fail> {
     )?;
     assert_eq!(rt; ended.status, 8);
     assert!(rt; ended.paper.bytes().is_empty());
+    Ok(())
+}
+
+/// Whether `make` ends so over these files, before it reads the deck, uses a spool or prints.
+fn is_refused<F: Area + Drop + Send>(
+    rt: &(impl Threads + Wait + Sync + AllocGlobal),
+    files: F,
+    status: u8,
+    cause: Cause,
+) -> Result<bool, Fail>
+    requires { F.size files ≡ 4288 }
+{
+    let alloc = rt.alloc();
+    let ended = run_over(
+        rt,
+        MAKE,
+        files,
+        unread(alloc)?,
+        paper(alloc, &[])?,
+        area(alloc, 256, &[1], &[1])?,
+        area(alloc, 256, &[1], &[1])?,
+    )?;
+    Ok(
+        ended.status == status
+            && ended.cause == Some(Refusal::Fault(cause))
+            && ended.paper.bytes().is_empty()
+            && ended.deck.faults() == 0
+            && ended.input.faults() == 0
+            && ended.output.faults() == 0,
+    )
+}
+
+/// An area without a file, of which this page is of ones.
+fn broken(alloc: Global, page: u16) -> Result<SureArea, Fail>
+    requires { page < 4288 }
+    ensures { IfOk result (λ area. ⟦<SureArea as Area>⟧.size area ≡ 4288) }
+{
+    let mut area = formatted(alloc)?;
+    area.write(page, &Page([1; 512]));
+    Ok(area)
+}
+
+#[test]
+fn files_that_break_the_format_come_first(rt: HostRuntime) -> Result<(), Fail> {
+    let alloc = rt.alloc();
+    assert!(rt; is_refused(&rt, zeros(alloc)?, 7, Cause::NotSolo { page: 0 })?);
+    assert!(rt; is_refused(&rt, broken(alloc, 3)?, 7, Cause::NotSolo { page: 3 })?);
+    assert!(rt; is_refused(&rt, broken(alloc, 17)?, 7, Cause::NotSolo { page: 17 })?);
+    Ok(())
+}
+
+#[test]
+fn a_failed_read_of_the_files_comes_first(rt: HostRuntime) -> Result<(), Fail> {
+    let files = area(rt.alloc(), 4288, &[1], &[])?;
+    assert!(rt; is_refused(&rt, files, 3, Cause::DiskFault)?);
     Ok(())
 }

@@ -8,11 +8,13 @@ ghost use Rattle.solo_devices.specs.CardUnit.{byte_limit};
 ghost use Rattle.solo_devices.specs.Count.{Rose};
 ghost use Rattle.solo_devices.specs.PrinterUnit.{Gains};
 ghost use Rattle.deck_format.specs.Jobs.{jobs};
+ghost use Rattle.batch_job.specs.Report.{Loads};
 ghost use Rattle.batch_job.specs.OneThread.{one_thread_output};
 ghost use Rattle.batch_procs.specs.Faults.{IsDamaged};
 ghost use Rattle.made_deck.specs.MadeDeck.{made_deck};
+ghost use Rattle.core_law.specs.Holds.{AreFound};
 ghost use Rattle.core_law.specs.Opening.{opened};
-ghost use Rattle.core_net.specs.Openings.{spools_over};
+ghost use Rattle.core_net.specs.Openings.{spools_over, files_found};
 ghost use Rattle.core_net.specs.Runs.{AreFew};
 ghost use Rattle.schedule_law.specs.Undisturbed.{AreItsCounts};
 ghost use Rattle.solo_cli.specs.Causes.{IsMakeCause};
@@ -23,15 +25,17 @@ use crate::counts::{counts_line, number_line};
 use crate::deck_numbers::{DeckNumbers, PIECE, numbers_of};
 use crate::runs::{Done, came_to, cause_of};
 use core_net::{Counts, Rule, run_core};
+use disk_files::FileArea;
 use made_deck::make_deck;
 use solo_base::{Cause, Line, NoMemory};
 use solo_devices::{Area, PrintFault, PrinterUnit, Sink, SureSink, SureSource};
 use std::alloc::Global;
 
 /// How the command ended, and the devices that it used.
-pub struct Made<K, I, O> {
+pub struct Made<K, F, I, O> {
     pub cause: Option<Cause>,
     pub paper: K,
+    pub files: F,
     pub input: I,
     pub output: O,
 }
@@ -39,37 +43,45 @@ pub struct Made<K, I, O> {
 /// Makes the deck of a number, runs it on the core under the schedule of this number, to a paper in memory,
 /// and prints how many jobs, cards, lines and characters there were, and what the run counted. Where the run
 /// met a fault nothing is printed.
-pub fn make<K: Sink, I: Area, O: Area>(
+pub fn make<K: Sink, F: Area, I: Area, O: Area>(
     alloc: Global,
     number: u32,
     paper: K,
+    files: FileArea<F>,
     input: I,
     output: O,
-) -> Made<K, I, O>
+) -> Made<K, F, I, O>
     requires number { number ≤ 50000 }
+    requires files { files.sound ≡ true }
     requires input { (0 < I.size input) × (I.size input ≤ 256) }
     requires output { (0 < O.size output) × (O.size output ≤ 256) }
-    ensures gains { IsSome (I.pages input) → IsSome (O.pages output) →
+    ensures gains { (found : Loads) →
+        AreFound (files_found (F.pages files.area)) found (cards (made_deck number)) →
+        IsSome (I.pages input) → IsSome (O.pages output) →
         GainsNumbers (Rule.Numbered number)
         (opened (spools_over (I.size input) (I.pages input) (O.size output) (O.pages output))
-        (Some (cards (made_deck number))) (Some []))
-        (made_deck number) (K.given paper) (K.given result.paper) (result.cause ≡ None) }
+        (Some (cards (made_deck number))) (Some []) (files_found (F.pages files.area)))
+        found (made_deck number) (K.given paper) (K.given result.paper) (result.cause ≡ None) }
 
     // A fault of an area or a damaged page is one of the run, and then nothing is printed.
     ensures unprinted { IfSome result.cause (λ cause.
         (cause ≡ Cause.DiskFault) ⊎ IsDamaged cause → result.paper ≡ paper) }
     ensures disk { result.cause ≡ Some Cause.DiskFault →
-        Rose (I.faults input) (I.faults result.input) ⊎ Rose (O.faults output) (O.faults result.output) }
+        Rose (I.faults input) (I.faults result.input) ⊎ Rose (O.faults output) (O.faults result.output)
+        ⊎ Rose (F.faults files.area) (F.faults result.files) }
+    ensures left { F.pages result.files ≡ F.pages files.area }
+    ensures size { F.size result.files ≡ 4288 }
     ensures print { result.cause ≡ Some Cause.PrintFault → Rose (K.faults paper) (K.faults result.paper) }
     ensures undamaged { IsSome (I.pages input) → IsSome (O.pages output) →
         IfSome result.cause (λ cause. IsDamaged cause → ⊥) }
     ensures known { IfSome result.cause IsMakeCause }
 {
     match deck_of(alloc, number) {
-        Ok((deck, numbers)) => run_made(alloc, number, deck, numbers, paper, input, output),
+        Ok((deck, numbers)) => run_made(alloc, number, deck, numbers, paper, files, input, output),
         Err(NoMemory) => Made {
             cause: Some(Cause::NoMemory),
             paper,
+            files: files.into_inner(),
             input,
             output,
         },
@@ -90,39 +102,46 @@ fn deck_of(alloc: Global, number: u32) -> Result<(Vec<u8>, DeckNumbers), NoMemor
 }
 
 // Runs a deck in memory, and prints its numbers and what was counted.
-fn run_made<K: Sink, I: Area, O: Area>(
+fn run_made<K: Sink, F: Area, I: Area, O: Area>(
     alloc: Global,
     number: u32,
     deck: Vec<u8>,
     numbers: DeckNumbers,
     paper: K,
+    files: FileArea<F>,
     input: I,
     output: O,
-) -> Made<K, I, O>
+) -> Made<K, F, I, O>
+    requires files { files.sound ≡ true }
     requires deck { length deck.items ≤ byte_limit }
     requires jobs { numbers.jobs ≡ length (jobs (cards deck.items)) }
     requires cards { numbers.cards ≡ length (cards deck.items) }
     requires input { (0 < I.size input) × (I.size input ≤ 256) }
     requires output { (0 < O.size output) × (O.size output ≤ 256) }
-    ensures gains { IsSome (I.pages input) → IsSome (O.pages output) →
+    ensures gains { (found : Loads) → AreFound (files_found (F.pages files.area)) found (cards deck.items) →
+        IsSome (I.pages input) → IsSome (O.pages output) →
         GainsNumbers (Rule.Numbered number)
         (opened (spools_over (I.size input) (I.pages input) (O.size output) (O.pages output))
-        (Some (cards deck.items)) (Some []))
-        deck.items (K.given paper) (K.given result.paper) (result.cause ≡ None) }
+        (Some (cards deck.items)) (Some []) (files_found (F.pages files.area)))
+        found deck.items (K.given paper) (K.given result.paper) (result.cause ≡ None) }
     ensures unprinted { IfSome result.cause (λ cause.
         (cause ≡ Cause.DiskFault) ⊎ IsDamaged cause → result.paper ≡ paper) }
     ensures disk { result.cause ≡ Some Cause.DiskFault →
-        Rose (I.faults input) (I.faults result.input) ⊎ Rose (O.faults output) (O.faults result.output) }
+        Rose (I.faults input) (I.faults result.input) ⊎ Rose (O.faults output) (O.faults result.output)
+        ⊎ Rose (F.faults files.area) (F.faults result.files) }
+    ensures left { F.pages result.files ≡ F.pages files.area }
+    ensures size { F.size result.files ≡ 4288 }
     ensures print { result.cause ≡ Some Cause.PrintFault → Rose (K.faults paper) (K.faults result.paper) }
     ensures undamaged { IsSome (I.pages input) → IsSome (O.pages output) →
         IfSome result.cause (λ cause. IsDamaged cause → ⊥) }
     ensures known { IfSome result.cause IsMakeCause }
 {
-    let (ran, counts) = run_in_memory(alloc, number, deck, input, output);
+    let (ran, counts) = run_in_memory(alloc, number, deck, files, input, output);
     let Done {
         cause,
         deck: _,
         paper: printed,
+        files,
         input,
         output,
     } = ran;
@@ -130,6 +149,7 @@ fn run_made<K: Sink, I: Area, O: Area>(
         Some(cause) => Made {
             cause: Some(cause),
             paper,
+            files,
             input,
             output,
         },
@@ -139,6 +159,7 @@ fn run_made<K: Sink, I: Area, O: Area>(
             Made {
                 cause,
                 paper,
+                files,
                 input,
                 output,
             }
@@ -147,25 +168,32 @@ fn run_made<K: Sink, I: Area, O: Area>(
 }
 
 // Runs a deck to a paper in memory, under the schedule of this number.
-fn run_in_memory<I: Area, O: Area>(
+fn run_in_memory<F: Area, I: Area, O: Area>(
     alloc: Global,
     number: u32,
     deck: Vec<u8>,
+    files: FileArea<F>,
     input: I,
     output: O,
-) -> (Done<SureSource, SureSink, I, O>, Counts)
+) -> (Done<SureSource, SureSink, F, I, O>, Counts)
+    requires files { files.sound ≡ true }
     requires deck { length deck.items ≤ byte_limit }
     requires input { (0 < I.size input) × (I.size input ≤ 256) }
     requires output { (0 < O.size output) × (O.size output ≤ 256) }
-    ensures counted { IsSome (I.pages input) → IsSome (O.pages output) → result.0.cause ≡ None →
+    ensures counted { (found : Loads) → AreFound (files_found (F.pages files.area)) found (cards deck.items) →
+        IsSome (I.pages input) → IsSome (O.pages output) → result.0.cause ≡ None →
         AreItsCounts (Rule.Numbered number)
         (opened (spools_over (I.size input) (I.pages input) (O.size output) (O.pages output))
-        (Some (cards deck.items)) (Some [])) result.1 }
-    ensures printed { IsSome (I.pages input) → IsSome (O.pages output) → result.0.cause ≡ None →
-        ⟦<SureSink as Sink>⟧.given result.0.paper ≡ Some (text (one_thread_output deck.items)) }
+        (Some (cards deck.items)) (Some []) (files_found (F.pages files.area))) result.1 }
+    ensures printed { (found : Loads) → AreFound (files_found (F.pages files.area)) found (cards deck.items) →
+        IsSome (I.pages input) → IsSome (O.pages output) → result.0.cause ≡ None →
+        ⟦<SureSink as Sink>⟧.given result.0.paper ≡ Some (text (one_thread_output found deck.items)) }
     ensures disk { result.0.cause ≡ Some Cause.DiskFault →
         Rose (I.faults input) (I.faults result.0.input)
-        ⊎ Rose (O.faults output) (O.faults result.0.output) }
+        ⊎ Rose (O.faults output) (O.faults result.0.output)
+        ⊎ Rose (F.faults files.area) (F.faults result.0.files) }
+    ensures left { F.pages result.0.files ≡ F.pages files.area }
+    ensures size { F.size result.0.files ≡ 4288 }
     ensures undamaged { IsSome (I.pages input) → IsSome (O.pages output) →
         IfSome result.0.cause (λ cause. IsDamaged cause → ⊥) }
     ensures known { IfSome result.0.cause IsMakeCause }
@@ -174,7 +202,8 @@ fn run_in_memory<I: Area, O: Area>(
 {
     let deck = SureSource::new(deck, PIECE);
     let paper = SureSink::new(alloc);
-    let (ran, counts) = run_core(alloc, deck, input, output, paper, Rule::Numbered { number });
+    let rule = Rule::Numbered { number };
+    let (ran, counts) = run_core(alloc, deck, input, output, paper, files, rule);
     (came_to(ran), counts)
 }
 

@@ -1,20 +1,25 @@
-//! The commands that mount the files, and then run the deck.
-ghost use Rattle.std.specs.Prelude.{◌≡◌, ◌⊎◌, ◌<◌, ◌≤◌, ℕ, List, Some, None, IsSome, IfSome};
+//! The commands that mount the files, and then run a deck.
+ghost use Rattle.std.specs.Prelude.{◌≡◌, ◌⊎◌, ◌<◌, ◌≤◌, ℕ, List, [], true, Some, None, IsSome, IfSome};
 ghost use Rattle.solo_base.specs.Text.{text};
 ghost use Rattle.solo_base.specs.Card.{cards};
 ghost use Rattle.solo_devices.specs.CardUnit.{IsAllTaken};
 ghost use Rattle.solo_devices.specs.PrinterUnit.{Gains};
 ghost use Rattle.disk_layout.specs.Format.{IsBad, IsSoloDisk};
+ghost use Rattle.batch_job.specs.Report.{Loads};
 ghost use Rattle.batch_job.specs.OneThread.{one_thread_output};
 ghost use Rattle.batch_procs.specs.Faults.{IsDamaged};
+ghost use Rattle.made_deck.specs.MadeDeck.{made_deck};
+ghost use Rattle.core_law.specs.Holds.{AreFound};
 ghost use Rattle.core_law.specs.Opening.{opened};
 ghost use Rattle.core_net.specs.Causes.{counting};
-ghost use Rattle.core_net.specs.Openings.{spools_over};
+ghost use Rattle.core_net.specs.Openings.{spools_over, files_found};
 ghost use Rattle.solo_cli.specs.Causes.{IsRunCause};
 ghost use Rattle.solo_cli.specs.CountsPaper.{GainsCounted};
 ghost use Rattle.solo_cli.specs.FileCommands.{RefusesFiles};
-ghost use Rattle.solo_cli.specs.Refusals.{HasItsReason, IsDeckCause, OfFault, as_refusal, mount_cause};
+ghost use Rattle.solo_cli.specs.MadePaper.{GainsNumbers};
+ghost use Rattle.solo_cli.specs.Refusals.{HasItsReason, IsDeckCause, IsMadeDeckCause, OfFault, as_refusal, mount_cause};
 
+use crate::making::{Made, make};
 use crate::refusal::Refusal;
 use crate::runs::{Done, batch, core};
 use core_net::Rule;
@@ -49,7 +54,7 @@ pub enum Mode {
 pub fn run_deck<
     S: Source + Drop + Send,
     K: Sink + Drop + Send,
-    F: Area,
+    F: Area + Drop + Send,
     I: Area + Send,
     O: Area + Send,
     R: Threads + Wait + Sync,
@@ -67,20 +72,29 @@ pub fn run_deck<
     requires files { F.size files ≡ 4288 }
     requires input { (0 < I.size input) × (I.size input ≤ 256) }
     requires output { (0 < O.size output) × (O.size output ≤ 256) }
-    ensures threads { mode ≡ Mode.Threads → (bytes : List ℕ) → S.left deck ≡ Some bytes →
+    ensures threads { mode ≡ Mode.Threads → (bytes : List ℕ) (found : Loads) → S.left deck ≡ Some bytes →
+        AreFound (files_found (F.pages files)) found (cards bytes) →
         IsSome (I.pages input) → IsSome (O.pages output) →
-        Gains (K.given paper) (K.given result.paper) (text (one_thread_output bytes)) (result.cause ≡ None) }
-    ensures core { (schedule : ℕ) → mode ≡ Mode.Core schedule → (bytes : List ℕ) →
-        S.left deck ≡ Some bytes → IsSome (I.pages input) → IsSome (O.pages output) →
+        Gains (K.given paper) (K.given result.paper) (text (one_thread_output found bytes))
+        (result.cause ≡ None) }
+    ensures core { (schedule : ℕ) → mode ≡ Mode.Core schedule → (bytes : List ℕ) (found : Loads) →
+        S.left deck ≡ Some bytes → AreFound (files_found (F.pages files)) found (cards bytes) →
+        IsSome (I.pages input) → IsSome (O.pages output) →
         GainsCounted (Rule.Numbered schedule)
         (opened (spools_over (I.size input) (I.pages input) (O.size output) (O.pages output))
-        (Some (cards bytes)) (K.given paper))
-        (K.given paper) (K.given result.paper) (one_thread_output bytes) (result.cause ≡ None) }
+        (Some (cards bytes)) (K.given paper) (files_found (F.pages files)))
+        (K.given paper) (K.given result.paper) (one_thread_output found bytes) (result.cause ≡ None) }
     ensures all_taken { result.cause ≡ None → IsAllTaken (S.left result.deck) }
-    ensures caused { HasItsReason (counting S.faults S.taken K.faults I.faults O.faults) S.left
-        record { source = deck; sink = paper; input = input; output = output }
-        record { source = result.deck; sink = result.paper; input = result.input; output = result.output }
-        (F.faults files) (F.faults result.files) result.cause }
+    ensures caused { HasItsReason (counting S.faults S.taken K.faults I.faults O.faults F.faults) S.left
+        record { source = deck; sink = paper; input = input; output = output; files = files }
+        record {
+          source = result.deck;
+          sink = result.paper;
+          input = result.input;
+          output = result.output;
+          files = result.files;
+        }
+        result.cause }
     ensures undamaged { IsSome (S.left deck) → IsSome (I.pages input) → IsSome (O.pages output) →
         IfSome result.cause (λ refusal. OfFault IsDamaged refusal → ⊥) }
     ensures refusals { IfSome result.cause (OfFault IsDeckCause) }
@@ -108,6 +122,85 @@ pub fn run_deck<
     }
 }
 
+/// Mounts the files, and then makes the deck of a number, runs it in memory under the schedule of this
+/// number, and prints the numbers of both. Where the files can't be mounted nothing else is done.
+pub fn run_made_deck<S: Source, K: Sink, F: Area, I: Area, O: Area>(
+    alloc: Global,
+    number: u32,
+    deck: S,
+    paper: K,
+    files: F,
+    input: I,
+    output: O,
+) -> Used<S, K, F, I, O>
+    requires number { number ≤ 50000 }
+    requires deck { S.taken deck ≡ 0 }
+    requires files { F.size files ≡ 4288 }
+    requires input { (0 < I.size input) × (I.size input ≤ 256) }
+    requires output { (0 < O.size output) × (O.size output ≤ 256) }
+    ensures gains { (found : Loads) →
+        AreFound (files_found (F.pages files)) found (cards (made_deck number)) →
+        IsSome (I.pages input) → IsSome (O.pages output) →
+        GainsNumbers (Rule.Numbered number)
+        (opened (spools_over (I.size input) (I.pages input) (O.size output) (O.pages output))
+        (Some (cards (made_deck number))) (Some []) (files_found (F.pages files)))
+        found (made_deck number) (K.given paper) (K.given result.paper) (result.cause ≡ None) }
+    ensures unread { result.deck ≡ deck }
+    ensures unprinted { IfSome result.cause (λ refusal.
+        (refusal ≡ Refusal.Fault Cause.DiskFault) ⊎ OfFault IsDamaged refusal → result.paper ≡ paper) }
+    ensures caused { HasItsReason (counting S.faults S.taken K.faults I.faults O.faults F.faults) S.left
+        record { source = deck; sink = paper; input = input; output = output; files = files }
+        record {
+          source = result.deck;
+          sink = result.paper;
+          input = result.input;
+          output = result.output;
+          files = result.files;
+        }
+        result.cause }
+    ensures undamaged { IsSome (I.pages input) → IsSome (O.pages output) →
+        IfSome result.cause (λ refusal. OfFault IsDamaged refusal → ⊥) }
+    ensures refusals { IfSome result.cause (OfFault IsMadeDeckCause) }
+
+    // Files that can't be mounted.
+    ensures mounts { (pages : List (List ℕ)) → F.pages files ≡ Some pages → IsSoloDisk pages
+        ⊎ (RefusesFiles pages (F.faults files) (F.faults result.files) result.cause
+        × (result.deck ≡ deck) × (result.paper ≡ paper) × (result.input ≡ input) × (result.output ≡ output)) }
+    ensures not_solo { (page : ℕ) → result.cause ≡ Some (Refusal.Fault (Cause.NotSolo page)) →
+        ((pages : List (List ℕ)) → F.pages files ≡ Some pages → IsBad pages page)
+        × (result.deck ≡ deck) × (result.paper ≡ paper) × (result.input ≡ input) × (result.output ≡ output) }
+    ensures left { F.pages result.files ≡ F.pages files }
+    ensures size { F.size result.files ≡ F.size files }
+{
+    match FileArea::mount(alloc, files) {
+        Ok(files) => {
+            let Made {
+                cause,
+                paper,
+                files,
+                input,
+                output,
+            } = make(alloc, number, paper, files, input, output);
+            Used {
+                cause: Refusal::of_run(cause),
+                deck,
+                paper,
+                files,
+                input,
+                output,
+            }
+        }
+        Err((files, fault)) => Used {
+            cause: Some(Refusal::Fault(mount_cause(fault))),
+            deck,
+            paper,
+            files,
+            input,
+            output,
+        },
+    }
+}
+
 // The cause that files weren't mounted by.
 fn mount_cause(fault: FileFault) -> Cause
     ensures { result ≡ mount_cause fault }
@@ -123,7 +216,7 @@ fn mount_cause(fault: FileFault) -> Cause
 fn run_mounted<
     S: Source + Drop + Send,
     K: Sink + Drop + Send,
-    F: Area,
+    F: Area + Drop + Send,
     I: Area + Send,
     O: Area + Send,
     R: Threads + Wait + Sync,
@@ -138,46 +231,57 @@ fn run_mounted<
     output: O,
 ) -> Used<S, K, F, I, O>
     requires deck { S.taken deck ≡ 0 }
+    requires files { files.sound ≡ true }
     requires input { (0 < I.size input) × (I.size input ≤ 256) }
     requires output { (0 < O.size output) × (O.size output ≤ 256) }
-    ensures threads { mode ≡ Mode.Threads → (bytes : List ℕ) → S.left deck ≡ Some bytes →
+    ensures threads { mode ≡ Mode.Threads → (bytes : List ℕ) (found : Loads) → S.left deck ≡ Some bytes →
+        AreFound (files_found (F.pages files.area)) found (cards bytes) →
         IsSome (I.pages input) → IsSome (O.pages output) →
-        Gains (K.given paper) (K.given result.paper) (text (one_thread_output bytes)) (result.cause ≡ None) }
-    ensures core { (schedule : ℕ) → mode ≡ Mode.Core schedule → (bytes : List ℕ) →
-        S.left deck ≡ Some bytes → IsSome (I.pages input) → IsSome (O.pages output) →
+        Gains (K.given paper) (K.given result.paper) (text (one_thread_output found bytes))
+        (result.cause ≡ None) }
+    ensures core { (schedule : ℕ) → mode ≡ Mode.Core schedule → (bytes : List ℕ) (found : Loads) →
+        S.left deck ≡ Some bytes → AreFound (files_found (F.pages files.area)) found (cards bytes) →
+        IsSome (I.pages input) → IsSome (O.pages output) →
         GainsCounted (Rule.Numbered schedule)
         (opened (spools_over (I.size input) (I.pages input) (O.size output) (O.pages output))
-        (Some (cards bytes)) (K.given paper))
-        (K.given paper) (K.given result.paper) (one_thread_output bytes) (result.cause ≡ None) }
+        (Some (cards bytes)) (K.given paper) (files_found (F.pages files.area)))
+        (K.given paper) (K.given result.paper) (one_thread_output found bytes) (result.cause ≡ None) }
     ensures all_taken { result.cause ≡ None → IsAllTaken (S.left result.deck) }
-    ensures caused { HasItsReason (counting S.faults S.taken K.faults I.faults O.faults) S.left
-        record { source = deck; sink = paper; input = input; output = output }
-        record { source = result.deck; sink = result.paper; input = result.input; output = result.output }
-        (F.faults files.area) (F.faults result.files) result.cause }
+    ensures caused { HasItsReason (counting S.faults S.taken K.faults I.faults O.faults F.faults) S.left
+        record { source = deck; sink = paper; input = input; output = output; files = files.area }
+        record {
+          source = result.deck;
+          sink = result.paper;
+          input = result.input;
+          output = result.output;
+          files = result.files;
+        }
+        result.cause }
     ensures undamaged { IsSome (S.left deck) → IsSome (I.pages input) → IsSome (O.pages output) →
         IfSome result.cause (λ refusal. OfFault IsDamaged refusal → ⊥) }
     ensures refusals { IfSome result.cause (OfFault IsRunCause) }
-    ensures files { result.files ≡ files.area }
+    ensures left { F.pages result.files ≡ F.pages files.area }
+    ensures size { F.size result.files ≡ 4288 }
 {
-    let files = files.into_inner();
     match mode {
-        Mode::Threads => with_files(batch(rt, alloc, deck, paper, input, output), files),
-        Mode::Core { schedule } => {
-            with_files(core(alloc, schedule, deck, paper, input, output), files)
-        }
+        Mode::Threads => as_used(batch(rt, alloc, deck, paper, files, input, output)),
+        Mode::Core { schedule } => as_used(core(
+            alloc, schedule, deck, paper, files, input, output,
+        )),
     }
 }
 
-// What a run came to, beside the files.
-fn with_files<S, K, F, I, O>(done: Done<S, K, I, O>, files: F) -> Used<S, K, F, I, O>
+// What a run came to, as what a command comes to.
+fn as_used<S, K, F, I, O>(done: Done<S, K, F, I, O>) -> Used<S, K, F, I, O>
     ensures cause { result.cause ≡ as_refusal done.cause }
-    ensures units { (result.deck ≡ done.deck) × (result.paper ≡ done.paper) × (result.files ≡ files)
+    ensures units { (result.deck ≡ done.deck) × (result.paper ≡ done.paper) × (result.files ≡ done.files)
         × (result.input ≡ done.input) × (result.output ≡ done.output) }
 {
     let Done {
         cause,
         deck,
         paper,
+        files,
         input,
         output,
     } = done;

@@ -287,8 +287,8 @@ fn other_words_are_no_command(rt: HostRuntime) -> Result<(), Fail> {
     Ok(())
 }
 
-/// A deck of one list, its paper, and the numbers of events, delays and grants under some schedules, as a plain
-/// simulation counts them.
+/// A deck of one list, its paper, and the numbers of events, delays and grants under some schedules, as a
+/// plain simulation counts them.
 const LISTING: &[u8] = b"#LIST A\nHELLO\n#END\n";
 
 const COUNTED: [(&str, &str); 6] = [

@@ -6,7 +6,7 @@ use Rattle.batch_job.specs.OneThread.{one_thread_output}
 use Rattle.made_deck.specs.MadeDeck.{made_deck}
 use Rattle.core_law.specs.Opening.{opened}
 use Rattle.core_net.specs.declared.rules.Rule.TheVariants.{Numbered}
-use Rattle.core_net.specs.Openings.{spools_over}
+use Rattle.core_net.specs.Openings.{spools_over, files_found}
 use Rattle.solo_cli.specs.declared.words.Command.TheVariants.{Migrate}
 use Rattle.solo_cli.specs.Words.{form}
 use Rattle.solo_cli.specs.Status.{status_of}
@@ -20,33 +20,33 @@ use Rattle.solo_cli.proofs.Statuses.{no_cause, made_status, by_fault, by_one, by
 use Rattle.solo_cli.proofs.command.top.Goals as goal
 
 pub returns-clause-output : goal.returns-clause-output
-returns-clause-output g c = λ bytes told input_told output_told is.
+returns-clause-output g c = λ bytes found told files input_told output_told is.
     gains_where (g.K.Sink.given c.args.paper) (g.K.Sink.given c.run_command-cause.result.paper) _ _
-    (λ zero. no_cause c.run_command-cause.result.cause (sym c.status_of.ensures ∙ zero)) (text (one_thread_output bytes))
-    (c.run_command-cause.ensures.batch is bytes told input_told output_told)
+    (λ zero. no_cause c.run_command-cause.result.cause (sym c.status_of.ensures ∙ zero)) (text (one_thread_output found bytes))
+    (c.run_command-cause.ensures.batch is bytes found told files input_told output_told)
 
 pub returns-clause-core_output : goal.returns-clause-core_output
-returns-clause-core_output g c = λ bytes told input_told output_told schedule is.
+returns-clause-core_output g c = λ bytes found told files input_told output_told schedule is.
     counted_where (g.K.Sink.given c.args.paper) (g.K.Sink.given c.run_command-cause.result.paper) _ _
     (λ zero. no_cause c.run_command-cause.result.cause (sym c.status_of.ensures ∙ zero)) (Numbered schedule)
     (opened (spools_over (g.I.Area.size c.args.input) (g.I.Area.pages c.args.input) (g.O.Area.size c.args.output) (g.O.Area.pages c.args.output))
-    (Some (cards bytes)) (g.K.Sink.given c.args.paper)) (one_thread_output bytes)
-    (c.run_command-cause.ensures.core schedule is bytes told input_told output_told)
+    (Some (cards bytes)) (g.K.Sink.given c.args.paper) (files_found (g.F.Area.pages c.args.files))) (one_thread_output found bytes)
+    (c.run_command-cause.ensures.core schedule is bytes found told files input_told output_told)
 
 pub returns-clause-make_output : goal.returns-clause-make_output
-returns-clause-make_output g c = λ number is input_told output_told.
+returns-clause-make_output g c = λ number is found files input_told output_told.
     numbers_where (g.K.Sink.given c.args.paper) (g.K.Sink.given c.run_command-cause.result.paper) _ _
     (λ zero. no_cause c.run_command-cause.result.cause (sym c.status_of.ensures ∙ zero)) (Numbered number)
     (opened (spools_over (g.I.Area.size c.args.input) (g.I.Area.pages c.args.input) (g.O.Area.size c.args.output) (g.O.Area.pages c.args.output))
-    (Some (cards (made_deck number))) (Some [])) (made_deck number)
-    (c.run_command-cause.ensures.make number is input_told output_told)
+    (Some (cards (made_deck number))) (Some []) (files_found (g.F.Area.pages c.args.files))) found (made_deck number)
+    (c.run_command-cause.ensures.make number is found files input_told output_told)
 
 pub returns-clause-make_unread : goal.returns-clause-make_unread
 returns-clause-make_unread g c = λ number is.
     let e = c.run_command-cause.ensures in
     let others = made_status c.run_command-cause.result.cause
     (subst (λ asked. IfSome c.run_command-cause.result.cause (MayBeRefused asked)) is e.refusals) in
-    ((e.unread number is).0, λ at. others.0 (sym c.status_of.ensures ∙ at), λ at. others.1 (sym c.status_of.ensures ∙ at))
+    (e.unread number is, λ at. others.0 (sym c.status_of.ensures ∙ at), λ at. others.1 (sym c.status_of.ensures ∙ at))
 
 pub returns-clause-make_unprinted : goal.returns-clause-make_unprinted
 returns-clause-make_unprinted g c = λ number is at.

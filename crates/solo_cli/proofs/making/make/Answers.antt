@@ -1,15 +1,17 @@
 use Rattle.std.proofs.Common.{arith}
 use Rattle.core_net.specs.declared.rules.Rule.TheVariants.{Numbered}
-use Rattle.core_net.specs.Openings.{spools_over}
+use Rattle.core_net.specs.Openings.{spools_over, files_found}
+use Rattle.core_net.proofs.GoodFiles.{are-good}
 use Rattle.made_deck.specs.MadeDeck.{made_deck}
 use Rattle.solo_cli.proofs.UnprintedNumbers.{no_numbers}
 use Rattle.solo_cli.proofs.making.make.Goals as goal
 
 pub returns-in-Err-clause-gains : goal.returns-in-Err-clause-gains
-returns-in-Err-clause-gains g c = λ input_told output_told.
+returns-in-Err-clause-gains g c = λ found files input_told output_told.
     no_numbers (Numbered c.args.number)
     (spools_over (g.I.Area.size c.args.input) (g.I.Area.pages c.args.input) (g.O.Area.size c.args.output) (g.O.Area.pages c.args.output))
-    (made_deck c.args.number) (g.K.Sink.given c.args.paper) _
+    (files_found (g.F.Area.pages c.args.files.area)) found (made_deck c.args.number) (g.K.Sink.given c.args.paper) _
+    (are-good (g.F.Area.pages c.args.files.area)) files
     record {
       input_some = omega (arith, c.requires.input.0);
       input_most = c.requires.input.1;

@@ -1,13 +1,13 @@
-use Rattle.std.proofs.Common.{◌⊎◌, [], drop, Some, sym, ◌∙◌, ap, subst, inl, inr, arith}
+use Rattle.std.proofs.Common.{◌⊎◌, [], drop, Some, sym, ◌∙◌, ap, subst, inl, inr}
 use Rattle.std.specs.Prelude.{IfSome}
 use Rattle.solo_base.specs.Card.{cards}
 use Rattle.solo_devices.specs.CardUnit.{items_ahead}
 use Rattle.solo_devices.specs.Count.{Rose}
 use Rattle.batch_procs.specs.Faults.{IsDamaged}
 use Rattle.core_law.specs.Core.{Devices}
-use Rattle.core_law.specs.Opening.{AreInBounds, opened}
+use Rattle.core_law.specs.Opening.{opened}
 use Rattle.core_net.specs.declared.rules.Rule.TheVariants.{Numbered}
-use Rattle.core_net.specs.Openings.{spools_over}
+use Rattle.core_net.specs.Openings.{spools_over, files_found}
 use Rattle.core_net.specs.WholeRuns.{RunsToEnd}
 use Rattle.solo_cli.specs.Causes.{IsMakeCause}
 use Rattle.solo_cli.proofs.AllDone.{all-done, by-print, by-disk}
@@ -18,33 +18,29 @@ use Rattle.solo_cli.proofs.Reasons.{undamaged}
 use Rattle.solo_cli.proofs.making.run_in_memory.Goals as goal
 
 pub returns-clause-counted : goal.returns-clause-counted
-returns-clause-counted g c = λ input_told output_told none.
+returns-clause-counted g c = λ found files input_told output_told none.
     let e = c.run_core-ran.ensures in
     let ran = c.run_core-ran.result.0 in
     let counts = c.run_core-ran.result.1 in
     let items = cards c.args.deck.items in
     let spools = spools_over (g.I.Area.size c.args.input) (g.I.Area.pages c.args.input) (g.O.Area.size c.args.output) (g.O.Area.pages c.args.output) in
-    let bounds : AreInBounds spools
-    = record {
-      input_some = omega (arith, c.requires.input.0);
-      input_most = c.requires.input.1;
-      output_some = omega (arith, c.requires.output.0);
-      output_most = c.requires.output.1;
-    } in
-    let devices : Devices = record { deck = _; paper = _ } in
-    let runs : RunsToEnd (Numbered c.args.number) (opened spools (Some items) (Some [])) counts ran.outcomes ran.stopped_by devices
-    = subst (λ paper. RunsToEnd (Numbered c.args.number) (opened spools (Some items) paper) counts ran.outcomes ran.stopped_by devices) c.new-paper.ensures
-    (subst (λ ahead. RunsToEnd (Numbered c.args.number) (opened spools ahead (Some c.new-paper.result.bytes.items)) counts ran.outcomes ran.stopped_by devices)
+    let devices : Devices = record { deck = _; paper = _; files = _ } in
+    let told_files = files_found (g.F.Area.pages c.args.files.area) in
+    let runs : RunsToEnd (Numbered c.args.number) (opened spools (Some items) (Some []) told_files) counts ran.outcomes ran.stopped_by devices
+    = subst (λ paper. RunsToEnd (Numbered c.args.number) (opened spools (Some items) paper told_files) counts ran.outcomes ran.stopped_by devices)
+    c.new-paper.ensures
+    (subst (λ ahead. RunsToEnd (Numbered c.args.number) (opened spools ahead (Some c.new-paper.result.bytes.items) told_files) counts ran.outcomes
+    ran.stopped_by devices)
     (ap (λ left. items_ahead left []) c.new-deck.ensures.left) e.runs) in
-    counted-whole spools items runs bounds (record { input = input_told; output = output_told })
+    counted-whole spools items found (card-items c.args.deck.items) files runs (record { input = input_told; output = output_told })
     (all-done ran.outcomes ran.stopped_by e.together (sym c.came_to.ensures.decided ∙ none))
 
 pub returns-clause-printed : goal.returns-clause-printed
-returns-clause-printed g c = λ input_told output_told none.
+returns-clause-printed g c = λ found files input_told output_told none.
     let e = c.run_core-ran.ensures in
     let ran = c.run_core-ran.result.0 in
-    let gained = (e.prints (cards c.args.deck.items) (ap (λ left. items_ahead left []) c.new-deck.ensures.left) (card-items c.args.deck.items)
-    record { input = input_told; output = output_told }).told [] c.new-paper.ensures in
+    let gained = (e.prints (cards c.args.deck.items) found (ap (λ left. items_ahead left []) c.new-deck.ensures.left) (card-items c.args.deck.items)
+    files record { input = input_told; output = output_told }).told [] c.new-paper.ensures in
     ap (λ paper. Some paper.bytes.items) c.came_to.ensures.units.1 ∙ gained.now_is
     ∙ ap Some (gained.all_is (all-done ran.outcomes ran.stopped_by e.together (sym c.came_to.ensures.decided ∙ none)))
 
@@ -53,16 +49,24 @@ returns-clause-disk g c = λ is.
     let e = c.run_core-ran.ensures in
     let ran = c.run_core-ran.result.0 in
     subst (λ input. Rose (g.I.Area.faults c.args.input) (g.I.Area.faults input)
-    ⊎ Rose (g.O.Area.faults c.args.output) (g.O.Area.faults c.came_to.result.output)) (sym c.came_to.ensures.areas.0)
+    ⊎ Rose (g.O.Area.faults c.args.output) (g.O.Area.faults c.came_to.result.output)
+    ⊎ Rose (g.F.Area.faults c.args.files.area) (g.F.Area.faults c.came_to.result.files)) (sym c.came_to.ensures.areas.0)
     (subst (λ output. Rose (g.I.Area.faults c.args.input) (g.I.Area.faults ran.input)
-    ⊎ Rose (g.O.Area.faults c.args.output) (g.O.Area.faults output)) (sym c.came_to.ensures.areas.1)
+    ⊎ Rose (g.O.Area.faults c.args.output) (g.O.Area.faults output)
+    ⊎ Rose (g.F.Area.faults c.args.files.area) (g.F.Area.faults c.came_to.result.files)) (sym c.came_to.ensures.areas.1)
+    (subst (λ files. Rose (g.I.Area.faults c.args.input) (g.I.Area.faults ran.input)
+    ⊎ Rose (g.O.Area.faults c.args.output) (g.O.Area.faults ran.output)
+    ⊎ Rose (g.F.Area.faults c.args.files.area) (g.F.Area.faults files)) (sym c.came_to.ensures.files.0)
     (elim (by-disk ran.outcomes e.faults (sym c.came_to.ensures.decided ∙ is)) [
       | inl at ↦ inl (e.counted.input at)
       | inr others ↦ elim others [
         | inl at ↦ e.counted.job at
-        | inr at ↦ inr (e.counted.output at)
+        | inr at ↦ inr (inl (e.counted.output at))
       ]
-    ]))
+    ])))
+
+pub returns-clause-left : goal.returns-clause-left
+returns-clause-left g c = ap g.F.Area.pages c.came_to.ensures.files.0 ∙ c.run_core-ran.ensures.files
 
 pub returns-clause-undamaged : goal.returns-clause-undamaged
 returns-clause-undamaged g c = λ input_told output_told.
