@@ -2,7 +2,6 @@
 use Rattle.std.proofs.Common.{◌≡◌, ℕ, List, [], ◌∷◌, ◌++◌, Option, refl, subst}
 use Rattle.solo_base.specs.Text.{text}
 use Rattle.solo_devices.specs.PrinterUnit.{Gains}
-use Rattle.batch_job.specs.Report.{Loads}
 use Rattle.core_law.specs.Core.{CoreState}
 use Rattle.core_net.specs.declared.rules.Rule.{Rule}
 use Rattle.solo_cli.specs.CountsLine.{counts_line}
@@ -28,12 +27,12 @@ module _ (before now : Option (List ℕ)) (all other : Type 0) (change : other �
     counted = λ is. gains.counted (change is);
   }
 
-  pub numbers_where : (rule : Rule) (s : CoreState) (found : Loads) (deck : List ℕ) → GainsNumbers rule s found deck before now all
-      → GainsNumbers rule s found deck before now other
-  numbers_where rule s found deck gains = record {
+  pub numbers_where : (rule : Rule) (s : CoreState) (deck : List ℕ) → GainsNumbers rule s deck before now all
+      → GainsNumbers rule s deck before now other
+  numbers_where rule s deck gains = record {
     counts = gains.counts;
     counted = gains.counted;
-    gains = gains_where (text (deck_lines found deck gains.counts)) gains.gains;
+    gains = λ found. gains_where (text (deck_lines found deck gains.counts)) (gains.gains found);
   }
 
 -- the same of equals

@@ -16,6 +16,7 @@ mod DeckLength
 mod TextNumbers
 mod MoreLines
 mod WordNumbers
+mod NoFiles
 mod UnprintedNumbers
 mod MadeRuns
 mod UncountedRuns

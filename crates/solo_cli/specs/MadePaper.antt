@@ -9,11 +9,11 @@ use Rattle.core_net.specs.declared.rules.Rule.{Rule}
 use Rattle.schedule_law.specs.Undisturbed.{AreItsCounts}
 use Rattle.solo_cli.specs.DeckNumbers.{deck_lines}
 
--- The paper gains the numbers of a deck, with these files, and the counts of its run, or a prefix of these
--- lines; all of them where this holds. The counts are those of the one run by the rule from this state in
--- which no device fails and no memory is refused.
-pub record GainsNumbers (rule : Rule) (s : CoreState) (found : Loads) (deck : List ℕ)
-    (before now : Option (List ℕ)) (all : Type 0) : Type 0 where
+-- The paper gains the numbers of a deck and the counts of its run, or a prefix of these lines; all of them
+-- where this holds. The lines and characters are the same with any files. The counts are those of the one run
+-- by the rule from this state in which no device fails and no memory is refused.
+pub record GainsNumbers (rule : Rule) (s : CoreState) (deck : List ℕ) (before now : Option (List ℕ))
+    (all : Type 0) : Type 0 where
   pub counts : Counts
   pub counted : AreItsCounts rule s counts
-  pub gains : Gains before now (text (deck_lines found deck counts)) all
+  pub gains : (found : Loads) → Gains before now (text (deck_lines found deck counts)) all

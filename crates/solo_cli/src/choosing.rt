@@ -73,12 +73,11 @@ pub fn run_command<
         (K.given paper) (K.given result.paper) (one_thread_output found bytes) (result.cause ≡ None) }
     ensures make { (number : ℕ) →
         form (map (λ word. string_bytes word) words.now) ≡ Some (Command.Make number) →
-        (found : Loads) → AreFound (files_found (F.pages files)) found (cards (made_deck number)) →
         IsSome (I.pages input) → IsSome (O.pages output) →
         GainsNumbers (Rule.Numbered number)
         (opened (spools_over (I.size input) (I.pages input) (O.size output) (O.pages output))
         (Some (cards (made_deck number))) (Some []) (files_found (F.pages files)))
-        found (made_deck number) (K.given paper) (K.given result.paper) (result.cause ≡ None) }
+        (made_deck number) (K.given paper) (K.given result.paper) (result.cause ≡ None) }
     ensures unread { (number : ℕ) →
         form (map (λ word. string_bytes word) words.now) ≡ Some (Command.Make number) →
         result.deck ≡ deck }

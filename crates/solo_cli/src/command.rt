@@ -105,12 +105,11 @@ pub fn top<
     // Where an area failed or a spool gave a damaged page it gains nothing.
     ensures make_output { (number : ℕ) →
         form (map (λ word. string_bytes word) words.now) ≡ Some (Command.Make number) →
-        (found : Loads) → AreFound (files_found (F.pages files)) found (cards (made_deck number)) →
         IsSome (I.pages input) → IsSome (O.pages output) →
         GainsNumbers (Rule.Numbered number)
         (opened (spools_over (I.size input) (I.pages input) (O.size output) (O.pages output))
         (Some (cards (made_deck number))) (Some []) (files_found (F.pages files)))
-        found (made_deck number) (K.given paper) (K.given result.paper) (result.status ≡ 0) }
+        (made_deck number) (K.given paper) (K.given result.paper) (result.status ≡ 0) }
     ensures make_unread { (number : ℕ) →
         form (map (λ word. string_bytes word) words.now) ≡ Some (Command.Make number) →
         (result.deck ≡ deck) × (result.status ≢ 2) × (result.status ≢ 6) }

@@ -9,6 +9,7 @@ ghost use Rattle.solo_devices.specs.Count.{Rose};
 ghost use Rattle.solo_devices.specs.PrinterUnit.{Gains};
 ghost use Rattle.deck_format.specs.Jobs.{jobs};
 ghost use Rattle.batch_job.specs.Report.{Loads};
+ghost use Rattle.batch_job.specs.Loads.{files_named};
 ghost use Rattle.batch_job.specs.OneThread.{one_thread_output};
 ghost use Rattle.batch_procs.specs.Faults.{IsDamaged};
 ghost use Rattle.made_deck.specs.MadeDeck.{made_deck};
@@ -55,13 +56,11 @@ pub fn make<K: Sink, F: Area, I: Area, O: Area>(
     requires files { files.sound ≡ true }
     requires input { (0 < I.size input) × (I.size input ≤ 256) }
     requires output { (0 < O.size output) × (O.size output ≤ 256) }
-    ensures gains { (found : Loads) →
-        AreFound (files_found (F.pages files.area)) found (cards (made_deck number)) →
-        IsSome (I.pages input) → IsSome (O.pages output) →
+    ensures gains { IsSome (I.pages input) → IsSome (O.pages output) →
         GainsNumbers (Rule.Numbered number)
         (opened (spools_over (I.size input) (I.pages input) (O.size output) (O.pages output))
         (Some (cards (made_deck number))) (Some []) (files_found (F.pages files.area)))
-        found (made_deck number) (K.given paper) (K.given result.paper) (result.cause ≡ None) }
+        (made_deck number) (K.given paper) (K.given result.paper) (result.cause ≡ None) }
 
     // A fault of an area or a damaged page is one of the run, and then nothing is printed.
     ensures unprinted { IfSome result.cause (λ cause.
@@ -118,12 +117,11 @@ fn run_made<K: Sink, F: Area, I: Area, O: Area>(
     requires cards { numbers.cards ≡ length (cards deck.items) }
     requires input { (0 < I.size input) × (I.size input ≤ 256) }
     requires output { (0 < O.size output) × (O.size output ≤ 256) }
-    ensures gains { (found : Loads) → AreFound (files_found (F.pages files.area)) found (cards deck.items) →
-        IsSome (I.pages input) → IsSome (O.pages output) →
+    ensures gains { files_named (cards deck.items) ≡ [] → IsSome (I.pages input) → IsSome (O.pages output) →
         GainsNumbers (Rule.Numbered number)
         (opened (spools_over (I.size input) (I.pages input) (O.size output) (O.pages output))
         (Some (cards deck.items)) (Some []) (files_found (F.pages files.area)))
-        found deck.items (K.given paper) (K.given result.paper) (result.cause ≡ None) }
+        deck.items (K.given paper) (K.given result.paper) (result.cause ≡ None) }
     ensures unprinted { IfSome result.cause (λ cause.
         (cause ≡ Cause.DiskFault) ⊎ IsDamaged cause → result.paper ≡ paper) }
     ensures disk { result.cause ≡ Some Cause.DiskFault →

@@ -138,13 +138,11 @@ pub fn run_made_deck<S: Source, K: Sink, F: Area, I: Area, O: Area>(
     requires files { F.size files ≡ 4288 }
     requires input { (0 < I.size input) × (I.size input ≤ 256) }
     requires output { (0 < O.size output) × (O.size output ≤ 256) }
-    ensures gains { (found : Loads) →
-        AreFound (files_found (F.pages files)) found (cards (made_deck number)) →
-        IsSome (I.pages input) → IsSome (O.pages output) →
+    ensures gains { IsSome (I.pages input) → IsSome (O.pages output) →
         GainsNumbers (Rule.Numbered number)
         (opened (spools_over (I.size input) (I.pages input) (O.size output) (O.pages output))
         (Some (cards (made_deck number))) (Some []) (files_found (F.pages files)))
-        found (made_deck number) (K.given paper) (K.given result.paper) (result.cause ≡ None) }
+        (made_deck number) (K.given paper) (K.given result.paper) (result.cause ≡ None) }
     ensures unread { result.deck ≡ deck }
     ensures unprinted { IfSome result.cause (λ refusal.
         (refusal ≡ Refusal.Fault Cause.DiskFault) ⊎ OfFault IsDamaged refusal → result.paper ≡ paper) }

@@ -2,7 +2,6 @@ use Rattle.std.proofs.Common.{◌≡◌, [], Some, None, refl, sym, ◌∙◌, a
 use Rattle.std.specs.Prelude.{string_bytes}
 use Rattle.solo_base.specs.Card.{cards}
 use Rattle.made_deck.specs.MadeDeck.{made_deck}
-use Rattle.core_law.specs.Holds.{AreFound}
 use Rattle.core_law.specs.Opening.{opened}
 use Rattle.core_net.specs.declared.rules.Rule.TheVariants.{Numbered}
 use Rattle.core_net.specs.Openings.{spools_over, files_found}
@@ -28,13 +27,12 @@ returns-in-Some-Core-clause-core g c = λ schedule is.
     c.run_deck-in-Some-Core.ensures.core schedule (ap Mode.Core same)
 
 pub returns-in-Some-Make-clause-make : goal.returns-in-Some-Make-clause-make
-returns-in-Some-Make-clause-make g c = λ number is found files input_told output_told.
+returns-in-Some-Make-clause-make g c = λ number is input_told output_told.
     let both : Some (Make c.in-Some-Make.number) ≡ Some (Make number)
     = sym (sym c.command_of.ensures ∙ c.in-Some-Make.is ∙ ap Some c.in-Some-Make.field-0-is) ∙ is in
     let same : c.in-Some-Make.number ≡ number = cc in
     subst (λ n. GainsNumbers (Numbered n)
     (opened (spools_over (g.I.Area.size c.args.input) (g.I.Area.pages c.args.input) (g.O.Area.size c.args.output) (g.O.Area.pages c.args.output))
     (Some (cards (made_deck n))) (Some []) (files_found (g.F.Area.pages c.args.files)))
-    found (made_deck n) (g.K.Sink.given c.args.paper) (g.K.Sink.given c.run_made_deck.result.paper) (c.run_made_deck.result.cause ≡ None)) same
-    (c.run_made_deck.ensures.gains found
-    (subst (λ n. AreFound (files_found (g.F.Area.pages c.args.files)) found (cards (made_deck n))) (sym same) files) input_told output_told)
+    (made_deck n) (g.K.Sink.given c.args.paper) (g.K.Sink.given c.run_made_deck.result.paper) (c.run_made_deck.result.cause ≡ None)) same
+    (c.run_made_deck.ensures.gains input_told output_told)

@@ -34,12 +34,12 @@ returns-clause-core_output g c = λ bytes found told files input_told output_tol
     (c.run_command-cause.ensures.core schedule is bytes found told files input_told output_told)
 
 pub returns-clause-make_output : goal.returns-clause-make_output
-returns-clause-make_output g c = λ number is found files input_told output_told.
+returns-clause-make_output g c = λ number is input_told output_told.
     numbers_where (g.K.Sink.given c.args.paper) (g.K.Sink.given c.run_command-cause.result.paper) _ _
     (λ zero. no_cause c.run_command-cause.result.cause (sym c.status_of.ensures ∙ zero)) (Numbered number)
     (opened (spools_over (g.I.Area.size c.args.input) (g.I.Area.pages c.args.input) (g.O.Area.size c.args.output) (g.O.Area.pages c.args.output))
-    (Some (cards (made_deck number))) (Some []) (files_found (g.F.Area.pages c.args.files))) found (made_deck number)
-    (c.run_command-cause.ensures.make number is found files input_told output_told)
+    (Some (cards (made_deck number))) (Some []) (files_found (g.F.Area.pages c.args.files))) (made_deck number)
+    (c.run_command-cause.ensures.make number is input_told output_told)
 
 pub returns-clause-make_unread : goal.returns-clause-make_unread
 returns-clause-make_unread g c = λ number is.

@@ -1,6 +1,5 @@
 use Rattle.std.proofs.Common.{◌≡◌, [], Some, None, sym, ◌∙◌, subst, arith}
 use Rattle.solo_base.specs.Card.{cards}
-use Rattle.core_law.specs.Holds.{AreFound}
 use Rattle.core_law.specs.Opening.{opened}
 use Rattle.core_net.specs.Causes.{counting}
 use Rattle.core_net.specs.declared.rules.Rule.TheVariants.{Numbered}
@@ -13,20 +12,20 @@ use Rattle.solo_cli.proofs.Endings.{none_is}
 use Rattle.solo_cli.proofs.Gaining.{numbers_where}
 use Rattle.solo_cli.proofs.MadeRuns.{made_reason}
 use Rattle.solo_cli.proofs.Mounts.{from_mount}
+use Rattle.solo_cli.proofs.NoFiles.{no-files}
 use Rattle.solo_cli.proofs.UnprintedNumbers.{no_numbers}
 use Rattle.solo_cli.proofs.mounting.run_made_deck.Goals as goal
 
 pub returns-in-Ok-clause-gains : goal.returns-in-Ok-clause-gains
-returns-in-Ok-clause-gains g c = λ found files input_told output_told.
+returns-in-Ok-clause-gains g c = λ input_told output_told.
     subst (λ pages. GainsNumbers (Numbered c.args.number)
     (opened (spools_over (g.I.Area.size c.args.input) (g.I.Area.pages c.args.input) (g.O.Area.size c.args.output) (g.O.Area.pages c.args.output))
     (Some (cards (made_deck c.args.number))) (Some []) (files_found pages))
-    found (made_deck c.args.number) (g.K.Sink.given c.args.paper) (g.K.Sink.given c.make-cause.result.paper) (c.of_run.result ≡ None))
+    (made_deck c.args.number) (g.K.Sink.given c.args.paper) (g.K.Sink.given c.make-cause.result.paper) (c.of_run.result ≡ None))
     c.in-Ok.ensures.left
     (numbers_where (g.K.Sink.given c.args.paper) (g.K.Sink.given c.make-cause.result.paper) _ _
-    (λ none. none_is c.make-cause.result.cause (sym c.of_run.ensures ∙ none)) _ _ _ _
-    (c.make-cause.ensures.gains found
-    (subst (λ pages. AreFound (files_found pages) found (cards (made_deck c.args.number))) (sym c.in-Ok.ensures.left) files) input_told output_told))
+    (λ none. none_is c.make-cause.result.cause (sym c.of_run.ensures ∙ none)) _ _ _
+    (c.make-cause.ensures.gains input_told output_told))
 
 pub returns-in-Ok-clause-caused : goal.returns-in-Ok-clause-caused
 returns-in-Ok-clause-caused g c =
@@ -48,11 +47,11 @@ returns-in-Ok-clause-caused g c =
     c.make-cause.ensures.print))
 
 pub returns-in-Err-clause-gains : goal.returns-in-Err-clause-gains
-returns-in-Err-clause-gains g c = λ found files input_told output_told.
+returns-in-Err-clause-gains g c = λ input_told output_told.
     no_numbers (Numbered c.args.number)
     (spools_over (g.I.Area.size c.args.input) (g.I.Area.pages c.args.input) (g.O.Area.size c.args.output) (g.O.Area.pages c.args.output))
-    (files_found (g.F.Area.pages c.args.files)) found (made_deck c.args.number) (g.K.Sink.given c.args.paper) _
-    (are-good (g.F.Area.pages c.args.files)) files
+    (files_found (g.F.Area.pages c.args.files)) (made_deck c.args.number) (g.K.Sink.given c.args.paper) _
+    (are-good (g.F.Area.pages c.args.files)) (no-files c.args.number)
     record {
       input_some = omega (arith, c.requires.input.0);
       input_most = c.requires.input.1;
