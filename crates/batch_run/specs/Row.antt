@@ -1,5 +1,5 @@
 -- The five processes side by side: how each begins, and what it made of its connections.
-use Rattle.std.specs.Prelude.{ℕ, List, [], Option}
+use Rattle.std.specs.Prelude.{◌≡◌, ℕ, Bool, true, false, List, [], Option}
 use Rattle.solo_base.specs.declared.outcome.Outcome.{Outcome}
 use Rattle.batch_procs.specs.Table.{card, input, job, output, printer}
 use Rattle.batch_run.specs.declared.card_connections.CardConnections.{CardConnections}
@@ -14,6 +14,44 @@ use Rattle.batch_run.specs.Cards.{CardRan}
 use Rattle.batch_run.specs.Lines.{PrinterRan}
 use Rattle.batch_run.specs.Pages.{InputRan, JobRan, OutputRan, input_connected, job_connected, output_connected}
 
+-- What became of those that came to a start and were told whether all had come: they did this, or they stay
+-- as they were.
+pub record Came (start here : ℕ) (all : Bool) (Did Stay : Type 0) : Type 0 where
+  pub came : here ≡ start
+  pub did : all ≡ true → Did
+  pub stay : all ≡ false → Stay
+
+-- ---- each of the five by itself
+abbrev pub CardsCame : {S : Type 0} → (S → Option (List ℕ)) → (S → ℕ) → (S → ℕ) → ℕ → ℕ → Bool
+    → CardConnections S → (CardConnections S × Outcome) → Type 0
+CardsCame left taken faults start here all cards ended =
+    Came start here all (EndsSo card (CardRan left taken faults cards ended.0) ended.1) (ended.0 ≡ cards)
+
+abbrev pub PagesCame : {A : Type 0} → (A → ℕ) → ℕ → ℕ → Bool → InputEnds A → (InputEnds A × Outcome) → Type 0
+PagesCame size start here all pages ended =
+    Came start here all
+    (EndsSo input (InputRan size (input_connected pages) (input_connected ended.0)) ended.1) (ended.0 ≡ pages)
+
+abbrev pub JobsCame : {A B F : Type 0} → (A → ℕ) → (B → ℕ) → (F → Option (List (List ℕ))) → (F → ℕ)
+    → ℕ → ℕ → Bool → JobEnds A B F → (JobEnds A B F × Outcome) → Type 0
+JobsCame from_size to_size pages faults start here all jobs ended =
+    Came start here all
+    (EndsSo job (JobRan from_size to_size pages faults (job_connected jobs) (job_connected ended.0)) ended.1)
+    (ended.0 ≡ jobs)
+
+abbrev pub LinesCame : {B : Type 0} → (B → ℕ) → ℕ → ℕ → Bool
+    → OutputEnds B → (OutputEnds B × Outcome) → Type 0
+LinesCame size start here all lines ended =
+    Came start here all
+    (EndsSo output (OutputRan size (output_connected lines) (output_connected ended.0)) ended.1)
+    (ended.0 ≡ lines)
+
+abbrev pub PaperCame : {K : Type 0} → (K → Option (List ℕ)) → (K → ℕ) → ℕ → ℕ → Bool
+    → PrinterConnections K → (PrinterConnections K × Outcome) → Type 0
+PaperCame given faults start here all paper ended =
+    Came start here all (EndsSo printer (PrinterRan given faults paper ended.0) ended.1) (ended.0 ≡ paper)
+
+-- ---- side by side
 module _ {S A : Type 0} (left : S → Option (List ℕ)) (taken faults : S → ℕ) (size : A → ℕ) where
   pub record FrontBegins (cards : CardConnections S) (pages : InputEnds A) : Type 0 where
     pub cards_begin : CardRan left taken faults cards cards []
@@ -25,6 +63,11 @@ module _ {S A : Type 0} (left : S → Option (List ℕ)) (taken faults : S → �
     pub pages_ended : EndsSo input
         (InputRan size (input_connected pages) (input_connected ended.1.0)) ended.1.1
 
+  abbrev pub FrontCame : ℕ → ℕ → Bool → CardConnections S → InputEnds A
+      → ((CardConnections S × Outcome) × (InputEnds A × Outcome)) → Type 0
+  FrontCame start here all cards pages ended =
+      Came start here all (FrontRan cards pages ended) ((ended.0.0 ≡ cards) × (ended.1.0 ≡ pages))
+
 module _ {K B : Type 0} (given : K → Option (List ℕ)) (faults : K → ℕ) (size : B → ℕ) where
   pub record BackBegins (lines : OutputEnds B) (paper : PrinterConnections K) : Type 0 where
     pub lines_begin : OutputRan size (output_connected lines) (output_connected lines) []
@@ -35,6 +78,11 @@ module _ {K B : Type 0} (given : K → Option (List ℕ)) (faults : K → ℕ) (
     pub lines_ended : EndsSo output
         (OutputRan size (output_connected lines) (output_connected ended.0.0)) ended.0.1
     pub paper_ended : EndsSo printer (PrinterRan given faults paper ended.1.0) ended.1.1
+
+  abbrev pub BackCame : ℕ → ℕ → Bool → OutputEnds B → PrinterConnections K
+      → ((OutputEnds B × Outcome) × (PrinterConnections K × Outcome)) → Type 0
+  BackCame start here all lines paper ended =
+      Came start here all (BackRan lines paper ended) ((ended.0.0 ≡ lines) × (ended.1.0 ≡ paper))
 
 module _ {K A B F : Type 0} (given : K → Option (List ℕ)) (faults : K → ℕ) (from_size : A → ℕ)
     (to_size : B → ℕ) (file_pages : F → Option (List (List ℕ))) (file_faults : F → ℕ) where
@@ -51,6 +99,12 @@ module _ {K A B F : Type 0} (given : K → Option (List ℕ)) (faults : K → �
         (JobRan from_size to_size file_pages file_faults (job_connected jobs) (job_connected ended.0.0))
         ended.0.1
     pub back_ended : BackRan given faults to_size lines paper ended.1
+
+  abbrev pub RestCame : ℕ → ℕ → Bool → JobEnds A B F → OutputEnds B → PrinterConnections K
+      → ((JobEnds A B F × Outcome) × ((OutputEnds B × Outcome) × (PrinterConnections K × Outcome))) → Type 0
+  RestCame start here all jobs lines paper ended =
+      Came start here all (RestRan jobs lines paper ended)
+      ((ended.0.0 ≡ jobs) × (ended.1.0.0 ≡ lines) × (ended.1.1.0 ≡ paper))
 
 -- The ends have had no call, no process has the disk, and the devices may be used.
 pub record RowBegins {S K A B F : Type 0} (left : S → Option (List ℕ)) (taken source_faults : S → ℕ)

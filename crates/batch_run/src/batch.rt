@@ -14,13 +14,13 @@ ghost use Rattle.core_net.specs.Causes.{counting};
 ghost use Rattle.core_net.specs.Ended.{all_done, EndTogether, FaultsAre, NoneDamaged};
 ghost use Rattle.core_net.specs.Faults.{FaultsAreCounted};
 ghost use Rattle.core_net.specs.Openings.{spools_over, files_found};
-ghost use Rattle.batch_run.specs.Begun.{AreFresh};
+ghost use Rattle.batch_run.specs.Begun.{AreFresh, IsTakenBack};
 ghost use Rattle.batch_run.specs.Met.{IsParted};
 
 use crate::buffers::Seats;
 use crate::gates::{AllMet, Ends, Gates};
 use crate::making::make_all;
-use crate::row::{RowEnded, run_five};
+use crate::row::{Row, RowEnded, run_five};
 use crate::units::Units;
 use core_net::{Outcomes, Ran};
 use disk_files::FileArea;
@@ -33,6 +33,14 @@ use std::thread::Threads;
 /// How the five ended, with their ends and the devices.
 struct Parted<S: Source, K: Sink, A: Area + Send, B: Area + Send, F: Area> {
     outcomes: Outcomes,
+    ends: Ends<A, B>,
+    deck: CardUnit<S>,
+    paper: PrinterUnit<K>,
+    files: FileArea<F>,
+}
+
+/// The ends and the devices of five that have not begun.
+struct Unbegun<S: Source, K: Sink, A: Area + Send, B: Area + Send, F: Area> {
     ends: Ends<A, B>,
     deck: CardUnit<S>,
     paper: PrinterUnit<K>,
@@ -110,7 +118,7 @@ pub fn run_batch<
         files,
     } = units;
     match make_all(alloc, input, output) {
-        Ok((gates, ends)) => Ok(run_made(rt, alloc, gates, ends, deck, paper, files)),
+        Ok((gates, ends)) => run_made(rt, alloc, gates, ends, deck, paper, files),
         Err(((input, output), refused)) => {
             let units = Units {
                 deck,
@@ -140,61 +148,88 @@ fn run_made<
     deck: CardUnit<S>,
     paper: PrinterUnit<K>,
     files: FileArea<F>,
-) -> Ran<S, K, A, B, F>
+) -> Result<Ran<S, K, A, B, F>, (Units<S, K, A, B, F>, NoMemory)>
     requires live { (deck.live ≡ true) × (paper.live ≡ true) }
     requires sound { files.sound ≡ true }
     requires fresh { AreFresh (A.size gates.input.area) (B.size gates.output.area) gates ends }
-    ensures together { EndTogether result.outcomes result.stopped_by }
-    ensures faults { FaultsAre result.outcomes }
-    ensures counted { FaultsAreCounted
+    ensures refused { IfErr result (λ back. back.0 ≡ record {
+      deck = deck;
+      input = gates.input.area;
+      output = gates.output.area;
+      paper = paper;
+      files = files;
+    }) }
+    ensures together { IfOk result (λ ran. EndTogether ran.outcomes ran.stopped_by) }
+    ensures faults { IfOk result (λ ran. FaultsAre ran.outcomes) }
+    ensures counted { IfOk result (λ ran. FaultsAreCounted
         (counting S.faults S.taken K.faults A.faults B.faults F.faults) record {
           source = deck.source;
           sink = paper.sink;
           input = gates.input.area;
           output = gates.output.area;
           files = files.area;
-        } result }
-    ensures prints { (items : List Item) (found : Loads) →
+        } ran) }
+    ensures prints { IfOk result (λ ran. (items : List Item) (found : Loads) →
         items_ahead (S.left deck.source) deck.pending ≡ Some items → AreItems items →
         AreFound (files_found (F.pages files.area)) found items →
         IsSome (A.pages gates.input.area) → IsSome (B.pages gates.output.area) →
-        Gains (K.given paper.sink) (K.given result.paper.sink)
-        (text (one_thread_lines found items)) (result.outcomes ≡ all_done) }
-    ensures reads { (items : List Item) →
-        items_ahead (S.left deck.source) deck.pending ≡ Some items → result.outcomes ≡ all_done →
-        items_ahead (S.left result.deck.source) result.deck.pending ≡ Some [] }
-    ensures undamaged { (items : List Item) →
+        Gains (K.given paper.sink) (K.given ran.paper.sink)
+        (text (one_thread_lines found items)) (ran.outcomes ≡ all_done)) }
+    ensures reads { IfOk result (λ ran. (items : List Item) →
+        items_ahead (S.left deck.source) deck.pending ≡ Some items → ran.outcomes ≡ all_done →
+        items_ahead (S.left ran.deck.source) ran.deck.pending ≡ Some []) }
+    ensures undamaged { IfOk result (λ ran. (items : List Item) →
         items_ahead (S.left deck.source) deck.pending ≡ Some items → AreItems items →
         IsSome (A.pages gates.input.area) → IsSome (B.pages gates.output.area) →
-        NoneDamaged result.outcomes }
-    ensures all_taken { result.outcomes ≡ all_done → IsAllTaken (S.left result.deck.source) }
-    ensures longer { S.taken deck.source ≤ byte_limit → byte_limit < S.taken result.deck.source →
-        result.outcomes.card ≡ outcome.Fault cause.DeckLimit }
-    ensures total { bytes_total (S.taken result.deck.source) (S.left result.deck.source)
-        ≡ bytes_total (S.taken deck.source) (S.left deck.source) }
-    ensures files { F.pages result.files.area ≡ F.pages files.area }
+        NoneDamaged ran.outcomes) }
+    ensures all_taken { IfOk result (λ ran. ran.outcomes ≡ all_done → IsAllTaken (S.left ran.deck.source)) }
+    ensures longer { IfOk result (λ ran. S.taken deck.source ≤ byte_limit →
+        byte_limit < S.taken ran.deck.source → ran.outcomes.card ≡ outcome.Fault cause.DeckLimit) }
+    ensures total { IfOk result (λ ran. bytes_total (S.taken ran.deck.source) (S.left ran.deck.source)
+        ≡ bytes_total (S.taken deck.source) (S.left deck.source)) }
+    ensures files { IfOk result (λ ran. F.pages ran.files.area ≡ F.pages files.area) }
 {
-    let ended = run_five(rt, alloc, gates.row(ends, deck, paper, files));
-    let Parted {
-        outcomes,
-        ends,
-        deck,
-        paper,
-        files,
-    } = take_apart(ended);
-    let AllMet {
-        input,
-        output,
-        stopped_by,
-    } = gates.meet(ends);
-    Ran {
-        outcomes,
-        stopped_by,
-        deck,
-        input,
-        output,
-        paper,
-        files,
+    match run_five(rt, alloc, gates.row(ends, deck, paper, files)) {
+        Ok(ended) => {
+            let Parted {
+                outcomes,
+                ends,
+                deck,
+                paper,
+                files,
+            } = take_apart(ended);
+            let AllMet {
+                input,
+                output,
+                stopped_by,
+            } = gates.meet(ends);
+            Ok(Ran {
+                outcomes,
+                stopped_by,
+                deck,
+                input,
+                output,
+                paper,
+                files,
+            })
+        }
+        Err(row) => {
+            let Unbegun {
+                ends,
+                deck,
+                paper,
+                files,
+            } = take_back(row);
+            let (input, output) = gates.unmake(ends);
+            let units = Units {
+                deck,
+                input,
+                output,
+                paper,
+                files,
+            };
+            Err((units, NoMemory))
+        }
     }
 }
 
@@ -215,6 +250,37 @@ fn take_apart<'a, S: Source + Drop, K: Sink + Drop, A: Area + Send, B: Area + Se
             output,
             printer,
         },
+        ends: Ends {
+            cards: (cards.lines, pages.cards),
+            input: (pages.pages, jobs.cards),
+            output: (jobs.pages, lines.pages),
+            lines: (lines.lines, paper.lines),
+            seats: Seats {
+                input: pages.seat,
+                job: jobs.seat,
+                output: lines.seat,
+            },
+        },
+        deck: cards.deck,
+        paper: paper.paper,
+        files: jobs.files,
+    }
+}
+
+// The ends and the devices of five that have not begun, apart from the gates that they were at.
+fn take_back<'a, S: Source + Drop, K: Sink + Drop, A: Area + Send, B: Area + Send, F: Area>(
+    row: Row<'a, S, K, A, B, F>,
+) -> Unbegun<S, K, A, B, F>
+    ensures { IsTakenBack row.entry result }
+{
+    let Row {
+        cards,
+        pages,
+        jobs,
+        lines,
+        paper,
+    } = row;
+    Unbegun {
         ends: Ends {
             cards: (cards.lines, pages.cards),
             input: (pages.pages, jobs.cards),

@@ -1,9 +1,11 @@
 //! The gates of the five processes and their ends there: made before the processes begin, and ended once all
 //! have.
-ghost use Rattle.batch_run.specs.Begun.{BeginsBy};
+ghost use Rattle.std.specs.Prelude.{◌≡◌, []};
+ghost use Rattle.disk_spool.specs.Ends.{known};
+ghost use Rattle.batch_run.specs.Begun.{AreFresh, BeginsBy};
 ghost use Rattle.batch_run.specs.Met.{AreEndsOf, AllMeet};
 
-use crate::buffers::{RunningDisk, Seats};
+use crate::buffers::{RunningDisk, RunningLine, RunningSpool, Seats};
 use crate::card_connections::CardConnections;
 use crate::input_connections::InputEnds;
 use crate::job_connections::JobEnds;
@@ -100,6 +102,28 @@ impl<A: Area + Send, B: Area + Send> Gates<A, B> {
         }
     }
 
+    /// The areas of the spools, where nobody has used the buffers and the disk.
+    pub(crate) fn unmake(self, ends: Ends<A, B>) -> (A, B)
+        requires { AreFresh (A.size self.input.area) (B.size self.output.area) self ends }
+        ensures { result ≡ (self.input.area, self.output.area) }
+    {
+        let Gates {
+            cards,
+            input,
+            output,
+            lines,
+            disk,
+        } = self;
+        let seats = ends.seats;
+        RunningDisk { disk, seats }.close();
+        unmake_line(cards, ends.cards);
+        unmake_line(lines, ends.lines);
+        (
+            unmake_spool(input, ends.input),
+            unmake_spool(output, ends.output),
+        )
+    }
+
     /// Ends the buffers and the disk, once the ends of each have met.
     pub(crate) fn meet(self, ends: Ends<A, B>) -> AllMet<A, B>
         requires { AreEndsOf (A.size self.input.area) (B.size self.output.area) self ends }
@@ -132,4 +156,31 @@ impl<A: Area + Send, B: Area + Send> Gates<A, B> {
             stopped_by: [cards.stopped_by, input, output, lines.stopped_by],
         }
     }
+}
+
+fn unmake_line(gate: SlotGate<Feed>, ends: (SendEnd<Feed>, RecvEnd<Feed>))
+    requires sender { ends.0 ≡ record { gate = gate; calls = [] } }
+    requires receiver { ends.1 ≡ record { gate = gate; calls = [] } }
+{
+    let (sender, receiver) = ends;
+    let line = RunningLine {
+        gate,
+        sender,
+        receiver,
+    };
+    line.unmake();
+}
+
+fn unmake_spool<A: Area + Send>(gate: SpoolGate<A>, ends: (SpoolSend<A>, SpoolRecv<A>)) -> A
+    requires sender { ends.0 ≡ record { gate = known (A.size gate.area) gate; calls = [] } }
+    requires receiver { ends.1 ≡ record { gate = known (A.size gate.area) gate; calls = [] } }
+    ensures { result ≡ gate.area }
+{
+    let (sender, receiver) = ends;
+    let spool = RunningSpool {
+        gate,
+        sender,
+        receiver,
+    };
+    spool.unmake()
 }

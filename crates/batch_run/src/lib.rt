@@ -11,8 +11,10 @@ mod job_connections;
 mod making;
 mod output_connections;
 mod printer_connections;
+mod processes;
 mod row;
 mod run;
+mod start;
 mod units;
 
 pub use batch::run_batch;

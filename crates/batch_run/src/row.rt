@@ -1,10 +1,8 @@
 //! The five processes, each on a thread of its own.
-ghost use Rattle.std.specs.Prelude.{[]};
-ghost use Rattle.batch_procs.specs.Table.{card, input, job, output, printer};
-ghost use Rattle.batch_run.specs.Connections.{EndsSo};
+ghost use Rattle.std.specs.Prelude.{◌≡◌, [], IfOk, IfErr};
 ghost use Rattle.batch_run.specs.Cards.{CardRan};
 ghost use Rattle.batch_run.specs.Lines.{PrinterRan};
-ghost use Rattle.batch_run.specs.Row.{BackBegins, BackRan, FrontBegins, FrontRan, RestBegins, RestRan, RowBegins, RowRan};
+ghost use Rattle.batch_run.specs.Row.{BackBegins, BackCame, BackRan, CardsCame, FrontBegins, FrontCame, FrontRan, JobsCame, LinesCame, PagesCame, PaperCame, RestBegins, RestCame, RestRan, RowBegins, RowRan};
 ghost use Rattle.batch_run.specs.Pages.{InputRan, JobRan, OutputRan, input_connected, job_connected, output_connected};
 
 use crate::card_connections::CardConnections;
@@ -12,6 +10,8 @@ use crate::input_connections::InputEnds;
 use crate::job_connections::JobEnds;
 use crate::output_connections::OutputEnds;
 use crate::printer_connections::PrinterConnections;
+use crate::processes::{begin_cards, begin_jobs, begin_lines, begin_pages, begin_paper};
+use crate::start::{Start, Told};
 use solo_base::Outcome;
 use solo_devices::{Area, Sink, Source};
 use std::alloc::Global;
@@ -39,57 +39,76 @@ pub struct RowEnded<'a, S: Source + Drop, K: Sink + Drop, A: Area + Send, B: Are
     ),
 }
 
-/// Runs the card and the input process side by side.
-pub fn run_front<'a, 'b, S: Source + Drop + Send, A: Area + Send, R: Threads + Wait + Sync>(
+/// Runs the card and the input process side by side, where all have come to the start.
+fn run_front<'a, 'b, 's, S: Source + Drop + Send, A: Area + Send, R: Threads + Wait + Sync>(
     rt: &R,
     alloc: Global,
+    start: &'s Start,
     cards: CardConnections<'a, S>,
     pages: InputEnds<'b, A>,
-) -> (Ended<CardConnections<'a, S>>, Ended<InputEnds<'b, A>>)
+) -> (
+    (Ended<CardConnections<'a, S>>, Ended<InputEnds<'b, A>>),
+    Told<'s>,
+)
     requires { FrontBegins S.left S.taken S.faults A.size cards pages }
-    ensures { FrontRan S.left S.taken S.faults A.size cards.entry pages.entry result }
+    ensures { FrontCame S.left S.taken S.faults A.size
+        start.now.all.id result.1.of result.1.value cards.entry pages.entry result.0 }
 {
-    join(
+    let ((cards, told), (pages, also)) = join(
         rt,
-        move || -> Ended<CardConnections<S>>
+        move || -> (Ended<CardConnections<S>>, Told<'_>)
             requires { CardRan S.left S.taken S.faults cards cards [] }
-            ensures { EndsSo card (CardRan S.left S.taken S.faults cards.entry result.0) result.1 }
-        { cards.ran(rt, alloc) },
-        move || -> Ended<InputEnds<A>>
+            ensures { CardsCame S.left S.taken S.faults
+                start.entry.now.all.id result.1.of result.1.value cards.entry result.0 }
+        { begin_cards(rt, alloc, start, cards) },
+        move || -> (Ended<InputEnds<A>>, Told<'_>)
             requires { InputRan A.size (input_connected pages) (input_connected pages) [] }
-            ensures { EndsSo input (InputRan A.size (input_connected pages.entry) (input_connected result.0)) result.1 }
-        { pages.ran(rt, alloc) },
-    )
+            ensures { PagesCame A.size
+                start.entry.now.all.id result.1.of result.1.value pages.entry result.0 }
+        { begin_pages(rt, alloc, start, pages) },
+    );
+    told.agrees(&also);
+    ((cards, pages), told)
 }
 
-/// Runs the output and the printer process side by side.
-pub fn run_back<'a, 'b, K: Sink + Drop + Send, B: Area + Send, R: Threads + Wait + Sync>(
+/// Runs the output and the printer process side by side, where all have come to the start.
+fn run_back<'a, 'b, 's, K: Sink + Drop + Send, B: Area + Send, R: Threads + Wait + Sync>(
     rt: &R,
     alloc: Global,
+    start: &'s Start,
     lines: OutputEnds<'a, B>,
     paper: PrinterConnections<'b, K>,
-) -> (Ended<OutputEnds<'a, B>>, Ended<PrinterConnections<'b, K>>)
+) -> (
+    (Ended<OutputEnds<'a, B>>, Ended<PrinterConnections<'b, K>>),
+    Told<'s>,
+)
     requires { BackBegins K.given K.faults B.size lines paper }
-    ensures { BackRan K.given K.faults B.size lines.entry paper.entry result }
+    ensures { BackCame K.given K.faults B.size
+        start.now.all.id result.1.of result.1.value lines.entry paper.entry result.0 }
 {
-    join(
+    let ((lines, told), (paper, also)) = join(
         rt,
-        move || -> Ended<OutputEnds<B>>
+        move || -> (Ended<OutputEnds<B>>, Told<'_>)
             requires { OutputRan B.size (output_connected lines) (output_connected lines) [] }
-            ensures { EndsSo output (OutputRan B.size (output_connected lines.entry) (output_connected result.0)) result.1 }
-        { lines.ran(rt, alloc) },
-        move || -> Ended<PrinterConnections<K>>
+            ensures { LinesCame B.size
+                start.entry.now.all.id result.1.of result.1.value lines.entry result.0 }
+        { begin_lines(rt, alloc, start, lines) },
+        move || -> (Ended<PrinterConnections<K>>, Told<'_>)
             requires { PrinterRan K.given K.faults paper paper [] }
-            ensures { EndsSo printer (PrinterRan K.given K.faults paper.entry result.0) result.1 }
-        { paper.ran(rt, alloc) },
-    )
+            ensures { PaperCame K.given K.faults
+                start.entry.now.all.id result.1.of result.1.value paper.entry result.0 }
+        { begin_paper(rt, alloc, start, paper) },
+    );
+    told.agrees(&also);
+    ((lines, paper), told)
 }
 
-/// Runs the job process beside the output and the printer process.
-pub fn run_rest<
+/// Runs the job process beside the output and the printer process, where all have come to the start.
+fn run_rest<
     'a,
     'b,
     'c,
+    's,
     K: Sink + Drop + Send,
     A: Area + Send,
     B: Area + Send,
@@ -98,33 +117,43 @@ pub fn run_rest<
 >(
     rt: &R,
     alloc: Global,
+    start: &'s Start,
     jobs: JobEnds<'a, A, B, F>,
     lines: OutputEnds<'b, B>,
     paper: PrinterConnections<'c, K>,
 ) -> (
-    Ended<JobEnds<'a, A, B, F>>,
-    (Ended<OutputEnds<'b, B>>, Ended<PrinterConnections<'c, K>>),
+    (
+        Ended<JobEnds<'a, A, B, F>>,
+        (Ended<OutputEnds<'b, B>>, Ended<PrinterConnections<'c, K>>),
+    ),
+    Told<'s>,
 )
     requires { RestBegins K.given K.faults A.size B.size F.pages F.faults jobs lines paper }
-    ensures { RestRan K.given K.faults A.size B.size F.pages F.faults
-        jobs.entry lines.entry paper.entry result }
+    ensures { RestCame K.given K.faults A.size B.size F.pages F.faults
+        start.now.all.id result.1.of result.1.value jobs.entry lines.entry paper.entry result.0 }
 {
-    join(
+    let ((jobs, told), (back, also)) = join(
         rt,
-        move || -> Ended<JobEnds<A, B, F>>
+        move || -> (Ended<JobEnds<A, B, F>>, Told<'_>)
             requires { JobRan A.size B.size F.pages F.faults (job_connected jobs) (job_connected jobs) [] }
-            ensures { EndsSo job
-                (JobRan A.size B.size F.pages F.faults (job_connected jobs.entry) (job_connected result.0))
-                result.1 }
-        { jobs.ran(rt, alloc) },
-        move || -> (Ended<OutputEnds<B>>, Ended<PrinterConnections<K>>)
+            ensures { JobsCame A.size B.size F.pages F.faults
+                start.entry.now.all.id result.1.of result.1.value jobs.entry result.0 }
+        { begin_jobs(rt, alloc, start, jobs) },
+        move || -> (
+            (Ended<OutputEnds<B>>, Ended<PrinterConnections<K>>),
+            Told<'_>,
+        )
             requires { BackBegins K.given K.faults B.size lines paper }
-            ensures { BackRan K.given K.faults B.size lines.entry paper.entry result }
-        { run_back(rt, alloc, lines, paper) },
-    )
+            ensures { BackCame K.given K.faults B.size
+                start.entry.now.all.id result.1.of result.1.value lines.entry paper.entry result.0 }
+        { run_back(rt, alloc, start, lines, paper) },
+    );
+    told.agrees(&also);
+    ((jobs, back), told)
 }
 
-/// Runs the five side by side.
+/// Runs the five side by side. Where memory is refused for a thread none begins, and their connections come
+/// back as they were.
 pub fn run_five<
     'a,
     S: Source + Drop + Send,
@@ -133,10 +162,15 @@ pub fn run_five<
     B: Area + Send,
     F: Area + Drop + Send,
     R: Threads + Wait + Sync,
->(rt: &R, alloc: Global, row: Row<'a, S, K, A, B, F>) -> RowEnded<'a, S, K, A, B, F>
+>(
+    rt: &R,
+    alloc: Global,
+    row: Row<'a, S, K, A, B, F>,
+) -> Result<RowEnded<'a, S, K, A, B, F>, Row<'a, S, K, A, B, F>>
     requires { RowBegins S.left S.taken S.faults K.given K.faults A.size B.size F.pages F.faults row }
-    ensures { RowRan S.left S.taken S.faults K.given K.faults A.size B.size F.pages F.faults
-        row.entry result }
+    ensures ran { IfOk result (λ ended.
+        RowRan S.left S.taken S.faults K.given K.faults A.size B.size F.pages F.faults row.entry ended) }
+    ensures refused { IfErr result (λ back. back ≡ row.entry) }
 {
     let Row {
         cards,
@@ -145,20 +179,54 @@ pub fn run_five<
         lines,
         paper,
     } = row;
-    let (front, rest) = join(
+    let start = &Start::new();
+    let ((front, told), (rest, also)) = join(
         rt,
-        move || -> (Ended<CardConnections<S>>, Ended<InputEnds<A>>)
+        move || -> ((Ended<CardConnections<S>>, Ended<InputEnds<A>>), Told<'_>)
             requires { FrontBegins S.left S.taken S.faults A.size cards pages }
-            ensures { FrontRan S.left S.taken S.faults A.size cards.entry pages.entry result }
-        { run_front(rt, alloc, cards, pages) },
+            ensures { FrontCame S.left S.taken S.faults A.size
+                start.entry.now.all.id result.1.of result.1.value cards.entry pages.entry result.0 }
+        { run_front(rt, alloc, start, cards, pages) },
         move || -> (
-            Ended<JobEnds<A, B, F>>,
-            (Ended<OutputEnds<B>>, Ended<PrinterConnections<K>>),
+            (
+                Ended<JobEnds<A, B, F>>,
+                (Ended<OutputEnds<B>>, Ended<PrinterConnections<K>>),
+            ),
+            Told<'_>,
         )
             requires { RestBegins K.given K.faults A.size B.size F.pages F.faults jobs lines paper }
-            ensures { RestRan K.given K.faults A.size B.size F.pages F.faults
-                jobs.entry lines.entry paper.entry result }
-        { run_rest(rt, alloc, jobs, lines, paper) },
+            ensures { RestCame K.given K.faults A.size B.size F.pages F.faults
+                start.entry.now.all.id result.1.of result.1.value
+                jobs.entry lines.entry paper.entry result.0 }
+        { run_rest(rt, alloc, start, jobs, lines, paper) },
     );
-    RowEnded { front, rest }
+    told.agrees(&also);
+    if start.is_whole(&told) {
+        return Ok(RowEnded { front, rest });
+    }
+    Err(not_begun(RowEnded { front, rest }))
+}
+
+// The connections of the five, of which none has begun.
+fn not_begun<'a, S: Source + Drop, K: Sink + Drop, A: Area + Send, B: Area + Send, F: Area>(
+    ended: RowEnded<'a, S, K, A, B, F>,
+) -> Row<'a, S, K, A, B, F>
+    ensures { result ≡ record {
+      cards = ended.entry.front.0.0;
+      pages = ended.entry.front.1.0;
+      jobs = ended.entry.rest.0.0;
+      lines = ended.entry.rest.1.0.0;
+      paper = ended.entry.rest.1.1.0;
+    } }
+{
+    let RowEnded { front, rest } = ended;
+    let ((cards, _), (pages, _)) = front;
+    let ((jobs, _), ((lines, _), (paper, _))) = rest;
+    Row {
+        cards,
+        pages,
+        jobs,
+        lines,
+        paper,
+    }
 }
