@@ -144,6 +144,13 @@ fn is_broken(
     Ok(ended.status == 7 && ended.cause == Some(Refusal::Fault(Cause::NotSolo { page })))
 }
 
+// Byte 9 of the first page is the number of the format.
+#[test]
+fn an_area_of_format_1_is_broken_at_its_first_page(rt: HostRuntime) -> Result<(), Fail> {
+    assert!(rt; is_broken(&rt, 0, 9, 1)?);
+    Ok(())
+}
+
 // Page 16 has the first half of the page map, and page 18 the length of the file.
 #[test]
 fn a_map_and_a_length_that_are_wrong_are_named(rt: HostRuntime) -> Result<(), Fail> {

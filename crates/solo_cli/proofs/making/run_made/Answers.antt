@@ -36,9 +36,9 @@ returns-clause-gains g c = λ none input_told output_told.
     let counts = run.result.1 in
     let lines : (found : Loads) → c.lines_of-lines.result ≡ deck_lines found deck counts
     = λ found.
-        c.lines_of-lines.ensures (one_thread_output found deck) (report-lines found (cards deck) (card-items deck))
-        (same_Some (sym c.bytes.ensures ∙ run.ensures.printed found (inr none) input_told output_told c.in-None.is))
-        ∙ rw (c.requires.jobs, c.requires.cards) refl in
+    c.lines_of-lines.ensures (one_thread_output found deck) (report-lines found (cards deck) (card-items deck))
+    (same_Some (sym c.bytes.ensures ∙ run.ensures.printed found (inr none) input_told output_told c.in-None.is))
+    ∙ rw (c.requires.jobs, c.requires.cards) refl in
     record {
       counts = counts;
       counted = run.ensures.counted no_files (inr none) input_told output_told c.in-None.is;
