@@ -268,6 +268,7 @@ fn take_apart<'a, S: Source + Drop, K: Sink + Drop, A: Area + Send, B: Area + Se
 }
 
 // The ends and the devices of five that have not begun, apart from the gates that they were at.
+#[inline(never)]
 fn take_back<'a, S: Source + Drop, K: Sink + Drop, A: Area + Send, B: Area + Send, F: Area>(
     row: Row<'a, S, K, A, B, F>,
 ) -> Unbegun<S, K, A, B, F>

@@ -154,6 +154,7 @@ fn run_rest<
 
 /// Runs the five side by side. Where memory is refused for a thread none begins, and their connections come
 /// back as they were.
+#[inline(never)]
 pub fn run_five<
     'a,
     S: Source + Drop + Send,
