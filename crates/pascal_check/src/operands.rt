@@ -7,8 +7,7 @@ ghost use Rattle.pascal_tree.specs.ExpressionRules.{signed_type, judged_sign, br
 ghost use Rattle.pascal_tree.specs.DeclarationRules.{first_broken};
 
 use crate::types::is_same;
-use pascal_tree::expression::Sign;
-use pascal_tree::{Broken, Scalar};
+use pascal_tree::{Broken, LeadingSign, Scalar};
 
 /// What was read of a row of operands: its type so far, and the first operator in it whose operands
 /// have another type than it wants.
@@ -28,16 +27,16 @@ impl Operands {
     }
 
     /// A first operand of this type behind a sign.
-    pub fn signed(sign: &Option<(Sign, u32)>, type_: Scalar) -> Operands
+    pub fn signed(sign: &LeadingSign, type_: Scalar) -> Operands
         ensures typed { signed_type sign.now (Some type_) ≡ Some result.type_ }
         ensures clash { first_broken (judged_sign sign.now (Some type_)) ≡ result.clash }
     {
-        let Some((_, line)) = sign else {
+        let Some((_, line)) = sign.get() else {
             return Operands::first(type_);
         };
         Operands {
             type_: Scalar::Integer,
-            clash: clash(*line, is_same(type_, Scalar::Integer)),
+            clash: clash(line, is_same(type_, Scalar::Integer)),
         }
     }
 

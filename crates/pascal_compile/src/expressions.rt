@@ -14,6 +14,7 @@ use crate::instructions::{bare, push};
 use crate::senses::{Passing, Sense};
 use crate::site::Site;
 use crate::using_names::{load, load_item, test};
+use pascal_tree::LeadingSign;
 use pascal_tree::expression::{
     Adding, Arguments, Expr, Factor, Index, Multiplying, Relation, Sign, Simple, Term,
 };
@@ -79,10 +80,10 @@ fn simple(code: &mut Drafts, site: &Site<'_, '_>, s: &Simple) -> Result<(), NoMe
     Ok(())
 }
 
-fn sign(code: &mut Drafts, sign: &Option<(Sign, u32)>) -> Result<(), NoMemory>
+fn sign(code: &mut Drafts, sign: &LeadingSign) -> Result<(), NoMemory>
     ensures { OnOk result (code.new ≡ code.old ++ sign_code sign.now) }
 {
-    match sign {
+    match sign.get() {
         Some((Sign::Minus, _)) => code.emit(bare(Op::Neg)),
         Some((Sign::Plus, _)) | None => Ok(()),
     }

@@ -23,11 +23,11 @@ use crate::operators::{
 use crate::run::Run;
 use crate::setting::Setting;
 use crate::stop::Stop;
-use pascal_tree::Letters;
 use pascal_tree::expression::{
     Adding, Arguments, Expr, Factor, Index, Multiplying, Sign, Simple, Term,
 };
 use pascal_tree::leaf::Name;
+use pascal_tree::{LeadingSign, Letters};
 
 /// The value of an expression.
 #[cycle(expression)]
@@ -56,11 +56,11 @@ fn simple<L: Level>(setting: &Setting<'_>, run: &mut Run, s: &Simple) -> Result<
     addends::<L>(setting, run, first, &s.rest)
 }
 
-fn with_sign(sign: &Option<(Sign, u32)>, value: i16) -> Result<i16, Stop>
+fn with_sign(sign: &LeadingSign, value: i16) -> Result<i16, Stop>
     ensures { (now : Situation) → Ran (with_sign sign.now value now) result now }
 {
-    match sign {
-        Some((sign, _)) => number_or_overflow(signed(*sign, value)),
+    match sign.get() {
+        Some((sign, _)) => number_or_overflow(signed(sign, value)),
         None => Ok(value),
     }
 }

@@ -18,7 +18,7 @@ use pascal_tree::expression::{
     Adding, Arguments, Comparison, Expr, Factor, Index, Multiplying, Relation, Sign, Simple, Term,
 };
 use pascal_tree::leaf::Name;
-use pascal_tree::{Reserved, Symbol};
+use pascal_tree::{LeadingSign, Reserved, Symbol};
 use std::alloc::Global;
 
 /// An expression whose factors have at most so many levels.
@@ -108,16 +108,18 @@ fn simple(reader: &mut Reader, alloc: Global, levels: usize) -> Result<Simple, P
 }
 
 // Takes a sign, where one stands here.
-fn take_sign(reader: &mut Reader) -> Option<(Sign, u32)>
+fn take_sign(reader: &mut Reader) -> LeadingSign
     ensures words { reader.old ≡ spelled_sign result ++ reader.new }
     ensures goes { (n : ℕ) (rest : List Want) → report reader.old (want.simple n ∷ rest)
         ≡ report reader.new (want.term n ∷ (want.addends n ∷ rest)) }
 {
     if let Some(line) = reader.take_symbol(Symbol::Plus) {
-        return Some((Sign::Plus, line));
+        return LeadingSign::of(Some((Sign::Plus, line)));
     }
-    let line = reader.take_symbol(Symbol::Minus)?;
-    Some((Sign::Minus, line))
+    match reader.take_symbol(Symbol::Minus) {
+        Some(line) => LeadingSign::of(Some((Sign::Minus, line))),
+        None => LeadingSign::of(None),
+    }
 }
 
 // The later terms, each behind its operator.
@@ -140,6 +142,7 @@ fn addends(
         let term = term(reader, alloc, levels)?;
         rest.push((adding, line, term))?;
     }
+    rest.shrink_to_fit();
     Ok(rest)
 }
 
@@ -196,6 +199,7 @@ fn multipliers(
         let factor = factor(reader, alloc, levels)?;
         rest.push((multiplying, line, factor))?;
     }
+    rest.shrink_to_fit();
     Ok(rest)
 }
 
@@ -381,5 +385,6 @@ fn more_exprs(
         let expr = expr(reader, alloc, levels)?;
         rest.push((line, expr))?;
     }
+    rest.shrink_to_fit();
     Ok(rest)
 }

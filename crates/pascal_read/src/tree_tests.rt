@@ -85,7 +85,7 @@ fn a_tree_is_spelled_by_the_words_that_it_was_read_from(rt: HostRuntime) -> Resu
 fn names_are_as_long_as_a_card_or_a_line(rt: HostRuntime) -> Result<(), Fail> {
     let alloc = rt.alloc();
     let letters = [b'A'; 132];
-    for length in [1, 80, 132] {
+    for length in [1, 14, 15, 80, 132] {
         let name = Line::of(letters.get(..length).ok_or("no letters")?).ok_or("no name")?;
         let mut program = LineList::new(alloc);
         program.push(&Line::of(b"BEGIN").ok_or("no card")?)?;

@@ -1,3 +1,4 @@
+pub mod Held
 pub mod Word
 pub mod Expression
 pub mod SeenExpression

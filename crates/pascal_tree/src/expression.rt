@@ -1,6 +1,8 @@
 // Expressions, by the productions of the grammar.
 
+use crate::leading_sign::LeadingSign;
 use crate::leaf::{Character, Name, Number};
+use std::mem::size_of;
 
 /// A relation: `=`, `<>`, `<`, `>`, `<=` or `>=`.
 #[derive(Clone, Copy, Debug, PartialEq, Eq)]
@@ -45,6 +47,9 @@ pub struct Expr {
     pub right: Option<Box<Comparison>>,
 }
 
+// An expression that is one name has the fields of all levels, so these are kept small.
+const _: () = prove!(size_of::<Expr>() == 112);
+
 /// A relation, its line, and what stands behind it.
 #[cycle(expression)]
 #[derive(Drop)]
@@ -58,7 +63,7 @@ pub struct Comparison {
 #[cycle(expression)]
 #[derive(Drop)]
 pub struct Simple {
-    pub sign: Option<(Sign, u32)>,
+    pub sign: LeadingSign,
     pub first: Term,
     pub rest: Vec<(Adding, u32, Term)>,
 }

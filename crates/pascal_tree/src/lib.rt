@@ -6,6 +6,7 @@ mod checked;
 pub mod constant;
 pub mod declaration;
 pub mod expression;
+mod leading_sign;
 pub mod leaf;
 mod letters;
 mod means;
@@ -24,6 +25,7 @@ mod tree;
 
 pub use broken::Broken;
 pub use checked::Checked;
+pub use leading_sign::LeadingSign;
 pub use letters::Letters;
 pub use means::Means;
 pub use one_spelling::spells_one_tree;

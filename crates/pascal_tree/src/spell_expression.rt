@@ -8,6 +8,7 @@ ghost use Rattle.pascal_tree.specs.SpellExpression.{spelled_sign, spelled_expr, 
 use crate::expression::{
     Adding, Arguments, Comparison, Expr, Factor, Index, Multiplying, Relation, Sign, Simple, Term,
 };
+use crate::leading_sign::LeadingSign;
 use crate::leaf::{Character, Name, Number};
 use crate::token::{Reserved, Symbol, Token, Word};
 use solo_base::NoMemory;
@@ -59,13 +60,13 @@ fn push_multiplying(
     }
 }
 
-fn push_sign(out: &mut Vec<Token>, sign: &Option<(Sign, u32)>) -> Result<(), NoMemory>
+fn push_sign(out: &mut Vec<Token>, sign: &LeadingSign) -> Result<(), NoMemory>
     ensures { OnOk result (out.new.items ≡ out.old.items ++ spelled_sign sign.now) }
 {
-    match sign {
+    match sign.get() {
         None => Ok(()),
-        Some((Sign::Plus, line)) => push_symbol(out, Symbol::Plus, *line),
-        Some((Sign::Minus, line)) => push_symbol(out, Symbol::Minus, *line),
+        Some((Sign::Plus, line)) => push_symbol(out, Symbol::Plus, line),
+        Some((Sign::Minus, line)) => push_symbol(out, Symbol::Minus, line),
     }
 }
 

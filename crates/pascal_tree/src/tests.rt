@@ -1,8 +1,8 @@
 use crate::declaration::Program;
-use crate::expression::{Expr, Factor, Simple, Term};
+use crate::expression::{Expr, Factor, Sign, Simple, Term};
 use crate::leaf::{Name, Number};
 use crate::statement::{Assign, Body, Statement, Statements};
-use crate::{Letters, Symbol, Token, Tree, Word, spell};
+use crate::{LeadingSign, Letters, Symbol, Token, Tree, Word, spell};
 use solo_base::NoMemory;
 use std::alloc::Global;
 use std::test::Fail;
@@ -13,7 +13,7 @@ fn assignment(alloc: Global) -> Result<Tree, NoMemory> {
     let one = Factor::Number(Number { value: 1, line: 2 });
     let value = Expr {
         left: Simple {
-            sign: None,
+            sign: LeadingSign::of(None),
             first: Term {
                 first: one,
                 rest: Vec::new(alloc),
@@ -69,4 +69,23 @@ fn an_assignment_is_spelled_with_its_lines(rt: HostRuntime) -> Result<(), Fail> 
     assert!(rt; is_symbol(&tokens[2], Symbol::Becomes));
     assert!(rt; is_symbol(&tokens[5], Symbol::Period));
     Ok(())
+}
+
+#[test]
+fn letters_come_back_as_few_and_as_many(rt: HostRuntime) -> Result<(), Fail> {
+    let alphabet = b"ABCDEFGHIJKLMNOPQRSTUVWXYZ";
+    for count in [1, 13, 14, 15, 26] {
+        let bytes = alphabet.get(..count).ok_or("no letters")?;
+        let letters = Letters::of(rt.alloc(), bytes)?;
+        assert_eq!(rt; letters.bytes(), bytes);
+        assert_eq!(rt; letters.copy()?.bytes(), bytes);
+    }
+    Ok(())
+}
+
+#[test]
+fn a_leading_sign_keeps_its_line(rt: HostRuntime) {
+    for sign in [None, Some((Sign::Plus, 1)), Some((Sign::Minus, u32::MAX))] {
+        assert_eq!(rt; LeadingSign::of(sign).get(), sign);
+    }
 }
