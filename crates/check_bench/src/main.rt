@@ -9,18 +9,24 @@ use std::alloc::Global;
 use std::env;
 use std::time::CpuClock;
 
+/// Names have one length, so that ten times the names are ten times the text.
+const FIRST_NUMBER: u32 = 1_000_000;
+
 /// A program of so many constants, and of so many statements that use them in turn.
 fn program(alloc: Global, constants: u32, statements: u32) -> Result<LineList> {
     let mut program = LineList::new(alloc);
     add_card(&mut program, "CONST FIRST = 1;")?;
-    for number in 0..constants {
+    for number in FIRST_NUMBER..constants.saturating_add(FIRST_NUMBER) {
         let card = format!(in alloc; "C{number} = FIRST;")?;
         add_card(&mut program, card.as_str())?;
     }
     add_card(&mut program, "VAR X: INTEGER;")?;
     add_card(&mut program, "BEGIN")?;
     for number in 0..statements {
-        let used = number.checked_rem(constants).unwrap_or(0);
+        let used = number
+            .checked_rem(constants)
+            .unwrap_or(0)
+            .saturating_add(FIRST_NUMBER);
         let card = format!(in alloc; "IF X < C{used} THEN X := X + C{used} * (X - FIRST);")?;
         add_card(&mut program, card.as_str())?;
     }
