@@ -44,6 +44,7 @@ impl Work for CardWork {
         [1].get(place as usize).copied()
     }
 
+    #[inline(always)]
     fn aim(&self) -> Action {
         match &self.due {
             Some(feed) => Action::PutFeed(copy(feed)),

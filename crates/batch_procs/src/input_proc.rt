@@ -46,6 +46,7 @@ impl Work for InputWork {
         [1, 2].get(place as usize).copied()
     }
 
+    #[inline(always)]
     fn aim(&self) -> Action {
         match &self.due {
             Some(page) => Action::PutPage(*page),

@@ -54,6 +54,7 @@ impl Work for JobWork {
         [2, 3].get(place as usize).copied()
     }
 
+    #[inline(always)]
     fn aim(&self) -> Action {
         match &self.due {
             Some(page) => Action::PutPage(*page),

@@ -37,6 +37,8 @@ impl<W: Work> Machine<W> {
     }
 
     /// What the process does next. Once it has ended it does nothing more.
+    // Inlined, since an action may hold a whole page: who looks at its kind alone then makes none.
+    #[inline(always)]
     pub fn next(&self) -> Action
         ensures next { (h : List Entry) → StandsFor W.process W.keeps self.now h
             → NextIs (next_action W.process h) result }
@@ -53,6 +55,7 @@ impl<W: Work> Machine<W> {
     }
 
     /// What a process without a cause does next.
+    #[inline(always)]
     fn working(&self) -> Action
         ensures { (h : List Entry) → StandsFor W.process W.keeps self.now h → self.now.cause ≡ None
             → NextIs (next_action W.process h) result }
@@ -67,6 +70,7 @@ impl<W: Work> Machine<W> {
     }
 
     /// What a process with a cause does next.
+    #[inline(always)]
     fn closing(&self, cause: Outcome) -> Action
         ensures { (h : List Entry) → StandsFor W.process W.keeps self.now h → self.now.cause ≡ Some cause
             → NextIs (next_action W.process h) result }
@@ -129,6 +133,7 @@ ghost use Rattle.batch_procs.specs.Machine.{Answers, stops_after};
 
 /// The first call of what a process aims at: a move of a page begins with an await, and a load asks for the
 /// disk.
+#[inline(always)]
 fn begin(aim: Action) -> Action
     ensures { result ≡ begins aim }
 {
@@ -141,6 +146,7 @@ fn begin(aim: Action) -> Action
 }
 
 /// How many buffers are stopped behind an action.
+#[inline(always)]
 fn stops_after(stops: u8, action: &Action) -> u8
     ensures { result ≡ stops_after stops action.now }
 {
@@ -160,6 +166,7 @@ fn add_cause(cause: &mut Option<Outcome>, new: Option<Outcome>)
 }
 
 /// Uses the reply to an action, and says which cause it gives.
+#[inline(always)]
 fn answer<W: Work>(work: &mut W, action: &Action, reply: Reply) -> Result<Option<Outcome>, NoMemory>
     ensures { Answers W.process W.keeps work.old action.now reply result work.new }
 {
@@ -177,6 +184,7 @@ fn answer<W: Work>(work: &mut W, action: &Action, reply: Reply) -> Result<Option
 }
 
 /// An action is done.
+#[inline(always)]
 fn finish<W: Work>(work: &mut W, action: &Action) -> Result<Option<Outcome>, NoMemory>
     ensures { Answers W.process W.keeps work.old action.now reply.Done result work.new }
 {

@@ -52,6 +52,7 @@ impl Work for OutputWork {
         [3, 4].get(place as usize).copied()
     }
 
+    #[inline(always)]
     fn aim(&self) -> Action {
         match &self.due {
             Some(feed) => Action::PutFeed(copy(feed)),

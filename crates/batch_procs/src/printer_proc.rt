@@ -41,6 +41,7 @@ impl Work for PrinterWork {
         [4].get(place as usize).copied()
     }
 
+    #[inline(always)]
     fn aim(&self) -> Action {
         match &self.due {
             Some(line) => Action::Print(line.copy()),

@@ -20,6 +20,7 @@ pub enum Step {
 
 impl Step {
     /// The step behind an action.
+    #[inline(always)]
     pub fn after(action: &Action) -> Step
         ensures { result ≡ step_of action.now }
     {

@@ -52,6 +52,7 @@ impl<S: Source, K: Sink, A: Area, B: Area, F: Area> Shared<S, K, A, B, F> {
     }
 
     /// Whether the monitors let a process make its call now.
+    #[inline(always)]
     pub fn may_call(&self, p: ProcNo, action: &Action) -> bool
         ensures { (s : CoreState) →
             SharedStands (telling S.left S.taken K.given A.pages B.pages F.pages) self.now s →
@@ -82,6 +83,7 @@ fn upstream(p: ProcNo) -> BufferNo
 }
 
 /// Whether a process may make the call that its machine makes next.
+#[inline(always)]
 pub fn may_step<W: Work, S: Source, K: Sink, A: Area, B: Area, F: Area>(
     machine: &Machine<W>,
     p: ProcNo,
