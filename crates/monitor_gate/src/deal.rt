@@ -6,6 +6,7 @@ ghost use Rattle.monitor_gate.specs.Ends.{new_passes};
 
 use crate::kind::MonitorKind;
 use crate::pass::{GatePass, Pass};
+use crate::patience::Patience;
 use crate::rule::Deal;
 use crate::turn::{Place, Word};
 
@@ -21,6 +22,7 @@ fn next_pass<M: MonitorKind>(word: &Word<M>, seat: &mut Place<M>, made: u8) -> P
     GatePass {
         number: made + 1,
         seat,
+        patience: Patience::new(),
     }
 }
 

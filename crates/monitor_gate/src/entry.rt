@@ -35,7 +35,8 @@ impl<M: MonitorKind> Gate<M> {
         ensures free { M.handed_to (state_of result) ≡ None }
         ensures not_waiting { M.waits pass.old.view.number (state_of result) ≡ false }
     {
-        let state = take_free::<M, R>(rt, &self.table.shared, &mut pass.seat);
+        let word = &self.table.shared;
+        let state = take_free::<M, R>(rt, word, &mut pass.seat, &mut pass.patience);
         Inside {
             pass,
             gate: self,
@@ -79,9 +80,10 @@ impl<'a, M: MonitorKind> Inside<'a, M> {
         ensures woken { M.wakes (number_of self.entry) (state_of result) }
     {
         let Inside { pass, gate, state } = self;
+        let word = &gate.table.shared;
         let number = pass.number;
-        rest::<M>(&gate.table.shared, &mut pass.seat, state);
-        let state = take_handed::<M, R>(rt, &gate.table.shared, &mut pass.seat, number);
+        rest::<M>(word, &mut pass.seat, state);
+        let state = take_handed::<M, R>(rt, word, &mut pass.seat, number, &mut pass.patience);
         Inside { pass, gate, state }
     }
 }

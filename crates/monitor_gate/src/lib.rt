@@ -7,6 +7,7 @@ mod gate;
 mod inside;
 mod kind;
 mod pass;
+mod patience;
 mod rule;
 mod turn;
 mod view;

@@ -3,6 +3,7 @@ ghost use Rattle.std.specs.Prelude.{◌≡◌};
 ghost use Rattle.monitor_gate.specs.Views.{in_hand};
 
 use crate::kind::MonitorKind;
+use crate::patience::Patience;
 use crate::view::View;
 use atomic_table::Seat;
 use solo_base::ProcNo;
@@ -12,6 +13,7 @@ use std::marker::Model;
 pub struct GatePass<S, E> {
     pub(crate) number: ProcNo,
     pub(crate) seat: Seat<Option<S>, View<S, E>>,
+    pub(crate) patience: Patience,
 }
 
 /// A pass of a gate for the monitors of a kind.
@@ -40,13 +42,21 @@ impl<S, E> GatePass<S, E> {
     pub(crate) fn into_seat(self) -> Seat<Option<S>, View<S, E>>
         ensures { (result.table_id ≡ self.gate) × (result.me ≡ (self.view, in_hand self.view.stage)) }
     {
-        let GatePass { number: _, seat } = self;
+        let GatePass {
+            number: _,
+            seat,
+            patience: _,
+        } = self;
         seat
     }
 }
 
 impl<S, E> Drop for GatePass<S, E> {
     fn drop(self) {
-        let Self { number: _, seat: _ } = self;
+        let Self {
+            number: _,
+            seat: _,
+            patience: _,
+        } = self;
     }
 }

@@ -5,6 +5,7 @@ ghost use Rattle.monitor_gate.specs.Views.{at_stage, completed};
 ghost use Rattle.monitor_gate.specs.Steps.{Found};
 
 use crate::kind::MonitorKind;
+use crate::patience::Patience;
 use crate::rule::{Delay, Enter, Gains, GateRule, Leave, Resume, Tell};
 use crate::view::{Opening, View};
 use atomic_table::{Seat, Shared};
@@ -34,21 +35,23 @@ pub(crate) type Word<M> = Shared<
     GateRule<M>,
 >;
 
-// How often a process looks at the word before it sleeps on it. A process that is inside, or is to hand the gate on, is
-// mostly done within less than the time of a sleep.
-const LOOKS: u32 = 200;
-
-// Looks at the word until it shows this turn, so many times at most, and gives what it showed last.
-fn look<M: MonitorKind>(word: &Word<M>, turn: u64) -> u64
+// Looks at the word until it shows this turn, as often as its patience says, and gives what it showed last.
+fn look<M: MonitorKind>(word: &Word<M>, turn: u64, patience: &mut Patience) -> u64
     requires { word.now.table_id.words ≡ 1 }
 {
-    for _ in 0..LOOKS {
+    let found = word.peek(0);
+    if found % ASLEEP == turn {
+        return found;
+    }
+    for _ in 0..patience.looks() {
+        spin_loop();
         let found = word.peek(0);
         if found % ASLEEP == turn {
+            patience.learn(true);
             return found;
         }
-        spin_loop();
     }
+    patience.learn(false);
     word.peek(0)
 }
 
@@ -69,6 +72,7 @@ pub(crate) fn take_free<M: MonitorKind, R: Wait>(
     rt: &R,
     word: &Word<M>,
     seat: &mut Place<M>,
+    patience: &mut Patience,
 ) -> M::State
     requires gate { (seat.old.table_id ≡ word.now.table_id) × (word.now.table_id.words ≡ 1) }
     requires outside { (seat.old.me.0.stage ≡ Outside) × (seat.old.me.1 ≡ []) }
@@ -77,7 +81,7 @@ pub(crate) fn take_free<M: MonitorKind, R: Wait>(
     ensures free { (M.handed_to result ≡ None) × (M.waits seat.old.me.0.number result ≡ false) }
 {
     for _ in rt.forever() {
-        let found = look::<M>(word, FREE);
+        let found = look::<M>(word, FREE, patience);
         if found % ASLEEP != FREE {
             sleep::<M, R>(rt, word, seat, found);
         } else if word.compare_exchange::<Enter<M>>(seat, 0, found, found + INSIDE) == found {
@@ -158,6 +162,7 @@ pub(crate) fn take_handed<M: MonitorKind, R: Wait>(
     word: &Word<M>,
     seat: &mut Place<M>,
     number: ProcNo,
+    patience: &mut Patience,
 ) -> M::State
     requires gate { (seat.old.table_id ≡ word.now.table_id) × (word.now.table_id.words ≡ 1) }
     requires delayed { (seat.old.me.0.stage ≡ Delayed) × (seat.old.me.1 ≡ []) }
@@ -168,7 +173,7 @@ pub(crate) fn take_handed<M: MonitorKind, R: Wait>(
 {
     let number = u64::from(number);
     for _ in rt.forever() {
-        let found = look::<M>(word, HANDED + number);
+        let found = look::<M>(word, HANDED + number, patience);
         if found % ASLEEP != HANDED + number {
             sleep::<M, R>(rt, word, seat, found);
         } else if word.compare_exchange::<Resume<M>>(seat, 0, found, found - number - INSIDE)
