@@ -1,16 +1,15 @@
 // What an item does to the part of the deck that it comes to.
-ghost use Rattle.std.specs.Prelude.{◌≡◌, ◌+◌, ◌++◌, ◌∷◌, List, [], Some, IfOk, OnOk, if◌then◌else◌};
+ghost use Rattle.std.specs.Prelude.{◌≡◌, ◌+◌, ◌++◌, ◌∷◌, ℕ, List, [], Some, IfOk, OnOk, if◌then◌else◌};
 ghost use Rattle.solo_base.specs.declared.item.Item.{Item as ItemOf};
 ghost use Rattle.deck_format.specs.JobReader.{control_in};
 ghost use Rattle.deck_format.specs.Jobs.{card_count, counts, data_in, is_some, opener_of};
-ghost use Rattle.program_lines.specs.Standing.{IsSpent};
 ghost use Rattle.disk_system.specs.declared.loading.Loaded.{Loaded as LoadedOf};
-ghost use Rattle.disk_system.specs.declared.loading.Loaded.TheVariants as LoadOf;
 ghost use Rattle.batch_job.specs.Loads.{load_for};
-ghost use Rattle.batch_job.specs.LinesAhead.{Where, InList, InProgram, name_of, opened, closed_lines, card_or_fault};
-ghost use Rattle.batch_job.specs.Places.{IsPart, IsInput, IsSpentPart, program_group, StillGives};
+ghost use Rattle.batch_job.specs.LinesAhead.{Where, name_of, opened, closed_lines, card_or_fault};
+ghost use Rattle.batch_job.specs.Places.{IsPart, IsSpentPart, StillGives};
 ghost use Rattle.batch_job.specs.Places.{HasLoad, LeavesLoads, IsLoadOf, Leads, Opens, Ends, Adds};
 ghost use Rattle.batch_job.specs.declared.part.Part.TheVariants as PartOf;
+ghost use Rattle.program_lines.specs.declared.program_lines.ProgramLines.{ProgramLines as ProgramLinesOf};
 
 use crate::Part;
 use crate::item_lines::ItemLines;
@@ -48,10 +47,7 @@ pub fn take_item(
     if ends_in(&control) && part.is_in_group() {
         return take_end(alloc, part);
     }
-    let before = mem::replace(part, Part::Dropped);
-    let (then, lines) = add(alloc, before, item, &control)?;
-    *part = then;
-    Ok(lines)
+    add(alloc, part, item, &control)
 }
 
 /// The lines of a part behind which no more comes.
@@ -152,54 +148,50 @@ fn program_from(alloc: Global, name: Ident, limit: u32) -> Part
     }
 }
 
-/// Adds an item that neither opens nor ends a group: the part behind it, and its lines.
+/// The lines of an item that neither opens nor ends a group, which leads to the part behind it.
 fn add(
     alloc: Global,
-    part: Part,
+    part: &mut Part,
     item: &Item,
     control: &Option<Control>,
-) -> Result<(Part, ItemLines), NoMemory>
-    requires spent { IsSpentPart part }
+) -> Result<ItemLines, NoMemory>
+    requires spent { IsSpentPart part.old }
     requires control { control.now ≡ control_in item.now }
-    ensures { IfOk result (λ behind. (place : Where) → IsPart part place
-        → Adds place item.now behind.1 behind.0) }
+    ensures { IfOk result (λ lines. (place : Where) → IsPart part.old place
+        → Adds place item.now lines part.new) }
 {
     match part {
         Part::Stretch { count } => {
-            let count = counted(count, item);
-            Ok((Part::Stretch { count }, ItemLines::none()))
+            *count = counted(*count, item);
+            Ok(ItemLines::none())
         }
-        Part::List { name, count } => Ok(add_to_list(name, count, item, control)),
-        Part::Program {
-            name,
-            limit,
-            number,
-            cards,
-        } => add_to_program(alloc, name, limit, number, cards, item, control),
-        Part::Input {
-            name,
-            number,
-            lines,
-        } => Ok(add_to_input(name, number, lines, item, control)),
-        Part::Dropped => Ok((Part::Dropped, ItemLines::none())),
+        Part::List { .. } => Ok(add_to_list(part, item, control)),
+        Part::Program { .. } => add_to_program(alloc, part, item, control),
+        Part::Input { .. } => Ok(add_to_input(part, item, control)),
+        Part::Dropped => Ok(ItemLines::none()),
     }
 }
 
 /// Adds an item to a list: a card of it, or its fault.
-fn add_to_list(name: Ident, count: u32, item: &Item, control: &Option<Control>) -> (Part, ItemLines)
+fn add_to_list(part: &mut Part, item: &Item, control: &Option<Control>) -> ItemLines
+    requires list { (name : List ℕ) × (count : ℕ) × (part.old ≡ PartOf.List name count) }
     requires control { control.now ≡ control_in item.now }
-    ensures { Adds (InList name count) item.now result.1 result.0 }
+    ensures { (place : Where) → IsPart part.old place → Adds place item.now result part.new }
 {
+    let Part::List { name, count } = part else {
+        unreachable!()
+    };
     let number = count.saturating_add(1);
     match card_of(item, control, number, false) {
         Ok(card) => {
-            let part = Part::List {
-                name,
-                count: number,
-            };
-            (part, ItemLines::of(card))
+            *count = number;
+            ItemLines::of(card)
         }
-        Err(fault) => (Part::Dropped, ItemLines::of(fault_line(&name, fault))),
+        Err(fault) => {
+            let line = fault_line(name, fault);
+            *part = Part::Dropped;
+            ItemLines::of(line)
+        }
     }
 }
 
@@ -216,38 +208,41 @@ fn counted(count: u32, item: &Item) -> u32
 /// Adds an item to a program before its input: a card of it, `#DATA`, or its fault.
 fn add_to_program(
     alloc: Global,
-    name: Ident,
-    limit: u32,
-    number: u32,
-    mut cards: LineList,
+    part: &mut Part,
     item: &Item,
     control: &Option<Control>,
-) -> Result<(Part, ItemLines), NoMemory>
+) -> Result<ItemLines, NoMemory>
+    requires program { (name : List ℕ) × (limit : ℕ) × (number : ℕ) × (cards : List (List ℕ))
+        × (part.old ≡ PartOf.Program name limit number cards) }
     requires control { control.now ≡ control_in item.now }
-    ensures { IfOk result (λ behind.
-        Adds (InProgram LoadOf.NoFile (program_group name limit number cards) []) item.now behind.1
-        behind.0) }
+    ensures { IfOk result (λ lines. (place : Where) → IsPart part.old place
+        → Adds place item.now lines part.new) }
 {
+    let Part::Program {
+        name,
+        limit,
+        number,
+        cards,
+    } = part
+    else {
+        unreachable!()
+    };
     let next = number.saturating_add(1);
-    match card_of(item, control, number, false) {
+    match card_of(item, control, *number, false) {
         Ok(card) => {
             cards.push(&card)?;
-            Ok((
-                Part::Program {
-                    name,
-                    limit,
-                    number: next,
-                    cards,
-                },
-                ItemLines::none(),
-            ))
+            *number = next;
+            Ok(ItemLines::none())
         }
         Err(fault) => {
             if !data_in(control) {
-                return Ok((Part::Dropped, ItemLines::of(fault_line(&name, fault))));
+                let line = fault_line(name, fault);
+                *part = Part::Dropped;
+                return Ok(ItemLines::of(line));
             }
-            let lines = ProgramLines::start(alloc, name, limit, &cards)?;
-            Ok((input_from(name, next, lines), ItemLines::none()))
+            let lines = ProgramLines::start(alloc, *name, *limit, cards)?;
+            *part = input_from(*name, next, lines);
+            Ok(ItemLines::none())
         }
     }
 }
@@ -264,34 +259,37 @@ fn input_from(name: Ident, number: u32, lines: ProgramLines) -> Part
 }
 
 /// Adds an item to the input of a program: a card of it, or its fault, behind which no further card comes.
-fn add_to_input(
-    name: Ident,
-    number: u32,
-    mut lines: ProgramLines,
-    item: &Item,
-    control: &Option<Control>,
-) -> (Part, ItemLines)
-    requires spent { IsSpent lines }
+fn add_to_input(part: &mut Part, item: &Item, control: &Option<Control>) -> ItemLines
+    requires input { (name : List ℕ) × (number : ℕ) × (lines : ProgramLinesOf)
+        × (part.old ≡ PartOf.Input name number lines) }
+    requires spent { IsSpentPart part.old }
     requires control { control.now ≡ control_in item.now }
-    ensures { (place : Where) → IsInput name number lines place → Adds place item.now result.1 result.0 }
+    ensures { (place : Where) → IsPart part.old place → Adds place item.now result part.new }
 {
-    match card_of(item, control, number, true) {
+    let Part::Input {
+        name,
+        number,
+        lines,
+    } = part
+    else {
+        unreachable!()
+    };
+    match card_of(item, control, *number, true) {
         Ok(card) => {
             lines.feed(&card);
-            let number = number.saturating_add(1);
-            (input_from(name, number, lines), ItemLines::none())
+            *number = number.saturating_add(1);
+            ItemLines::none()
         }
         Err(fault) => {
             lines.close();
-            let note = Some(fault_line(&name, fault));
-            (
-                Part::Dropped,
-                ItemLines {
-                    ending: lines,
-                    own: None,
-                    note,
-                },
-            )
+            let ending = mem::replace(lines, ProgramLines::Over);
+            let note = Some(fault_line(name, fault));
+            *part = Part::Dropped;
+            ItemLines {
+                ending,
+                own: None,
+                note,
+            }
         }
     }
 }

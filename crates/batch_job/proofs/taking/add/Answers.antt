@@ -1,15 +1,16 @@
-use Rattle.std.proofs.Common.{subst}
-use Rattle.batch_job.specs.Places.{IsPart}
+use Rattle.std.proofs.Common.{sym, subst}
+use Rattle.batch_job.specs.Places.{IsPart, Adds}
 use Rattle.batch_job.proofs.Account.{holds-none}
 use Rattle.batch_job.proofs.Adding.{adds-outside, adds-dropped}
 use Rattle.batch_job.proofs.taking.add.Goals as goal
 
 pub returns-in-Stretch : goal.returns-in-Stretch
-returns-in-Stretch c = λ place is.
-    adds-outside c.in-Stretch.count c.counted-count.result c.args.item.now place c.none.result c.counted-count.ensures (holds-none c.none.result c.none.ensures)
-    (subst (λ p. IsPart p place) c.in-Stretch.is is)
+returns-in-Stretch c = λ place at.
+    adds-outside c.in-Stretch.count c.counted.result c.args.item.now place c.none.result c.counted.ensures (holds-none c.none.result c.none.ensures)
+    (subst (λ p. IsPart p place) c.in-Stretch.is at)
 
 pub returns-in-Dropped : goal.returns-in-Dropped
-returns-in-Dropped c = λ place is.
-    adds-dropped c.args.item.now place c.none-in-Dropped.result (holds-none c.none-in-Dropped.result c.none-in-Dropped.ensures)
-    (subst (λ p. IsPart p place) c.in-Dropped.is is)
+returns-in-Dropped c = λ place at.
+    subst (λ p. Adds place c.args.item.now c.none-in-Dropped.result p) (sym c.in-Dropped.is)
+    (adds-dropped c.args.item.now place c.none-in-Dropped.result (holds-none c.none-in-Dropped.result c.none-in-Dropped.ensures)
+    (subst (λ p. IsPart p place) c.in-Dropped.is at))

@@ -1,20 +1,23 @@
-use Rattle.std.proofs.Common.{rules, ◌≡◌, ◌+◌, true, ap, sym, ◌∙◌, Some, None}
+use Rattle.std.proofs.Common.{rules, ◌≡◌, ◌+◌, true, ap, sym, subst, ◌∙◌, Some, None}
 use Rattle.deck_format.specs.Jobs.{is_some, card_count}
 use Rattle.batch_job.specs.LinesAhead.{card_or_fault}
+use Rattle.batch_job.specs.Places.{IsPart}
 use Rattle.batch_job.proofs.Account.{holds-none}
 use Rattle.batch_job.proofs.Adding.{input-read, input-broken}
 use Rattle.batch_job.proofs.taking.add_to_input.Goals as goal
 
 pub returns-in-Ok : goal.returns-in-Ok
-returns-in-Ok c = λ place is.
-    let next : c.saturating_add-number.result ≡ card_count (c.args.number + 1) = search rules in
-    rw c.input_from.ensures
-    (input-read c.args.name c.in-Ok.card c.args.number c.saturating_add-number.result c.args.lines c.feed.new.self c.args.item.now place c.none.result next
-    (ap (λ k. card_or_fault true c.args.item.now (is_some k) c.args.number) (sym c.requires.control) ∙ sym c.card_of.ensures ∙ c.in-Ok.is)
-    c.feed.ensures (holds-none c.none.result c.none.ensures) is)
+returns-in-Ok c = λ place at.
+    let next : c.saturating_add.result ≡ card_count (c.in-Input.number + 1) = search rules in
+    input-read c.in-Input.name c.in-Ok.card c.in-Input.number c.saturating_add.result c.in-Input.lines c.feed.new.self c.args.item.now place c.none.result next
+    (ap (λ k. card_or_fault true c.args.item.now (is_some k) c.in-Input.number) (sym c.requires.control) ∙ sym c.card_of.ensures ∙ c.in-Ok.is)
+    c.feed.ensures (holds-none c.none.result c.none.ensures) (subst (λ p. IsPart p place) c.in-Input.is at)
 
 pub returns-in-Err : goal.returns-in-Err
-returns-in-Err c = λ place is.
-    input-broken c.args.name c.args.number c.args.lines c.close.new.self c.args.item.now place c.in-Err.fault _
-    (ap (λ k. card_or_fault true c.args.item.now (is_some k) c.args.number) (sym c.requires.control) ∙ sym c.card_of.ensures ∙ c.in-Err.is)
-    c.close.ensures.stands (ap (λ l. record { ending = c.close.new.self; own = None; note = Some l }) c.fault_line.ensures) is
+returns-in-Err c = λ place at.
+    input-broken c.in-Input.name c.in-Input.number c.in-Input.lines c.close.new.self c.args.item.now place c.in-Err.fault _
+    (ap (λ k. card_or_fault true c.args.item.now (is_some k) c.in-Input.number) (sym c.requires.control) ∙ sym c.card_of.ensures ∙ c.in-Err.is)
+    c.close.ensures.stands
+    (ap (λ l. record { ending = l; own = None; note = Some c.fault_line.result }) c.replace-ending.ensures.value
+    ∙ ap (λ l. record { ending = c.close.new.self; own = None; note = Some l }) c.fault_line.ensures)
+    (subst (λ p. IsPart p place) c.in-Input.is at)

@@ -1,31 +1,37 @@
 use Rattle.std.proofs.Common.{rules, ◌≡◌, ◌+◌, ◌∷◌, [], false, ap, sym, subst, ◌∙◌}
 use Rattle.deck_format.specs.Jobs.{is_some, card_count, data_in}
 use Rattle.batch_job.specs.LinesAhead.{card_or_fault}
-use Rattle.batch_job.specs.Places.{Holds}
+use Rattle.batch_job.specs.Places.{IsPart, Holds}
 use Rattle.batch_job.proofs.Account.{holds-none}
 use Rattle.batch_job.proofs.Adding.{adds-card, adds-data, adds-fault}
 use Rattle.batch_job.proofs.taking.add_to_program.Goals as goal
 
 pub returns-in_ok-push-in-Ok : goal.returns-in_ok-push-in-Ok
-returns-in_ok-push-in-Ok c =
-    let next : c.saturating_add-next.result ≡ card_count (c.args.number + 1) = search rules in
-    adds-card c.args.name c.args.limit c.args.number c.args.cards c.args.item.now c.in-Ok.card c.none.result c.saturating_add-next.result c.push.new.self next
+returns-in_ok-push-in-Ok c = λ place at.
+    let p = c.in-Program in
+    let next : c.saturating_add-next.result ≡ card_count (p.number + 1) = search rules in
+    rw (subst (λ is. IsPart is place) p.is at)
+    (adds-card p.name p.limit p.number p.cards c.args.item.now c.in-Ok.card c.none.result c.saturating_add-next.result c.push.new.self next
     c.in_ok-push-in-Ok.ensures.ok
-    (ap (λ k. card_or_fault false c.args.item.now (is_some k) c.args.number) (sym c.requires.control) ∙ sym c.card_of.ensures ∙ c.in-Ok.is)
-    (holds-none c.none.result c.none.ensures)
+    (ap (λ k. card_or_fault false c.args.item.now (is_some k) p.number) (sym c.requires.control) ∙ sym c.card_of.ensures ∙ c.in-Ok.is)
+    (holds-none c.none.result c.none.ensures))
 
 pub returns-in_ok-lines-in-Err : goal.returns-in_ok-lines-in-Err
-returns-in_ok-lines-in-Err c =
-    let next : c.saturating_add-next.result ≡ card_count (c.args.number + 1) = search rules in
-    rw c.input_from.ensures
-    (adds-data c.args.name c.args.limit c.args.number c.args.cards c.args.item.now c.in_ok-lines-in-Err.lines c.none-in-Err.result
+returns-in_ok-lines-in-Err c = λ place at.
+    let p = c.in-Program in
+    let next : c.saturating_add-next.result ≡ card_count (p.number + 1) = search rules in
+    rw (subst (λ is. IsPart is place) p.is at)
+    (rw c.input_from.ensures
+    (adds-data p.name p.limit p.number p.cards c.args.item.now c.in_ok-lines-in-Err.lines c.none-in-Err.result
     c.saturating_add-next.result next
     (ap data_in (sym c.requires.control) ∙ sym c.data_in.ensures ∙ c.if-not-data_in.false) c.in_ok-lines-in-Err.ensures
-    (holds-none c.none-in-Err.result c.none-in-Err.ensures))
+    (holds-none c.none-in-Err.result c.none-in-Err.ensures)))
 
 pub returns-then-not-data_in : goal.returns-then-not-data_in
-returns-then-not-data_in c =
-    adds-fault c.args.name c.args.limit c.args.number c.args.cards c.args.item.now c.in-Err.fault c.of.result
-    (ap (λ k. card_or_fault false c.args.item.now (is_some k) c.args.number) (sym c.requires.control) ∙ sym c.card_of.ensures ∙ c.in-Err.is)
+returns-then-not-data_in c = λ place at.
+    let p = c.in-Program in
+    rw (subst (λ is. IsPart is place) p.is at)
+    (adds-fault p.name p.limit p.number p.cards c.args.item.now c.in-Err.fault c.of.result
+    (ap (λ k. card_or_fault false c.args.item.now (is_some k) p.number) (sym c.requires.control) ∙ sym c.card_of.ensures ∙ c.in-Err.is)
     (ap data_in (sym c.requires.control) ∙ sym c.data_in.ensures ∙ c.if-not-data_in.true)
-    (subst (λ l. Holds c.of.result (l ∷ [])) c.fault_line.ensures c.of.ensures)
+    (subst (λ l. Holds c.of.result (l ∷ [])) c.fault_line-line.ensures c.of.ensures))

@@ -1,10 +1,10 @@
-use Rattle.std.proofs.Common.{◌≡◌, ◌∙◌, List, Some, true, false, refl, sym, ap, subst}
+use Rattle.std.proofs.Common.{◌≡◌, ◌∙◌, List, Some, true, false, refl, sym, ap}
 use Rattle.deck_format.specs.Jobs.{opener_of, opener_in, ends_in}
 use Rattle.deck_format.specs.JobReader.{control_in}
 use Rattle.disk_system.specs.declared.loading.Loaded.{Loaded}
 use Rattle.batch_job.specs.Loads.{load_for}
 use Rattle.batch_job.specs.LinesAhead.{Where, is_in_group}
-use Rattle.batch_job.specs.Places.{IsPart, HasLoad, Leads, Opens, Ends}
+use Rattle.batch_job.specs.Places.{IsPart, HasLoad, Leads, Opens, Ends, Adds}
 use Rattle.batch_job.proofs.Account.{if-ok, none-found, opener-leads, opener-leaves, none-leaves, ends-so, adds-so, same-group}
 use Rattle.batch_job.proofs.taking.take_item.Goals.{else-ends_in-via-then-ends_in+else-is_in_group, else-ends_in-via-else-ends_in}
 use Rattle.batch_job.proofs.taking.take_item.Goals as goal
@@ -49,18 +49,21 @@ returns-then-is_in_group-clause-left c =
     if-ok c.take_end.result _ _ (λ lines closes has. none-leaves c.args.item.now c.args.loads.now.given none) c.take_end.ensures
 
 pub returns-clause-leads : goal.returns-clause-leads
-returns-clause-leads c = λ place at has.
+returns-clause-leads c =
     let none = ap opener_in (sym c.control_in-control.ensures) ∙ sym c.opener_in.ensures ∙ none-found c.opener_in.result c.in_default.not-Some in
-    let goes_on : is_in_group place ≡ true → ends_in (control_in c.args.item.now) ≡ false =
+    let item = c.args.item.now in
+    let loads = c.args.loads.now.given in
+    let goes_on : (place : Where) → IsPart c.args.part.now place → is_in_group place ≡ true → ends_in (control_in item) ≡ false = λ place at.
     elim c.else-ends_in.branch [
       | else-ends_in-via-then-ends_in+else-is_in_group w ↦ (λ group.
           absurd (let inside = same-group c.args.part.now place at ∙ group in let other = w.if-is_in_group.false in let is = w.is_in_group.ensures in cc))
       | else-ends_in-via-else-ends_in w ↦ (λ group. ap ends_in (sym c.control_in-control.ensures) ∙ sym c.ends_in.ensures ∙ w.if-ends_in.false)
     ] in
-    adds-so place c.args.item.now c.args.loads.now.given c.args.loads.now.given c.in_ok-then.lines c.in_ok-then.then refl goes_on none
-    (c.in_ok-then.ensures place (subst (λ p. IsPart p place) (sym c.replace-before.ensures.value) at))
+    if-ok c.add.result (λ lines. (place : Where) → IsPart c.args.part.now place → Adds place item lines c.add.new.part)
+    (λ lines. (place : Where) → IsPart c.args.part.now place → HasLoad (opener_of item) loads → Leads place item loads loads lines c.add.new.part)
+    (λ lines adds place at has. adds-so place item loads loads lines c.add.new.part refl (goes_on place at) none (adds place at)) c.add.ensures
 
 pub returns-clause-left : goal.returns-clause-left
-returns-clause-left c = λ has.
+returns-clause-left c =
     let none = ap opener_in (sym c.control_in-control.ensures) ∙ sym c.opener_in.ensures ∙ none-found c.opener_in.result c.in_default.not-Some in
-    none-leaves c.args.item.now c.args.loads.now.given none
+    if-ok c.add.result _ _ (λ lines adds has. none-leaves c.args.item.now c.args.loads.now.given none) c.add.ensures
