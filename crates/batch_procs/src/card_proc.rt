@@ -53,10 +53,12 @@ impl Work for CardWork {
         }
     }
 
+    #[inline(always)]
     fn put(&mut self) {
         self.due = None;
     }
 
+    #[inline(always)]
     fn take(&mut self, reply: Reply) -> Result<Option<Outcome>, NoMemory> {
         match reply {
             Reply::Card(CardRead::Card(line)) => self.due = Some(Feed::Item(Item::Line(line))),

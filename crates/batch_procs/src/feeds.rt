@@ -3,6 +3,7 @@ ghost use Rattle.std.specs.Prelude.{◌≡◌};
 use solo_base::{Feed, Item};
 
 /// The same once more.
+#[inline(always)]
 pub fn copy(feed: &Feed) -> Feed
     ensures { result ≡ feed.now }
 {

@@ -55,10 +55,12 @@ impl Work for InputWork {
         }
     }
 
+    #[inline(always)]
     fn put(&mut self) {
         self.due = None;
     }
 
+    #[inline(always)]
     fn take(&mut self, reply: Reply) -> Result<Option<Outcome>, NoMemory> {
         match reply {
             Reply::Feed(Feed::Item(item)) => self.due = self.packer.push(&item),

@@ -64,12 +64,14 @@ impl Work for JobWork {
         }
     }
 
+    #[inline(always)]
     fn put(&mut self) {
         if let Some(page) = self.due.take() {
             self.unworked = !page.last();
         }
     }
 
+    #[inline(always)]
     fn take(&mut self, reply: Reply) -> Result<Option<Outcome>, NoMemory> {
         let Reply::Page { page, last } = reply else {
             return Ok(None);

@@ -100,6 +100,8 @@ impl<W: Work> Machine<W> {
 
     /// Gives the reply to the action that was next. Where memory is refused, this is the cause of the
     /// process, and it closes down.
+    // Inlined, as an action and a reply are copied whole where they cross a call.
+    #[inline(always)]
     pub fn give(&mut self, reply: Reply) -> Result<(), NoMemory>
         ensures ok { OnOk result ((h : List Entry) (action : ActionOf)
             → StandsFor W.process W.keeps self.old h →

@@ -61,10 +61,12 @@ impl Work for OutputWork {
         }
     }
 
+    #[inline(always)]
     fn put(&mut self) {
         self.due = next_feed(&mut self.items, &mut self.ending);
     }
 
+    #[inline(always)]
     fn take(&mut self, reply: Reply) -> Result<Option<Outcome>, NoMemory> {
         let Reply::Page { page, last } = reply else {
             return Ok(None);

@@ -50,10 +50,12 @@ impl Work for PrinterWork {
         }
     }
 
+    #[inline(always)]
     fn put(&mut self) {
         self.due = None;
     }
 
+    #[inline(always)]
     fn take(&mut self, reply: Reply) -> Result<Option<Outcome>, NoMemory> {
         match reply {
             Reply::Feed(feed) => {

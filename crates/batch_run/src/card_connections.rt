@@ -45,6 +45,7 @@ impl<'a, S: Source + Drop> CardConnections<'a, S> {
     }
 
     /// Performs an action of the process, and waits where the other side of a buffer isn't ready.
+    #[inline(always)]
     fn perform<R: Threads + Wait + Sync>(&mut self, action: Action, rt: &R) -> Reply
         requires does { does_card action }
         requires comes { (start : CardConnections S)

@@ -48,6 +48,7 @@ impl<'a, A: Area + Send> InputConnections<'a, A> {
     }
 
     /// Performs an action of the process, and waits where the other side of a buffer isn't ready.
+    #[inline(always)]
     fn perform<R: Threads + Wait + Sync>(&mut self, action: Action, rt: &R) -> Reply
         requires does { does_input action }
         requires comes { (start : InputConnections A) × Comes input (InputRan A.size start self.old) action }

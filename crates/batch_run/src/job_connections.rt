@@ -51,6 +51,7 @@ impl<'a, A: Area + Send, B: Area + Send, F: Area> JobConnections<'a, A, B, F> {
     }
 
     /// Performs an action of the process, and waits where the other side of a buffer isn't ready.
+    #[inline(always)]
     fn perform<R: Threads + Wait + Sync>(&mut self, action: Action, rt: &R, alloc: Global) -> Reply
         requires does { does_job action }
         requires comes { (start : JobConnections A B F)

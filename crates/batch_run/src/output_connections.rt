@@ -48,6 +48,7 @@ impl<'a, B: Area + Send> OutputConnections<'a, B> {
     }
 
     /// Performs an action of the process, and waits where the other side of a buffer isn't ready.
+    #[inline(always)]
     fn perform<R: Threads + Wait + Sync>(&mut self, action: Action, rt: &R) -> Reply
         requires does { does_output action }
         requires comes { (start : OutputConnections B)

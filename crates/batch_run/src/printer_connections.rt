@@ -46,6 +46,7 @@ impl<'a, K: Sink + Drop> PrinterConnections<'a, K> {
     }
 
     /// Performs an action of the process, and waits where the other side of a buffer isn't ready.
+    #[inline(always)]
     fn perform<R: Threads + Wait + Sync>(&mut self, action: Action, rt: &R) -> Reply
         requires does { does_printer action }
         requires comes { (start : PrinterConnections K)
