@@ -1,5 +1,5 @@
 ghost use Rattle.std.specs.Prelude.{◌≡◌, ◌<◌, ◌^◌, None};
-ghost use Rattle.solo_devices.specs.Area.{CountsFaults};
+ghost use Rattle.solo_devices.specs.Area.{ReadsFrom, Writes, CountsFaults, HasWholePages};
 
 use solo_base::{PAGE_LENGTH, Page};
 use solo_devices::{Area, Moved};
@@ -21,6 +21,7 @@ impl<D: Read + Write + Seek> DriveArea<D> {
     pub fn new(drive: Option<D>, first: u16, pages: u16) -> DriveArea<D>
         ensures untold { ⟦<DriveArea<D> as Area>⟧.pages result ≡ None }
         ensures size { ⟦<DriveArea<D> as Area>⟧.size result ≡ pages }
+        ensures faults { ⟦<DriveArea<D> as Area>⟧.faults result ≡ 0 }
     {
         DriveArea {
             drive,
@@ -49,7 +50,19 @@ impl<D: Read + Write + Seek> Area for DriveArea<D> {
         self.pages
     }
 
-    fn read(&mut self, n: u16, page: &mut Page) -> Moved {
+    fn read(&mut self, n: u16, page: &mut Page) -> Moved
+        requires { n < ⟦<DriveArea<D> as Area>⟧.size self.old }
+        // A read that is done counts no fault.
+        ensures done { result ≡ Moved.Done
+            → ⟦<DriveArea<D> as Area>⟧.faults self.new ≡ ⟦<DriveArea<D> as Area>⟧.faults self.old }
+        // As the trait says.
+        ensures page { ReadsFrom (⟦<DriveArea<D> as Area>⟧.pages self.old)
+            (⟦<DriveArea<D> as Area>⟧.pages self.new) n result page.new.0 }
+        ensures size { ⟦<DriveArea<D> as Area>⟧.size self.new ≡ ⟦<DriveArea<D> as Area>⟧.size self.old }
+        ensures whole { HasWholePages (⟦<DriveArea<D> as Area>⟧.pages self.new) }
+        ensures cause { CountsFaults (⟦<DriveArea<D> as Area>⟧.faults self.old)
+            (⟦<DriveArea<D> as Area>⟧.faults self.new) result }
+    {
         let address = u64::from(self.first) + u64::from(n);
         let is_done = match &mut self.drive {
             Some(drive) => read_page(drive, address, page).is_ok(),
@@ -58,7 +71,19 @@ impl<D: Read + Write + Seek> Area for DriveArea<D> {
         counted(&mut self.faults, is_done)
     }
 
-    fn write(&mut self, n: u16, page: &Page) -> Moved {
+    fn write(&mut self, n: u16, page: &Page) -> Moved
+        requires { n < ⟦<DriveArea<D> as Area>⟧.size self.old }
+        // A write that is done counts no fault.
+        ensures done { result ≡ Moved.Done
+            → ⟦<DriveArea<D> as Area>⟧.faults self.new ≡ ⟦<DriveArea<D> as Area>⟧.faults self.old }
+        // As the trait says.
+        ensures page { Writes (⟦<DriveArea<D> as Area>⟧.pages self.old)
+            (⟦<DriveArea<D> as Area>⟧.pages self.new) n result page.now.0 }
+        ensures size { ⟦<DriveArea<D> as Area>⟧.size self.new ≡ ⟦<DriveArea<D> as Area>⟧.size self.old }
+        ensures whole { HasWholePages (⟦<DriveArea<D> as Area>⟧.pages self.new) }
+        ensures cause { CountsFaults (⟦<DriveArea<D> as Area>⟧.faults self.old)
+            (⟦<DriveArea<D> as Area>⟧.faults self.new) result }
+    {
         let address = u64::from(self.first) + u64::from(n);
         let is_done = match &mut self.drive {
             Some(drive) => write_page(drive, address, page).is_ok(),
@@ -70,7 +95,8 @@ impl<D: Read + Write + Seek> Area for DriveArea<D> {
 
 /// Whether the call was done; one that failed is counted.
 fn counted(faults: &mut u64, is_done: bool) -> Moved
-    ensures { CountsFaults faults.old faults.new result }
+    ensures cause { CountsFaults faults.old faults.new result }
+    ensures done { result ≡ Moved.Done → faults.new ≡ faults.old }
 {
     if is_done {
         Moved::Done

@@ -1,5 +1,6 @@
-ghost use Rattle.std.specs.Prelude.{None, ◌≡◌};
-ghost use Rattle.solo_devices.specs.Source.{bytes_taken};
+ghost use Rattle.std.specs.Prelude.{None, ◌≡◌, ℕ};
+ghost use Rattle.solo_devices.specs.Count.{raised};
+ghost use Rattle.solo_devices.specs.Source.{TakesFrom, FitsPiece, CountsFaults, bytes_taken};
 
 use crate::retried::read_piece;
 use solo_devices::{Source, Took};
@@ -16,7 +17,8 @@ pub struct ReaderSource<R> {
 impl<R: Read> ReaderSource<R> {
     /// A source of which nothing was taken.
     pub fn new(reader: R) -> ReaderSource<R>
-        ensures { ⟦<ReaderSource<R> as Source>⟧.taken result ≡ 0 }
+        ensures taken { ⟦<ReaderSource<R> as Source>⟧.taken result ≡ 0 }
+        ensures faults { ⟦<ReaderSource<R> as Source>⟧.faults result ≡ 0 }
     {
         ReaderSource {
             reader,
@@ -40,7 +42,19 @@ impl<R: Read> Source for ReaderSource<R> {
 
     ghost faults = { λ source. source.faults };
 
-    fn take(&mut self, piece: &mut [u8]) -> Took {
+    fn take(&mut self, piece: &mut [u8]) -> Took
+        // A read that is done counts no fault.
+        ensures done { (count : ℕ) → result ≡ Took.Bytes count
+            → ⟦<ReaderSource<R> as Source>⟧.faults self.new ≡ ⟦<ReaderSource<R> as Source>⟧.faults self.old }
+        // As the trait says.
+        ensures fits { FitsPiece result piece.new }
+        ensures bytes { TakesFrom (⟦<ReaderSource<R> as Source>⟧.left self.old)
+            (⟦<ReaderSource<R> as Source>⟧.left self.new) result piece.new }
+        ensures taken { ⟦<ReaderSource<R> as Source>⟧.taken self.new
+            ≡ raised (⟦<ReaderSource<R> as Source>⟧.taken self.old) (bytes_taken result) }
+        ensures cause { CountsFaults (⟦<ReaderSource<R> as Source>⟧.faults self.old)
+            (⟦<ReaderSource<R> as Source>⟧.faults self.new) result }
+    {
         let took = match read_piece(&mut self.reader, piece) {
             Ok(count) => Took::Bytes(count),
             Err(_) => {

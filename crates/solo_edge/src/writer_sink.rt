@@ -1,4 +1,5 @@
-ghost use Rattle.std.specs.Prelude.{◌≡◌, None};
+ghost use Rattle.std.specs.Prelude.{◌≡◌, ◌<◌, ◌⊎◌, ℕ, [], None};
+ghost use Rattle.solo_devices.specs.Sink.{GivesTo, FitsPiece, CountsFaults};
 
 use crate::retried::write_piece;
 use solo_devices::{Gave, Sink};
@@ -13,7 +14,9 @@ pub struct WriterSink<W> {
 
 impl<W: Write> WriterSink<W> {
     /// A sink that was given nothing.
-    pub fn new(writer: W) -> WriterSink<W> {
+    pub fn new(writer: W) -> WriterSink<W>
+        ensures { ⟦<WriterSink<W> as Sink>⟧.faults result ≡ 0 }
+    {
         WriterSink { writer, faults: 0 }
     }
 
@@ -35,7 +38,17 @@ impl<W: Write> Sink for WriterSink<W> {
 
     ghost faults = { λ sink. sink.faults };
 
-    fn give(&mut self, piece: &[u8]) -> Gave {
+    fn give(&mut self, piece: &[u8]) -> Gave
+        // A write that is done counts no fault.
+        ensures done { (count : ℕ) → result ≡ Gave.Bytes count → (0 < count) ⊎ (piece.now ≡ [])
+            → ⟦<WriterSink<W> as Sink>⟧.faults self.new ≡ ⟦<WriterSink<W> as Sink>⟧.faults self.old }
+        // As the trait says.
+        ensures fits { FitsPiece result piece.now }
+        ensures bytes { GivesTo (⟦<WriterSink<W> as Sink>⟧.given self.old)
+            (⟦<WriterSink<W> as Sink>⟧.given self.new) result piece.now }
+        ensures cause { CountsFaults (⟦<WriterSink<W> as Sink>⟧.faults self.old)
+            (⟦<WriterSink<W> as Sink>⟧.faults self.new) result piece.now }
+    {
         match write_piece(&mut self.writer, piece) {
             Ok(count) => {
                 if count == 0 && !piece.is_empty() {
