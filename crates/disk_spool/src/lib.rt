@@ -18,8 +18,3 @@ pub use kind::SpoolKind;
 pub use receive_end::SpoolRecv;
 pub use send_end::SpoolSend;
 pub use spool::Spool;
-
-#[cfg(test)]
-mod running_tests;
-#[cfg(test)]
-mod tests;

@@ -8,6 +8,3 @@ mod run;
 pub use kind::LevelKind;
 pub use level::{Change, Level};
 pub use run::{change_often, change_once, run_four, run_in_turn, run_two};
-
-#[cfg(test)]
-mod tests;

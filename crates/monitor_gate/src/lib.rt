@@ -17,6 +17,3 @@ pub use inside::Inside;
 pub use kind::MonitorKind;
 pub use pass::{GatePass, Pass};
 pub use view::{Line, Stage, View};
-
-#[cfg(test)]
-mod tests;

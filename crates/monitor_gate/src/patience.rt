@@ -1,4 +1,5 @@
 //! How long a process looks at a gate before it sleeps on it.
+ghost use Rattle.std.specs.Prelude.{◌≡◌, ◌+◌, ◌-◌, ◌<◌, true, false, min};
 
 // How often a process looks at the word of a gate in a short wait, and in a long one, which takes about as
 // long as a sleep and a wake.
@@ -25,12 +26,17 @@ pub(crate) struct Patience {
 
 impl Patience {
     /// Before the first wait, which is long.
-    pub(crate) fn new() -> Patience {
+    pub(crate) fn new() -> Patience
+        ensures { (result.short ≡ 0) × (result.doubt ≡ 0) }
+    {
         Patience { short: 0, doubt: 0 }
     }
 
     /// How often a process looks at most in the wait that comes.
-    pub(crate) fn looks(&self) -> u32 {
+    pub(crate) fn looks(&self) -> u32
+        ensures few { 0 < self.now.short → result ≡ 200 }
+        ensures many { self.now.short ≡ 0 → result ≡ 5000 }
+    {
         if self.short > 0 {
             FEW_LOOKS
         } else {
@@ -39,7 +45,14 @@ impl Patience {
     }
 
     /// A wait is over: whether the turn came in it.
-    pub(crate) fn learn(&mut self, came: bool) {
+    pub(crate) fn learn(&mut self, came: bool)
+        ensures short { 0 < self.old.short
+            → (self.new.short + 1 ≡ self.old.short) × (self.new.doubt ≡ self.old.doubt) }
+        ensures came { self.old.short ≡ 0 → came ≡ true
+            → (self.new.short ≡ 0) × (self.new.doubt ≡ self.old.doubt - 1) }
+        ensures vain { self.old.short ≡ 0 → came ≡ false
+            → (self.new.short ≡ min (self.old.doubt + 1) 15) × (self.new.doubt ≡ self.new.short) }
+    {
         if self.short > 0 {
             self.short -= 1;
         } else if came {
@@ -47,54 +60,6 @@ impl Patience {
         } else {
             self.doubt = self.doubt.saturating_add(1).min(MOST_SHORT);
             self.short = self.doubt;
-        }
-    }
-}
-
-#[cfg(test)]
-mod tests {
-    use super::*;
-
-    // How many waits are short until the next long one, if the turn comes in none of them.
-    fn short_waits(patience: &mut Patience) -> u32 {
-        for waits in 0..100u32 {
-            if patience.looks() == MANY_LOOKS {
-                return waits;
-            }
-            patience.learn(false);
-        }
-        100
-    }
-
-    #[test]
-    fn each_long_wait_in_vain_has_one_more_short_one_behind_it(rt: HostRuntime) {
-        let mut patience = Patience::new();
-        for expected in 0..40u32 {
-            assert_eq!(rt; short_waits(&mut patience), expected.min(15));
-            assert_eq!(rt; patience.looks(), MANY_LOOKS);
-            patience.learn(false);
-        }
-    }
-
-    #[test]
-    fn a_long_wait_in_which_the_turn_came_takes_one_of_them_back(rt: HostRuntime) {
-        let mut patience = Patience::new();
-        for _ in 0..5u32 {
-            patience.learn(false);
-            let _ = short_waits(&mut patience);
-        }
-        patience.learn(true);
-        patience.learn(true);
-        patience.learn(false);
-        assert_eq!(rt; short_waits(&mut patience), 4);
-    }
-
-    #[test]
-    fn the_first_wait_is_long_and_stays_so_while_the_turn_comes(rt: HostRuntime) {
-        let mut patience = Patience::new();
-        for _ in 0..100u32 {
-            assert_eq!(rt; patience.looks(), MANY_LOOKS);
-            patience.learn(true);
         }
     }
 }

@@ -5,8 +5,6 @@ mod fifo;
 mod queue_variable;
 mod sides;
 mod stops;
-#[cfg(test)]
-mod tests;
 mod turn;
 
 pub use fifo::Fifo;

@@ -14,6 +14,3 @@ pub use grant::Grant;
 pub use kind::DiskKind;
 pub use resource::Resource;
 pub use seat::{DiskPass, DiskSeat};
-
-#[cfg(test)]
-mod tests;

@@ -26,6 +26,3 @@ pub type PageBuffer = SlotBuffer<Page>;
 
 /// An argument buffer.
 pub type ArgBuffer = SlotBuffer<Arg>;
-
-#[cfg(test)]
-mod tests;

@@ -23,6 +23,3 @@ pub use no_memory::NoMemory;
 pub use outcome::{BufferNo, Cause, Outcome, ProcNo, ProgResult, Side};
 pub use page::{PAGE_LENGTH, Page, number_at};
 pub use system_call::{Arg, SysCall, SysReply};
-
-#[cfg(test)]
-mod tests;

@@ -36,8 +36,3 @@ pub use source::{Source, Took};
 pub use sure_area::SureArea;
 pub use sure_sink::SureSink;
 pub use sure_source::SureSource;
-
-#[cfg(test)]
-mod area_tests;
-#[cfg(test)]
-mod tests;

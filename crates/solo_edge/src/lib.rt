@@ -12,6 +12,3 @@ pub use drive_area::DriveArea;
 pub use drive_file::{make_drive, open_drive};
 pub use reader_source::ReaderSource;
 pub use writer_sink::WriterSink;
-
-#[cfg(test)]
-mod tests;
