@@ -16,6 +16,3 @@ pub use lines_ahead::End;
 pub use page_loads::PageLoads;
 pub use part::Part;
 pub use report::run_job;
-
-#[cfg(test)]
-mod tests;

@@ -15,6 +15,3 @@ pub use job::{CardFault, CardFaultKind, Job};
 pub use job_reader::JobReader;
 pub use numeral::number_within;
 pub use place::{Place, control_in, counts, ends_in, opener_in};
-
-#[cfg(test)]
-mod tests;

@@ -21,16 +21,3 @@ pub use file_area::FileArea;
 pub use mount::judge;
 pub use older::judge_older;
 pub use transfer::{read, write};
-
-#[cfg(test)]
-mod broken_tests;
-#[cfg(test)]
-mod failing_tests;
-#[cfg(test)]
-mod full_tests;
-#[cfg(test)]
-mod made_area;
-#[cfg(test)]
-mod random_tests;
-#[cfg(test)]
-mod tests;

@@ -8,6 +8,3 @@ mod page_map;
 pub use bits::{AREA_PAGES, is_marked};
 pub use field::{name_bytes, number, set_name_bytes, set_number};
 pub use page_map::{FIRST_FILE_PAGE, PageMap};
-
-#[cfg(test)]
-mod tests;

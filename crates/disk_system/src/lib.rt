@@ -22,16 +22,3 @@ pub use listing::list;
 pub use loading::{LoadFault, Loaded, load_job};
 pub use migrating::{MigrateFault, Migrated, migrate};
 pub use texts::{is_text, store_text, text_of};
-
-#[cfg(test)]
-mod code_tests;
-#[cfg(test)]
-mod failing_tests;
-#[cfg(test)]
-mod made_area;
-#[cfg(test)]
-mod made_older;
-#[cfg(test)]
-mod migrate_tests;
-#[cfg(test)]
-mod tests;

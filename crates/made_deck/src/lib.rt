@@ -4,6 +4,3 @@
 mod deck;
 
 pub use deck::{LAST_NUMBER, make_deck};
-
-#[cfg(test)]
-mod tests;

@@ -7,8 +7,6 @@ mod judge;
 mod packer;
 mod page_items;
 mod stream;
-#[cfg(test)]
-mod tests;
 mod unpacker;
 
 pub use form::{CONTENT_ROOM, HEADER_LENGTH, ITEM_LENGTH, LEAST_FULL, SPOILED};

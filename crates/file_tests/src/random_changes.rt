@@ -1,9 +1,10 @@
 ghost use Rattle.std.specs.Prelude.{◌<◌};
 
-use crate::made_area::{blank_area, mounted, numbered, page_of};
-use crate::{FileArea, FileFault};
+use crate::file_calls::{Call, byte_in, info, names, refusal};
+use crate::made_area::{blank_files, mounted, name, numbered};
+use disk_files::{FileArea, FileFault, FileInfo};
 use disk_layout::FileKind;
-use solo_base::{Ident, Page};
+use solo_base::Ident;
 use solo_devices::SureArea;
 use std::alloc::Global;
 use std::process::Abort;
@@ -142,104 +143,87 @@ fn plain_protect(table: &mut Vec<PlainFile>, name: &Ident, on: bool) -> Option<F
     None
 }
 
-// One call on both.
-fn both(
-    rt: &impl Abort,
-    alloc: Global,
-    files: &mut FileArea<SureArea>,
-    table: &mut Vec<PlainFile>,
-    dice: &mut Dice,
-) {
+// What the table answers to a call.
+fn plain(alloc: Global, table: &mut Vec<PlainFile>, call: Call) -> Option<FileFault> {
+    match call {
+        Call::Create(name, _) => plain_create(alloc, table, &name),
+        Call::Append(name, byte) => plain_append(table, &name, byte),
+        Call::Replace(name, n, byte) => plain_replace(table, &name, n, byte),
+        Call::Rename(old, new) => plain_rename(table, &old, &new),
+        Call::Delete(name) => plain_delete(table, &name),
+        Call::Protect(name, on) => plain_protect(table, &name, on),
+        Call::Lookup(_) | Call::Read(_, _) => None,
+    }
+}
+
+// A call that the dice choose.
+fn call_of(rt: &impl Abort, dice: &mut Dice) -> Call {
     let name = numbered(rt, dice.below(24) as u16);
     let other = numbered(rt, dice.below(24) as u16);
     let byte = dice.below(256) as u8;
     let n = dice.below(5) as u16;
-    assert!(rt; files.sound());
-    let (ours, plain) = match dice.below(12) {
-        0 | 1 => (
-            files.create(&name, FileKind::Ascii).err(),
-            plain_create(alloc, table, &name),
-        ),
-        2 => (files.delete(&name).err(), plain_delete(table, &name)),
-        3 => (
-            files.rename(&name, &other).err(),
-            plain_rename(table, &name, &other),
-        ),
-        4 => {
-            let on = byte < 64;
-            (
-                files.protect(&name, on).err(),
-                plain_protect(table, &name, on),
-            )
-        }
-        5 | 6 => (
-            files.replace(&name, n, &page_of(byte)).err(),
-            plain_replace(table, &name, n, byte),
-        ),
-        _ => (
-            files.append(&name, &page_of(byte)).err(),
-            plain_append(table, &name, byte),
-        ),
-    };
-    assert_eq!(rt; ours, plain);
+    match dice.below(12) {
+        0 | 1 => Call::Create(name, FileKind::Ascii),
+        2 => Call::Delete(name),
+        3 => Call::Rename(name, other),
+        4 => Call::Protect(name, byte < 64),
+        5 | 6 => Call::Replace(name, n, byte),
+        _ => Call::Append(name, byte),
+    }
 }
 
 // One file is as the table has it.
 fn has(rt: &impl Abort, files: &mut FileArea<SureArea>, file: &PlainFile) {
-    let name = Ident::of(&file.name[..5]).expect(rt, "a name");
-    assert!(rt; files.sound());
-    let info = files.lookup(&name).ok().expect(rt, "the file");
-    assert_eq!(rt; info.protected, file.protected);
-    assert_eq!(rt; info.pages as usize, file.pages.len());
-    for n in 0..file.pages.len() {
-        if n < 4000 {
-            let mut page = Page::zeros();
-            assert!(rt; files.sound());
-            assert!(rt; files.read_page(&name, n as u16 + 1, &mut page).is_ok());
-            assert_eq!(rt; page.0[0], file.pages[n]);
-            assert_eq!(rt; page.0[511], file.pages[n]);
-        }
+    let name = name(rt, &file.name[..5]);
+    let wanted = FileInfo {
+        kind: FileKind::Ascii,
+        protected: file.protected,
+        pages: file.pages.len().min(4000) as u16,
+    };
+    assert_eq!(rt; info(rt, files, &name), Ok(wanted));
+    let mut n = 0u16;
+    for byte in &file.pages {
+        n = n.saturating_add(1);
+        assert_eq!(rt; byte_in(rt, files, &name, n), Ok(*byte));
     }
+}
+
+// The name that comes next behind this one, or the first of all.
+fn next_name(
+    rt: &impl Abort,
+    files: &mut FileArea<SureArea>,
+    last: Option<&Ident>,
+) -> Option<Ident> {
+    assert!(rt; files.sound());
+    files.name_after(last).ok().expect(rt, "no fault")
 }
 
 // The names of both, in their order.
 fn same_names(rt: &impl Abort, files: &mut FileArea<SureArea>, table: &Vec<PlainFile>) {
     let mut last = None;
     for _ in 0..table.len() {
-        assert!(rt; files.sound());
-        let next = match &last {
-            Some(name) => files.name_after(Some(name)),
-            None => files.name_after(None),
-        };
-        let name = next.ok().expect(rt, "no fault").expect(rt, "a name more");
+        let name = next_name(rt, files, last.as_ref()).expect(rt, "a name more");
         assert!(rt; place_of(table, &name).is_some());
         if let Some(before) = last {
             assert!(rt; before.bytes() < name.bytes());
         }
         last = Some(name);
     }
-    assert!(rt; files.sound());
-    if let Some(name) = last {
-        assert!(rt;
-            files
-                .name_after(Some(&name))
-                .ok()
-                .expect(rt, "no fault")
-                .is_none()
-        );
-    }
+    assert!(rt; next_name(rt, files, last.as_ref()).is_none());
 }
 
 // A thousand calls from this state of the dice on, and then a new mount.
 fn thousand_calls(rt: &impl Abort, alloc: Global, seed: u32) {
-    let mut files = mounted(rt, alloc, blank_area(rt, alloc));
+    let mut files = blank_files(rt, alloc);
     let mut table = Vec::new(alloc);
     let mut dice = Dice { state: seed };
     for _ in 0..1000u16 {
-        both(rt, alloc, &mut files, &mut table, &mut dice);
+        let call = call_of(rt, &mut dice);
+        let answer = refusal(rt, &mut files, call);
+        assert_eq!(rt; answer, plain(alloc, &mut table, call), "{call:?}");
     }
     let mut again = mounted(rt, alloc, files.into_inner());
-    assert_eq!(rt; again.names() as usize, table.len());
+    assert_eq!(rt; names(rt, &again) as usize, table.len());
     for file in &table {
         has(rt, &mut again, file);
     }

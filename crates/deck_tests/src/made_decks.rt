@@ -1,4 +1,4 @@
-use crate::make_deck;
+use made_deck::make_deck;
 use std::test::Fail;
 
 /// How many cards of the deck begin so.
@@ -13,12 +13,15 @@ fn the_deck_of_0_has_a_hundred_jobs(rt: HostRuntime) -> Result<(), Fail> {
     let deck = make_deck(rt.alloc(), 0).ok().expect(&rt, "ample memory");
     assert!(rt;
         deck.starts_with(
-            b"#JOB P1\nVAR I: INTEGER;\nBEGIN\nFOR I := 1 TO 1 DO BEGIN WRITEINT(I); WRITE(NL) END\nEND.\n#END\n#JOB P2\n"
+            b"#JOB P1\nVAR I: INTEGER;\nBEGIN\nFOR I := 1 TO 1 DO BEGIN WRITEINT(I); WRITE(NL) END\n\
+              END.\n#END\n#JOB P2\n"
         )
     );
     assert!(rt;
         deck.ends_with(
-            b"#LIST L99\nCARD 1\n#END\n#JOB P100\nVAR I: INTEGER;\nBEGIN\nFOR I := 1 TO 0 DO BEGIN WRITEINT(I); WRITE(NL) END\nEND.\n#END\n"
+            b"#LIST L99\nCARD 1\n#END\n#JOB P100\nVAR I: INTEGER;\nBEGIN\n\
+              FOR I := 1 TO 0 DO BEGIN WRITEINT(I); WRITE(NL) END\n\
+              END.\n#END\n"
         )
     );
     assert_eq!(rt; count(&deck, b"#JOB"), 67);

@@ -1,12 +1,13 @@
 ghost use Rattle.std.specs.Prelude.{◌≡◌, false, OnOk};
 
-use crate::{JobStream, run_job};
+use batch_job::{JobStream, run_job};
 use deck_format::{CardFault, CardFaultKind, Job};
 use disk_system::Loaded;
 use page_codec::{Packer, PageItems, Unpacker};
 use pascal_compile::compile;
 use solo_base::{Ident, Item, Line, LineList, Page};
 use std::alloc::Global;
+use std::process::Abort;
 use std::test::Fail;
 
 /// The lines that the job prints, each with a bar behind it.
@@ -150,16 +151,27 @@ fn a_program_is_run_with_its_input(rt: HostRuntime) -> Result<(), Fail> {
     Ok(())
 }
 
-/// The last page of a stream of these cards.
-fn page_of(cards: &[&[u8]]) -> Result<Page, Fail> {
+/// The pages of a stream of these cards, two at most: the one before the last, and the last.
+fn pages_of(cards: &[&[u8]]) -> Result<(Option<Page>, Page), Fail> {
     let mut packer = Packer::new();
+    let mut first = None;
     for card in cards {
         let line = Line::of(card).ok_or("a card")?;
-        if packer.push(&Item::Line(line)).is_some() {
-            return Err("more than a page".into());
+        let full = packer.push(&Item::Line(line));
+        if full.is_some() && first.is_some() {
+            return Err("more than two pages".into());
         }
+        first = first.or(full);
     }
-    Ok(packer.finish())
+    Ok((first, packer.finish()))
+}
+
+/// The only page of a stream of these cards.
+fn page_of(cards: &[&[u8]]) -> Result<Page, Fail> {
+    match pages_of(cards)? {
+        (None, page) => Ok(page),
+        (Some(_), _) => Err("more than a page".into()),
+    }
 }
 
 /// The items of the last page of a stream.
@@ -170,18 +182,22 @@ fn items_of(page: &Page) -> Result<PageItems, Fail> {
     }
 }
 
+/// The lines of a stream that is fed the only page of a deck.
+fn lines_of(alloc: Global, stream: &mut JobStream, deck: &Page) -> Result<Vec<u8>, Fail> {
+    feed(stream, deck)?;
+    packed(alloc, stream)
+}
+
 #[test]
 fn a_stream_gives_the_lines_of_its_jobs(rt: HostRuntime) -> Result<(), Fail> {
     let deck = page_of(&[
         b"X", b"#LIST A", b"HELLO", b"#LIST B", b"#BAD", b"Y", b"#JOB P", b"BEGIN", b"#END", b"Z",
     ])?;
     let mut stream = JobStream::new(rt.alloc());
-    let mut packer = Packer::new();
-    stream.feed(items_of(&deck)?)?;
-    assert!(rt; pack_loaded(&mut stream, &mut packer)?.is_none());
-    let text = text_of(rt.alloc(), packer)?;
+    let text = lines_of(rt.alloc(), &mut stream, &deck);
+    drop(stream);
     assert_eq!(rt;
-        text.as_slice(),
+        text?.as_slice(),
         b"1 CARDS SKIPPED|JOB A|HELLO|A: LISTED 1 CARDS|JOB B|B: BAD CONTROL CARD 1|\
           JOB P|P: SYNTAX ERROR IN LINE 2|1 CARDS SKIPPED|"
             .as_slice()
@@ -202,12 +218,22 @@ fn text_of(alloc: Global, packer: Packer) -> Result<Vec<u8>, Fail> {
     Ok(text)
 }
 
-/// Packs the lines of a stream that wants no file.
-fn pack_loaded(stream: &mut JobStream, packer: &mut Packer) -> Result<Option<Page>, Fail> {
+/// Feeds a stream the only page of a deck.
+fn feed(stream: &mut JobStream, deck: &Page) -> Result<(), Fail> {
+    stream.feed(items_of(deck)?)?;
+    Ok(())
+}
+
+/// The lines of a stream that wants no file, which fit on a page, each with a bar behind it.
+fn packed(alloc: Global, stream: &mut JobStream) -> Result<Vec<u8>, Fail> {
+    let mut packer = Packer::new();
     if stream.wants().is_some() {
         return Err("a file is wanted".into());
     }
-    Ok(stream.pack(packer)?)
+    if stream.pack(&mut packer)?.is_some() {
+        return Err("more than a page".into());
+    }
+    text_of(alloc, packer)
 }
 
 /// Tells a stream that there is none of the files that it wants, ten at most.
@@ -230,34 +256,27 @@ fn streamed(
     requires { unpacker.old.ended ≡ false }
     ensures { OnOk result (unpacker.new.ended ≡ last) }
 {
-    let mut packer = Packer::new();
     match unpacker.take(page, last) {
         Ok(items) => stream.feed(items)?,
         Err(_) => return Err("a bad page".into()),
     }
     load_none(stream);
-    if pack_loaded(stream, &mut packer)?.is_some() {
-        return Err("more than a page".into());
-    }
-    text_of(alloc, packer)
+    packed(alloc, stream)
 }
 
-#[test]
-fn a_program_runs_while_its_cards_come(rt: HostRuntime) -> Result<(), Fail> {
-    let alloc = rt.alloc();
-    let mut packer = Packer::new();
-    let mut first = None;
+/// The two pages of a deck whose first program runs over their border.
+fn long_deck() -> Result<(Page, Page), Fail> {
     let long = [b'D'; 80];
-    for card in [
-        b"#JOB COPY".as_slice(),
+    let (first, last) = pages_of(&[
+        b"#JOB COPY",
         b"VAR C: CHAR;",
         b"BEGIN READ(C); WHILE C <> EM DO BEGIN WRITE(C); READ(C) END END.",
         b"#DATA",
         b"ONE",
-        long.as_slice(),
-        long.as_slice(),
-        long.as_slice(),
-        long.as_slice(),
+        &long,
+        &long,
+        &long,
+        &long,
         b"#BAD",
         b"LOST",
         b"#RUN A PROG",
@@ -266,21 +285,34 @@ fn a_program_runs_while_its_cards_come(rt: HostRuntime) -> Result<(), Fail> {
         b"VAR X: INTEGER; BEGIN X := 32767 + 1 END.",
         b"#LIST B",
         b"Y",
-    ] {
-        let line = Line::of(card).ok_or("a card")?;
-        if let Some(page) = packer.push(&Item::Line(line)) {
-            first = Some(page);
-        }
-    }
-    let first = first.ok_or("a full page")?;
-    let mut stream = JobStream::new(alloc);
+    ])?;
+    Ok((first.ok_or("a full page")?, last))
+}
+
+/// The lines that a stream gives with each of two pages.
+fn streamed_twice(
+    alloc: Global,
+    stream: &mut JobStream,
+    first: &Page,
+    last: &Page,
+) -> Result<(Vec<u8>, Vec<u8>), Fail> {
     let mut unpacker = Unpacker::new();
-    let text = streamed(alloc, &mut stream, &mut unpacker, &first, false)?;
+    let text = streamed(alloc, stream, &mut unpacker, first, false)?;
+    let rest = streamed(alloc, stream, &mut unpacker, last, true)?;
+    Ok((text, rest))
+}
+
+#[test]
+fn a_program_runs_while_its_cards_come(rt: HostRuntime) -> Result<(), Fail> {
+    let (first, last) = long_deck()?;
+    let mut stream = JobStream::new(rt.alloc());
+    let came = streamed_twice(rt.alloc(), &mut stream, &first, &last);
+    drop(stream);
+    let (text, rest) = came?;
     assert!(rt; text.starts_with(b"JOB COPY|ONE|DDD"));
     assert!(rt;
         text.ends_with(b"|COPY: TERMINATED|COPY: BAD CONTROL CARD 9|JOB A|A: NO FILE|JOB BIG|")
     );
-    let rest = streamed(alloc, &mut stream, &mut unpacker, &packer.finish(), true)?;
     assert_eq!(rt;
         rest.as_slice(),
         b"BIG: OVERFLOW IN LINE 1|JOB B|Y|B: LISTED 1 CARDS|".as_slice()
@@ -302,6 +334,23 @@ fn is_wanted(stream: &JobStream, name: &[u8]) -> bool {
     }
 }
 
+/// The lines of a stream over two files, of which this is loaded for the first, and a bad one for the second.
+fn lines_of_files(
+    rt: &impl Abort,
+    alloc: Global,
+    stream: &mut JobStream,
+    deck: &Page,
+    first: Loaded,
+) -> Result<Vec<u8>, Fail> {
+    assert!(rt; stream.wants().is_none());
+    feed(stream, deck)?;
+    assert!(rt; is_wanted(stream, b"PROG"));
+    stream.load(first);
+    assert!(rt; is_wanted(stream, b"OTHER"));
+    stream.load(Loaded::BadCode { at: 3 });
+    packed(alloc, stream)
+}
+
 #[test]
 fn files_are_loaded_in_the_order_of_their_jobs(rt: HostRuntime) -> Result<(), Fail> {
     let alloc = rt.alloc();
@@ -311,17 +360,10 @@ fn files_are_loaded_in_the_order_of_their_jobs(rt: HostRuntime) -> Result<(), Fa
         Err(_) => return Err("no code".into()),
     };
     let mut stream = JobStream::new(alloc);
-    assert!(rt; stream.wants().is_none());
-    stream.feed(items_of(&deck)?)?;
-    assert!(rt; is_wanted(&stream, b"PROG"));
-    stream.load(Loaded::Code(code));
-    assert!(rt; is_wanted(&stream, b"OTHER"));
-    stream.load(Loaded::BadCode { at: 3 });
-    let mut packer = Packer::new();
-    assert!(rt; pack_loaded(&mut stream, &mut packer)?.is_none());
-    let text = text_of(alloc, packer)?;
+    let text = lines_of_files(&rt, alloc, &mut stream, &deck, Loaded::Code(code));
+    drop(stream);
     assert_eq!(rt;
-        text.as_slice(),
+        text?.as_slice(),
         b"JOB A|HELLO|A: TERMINATED|JOB B|B: BAD CODE AT 3|B: BAD CONTROL CARD 1|".as_slice()
     );
     Ok(())

@@ -1,4 +1,6 @@
-use crate::{CardFault, CardFaultKind, Control, DEFAULT_LIMIT, Job, JobReader, Opener, control_of};
+use deck_format::{
+    CardFault, CardFaultKind, Control, DEFAULT_LIMIT, Job, JobReader, Opener, control_of,
+};
 use solo_base::{Item, Line, LineList, NoMemory};
 use std::alloc::Global;
 use std::test::Fail;

@@ -1,4 +1,6 @@
-use crate::{AREA_PAGES, FIRST_FILE_PAGE, PageMap, name_bytes, number, set_name_bytes, set_number};
+use disk_pages::{
+    AREA_PAGES, FIRST_FILE_PAGE, PageMap, name_bytes, number, set_name_bytes, set_number,
+};
 use solo_base::Page;
 
 #[test]
@@ -22,7 +24,7 @@ fn pages_are_taken_in_order_until_the_map_is_full(rt: HostRuntime) {
     assert_eq!(rt; map.free(), 0);
     assert_eq!(rt; map.allocate(), None);
     let (low, high) = map.to_pages();
-    assert!(rt; low.0.iter().all(|byte| *byte == 255));
+    assert!(rt; low.0 == [255; 512]);
     assert_eq!(rt; &high.0[22..26], [255, 255, 0, 0].as_slice());
 }
 

@@ -1,4 +1,4 @@
-use crate::{BadPage, Packer, PageItems, Unpacker};
+use page_codec::{BadPage, Packer, PageItems, Unpacker};
 use solo_base::{Item, LINE_LENGTH, Line, PAGE_LENGTH, Page};
 use std::process::Abort;
 use std::test::Fail;
@@ -21,12 +21,25 @@ fn is_next(items: &mut PageItems, bytes: &[u8]) -> bool {
     }
 }
 
+/// The items that are left are these lines.
+fn are_left(rt: &impl Abort, items: &mut PageItems, lines: &[&[u8]]) {
+    for line in lines {
+        assert!(rt; is_next(items, line), "{line:?}");
+    }
+    assert!(rt; items.next().is_none());
+}
+
+/// Adds an item for which there is room on the page in hand.
+fn put(rt: &impl Abort, packer: &mut Packer, item: &Item) {
+    assert!(rt; packer.push(item).is_none());
+}
+
 /// The two pages of a listing: six cards of 80 columns, and one of so many.
 fn listing(rt: &impl Abort, columns: usize) -> (Page, Page) {
     let mut packer = Packer::new();
-    assert!(rt; packer.push(&line(rt, b"JOB A")).is_none());
+    put(rt, &mut packer, &line(rt, b"JOB A"));
     for _ in 0..6 {
-        assert!(rt; packer.push(&letters(rt, 80)).is_none());
+        put(rt, &mut packer, &letters(rt, 80));
     }
     let early = packer.push(&letters(rt, columns));
     let late = packer.push(&line(rt, b"A: LISTED 7 CARDS"));
@@ -36,14 +49,24 @@ fn listing(rt: &impl Abort, columns: usize) -> (Page, Page) {
 
 #[test]
 fn seven_cards_fill_the_first_page_of_a_listing(rt: HostRuntime) {
-    // 6 + 486 + 14 bytes of items, and then 18
-    let (first, last) = listing(&rt, 13);
-    assert_eq!(rt; &first.0[..8], [0, 0, 0, 0, 1, 250, 5, b'J'].as_slice());
-    assert_eq!(rt; &last.0[..8], [0, 1, 1, 0, 0, 18, 17, b'A'].as_slice());
-    // with one column more 6 + 486, and then 15 + 18
-    let (first, last) = listing(&rt, 14);
-    assert_eq!(rt; &first.0[..8], [0, 0, 0, 0, 1, 236, 5, b'J'].as_slice());
-    assert_eq!(rt; &last.0[..8], [0, 1, 1, 0, 0, 33, 14, b'B'].as_slice());
+    for (columns, on_first, on_last) in [
+        // 6 + 486 + 14 bytes of items, and then 18
+        (
+            13,
+            [0, 0, 0, 0, 1, 250, 5, b'J'],
+            [0, 1, 1, 0, 0, 18, 17, b'A'],
+        ),
+        // with one column more 6 + 486, and then 15 + 18
+        (
+            14,
+            [0, 0, 0, 0, 1, 236, 5, b'J'],
+            [0, 1, 1, 0, 0, 33, 14, b'B'],
+        ),
+    ] {
+        let (first, last) = listing(&rt, columns);
+        assert_eq!(rt; &first.0[..8], on_first.as_slice());
+        assert_eq!(rt; &last.0[..8], on_last.as_slice());
+    }
 }
 
 #[test]
@@ -52,23 +75,31 @@ fn the_pages_of_a_listing_are_read_back(rt: HostRuntime) -> Result<(), Fail> {
     let mut unpacker = Unpacker::new();
     let mut items = unpacker.take(&first, first.last())?;
     assert!(rt; !items.last());
-    assert!(rt; is_next(&mut items, b"JOB A"));
-    for _ in 0..6 {
-        assert!(rt; is_next(&mut items, &[b'B'; 80]));
-    }
-    assert!(rt; is_next(&mut items, &[b'B'; 13]));
-    assert!(rt; items.next().is_none());
+    let card = [b'B'; 80];
+    are_left(
+        &rt,
+        &mut items,
+        &[
+            b"JOB A",
+            &card,
+            &card,
+            &card,
+            &card,
+            &card,
+            &card,
+            &[b'B'; 13],
+        ],
+    );
     let mut items = unpacker.take(&last, last.last())?;
     assert!(rt; items.last());
-    assert!(rt; is_next(&mut items, b"A: LISTED 7 CARDS"));
-    assert!(rt; items.next().is_none());
+    are_left(&rt, &mut items, &[b"A: LISTED 7 CARDS"]);
     Ok(())
 }
 
 #[test]
 fn a_spoiled_card_is_one_byte(rt: HostRuntime) -> Result<(), Fail> {
     let mut packer = Packer::new();
-    assert!(rt; packer.push(&Item::Spoiled).is_none());
+    put(&rt, &mut packer, &Item::Spoiled);
     let page = packer.finish();
     assert_eq!(rt; &page.0[..8], [0, 0, 1, 0, 0, 1, 255, 0].as_slice());
     let mut items = Unpacker::new().take(&page, true)?;
@@ -80,8 +111,8 @@ fn a_spoiled_card_is_one_byte(rt: HostRuntime) -> Result<(), Fail> {
 #[test]
 fn a_wrong_byte_is_found_at_its_place(rt: HostRuntime) {
     let mut packer = Packer::new();
-    assert!(rt; packer.push(&line(&rt, b"HI")).is_none());
-    assert!(rt; packer.push(&line(&rt, b"A")).is_none());
+    put(&rt, &mut packer, &line(&rt, b"HI"));
+    put(&rt, &mut packer, &line(&rt, b"A"));
     // 0, 0, 1, 0, 0, 5, 2, `H`, `I`, 1, `A`, and zeros
     let page = packer.finish();
     for (byte, value, found, at) in [
@@ -132,7 +163,7 @@ fn a_refusal_changes_nothing(rt: HostRuntime) -> Result<(), Fail> {
 #[test]
 fn a_page_before_the_last_is_full(rt: HostRuntime) {
     let mut packer = Packer::new();
-    assert!(rt; packer.push(&letters(&rt, 132)).is_none());
+    put(&rt, &mut packer, &letters(&rt, 132));
     let mut page = packer.finish();
     page.0[2] = 0;
     // 133 bytes are fewer than 374
@@ -150,10 +181,10 @@ fn the_places_begin_again_after_65536_pages(rt: HostRuntime) -> Result<(), Fail>
     let mut unpacker = Unpacker::new();
     let long = letters(&rt, 132);
     // three lines fill a page, and the fourth begins the next
-    assert!(rt; packer.push(&long).is_none());
+    put(&rt, &mut packer, &long);
     for place in 0..65_538u32 {
-        assert!(rt; packer.push(&long).is_none());
-        assert!(rt; packer.push(&long).is_none());
+        put(&rt, &mut packer, &long);
+        put(&rt, &mut packer, &long);
         let page = packer.push(&long).expect(&rt, "the page is full");
         assert_eq!(rt;
             u32::from(page.0[0]) * 256 + u32::from(page.0[1]),
