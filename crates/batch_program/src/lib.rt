@@ -13,8 +13,3 @@ pub use laws::{
 };
 pub use program::BatchProgram;
 pub use told::Told;
-
-#[cfg(test)]
-mod test_code;
-#[cfg(test)]
-mod tests;

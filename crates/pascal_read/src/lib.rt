@@ -1,8 +1,6 @@
 //! Reads the text of a program: the words on its cards, and the tree that they spell.
 #![tactic(auto)]
 
-#[cfg(test)]
-mod case_tests;
 mod found;
 mod parse_assignment;
 mod parse_constant;
@@ -17,8 +15,6 @@ mod parse_program;
 mod parse_range;
 mod parse_reader;
 mod parse_statement;
-#[cfg(test)]
-mod parse_tests;
 mod parse_words;
 mod parser;
 mod scan_card;
@@ -29,10 +25,6 @@ mod scan_name;
 mod scan_symbol;
 mod scan_word;
 mod scanner;
-#[cfg(test)]
-mod tests;
-#[cfg(test)]
-mod tree_tests;
 
 pub use parse_fault::ParseFault;
 pub use parse_law::each_tree_is_read;

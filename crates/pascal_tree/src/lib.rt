@@ -18,8 +18,6 @@ mod spell_expression;
 mod spell_statement;
 mod spelling;
 pub mod statement;
-#[cfg(test)]
-mod tests;
 mod token;
 mod tree;
 

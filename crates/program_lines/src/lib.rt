@@ -8,6 +8,3 @@ mod texts;
 pub use laws::{each_program_has_few_lines, lines_go_on_with_more_cards};
 pub use program_lines::ProgramLines;
 pub use texts::{bad_code_line, compile_line, no_file_line, not_code_line, note, result_line};
-
-#[cfg(test)]
-mod tests;

@@ -24,6 +24,3 @@ pub use instr::{Instr, RoutineInfo};
 pub use listed::listing;
 pub use table::{Op, Row};
 pub use verified::{Verified, verify};
-
-#[cfg(test)]
-mod tests;

@@ -28,14 +28,3 @@ pub use running::Pause;
 pub use state::{Ask, Finish, State, Step};
 pub use waiting::Waiting;
 pub use world::World;
-
-#[cfg(test)]
-mod test_code;
-#[cfg(test)]
-mod tests;
-#[cfg(test)]
-mod tests_of_arithmetic;
-#[cfg(test)]
-mod tests_of_calls;
-#[cfg(test)]
-mod tests_of_references;

@@ -1,5 +1,0 @@
-use Rattle.std.proofs.Common.{length}
-use Rattle.program_lines.proofs.tests.+take_by_card.Given as goal
-
-abbrev pub decreases-take_by_card : goal.decreases-take_by_card
-decreases-take_by_card l = length l.cards.now
