@@ -24,8 +24,3 @@ pub use output_proc::{OutputProc, OutputWork};
 pub use printer_proc::{PrinterProc, PrinterWork};
 pub use round::Step;
 pub use work::Work;
-
-#[cfg(test)]
-mod test_walk;
-#[cfg(test)]
-mod tests;

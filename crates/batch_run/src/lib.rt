@@ -26,10 +26,3 @@ pub use output_connections::{OutputConnections, OutputEnds};
 pub use printer_connections::PrinterConnections;
 pub use row::{Ended, Row, RowEnded, run_five};
 pub use units::Units;
-
-#[cfg(test)]
-mod file_tests;
-#[cfg(test)]
-mod made_files;
-#[cfg(test)]
-mod tests;

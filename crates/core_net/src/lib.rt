@@ -28,12 +28,3 @@ pub use rules::Rule;
 pub use shared::Shared;
 pub use spool_calls::{await_item, await_room, put_page, stop_spool, take_page};
 pub use step::{Stepped, step_machine};
-
-#[cfg(test)]
-mod made_files;
-#[cfg(test)]
-mod test_failures;
-#[cfg(test)]
-mod test_files;
-#[cfg(test)]
-mod tests;

@@ -6,6 +6,3 @@ mod schedule;
 
 pub use laws::{counts_of_a_schedule, counts_of_a_whole_run, one_event, one_run};
 pub use schedule::run_schedule;
-
-#[cfg(test)]
-mod tests;

@@ -16,27 +16,4 @@ mod words;
 
 pub use command::{Finished, top};
 pub use refusal::Refusal;
-pub use words::{Command, Numbered};
-
-#[cfg(test)]
-mod device_tests;
-#[cfg(test)]
-mod drive_tests;
-#[cfg(test)]
-mod failure_tests;
-#[cfg(test)]
-mod held;
-#[cfg(test)]
-mod made_area;
-#[cfg(test)]
-mod make_tests;
-#[cfg(test)]
-mod part_tests;
-#[cfg(test)]
-mod program_tests;
-#[cfg(test)]
-mod run_tests;
-#[cfg(test)]
-mod tests;
-#[cfg(test)]
-mod word_tests;
+pub use words::{Command, Numbered, command_of};

@@ -1,6 +1,7 @@
 // A source and a sink that wait for each other, so that one thread alone can't serve both.
 ghost use Rattle.std.specs.Prelude.{None, ◌≡◌, ◌≤◌, length};
 
+use crate::running::{Counted, Printed};
 use solo_devices::{Gave, Sink, Source, Took};
 use std::alloc::Global;
 use std::sync::Arc;
@@ -97,10 +98,23 @@ impl HeldSink {
             faults: 0,
         }
     }
+}
 
-    /// What it was given so far.
-    pub fn bytes(&self) -> &[u8] {
+impl Printed for HeldSink {
+    fn printed(&self) -> &[u8] {
         self.text.as_slice()
+    }
+}
+
+impl Counted for HeldSink {
+    fn failures(&self) -> u64 {
+        self.faults
+    }
+}
+
+impl Counted for HeldSource {
+    fn failures(&self) -> u64 {
+        self.faults
     }
 }
 

@@ -1,7 +1,6 @@
 // Walks a process from its beginning to its end, for tests.
 
-use crate::work::Work;
-use crate::{Action, Machine, Reply};
+use batch_procs::{Action, Machine, Reply, Work};
 use disk_system::Loaded;
 use page_codec::Packer;
 use solo_base::{Cause, Feed, Item, Line, Outcome, Page};
@@ -10,7 +9,7 @@ use std::alloc::Global;
 use std::test::Fail;
 
 /// What goes wrong, and at which action, counted from 0.
-#[derive(Clone, Copy, Debug)]
+#[derive(Clone, Copy)]
 pub enum Trouble {
     None,
     Stop(usize),
@@ -101,10 +100,10 @@ pub fn put_action(text: &mut Vec<u8>, action: &Action) -> Result<(), Fail> {
 
 /// What a process takes: cards, and the pages that hold them.
 #[derive(Drop)]
-pub struct Supply<'a> {
-    pub cards: &'a [&'a [u8]],
-    pub pages: Vec<Page>,
-    pub taken: usize,
+struct Supply<'a> {
+    cards: &'a [&'a [u8]],
+    pages: Vec<Page>,
+    taken: usize,
 }
 
 /// The pages of a stream of these cards.
@@ -177,21 +176,39 @@ fn trouble_at(trouble: Trouble, number: usize) -> Option<Reply> {
     }
 }
 
-/// All actions of a process that takes these cards, or the pages of them, up to its end.
-pub fn actions<W: Work + Drop>(
+/// The first row of a table by which a process that takes these cards, or the pages of them, doesn't do
+/// what is wanted up to its end.
+pub fn first_other<W: Work + Drop>(
     alloc: Global,
     cards: &[&[u8]],
-    trouble: Trouble,
-) -> Result<Vec<u8>, Fail> {
-    let supply = Supply {
-        cards,
-        pages: pages_of(alloc, cards)?,
-        taken: 0,
-    };
-    actions_over::<W>(alloc, supply, trouble)
+    rows: &[(Trouble, &str)],
+) -> Result<Option<usize>, Fail> {
+    for row in 0..rows.len() {
+        let (trouble, want) = rows[row];
+        let supply = Supply {
+            cards,
+            pages: pages_of(alloc, cards)?,
+            taken: 0,
+        };
+        let text = actions_over::<W>(alloc, supply, trouble)?;
+        if text.as_slice() != want.as_bytes() {
+            return Ok(Some(row));
+        }
+    }
+    Ok(None)
 }
 
-pub fn actions_over<W: Work + Drop>(
+/// All actions of a process that takes a listing of two pages.
+pub fn listing_actions<W: Work + Drop>(alloc: Global, columns: usize) -> Result<Vec<u8>, Fail> {
+    let supply = Supply {
+        cards: &[],
+        pages: listing(alloc, columns)?,
+        taken: 0,
+    };
+    actions_over::<W>(alloc, supply, Trouble::None)
+}
+
+fn actions_over<W: Work + Drop>(
     alloc: Global,
     mut supply: Supply,
     trouble: Trouble,
@@ -214,7 +231,7 @@ pub fn actions_over<W: Work + Drop>(
 }
 
 /// The pages of a listing of six cards of 80 columns and one of so many.
-pub fn listing(alloc: Global, columns: usize) -> Result<Vec<Page>, Fail> {
+fn listing(alloc: Global, columns: usize) -> Result<Vec<Page>, Fail> {
     let mut packer = Packer::new();
     let mut pages = Vec::new(alloc);
     let heading = Line::of(b"#LIST A").ok_or("a card")?;

@@ -1,13 +1,13 @@
 // Decks with jobs of files, by threads and by the core.
 ghost use Rattle.std.specs.Prelude.{◌≡◌};
 
-use crate::Refusal;
-use crate::device_tests::{run_over, sure_area};
-use crate::made_area::{code, formatted, page_of, with_file, write_page};
+use crate::made_area::{code, formatted, page_of, readable, with_file, write_page};
+use crate::running::{run_over_files, undisturbed};
 use disk_layout::FileKind;
 use solo_base::{Cause, Page};
-use solo_devices::{Area, MemSink, MemSource, SureArea};
+use solo_devices::{Area, SureArea};
 use std::alloc::Global;
+use std::process::Abort;
 use std::sync::Wait;
 use std::test::Fail;
 use std::thread::Threads;
@@ -20,7 +20,7 @@ const DECK: &[u8] = b"#RUN A PROG\n";
 
 /// Whether a run of these words with these files prints this report, and behind it what begins so.
 fn prints(
-    rt: &(impl Threads + Wait + Sync + AllocGlobal),
+    rt: &(impl Threads + Wait + Sync + AllocGlobal + Abort),
     words: &[&str],
     files: SureArea,
     report: &[u8],
@@ -28,27 +28,14 @@ fn prints(
 ) -> Result<bool, Fail>
     requires { ⟦<SureArea as Area>⟧.size files ≡ 4288 }
 {
-    let alloc = rt.alloc();
-    let ended = run_over(
-        rt,
-        words,
-        files,
-        MemSource::new(DECK.to_vec(alloc)?, 512, Vec::new(alloc)),
-        MemSink::new(alloc, Vec::new(alloc)),
-        sure_area(alloc, 256)?,
-        sure_area(alloc, 256)?,
-    )?;
-    let rest = ended.paper.bytes().strip_prefix(report);
-    Ok(
-        ended.status == 0
-            && rest.is_some_and(|rest| rest.starts_with(behind)
-                && rest.is_empty() == behind.is_empty()),
-    )
+    let files = readable(rt.alloc(), files, 0)?;
+    let came = run_over_files(rt, words, undisturbed(DECK), files)?;
+    Ok(came.has(report, behind))
 }
 
 /// Whether a batch and a run of the core print this report of the job whose file has this page.
 fn both_print(
-    rt: &(impl Threads + Wait + Sync + AllocGlobal),
+    rt: &(impl Threads + Wait + Sync + AllocGlobal + Abort),
     kind: FileKind,
     page: &Page,
     report: &[u8],
@@ -120,7 +107,7 @@ fn a_jump_to_the_tick_runs_to_the_limit(rt: HostRuntime) -> Result<(), Fail> {
 
 /// Whether a batch over the files of which a byte of a page is so names this page as broken.
 fn is_broken(
-    rt: &(impl Threads + Wait + Sync + AllocGlobal),
+    rt: &(impl Threads + Wait + Sync + AllocGlobal + Abort),
     page: u16,
     at: usize,
     byte: u8,
@@ -132,16 +119,9 @@ fn is_broken(
         *place = byte;
     }
     write_page(&mut files, page, &changed)?;
-    let ended = run_over(
-        rt,
-        BATCH,
-        files,
-        MemSource::new(DECK.to_vec(alloc)?, 512, Vec::new(alloc)),
-        MemSink::new(alloc, Vec::new(alloc)),
-        sure_area(alloc, 256)?,
-        sure_area(alloc, 256)?,
-    )?;
-    Ok(ended.status == 7 && ended.cause == Some(Refusal::Fault(Cause::NotSolo { page })))
+    let files = readable(alloc, files, 0)?;
+    let came = run_over_files(rt, BATCH, undisturbed(DECK), files)?;
+    Ok(came.is_refused(7, Cause::NotSolo { page }))
 }
 
 // Byte 9 of the first page is the number of the format.

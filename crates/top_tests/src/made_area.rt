@@ -87,16 +87,11 @@ fn appended(files: FileArea<SureArea>, name: &Ident, page: &Page) -> Result<Sure
     }
 }
 
-/// The same, where the reads of these numbers fail.
-pub fn with_failing_file(
-    alloc: Global,
-    kind: FileKind,
-    page: &Page,
-    reads: Vec<u64>,
-) -> Result<MemArea, Fail>
+/// An area that begins with the pages 0 to 20 of this one, and whose read of this number fails.
+pub fn readable(alloc: Global, mut whole: SureArea, read: u64) -> Result<MemArea, Fail>
     ensures { IfOk result (λ area. ⟦<MemArea as Area>⟧.size area ≡ AREA_PAGES) }
 {
-    let mut whole = with_file(alloc, kind, page)?;
+    let reads = [read].to_vec(alloc)?;
     match MemArea::new(alloc, AREA_PAGES, reads, Vec::new(alloc)) {
         Ok(mut area) => {
             copy_pages(&mut whole, &mut area, 21)?;

@@ -1,12 +1,9 @@
-// Runs in which one call of a device fails, or one page of a spool is damaged as it is read.
-ghost use Rattle.std.specs.Prelude.{◌≡◌, ◌<◌, ◌≤◌, IfOk};
+// Runs in which one call of a device fails.
 
-use crate::device_tests::{COMMANDS, area, eight_lines, run, run_over, sure_area};
-use crate::made_area::{code, with_failing_file};
-use crate::{Finished, Refusal};
+use crate::device_tests::{COMMANDS, eight_lines};
+use crate::made_area::{code, readable, with_file};
+use crate::running::{Came, Failing, Failures, NONE_FAILS, Setting, run_over_files};
 use disk_layout::FileKind;
-use solo_base::Cause;
-use solo_devices::{Area, HurtArea, MemArea, MemSink, MemSource, SureSource};
 use std::alloc::Global;
 use std::process::Abort;
 use std::sync::Wait;
@@ -14,7 +11,7 @@ use std::test::Fail;
 use std::thread::Threads;
 
 /// A kind of call of a device.
-#[derive(Clone, Copy, Debug, PartialEq, Eq)]
+#[derive(Clone, Copy, Debug)]
 enum Call {
     DeckRead,
     InputWrite,
@@ -36,6 +33,21 @@ const CALLS: [Call; 7] = [
 ];
 
 impl Call {
+    /// These calls fail, and of this kind the one of this number.
+    fn fails_at(self, number: u64, others: Failing) -> Failing {
+        let mut failing = others;
+        match self {
+            Call::DeckRead => failing.deck_read = number,
+            Call::InputWrite => failing.input_write = number,
+            Call::InputRead => failing.input_read = number,
+            Call::OutputWrite => failing.output_write = number,
+            Call::OutputRead => failing.output_read = number,
+            Call::PaperWrite => failing.paper_write = number,
+            Call::FilesRead => failing.files_read = number,
+        }
+        failing
+    }
+
     /// The status that tells of a failure of such a call.
     fn status(self) -> u8 {
         match self {
@@ -48,13 +60,13 @@ impl Call {
     }
 
     /// How often the device of such a call failed.
-    fn faults(self, ended: &Tried) -> u64 {
+    fn failures(self, failures: Failures) -> u64 {
         match self {
-            Call::DeckRead => ended.deck.faults(),
-            Call::InputWrite | Call::InputRead => ended.input.faults(),
-            Call::OutputWrite | Call::OutputRead => ended.output.faults(),
-            Call::PaperWrite => ended.paper.faults(),
-            Call::FilesRead => ended.files.faults(),
+            Call::DeckRead => failures.deck,
+            Call::InputWrite | Call::InputRead => failures.input,
+            Call::OutputWrite | Call::OutputRead => failures.output,
+            Call::PaperWrite => failures.paper,
+            Call::FilesRead => failures.files,
         }
     }
 
@@ -81,7 +93,7 @@ impl Call {
 }
 
 /// A deck and what it comes to.
-#[derive(Clone, Copy, Debug)]
+#[derive(Clone, Copy)]
 struct Deck<'a> {
     bytes: &'a [u8],
     /// How many pages of a spool its items take, and its lines as many.
@@ -90,9 +102,6 @@ struct Deck<'a> {
     loads: u64,
     paper: &'a [u8],
 }
-
-/// How a run ended over devices that may fail.
-type Tried = Finished<MemSource, SureSource, MemSink, MemSink, MemArea, MemArea, MemArea>;
 
 /// How many bytes of a deck come at once.
 const PIECE: usize = 128;
@@ -106,59 +115,45 @@ const MOUNT_READS: u64 = 20;
 /// A load reads the index of the file for its length, and the index, the part and the page of the code.
 const LOAD_READS: u64 = 4;
 
-/// The numbers of the calls of a kind that fail, counted from 1.
-fn numbers(alloc: Global, failing: &[(Call, u64)], kind: Call) -> Result<Vec<u64>, Fail> {
-    let mut numbers = Vec::new(alloc);
-    for (failing, number) in failing {
-        if *failing == kind {
-            numbers.push(*number)?;
-        }
-    }
-    Ok(numbers)
-}
-
 /// Runs these words over a deck and a file of code, where these calls fail.
 fn tried(
-    rt: &(impl Threads + Wait + Sync + AllocGlobal),
+    rt: &(impl Threads + Wait + Sync + AllocGlobal + Abort),
     words: &[&str],
     deck: &[u8],
-    failing: &[(Call, u64)],
-) -> Result<Tried, Fail> {
+    failing: Failing,
+) -> Result<Came, Fail> {
     let alloc = rt.alloc();
-    let deck_reads = numbers(alloc, failing, Call::DeckRead)?;
-    let input_reads = numbers(alloc, failing, Call::InputRead)?;
-    let input_writes = numbers(alloc, failing, Call::InputWrite)?;
-    let output_reads = numbers(alloc, failing, Call::OutputRead)?;
-    let output_writes = numbers(alloc, failing, Call::OutputWrite)?;
-    let paper_writes = numbers(alloc, failing, Call::PaperWrite)?;
-    let files_reads = numbers(alloc, failing, Call::FilesRead)?;
-    run_over(
-        rt,
-        words,
-        with_failing_file(alloc, FileKind::SeqCode, &code(&[]), files_reads)?,
-        MemSource::new(deck.to_vec(alloc)?, PIECE, deck_reads),
-        MemSink::new(alloc, paper_writes),
-        area(alloc, PAGES, &input_reads, &input_writes)?,
-        area(alloc, PAGES, &output_reads, &output_writes)?,
-    )
+    let setting = Setting {
+        deck,
+        piece: PIECE,
+        pages: PAGES,
+        failing,
+    };
+    let files = with_file(alloc, FileKind::SeqCode, &code(&[]))?;
+    let files = readable(alloc, files, failing.files_read)?;
+    run_over_files(rt, words, setting, files)
 }
 
-/// Whether the run in which this call fails ends with the status of its device, and the paper has a part of
-/// what may be printed.
-fn fails(
-    rt: &(impl Threads + Wait + Sync + AllocGlobal),
+/// Each call of this kind fails in turn, of so many: each run ends with the status of its device, and the
+/// paper has a part of what may be printed.
+fn each_fails(
+    rt: &(impl Threads + Wait + Sync + AllocGlobal + Abort),
     words: &[&str],
     deck: &[u8],
-    printed: &[u8],
     kind: Call,
-    number: u64,
-) -> Result<bool, Fail> {
-    let ended = tried(rt, words, deck, &[(kind, number)])?;
-    Ok(
-        ended.status == kind.status()
-            && kind.faults(&ended) == 1
-            && printed.starts_with(ended.paper.bytes()),
-    )
+    count: u64,
+    printed: &[u8],
+) -> Result<(), Fail> {
+    for made in 0..count {
+        let came = tried(rt, words, deck, kind.fails_at(made + 1, NONE_FAILS))?;
+        assert_eq!(rt; came.status, kind.status(), "{kind:?} {made}");
+        assert_eq!(rt; kind.failures(came.failures), 1, "{kind:?} {made}");
+        assert!(rt;
+            printed.starts_with(came.paper.as_slice()),
+            "{kind:?} {made}"
+        );
+    }
+    Ok(())
 }
 
 /// Each call of each device fails in turn as these words print the paper of a deck. A failure of the call
@@ -168,22 +163,24 @@ fn each_call_fails(
     words: &[&str],
     deck: Deck,
 ) -> Result<(), Fail> {
-    let undisturbed = tried(rt, words, deck.bytes, &[])?;
-    let whole = undisturbed.paper.bytes();
+    let undisturbed = tried(rt, words, deck.bytes, NONE_FAILS)?;
+    let whole = undisturbed.paper.as_slice();
     assert!(rt; whole.starts_with(deck.paper));
-    let mut behind = Vec::new(rt.alloc());
+    let mut behind = NONE_FAILS;
     for kind in CALLS {
         let count = kind.count(deck, whole);
-        let printed = kind.printed(deck, whole);
-        for made in 0..count {
-            let failed = fails(rt, words, deck.bytes, printed, kind, made + 1)?;
-            assert!(rt; failed, "{kind:?} {made}");
-        }
-        behind.push((kind, count.saturating_add(1)))?;
+        each_fails(
+            rt,
+            words,
+            deck.bytes,
+            kind,
+            count,
+            kind.printed(deck, whole),
+        )?;
+        behind = kind.fails_at(count.saturating_add(1), behind);
     }
-    let ended = tried(rt, words, deck.bytes, &behind)?;
-    assert_eq!(rt; ended.status, 0);
-    assert_eq!(rt; ended.paper.bytes(), whole);
+    let came = tried(rt, words, deck.bytes, behind)?;
+    assert!(rt; came.has(whole, b""));
     Ok(())
 }
 
@@ -202,7 +199,7 @@ fn each_call_for_one_card_fails_in_turn(rt: HostRuntime) -> Result<(), Fail> {
 }
 
 /// The paper of the list of eight lines.
-fn eight_printed(alloc: Global) -> Result<Vec<u8>, Fail> {
+pub fn eight_printed(alloc: Global) -> Result<Vec<u8>, Fail> {
     let mut paper = b"JOB A\n".to_vec(alloc)?;
     for _ in 0..8 {
         paper.extend_from_slice([b'A'; 80].as_slice())?;
@@ -285,75 +282,4 @@ fn each_call_for_programs_fails_in_turn_under_a_schedule(rt: HostRuntime) -> Res
 #[test]
 fn each_call_for_programs_fails_in_turn_under_another(rt: HostRuntime) -> Result<(), Fail> {
     each_call_fails(&rt, COMMANDS[2], JOBS)
-}
-
-/// An area whose page of this place, from 0, has this byte at `at` as it is read first.
-fn hurt_area(alloc: Global, page: u16, at: u16, byte: u8) -> Result<HurtArea, Fail>
-    requires { at < 512 }
-    ensures { IfOk result (λ area. ⟦<HurtArea as Area>⟧.size area ≡ 2) }
-{
-    let read = u64::from(page) + 1;
-    Ok(HurtArea::new(sure_area(alloc, PAGES)?, read, at, byte))
-}
-
-/// Whether the list of eight lines ends so over these areas, and the paper has a part of the whole.
-fn is_damaged<I: Area + Drop + Send, O: Area + Drop + Send>(
-    rt: &(impl Threads + Wait + Sync + AllocGlobal),
-    words: &[&str],
-    input: I,
-    output: O,
-    damaged: Cause,
-) -> Result<bool, Fail>
-    requires input { (0 < I.size input) × (I.size input ≤ 256) }
-    requires output { (0 < O.size output) × (O.size output ≤ 256) }
-{
-    let alloc = rt.alloc();
-    let deck = MemSource::new(eight_lines(alloc)?, 512, Vec::new(alloc));
-    let paper = MemSink::new(alloc, Vec::new(alloc));
-    let ended = run(rt, words, deck, paper, input, output)?;
-    Ok(
-        ended.status == 8
-            && ended.cause == Some(Refusal::Fault(damaged))
-            && eight_printed(alloc)?.starts_with(ended.paper.bytes()),
-    )
-}
-
-/// Each of two pages of each spool has this byte at `at` as it is read, in a run of its own: it then has this
-/// number, or its own where there is none, and is refused at this place.
-fn each_page_is_damaged(
-    rt: &(impl Threads + Wait + Sync + AllocGlobal + Abort),
-    at: u16,
-    byte: u8,
-    number: Option<u16>,
-    place: u16,
-) -> Result<(), Fail>
-    requires { at < 512 }
-{
-    let alloc = rt.alloc();
-    for words in COMMANDS {
-        for page in 0..2u16 {
-            let damaged = Cause::Damaged {
-                expected: page,
-                found: number.unwrap_or(page),
-                at: place,
-            };
-            let (hurt, sure) = (hurt_area(alloc, page, at, byte)?, sure_area(alloc, PAGES)?);
-            let input = is_damaged(rt, words, hurt, sure, damaged)?;
-            let (hurt, sure) = (hurt_area(alloc, page, at, byte)?, sure_area(alloc, PAGES)?);
-            let output = is_damaged(rt, words, sure, hurt, damaged)?;
-            assert!(rt; input && output, "{page} {at}");
-        }
-    }
-    Ok(())
-}
-
-// Both pages hold more than one item, and neither is full.
-#[test]
-fn each_place_of_a_page_may_be_damaged(rt: HostRuntime) -> Result<(), Fail> {
-    each_page_is_damaged(&rt, 1, 9, Some(9), 0)?;
-    each_page_is_damaged(&rt, 2, 2, None, 2)?;
-    each_page_is_damaged(&rt, 3, 1, None, 3)?;
-    each_page_is_damaged(&rt, 4, 3, None, 4)?;
-    each_page_is_damaged(&rt, 7, 127, None, 6)?;
-    each_page_is_damaged(&rt, 511, 1, None, 511)
 }

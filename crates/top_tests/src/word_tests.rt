@@ -1,13 +1,13 @@
-use crate::words::{Command, command_of};
+// The command that words are.
+
+use crate::running::words_of;
+use solo_cli::{Command, command_of};
 use std::alloc::Global;
 use std::test::Fail;
 
 /// The command that these words are.
 fn command(alloc: Global, texts: &[&str]) -> Result<Option<Command>, Fail> {
-    let mut words = Vec::new(alloc);
-    for text in texts {
-        words.push(String::from_str(alloc, text)?)?;
-    }
+    let words = words_of(alloc, texts)?;
     Ok(command_of(words.as_slice()))
 }
 
@@ -20,45 +20,51 @@ fn is_each_form(
     asked: Command,
 ) -> Result<bool, Fail> {
     let joined = format!(in alloc; "{option}={digits}")?;
+    let joined = joined.as_str();
     let asked = Some(asked);
     Ok(
         command(alloc, &[word, option, digits])? == asked
             && command(alloc, &[option, digits, word])? == asked
-            && command(alloc, &[word, joined.as_str()])? == asked
-            && command(alloc, &[joined.as_str(), word])? == asked,
+            && command(alloc, &[word, joined])? == asked
+            && command(alloc, &[joined, word])? == asked,
     )
 }
 
-/// Each written form of the core with this number.
-fn is_core(alloc: Global, digits: &str, schedule: u32) -> Result<bool, Fail> {
-    is_each_form(
-        alloc,
-        "core",
-        "--schedule",
-        digits,
-        Command::Core { schedule },
-    )
-}
+/// The schedules that digits name, and the decks.
+const SCHEDULES: [(&str, u32); 5] = [
+    ("0", 0),
+    ("7", 7),
+    ("0000000007", 7),
+    ("0000000000", 0),
+    ("2147483647", 2_147_483_647),
+];
 
-/// Each written form of the making of this deck.
-fn is_make(alloc: Global, digits: &str, number: u32) -> Result<bool, Fail> {
-    is_each_form(alloc, "make", "--number", digits, Command::Make { number })
-}
+const NUMBERS: [(&str, u32); 3] = [("0", 0), ("0000000007", 7), ("50000", 50_000)];
 
 #[test]
 fn each_written_form_is_a_command(rt: HostRuntime) -> Result<(), Fail> {
     let alloc = rt.alloc();
-    assert_eq!(rt; command(alloc, &["batch"])?, Some(Command::Batch));
-    assert_eq!(rt; command(alloc, &["format"])?, Some(Command::Format));
-    assert_eq!(rt; command(alloc, &["migrate"])?, Some(Command::Migrate));
-    assert!(rt; is_core(alloc, "0", 0)?);
-    assert!(rt; is_core(alloc, "7", 7)?);
-    assert!(rt; is_core(alloc, "0000000007", 7)?);
-    assert!(rt; is_core(alloc, "0000000000", 0)?);
-    assert!(rt; is_core(alloc, "2147483647", 2_147_483_647)?);
-    assert!(rt; is_make(alloc, "0", 0)?);
-    assert!(rt; is_make(alloc, "0000000007", 7)?);
-    assert!(rt; is_make(alloc, "50000", 50_000)?);
+    for (word, asked) in [
+        ("batch", Command::Batch),
+        ("format", Command::Format),
+        ("migrate", Command::Migrate),
+    ] {
+        assert_eq!(rt; command(alloc, &[word])?, Some(asked));
+    }
+    for (digits, schedule) in SCHEDULES {
+        let asked = Command::Core { schedule };
+        assert!(rt;
+            is_each_form(alloc, "core", "--schedule", digits, asked)?,
+            "{digits}"
+        );
+    }
+    for (digits, number) in NUMBERS {
+        let asked = Command::Make { number };
+        assert!(rt;
+            is_each_form(alloc, "make", "--number", digits, asked)?,
+            "{digits}"
+        );
+    }
     Ok(())
 }
 

@@ -1,6 +1,7 @@
 // Decks with programs, and the papers that the rules of the language give them.
-use crate::tests::{batch, run};
+use crate::running::{Setting, run, undisturbed};
 use std::alloc::Global;
+use std::process::Abort;
 use std::sync::Wait;
 use std::test::Fail;
 use std::thread::Threads;
@@ -140,30 +141,35 @@ const CASES: [(&str, &str); 3] = [
     ),
 ];
 
-/// The paper of a deck, on threads and under a schedule, however the deck is cut.
+/// Whether these words print this paper of a deck that comes in pieces of so many bytes, and behind it what
+/// begins so.
+fn prints(
+    rt: &(impl Threads + Wait + Sync + AllocGlobal + Abort),
+    words: &[&str],
+    deck: (&str, usize),
+    paper: &str,
+    behind: &[u8],
+) -> Result<bool, Fail> {
+    let (deck, piece) = deck;
+    let setting = Setting {
+        piece,
+        ..undisturbed(deck.as_bytes())
+    };
+    let came = run(rt, words, setting)?;
+    Ok(came.has(paper.as_bytes(), behind))
+}
+
+/// Whether the deck has this paper, on threads and under a schedule, however the deck is cut.
 fn has_paper(
-    rt: &(impl Threads + Wait + Sync + AllocGlobal),
+    rt: &(impl Threads + Wait + Sync + AllocGlobal + Abort),
     deck: &str,
     paper: &str,
 ) -> Result<bool, Fail> {
-    let whole = batch(rt, deck.as_bytes(), 512, &[], &[])?;
-    let cut = batch(rt, deck.as_bytes(), 7, &[], &[])?;
-    let core = run(
-        rt,
-        &["core", "--schedule", "7"],
-        deck.as_bytes(),
-        512,
-        &[],
-        &[],
-    )?;
-    Ok(
-        whole.status == 0
-            && whole.paper.bytes() == paper.as_bytes()
-            && cut.status == 0
-            && cut.paper.bytes() == paper.as_bytes()
-            && core.status == 0
-            && core.paper.bytes().starts_with(paper.as_bytes()),
-    )
+    let whole = prints(rt, &["batch"], (deck, 512), paper, b"")?;
+    let cut = prints(rt, &["batch"], (deck, 7), paper, b"")?;
+    let words = &["core", "--schedule", "7"];
+    let core = prints(rt, words, (deck, 512), paper, b"COUNTS: ")?;
+    Ok(whole && cut && core)
 }
 
 #[test]
@@ -190,56 +196,60 @@ fn a_branch_is_chosen_by_its_label(rt: HostRuntime) -> Result<(), Fail> {
     Ok(())
 }
 
+/// A deck whose cards are the first one, the second one so many times, and the last.
+fn repeated(
+    alloc: Global,
+    first: &str,
+    card: &str,
+    times: usize,
+    last: &str,
+) -> Result<String, Fail> {
+    let cards = card.repeat(alloc, times)?;
+    let cards = cards.as_str();
+    Ok(format!(in alloc; "{first}\n{cards}{last}")?)
+}
+
+/// A card of 80 characters.
+fn card(alloc: Global, character: &str) -> Result<String, Fail> {
+    let characters = character.repeat(alloc, 80)?;
+    let characters = characters.as_str();
+    Ok(format!(in alloc; "{characters}\n")?)
+}
+
+/// Whether a batch gives the deck this paper.
+fn is_printed(
+    rt: &(impl Threads + Wait + Sync + AllocGlobal + Abort),
+    deck: &str,
+    paper: &str,
+) -> Result<bool, Fail> {
+    prints(rt, &["batch"], (deck, 512), paper, b"")
+}
+
 /// A program that adds 4,095 ones to a one: its code would have four instructions, and two for each of them.
 #[test]
 fn a_code_over_8192_instructions_is_refused(rt: HostRuntime) -> Result<(), Fail> {
-    let mut deck = b"#JOB ADD\nVAR X: INTEGER;\nBEGIN X := 1\n".to_vec(rt.alloc())?;
-    let card = b"+1".repeat(rt.alloc(), 39)?;
-    for _ in 0..105 {
-        deck.extend_from_slice(card.as_slice())?;
-        deck.push(b'\n')?;
-    }
-    deck.extend_from_slice(b"END.\n")?;
-    let ended = batch(&rt, deck.as_slice(), 512, &[], &[])?;
-    assert_eq!(rt; ended.status, 0);
-    assert_eq!(rt;
-        ended.paper.bytes(),
-        b"JOB ADD\nADD: CODE LIMIT\n".as_slice()
-    );
+    let first = "#JOB ADD\nVAR X: INTEGER;\nBEGIN X := 1";
+    let card = "+1+1+1+1+1+1+1+1+1+1+1+1+1+1+1+1+1+1+1+1+1+1+1+1+1+1+1+1+1+1+1+1+1+1+1+1+1+1+1\n";
+    let deck = repeated(rt.alloc(), first, card, 105, "END.\n")?;
+    let paper = "JOB ADD\nADD: CODE LIMIT\n";
+    assert!(rt; is_printed(&rt, deck.as_str(), paper)?);
     Ok(())
-}
-
-/// A program whose cards are the first one, and then the second one so many times.
-fn repeated(alloc: Global, first: &[u8], card: &[u8], times: u32) -> Result<Vec<u8>, Fail> {
-    let mut deck = b"#JOB A\n".to_vec(alloc)?;
-    deck.extend_from_slice(first)?;
-    for _ in 0..times {
-        deck.push(b'\n')?;
-        deck.extend_from_slice(card)?;
-    }
-    Ok(deck)
 }
 
 #[test]
 fn sixteen_megabytes_of_blanks_are_no_program(rt: HostRuntime) -> Result<(), Fail> {
-    let deck = repeated(rt.alloc(), b"", [b' '; 80].as_slice(), 207_000)?;
-    let ended = batch(&rt, deck.as_slice(), 512, &[], &[])?;
-    assert_eq!(rt; ended.status, 0);
-    assert_eq!(rt;
-        ended.paper.bytes(),
-        b"JOB A\nA: SYNTAX ERROR IN LINE 207002\n".as_slice()
-    );
+    let card = card(rt.alloc(), " ")?;
+    let deck = repeated(rt.alloc(), "#JOB A\n", card.as_str(), 207_000, "")?;
+    let paper = "JOB A\nA: SYNTAX ERROR IN LINE 207002\n";
+    assert!(rt; is_printed(&rt, deck.as_str(), paper)?);
     Ok(())
 }
 
 #[test]
 fn ten_thousand_parentheses_are_refused(rt: HostRuntime) -> Result<(), Fail> {
-    let deck = repeated(rt.alloc(), b"BEGIN WRITEINT(", [b'('; 80].as_slice(), 125)?;
-    let ended = batch(&rt, deck.as_slice(), 512, &[], &[])?;
-    assert_eq!(rt; ended.status, 0);
-    assert_eq!(rt;
-        ended.paper.bytes(),
-        b"JOB A\nA: SYNTAX ERROR IN LINE 2\n".as_slice()
-    );
+    let (first, card) = ("#JOB A\nBEGIN WRITEINT(", card(rt.alloc(), "(")?);
+    let deck = repeated(rt.alloc(), first, card.as_str(), 125, "")?;
+    let paper = "JOB A\nA: SYNTAX ERROR IN LINE 2\n";
+    assert!(rt; is_printed(&rt, deck.as_str(), paper)?);
     Ok(())
 }
