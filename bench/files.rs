@@ -1,4 +1,4 @@
-//! Keeps the files of files_bench in a directory, one file each, with the same appends and look-ups, and prints the same counts
+//! Keeps the files of `solo_bench files` in a directory, one file each, with the same appends and look-ups, and prints the same counts
 //! of calls.
 use std::fs::{File, OpenOptions, create_dir, metadata, read_dir};
 use std::io::{Result, Write};

@@ -1,4 +1,4 @@
-//! Runs the loop of `machine_bench` in a plain interpreter: an enum of instructions, a vector of words and one of
+//! Runs the loop of `solo_bench machine` in a plain interpreter: an enum of instructions, a vector of words and one of
 //! operands. It tests what the stack machine's table tests: the stack's height, the words' places, the range of results
 //! and the limit of ticks.
 use std::time::Instant;

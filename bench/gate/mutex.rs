@@ -1,4 +1,4 @@
-//! What `gate_bench` measures, with std's Mutex and Condvar in place of a gate.
+//! What `solo_bench gate` measures, with std's Mutex and Condvar in place of a gate.
 use std::hint::black_box;
 use std::sync::{Condvar, Mutex};
 use std::thread;

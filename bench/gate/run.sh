@@ -5,15 +5,15 @@ here=$(cd "$(dirname "$0")" && pwd)
 entries=${1:-1000000}
 items=${2:-1000000}
 chained=${3:-100000}
-cd "$here/../../crates/gate_bench" || exit 1
-[ -x out/gate_bench ] || rt run -- 1000 1000 1000 >/dev/null 2>&1 || exit 1
+cd "$here/../../crates/solo_bench" || exit 1
+[ -x out/solo_bench ] || rt run -- all >/dev/null 2>&1 || exit 1
 work=$(mktemp -d)
 trap 'rm -rf "$work"' EXIT
 rustc --edition 2021 -O -o "$work/mutex" "$here/mutex.rs" || exit 1
 
 for processors in 0-3 0,1; do
     for _ in 1 2 3; do
-        taskset -c "$processors" ./out/gate_bench "$entries" "$items" "$chained" 2>&1 >/dev/null | sed 's/^/gate /'
+        taskset -c "$processors" ./out/solo_bench gate "$entries" "$items" "$chained" 2>&1 >/dev/null | sed 's/^/gate /'
         taskset -c "$processors" "$work/mutex" "$entries" "$items" "$chained" 2>&1 | sed 's/^/std /'
     done | awk -v processors="$processors" -v entries="$entries" -v items="$items" -v chained="$chained" '
         { key = $1 " " $2; if (!(key in least) || $3 < least[key]) least[key] = $3 }
