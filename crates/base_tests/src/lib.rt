@@ -1,5 +1,7 @@
-//! Tests of lines, lists of lines and identifiers: what no clause says of them, or says in other words.
+//! Tests of lines, lists of lines, identifiers and arguments: what no clause says of them, or says in other words.
 #![tactic(auto)]
 
+#[cfg(test)]
+mod arguments;
 #[cfg(test)]
 mod lines;

@@ -1,23 +1,10 @@
--- The digits of a number print, and are few.
-use Rattle.std.proofs.Common.{◌≡◌, ℕ, ◌+◌, ◌<◌, ◌≤◌, ◌%◌, ◌^◌, List, [], ◌∷◌, ◌++◌, length, true, arith, refl}
-use Rattle.std.specs.List.{list_all}
+-- How many digits a number has.
+use Rattle.std.proofs.Common.{ℕ, ◌+◌, ◌/◌, ◌<◌, ◌≤◌, ◌^◌, List, ◌++◌, length, length-append, arith}
 use Rattle.std.specs.Fmt.{decimal}
-use Rattle.std.proofs.lemmas.Fmt.{decimal_by_steps, length-decimal-le}
-use Rattle.std.proofs.lemmas.List.Folds.{list_all-append}
-use Rattle.std.proofs.lemmas.Bool.Decides.{nat_tests}
-use Rattle.solo_base.specs.Line.{is_printable}
+use Rattle.std.proofs.lemmas.Fmt.{length-decimal-le}
 
-digit : (d : ℕ) → d < 10 → is_printable (48 + d) ≡ true
-digit d small = grind (arith, nat_tests)
-
-one_digit : (n : ℕ) → n < 10 → list_all is_printable ((48 + n) ∷ []) ≡ true
-one_digit n small = rw (digit n small) refl
-
-one_more : (n : ℕ) (ds : List ℕ) → 10 ≤ n → list_all is_printable ds ≡ true → list_all is_printable (ds ++ ((48 + n % 10) ∷ [])) ≡ true
-one_more n ds big h = let last : n % 10 < 10 = omega arith in rw (list_all-append is_printable ds ((48 + n % 10) ∷ []), h, digit (n % 10) last) refl
-
-pub list_all-decimal : (n : ℕ) → n < 2 ^ 64 → list_all is_printable (decimal n) ≡ true
-list_all-decimal = decimal_by_steps (λ n ds. list_all is_printable ds ≡ true) one_digit one_more
-
-pub length-decimal : (n : ℕ) → n < 2 ^ 32 → length (decimal n) ≤ 10
-length-decimal n small = length-decimal-le 10 n (omega arith) (omega arith) (omega arith)
+-- a line with room for ten digits has room for the last of them
+pub few_before : (line : List ℕ) (n : ℕ) → n < 2 ^ 32 → length line + 10 ≤ 132 → length (line ++ decimal (n / 10)) < 132
+few_before line n small room =
+    let few : length (decimal (n / 10)) ≤ 9 = length-decimal-le 9 (n / 10) (omega arith) (omega arith) (omega arith) in
+    rw (length-append line (decimal (n / 10))) (omega arith)

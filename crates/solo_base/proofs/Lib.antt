@@ -2,3 +2,4 @@ mod Decimals
 mod Trimming
 mod Cuts
 mod Names
+mod Copies

@@ -6,6 +6,7 @@ pub mod Ident
 pub mod Card
 pub mod PageBytes
 pub mod Arithmetic
+pub mod Arguments
 pub mod Interface
 pub mod Replies
 pub mod Fits

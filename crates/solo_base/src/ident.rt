@@ -1,7 +1,9 @@
-ghost use Rattle.std.specs.Prelude.{◌≡◌, ◌≤◌, ℕ, List, length, map, IsTrue};
+ghost use Rattle.std.specs.Prelude.{◌≡◌, ◌≤◌, ℕ, List, length, map, IsTrue, true, unsigned_abs};
 ghost use Rattle.std.specs.List.{list_all};
 ghost use Rattle.solo_base.specs.Line.{is_printable};
+ghost use Rattle.solo_base.specs.Arithmetic.{is_byte, are_bytes};
 ghost use Rattle.solo_base.specs.Blanks.{trimmed};
+ghost use Rattle.solo_base.specs.Arguments.{name_words, word_name};
 ghost use Rattle.solo_base.specs.Ident.{identifier, is_name, is_letter, is_letter_or_digit, capital, padded, IsIdent};
 
 use crate::trim_end;
@@ -39,6 +41,32 @@ impl Ident {
         Some(Ident {
             bytes: padded(bytes),
         })
+    }
+
+    /// The identifier that the words of a program's call spell, small letters read as capitals and the
+    /// blanks at their end left out. `None` where a word is no byte, or the bytes are no identifier.
+    pub fn of_words(words: &[i16; IDENT_LENGTH]) -> Option<Ident>
+        ensures { result ≡ word_name words.now }
+    {
+        if !are_bytes(words) {
+            return None;
+        }
+        let mut bytes = [0; IDENT_LENGTH];
+        for place in 0..IDENT_LENGTH {
+            bytes[place] = low_byte(words[place]);
+        }
+        Ident::of(trim_end(&bytes))
+    }
+
+    /// The words by which a program's call names it: the 12 characters, one a word.
+    pub fn words(&self) -> [i16; IDENT_LENGTH]
+        ensures { result ≡ name_words self.now }
+    {
+        let mut words = [0; IDENT_LENGTH];
+        for place in 0..IDENT_LENGTH {
+            words[place] = i16::from(self.bytes[place]);
+        }
+        words
     }
 
     /// The 12 characters.
@@ -98,6 +126,20 @@ fn all_letters_or_digits(bytes: &[u8]) -> bool
     ensures { result ≡ list_all is_letter_or_digit bytes.now }
 {
     bytes.iter().all(|byte| is_letter_or_digit(*byte))
+}
+
+/// Whether each of the words is a byte.
+fn are_bytes(words: &[i16]) -> bool
+    ensures { result ≡ are_bytes words.now }
+{
+    words.iter().all(|word| 0 <= *word && *word <= 255)
+}
+
+/// The byte that a word is, where it is one.
+fn low_byte(word: i16) -> u8
+    ensures { is_byte word ≡ true → result ≡ unsigned_abs word }
+{
+    u8::try_from(word).unwrap_or(0)
 }
 
 /// The bytes in capitals, with blanks behind them.

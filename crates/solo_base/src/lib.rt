@@ -2,6 +2,7 @@
 //! cards, identifiers, pages, calls of a program and what they take and give, and how a process ends.
 #![tactic(auto)]
 
+mod arg_list;
 mod blanks;
 mod ident;
 mod interface;
@@ -13,6 +14,7 @@ mod outcome;
 mod page;
 mod system_call;
 
+pub use arg_list::{ARG_LIMIT, ArgList};
 pub use blanks::trim_end;
 pub use ident::{IDENT_LENGTH, Ident, capital, is_letter, is_letter_or_digit};
 pub use interface::{CallRow, Procedure, call_row};
@@ -20,6 +22,6 @@ pub use item::{CARD_LENGTH, Feed, Item};
 pub use line::{LINE_LENGTH, Line, NUMBER_LENGTH, all_printable, is_printable};
 pub use line_list::LineList;
 pub use no_memory::NoMemory;
-pub use outcome::{BufferNo, Cause, Outcome, ProcNo, ProgResult, Side};
+pub use outcome::{BufferNo, Cause, Outcome, ProcNo, ProgResult, Side, line_word};
 pub use page::{PAGE_LENGTH, Page, number_at};
 pub use system_call::{Arg, SysCall, SysReply};

@@ -4,7 +4,6 @@ ghost use Rattle.solo_base.specs.Line.{is_printable, line_of, IsLine};
 ghost use Rattle.std.specs.Fmt.{decimal};
 
 use arrayvec::ArrayVec;
-use itoa::Buffer;
 use std::marker::Model;
 
 /// How many characters a line holds at most.
@@ -118,7 +117,11 @@ impl Line {
         requires { length self.old + NUMBER_LENGTH ≤ LINE_LENGTH }
         ensures { self.new ≡ self.old ++ decimal number }
     {
-        let mut digits = Buffer::new();
-        self.append(digits.format(number).as_bytes());
+        if number < 10 {
+            self.push(b'0' + number as u8);
+            return;
+        }
+        self.append_number(number / 10);
+        self.push(b'0' + (number % 10) as u8);
     }
 }

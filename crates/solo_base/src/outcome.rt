@@ -1,3 +1,6 @@
+ghost use Rattle.std.specs.Prelude.{◌≡◌, pos};
+ghost use Rattle.solo_base.specs.Arguments.{result_number, line_number};
+
 /// A process of a batch or of Solo, by its number, from 1.
 pub type ProcNo = u8;
 
@@ -21,6 +24,30 @@ pub enum ProgResult {
     CodeLimit,
     TimeLimit,
     CallError,
+}
+
+impl ProgResult {
+    /// The number by which a program is told how another ended: 0 to 6, in the order of the variants.
+    pub fn number(self) -> i16
+        ensures { result ≡ pos (result_number self) }
+    {
+        match self {
+            ProgResult::Terminated => 0,
+            ProgResult::Overflow => 1,
+            ProgResult::RangeError => 2,
+            ProgResult::StackLimit => 3,
+            ProgResult::CodeLimit => 4,
+            ProgResult::TimeLimit => 5,
+            ProgResult::CallError => 6,
+        }
+    }
+}
+
+/// The line in which a program ended, as a word: a line over 32767 is told as 32767.
+pub fn line_word(line: u32) -> i16
+    ensures { result ≡ pos (line_number line) }
+{
+    i16::try_from(line).unwrap_or(i16::MAX)
 }
 
 /// How a process ends: its work done, with a fault of its own, or since another process stopped a

@@ -1,8 +1,9 @@
 use crate::{Ident, Page};
 
 /// An argument of a program or of a command.
-#[derive(Clone, Copy, Debug)]
+#[derive(Clone, Copy, Debug, Default)]
 pub enum Arg {
+    #[default]
     Nil,
     Bool(bool),
     Int(i16),
