@@ -3,3 +3,4 @@ mod Trimming
 mod Cuts
 mod Names
 mod Copies
+mod Found

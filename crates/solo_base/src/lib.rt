@@ -12,6 +12,7 @@ mod line_list;
 mod no_memory;
 mod outcome;
 mod page;
+mod search;
 mod system_call;
 
 pub use arg_list::{ARG_LIMIT, ArgList};
@@ -24,4 +25,5 @@ pub use line_list::LineList;
 pub use no_memory::NoMemory;
 pub use outcome::{BufferNo, Cause, Outcome, ProcNo, ProgResult, Side, line_word};
 pub use page::{PAGE_LENGTH, Page, number_at};
+pub use search::first_place;
 pub use system_call::{Arg, SysCall, SysReply};

@@ -1,10 +1,12 @@
 -- Where a text is cut into lines.
 use Rattle.std.proofs.Common.{◌≡◌, ℕ, ◌+◌, ◌<◌, ◌≤◌, List, [], ◌∷◌, ◌++◌, length, zero, suc, subst, take, drop, drop-cons, add-one, refl, ap, append_assoc, length-append, ◌∙◌, sym, arith, Bool, true, false}
-use Rattle.std.specs.Prelude.{◌&&◌, ◌==◌, nat_le, slice_index, map}
-use Rattle.std.specs.List.{list_all}
+use Rattle.std.specs.Prelude.{◌&&◌, ◌==◌, not, nat_le, slice_index, map}
+use Rattle.std.specs.List.{list_all, position_or_len}
 use Rattle.std.proofs.lemmas.Bool.Decides.{nat_tests}
 use Rattle.std.proofs.lemmas.List.{take-append-drop, take_all, length-take-le}
 use Rattle.std.proofs.lemmas.List.Folds.{list_all-append}
+use Rattle.std.proofs.lemmas.List.Sums.{fails_before_first, passes_at_first, prefix_len-le-length}
+use Rattle.std.proofs.lemmas.Bool.{true≢false}
 use Rattle.solo_base.specs.Card.{lines, before_lines, card_of, cards, without_return}
 use Rattle.solo_base.specs.declared.item.Item.TheVariants.{Spoiled}
 use Rattle.solo_devices.specs.CardUnit.{goes_on, IsPartial}
@@ -111,3 +113,20 @@ cards-first bytes n below none is more =
     let end : slice_index bytes n ≡ 10 = code_of (slice_index bytes n) 10 is in
     let whole : bytes ≡ take n bytes ++ 10 ∷ drop (n + 1) bytes = apart_at bytes n below ∙ ap (λ code. take n bytes ++ code ∷ drop (n + 1) bytes) end in
     ap (λ all. cards (all ++ more)) whole ∙ cards-line (take n bytes) (drop (n + 1) bytes) more (partial_before bytes n (omega arith) none)
+
+-- before the first line feed there is none
+before_first_feed : (bytes : List ℕ) (k : ℕ) → k < position_or_len (λ code. code == 10) bytes → slice_index bytes k == 10 ≡ true → ⊥
+before_first_feed bytes k below is = true≢false (sym is ∙ fails_before_first (λ code. code == 10) bytes k 0 below)
+
+-- bytes in which no line feed was found
+pub partial_nowhere : (bytes : List ℕ) (n : ℕ) → n ≡ position_or_len (λ code. code == 10) bytes → n ≡ length bytes → IsPartial bytes
+partial_nowhere bytes n found all = partial_all bytes (λ k below. before_first_feed bytes k (omega (arith, found, all, below)))
+
+-- the first line of bytes in which a line feed was found
+pub cards-found : (bytes : List ℕ) (n : ℕ) → n ≡ position_or_len (λ code. code == 10) bytes → (n ≡ length bytes → ⊥)
+    → (more : List ℕ) → cards (bytes ++ more) ≡ card_of (take n bytes) ∷ cards (drop (n + 1) bytes ++ more)
+cards-found bytes n found other =
+    let within : n ≤ length bytes = omega (arith, found, prefix_len-le-length (λ code. not (code == 10)) bytes) in
+    let inside : n < length bytes = omega (arith, within, other) in
+    cards-first bytes n inside (λ k below. before_first_feed bytes k (omega (arith, found, below)))
+    (rw found (passes_at_first (λ code. code == 10) bytes 0 (omega (arith, found, inside))))

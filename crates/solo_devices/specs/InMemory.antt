@@ -1,4 +1,5 @@
--- The calls of each device in memory.
+-- The calls of each device in memory, and what it was made with.
+use Rattle.std.specs.Prelude.{ℕ}
 use Rattle.solo_devices.specs.FailingCalls.{Calls}
 use Rattle.solo_devices.specs.declared.mem_area.MemArea.{MemArea}
 use Rattle.solo_devices.specs.declared.mem_sink.MemSink.{MemSink}
@@ -16,3 +17,7 @@ takes source = source.takes
 
 abbrev pub gives : MemSink → Calls
 gives sink = sink.gives
+
+-- how many bytes a source gives at most in a call
+abbrev pub piece_length : MemSource → ℕ
+piece_length source = source.source.piece

@@ -2,6 +2,8 @@ pub use Rattle.solo_base.specs.Text
 pub use Rattle.solo_base.specs.Card
 pub mod Count
 pub mod FailingCalls
+pub mod Sure
+pub mod HurtArea
 pub mod InMemory
 pub mod Source
 pub mod Sink
@@ -9,4 +11,3 @@ pub mod Area
 pub mod CardUnit
 pub mod Reader
 pub mod PrinterUnit
-pub mod HurtArea

@@ -1,4 +1,4 @@
-ghost use Rattle.std.specs.Prelude.{◌≡◌, ◌≢◌, ◌<◌, ◌≤◌, ◌↔◌, ℕ, List, [], ◌++◌, length, true};
+ghost use Rattle.std.specs.Prelude.{◌≡◌, ◌≢◌, ◌+◌, ◌<◌, ◌≤◌, ◌↔◌, ℕ, List, [], ◌++◌, length, true};
 ghost use Rattle.solo_base.specs.declared.item.Item.{Item};
 ghost use Rattle.solo_devices.specs.Count.{Rose};
 ghost use Rattle.solo_devices.specs.CardUnit.{IsPartial, StandsFor, GivesNext, IsAllTaken, bytes_total, items_ahead, item_of, byte_limit, work_ahead, fresh_unit};
@@ -73,6 +73,7 @@ impl<S: Source> CardUnit<S> {
         ensures failed { result ≡ CardRead.Failed → Rose (S.faults self.old.source) (S.faults self.new.source) }
         ensures counts { S.faults self.old.source ≤ S.faults self.new.source }
         ensures limit { (result ≡ CardRead.Limit) ↔ (byte_limit < S.taken self.new.source) }
+        ensures most { S.taken self.new.source ≤ byte_limit + 512 }
         ensures live { result ≢ CardRead.Failed → result ≢ CardRead.Limit → self.new.live ≡ true }
 
         // What a source that tells its bytes had in all is what was taken of it and what is left.

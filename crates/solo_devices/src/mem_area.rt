@@ -66,6 +66,9 @@ impl Area for MemArea {
         ensures fails { (result ≡ Moved.Failed) ↔ FailsNext (reads self.old) }
         ensures counted { reads self.new ≡ one_more (reads self.old) }
         ensures apart { writes self.new ≡ writes self.old }
+        // A call that is done counts no fault.
+        ensures done { result ≡ Moved.Done
+            → ⟦<MemArea as Area>⟧.faults self.new ≡ ⟦<MemArea as Area>⟧.faults self.old }
         // As the trait says.
         ensures page { ReadsFrom (⟦<MemArea as Area>⟧.pages self.old) (⟦<MemArea as Area>⟧.pages self.new) n result page.new.0 }
         ensures size { ⟦<MemArea as Area>⟧.size self.new ≡ ⟦<MemArea as Area>⟧.size self.old }
@@ -86,6 +89,9 @@ impl Area for MemArea {
         ensures fails { (result ≡ Moved.Failed) ↔ FailsNext (writes self.old) }
         ensures counted { writes self.new ≡ one_more (writes self.old) }
         ensures apart { reads self.new ≡ reads self.old }
+        // A call that is done counts no fault.
+        ensures done { result ≡ Moved.Done
+            → ⟦<MemArea as Area>⟧.faults self.new ≡ ⟦<MemArea as Area>⟧.faults self.old }
         // As the trait says.
         ensures page { Writes (⟦<MemArea as Area>⟧.pages self.old) (⟦<MemArea as Area>⟧.pages self.new) n result page.now.0 }
         ensures size { ⟦<MemArea as Area>⟧.size self.new ≡ ⟦<MemArea as Area>⟧.size self.old }

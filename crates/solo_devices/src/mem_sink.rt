@@ -1,4 +1,4 @@
-ghost use Rattle.std.specs.Prelude.{◌≡◌, ◌↔◌, Some, []};
+ghost use Rattle.std.specs.Prelude.{◌≡◌, ◌≢◌, ◌↔◌, Some, []};
 ghost use Rattle.solo_devices.specs.FailingCalls.{FailsNext, fresh_calls, one_more};
 ghost use Rattle.solo_devices.specs.InMemory.{gives};
 ghost use Rattle.solo_devices.specs.Sink.{GivesTo, FitsPiece, CountsFaults};
@@ -53,6 +53,9 @@ impl Sink for MemSink {
         // A call whose number is listed fails, and no other.
         ensures fails { (result ≡ Gave.Failed) ↔ FailsNext (gives self.old) }
         ensures counted { gives self.new ≡ one_more (gives self.old) }
+        // A call that is done counts no fault.
+        ensures done { result ≢ Gave.Failed
+            → ⟦<MemSink as Sink>⟧.faults self.new ≡ ⟦<MemSink as Sink>⟧.faults self.old }
         // As the trait says.
         ensures fits { FitsPiece result piece.now }
         ensures bytes { GivesTo (⟦<MemSink as Sink>⟧.given self.old) (⟦<MemSink as Sink>⟧.given self.new) result piece.now }

@@ -1,7 +1,7 @@
-ghost use Rattle.std.specs.Prelude.{◌≡◌, ◌↔◌, ◌<◌, Some};
+ghost use Rattle.std.specs.Prelude.{◌≡◌, ◌↔◌, ◌<◌, ◌≤◌, ℕ, Some};
 ghost use Rattle.solo_devices.specs.Count.{raised};
 ghost use Rattle.solo_devices.specs.FailingCalls.{FailsNext, fresh_calls, one_more};
-ghost use Rattle.solo_devices.specs.InMemory.{takes};
+ghost use Rattle.solo_devices.specs.InMemory.{takes, piece_length};
 ghost use Rattle.solo_devices.specs.Source.{TakesFrom, FitsPiece, CountsFaults, bytes_taken};
 
 use crate::failing_calls::FailingCalls;
@@ -23,6 +23,7 @@ impl MemSource {
         ensures taken { ⟦<MemSource as Source>⟧.taken result ≡ 0 }
         ensures faults { ⟦<MemSource as Source>⟧.faults result ≡ 0 }
         ensures calls { takes result ≡ fresh_calls failing.items }
+        ensures most { piece_length result ≡ piece }
     {
         MemSource {
             source: SureSource::new(bytes, piece),
@@ -50,6 +51,11 @@ impl Source for MemSource {
         // A call whose number is listed fails, and no other.
         ensures fails { (result ≡ Took.Failed) ↔ FailsNext (takes self.old) }
         ensures counted { takes self.new ≡ one_more (takes self.old) }
+        // A call that is done counts no fault, and gives no more than the source's piece.
+        ensures done { (count : ℕ) → result ≡ Took.Bytes count
+            → ⟦<MemSource as Source>⟧.faults self.new ≡ ⟦<MemSource as Source>⟧.faults self.old }
+        ensures most { bytes_taken result ≤ piece_length self.old }
+        ensures same { piece_length self.new ≡ piece_length self.old }
         // As the trait says.
         ensures fits { FitsPiece result piece.new }
         ensures bytes { TakesFrom (⟦<MemSource as Source>⟧.left self.old) (⟦<MemSource as Source>⟧.left self.new) result piece.new }

@@ -5,8 +5,7 @@ ghost use Rattle.solo_devices.specs.declared.pending.TheConstants.{PENDING_LENGT
 
 use crate::judge::judge;
 use arrayvec::ArrayVec;
-use memchr::memchr;
-use solo_base::Item;
+use solo_base::{Item, first_place};
 use std::marker::Model;
 
 /// How many bytes a unit takes at most in one call of its source.
@@ -108,6 +107,9 @@ fn first_line(bytes: &[u8]) -> Option<(Item, usize)>
     ensures within { IfSome result (λ found. (0 < found.1) × (found.1 ≤ length bytes.now)) }
     ensures partial { IfNone result (IsPartial bytes.now) }
 {
-    let end = memchr(b'\n', bytes)?;
+    let end = first_place(bytes, b'\n');
+    if end == bytes.len() {
+        return None;
+    }
     Some((judge(&bytes[..end]), end + 1))
 }

@@ -52,7 +52,8 @@ impl<S: Source> Reader<S> {
         requires within { self.old.taken ≤ byte_limit }
         requires partial { IsPartial self.old.pending }
         requires going { self.old.ended ≡ false }
-        ensures { Refills S.left S.taken S.faults self.old self.new result }
+        ensures refills { Refills S.left S.taken S.faults self.old self.new result }
+        ensures most { S.taken self.new.source ≤ S.taken self.old.source + 512 }
     {
         let mut piece = [0; PIECE_LENGTH];
         let took = self.source.take(&mut piece);

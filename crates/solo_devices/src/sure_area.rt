@@ -19,6 +19,7 @@ impl SureArea {
     pub fn new(alloc: Global, pages: u16) -> Result<SureArea, NoMemory>
         ensures pages { IfOk result (λ area. ⟦<SureArea as Area>⟧.pages area ≡ Some (replicate pages zero_page)) }
         ensures size { IfOk result (λ area. ⟦<SureArea as Area>⟧.size area ≡ pages) }
+        ensures faults { IfOk result (λ area. ⟦<SureArea as Area>⟧.faults area ≡ 0) }
     {
         let mut zeros = Vec::with_capacity(alloc, pages as usize)?;
         for _ in 0..pages {

@@ -12,7 +12,8 @@ pub struct SureSink {
 impl SureSink {
     /// A sink that was given nothing yet.
     pub fn new(alloc: Global) -> SureSink
-        ensures { ⟦<SureSink as Sink>⟧.given result ≡ Some [] }
+        ensures given { ⟦<SureSink as Sink>⟧.given result ≡ Some [] }
+        ensures faults { ⟦<SureSink as Sink>⟧.faults result ≡ 0 }
     {
         SureSink {
             bytes: Vec::new(alloc),

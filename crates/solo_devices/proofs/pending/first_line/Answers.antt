@@ -1,10 +1,9 @@
-use Rattle.std.proofs.Common.{arith}
-use Rattle.solo_devices.proofs.Cutting.{partial_all, cards-first}
+use Rattle.solo_devices.proofs.Cutting.{cards-found, partial_nowhere}
 use Rattle.solo_devices.proofs.pending.first_line.Goals as goal
 
-pub returns-in_err-end-clause-partial : goal.returns-in_err-end-clause-partial
-returns-in_err-end-clause-partial c = rw c.from_residual.ensures (partial_all c.args.bytes.now (λ k below. c.in_err-end.ensures k (omega arith) below))
+pub returns-then-end-bytes-clause-partial : goal.returns-then-end-bytes-clause-partial
+returns-then-end-bytes-clause-partial c = partial_nowhere c.args.bytes.now c.first_place-end.result c.first_place-end.ensures c.if-end-bytes.true
 
 pub returns-clause-item : goal.returns-clause-item
-returns-clause-item c = λ more.
-    rw c.judge.ensures (cards-first c.args.bytes.now c.in_ok-end.end c.in_ok-end.ensures.0.high (λ k below. c.in_ok-end.ensures.0.before k (omega arith) below) c.in_ok-end.ensures.1 more)
+returns-clause-item c =
+    rw c.judge.ensures (cards-found c.args.bytes.now c.first_place-end.result c.first_place-end.ensures c.if-end-bytes.false)
