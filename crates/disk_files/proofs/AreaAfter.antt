@@ -137,6 +137,18 @@ grown_by kept taken pages laid p below used (Ok u) now taken_now page w =
       (w.1.0, w.1.1, takes_next kept taken taken_now pages w.1.0 _ _ _ page _ laid w.1.2 indexed),
     )
 
+-- the index page of the file at a place, by its name
+pub index_named : (kept : List Entry) (taken : Pages) (pages : List (List ℕ)) → IsLaidOut kept taken pages → (p : ℕ) → p < 240
+    → (slice_index_or kept p blank_entry).kind ≢ 0 → (name : List ℕ) → (slice_index_or kept p blank_entry).name ≡ name
+    → HasIndex pages name (slice_index_or kept p blank_entry).address
+index_named kept taken pages laid p below used name named = let is = laid.entries p below in record {
+  place = p;
+  inside = below;
+  used = subst (λ e. e.kind ≢ 0) is used;
+  named = ap (λ e. e.name) (sym is) ∙ named;
+  address = ap (λ e. e.address) (sym is);
+}
+
 pub file_length_at : (pages : List (List ℕ)) (e : Entry) → length (file_at pages e).pages ≡ number_of pages e.address 0
 unfolding file_at
 file_length_at pages e = length-first_pages pages e.address (number_of pages e.address 0)

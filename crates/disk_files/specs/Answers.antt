@@ -16,6 +16,7 @@ use Rattle.disk_layout.specs.Files.{File, Files, files, free_count, page_of}
 use Rattle.disk_layout.specs.Layout.{IsLaidOut, blank_entry}
 use Rattle.disk_layout.specs.Judging.{IsKeptEntry}
 use Rattle.disk_layout.specs.Names.{IsUsed, name_at}
+use Rattle.disk_layout.specs.Writing.{PutsEntry}
 
 -- the area, the catalogue and the taken pages as they are kept in memory, and whether they are the area's
 pub record FileTable (A : Type 0) : Type 0 where
@@ -147,6 +148,25 @@ pub record StandsOpen (kept : List Entry) (name : List ℕ) : Type 0 where
   pub named : name_at kept place ≡ name
   pub unprotected : (p : ℕ) → p < 240 → IsUsed kept p → name_at kept p ≡ name
       → (slice_index_or kept p blank_entry).protection ≡ 0
+
+-- ---- What changes in the catalogue
+
+-- the entries and the taken pages that are kept in memory stay
+pub record KeepsTable {A : Type 0} (old new : FileTable A) : Type 0 where
+  pub entries : new.entries ≡ old.entries
+  pub taken : new.taken ≡ old.taken
+
+-- a file of this name stands at the place p
+pub record StandsAt (kept : List Entry) (p : ℕ) (name : List ℕ) : Type 0 where
+  pub used : IsUsed kept p
+  pub named : name_at kept p ≡ name
+
+-- an entry of this name stands at the place p then, and all others are as they were but for their search
+-- lengths
+pub record PutsFile (kept kept_now : List Entry) (p : ℕ) (name : List ℕ) : Type 0 where
+  pub new : Entry
+  pub named : new.name ≡ name
+  pub put : PutsEntry kept kept_now p new
 
 -- ---- What a file area keeps of its area
 

@@ -1,14 +1,15 @@
-ghost use Rattle.std.specs.Prelude.{◌≡◌, ◌≢◌, ℕ, ◌+◌, ◌-◌, ◌<◌, ◌≤◌, ◌==◌, ◌⊎◌, List, [], Some, Ok, Err, IsTrue, length, slice_index_or, IfErr, OnOk, false};
+ghost use Rattle.std.specs.Prelude.{◌≡◌, ◌≢◌, ℕ, ◌+◌, ◌-◌, ◌<◌, ◌≤◌, ◌==◌, ◌⊎◌, List, [], Some, Ok, Err, IsTrue, length, slice_index_or, slice_set, if◌then◌else◌, IfErr, OnOk, false};
 ghost use Rattle.std.specs.FinMap as fin;
+ghost use Rattle.disk_layout.specs.Disk.{disk_of};
 ghost use Rattle.disk_layout.specs.Format.{key_of};
 ghost use Rattle.disk_layout.specs.Layout.{blank_entry};
 ghost use Rattle.disk_layout.specs.Names.{IsUsed, name_at};
-ghost use Rattle.disk_layout.specs.Writing.{IsFirstEmpty, IsRenamed};
+ghost use Rattle.disk_layout.specs.Writing.{ClearsName, IsFirstEmpty, IsRenamed};
 ghost use Rattle.disk_layout.specs.Deleting.{pages_held};
-ghost use Rattle.disk_layout.specs.Taking.{TakesIndex, TakesNext};
-ghost use Rattle.disk_layout.specs.Files.{File, files, free_count, name_count, with_page, with_page_at, with_protection};
+ghost use Rattle.disk_layout.specs.Taking.{HasIndex, TakesIndex, TakesNext};
+ghost use Rattle.disk_layout.specs.Files.{File, files, free_count, name_count, page_of, with_page, with_page_at, with_protection};
 ghost use Rattle.disk_files.specs.declared.fault.FileFault.TheVariants.{NoFile, Exists, CatalogFull, Protected, DiskFull, FileFull, PageRange, DiskFault};
-ghost use Rattle.disk_files.specs.Answers.{Answers, Holds, Told, FaultsOnly, append_answer, create_answer, replace_answer, protect_answer, delete_answer, rename_answer, pages_needed, stays_sound, StandsOpen};
+ghost use Rattle.disk_files.specs.Answers.{Answers, Holds, Told, FaultsOnly, append_answer, create_answer, replace_answer, protect_answer, delete_answer, rename_answer, pages_needed, stays_sound, KeepsTable, PutsFile, StandsAt, StandsOpen};
 
 use crate::FileFault;
 use crate::append::append_page;
@@ -72,6 +73,10 @@ impl<A: Area> FileArea<A> {
             → fin.get (files pages) name.now ≡ Some file
             → OnOk result (Holds (A.pages self.new.area)
             (fin.insert (files pages) name.now (with_page_at file n page.now.0)) (free_count pages)) }
+        ensures place { (pages : List (List ℕ)) → A.pages self.old.area ≡ Some pages
+            → OnOk result ((index : ℕ) × HasIndex pages name.now index
+            × (A.pages self.new.area ≡ Some (slice_set pages (page_of (disk_of pages) index (n - 1)) page.now.0))) }
+        ensures kept { KeepsTable self.old self.new }
         ensures refusals { IfErr result (λ fault. (fault ≡ NoFile) ⊎ (fault ≡ Protected) ⊎ (fault ≡ PageRange)
             ⊎ (fault ≡ DiskFault)) }
         ensures refused { IfErr result (λ fault. (fault ≡ DiskFault)
@@ -110,11 +115,14 @@ impl<A: Area> FileArea<A> {
             → OnOk result (Told (A.pages self.new.area) (λ after. TakesIndex pages after name.now)) }
         ensures place { OnOk result ((p : ℕ) × IsFirstEmpty self.old.entries (key_of name.now - 1) p
             × ((slice_index_or self.new.entries p blank_entry).name ≡ name.now)) }
+        ensures puts { OnOk result ((p : ℕ) × IsFirstEmpty self.old.entries (key_of name.now - 1) p
+            × PutsFile self.old.entries self.new.entries p name.now) }
         ensures open { OnOk result (StandsOpen self.new.entries name.now) }
         ensures refusals { IfErr result (λ fault. (fault ≡ Exists) ⊎ (fault ≡ CatalogFull)
             ⊎ (fault ≡ DiskFull) ⊎ (fault ≡ DiskFault)) }
         ensures refused { IfErr result (λ fault. (fault ≡ DiskFault)
             ⊎ (A.pages self.new.area ≡ A.pages self.old.area)) }
+        ensures kept { IfErr result (λ fault. (fault ≡ DiskFault) ⊎ KeepsTable self.old self.new) }
         ensures sound { self.new.sound ≡ stays_sound result }
         ensures cause { FaultsOnly (A.faults self.old.area) (A.faults self.new.area) result }
     {
@@ -149,10 +157,14 @@ impl<A: Area> FileArea<A> {
             → fin.get (files pages) name.now ≡ Some file
             → OnOk result (Holds (A.pages self.new.area) (fin.remove (files pages) name.now)
             (free_count pages + pages_held (length file.pages))) }
+        ensures place { (pages : List (List ℕ)) → A.pages self.old.area ≡ Some pages
+            → OnOk result ((p : ℕ) × StandsAt self.old.entries p name.now
+            × ClearsName self.old.entries self.new.entries p) }
         ensures refusals { IfErr result (λ fault.
             (fault ≡ NoFile) ⊎ (fault ≡ Protected) ⊎ (fault ≡ DiskFault)) }
         ensures refused { IfErr result (λ fault. (fault ≡ DiskFault)
             ⊎ (A.pages self.new.area ≡ A.pages self.old.area)) }
+        ensures kept { IfErr result (λ fault. (fault ≡ DiskFault) ⊎ KeepsTable self.old self.new) }
         ensures sound { self.new.sound ≡ stays_sound result }
         ensures cause { FaultsOnly (A.faults self.old.area) (A.faults self.new.area) result }
     {
@@ -219,9 +231,14 @@ impl<A: Area> FileArea<A> {
             → fin.get (files pages) name.now ≡ Some file
             → OnOk result (Holds (A.pages self.new.area)
             (fin.insert (files pages) name.now (with_protection file on)) (free_count pages)) }
+        ensures place { OnOk result ((p : ℕ) × StandsAt self.old.entries p name.now
+            × (self.new.entries ≡ slice_set self.old.entries p (record (slice_index_or self.old.entries p
+            blank_entry) { protection = if on then 1 else 0 }))) }
         ensures refusals { IfErr result (λ fault. (fault ≡ NoFile) ⊎ (fault ≡ DiskFault)) }
         ensures refused { IfErr result (λ fault. (fault ≡ DiskFault)
             ⊎ (A.pages self.new.area ≡ A.pages self.old.area)) }
+        ensures kept { IfErr result (λ fault. (fault ≡ DiskFault) ⊎ KeepsTable self.old self.new) }
+        ensures taken { self.new.taken ≡ self.old.taken }
         ensures sound { self.new.sound ≡ stays_sound result }
         ensures cause { FaultsOnly (A.faults self.old.area) (A.faults self.new.area) result }
     {
@@ -240,6 +257,7 @@ impl<A: Area> FileArea<A> {
 fn protection_number(on: bool) -> u16
     ensures small { result ≤ 1 }
     ensures same { (result == 1) ≡ on }
+    ensures number { result ≡ (if on then 1 else 0) }
 {
     if on { 1 } else { 0 }
 }

@@ -7,7 +7,7 @@ ghost use Rattle.disk_layout.specs.Layout.{IsLaidOut, blank_entry};
 ghost use Rattle.disk_layout.specs.Judging.{IsKeptEntry};
 ghost use Rattle.disk_layout.specs.Taking.{TakesIndex};
 ghost use Rattle.disk_files.specs.declared.fault.FileFault.TheVariants.{DiskFault};
-ghost use Rattle.disk_files.specs.Answers.{FaultsOnly, LaidNow, StandsOpen, Stays, Told};
+ghost use Rattle.disk_files.specs.Answers.{FaultsOnly, LaidNow, PutsFile, StandsOpen, Stays, Told};
 
 use crate::FileFault;
 use crate::append::{save_map, take};
@@ -43,6 +43,7 @@ pub fn create_file<A: Area>(
         × (set.len map.new ≡ set.len map.old + 1)
         × Told (A.pages area.new) (λ after. TakesIndex pages after name)) }
     ensures places { length entries.new ≡ 240 }
+    ensures puts { OnOk result (PutsFile entries.old entries.new place name) }
     ensures named { OnOk result ((slice_index_or entries.new place blank_entry).name ≡ name) }
     ensures open { ((k : ℕ) → k < 240 → (slice_index_or entries.old k blank_entry).kind ≢ 0
         → (slice_index_or entries.old k blank_entry).name ≢ name)

@@ -8,6 +8,7 @@ ghost use Rattle.disk_layout.specs.Files.{HasPages, files};
 ghost use Rattle.disk_layout.specs.Layout.{IsLaidOut, blank_entry};
 ghost use Rattle.disk_layout.specs.Judging.{IsKeptEntry};
 ghost use Rattle.disk_layout.specs.Deleting.{given_back, without_part, without_file, pages_held};
+ghost use Rattle.disk_layout.specs.Writing.{ClearsName};
 ghost use Rattle.disk_files.specs.declared.fault.FileFault.TheVariants.{DiskFault};
 ghost use Rattle.disk_files.specs.Answers.{FaultsOnly, LaidNow, Stays};
 
@@ -38,6 +39,8 @@ pub fn delete_file<A: Area>(
         → let entry = slice_index_or entries.old place blank_entry in
         OnOk result (LaidNow (A.pages area.new) entries.new map.new (fin.remove (files pages) entry.name)
         × (set.len map.new + pages_held (number_of pages entry.address 0) ≡ set.len map.old)) }
+    ensures cleared { (pages : List (List ℕ)) → A.pages area.old ≡ Some pages
+        → IsLaidOut entries.old map.old pages → OnOk result (ClearsName entries.old entries.new place) }
     ensures places { length entries.new ≡ 240 }
     ensures kept { ((p : ℕ) → p < 240 → IsKeptEntry (slice_index_or entries.old p blank_entry))
         → (p : ℕ) → p < 240 → IsKeptEntry (slice_index_or entries.new p blank_entry) }

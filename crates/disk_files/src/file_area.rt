@@ -1,9 +1,10 @@
-ghost use Rattle.std.specs.Prelude.{◌≡◌, ℕ, ◌-◌, ◌≤◌, ◌==◌, ◌⊎◌, List, [], Some, Ok, Err, IsTrue, length, slice_index_or, IfErr, IfOk, IsOk, OnOk, MatchResult, true};
+ghost use Rattle.std.specs.Prelude.{◌≡◌, ℕ, ◌+◌, ◌-◌, ◌≤◌, ◌==◌, ◌⊎◌, List, [], Some, Ok, Err, IsTrue, length, slice_index_or, IfErr, IfOk, IsOk, OnOk, MatchResult, true};
 ghost use Rattle.std.specs.Option.{option_copied};
 ghost use Rattle.std.specs.FinMap as fin;
 ghost use Rattle.disk_layout.specs.Disk.{number_of};
 ghost use Rattle.disk_layout.specs.Format.{IsAddress, IsSoloDisk};
 ghost use Rattle.disk_layout.specs.Names.{IsNameAfter};
+ghost use Rattle.disk_layout.specs.Held.{held_by_all, pages_of_files};
 ghost use Rattle.disk_layout.specs.Files.{File, files, free_count, name_count, kind_of};
 ghost use Rattle.disk_files.specs.declared.fault.FileFault.TheVariants.{NoFile, PageRange, DiskFault};
 ghost use Rattle.disk_files.specs.Answers.{FileTable, RefusesMount, MayRefuseMount, Answers, after_reading, FaultsOnly, lookup_answer, read_answer};
@@ -109,6 +110,8 @@ impl<A: Area> FileArea<A> {
         requires { IsTrue self.now.sound }
         ensures count { (pages : List (List ℕ)) → A.pages self.now.area ≡ Some pages
             → result ≡ free_count pages }
+        ensures files { (pages : List (List ℕ)) → A.pages self.now.area ≡ Some pages
+            → result + held_by_all (files pages) ≡ pages_of_files }
         ensures few { result ≤ AREA_PAGES }
     {
         self.map.free()

@@ -19,6 +19,7 @@ pub mod NotedIndexes
 pub mod LeastBad
 pub mod FirstPage
 pub mod TakenPages
+pub mod FreePages
 pub mod Law
 pub mod Owner
 pub mod SoloDisk

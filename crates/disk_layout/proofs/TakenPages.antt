@@ -23,7 +23,7 @@ pub past_remove : (taken : Pages) (k : ℕ) → NonePast taken → NonePast (set
 past_remove taken k none n past = remove_is taken k n ∙ ap (λ b. not (n == k) && b) (none n past) ∙ and_false (not (n == k))
 
 -- those below a bound that pass a test and those that don't are as many as the bound
-both_counted : (test : ℕ → Bool) (n : ℕ) → set.len (passing_below test n) + count_below (λ k. not (test k)) n ≡ n
+pub both_counted : (test : ℕ → Bool) (n : ℕ) → set.len (passing_below test n) + count_below (λ k. not (test k)) n ≡ n
 unfolding count_below
 both_counted test zero = omega (arith, len_none test)
 both_counted test (suc n) = one_more (test n) refl (both_counted test n)

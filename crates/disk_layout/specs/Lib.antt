@@ -9,6 +9,7 @@ pub mod Layout
 pub mod Appending
 pub mod Writing
 pub mod Deleting
+pub mod Held
 pub mod Names
 pub mod Taking
 pub mod Judging

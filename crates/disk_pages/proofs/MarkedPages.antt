@@ -43,7 +43,7 @@ module _ (test : ℕ → Bool) where
     | inr apart ↦ ap (λ b. b && test q) (sym (lt_suc q n ∙ ap (λ b. b || nat_lt q n) (ne_eqb q n apart)))
   ]
 
-  contains-passing_below : (n q : ℕ) → set.contains (passing_below test n) q ≡ (nat_lt q n && test q)
+  pub contains-passing_below : (n q : ℕ) → set.contains (passing_below test n) q ≡ (nat_lt q n && test q)
   unfolding passing_below
   contains-passing_below zero q = contains-empty nat_cmp q ∙ ap (λ b. b && test q) (sym (le-ltb q 0 (omega arith)))
   contains-passing_below (suc n) q =

@@ -36,3 +36,6 @@ pub returns-clause-open : goal.returns-clause-open
 returns-clause-open g c = λ fresh.
     always c.save_map.result _ (open_put c.args.entries.now c.put_name.new.entries c.args.place _ c.put_name.ensures.stands c.requires.place
     c.number.ensures.some refl fresh)
+
+pub returns-clause-puts : goal.returns-clause-puts
+returns-clause-puts g c = always c.save_map.result _ (record { new = _; named = refl; put = c.put_name.ensures.stands })

@@ -1,6 +1,6 @@
 use Rattle.std.proofs.Common.{◌∙◌, arith}
 use Rattle.disk_layout.proofs.Lookups.{has_pages}
-use Rattle.disk_files.proofs.Numbers.{on_ok}
+use Rattle.disk_files.proofs.Numbers.{always, on_ok}
 use Rattle.disk_files.proofs.Renames.{deleted_now, key_last, key_some, searched}
 use Rattle.disk_files.proofs.delete.delete_file.Goals as goal
 
@@ -28,3 +28,8 @@ returns-clause-wrote g c = λ pages told laid.
     freed (c.clear_name.ensures.clears (searched c.args.entries.now c.args.map.now pages laid c.args.place below c.requires.used c.requires.kept)) first.2
     second.2 saved.2)
     (c.save_map.ensures.saved second.0 second.1 (second.2.as_many ∙ first.2.as_many ∙ laid.as_many))
+
+pub returns-clause-cleared : goal.returns-clause-cleared
+returns-clause-cleared g c = λ pages told laid.
+    always c.save_map.result _
+    (c.clear_name.ensures.clears (searched c.args.entries.now c.args.map.now pages laid c.args.place c.requires.place c.requires.used c.requires.kept))

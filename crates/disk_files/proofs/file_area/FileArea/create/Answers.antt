@@ -4,7 +4,7 @@ use Rattle.disk_layout.specs.Files.{files, free_count, name_count}
 use Rattle.disk_layout.specs.Format.{key_of}
 use Rattle.disk_layout.specs.Writing.{IsFirstEmpty}
 use Rattle.disk_layout.specs.Taking.{TakesIndex}
-use Rattle.disk_files.specs.Answers.{Holds, StandsOpen, create_answer}
+use Rattle.disk_files.specs.Answers.{Holds, StandsOpen, create_answer, PutsFile}
 use Rattle.disk_files.proofs.Numbers.{on_ok, if_err, answers_ok}
 use Rattle.disk_layout.proofs.Lookups.{no_file, found_file}
 use Rattle.disk_files.proofs.AreaAfter.{area_after, holds_now, free_now}
@@ -103,3 +103,22 @@ returns-clause-open g c =
     (c.create_file-answer.ensures.open
     (λ k inside used e. c.is_named.ensures.not c.if-is_named.false k (omega (arith, inside, c.self.invariant.places)) used (e ∙ c.bytes-3.ensures.bytes
     ∙ sym c.bytes.ensures.bytes)))
+
+pub returns-clause-puts : goal.returns-clause-puts
+returns-clause-puts g c =
+    on_ok c.create_file-answer.result _ _
+    (λ put. (
+      c.in-Some.place,
+      first_of_view,
+      subst (PutsFile c.args.self.now.entries c.create_file-answer.new.entries c.in-Some.place) c.bytes-3.ensures.bytes
+          (subst (λ entries. PutsFile entries c.create_file-answer.new.entries c.in-Some.place c.bytes-3.result) (ap (λ v. v.entries) c.self.view_is) put),
+    ))
+    c.create_file-answer.ensures.puts
+  where
+    first_of_view : IsFirstEmpty c.args.self.now.entries (key_of c.args.name.now - 1) c.in-Some.place
+    first_of_view = subst (λ entries. IsFirstEmpty entries (key_of c.args.name.now - 1) c.in-Some.place) (ap (λ v. v.entries) c.self.view_is)
+        (subst (λ from. IsFirstEmpty c.self.inside.entries from c.in-Some.place) (ap (λ n. n - 1) (c.key_of.ensures.key ∙ ap key_of c.bytes-2.ensures.bytes))
+        c.in-Some.ensures.first)
+
+pub returns-clause-kept : goal.returns-clause-kept
+returns-clause-kept g c = if_err c.create_file-answer.result _ _ (λ fault. inl) c.create_file-answer.ensures.fault

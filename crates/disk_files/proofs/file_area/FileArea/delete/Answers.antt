@@ -1,11 +1,12 @@
-use Rattle.std.proofs.Common.{◌<◌, ◌+◌, ◌∙◌, Ok, length, ap, sym, subst, inl, inr, arith}
+use Rattle.std.proofs.Common.{ℕ, ◌<◌, ◌+◌, ◌∙◌, Ok, length, ap, sym, subst, inl, inr, arith}
 use Rattle.std.specs.FinMap as fin
 use Rattle.disk_layout.specs.Files.{files, free_count}
 use Rattle.disk_layout.specs.Deleting.{pages_held}
+use Rattle.disk_layout.specs.Writing.{ClearsName}
 use Rattle.disk_layout.proofs.Grows.{the_file}
 use Rattle.disk_layout.proofs.Lookups.{no_file, found_file}
 use Rattle.disk_layout.proofs.TakenPages.{free_and_taken}
-use Rattle.disk_files.specs.Answers.{Holds, delete_answer}
+use Rattle.disk_files.specs.Answers.{Holds, StandsAt, delete_answer}
 use Rattle.disk_files.proofs.Numbers.{on_ok, if_err, answers_ok}
 use Rattle.disk_files.proofs.AreaAfter.{area_after, holds_now, file_length_at, kept_from, unprotected_at}
 use Rattle.disk_files.proofs.file_area.FileArea.delete.Goals as goal
@@ -57,3 +58,19 @@ returns-clause-file g c = λ pages file told is.
     (holds_now _ _ _ _ (free_count pages + pages_held (length file.pages))
     (let free = free_and_taken _ pages laid.taken laid.within in omega (arith, free, w.1, count)) w.0))
     (c.delete_file-answer.ensures.wrote pages told_inside laid)
+
+pub returns-clause-place : goal.returns-clause-place
+returns-clause-place g c = λ pages told.
+    let told_inside = ap (λ v. g.A.Area.pages v.area) c.self.view_is ∙ told in
+    let laid = c.self.invariant.laid (ap (λ v. v.sound) c.self.view_is ∙ c.requires) pages told_inside in
+    on_ok c.delete_file-answer.result _ _
+    (λ cleared. subst (λ entries. (p : ℕ) × StandsAt entries p c.args.name.now × ClearsName entries c.delete_file-answer.new.entries p)
+    (ap (λ v. v.entries) c.self.view_is) (
+      c.in-Some.place,
+      record { used = c.in-Some.ensures.used; named = c.in-Some.ensures.name ∙ c.bytes.ensures.bytes },
+      cleared,
+    ))
+    (c.delete_file-answer.ensures.cleared pages told_inside laid)
+
+pub returns-clause-kept : goal.returns-clause-kept
+returns-clause-kept g c = if_err c.delete_file-answer.result _ _ (λ fault. inl) c.delete_file-answer.ensures.fault

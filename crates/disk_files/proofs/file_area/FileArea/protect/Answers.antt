@@ -1,13 +1,13 @@
-use Rattle.std.proofs.Common.{◌≡◌, ◌<◌, ◌==◌, ◌∙◌, ap, sym, subst, inl, inr, arith}
+use Rattle.std.proofs.Common.{ℕ, ◌≡◌, ◌<◌, ◌==◌, ◌∙◌, ap, sym, subst, inl, inr, arith}
 use Rattle.std.specs.FinMap as fin
 use Rattle.disk_layout.specs.Files.{files, free_count, with_protection}
-use Rattle.std.specs.Prelude.{slice_index_or}
+use Rattle.std.specs.Prelude.{slice_index_or, if◌then◌else◌}
 use Rattle.std.proofs.Common.{set as set_at}
 use Rattle.disk_layout.specs.Layout.{blank_entry}
 use Rattle.disk_layout.specs.Writing.{EntryWritten}
 use Rattle.disk_layout.proofs.Protected.{protected_entry}
-use Rattle.disk_files.specs.Answers.{Holds, IsFileArea, protect_answer}
-use Rattle.disk_files.proofs.Numbers.{on_ok, if_err, answers_ok}
+use Rattle.disk_files.specs.Answers.{Holds, IsFileArea, StandsAt, protect_answer}
+use Rattle.disk_files.proofs.Numbers.{always, on_ok, if_err, answers_ok}
 use Rattle.disk_layout.proofs.Lookups.{no_file, found_file}
 use Rattle.disk_layout.proofs.Grows.{the_file}
 use Rattle.disk_files.proofs.AreaAfter.{area_after, protected_by, protected_kept, set_kept, set_places, holds_now, free_now, inserted_as}
@@ -66,3 +66,19 @@ returns-clause-file g c = λ pages file told is.
     c.write_entry-answer.result _
     (on_ok c.write_entry-answer.result _ _ (λ w. (w.0, w.1, subst (EntryWritten pages w.0 c.in-Some.place) c.set_protection-entry.ensures.entry w.2))
     (c.write_entry-answer.ensures.wrote pages told_inside laid.as_many)))
+
+pub returns-clause-place : goal.returns-clause-place
+returns-clause-place g c =
+    always c.write_entry-answer.result _
+    (subst (λ entries. (p : ℕ) × StandsAt entries p c.args.name.now
+    × (c.set_protection-entry.new.entries ≡ set_at entries p (record (slice_index_or entries p blank_entry) { protection = if c.args.on then 1 else 0 })))
+    (ap (λ v. v.entries) c.self.view_is) (
+      c.in-Some.place,
+      record { used = c.in-Some.ensures.used; named = c.in-Some.ensures.name ∙ c.bytes.ensures.bytes },
+      c.set_protection-entry.ensures.set ∙ ap (set_at c.self.inside.entries c.in-Some.place)
+          (c.set_protection-entry.ensures.entry
+          ∙ ap (protected_entry (slice_index_or c.self.inside.entries c.in-Some.place blank_entry)) c.protection_number.ensures.number),
+    ))
+
+pub returns-clause-kept : goal.returns-clause-kept
+returns-clause-kept g c = if_err c.write_entry-answer.result _ _ (λ fault. inl) c.write_entry-answer.ensures.fault

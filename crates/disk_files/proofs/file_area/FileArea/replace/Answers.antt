@@ -4,7 +4,9 @@ use Rattle.disk_files.specs.Answers.{Answers, Holds, replace_answer}
 use Rattle.disk_files.proofs.Numbers.{on_ok, if_err}
 use Rattle.disk_layout.proofs.Lookups.{no_file, found_file, has_pages}
 use Rattle.disk_layout.proofs.Grows.{the_file}
-use Rattle.disk_files.proofs.AreaAfter.{area_after, replaced_by, holds_now, free_now, refused_left, unprotected_at, kept_from, range_at, inserted_as}
+use Rattle.disk_files.proofs.AreaAfter.{area_after, index_named, replaced_by, holds_now, free_now, refused_left, unprotected_at, kept_from, range_at, inserted_as}
+use Rattle.std.specs.Prelude.{slice_index_or}
+use Rattle.disk_layout.specs.Layout.{blank_entry}
 use Rattle.disk_files.proofs.file_area.FileArea.replace.Goals as goal
 
 pub returns-in-None-clause-answer : goal.returns-in-None-clause-answer
@@ -58,3 +60,20 @@ returns-clause-file g c = λ pages file told is.
     (holds_now _ _ _ _ (free_count pages) (free_now _ _ pages laid) w))
     (replaced_by _ _ pages laid c.in-Some.place c.args.n below c.in-Some.ensures.used c.replace_page-answer.result _ c.args.page.now.0
     (c.replace_page-answer.ensures.wrote pages told_inside (has_pages _ _ pages laid c.in-Some.place below c.in-Some.ensures.used)))
+
+pub returns-clause-place : goal.returns-clause-place
+returns-clause-place g c = λ pages told.
+    let told_inside = ap (λ v. g.A.Area.pages v.area) c.self.view_is ∙ told in
+    let laid = c.self.invariant.laid (ap (λ v. v.sound) c.self.view_is ∙ c.requires) pages told_inside in
+    let below : c.in-Some.place < 240 = omega (arith, c.in-Some.ensures.inside, laid.places) in
+    let named = c.in-Some.ensures.name ∙ c.bytes.ensures.bytes in
+    on_ok c.replace_page-answer.result _ _
+    (λ w. (
+      (slice_index_or c.self.inside.entries c.in-Some.place blank_entry).address,
+      index_named _ _ pages laid c.in-Some.place below c.in-Some.ensures.used c.args.name.now named,
+      w.1,
+    ))
+    (c.replace_page-answer.ensures.wrote pages told_inside (has_pages _ _ pages laid c.in-Some.place below c.in-Some.ensures.used))
+
+pub returns-clause-kept : goal.returns-clause-kept
+returns-clause-kept g c = record { entries = ap (λ v. v.entries) c.self.view_is; taken = ap (λ v. v.taken) c.self.view_is }
