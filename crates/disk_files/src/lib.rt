@@ -2,6 +2,7 @@
 #![tactic(auto)]
 
 mod append;
+pub mod bare_area;
 mod changes;
 mod create;
 mod delete;
@@ -15,9 +16,6 @@ mod rename;
 mod transfer;
 mod write_entry;
 
-pub use append::{save_map, take};
+pub use disk_layout::FileKind;
 pub use fault::{FileFault, FileInfo};
 pub use file_area::FileArea;
-pub use mount::judge;
-pub use older::judge_older;
-pub use transfer::{read, write};

@@ -6,7 +6,6 @@ use Rattle.std.proofs.lemmas.List.Folds.{concat-append}
 use Rattle.std.specs.Option.{unwrap_or}
 use Rattle.std.proofs.lemmas.Bool.{cases_Bool, eq-eqb, false≢true, ne_eqb}
 use Rattle.std.proofs.lemmas.List.Sums.{fails_before_first, position_or_len_is}
-use Rattle.memchr.specs.Find.{IsFirstByte, is_byte}
 use Rattle.stack_code.specs.CodeLists.{CodeLists}
 use Rattle.stack_code.specs.CodeFile.{code_bytes, padding, text_bytes as code_text}
 use Rattle.stack_code.proofs.Positions.{code_length}
@@ -117,19 +116,6 @@ good_unbroken c good =
     (λ place _ below. ap not (good.instrs place (omega (arith, below)))) in
     ap (λ o. first_of (option_map routine_record o) (option_map (instr_record c) (broken_instr c))) routines
     ∙ ap (λ o. option_map (instr_record c) o) instrs
-
--- where the text of these bytes ends, as it is found
-pub text_ends : (bytes : List ℕ) (r : Option ℕ) → IsFirstByte (is_byte 25) bytes r → unwrap_or r (length bytes) ≡ position_or_len (λ byte. byte == 25) bytes
-text_ends bytes None nowhere = sym (position_or_len_is (λ byte. byte == 25) bytes (length bytes) 0 (omega arith)
-    (λ k below. fails k (nowhere k (omega arith) below)) (λ past. absurd (omega (arith, past))))
-  where
-    fails : (k : ℕ) → (get_or bytes k 0 == 25 ≡ true → ⊥) → (get_or bytes k 0 == 25) ≡ false
-    fails k none = elim (cases_Bool (get_or bytes k 0 == 25)) [ inl is ↦ absurd (none is) | inr other ↦ other ]
-text_ends bytes (Some i) found = sym (position_or_len_is (λ byte. byte == 25) bytes i 0 (omega (arith, found.0.high))
-    (λ k below. fails k (found.0.before k (omega arith) below)) (λ within. found.1))
-  where
-    fails : (k : ℕ) → (get_or bytes k 0 == 25 ≡ true → ⊥) → (get_or bytes k 0 == 25) ≡ false
-    fails k none = elim (cases_Bool (get_or bytes k 0 == 25)) [ inl is ↦ absurd (none is) | inr other ↦ other ]
 
 -- a text is what has no byte 25, so it ends where its bytes end
 pub ends_nowhere : (text : List ℕ) → IsText text → position_or_len (λ byte. byte == 25) text ≡ length text

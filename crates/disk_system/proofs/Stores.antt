@@ -1,5 +1,5 @@
 -- What the calls of a store leave.
-use Rattle.std.proofs.Common.{◌≡◌, ℕ, ◌+◌, ◌-◌, ◌*◌, ◌%◌, ◌<◌, ◌≤◌, ◌==◌, false, Option, Some, None, Result, Ok, Err, List, [], ◌∷◌, ◌++◌, length, take, drop, refl, ap, sym, subst, ◌∙◌, inl, inr, arith}
+use Rattle.std.proofs.Common.{◌≡◌, ℕ, suc, ◌+◌, ◌-◌, ◌*◌, ◌%◌, ◌<◌, ◌≤◌, ◌==◌, false, Option, Some, None, Result, Ok, Err, List, [], ◌∷◌, ◌++◌, length, take, drop, refl, ap, sym, subst, ◌∙◌, inl, inr, arith}
 use Rattle.std.specs.Prelude.{nat_le, nat_lt, IfErr, OnOk}
 use Rattle.std.specs.Cmp.Lexicographic.{nat_list_cmp_total}
 use Rattle.std.specs.FinMap as fin
@@ -14,7 +14,9 @@ use Rattle.disk_files.specs.declared.fault.FileFault.TheVariants.{CatalogFull, D
 use Rattle.disk_files.specs.declared.fault.FileInfo.{FileInfo}
 use Rattle.disk_files.specs.Answers.{Answers, Holds, append_answer, append_answer_of, create_answer, info_of, lookup_answer, pages_needed}
 use Rattle.disk_files.proofs.Numbers.{append_done, on_ok}
+use Rattle.disk_layout.specs.Taking.{TakesNext}
 use Rattle.disk_system.specs.Contents.{cut}
+use Rattle.disk_system.specs.Taken.{TakesPages}
 use Rattle.disk_system.specs.declared.fault.SystemFault.TheVariants.{File as OfFiles}
 use Rattle.disk_system.specs.Calls.{StoreAnswers, as_system, room_answer, store_answer}
 use Rattle.disk_system.proofs.Stored.{cut_more, cut_none, length-cut}
@@ -187,3 +189,21 @@ held_by unused count some = minus unused (count + part_count count)
 pub on_done : {X E : Type 0} (r : Result X E) (P Q : Type 0) → (P → Q) → OnOk r P → OnOk r Q
 on_done (Ok x) P Q f p = f p
 on_done (Err e) P Q f p = tt
+
+-- ---- Which pages are taken
+
+-- what an area tells is one list of pages
+pub one_told : (now : Option (List (List ℕ))) (a b : List (List ℕ)) → now ≡ Some a → now ≡ Some b → a ≡ b
+one_told now a b told again = cc
+
+pub found_in : (others : Files) (q : List ℕ) (file : File) (pages : List (List ℕ)) → files pages ≡ fin.insert others q file
+    → fin.get (files pages) q ≡ Some file
+found_in others q file pages is = ap (λ m. fin.get m q) is ∙ get_inserted others q q file refl
+
+pub next_taken : (pages between was after : List (List ℕ)) (name : List ℕ) (k : ℕ) → was ≡ between → TakesPages pages between name k
+    → TakesNext was after name k → TakesPages pages after name (k + 1)
+next_taken pages between was after name k same before next =
+    subst (TakesPages pages after name) (one_later k) (between, before, subst (λ b. TakesNext b after name k) same next)
+  where
+    one_later : (n : ℕ) → suc n ≡ n + 1
+    one_later n = omega arith

@@ -4,6 +4,7 @@ pub use Rattle.stack_code.specs.CodeFile
 pub use Rattle.stack_code.specs.Rules
 pub mod Formatted
 pub mod Contents
+pub mod Taken
 pub mod Calls
 pub mod Listing
 pub mod Migrating

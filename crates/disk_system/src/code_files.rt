@@ -4,7 +4,8 @@ ghost use Rattle.disk_layout.specs.declared.kind.FileKind.TheVariants.{SeqCode};
 ghost use Rattle.disk_layout.specs.Files.{File, files as file_map, free_count, name_count};
 ghost use Rattle.disk_layout.specs.Deleting.{pages_held};
 ghost use Rattle.disk_files.specs.declared.fault.FileFault.TheVariants.{NoFile, DiskFault};
-ghost use Rattle.disk_files.specs.Answers.{FaultsOnly, Holds, after_reading, stays_sound};
+ghost use Rattle.disk_files.specs.Answers.{FaultsOnly, Holds, Told, after_reading, stays_sound};
+ghost use Rattle.disk_system.specs.Taken.{TakesFile};
 ghost use Rattle.stack_code.specs.CodeLists.{CodeLists, IsCode, FitsItsFields};
 ghost use Rattle.stack_code.specs.CodeFile.{code_bytes};
 ghost use Rattle.stack_code.specs.Rules.{broken_record};
@@ -114,6 +115,9 @@ pub fn store_code<A: Area>(
         → OnOk result (Holds (A.pages files.new.area)
         (fin.insert (file_map pages) name.now (code_file code.now))
         (free_count pages - pages_held (length (code_bytes code.now) / 512))) }
+    ensures taken { (pages : List (List ℕ)) → A.pages files.old.area ≡ Some pages
+        → OnOk result (Told (A.pages files.new.area)
+        (λ after. TakesFile pages after name.now (length (code_bytes code.now) / 512))) }
     // So `load_code` loads the same code again.
     ensures again { OnOk result (loaded_file (Some (code_file code.now)) ≡ Loaded.Code code.now) }
     ensures bytes { file_bytes (code_file code.now) ≡ code_bytes code.now }

@@ -12,7 +12,7 @@ use solo_base::{Ident, Page};
 use solo_devices::Area;
 use std::alloc::Global;
 
-/// The bytes of a file of so many pages, one page after the other.
+/// The bytes of a file of any kind and so many pages, as a look-up tells them, one page after the other.
 pub fn bytes_of<A: Area>(
     alloc: Global,
     files: &mut FileArea<A>,

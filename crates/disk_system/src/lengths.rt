@@ -6,7 +6,8 @@ ghost use Rattle.disk_files.specs.declared.fault.FileFault.TheVariants.{DiskFaul
 ghost use Rattle.disk_files.specs.Answers.{FaultsOnly};
 ghost use Rattle.disk_system.specs.Migrating.{LengthsRead, mapped_by, parts_for};
 
-use disk_files::{FileFault, read};
+use disk_files::FileFault;
+use disk_files::bare_area::read;
 use disk_layout::Entry;
 use disk_pages::{AREA_PAGES, number};
 use solo_base::Page;

@@ -8,7 +8,8 @@ ghost use Rattle.disk_system.specs.Migrating.{IsNewer, LengthsRead, MadeOf, Migr
 
 use crate::lengths::{parts_for, read_lengths};
 use crate::newer::write_newer;
-use disk_files::{FileFault, judge, judge_older, read};
+use disk_files::FileFault;
+use disk_files::bare_area::{judge, judge_older, read};
 use disk_layout::{Entry, count_names};
 use disk_pages::{AREA_PAGES, PageMap, number};
 use solo_base::Page;

@@ -9,7 +9,8 @@ ghost use Rattle.disk_files.specs.Answers.{FaultsOnly, IsOlderRead, Stays, Told}
 ghost use Rattle.disk_system.specs.Migrating.{LengthsRead, Migrates, Moving, mapped_by, parts_for};
 
 use crate::parts::add_parts;
-use disk_files::{FileFault, save_map, write};
+use disk_files::FileFault;
+use disk_files::bare_area::{save_map, write};
 use disk_layout::{Entry, label};
 use disk_pages::{AREA_PAGES, PageMap};
 use solo_devices::Area;

@@ -8,7 +8,8 @@ ghost use Rattle.disk_files.specs.Answers.{FaultsOnly, Stays, Told};
 ghost use Rattle.disk_system.specs.Migrating.{AddsParts, WritesParts};
 
 use crate::lengths::part_count;
-use disk_files::{FileFault, read, take, write};
+use disk_files::FileFault;
+use disk_files::bare_area::{read, take, write};
 use disk_pages::{AREA_PAGES, PageMap, number, set_number};
 use solo_base::Page;
 use solo_devices::Area;

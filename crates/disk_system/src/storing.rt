@@ -3,9 +3,11 @@ ghost use Rattle.std.specs.FinMap as fin;
 ghost use Rattle.disk_layout.specs.Files.{File, Files, files as file_map, free_count, name_count};
 ghost use Rattle.disk_layout.specs.Deleting.{pages_held};
 ghost use Rattle.disk_files.specs.declared.fault.FileFault.TheVariants.{DiskFault, NoFile};
-ghost use Rattle.disk_files.specs.Answers.{Answers, FaultsOnly, Holds, StandsOpen, after_reading, stays_sound, pages_needed};
+ghost use Rattle.disk_files.specs.Answers.{Answers, FaultsOnly, Holds, StandsOpen, Told, after_reading, stays_sound, pages_needed};
 ghost use Rattle.disk_layout.specs.Format.{part_count};
+ghost use Rattle.disk_layout.specs.Taking.{TakesNext};
 ghost use Rattle.disk_system.specs.Contents.{cut, in_pages};
+ghost use Rattle.disk_system.specs.Taken.{TakesFile, TakesPages};
 ghost use Rattle.disk_system.specs.Calls.{store_answer, room_answer, MayRefuse};
 
 use disk_files::{FileArea, FileFault};
@@ -13,7 +15,8 @@ use disk_layout::FileKind;
 use solo_base::{Ident, PAGE_LENGTH, Page};
 use solo_devices::Area;
 
-/// Makes a file of whole pages of bytes. All refusals but a fault of the area come before anything is
+/// Makes a file of the whole pages of these bytes, of any kind: what is behind the last whole page is not
+/// stored. All refusals but a fault of the area come before anything is
 /// written.
 pub fn store<A: Area>(
     files: &mut FileArea<A>,
@@ -34,6 +37,9 @@ pub fn store<A: Area>(
           pages = in_pages bytes.now;
         }))
         (free_count pages - pages_held (length bytes.now / 512))) }
+    ensures taken { (pages : List (List ℕ)) → A.pages files.old.area ≡ Some pages
+        → OnOk result (Told (A.pages files.new.area)
+        (λ after. TakesFile pages after name.now (length bytes.now / 512))) }
     ensures refused { (pages : List (List ℕ)) → A.pages files.old.area ≡ Some pages
         → IfErr result (λ fault. (fault ≡ DiskFault) ⊎ (A.pages files.new.area ≡ Some pages)) }
     ensures refusals { IfErr result MayRefuse }
@@ -105,6 +111,9 @@ fn make<A: Area>(
           pages = cut bytes.now count;
         }))
         (free_count pages - pages_held count)) }
+    ensures taken { (pages : List (List ℕ)) → A.pages files.old.area ≡ Some pages
+        → store_answer (fin.get (file_map pages) name.now) (name_count pages) (free_count pages) count ≡ Ok tt
+        → OnOk result (Told (A.pages files.new.area) (λ after. TakesFile pages after name.now count)) }
     ensures fault { (pages : List (List ℕ)) → A.pages files.old.area ≡ Some pages
         → store_answer (fin.get (file_map pages) name.now) (name_count pages) (free_count pages) count ≡ Ok tt
         → IfErr result (λ fault. fault ≡ DiskFault) }
@@ -134,6 +143,10 @@ fn append_pages<A: Area>(
         → OnOk result (Holds (A.pages files.new.area)
         (fin.insert others name.now (record file { pages = cut bytes.now count }))
         (unused - (count + part_count count))) }
+    ensures taken { (others : Files) (file : File) (unused : ℕ)
+        → (held : Holds (A.pages files.old.area) (fin.insert others name.now (record file { pages = [] })) unused)
+        → file.protected ≡ false → count ≤ 4000 → count + part_count count ≤ unused
+        → OnOk result (Told (A.pages files.new.area) (λ after. TakesPages held.pages after name.now count)) }
     ensures fault { (others : Files) (file : File) (unused : ℕ)
         → Holds (A.pages files.old.area) (fin.insert others name.now (record file { pages = [] })) unused
         → file.protected ≡ false → count ≤ 4000 → count + part_count count ≤ unused
@@ -167,6 +180,12 @@ fn append_page<A: Area>(
         → OnOk result (Holds (A.pages files.new.area)
         (fin.insert others name.now (record file { pages = cut bytes.now (k + 1) }))
         (unused - pages_needed k)) }
+    ensures taken { (others : Files) (file : File) (unused : ℕ)
+        → (held : Holds (A.pages files.old.area) (fin.insert others name.now (record file {
+          pages =
+              cut bytes.now k;
+        })) unused)
+        → OnOk result (Told (A.pages files.new.area) (λ after. TakesNext held.pages after name.now k)) }
     ensures fault { (others : Files) (file : File) (unused : ℕ)
         → Holds (A.pages files.old.area) (fin.insert others name.now (record file {
           pages =

@@ -4,8 +4,9 @@ ghost use Rattle.std.specs.List.{position_or_len};
 ghost use Rattle.disk_layout.specs.Files.{File, files as file_map, free_count, name_count};
 ghost use Rattle.disk_layout.specs.Deleting.{pages_held};
 ghost use Rattle.disk_files.specs.declared.fault.FileFault.TheVariants.{NoFile, DiskFault};
-ghost use Rattle.disk_files.specs.Answers.{FaultsOnly, Holds, after_reading, stays_sound};
+ghost use Rattle.disk_files.specs.Answers.{FaultsOnly, Holds, Told, after_reading, stays_sound};
 ghost use Rattle.disk_system.specs.Contents.{IsText, file_bytes, page_count, text_bytes, text_file, text_in};
+ghost use Rattle.disk_system.specs.Taken.{TakesFile};
 ghost use Rattle.disk_system.specs.Calls.{of_files, IsOutside, text_answer, text_by, store_answer, StoreAnswers, MayRefuseStore};
 
 use crate::SystemFault;
@@ -13,8 +14,7 @@ use crate::contents::bytes_of;
 use crate::storing::store;
 use disk_files::{FileArea, FileFault, FileInfo};
 use disk_layout::FileKind;
-use memchr::memchr;
-use solo_base::{Ident, PAGE_LENGTH};
+use solo_base::{Ident, PAGE_LENGTH, first_place};
 use solo_devices::Area;
 use std::alloc::{AllocError, Global};
 
@@ -83,11 +83,10 @@ fn text_in(bytes: Vec<u8>) -> Vec<u8>
 }
 
 // How many bytes are before the first byte 25, or all.
-#[tactic(auto, using(crate::proofs::Stored::text_ends))]
 fn text_length(bytes: &[u8]) -> usize
     ensures { result ≡ position_or_len (λ byte. byte == 25) bytes.now }
 {
-    memchr(TEXT_END, bytes).unwrap_or(bytes.len())
+    first_place(bytes, TEXT_END)
 }
 
 /// Whether these bytes are a text: none of them is the byte 25.
@@ -114,6 +113,9 @@ pub fn store_text<A: Area>(
         → OnOk result (Holds (A.pages files.new.area)
         (fin.insert (file_map pages) name.now (text_file text.now))
         (free_count pages - pages_held (page_count (length text.now + 1)))) }
+    ensures taken { (pages : List (List ℕ)) → A.pages files.old.area ≡ Some pages
+        → OnOk result (Told (A.pages files.new.area)
+        (λ after. TakesFile pages after name.now (page_count (length text.now + 1)))) }
     ensures read_again { text_answer (Some (text_file text.now)) ≡ Ok text.now }
     ensures refused { (pages : List (List ℕ)) → A.pages files.old.area ≡ Some pages
         → IfErr result (λ fault. (fault ≡ SystemFault.File DiskFault)

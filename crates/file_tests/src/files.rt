@@ -1,6 +1,7 @@
 use crate::file_calls::{Call, answers, byte_in, free_pages, info};
 use crate::made_area::{mount, mounted, name, page_of, set_byte, set_page, zero_area};
-use disk_files::{FileFault, FileInfo, judge_older};
+use disk_files::bare_area::judge_older;
+use disk_files::{FileFault, FileInfo};
 use disk_layout::{Entry, FileKind, key_of, label, label1};
 use disk_pages::{AREA_PAGES, PageMap, set_number};
 use solo_base::Page;

@@ -2,7 +2,8 @@ use Rattle.std.proofs.Common.{◌≡◌, ℕ, ◌+◌, ◌-◌, ◌≤◌, [], O
 use Rattle.std.specs.FinMap as fin
 use Rattle.disk_layout.specs.Files.{File, Files}
 use Rattle.disk_layout.specs.Format.{part_count}
-use Rattle.disk_files.specs.Answers.{FaultsOnly, Holds, StandsOpen}
+use Rattle.disk_files.specs.Answers.{FaultsOnly, Holds, StandsOpen, Told}
+use Rattle.disk_system.specs.Taken.{TakesPages}
 use Rattle.disk_system.specs.Contents.{cut}
 use Rattle.disk_system.proofs.storing.append_pages.Given as goal
 
@@ -16,4 +17,8 @@ invariant-loop-k g l = record {
       → file.protected ≡ false → l.count ≤ 4000 → l.count + part_count l.count ≤ unused
       → Holds (g.A.Area.pages l.files.area) (fin.insert others l.name (record file { pages = cut l.bytes l.k }))
       (unused - (l.k + part_count l.k));
+  taken : (others : Files) (file : File) (unused : ℕ)
+      → (held : Holds (g.A.Area.pages l.initial.files.area) (fin.insert others l.name (record file { pages = [] })) unused)
+      → file.protected ≡ false → l.count ≤ 4000 → l.count + part_count l.count ≤ unused
+      → Told (g.A.Area.pages l.files.area) (λ now. TakesPages held.pages now l.name l.k);
 }

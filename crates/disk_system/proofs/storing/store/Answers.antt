@@ -7,3 +7,7 @@ pub returns-in-Ok-clause-refused : goal.returns-in-Ok-clause-refused
 returns-in-Ok-clause-refused g c = λ pages told.
     IfErr-weaker c.make.result _ _ (λ fault. inl)
     (c.make.ensures.fault pages (c.in-Ok.ensures.left ∙ told) (room_answered _ _ (c.in-Ok.ensures.answer pages told)))
+
+pub returns-in-Ok-clause-taken : goal.returns-in-Ok-clause-taken
+returns-in-Ok-clause-taken g c = λ pages told.
+    c.make.ensures.taken pages (c.in-Ok.ensures.left ∙ told) (room_answered _ _ (c.in-Ok.ensures.answer pages told))
