@@ -9,3 +9,5 @@ pub mod StraightLine
 pub mod Good
 pub mod Short
 pub mod BehindTick
+pub mod Starts
+pub mod Along

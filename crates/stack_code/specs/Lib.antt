@@ -3,3 +3,5 @@ pub mod CodeLists
 pub mod CodeFile
 pub mod Rules
 pub mod Listing
+pub mod Targets
+pub mod Along

@@ -1,11 +1,22 @@
-ghost use Rattle.std.specs.Prelude.{◌≡◌, ◌<◌, ◌≤◌, ◌+◌, ◌*◌, ◌^◌, ℕ, length, IfSome};
+ghost use Rattle.std.specs.Prelude.{◌≡◌, ◌<◌, ◌≤◌, ◌+◌, ◌*◌, ◌^◌, ◌&&◌, ◌||◌, ℕ, None, not, length, IfSome};
 ghost use Rattle.stack_code.specs.CodeLists.{IsCode};
-ghost use Rattle.stack_code.specs.Rules.{instr_is_good, broken_routine, broken_instr, broken_record, height_at, is_behind_tick};
+ghost use Rattle.stack_code.specs.Rules.{routine_of, is_jump, is_tick, is_target, height_at, is_behind_tick, instr_is_good, broken_routine, broken_instr, broken_record};
+ghost use Rattle.stack_code.specs.Along.{IsAlong};
 
-use crate::Code;
 use crate::kinds::{is_call, is_jump, is_tick, may_be_last, pops, pushes};
-use crate::places::{goes_on, instr_at, routine_of};
-use crate::rules::{height_fits, is_target, operands_fit, routine_is_good};
+use crate::places::{goes_on, instr_at, is_in};
+use crate::rules::{height_fits, operands_fit, routine_is_good};
+use crate::targets::{PLACES, mark_targets};
+use crate::{Code, Instr, Op};
+
+/// What the places before an instruction tell of it: the number of its routine, the height of the
+/// operand stack before it, and whether it stands behind a TICK.
+#[derive(Clone, Copy, Debug)]
+pub struct Along {
+    pub(crate) routine: usize,
+    pub(crate) height: usize,
+    pub(crate) behind_tick: bool,
+}
 
 /// The place in the code file of the first record that breaks a rule, routines before instructions.
 #[tactic(auto, unfolding(crate::specs::Rules::broken_record))]
@@ -34,63 +45,74 @@ fn broken_routine(code: &Code) -> Option<usize>
 }
 
 fn broken_instr(code: &Code) -> Option<usize>
+    requires { broken_routine code.now ≡ None }
     ensures first { result ≡ broken_instr code.now }
     ensures few { IfSome result (λ place. place < 8192) }
 {
-    let mut height = 0;
-    let mut behind_tick = false;
+    let mut targets = [false; PLACES];
+    mark_targets(code, &mut targets);
+    let mut along = Along {
+        routine: 0,
+        height: 0,
+        behind_tick: false,
+    };
     for place in 0..code.instrs().len() {
-        if !instr_is_good(code, place, height, behind_tick) {
+        if !instr_is_good(code, place, targets[place], along) {
             return Some(place);
         }
-        height = height_behind(code, place, height);
-        behind_tick = is_behind_tick(code, place, behind_tick);
+        along = along_next(code, place, targets[place + 1], along);
     }
     None
 }
 
-// Whether no rule on the instruction at a place is broken. The height of the operand stack there, and
-// whether it stands behind a TICK, are known from the places before it.
-fn instr_is_good(code: &Code, place: usize, height: usize, behind_tick: bool) -> bool
-    requires place { place < 2 ^ 32 }
-    requires height { height ≡ height_at code.now place }
-    requires low { height < 2 ^ 32 }
-    requires tick { behind_tick ≡ is_behind_tick code.now place }
+// Whether no rule on the instruction at a place is broken, to which a jump leads or not.
+fn instr_is_good(code: &Code, place: usize, target: bool, along: Along) -> bool
+    requires rise { broken_routine code.now ≡ None }
+    requires place { place < 8192 }
+    requires target { target ≡ is_target code.now place }
+    requires routine { along.routine ≡ routine_of code.now place }
+    requires number { along.routine < length code.now.routines }
+    requires height { along.height ≡ height_at code.now place }
+    requires low { along.height < 2 ^ 32 }
+    requires tick { along.behind_tick ≡ is_behind_tick code.now place }
     ensures { result ≡ instr_is_good code.now place }
 {
     let instr = instr_at(code, place);
-    (goes_on(code, place) || may_be_last(instr.op))
-        && operands_fit(code, place, instr)
-        && height_fits(code, place, instr, height)
-        && (height == 0 || !is_target(code, place))
-        && (!is_call(instr.op) || behind_tick)
+    (goes_on(code, place, along.routine) || may_be_last(instr.op))
+        && operands_fit(code, place, along.routine, instr)
+        && height_fits(code, place, along.routine, instr, along.height)
+        && (along.height == 0 || !target)
+        && (!is_call(instr.op) || along.behind_tick)
 }
 
-// The height of the operand stack before the next instruction.
-#[tactic(auto, using(crate::proofs::StraightLine::height_goes_on, crate::proofs::StraightLine::height_begins))]
-fn height_behind(code: &Code, place: usize, height: usize) -> usize
-    requires place { place < 2 ^ 32 }
-    requires height { height ≡ height_at code.now place }
-    requires low { height < 2 ^ 32 }
-    ensures height { result ≡ height_at code.now (place + 1) }
-    ensures bound { result ≤ height + 255 }
+// What is known of the next place, to which a jump leads or not.
+fn along_next(code: &Code, place: usize, target: bool, along: Along) -> Along
+    requires rise { broken_routine code.now ≡ None }
+    requires place { place < 8192 }
+    requires target { target ≡ is_target code.now (place + 1) }
+    requires along { IsAlong code.now place along }
+    ensures { IsAlong code.now (place + 1) result }
 {
-    if routine_of(code, place + 1) != routine_of(code, place) {
-        return 0;
+    if !is_in(code, along.routine, place + 1) {
+        return Along {
+            routine: along.routine + 1,
+            height: 0,
+            behind_tick: false,
+        };
     }
-    let instr = instr_at(code, place);
-    height.saturating_sub(pops(code, instr.op, instr.a)) + pushes(code, instr.op, instr.a)
+    let Instr { op, a, .. } = instr_at(code, place);
+    let height = along.height.saturating_sub(pops(code, op, a)) + pushes(code, op, a);
+    let behind_tick = leads_on(target, op, along.behind_tick);
+    Along {
+        routine: along.routine,
+        height,
+        behind_tick,
+    }
 }
 
-// Whether the next instruction stands behind a TICK of its routine, with no way in between.
-#[tactic(auto, using(crate::proofs::BehindTick::is_behind_tick_next))]
-fn is_behind_tick(code: &Code, place: usize, behind_tick: bool) -> bool
-    requires place { place < 2 ^ 32 }
-    requires tick { behind_tick ≡ is_behind_tick code.now place }
-    ensures { result ≡ is_behind_tick code.now (place + 1) }
+// Whether a TICK leads straight on from an operation to the next place, which is a jump's target or not.
+fn leads_on(target: bool, op: Op, behind_tick: bool) -> bool
+    ensures { result ≡ (not target && (is_tick op || not (is_jump op) && behind_tick)) }
 {
-    let op = instr_at(code, place).op;
-    !is_target(code, place + 1)
-        && routine_of(code, place + 1) == routine_of(code, place)
-        && (is_tick(op) || (!is_jump(op) && behind_tick))
+    !target && (is_tick(op) || (!is_jump(op) && behind_tick))
 }

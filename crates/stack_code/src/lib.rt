@@ -14,6 +14,7 @@ mod listed;
 mod places;
 mod rules;
 mod table;
+mod targets;
 mod verified;
 
 pub use code::Code;

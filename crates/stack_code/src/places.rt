@@ -1,6 +1,6 @@
-ghost use Rattle.std.specs.Prelude.{◌≡◌, ◌<◌, ◌≤◌, ◌^◌, length};
+ghost use Rattle.std.specs.Prelude.{◌≡◌, ◌<◌, ◌≤◌, ◌==◌, ◌^◌, None, length};
 ghost use Rattle.stack_code.specs.CodeLists.{routine_at, instr_at, IsCode};
-ghost use Rattle.stack_code.specs.Rules.{routine_of, own_words, program_words, goes_on};
+ghost use Rattle.stack_code.specs.Rules.{routine_of, broken_routine, program_words, goes_on};
 
 use crate::{Code, Instr, Op, RoutineInfo};
 
@@ -28,23 +28,16 @@ pub(crate) fn instr_at(code: &Code, place: usize) -> Instr
     })
 }
 
-/// The number of the routine of a place: the last one that starts there or before.
-pub(crate) fn routine_of(code: &Code, place: usize) -> usize
-    ensures { result ≡ routine_of code.now place }
+/// Whether the routine with this number is the one of a place: it starts there or before, and the
+/// next one behind it.
+pub(crate) fn is_in(code: &Code, routine: usize, place: usize) -> bool
+    requires rise { broken_routine code.now ≡ None }
+    requires number { routine < length code.now.routines }
+    ensures { result ≡ (routine_of code.now place == routine) }
 {
-    let begun = code
-        .routines()
-        .iter()
-        .filter(|routine| routine.start as usize <= place)
-        .count();
-    begun.saturating_sub(1)
-}
-
-/// How many words the frame of a place's routine has.
-pub(crate) fn own_words(code: &Code, place: usize) -> u16
-    ensures { result ≡ own_words code.now place }
-{
-    routine_at(code, routine_of(code, place)).words
+    let count = code.routines().len();
+    routine_at(code, routine).start as usize <= place
+        && (routine + 1 == count || place < routine_at(code, routine + 1).start as usize)
 }
 
 /// How many words the program's frame has.
@@ -55,9 +48,12 @@ pub(crate) fn program_words(code: &Code) -> u16
 }
 
 /// Whether the place behind this one is still in its routine.
-pub(crate) fn goes_on(code: &Code, place: usize) -> bool
-    requires { place < 2 ^ 32 }
+pub(crate) fn goes_on(code: &Code, place: usize, routine: usize) -> bool
+    requires rise { broken_routine code.now ≡ None }
+    requires place { place < 2 ^ 32 }
+    requires routine { routine ≡ routine_of code.now place }
+    requires number { routine < length code.now.routines }
     ensures { result ≡ goes_on code.now place }
 {
-    place + 1 < code.instrs().len() && routine_of(code, place + 1) == routine_of(code, place)
+    place + 1 < code.instrs().len() && is_in(code, routine, place + 1)
 }

@@ -1,9 +1,9 @@
-ghost use Rattle.std.specs.Prelude.{◌≡◌, ◌<◌, ◌≤◌, ◌^◌, length};
+ghost use Rattle.std.specs.Prelude.{◌≡◌, ◌<◌, ◌≤◌, ◌^◌, None, length};
 ghost use Rattle.stack_code.specs.CodeLists.{IsCode};
-ghost use Rattle.stack_code.specs.Rules.{starts_well, routine_is_good, word_fits, reference_fits, array_fits, call_array_fits, bounds_fit, jump_fits, operands_fit, is_target, height_fits};
+ghost use Rattle.stack_code.specs.Rules.{routine_of, starts_well, routine_is_good, broken_routine, word_fits, reference_fits, array_fits, call_array_fits, bounds_fit, jump_fits, operands_fit, height_fits};
 
-use crate::kinds::{is_jump, is_tick, leaves_nothing, pops, pushes};
-use crate::places::{instr_at, own_words, program_words, routine_at, routine_of};
+use crate::kinds::{is_tick, leaves_nothing, pops, pushes};
+use crate::places::{instr_at, is_in, program_words, routine_at};
 use crate::{Code, Instr, Op};
 use solo_base::call_row;
 
@@ -31,25 +31,28 @@ fn starts_well(code: &Code, k: usize) -> bool
     }
 }
 
-/// Whether the operands of the instruction at a place are within their bounds.
-pub(crate) fn operands_fit(code: &Code, place: usize, instr: Instr) -> bool
+/// Whether the operands of the instruction at a place of this routine are within their bounds.
+pub(crate) fn operands_fit(code: &Code, place: usize, routine: usize, instr: Instr) -> bool
+    requires rise { broken_routine code.now ≡ None }
+    requires routine { routine ≡ routine_of code.now place }
+    requires number { routine < length code.now.routines }
     ensures { result ≡ operands_fit code.now place instr.op instr.a instr.b }
 {
     let Instr { op, a, b } = instr;
     match op {
         Op::LoadG | Op::StoreG | Op::RefG => a < program_words(code),
-        Op::LoadL | Op::StoreL | Op::RefL => a < own_words(code, place),
-        Op::LoadR | Op::StoreR => reference_fits(own_words(code, place), a),
+        Op::LoadL | Op::StoreL | Op::RefL => a < routine_at(code, routine).words,
+        Op::LoadR | Op::StoreR => reference_fits(routine_at(code, routine).words, a),
         Op::LoadGX | Op::StoreGX => array_fits(program_words(code), a, b),
-        Op::LoadLX | Op::StoreLX => array_fits(own_words(code, place), a, b),
+        Op::LoadLX | Op::StoreLX => array_fits(routine_at(code, routine).words, a, b),
         Op::Index => bounds_fit(a, b),
-        Op::Jump | Op::JumpF => jump_fits(code, place, a as usize),
+        Op::Jump | Op::JumpF => jump_fits(code, place, routine, a as usize),
         Op::Call => 1 <= a && (a as usize) < code.routines().len(),
         Op::Sys => call_row(a).is_some_and(|row| row.array == 0),
         Op::SysG => call_array_fits(program_words(code), a, b),
-        Op::SysL => call_array_fits(own_words(code, place), a, b),
-        Op::Return => 0 < routine_of(code, place),
-        Op::Halt => routine_of(code, place) == 0,
+        Op::SysL => call_array_fits(routine_at(code, routine).words, a, b),
+        Op::Return => 0 < routine,
+        Op::Halt => routine == 0,
         _ => true,
     }
 }
@@ -82,32 +85,33 @@ fn bounds_fit(a: u16, b: u16) -> bool
     low <= high && high - low <= 4095
 }
 
-fn jump_fits(code: &Code, place: usize, a: usize) -> bool
+fn jump_fits(code: &Code, place: usize, routine: usize, a: usize) -> bool
+    requires rise { broken_routine code.now ≡ None }
+    requires routine { routine ≡ routine_of code.now place }
+    requires number { routine < length code.now.routines }
     ensures { result ≡ jump_fits code.now place a }
 {
     a < code.instrs().len()
-        && routine_of(code, a) == routine_of(code, place)
+        && is_in(code, routine, a)
         && (place < a || is_tick(instr_at(code, a).op))
 }
 
-/// Whether a jump leads to the place.
-pub(crate) fn is_target(code: &Code, place: usize) -> bool
-    ensures { result ≡ is_target code.now place }
-{
-    code.instrs()
-        .iter()
-        .any(|instr| is_jump(instr.op) && instr.a as usize == place)
-}
-
-/// Whether the operand stack, of this height before the instruction at a place, has what it needs.
-pub(crate) fn height_fits(code: &Code, place: usize, instr: Instr, height: usize) -> bool
-    requires { height < 2 ^ 32 }
+/// Whether the operand stack, of this height before the instruction at a place of the routine, has
+/// what it needs.
+pub(crate) fn height_fits(
+    code: &Code,
+    place: usize,
+    routine: usize,
+    instr: Instr,
+    height: usize,
+) -> bool
+    requires routine { routine ≡ routine_of code.now place }
+    requires height { height < 2 ^ 32 }
     ensures { result ≡ height_fits code.now place instr.op instr.a height }
 {
     let popped = pops(code, instr.op, instr.a);
     let left = height.saturating_sub(popped);
     popped <= height
-        && left + pushes(code, instr.op, instr.a)
-            <= routine_at(code, routine_of(code, place)).height as usize
+        && left + pushes(code, instr.op, instr.a) <= routine_at(code, routine).height as usize
         && (!leaves_nothing(instr.op) || left == 0)
 }
