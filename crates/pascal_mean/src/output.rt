@@ -5,7 +5,6 @@ ghost use Rattle.std.specs.Fmt.{signed_decimal};
 ghost use Rattle.solo_base.specs.Line.{is_printable};
 ghost use Rattle.pascal_mean.specs.Batch.{shown, nothing_printed, with_character, with_characters, lines_in};
 
-use itoa::Buffer;
 use solo_base::{LINE_LENGTH, Line, LineList, NoMemory, is_printable};
 use std::alloc::Global;
 use std::marker::Model;
@@ -69,8 +68,7 @@ impl Output {
     pub fn push_number(&mut self, number: i16) -> Result<(), NoMemory>
         ensures { OnOk result (self.new ≡ with_characters self.old (signed_decimal number)) }
     {
-        let mut digits = Buffer::new();
-        self.push_all(digits.format(number).as_bytes())
+        self.push_all(signed(number).bytes())
     }
 
     /// All lines: the line in hand ends if it isn't empty.
@@ -91,6 +89,21 @@ impl Output {
         self.line = Line::new();
         Ok(())
     }
+}
+
+// A number in decimal.
+fn signed(number: i16) -> Line
+    ensures { result ≡ signed_decimal number }
+{
+    let mut digits = Line::new();
+    let size = u32::from(number.unsigned_abs());
+    if number < 0 {
+        digits.push(b'-');
+        digits.append_number(size);
+        return digits;
+    }
+    digits.append_number(size);
+    digits
 }
 
 // The character that is printed for a code.
