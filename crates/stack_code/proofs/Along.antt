@@ -44,7 +44,8 @@ along_begins c place a none along other =
     }
 
 -- where the routine goes on
-pub along_goes_on : (c : CodeLists) (place : ℕ) (a : Along) (height : ℕ) (behind : Bool) → IsAlong c place a → eqb (routine_of c (place + 1)) a.routine ≡ true
+pub along_goes_on : (c : CodeLists) (place : ℕ) (a : Along) (height : ℕ) (behind : Bool) → IsAlong c place a
+    → eqb (routine_of c (place + 1)) a.routine ≡ true
     → height ≡ a.height - pops c (instr_at c place).op (instr_at c place).a + pushes c (instr_at c place).op (instr_at c place).a
     → pushes c (instr_at c place).op (instr_at c place).a < 256
     → behind ≡ (not (is_target c (place + 1)) && (is_tick (instr_at c place).op || (not (is_jump (instr_at c place).op) && a.behind_tick)))
@@ -56,8 +57,11 @@ along_goes_on c place a height behind along own rises few leads =
       routine = sym same;
       number = along.number;
       few = omega (arith, along.few);
-      height = rises ∙ ap (λ h. h - pops c (instr_at c place).op (instr_at c place).a + pushes c (instr_at c place).op (instr_at c place).a) along.height ∙ sym (height_goes_on c place (same ∙ along.routine));
+      height = rises
+          ∙ ap (λ h. h - pops c (instr_at c place).op (instr_at c place).a + pushes c (instr_at c place).op (instr_at c place).a) along.height
+          ∙ sym (height_goes_on c place (same ∙ along.routine));
       low = omega (arith, rises, few, along.low);
-      behind_tick = leads ∙ ap (λ b. not (is_target c (place + 1)) && (is_tick (instr_at c place).op || (not (is_jump (instr_at c place).op) && b))) along.behind_tick
+      behind_tick = leads
+          ∙ ap (λ b. not (is_target c (place + 1)) && (is_tick (instr_at c place).op || (not (is_jump (instr_at c place).op) && b))) along.behind_tick
           ∙ sym (is_behind_tick_next c place ∙ rw on (led (is_target c (place + 1)) _));
     }

@@ -20,21 +20,25 @@ abbrev begun : ℕ → List RoutineInfo → ℕ
 begun place rs = count_by (λ r. leb r.start place) rs
 
 begun_here : (place : ℕ) (r : RoutineInfo) (rs : List RoutineInfo) → r.start ≤ place → begun place (r ∷ rs) ≡ 1 + begun place rs
-begun_here place r rs low = sum_by-cons (λ (x : RoutineInfo). cond (leb x.start place) 1 0) r rs ∙ ap (λ n. n + begun place rs) (cond-true (leb r.start place) 1 0 (le-leb _ _ low))
+begun_here place r rs low = sum_by-cons (λ (x : RoutineInfo). cond (leb x.start place) 1 0) r rs
+    ∙ ap (λ n. n + begun place rs) (cond-true (leb r.start place) 1 0 (le-leb _ _ low))
 
 begun_later : (place : ℕ) (r : RoutineInfo) (rs : List RoutineInfo) → place < r.start → begun place (r ∷ rs) ≡ begun place rs
 begun_later place r rs high =
     let rest : 0 + begun place rs ≡ begun place rs = omega arith in
-    sum_by-cons (λ (x : RoutineInfo). cond (leb x.start place) 1 0) r rs ∙ ap (λ n. n + begun place rs) (cond-false (leb r.start place) 1 0 (lt-leb _ _ high)) ∙ rest
+    sum_by-cons (λ (x : RoutineInfo). cond (leb x.start place) 1 0) r rs
+    ∙ ap (λ n. n + begun place rs) (cond-false (leb r.start place) 1 0 (lt-leb _ _ high)) ∙ rest
 
 -- none has begun where the first hasn't
 none_begun : (place : ℕ) (rs : List RoutineInfo) → Rises rs → (0 < length rs → place < (get_or rs 0 no_routine).start) → begun place rs ≡ 0
 none_begun place [] rises later = refl
 none_begun place (r ∷ rs) rises later =
-    begun_later place r rs (later (omega arith)) ∙ none_begun place rs (others_rise r rs rises) (λ some. omega (arith, later (omega arith), rises.next 0 (omega arith)))
+    begun_later place r rs (later (omega arith))
+    ∙ none_begun place rs (others_rise r rs rises) (λ some. omega (arith, later (omega arith), rises.next 0 (omega arith)))
 
 -- those up to the last one that has begun
-pub begun_to : (place : ℕ) (rs : List RoutineInfo) (k : ℕ) → Rises rs → k < length rs → (get_or rs k no_routine).start ≤ place → (suc k < length rs → place < (get_or rs (suc k) no_routine).start) → (begun place rs ≡ suc k) × ((get_or rs 0 no_routine).start ≤ place)
+pub begun_to : (place : ℕ) (rs : List RoutineInfo) (k : ℕ) → Rises rs → k < length rs → (get_or rs k no_routine).start ≤ place → (suc k < length rs
+    → place < (get_or rs (suc k) no_routine).start) → (begun place rs ≡ suc k) × ((get_or rs 0 no_routine).start ≤ place)
 begun_to place [] k rises inside low high = absurd (omega arith)
 begun_to place (r ∷ rs) zero rises inside low high =
     (begun_here place r rs low ∙ omega (arith, none_begun place rs (others_rise r rs rises) (λ some. high (omega arith))), low)
@@ -100,7 +104,8 @@ within : (c : CodeLists) (place k : ℕ) → Starts c → 0 < length c.routines 
 within c place k st some e = begun_from place c.routines k st.rises (omega (arith, e, first_begun place c.routines some (st.first some)))
 
 -- the places from a routine's start up to the next one's are its own
-pub place_is_own : (c : CodeLists) (k place : ℕ) → Rises c.routines → k < length c.routines → (routine_at c k).start ≤ place → (suc k < length c.routines → place < (routine_at c (suc k)).start) → routine_of c place ≡ k
+pub place_is_own : (c : CodeLists) (k place : ℕ) → Rises c.routines → k < length c.routines → (routine_at c k).start ≤ place
+    → (suc k < length c.routines → place < (routine_at c (suc k)).start) → routine_of c place ≡ k
 place_is_own c k place rises below low high =
     let all = begun_to place c.routines k rises below low high in
     omega (arith, all.0)
@@ -109,21 +114,24 @@ place_is_own c k place rises below low high =
 
 module _ (c : CodeLists) (k place : ℕ) (none : broken_routine c ≡ None) (below : k < length c.routines) where
   pub starts_later : place < (routine_at c k).start → leb (routine_at c k).start place ≡ eqb (routine_of c place) k
-  starts_later later = lt-leb _ _ later ∙ sym (ne_eqb (routine_of c place) k (λ own. omega (arith, later, (within c place k (starts c none) (omega arith) own).low)))
+  starts_later later = lt-leb _ _ later
+      ∙ sym (ne_eqb (routine_of c place) k (λ own. omega (arith, later, (within c place k (starts c none) (omega arith) own).low)))
 
   pub is_last : (routine_at c k).start ≤ place → k + 1 ≡ length c.routines → true ≡ eqb (routine_of c place) k
   is_last low last = sym (eq-eqb _ _ (place_is_own c k place (starts c none).rises below low (λ more. absurd (omega (arith, last)))))
 
   pub next_starts : (routine_at c k).start ≤ place → (k + 1 ≡ length c.routines → ⊥) → ltb place (routine_at c (k + 1)).start ≡ eqb (routine_of c place) k
   next_starts low more = elim (cases_Bool (ltb place (routine_at c (k + 1)).start)) [
-    | inl before ↦ before ∙ sym (eq-eqb _ _ (place_is_own c k place (starts c none).rises below low (λ _. ltb-true place (routine_at c (suc k)).start (rw add-one at before))))
+    | inl before ↦ before
+        ∙ sym (eq-eqb _ _ (place_is_own c k place (starts c none).rises below low (λ _. ltb-true place (routine_at c (suc k)).start (rw add-one at before))))
     | inr behind ↦ behind ∙ sym (ne_eqb (routine_of c place) k (λ own.
         let high = (within c place k (starts c none) (omega arith) own).high (omega (arith, more)) in
         omega (arith, ltb-false place (routine_at c (suc k)).start (rw add-one at behind), high)))
   ]
 
 -- the next place is of the same routine, or the next one starts there
-pub next_routine : (c : CodeLists) (k place : ℕ) → broken_routine c ≡ None → 0 < length c.routines → routine_of c place ≡ k → eqb (routine_of c (place + 1)) k ≡ false
+pub next_routine : (c : CodeLists) (k place : ℕ) → broken_routine c ≡ None → 0 < length c.routines → routine_of c place ≡ k
+    → eqb (routine_of c (place + 1)) k ≡ false
     → (k + 1 ≡ routine_of c (place + 1)) × (k + 1 < length c.routines)
 next_routine c k place none some e other =
     let st = starts c none in

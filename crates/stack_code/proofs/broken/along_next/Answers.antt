@@ -6,7 +6,8 @@ pub overflow_add-result : goal.overflow_add-result
 overflow_add-result c = omega (arith, c.requires.along.few, c.requires.place)
 
 pub returns-then-not-is_in : goal.returns-then-not-is_in
-returns-then-not-is_in c = along_begins c.args.code.now c.args.place c.args.along c.requires.rise c.requires.along (sym c.is_in.ensures ∙ c.if-not-is_in.true)
+returns-then-not-is_in c = along_begins c.args.code.now c.args.place c.args.along c.requires.rise c.requires.along (sym c.is_in.ensures
+    ∙ c.if-not-is_in.true)
 
 pub returns : goal.returns
 returns c =

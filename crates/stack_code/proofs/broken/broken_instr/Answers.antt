@@ -15,27 +15,32 @@ loop-place-init c = record {
 
 pub returns-then-not-instr_is_good-clause-first : goal.returns-then-not-instr_is_good-clause-first
 returns-then-not-instr_is_good-clause-first c =
-    sym (least_here (λ place. not (instr_is_good c.args.code.now place)) c.loop-place.place (length c.instrs-place-end.result.now) c.loop-place-test.true (ap not (sym c.instr_is_good.ensures ∙ c.if-not-instr_is_good.true)))
+    sym (least_here (λ place. not (instr_is_good c.args.code.now place)) c.loop-place.place
+    (length c.instrs-place-end.result.now) c.loop-place-test.true (ap not (sym c.instr_is_good.ensures ∙ c.if-not-instr_is_good.true)))
     ∙ c.loop-place.invariant.least
 
 pub loop-place-preserved : goal.loop-place-preserved
 loop-place-preserved c = record {
   least =
-      sym (least_further (λ place. not (instr_is_good c.args.code.now place)) c.loop-place.place (length c.instrs-place-end.result.now) c.loop-place-test.true (ap not (sym c.instr_is_good.ensures ∙ c.if-not-instr_is_good.false)))
+      sym (least_further (λ place. not (instr_is_good c.args.code.now place)) c.loop-place.place
+      (length c.instrs-place-end.result.now) c.loop-place-test.true (ap not (sym c.instr_is_good.ensures ∙ c.if-not-instr_is_good.false)))
       ∙ c.loop-place.invariant.least;
   along = c.along_next-along.ensures;
 }
 
 pub returns-clause-first : goal.returns-clause-first
 returns-clause-first c =
-    sym (least_nowhere (λ place. not (instr_is_good c.args.code.now place)) c.loop-place.place (length c.instrs-place-end.result.now) c.loop-place-test.false)
+    sym (least_nowhere (λ place. not (instr_is_good c.args.code.now place)) c.loop-place.place
+    (length c.instrs-place-end.result.now) c.loop-place-test.false)
     ∙ c.loop-place.invariant.least
 
 pub mark_targets-requires : goal.mark_targets-requires
 mark_targets-requires c = λ place below. get_or-replicate 8193 place false false below
 
 pub instr_is_good-requires-clause-target : goal.instr_is_good-requires-clause-target
-instr_is_good-requires-clause-target c = c.mark_targets.ensures c.loop-place.place (omega (arith, c.loop-place-test.true, c.instrs-place-end.ensures.code.few_instrs, ap length c.instrs-place-end.ensures.list))
+instr_is_good-requires-clause-target c = c.mark_targets.ensures c.loop-place.place (omega
+    (arith, c.loop-place-test.true, c.instrs-place-end.ensures.code.few_instrs, ap length c.instrs-place-end.ensures.list))
 
 pub along_next-along-requires-clause-target : goal.along_next-along-requires-clause-target
-along_next-along-requires-clause-target c = c.mark_targets.ensures (c.loop-place.place + 1) (omega (arith, c.loop-place-test.true, c.instrs-place-end.ensures.code.few_instrs, ap length c.instrs-place-end.ensures.list))
+along_next-along-requires-clause-target c = c.mark_targets.ensures (c.loop-place.place + 1) (omega
+    (arith, c.loop-place-test.true, c.instrs-place-end.ensures.code.few_instrs, ap length c.instrs-place-end.ensures.list))
