@@ -19,9 +19,10 @@ use Rattle.stack_machine.specs.State.{words_of, with_words}
 use Rattle.stack_machine.specs.Machine.{start_state, answered, reply_at, set_array, array_start, uses_program}
 use Rattle.stack_machine.specs.Run.{Moves, LeadsToCall, Replied}
 use Rattle.stack_machine.specs.Safe.{IsSound}
-use Rattle.stack_machine.proofs.Weights.{size, price, weight, heaviest}
+use Rattle.stack_machine.specs.Left.{instr_count, price, weight_at, left_until_end}
+use Rattle.stack_machine.proofs.Weights.{heaviest}
 use Rattle.stack_machine.proofs.Onward.{IsUnderWay, sets_out, goes_further, asks_there}
-use Rattle.stack_machine.proofs.Reply.{goes_running, asks_running, left_until_end}
+use Rattle.stack_machine.proofs.Reply.{goes_running, asks_running}
 use Rattle.stack_machine.proofs.Rounds.{round_less}
 use Rattle.stack_machine.proofs.Safety.{answered_is_sound, begins_sound}
 use Rattle.pascal_mean.specs.MoreReplies.{calls_of}
@@ -245,7 +246,7 @@ paid-by-ticks limit left one first low cheap light = let all = mul-le-mul low ch
 
 within-limit : (c : CodeLists) (limit : ℕ) → IsCode c → 6 * left_until_end c limit (start_state c) + 1 ≤ most_lines limit
 within-limit c limit code =
-    paid-by-ticks limit (limit - 0) (price c) (weight c 0) (omega arith) (price-low (size c) code.few_instrs) (heaviest c 0)
+    paid-by-ticks limit (limit - 0) (price c) (weight_at c 0) (omega arith) (price-low (instr_count c) code.few_instrs) (heaviest c 0)
 
 pub few-lines : (w : Work) (outcome : RunOutcome) → IsCode w.code → IsGood w.code → AreLines w.cards → ComesTo w outcome
     → length (lines_of outcome) ≤ most_lines w.limit

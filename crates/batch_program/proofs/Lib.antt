@@ -5,6 +5,7 @@ mod Onward
 mod Steps
 mod Fitting
 pub mod Courses
+pub mod RunFor
 pub mod RunSoFar
 pub mod Source
 pub mod MoreCards

@@ -16,7 +16,8 @@ use Rattle.stack_machine.specs.Standing.{Standing, StandsWell}
 use Rattle.stack_machine.specs.History.{RunsOn as WentBy, StandsFor}
 use Rattle.stack_machine.proofs.Histories.{stands_on_pause, stands_answered}
 use Rattle.stack_machine.proofs.Pauses.{IsCall, IsEnd, pauses}
-use Rattle.stack_machine.proofs.Reply.{asks_running, left_until_end}
+use Rattle.stack_machine.specs.Left.{left_until_end}
+use Rattle.stack_machine.proofs.Reply.{asks_running}
 use Rattle.stack_machine.proofs.Rounds.{round_less}
 use Rattle.stack_machine.proofs.Safety.{answered_is_sound, begins_sound}
 use Rattle.pascal_mean.specs.MoreReplies.{calls_of}

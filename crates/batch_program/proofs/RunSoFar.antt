@@ -1,36 +1,32 @@
 -- The run of a code, instruction by instruction: good code comes to it, and more cards go on with it.
-use Rattle.std.proofs.Common.{◌≡◌, ℕ, zero, suc, ◌+◌, ◌<◌, Bool, true, false, Option, Some, None, List, [], ◌∷◌, ◌++◌, refl, sym, ◌∙◌, ap, subst, append_assoc, arith}
+use Rattle.std.proofs.Common.{◌≡◌, ℕ, zero, suc, ◌+◌, ◌<◌, Bool, false, Option, Some, None, List, [], ◌∷◌, ◌++◌, refl, sym, ◌∙◌, ap, subst, append_assoc, arith}
 use Rattle.std.specs.Prelude.{All}
 use Rattle.std.proofs.lemmas.List.{append-nil}
 use Rattle.std.proofs.lemmas.Option.{none-some}
-use Rattle.solo_base.specs.declared.outcome.ProgResult.{ProgResult}
 use Rattle.solo_base.specs.declared.system_call.SysCall.{SysCall}
 use Rattle.solo_base.specs.declared.system_call.SysReply.{SysReply}
-use Rattle.solo_base.specs.RunOutcome.{RunOutcome, Ends, Waits}
+use Rattle.solo_base.specs.RunOutcome.{Waits}
 use Rattle.solo_base.specs.Text.{text}
-use Rattle.stack_code.specs.CodeLists.{CodeLists, IsCode}
-use Rattle.stack_code.specs.Rules.{IsGood}
+use Rattle.stack_code.specs.CodeLists.{CodeLists}
 use Rattle.stack_machine.specs.declared.running.Pause.TheVariants as pause
 use Rattle.stack_machine.specs.declared.state.Finish.{Finish}
 use Rattle.stack_machine.specs.declared.state.State.{State}
 use Rattle.stack_machine.specs.State.{Next, Goes, Asks, Stops, Lacks}
 use Rattle.stack_machine.specs.Machine.{next, next_of, start_state, answered}
-use Rattle.stack_machine.specs.Run.{LeadsToCall}
-use Rattle.stack_machine.specs.Safe.{IsSound}
-use Rattle.stack_machine.specs.Standing.{Standing, StandsWell}
-use Rattle.stack_machine.specs.History.{WentOn, RunsOn as WentBy, HasEnded, StandsFor}
-use Rattle.stack_machine.proofs.Weights.{left_to_run}
+use Rattle.stack_machine.specs.Standing.{Standing}
+use Rattle.stack_machine.specs.History.{WentOn, RunsOn as WentBy, HasEnded}
+use Rattle.stack_machine.specs.Left.{left_to_run, left_by, left_until_end}
 use Rattle.stack_machine.proofs.Histories.{stands_on_pause}
 use Rattle.stack_machine.proofs.Onward.{moves_more, sets_out, goes_further, comes_nearer, asks_there, never_stuck}
 use Rattle.stack_machine.proofs.Pauses.{IsCall}
-use Rattle.stack_machine.proofs.Reply.{asks_running, goes_running, left_by, left_until_end}
+use Rattle.stack_machine.proofs.Reply.{asks_running, goes_running}
 use Rattle.stack_machine.proofs.Rounds.{round_less}
 use Rattle.stack_machine.proofs.Safety.{begins_sound}
 use Rattle.pascal_mean.specs.MoreReplies.{calls_of, GoesOn}
 use Rattle.pascal_mean.specs.Batch.{batch_reply, batch_replies, input_after}
 use Rattle.batch_program.specs.Input.{reply_so_far, input_behind}
-use Rattle.batch_program.specs.Outcome.{Work, ComesTo, RunsOn}
-use Rattle.batch_program.specs.RunSoFar.{Later, answer_by, go_on, run_for, run_so_far}
+use Rattle.batch_program.specs.Outcome.{RunsOn}
+use Rattle.batch_program.proofs.RunFor.{Later, answer_by, go_on, run_for, run_is}
 use Rattle.batch_program.specs.Laws.{ReachesItsRun, RunsGoOn}
 use Rattle.batch_program.proofs.Bytes.{text_is_bytes}
 use Rattle.batch_program.proofs.Inputs.{reply_is, reply_kept, behind_more, text_append}
@@ -106,11 +102,12 @@ with_more (suc n) c limit closed more s input made =
     (next c limit s)
 
 pub runs_go_further : RunsGoOn
-unfolding run_so_far
 runs_go_further c limit cards more closed =
     let n = left_until_end c limit (start_state c) + 1 in
-    subst (λ i. GoesOn (run_so_far c limit cards false) (run_for n c limit closed (start_state c) i [])) (sym (text_append cards more))
-    (with_more n c limit closed (text more) (start_state c) (text cards) [])
+    rw (run_is c limit cards false, run_is c limit (cards ++ more) closed)
+    (subst (λ i. GoesOn (run_for n c limit false (start_state c) (text cards) []) (run_for n c limit closed (start_state c) i []))
+    (sym (text_append cards more))
+    (with_more n c limit closed (text more) (start_state c) (text cards) []))
 
 -- ---- Good code comes to it
 lacks_running : (c : CodeLists) (limit : ℕ) (s : State) (ended : Option Finish) → s.ended ≡ ended → next c limit s ≡ Lacks → ended ≡ None
@@ -192,12 +189,12 @@ reaches_within (suc n) input closed bytes m made less so =
     reaches_by_step n m input closed made less bytes so (reaches_within n input closed bytes) (next m.code m.limit m.state) refl
 
 pub reaches_run : ReachesItsRun
-unfolding run_so_far
 reaches_run w code good lines =
     let m : Standing = record { code = w.code; limit = w.limit; state = start_state w.code } in
-    reaches_within (left_until_end w.code w.limit (start_state w.code) + 1) (text w.cards) w.closed (text_is_bytes w.cards lines) m [] (omega arith)
+    rw (run_is w.code w.limit w.cards w.closed)
+    (reaches_within (left_until_end w.code w.limit (start_state w.code) + 1) (text w.cards) w.closed (text_is_bytes w.cards lines) m [] (omega arith)
     (record {
       well = begins_sound w.code w.limit code good;
       stands = record { begun = start_state w.code; replied = refl; went_on = WentBy 0 refl };
       answered = tt;
-    })
+    }))

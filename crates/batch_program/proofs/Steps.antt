@@ -20,9 +20,9 @@ use Rattle.stack_machine.specs.Standing.{Standing, StandsWell}
 use Rattle.stack_machine.specs.History.{StandsFor, outcome_at}
 use Rattle.stack_machine.proofs.Onward.{has_ended}
 use Rattle.stack_machine.proofs.Pauses.{no_call_at_end}
-use Rattle.stack_machine.proofs.Reply.{asks_running, goes_running, left_by, left_until_end}
+use Rattle.stack_machine.specs.Left.{left_by, left_until_end, left_to_run}
+use Rattle.stack_machine.proofs.Reply.{asks_running, goes_running}
 use Rattle.stack_machine.proofs.Measure.{goes_less}
-use Rattle.stack_machine.proofs.Weights.{left_to_run}
 use Rattle.stack_machine.proofs.Rounds.{round_less}
 use Rattle.pascal_mean.specs.Batch.{batch_reply, batch_replies, input_after, characters_of, Printed, last_line, output_of}
 use Rattle.batch_program.specs.Input.{reply_so_far, AreAnswered, input_behind}

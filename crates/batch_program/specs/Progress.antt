@@ -1,7 +1,7 @@
 -- Where a program stands that is under way in the batch.
 use Rattle.std.specs.Prelude.{◌≡◌, ℕ, ◌+◌, ◌*◌, Bool, false, List, [], length}
 use Rattle.stack_machine.specs.Standing.{Standing}
-use Rattle.stack_machine.proofs.Reply.{left_until_end}
+use Rattle.stack_machine.specs.Left.{left_until_end}
 use Rattle.pascal_mean.specs.Batch.{last_line}
 
 -- the machine, what is left of the cards so far, whether no further one comes, and the line in hand

@@ -13,7 +13,7 @@ use Rattle.stack_machine.specs.State.{Next, Goes, Asks, Lacks, push, has_room, w
 use Rattle.solo_base.specs.Arithmetic.{difference}
 use Rattle.stack_machine.specs.Effects.{replace, unary, binary, store, load, load_at, store_at, load_element, store_element, replace_found, push_found, index_in, index, chr, refer, words_named, word_named, push_named, load_named, load_reference, write_named, store_named, store_reference}
 use Rattle.stack_machine.specs.Calls.{Request, Makes, OutOfRange, LacksValue, made, ask_row, sys, request}
-use Rattle.stack_machine.proofs.Weights.{weight, weights}
+use Rattle.stack_machine.specs.Left.{weight_at, weights}
 
 -- the next place, with the same ticks and the same places of the waiting activations
 pub record IsNextPlace (c : CodeLists) (s t : State) : Type 0 where
@@ -85,7 +85,7 @@ load_at_moves c program s a b (i ∷ rest) = element_moves c program s a rest (i
 waiting_places : (c : CodeLists) (below : List Activation) (number : ℕ) (words : List ℤ) → weights c (waiting_with below number words) ≡ weights c below
 waiting_places c [] number words = refl
 waiting_places c (a ∷ above) zero words = refl
-waiting_places c (a ∷ above) (suc number) words = ap (λ n. weight c a.place + n) (waiting_places c above number words)
+waiting_places c (a ∷ above) (suc number) words = ap (λ n. weight_at c a.place + n) (waiting_places c above number words)
 
 pub written_at : (c : CodeLists) (s : State) (number : ℕ) (words operands : List ℤ) → IsNextPlace c s (advance (with_words_at s number words) operands)
 written_at c s number words operands = record {

@@ -23,13 +23,14 @@ use Rattle.stack_machine.specs.State.{Next, Goes, Asks, Stops, Lacks, stop, adva
 use Rattle.stack_machine.specs.Effects.{jump_false, tick, call, enter, leave, return_to, give_back}
 use Rattle.stack_machine.specs.Operators.{unary_of, binary_of}
 use Rattle.stack_machine.specs.Machine.{effect, next, next_by, next_of}
-use Rattle.stack_machine.proofs.Weights.{size, weight, weights, price, left_to_run, some_weight, heaviest, next_is_lighter, target_is_lighter, call_is_lighter}
+use Rattle.stack_machine.specs.Left.{instr_count, weight_at, weights, price, left_to_run}
+use Rattle.stack_machine.proofs.Weights.{some_weight, heaviest, next_is_lighter, target_is_lighter, call_is_lighter}
 use Rattle.stack_machine.proofs.Starts.{start_is_unticked}
 use Rattle.stack_machine.proofs.Goes.{IsNextPlace, MovesOn, unary_moves, binary_moves, push_moves, load_moves, chr_moves, index_moves, load_at_moves, store_moves, store_at_moves, refer_moves, load_reference_moves, store_reference_moves, sys_moves}
 
 -- an instruction at a place of the code that is no TICK
 pub record IsNoTick (c : CodeLists) (place : ℕ) : Type 0 where
-  pub inside : place < size c
+  pub inside : place < instr_count c
   pub no_tick : is_tick (instr_at c place).op ≡ false
 
 -- an instruction that goes on leaves less to run, and one that asks changes nothing and is no TICK
@@ -77,7 +78,7 @@ tick_falls c limit s a b =
 
 -- ---- Jumps
 
-jump_lands : (c : CodeLists) (place a : ℕ) → is_jump (instr_at c place).op ≡ true → (instr_at c place).a ≡ a → place < size c → is_target c a ≡ true
+jump_lands : (c : CodeLists) (place a : ℕ) → is_jump (instr_at c place).op ≡ true → (instr_at c place).a ≡ a → place < instr_count c → is_target c a ≡ true
 jump_lands c place a is_jump_here same inside =
     list_any_at (λ i. is_jump i.op && eqb i.a a) c.instrs place no_instr inside (and_from _ _ is_jump_here (eq-eqb _ _ same))
 
@@ -92,7 +93,7 @@ further_or_tick c place a fits =
       | inr tick ↦ inr tick
     ]
 
--- a jump of this instruction lowers the weight
+-- a jump of this instruction lowers the weight_at
 pub record IsJumpTo (c : CodeLists) (place a : ℕ) : Type 0 where
   pub here : IsNoTick c place
   pub jumps : is_jump (instr_at c place).op ≡ true
@@ -116,11 +117,11 @@ jump_false_falls c limit s a (v ∷ rest) jump =
 
 -- ---- Calls of routines
 
-weights_append : (c : CodeLists) (below : List Activation) (a : Activation) → weights c (below ++ a ∷ []) ≡ weights c below + weight c a.place
+weights_append : (c : CodeLists) (below : List Activation) (a : Activation) → weights c (below ++ a ∷ []) ≡ weights c below + weight_at c a.place
 weights_append c [] a = omega arith
 weights_append c (b ∷ below) a = let more = weights_append c below a in omega (arith, more)
 
-enter_falls : (c : CodeLists) (limit : ℕ) (s : State) (r : RoutineInfo) (a : ℕ) → weight c (s.current.place + 1) + weight c r.start < weight c s.current.place → Falls c limit s (enter s r a)
+enter_falls : (c : CodeLists) (limit : ℕ) (s : State) (r : RoutineInfo) (a : ℕ) → weight_at c (s.current.place + 1) + weight_at c r.start < weight_at c s.current.place → Falls c limit s (enter s r a)
 enter_falls c limit s r a less =
     let more = weights_append c s.below (waiting_caller r s.current) in
     chosen c limit s (leb r.params (length s.current.operands)) (Goes (record s { below = s.below ++ waiting_caller r s.current ∷ []; current = opened r a s.current.operands })) Lacks
@@ -133,19 +134,19 @@ call_falls c limit s a good here behind later inside =
     chosen c limit s (leb 63 (length s.below)) (stop s result.StackLimit) (enter s r a) (λ _. tt) (λ _. enter_falls c limit s r a less)
 
 -- the waiting activations without the last one
-weights_last : (c : CodeLists) (below : List Activation) (n : ℕ) (a : Activation) → n + 1 ≡ length below → slice_get below n ≡ Some a → weights c below ≡ weights c (take n below) + weight c a.place
+weights_last : (c : CodeLists) (below : List Activation) (n : ℕ) (a : Activation) → n + 1 ≡ length below → slice_get below n ≡ Some a → weights c below ≡ weights c (take n below) + weight_at c a.place
 weights_last c [] n a count is = absurd cc
-weights_last c (b ∷ []) zero a count is = let same = ap (λ (d : Activation). weight c d.place) (same_Some b a is) in omega (arith, same)
+weights_last c (b ∷ []) zero a count is = let same = ap (λ (d : Activation). weight_at c d.place) (same_Some b a is) in omega (arith, same)
 weights_last c (b ∷ d ∷ below) zero a count is = absurd (omega (arith, count))
 weights_last c (b ∷ below) (suc n) a count is = let more = weights_last c below n a (omega (arith, count)) is in omega (arith, more)
 
-given_falls : (c : CodeLists) (limit : ℕ) (s : State) (below : List Activation) (caller : Activation) (word : Option ℤ) → weights c s.below ≡ weights c below + weight c caller.place → Falls c limit s (give_back c s below caller word)
+given_falls : (c : CodeLists) (limit : ℕ) (s : State) (below : List Activation) (caller : Activation) (word : Option ℤ) → weights c s.below ≡ weights c below + weight_at c caller.place → Falls c limit s (give_back c s below caller word)
 given_falls c limit s below caller None whole = tt
 given_falls c limit s below caller (Some word) whole =
     let some = some_weight c s.current.place in
     chosen c limit s (has_room c caller) (Goes (record s { below = below; current = record caller { operands = word ∷ caller.operands } })) Lacks (λ _. omega (arith, whole, some)) (λ _. tt)
 
-return_falls : (c : CodeLists) (limit : ℕ) (s : State) (below : List Activation) (caller : Option Activation) → ((a : Activation) → caller ≡ Some a → weights c s.below ≡ weights c below + weight c a.place) → Falls c limit s (return_to c s below caller)
+return_falls : (c : CodeLists) (limit : ℕ) (s : State) (below : List Activation) (caller : Option Activation) → ((a : Activation) → caller ≡ Some a → weights c s.below ≡ weights c below + weight_at c a.place) → Falls c limit s (return_to c s below caller)
 return_falls c limit s below None whole = tt
 return_falls c limit s below (Some a) whole =
     let some = some_weight c s.current.place in
@@ -163,7 +164,7 @@ leave_falls c limit s =
 
 -- what the rules say of the instruction at a place
 pub record IsAt (c : CodeLists) (place : ℕ) (o : Op) (a b : ℕ) : Type 0 where
-  pub inside : place < size c
+  pub inside : place < instr_count c
   pub same_op : (instr_at c place).op ≡ o
   pub same_a : (instr_at c place).a ≡ a
   pub fits : operands_fit c place o a b ≡ true
@@ -224,7 +225,7 @@ behind_from : (calls behind : Bool) → (not calls || behind) ≡ true → calls
 behind_from true behind fits is = fits
 behind_from false behind fits is = absurd (false≢true is)
 
-instr_is_at : (c : CodeLists) (place : ℕ) → IsGood c → place < size c → IsAt c place (instr_at c place).op (instr_at c place).a (instr_at c place).b
+instr_is_at : (c : CodeLists) (place : ℕ) → IsGood c → place < instr_count c → IsAt c place (instr_at c place).op (instr_at c place).a (instr_at c place).b
 instr_is_at c place good inside =
     let calls = and_parts _ _ (good.instrs place inside) in
     let targets = and_parts _ _ calls.0 in

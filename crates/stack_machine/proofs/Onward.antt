@@ -13,7 +13,7 @@ use Rattle.stack_machine.specs.State.{Goes, Asks, Stops, Lacks}
 use Rattle.stack_machine.specs.Machine.{effect, next, next_by, next_of}
 use Rattle.stack_machine.specs.Run.{Moves, LeadsToCall, LeadsToEnd}
 use Rattle.stack_machine.specs.Safe.{IsSound, IsRunning}
-use Rattle.stack_machine.proofs.Weights.{left_to_run}
+use Rattle.stack_machine.specs.Left.{left_to_run}
 use Rattle.stack_machine.proofs.Measure.{goes_less, asks_here}
 use Rattle.stack_machine.proofs.Safety.{never_lacks, stays_running, stops_within_limit, begins_sound}
 

@@ -9,7 +9,7 @@ use Rattle.stack_machine.specs.State.{Next, Goes, Asks, Stops, Lacks}
 use Rattle.stack_machine.specs.Machine.{next}
 use Rattle.stack_machine.specs.Safe.{IsSound}
 use Rattle.stack_machine.specs.Run.{Moves, LeadsToCall, LeadsToEnd}
-use Rattle.stack_machine.proofs.Weights.{left_to_run}
+use Rattle.stack_machine.specs.Left.{left_to_run}
 use Rattle.stack_machine.proofs.Onward.{IsUnderWay, sets_out, goes_further, comes_nearer, asks_there, never_stuck, has_ended}
 
 -- ---- In one way

@@ -18,7 +18,8 @@ use Rattle.solo_base.specs.Fits.{Fits}
 use Rattle.stack_machine.specs.Room.{TakesReply, HasRoomFor}
 use Rattle.stack_machine.specs.Safe.{IsSound}
 use Rattle.stack_machine.specs.Standing.{Standing, StandsWell, Awaits}
-use Rattle.stack_machine.proofs.Weights.{left_to_run, price, next_is_lighter}
+use Rattle.stack_machine.specs.Left.{left_to_run, price, left_by, left_until_end}
+use Rattle.stack_machine.proofs.Weights.{next_is_lighter}
 use Rattle.stack_machine.proofs.Goes.{written}
 use Rattle.stack_machine.proofs.Measure.{IsNoTick, asks_here}
 use Rattle.stack_machine.proofs.Standing.{HasPlaceFor}
@@ -92,14 +93,6 @@ replied_less c limit s reply here =
     let less = next_is_lighter c s.current.place here.inside here.no_tick in
     let fewer : (limit - (s.ticks + ticks_in reply)) * price c ≤ (limit - s.ticks) * price c = mul-le-mul_right (price c) (omega arith) in
     rw (same.waiting, same.place) (omega (arith, fewer, less))
-
--- up to the end: nothing for a program that ended
-abbrev pub left_by : Option Finish → ℕ → ℕ
-left_by (Some finish) left = 0
-left_by None left = left + 1
-
-abbrev pub left_until_end : CodeLists → ℕ → State → ℕ
-left_until_end c limit s = left_by s.ended (left_to_run c limit s)
 
 by_any_less : (o : Option Finish) (less more : ℕ) → less < more → left_by o less < more + 1
 by_any_less (Some finish) less more below = omega arith

@@ -14,9 +14,9 @@ use Rattle.stack_machine.specs.Safe.{IsSound}
 use Rattle.stack_machine.specs.Run.{Moves, LeadsToCall, LeadsToEnd, Replied}
 use Rattle.stack_machine.specs.History.{RunsOn, HasEnded}
 use Rattle.stack_machine.specs.World.{Gave, RanToEnd, BrokeOff}
-use Rattle.stack_machine.proofs.Weights.{left_to_run}
+use Rattle.stack_machine.specs.Left.{left_to_run, left_by, left_until_end}
 use Rattle.stack_machine.proofs.Measure.{goes_less}
-use Rattle.stack_machine.proofs.Reply.{asks_running, goes_running, answered_less, left_by, left_until_end, room_for_fitting}
+use Rattle.stack_machine.proofs.Reply.{asks_running, goes_running, answered_less, room_for_fitting}
 use Rattle.stack_machine.proofs.Safety.{answered_is_sound}
 
 -- ---- What is left to run

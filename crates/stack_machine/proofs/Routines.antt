@@ -1,48 +1,11 @@
 -- Where the routines of good code start: their places belong to them, and nothing is on the stack there.
-use Rattle.std.proofs.Common.{◌≡◌, ℕ, zero, suc, ◌+◌, ◌<◌, ◌≤◌, true, cond, leb, List, [], ◌∷◌, length, get_or, refl, sym, ◌∙◌, ap, arith, add-one}
-use Rattle.std.specs.List.{count_by}
-use Rattle.std.proofs.lemmas.Bool.{cond-true, cond-false, ltb-true, leb-true, eqb-true, le-leb, lt-leb, and_parts}
-use Rattle.std.proofs.lemmas.List.Sums.{sum_by-cons}
-use Rattle.stack_code.specs.declared.instr.RoutineInfo.{RoutineInfo}
+use Rattle.std.proofs.Common.{◌≡◌, ℕ, zero, suc, ◌+◌, ◌<◌, ◌≤◌, true, length, refl, sym, ◌∙◌, ap, arith, add-one}
+use Rattle.std.proofs.lemmas.Bool.{ltb-true, leb-true, eqb-true, and_parts}
 use Rattle.stack_code.specs.CodeFile.{mark}
-use Rattle.stack_code.specs.CodeLists.{CodeLists, routine_at, no_routine}
+use Rattle.stack_code.specs.CodeLists.{CodeLists, routine_at}
 use Rattle.stack_code.specs.Rules.{IsGood, routine_of, height_at, starts_well}
 use Rattle.stack_code.proofs.StraightLine.{height_begins, height_at_start}
-
--- ---- A list of starts that rise
-
-pub record Rises (rs : List RoutineInfo) : Type 0 where
-  pub next : (k : ℕ) → suc k < length rs → (get_or rs k no_routine).start < (get_or rs (suc k) no_routine).start
-
-others_rise : (r : RoutineInfo) (rs : List RoutineInfo) → Rises (r ∷ rs) → Rises rs
-others_rise r rs rises = record { next = λ k below. rises.next (suc k) (omega arith) }
-
-abbrev begun : ℕ → List RoutineInfo → ℕ
-begun place rs = count_by (λ r. leb r.start place) rs
-
-begun_here : (place : ℕ) (r : RoutineInfo) (rs : List RoutineInfo) → r.start ≤ place → begun place (r ∷ rs) ≡ 1 + begun place rs
-begun_here place r rs low = sum_by-cons (λ (x : RoutineInfo). cond (leb x.start place) 1 0) r rs ∙ ap (λ n. n + begun place rs) (cond-true (leb r.start place) 1 0 (le-leb _ _ low))
-
-begun_later : (place : ℕ) (r : RoutineInfo) (rs : List RoutineInfo) → place < r.start → begun place (r ∷ rs) ≡ begun place rs
-begun_later place r rs high =
-    let rest : 0 + begun place rs ≡ begun place rs = omega arith in
-    sum_by-cons (λ (x : RoutineInfo). cond (leb x.start place) 1 0) r rs ∙ ap (λ n. n + begun place rs) (cond-false (leb r.start place) 1 0 (lt-leb _ _ high)) ∙ rest
-
--- none has begun where the first hasn't
-none_begun : (place : ℕ) (rs : List RoutineInfo) → Rises rs → (0 < length rs → place < (get_or rs 0 no_routine).start) → begun place rs ≡ 0
-none_begun place [] rises later = refl
-none_begun place (r ∷ rs) rises later =
-    begun_later place r rs (later (omega arith)) ∙ none_begun place rs (others_rise r rs rises) (λ some. omega (arith, later (omega arith), rises.next 0 (omega arith)))
-
--- those up to the last one that has begun
-begun_to : (place : ℕ) (rs : List RoutineInfo) (k : ℕ) → Rises rs → k < length rs → (get_or rs k no_routine).start ≤ place → (suc k < length rs → place < (get_or rs (suc k) no_routine).start) → (begun place rs ≡ suc k) × ((get_or rs 0 no_routine).start ≤ place)
-begun_to place [] k rises inside low high = absurd (omega arith)
-begun_to place (r ∷ rs) zero rises inside low high =
-    (begun_here place r rs low ∙ omega (arith, none_begun place rs (others_rise r rs rises) (λ some. high (omega arith))), low)
-begun_to place (r ∷ rs) (suc k) rises inside low high =
-    let others = begun_to place rs k (others_rise r rs rises) (omega arith) low (λ below. high (omega arith)) in
-    let first : r.start ≤ place = omega (arith, others.1, rises.next 0 (omega arith)) in
-    (begun_here place r rs first ∙ omega (arith, others.0), first)
+use Rattle.stack_code.proofs.Starts.{Rises, begun_to}
 
 -- ---- The routines of good code
 

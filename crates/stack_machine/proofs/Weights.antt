@@ -1,36 +1,12 @@
--- What the instructions that are still to come weigh, and how the weight falls from one to the next.
-use Rattle.std.proofs.Common.{◌≡◌, ℕ, zero, suc, ◌+◌, ◌-◌, ◌*◌, ◌<◌, ◌≤◌, Bool, true, false, not, ◌⊎◌, ◌&&◌, ◌||◌, eqb, List, [], ◌∷◌, length, refl, sym, ◌∙◌, ap, arith, inl, inr, add-one}
+-- How what the instructions that are still to come weigh falls from one to the next.
+use Rattle.std.proofs.Common.{◌≡◌, ℕ, zero, suc, ◌+◌, ◌-◌, ◌*◌, ◌<◌, ◌≤◌, Bool, true, false, not, ◌⊎◌, ◌&&◌, ◌||◌, eqb, refl, sym, ◌∙◌, ap, arith, inl, inr, add-one}
 use Rattle.std.proofs.lemmas.Bool.{false≢true}
 use Rattle.std.proofs.Math.Nat.{suc-mul, mul-le-mul_right, le-mul_of_pos_right}
 use Rattle.std.proofs.lemmas.Bool.{and_parts}
 use Rattle.stack_code.specs.CodeLists.{CodeLists, instr_at}
 use Rattle.stack_code.specs.Rules.{routine_of, is_target, is_tick, is_jump, is_behind_tick}
 use Rattle.stack_code.proofs.BehindTick.{is_behind_tick_next, is_behind_tick_start}
-use Rattle.stack_machine.specs.declared.activation.Activation.{Activation}
-use Rattle.stack_machine.specs.declared.state.State.{State}
-
-abbrev pub size : CodeLists → ℕ
-size c = length c.instrs
-
--- The instructions that an activation runs from a place on up to its next tick weigh one each, and one more: a TICK pays for what comes behind it. Behind a tick calls may come, so there each weighs as much as a routine that is called and runs up to its first tick.
-abbrev pub weight_by : Bool → Bool → ℕ → ℕ → ℕ
-weight_by true behind ahead room = 1
-weight_by false true ahead room = ahead * room + 1
-weight_by false false ahead room = ahead + 1
-
-abbrev pub weight : CodeLists → ℕ → ℕ
-weight c place = weight_by (is_tick (instr_at c place).op) (is_behind_tick c place) (size c - place) (size c + 2)
-
-abbrev pub weights : CodeLists → List Activation → ℕ
-weights c [] = 0
-weights c (a ∷ others) = weight c a.place + weights c others
-
--- each tick that is left pays for the heaviest activation
-abbrev pub price : CodeLists → ℕ
-price c = size c * (size c + 2) + (size c + 2)
-
-abbrev pub left_to_run : CodeLists → ℕ → State → ℕ
-left_to_run c limit s = (limit - s.ticks) * price c + weights c s.below + weight c s.current.place
+use Rattle.stack_machine.specs.Left.{instr_count, weight_by, weight_at, price}
 
 -- ---- Numbers
 
@@ -75,11 +51,11 @@ call_by false false first n m all few =
 
 -- ---- Places
 
-pub some_weight : (c : CodeLists) (place : ℕ) → 1 ≤ weight c place
+pub some_weight : (c : CodeLists) (place : ℕ) → 1 ≤ weight_at c place
 some_weight c place = some_weight_by _ _ _ _
 
-pub heaviest : (c : CodeLists) (place : ℕ) → weight c place ≤ price c
-heaviest c place = heaviest_by _ _ (size c - place) (size c) (omega arith)
+pub heaviest : (c : CodeLists) (place : ℕ) → weight_at c place ≤ price c
+heaviest c place = heaviest_by _ _ (instr_count c - place) (instr_count c) (omega arith)
 
 one_ahead : (place n : ℕ) → place < n → n - place ≡ suc (n - (place + 1))
 one_ahead place n inside = omega arith
@@ -91,10 +67,10 @@ still_behind target same tick jump before none all =
     (and_parts (not jump) before (sym (ap (λ t. t || (not jump && before)) none) ∙ last)).1
 
 -- from an instruction that is no TICK to the next one
-pub next_is_lighter : (c : CodeLists) (place : ℕ) → place < size c → is_tick (instr_at c place).op ≡ false → weight c (place + 1) < weight c place
+pub next_is_lighter : (c : CodeLists) (place : ℕ) → place < instr_count c → is_tick (instr_at c place).op ≡ false → weight_at c (place + 1) < weight_at c place
 next_is_lighter c place inside none =
-    rw (none, one_ahead place (size c) inside)
-    (next_by (is_tick (instr_at c (place + 1)).op) (is_behind_tick c (place + 1)) (is_behind_tick c place) (size c - (place + 1)) (size c + 2) (omega arith)
+    rw (none, one_ahead place (instr_count c) inside)
+    (next_by (is_tick (instr_at c (place + 1)).op) (is_behind_tick c (place + 1)) (is_behind_tick c place) (instr_count c - (place + 1)) (instr_count c + 2) (omega arith)
     (λ _ behind. still_behind (is_target c (place + 1)) (eqb (routine_of c (place + 1)) (routine_of c place)) (is_tick (instr_at c place).op) (is_jump (instr_at c place).op) (is_behind_tick c place) none (sym (is_behind_tick_next c place) ∙ behind)))
 
 -- a place that is a jump's target stands behind no tick
@@ -107,16 +83,16 @@ target_by c zero is = sym (is_behind_tick_start c)
 target_by c (suc place) is = ap (is_behind_tick c) (sym (add-one place)) ∙ is_behind_tick_next c place ∙ not_behind_target (is_target c (place + 1)) (eqb (routine_of c (place + 1)) (routine_of c place)) (is_tick (instr_at c place).op) (is_jump (instr_at c place).op) (is_behind_tick c place) (ap (is_target c) (add-one place) ∙ is)
 
 -- from a jump to its target, further on or a TICK
-pub target_is_lighter : (c : CodeLists) (place a : ℕ) → place < size c → is_tick (instr_at c place).op ≡ false → is_target c a ≡ true → (place < a) ⊎ (is_tick (instr_at c a).op ≡ true) → weight c a < weight c place
+pub target_is_lighter : (c : CodeLists) (place a : ℕ) → place < instr_count c → is_tick (instr_at c place).op ≡ false → is_target c a ≡ true → (place < a) ⊎ (is_tick (instr_at c a).op ≡ true) → weight_at c a < weight_at c place
 target_is_lighter c place a inside none is (inl further) =
-    rw (none, one_ahead place (size c) inside, target_by c a is)
-    (lighter_by (is_tick (instr_at c a).op) (is_behind_tick c place) (size c - a) (size c - (place + 1)) (size c + 2) (omega arith) (omega arith))
+    rw (none, one_ahead place (instr_count c) inside, target_by c a is)
+    (lighter_by (is_tick (instr_at c a).op) (is_behind_tick c place) (instr_count c - a) (instr_count c - (place + 1)) (instr_count c + 2) (omega arith) (omega arith))
 target_is_lighter c place a inside none is (inr tick) =
-    rw (none, one_ahead place (size c) inside, tick)
-    (lighter_by true (is_behind_tick c place) 0 (size c - (place + 1)) (size c + 2) (omega arith) (omega arith))
+    rw (none, one_ahead place (instr_count c) inside, tick)
+    (lighter_by true (is_behind_tick c place) 0 (instr_count c - (place + 1)) (instr_count c + 2) (omega arith) (omega arith))
 
 -- from a CALL behind a tick to the next place and a routine's start
-pub call_is_lighter : (c : CodeLists) (place start : ℕ) → place < size c → is_tick (instr_at c place).op ≡ false → is_behind_tick c place ≡ true → is_behind_tick c start ≡ false → weight c (place + 1) + weight c start < weight c place
+pub call_is_lighter : (c : CodeLists) (place start : ℕ) → place < instr_count c → is_tick (instr_at c place).op ≡ false → is_behind_tick c place ≡ true → is_behind_tick c start ≡ false → weight_at c (place + 1) + weight_at c start < weight_at c place
 call_is_lighter c place start inside none behind first =
-    rw (none, one_ahead place (size c) inside, behind, first)
-    (call_by (is_tick (instr_at c (place + 1)).op) (is_behind_tick c (place + 1)) (is_tick (instr_at c start).op) (size c - (place + 1)) (size c - start) (size c) (omega arith))
+    rw (none, one_ahead place (instr_count c) inside, behind, first)
+    (call_by (is_tick (instr_at c (place + 1)).op) (is_behind_tick c (place + 1)) (is_tick (instr_at c start).op) (instr_count c - (place + 1)) (instr_count c - start) (instr_count c) (omega arith))

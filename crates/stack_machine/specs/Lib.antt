@@ -11,3 +11,5 @@ pub mod Standing
 pub mod History
 pub mod World
 pub mod Laws
+pub mod Left
+pub mod RunIn

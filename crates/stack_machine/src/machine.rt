@@ -1,4 +1,4 @@
-ghost use Rattle.std.specs.Prelude.{◌≡◌, ◌≤◌, List, [], ◌∷◌, ◌++◌, IfOk, IfErr};
+ghost use Rattle.std.specs.Prelude.{◌≡◌, ◌≤◌, List, [], ◌∷◌, ◌++◌, IfOk, IfErr, IfSome};
 ghost use Rattle.solo_base.specs.declared.system_call.SysCall.{SysCall};
 ghost use Rattle.solo_base.specs.declared.system_call.SysReply.{SysReply};
 ghost use Rattle.stack_machine.specs.declared.running.Pause.TheVariants.{Finished};
@@ -91,6 +91,14 @@ impl Machine {
         ensures well { StandsWell self.new }
     {
         self.state.go(&self.code, self.limit)
+    }
+
+    /// How the program ended, if it has.
+    pub fn finished(&self) -> Option<Finish>
+        ensures ended { result ≡ self.now.state.ended }
+        ensures ticks { IfSome result (λ finish. finish.ticks ≤ self.now.limit) }
+    {
+        self.state.ended
     }
 
     /// Gives the reply to the call at which the program paused.

@@ -1,5 +1,5 @@
 -- The instructions so far lead from the beginning to now, and the program goes on.
-use Rattle.stack_machine.proofs.Weights.{left_to_run}
+use Rattle.stack_machine.specs.Left.{left_to_run}
 use Rattle.stack_machine.proofs.Onward.{IsUnderWay}
 use Rattle.stack_machine.proofs.state.State.go.Given as goal
 

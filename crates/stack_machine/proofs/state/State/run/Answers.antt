@@ -1,6 +1,6 @@
 use Rattle.std.proofs.Common.{sym, subst, ◌<◌}
 use Rattle.stack_machine.proofs.Rounds.{so_far_begins, room_in_round, so_far_more, round_less, ran_to_end, broke_off}
-use Rattle.stack_machine.proofs.Reply.{left_until_end}
+use Rattle.stack_machine.specs.Left.{left_until_end}
 use Rattle.stack_machine.proofs.state.State.run.Goals as goal
 
 pub loop-finish-init : goal.loop-finish-init

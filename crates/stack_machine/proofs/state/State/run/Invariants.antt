@@ -1,5 +1,5 @@
 -- The program and its world came so far, and less is left to run.
-use Rattle.stack_machine.proofs.Reply.{left_until_end}
+use Rattle.stack_machine.specs.Left.{left_until_end}
 use Rattle.stack_machine.proofs.Rounds.{IsSoFar}
 use Rattle.stack_machine.proofs.state.State.run.Given as goal
 
