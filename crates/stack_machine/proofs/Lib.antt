@@ -25,3 +25,4 @@ pub mod Pauses
 pub mod Outcomes
 pub mod CallEffect
 pub mod Histories
+pub mod RunIn

@@ -1,12 +1,15 @@
 -- What comes of a code in a world that answers its calls, instruction by instruction.
-use Rattle.std.specs.Prelude.{ℕ, zero, suc, ◌+◌, List, [], ◌∷◌, ◌++◌, Option, None, Some}
+use Rattle.std.specs.Prelude.{◌≡◌, ℕ, zero, suc, ◌+◌, List, [], ◌∷◌, ◌++◌, Option, None, Some}
 use Rattle.solo_base.specs.declared.system_call.SysCall.{SysCall}
 use Rattle.solo_base.specs.declared.system_call.SysReply.{SysReply}
 use Rattle.solo_base.specs.RunOutcome.{RunOutcome, Ends, Waits}
-use Rattle.stack_code.specs.CodeLists.{CodeLists}
+use Rattle.solo_base.specs.Fits.{Fits}
+use Rattle.stack_code.specs.CodeLists.{CodeLists, IsCode}
+use Rattle.stack_code.specs.Rules.{IsGood}
 use Rattle.stack_machine.specs.declared.state.State.{State}
 use Rattle.stack_machine.specs.State.{Next, Goes, Asks, Stops, Lacks}
 use Rattle.stack_machine.specs.Machine.{next, start_state, answered}
+use Rattle.stack_machine.specs.Run.{Runs}
 use Rattle.stack_machine.specs.Left.{left_until_end}
 
 -- what a world replies to a call, and what it is then; or it has no reply yet
@@ -50,3 +53,34 @@ run_in_for (suc n) answers c limit s w made =
 unfoldable pub run_in : {W : Type 0} → Answering W → CodeLists → ℕ → W → InWorld W
 run_in answers c limit w =
     run_in_for (left_until_end c limit (start_state c) + 1) answers c limit (start_state c) w []
+
+-- ---- Its law
+
+-- the world gives these replies to these calls, in order
+abbrev pub Gives : {W : Type 0} → Answering W → W → List SysCall → List SysReply → W → Type 0
+Gives answers w [] [] now = w ≡ now
+Gives answers w (call ∷ calls) (reply ∷ replies) now =
+    (after : _) × (answers w call ≡ Some (reply, after)) × Gives answers after calls replies now
+Gives answers w [] (reply ∷ replies) now = ⊥
+Gives answers w (call ∷ calls) [] now = ⊥
+
+-- the run by the replies that the world gives: to its end, or to a call to which the world has none
+abbrev pub IsRunIn : {W : Type 0} → Answering W → CodeLists → ℕ → W → RunOutcome → W → Type 0
+IsRunIn answers c limit w (Ends result line ticks made) now =
+    (replies : List SysReply) × Gives answers w made replies now
+    × Runs c limit replies (Ends result line ticks made)
+IsRunIn answers c limit w (Waits made) now =
+    (before : List SysCall) × (last : SysCall) × (replies : List SysReply) × (made ≡ before ++ last ∷ [])
+    × Gives answers w before replies now × (answers now last ≡ None) × Runs c limit replies (Waits made)
+
+-- each reply of the world fits its call
+abbrev pub AreFit : {W : Type 0} → Answering W → Type 0
+AreFit {W} answers =
+    (w : W) (call : SysCall) (reply : SysReply) (after : W) → answers w call ≡ Some (reply, after)
+    → Fits call reply
+
+-- what comes of good code in a world whose replies fit is its run by the replies of the world
+abbrev pub AnyRunIn : Type 0 → Type 0
+AnyRunIn W =
+    (answers : Answering W) (c : CodeLists) (limit : ℕ) (w : W) → AreFit answers → IsCode c → IsGood c
+    → IsRunIn answers c limit w (run_in answers c limit w).outcome (run_in answers c limit w).world

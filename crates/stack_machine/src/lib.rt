@@ -21,7 +21,7 @@ mod world;
 
 pub use activation::Activation;
 pub use frame::Frame;
-pub use laws::{runs_are_determined, words_are_kept};
+pub use laws::{code_runs_in_any_world, runs_are_determined, words_are_kept};
 pub use machine::Machine;
 pub use operands::Operands;
 pub use running::Pause;
