@@ -21,6 +21,7 @@ use Rattle.stack_machine.proofs.Onward.{moves_more, sets_out, goes_further, come
 use Rattle.stack_machine.proofs.Pauses.{IsCall}
 use Rattle.stack_machine.proofs.Reply.{asks_running, goes_running}
 use Rattle.stack_machine.proofs.Rounds.{round_less}
+use Rattle.stack_machine.proofs.RunIn.{lacks_running, went_more}
 use Rattle.stack_machine.proofs.Safety.{begins_sound}
 use Rattle.pascal_mean.specs.MoreReplies.{calls_of, GoesOn}
 use Rattle.pascal_mean.specs.Batch.{batch_reply, batch_replies, input_after}
@@ -110,16 +111,6 @@ runs_go_further c limit cards more closed =
     (with_more n c limit closed (text more) (start_state c) (text cards) []))
 
 -- ---- Good code comes to it
-lacks_running : (c : CodeLists) (limit : ℕ) (s : State) (ended : Option Finish) → s.ended ≡ ended → next c limit s ≡ Lacks → ended ≡ None
-unfolding next
-lacks_running c limit s None is lacks = refl
-lacks_running c limit s (Some finish) is lacks =
-    absurd (let stops : Stops finish.result finish.line finish.ticks ≡ Lacks = ap (next_of c limit s) (sym is) ∙ lacks in cc)
-
--- one instruction further it stands for the same calls
-went_more : (c : CodeLists) (limit : ℕ) (b s t : State) → WentOn c limit b s → s.ended ≡ None → next c limit s ≡ Goes t → WentOn c limit b t
-went_more c limit b s t (WentBy steps moves) runs goes = WentBy (suc steps) (moves_more c limit steps b s t moves goes)
-went_more c limit b s t (HasEnded finish ended leads) runs goes = absurd (none-some finish (sym runs ∙ ended))
 
 -- where the run behind these calls comes to
 abbrev Reaches : ℕ → Standing → List ℕ → Bool → List SysCall → Type 0
