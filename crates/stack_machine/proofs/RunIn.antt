@@ -13,7 +13,7 @@ use Rattle.stack_machine.specs.Safe.{IsSound}
 use Rattle.stack_machine.specs.Standing.{Standing}
 use Rattle.stack_machine.specs.History.{WentOn, RunsOn, HasEnded, StandsFor}
 use Rattle.stack_machine.specs.Left.{left_to_run, left_by, left_until_end}
-use Rattle.stack_machine.specs.RunIn.{Answering, InWorld, reply_in, step_in, run_in_for, run_in, Gives, IsRunIn, AreFit, AnyRunIn}
+use Rattle.stack_machine.specs.RunIn.{Answering, InWorld, reply_in, step_in, run_in_for, run_in, GivesReplies, IsRunIn, AreFit, AnyRunIn}
 use Rattle.stack_machine.proofs.Histories.{stands_on_pause, stands_answered}
 use Rattle.stack_machine.proofs.Onward.{moves_more, sets_out, goes_further, comes_nearer, asks_there, never_stuck}
 use Rattle.stack_machine.proofs.Pauses.{IsCall}
@@ -36,7 +36,7 @@ went_more c limit b s t (HasEnded finish ended leads) runs goes = absurd (none-s
 
 -- one reply more
 gives_more : {W : Type 0} (answers : Answering W) (w v u : W) (calls : List SysCall) (replies : List SysReply) (call : SysCall) (reply : SysReply)
-    → Gives answers w calls replies v → answers v call ≡ Some (reply, u) → Gives answers w (calls ++ call ∷ []) (replies ++ reply ∷ []) u
+    → GivesReplies answers w calls replies v → answers v call ≡ Some (reply, u) → GivesReplies answers w (calls ++ call ∷ []) (replies ++ reply ∷ []) u
 gives_more answers w v u [] [] call reply same is = (u, ap (λ x. answers x call) same ∙ is, refl)
 gives_more answers w v u (first ∷ calls) (given ∷ replies) call reply (after, gave, others) is =
     (after, gave, gives_more answers after v u calls replies call reply others is)
@@ -52,7 +52,7 @@ machine c limit s = record { code = c; limit = limit; state = s }
 record StandsIn {W : Type 0} (answers : Answering W) (c : CodeLists) (limit : ℕ) (w : W) (s : State) (made : List SysCall) (v : W) : Type 0 where
   pub well : IsSound c limit s
   pub replies : List SysReply
-  pub gave : Gives answers w made replies v
+  pub gave : GivesReplies answers w made replies v
   pub stands : StandsFor (machine c limit s) replies made
 
 abbrev IsRun : {W : Type 0} → Answering W → CodeLists → ℕ → W → InWorld W → Type 0

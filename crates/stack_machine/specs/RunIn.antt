@@ -57,21 +57,22 @@ run_in answers c limit w =
 -- ---- Its law
 
 -- the world gives these replies to these calls, in order
-abbrev pub Gives : {W : Type 0} → Answering W → W → List SysCall → List SysReply → W → Type 0
-Gives answers w [] [] now = w ≡ now
-Gives answers w (call ∷ calls) (reply ∷ replies) now =
-    (after : _) × (answers w call ≡ Some (reply, after)) × Gives answers after calls replies now
-Gives answers w [] (reply ∷ replies) now = ⊥
-Gives answers w (call ∷ calls) [] now = ⊥
+abbrev pub GivesReplies : {W : Type 0} → Answering W → W → List SysCall → List SysReply → W → Type 0
+GivesReplies answers w [] [] now = w ≡ now
+GivesReplies answers w (call ∷ calls) (reply ∷ replies) now =
+    (after : _) × (answers w call ≡ Some (reply, after)) × GivesReplies answers after calls replies now
+GivesReplies answers w [] (reply ∷ replies) now = ⊥
+GivesReplies answers w (call ∷ calls) [] now = ⊥
 
 -- the run by the replies that the world gives: to its end, or to a call to which the world has none
 abbrev pub IsRunIn : {W : Type 0} → Answering W → CodeLists → ℕ → W → RunOutcome → W → Type 0
 IsRunIn answers c limit w (Ends result line ticks made) now =
-    (replies : List SysReply) × Gives answers w made replies now
+    (replies : List SysReply) × GivesReplies answers w made replies now
     × Runs c limit replies (Ends result line ticks made)
 IsRunIn answers c limit w (Waits made) now =
     (before : List SysCall) × (last : SysCall) × (replies : List SysReply) × (made ≡ before ++ last ∷ [])
-    × Gives answers w before replies now × (answers now last ≡ None) × Runs c limit replies (Waits made)
+    × GivesReplies answers w before replies now × (answers now last ≡ None)
+    × Runs c limit replies (Waits made)
 
 -- each reply of the world fits its call
 abbrev pub AreFit : {W : Type 0} → Answering W → Type 0
