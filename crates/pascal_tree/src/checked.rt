@@ -10,9 +10,14 @@ use std::marker::Model;
 /// A tree that breaks none of the static rules.
 ///
 /// Contracts see the program.
-#[derive(Drop)]
 pub struct Checked {
     tree: Tree,
+}
+
+impl Drop for Checked {
+    fn drop(self) {
+        let Self { tree: _ } = self;
+    }
 }
 
 impl Model for Checked {

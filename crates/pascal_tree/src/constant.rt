@@ -3,7 +3,6 @@
 use crate::leaf::{Character, Name, Number};
 
 /// A constant. A number with a minus sign has the sign's line first.
-#[derive(Drop)]
 pub enum Constant {
     Name(Name),
     Number(Number),
@@ -11,9 +10,25 @@ pub enum Constant {
     Character(Character),
 }
 
+impl Drop for Constant {
+    fn drop(self) {
+        match self {
+            Self::Name(_) => {}
+            Self::Number(_) => {}
+            Self::Negative(_, _) => {}
+            Self::Character(_) => {}
+        }
+    }
+}
+
 /// The labels of a branch, each later one with the line of the comma before it.
-#[derive(Drop)]
 pub struct Labels {
     pub first: Constant,
     pub rest: Vec<(u32, Constant)>,
+}
+
+impl Drop for Labels {
+    fn drop(self) {
+        let Self { first: _, rest: _ } = self;
+    }
 }

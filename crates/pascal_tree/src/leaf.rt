@@ -4,10 +4,18 @@ use crate::letters::Letters;
 use std::marker::Model;
 
 /// A name in capitals.
-#[derive(Drop)]
 pub struct Name {
     pub letters: Letters,
     pub line: u32,
+}
+
+impl Drop for Name {
+    fn drop(self) {
+        let Self {
+            letters: _,
+            line: _,
+        } = self;
+    }
 }
 
 impl Model for Name {

@@ -7,9 +7,14 @@ use std::marker::Model;
 /// than 64, and the THEN statement of an IF with ELSE doesn't end in an IF without ELSE.
 ///
 /// Contracts see the program.
-#[derive(Drop)]
 pub struct Tree {
     pub program: Program,
+}
+
+impl Drop for Tree {
+    fn drop(self) {
+        let Self { program: _ } = self;
+    }
 }
 
 impl Model for Tree {
