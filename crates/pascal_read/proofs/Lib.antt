@@ -12,7 +12,9 @@ pub mod ParseDeclarationLists
 pub mod ParseDeclarationRows
 mod ParseEnds
 pub mod ParseExpressionParts
+pub mod ParseJoined
 pub mod ParseLists
+pub mod ParseMade
 pub mod ParseOnePlace
 pub mod ParsePlace
 pub mod ParseRows
