@@ -14,34 +14,69 @@ use solo_base::NoMemory;
 use std::alloc::Global;
 
 /// A variable: the number of its activation, and its name.
-#[derive(Drop)]
 pub struct Place {
     pub activation: usize,
     pub letters: Letters,
 }
 
+impl Drop for Place {
+    fn drop(self) {
+        let Self {
+            activation: _,
+            letters: _,
+        } = self;
+    }
+}
+
 /// An array: the number of its activation, its name and its bounds.
-#[derive(Drop)]
 pub struct ArrayPlace {
     pub activation: usize,
     pub letters: Letters,
     pub bounds: Bounds,
 }
 
+impl Drop for ArrayPlace {
+    fn drop(self) {
+        let Self {
+            activation: _,
+            letters: _,
+            bounds: _,
+        } = self;
+    }
+}
+
 /// A VAR parameter, and the variable that it is another name for.
-#[derive(Drop)]
 pub struct Reference {
     pub letters: Letters,
     pub place: Place,
 }
 
+impl Drop for Reference {
+    fn drop(self) {
+        let Self {
+            letters: _,
+            place: _,
+        } = self;
+    }
+}
+
 /// What the names of one activation stand for, and the result that a function has so far.
-#[derive(Drop)]
 pub struct Activation {
     pub values: Vec<Entry>,
     pub elements: Vec<Entry>,
     pub references: Vec<Reference>,
     pub answer: i16,
+}
+
+impl Drop for Activation {
+    fn drop(self) {
+        let Self {
+            values: _,
+            elements: _,
+            references: _,
+            answer: _,
+        } = self;
+    }
 }
 
 impl Activation {

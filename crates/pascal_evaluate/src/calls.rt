@@ -13,7 +13,7 @@ use solo_base::{NoMemory, Procedure};
 use std::alloc::Global;
 
 /// How an argument is taken: by its value, as a variable or as a whole array.
-#[derive(Clone, Copy, Debug, PartialEq, Eq)]
+#[derive(Clone, Copy)]
 pub enum Passing {
     ByValue,
     ByVariable,
@@ -21,11 +21,20 @@ pub enum Passing {
 }
 
 /// An argument as a call gets it.
-#[derive(Drop)]
 pub enum Given {
     Value(i16),
     Alias(Place),
     Elements(ArrayPlace),
+}
+
+impl Drop for Given {
+    fn drop(self) {
+        match self {
+            Self::Value(_) => {}
+            Self::Alias(_) => {}
+            Self::Elements(_) => {}
+        }
+    }
 }
 
 /// The arguments of what is called by a name.
@@ -130,7 +139,7 @@ pub fn first_array(given: &[Given]) -> Option<&ArrayPlace>
 }
 
 /// Which activation's array a name stands for, and its bounds.
-#[derive(Clone, Copy, Debug)]
+#[derive(Clone, Copy)]
 pub struct Extent {
     pub activation: usize,
     pub bounds: Bounds,

@@ -9,11 +9,20 @@ use solo_base::NoMemory;
 use std::alloc::Global;
 
 /// The value of a variable, whose index is 0, or of an array's element.
-#[derive(Drop)]
 pub struct Entry {
     pub letters: Letters,
     pub index: i32,
     pub value: i16,
+}
+
+impl Drop for Entry {
+    fn drop(self) {
+        let Self {
+            letters: _,
+            index: _,
+            value: _,
+        } = self;
+    }
 }
 
 /// The value of a name at an index, and 0 where it has none.

@@ -4,7 +4,7 @@ use pascal_tree::Letters;
 use solo_base::Procedure;
 
 /// INTEGER, BOOLEAN or CHAR.
-#[derive(Clone, Copy, Debug, PartialEq, Eq)]
+#[derive(Clone, Copy)]
 pub enum Scalar {
     Integer,
     Boolean,
@@ -12,21 +12,21 @@ pub enum Scalar {
 }
 
 /// Whose variable it is: the program's, or that of the routine in which its name stands.
-#[derive(Clone, Copy, Debug, PartialEq, Eq)]
+#[derive(Clone, Copy)]
 pub enum Owner {
     OfProgram,
     OfRoutine,
 }
 
 /// The first and the last index of an array.
-#[derive(Clone, Copy, Debug)]
+#[derive(Clone, Copy)]
 pub struct Bounds {
     pub low: i16,
     pub high: i16,
 }
 
 /// The functions ABS, SUCC, PRED, ORD and CHR.
-#[derive(Clone, Copy, Debug, PartialEq, Eq)]
+#[derive(Clone, Copy)]
 pub enum Standard {
     Abs,
     Succ,
@@ -36,22 +36,39 @@ pub enum Standard {
 }
 
 /// A parameter, and whether it is a VAR parameter.
-#[derive(Drop)]
 pub struct Parameter {
     pub letters: Letters,
     pub scalar: Scalar,
     pub is_variable: bool,
 }
 
+impl Drop for Parameter {
+    fn drop(self) {
+        let Self {
+            letters: _,
+            scalar: _,
+            is_variable: _,
+        } = self;
+    }
+}
+
 /// The parameters of a routine in order, and the type of its result where it is a function.
-#[derive(Drop)]
 pub struct Signature {
     pub parameters: Vec<Parameter>,
     pub answer: Option<Scalar>,
 }
 
+impl Drop for Signature {
+    fn drop(self) {
+        let Self {
+            parameters: _,
+            answer: _,
+        } = self;
+    }
+}
+
 /// What a name can mean that isn't a routine's.
-#[derive(Clone, Copy, Debug)]
+#[derive(Clone, Copy)]
 pub enum Plain {
     Constant(Scalar, i16),
     Variable(Owner, Scalar),
@@ -64,10 +81,18 @@ pub enum Plain {
 }
 
 /// What a declaration says that its name means. Routines have numbers from 1.
-#[derive(Drop)]
 pub enum Means {
     Plain(Plain),
     Routine(usize, Signature),
+}
+
+impl Drop for Means {
+    fn drop(self) {
+        match self {
+            Self::Plain(_) => {}
+            Self::Routine(_, _) => {}
+        }
+    }
 }
 
 /// What a name means, as it is looked up.
@@ -78,8 +103,16 @@ pub enum Sense<'a> {
 }
 
 /// A declared name, and what it means.
-#[derive(Drop)]
 pub struct Item {
     pub letters: Letters,
     pub means: Means,
+}
+
+impl Drop for Item {
+    fn drop(self) {
+        let Self {
+            letters: _,
+            means: _,
+        } = self;
+    }
 }

@@ -16,7 +16,7 @@ use solo_base::{NoMemory, ProgResult};
 use std::alloc::Global;
 
 /// A call that the batch answers.
-#[derive(Clone, Copy, Debug)]
+#[derive(Clone, Copy)]
 pub enum Made {
     Read,
     Write(u8),
