@@ -10,10 +10,10 @@ use Rattle.pascal_tree.specs.SpellExpression.{symbol_at}
 use Rattle.pascal_tree.specs.SpellConstant.{spelled_constant}
 use Rattle.pascal_tree.specs.SpellProgram.{spelled_more_names, spelled_kind, spelled_group, spelled_groups, spelled_vars}
 use Rattle.pascal_tree.specs.Scopes as rules
-use Rattle.pascal_tree.specs.Scopes.{Declared, same_scalar, words_of_means}
+use Rattle.pascal_tree.specs.Scopes.{Declared, same_scalar}
 use Rattle.pascal_tree.specs.ExpressionRules.{breaks}
 use Rattle.pascal_tree.specs.StatementRules.{Valued, value_of, judged_constant}
-use Rattle.pascal_tree.specs.DeclarationRules.{type_of_kind, judged_kind, all_names, twice_declared, frame_words, too_large, judged_type_name, are_bounds, behind_group, judged_group, judged_groups, judged_vars, first_broken}
+use Rattle.pascal_tree.specs.DeclarationRules.{type_of_kind, judged_kind, all_names, judged_variable, one_by_one, judged_type_name, are_bounds, behind_group, judged_group, judged_groups, judged_vars, first_broken}
 use Rattle.pascal_tree.specs.declared.scalar.Scalar.TheVariants as scalar
 use Rattle.pascal_tree.specs.declared.declaration.Kind.{Kind}
 use Rattle.pascal_tree.specs.declared.declaration.Kind.TheVariants as kind
@@ -141,14 +141,13 @@ module _ {rs : Routines} {routines : Bool} {outer : List Declared} {within : Opt
   groups_bounded owner (g ∷ more) s items st are words none =
       let m = means.Variable (type_of_kind s g.kind) in
       let names = all_names (g.names) in
-      let large = too_large 6 4096 (frame_words s) (words_of_means m) names in
       let colon = symbol_at symbol.Colon g.colon ∷ (spelled_kind g.kind ++ symbol_at symbol.Semicolon g.semicolon ∷ []) in
       let own = words_before (spelled_group g) (spelled_groups more) words in
       let this = before (judged_group s g) (judged_groups (behind_group s g) more) none in
       let n = variable_of owner (scope items) g.kind in
       let has = kind_bounded owner s items g.kind st
       (words_before (spelled_kind g.kind) (symbol_at symbol.Semicolon g.semicolon ∷ []) (words_behind (spelled_more_names (g.names).rest) colon own.1).1)
-      (before (judged_kind s g.kind) (twice_declared s m names ++ large) this) in
+      (before (judged_kind s g.kind) (one_by_one judged_variable s m names) this) in
       groups_bounded owner more (behind_group s g) (declared_names n (name_list g.names) items)
       (group_declared scope scope_is owner s items g st own this)
       (names_have Bounded n (name_list g.names) items has are)

@@ -9,7 +9,7 @@ use Rattle.pascal_tree.specs.Scopes as rules
 use Rattle.pascal_tree.specs.Scopes.{Declared, words_of_means}
 use Rattle.pascal_tree.specs.ExpressionRules.{breaks}
 use Rattle.pascal_tree.specs.StatementRules.{value_of, judged_constant}
-use Rattle.pascal_tree.specs.DeclarationRules.{constant_means, behind_definition, behind_definitions, behind_consts, judged_definition, judged_definitions, judged_consts, scalar_named, or_integer, type_of_kind, judged_kind, all_names, twice_declared, frame_words, too_large, judged_type_name, are_bounds, behind_group, behind_groups, behind_vars, judged_group, judged_groups, judged_vars, first_broken}
+use Rattle.pascal_tree.specs.DeclarationRules.{constant_means, behind_definition, behind_definitions, behind_consts, judged_definition, judged_definitions, judged_consts, scalar_named, or_integer, type_of_kind, judged_kind, all_names, judged_variable, one_by_one, judged_type_name, are_bounds, behind_group, behind_groups, behind_vars, judged_group, judged_groups, judged_vars, first_broken}
 use Rattle.pascal_tree.specs.declared.constant.Constant.{Constant}
 use Rattle.pascal_tree.specs.declared.declaration.Definition.{Definition}
 use Rattle.pascal_tree.specs.declared.declaration.Kind.{Kind}
@@ -31,7 +31,7 @@ use Rattle.code_law.proofs.Numbers.{words_before, words_behind}
 use Rattle.code_law.proofs.Tests.{parted}
 use Rattle.code_law.proofs.Senses.{IsMeant, AreMeant}
 use Rattle.code_law.proofs.Constants.{IsNumber, constant_is}
-use Rattle.code_law.proofs.Declared.{Stands, one_declared, names_declared, constant_sense, no_words, no_function, array_sense, array_words}
+use Rattle.code_law.proofs.Declared.{Stands, one_declared, variables_new, names_declared, constant_sense, no_words, no_function, array_sense, array_words}
 
 pub number_is : (rs : Routines) (s : rules.Scope) (scope : meaning.Scope) → AreMeant rs s scope → (c : Constant) → AreWords (spelled_constant c)
     → first_broken (judged_constant s c) ≡ None → IsNumber (value_of s c) (constant_number scope c)
@@ -109,14 +109,13 @@ module _ {rs : Routines} {routines : Bool} {outer : List Declared} {within : Opt
       let m = means.Variable (type_of_kind s g.kind) in
       let n = variable_of owner (scope items) g.kind in
       let names = all_names g.names in
-      let large = too_large 6 4096 (frame_words s) (words_of_means m) names in
+      let judged = one_by_one judged_variable s m names in
       let colon = symbol_at symbol.Colon g.colon ∷ (spelled_kind g.kind ++ symbol_at symbol.Semicolon g.semicolon ∷ []) in
       let k = kind_meant owner s items g.kind st
       (words_before (spelled_kind g.kind) (symbol_at symbol.Semicolon g.semicolon ∷ []) (words_behind (spelled_more_names (g.names).rest) colon words.1).1)
-      (before (judged_kind s g.kind) (twice_declared s m names ++ large) none) in
+      (before (judged_kind s g.kind) judged none) in
       subst (λ (xs : List (List ℕ)). Stands rs routines outer within first (behind_group s g) (declared_names n xs items)) (group_letters g.names)
-      (names_declared m n k.0 k.1 (λ no. refl) names s items st
-      (before (twice_declared s m names) large (behind (judged_kind s g.kind) (twice_declared s m names ++ large) none)))
+      (names_declared m n k.0 k.1 (λ no. refl) names s items st (variables_new names s m (behind (judged_kind s g.kind) judged none)))
 
   groups_declared : (owner : Owner) (gs : List Group) (s : rules.Scope) (items : List Item) → Stands rs routines outer within first s items
       → AreWords (spelled_groups gs)

@@ -4,12 +4,13 @@ use Rattle.std.specs.Prelude.{bytes_eq, if◌then◌else◌}
 use Rattle.pascal_tree.specs.Word.{NameAt}
 use Rattle.pascal_tree.specs.Scopes as rules
 use Rattle.pascal_tree.specs.Scopes.{Declared, means_of, declare, words_of_means}
-use Rattle.pascal_tree.specs.ExpressionRules.{breaks}
+use Rattle.pascal_tree.specs.ExpressionRules.{Judged, breaks}
 use Rattle.pascal_tree.specs.StatementRules.{is_function, Valued}
-use Rattle.pascal_tree.specs.DeclarationRules.{constant_means, array_between, behind_names, twice_declared, first_broken}
+use Rattle.pascal_tree.specs.DeclarationRules.{constant_means, array_between, behind_names, judged_once, judged_words, judged_variable, judged_parameter, one_by_one, first_broken}
 use Rattle.pascal_tree.specs.declared.scalar.Scalar.{Scalar}
 use Rattle.pascal_tree.specs.declared.means.Means.{Means}
 use Rattle.pascal_tree.specs.declared.means.Means.TheVariants as means
+use Rattle.pascal_check.proofs.Unbroken as parts
 use Rattle.pascal_mean.specs.Means.{Owner}
 use Rattle.pascal_mean.specs.Means as meant
 use Rattle.pascal_mean.specs.Predeclared.{Item}
@@ -73,6 +74,27 @@ module _ (rs : Routines) where
   array_words (Some v) (Some w) t low high h i =
       sym (ap (λ (x : ℤ). size_of (record { low = x; high = high })) h.0 ∙ ap (λ (y : ℤ). size_of (record { low = v.value; high = y })) i.0)
 
+-- each of these names is new to the list, where it is declared
+abbrev pub AreNew : rules.Scope → Means → List NameAt → Type 0
+AreNew s m [] = Unit {0}
+AreNew s m (n ∷ more) = (judged_once s n ≡ None) × AreNew (declare s n.letters m) m more
+
+-- names that are judged one by one, and among others by this rule
+are_new : (judged : rules.Scope → Means → NameAt → Judged)
+    → ((s : rules.Scope) (m : Means) (n : NameAt) → first_broken (judged s m n) ≡ None → judged_once s n ≡ None)
+    → (names : List NameAt) (s : rules.Scope) (m : Means) → first_broken (one_by_one judged s m names) ≡ None → AreNew s m names
+are_new judged first [] s m none = tt
+are_new judged first (n ∷ more) s m none =
+    let t = declare s n.letters m in
+    let others = one_by_one judged t m more in
+    (first s m n (parts.before (judged s m n) others none), are_new judged first more t m (parts.behind (judged s m n) others none))
+
+pub variables_new : (names : List NameAt) (s : rules.Scope) (m : Means) → first_broken (one_by_one judged_variable s m names) ≡ None → AreNew s m names
+variables_new = are_new judged_variable (λ s m n none. (parted (judged_once s n) (judged_words 6 4096 s m n ∷ []) none).0)
+
+pub parameters_new : (names : List NameAt) (s : rules.Scope) (m : Means) → first_broken (one_by_one judged_parameter s m names) ≡ None → AreNew s m names
+parameters_new = are_new judged_parameter (λ s m n none. (parted (judged_once s n) (judged_words 6 4096 s m n ∷ judged_words 7 16 s m n ∷ []) none).0)
+
 module _ {rs : Routines} {routines : Bool} {outer : List Declared} {within : Option (List ℕ)} {first : List Item} where
   pub one_declared : (s : rules.Scope) (items : List Item) (x : List ℕ) (l : ℕ) (m : Means) (n : meant.Means) → Stands rs routines outer within first s items
       → breaks 1 (is_some (rules.found s.own x)) l ≡ None → IsMeant rs (Some m) n → words_of_means m ≡ words_of n
@@ -103,10 +125,9 @@ module _ {rs : Routines} {routines : Bool} {outer : List Declared} {within : Opt
   -- ---- Names of one meaning
   pub names_declared : (m : Means) (n : meant.Means) → IsMeant rs (Some m) n → words_of_means m ≡ words_of n → (routines ≡ false → is_function (Some m) ≡ false)
       → (names : List NameAt) (s : rules.Scope) (items : List Item) → Stands rs routines outer within first s items
-      → first_broken (twice_declared s m names) ≡ None
+      → AreNew s m names
       → Stands rs routines outer within first (behind_names s m names) (declared_names n (map (λ x. x.letters) names) items)
-  names_declared m n is words plain [] s items st none = st
-  names_declared m n is words plain (x ∷ more) s items st none =
-      let t = parted (breaks 1 (is_some (rules.found s.own x.letters)) x.line) (twice_declared (declare s x.letters m) m more) none in
+  names_declared m n is words plain [] s items st new = st
+  names_declared m n is words plain (x ∷ more) s items st new =
       names_declared m n is words plain more (declare s x.letters m) (record { letters = x.letters; means = n } ∷ items)
-      (one_declared s items x.letters x.line m n st t.0 is words plain) t.1
+      (one_declared s items x.letters x.line m n st new.0 is words plain) new.1

@@ -1,20 +1,19 @@
 -- The words of a frame, as the rules count them and as the code does.
-use Rattle.std.proofs.Common.{◌≡◌, ℕ, ◌+◌, ◌≤◌, nat_lt, List, [], ◌∷◌, ◌++◌, Option, Some, None, refl, ap, subst, ◌∙◌, arith}
+use Rattle.std.proofs.Common.{◌≡◌, ℕ, ◌+◌, ◌≤◌, nat_lt, List, [], ◌∷◌, Option, Some, None, refl, ap, ◌∙◌, arith}
 use Rattle.std.proofs.lemmas.Bool.{ltb-false}
 use Rattle.pascal_tree.specs.Word.{NameAt}
 use Rattle.pascal_tree.specs.Program.{Consts, ParameterGroup}
 use Rattle.pascal_tree.specs.Scopes as rules
 use Rattle.pascal_tree.specs.Scopes.{Declared, declare, words_of_means, words_of_list}
-use Rattle.pascal_tree.specs.ExpressionRules.{Judged}
 use Rattle.pascal_tree.specs.StatementRules.{value_of}
-use Rattle.pascal_tree.specs.DeclarationRules.{constant_means, behind_definition, behind_definitions, behind_consts, all_names, twice_declared, too_large, frame_words, group_means, judged_type_name, behind_parameter_group, behind_parameter_groups, judged_parameter_group, judged_parameter_groups, first_broken}
+use Rattle.pascal_tree.specs.DeclarationRules.{constant_means, behind_definition, behind_definitions, behind_consts, all_names, judged_once, judged_words, judged_parameter, one_by_one, behind_names, frame_words, group_means, judged_type_name, behind_parameter_group, behind_parameter_groups, judged_parameter_group, judged_parameter_groups, first_broken}
 use Rattle.pascal_tree.specs.declared.declaration.Definition.{Definition}
-use Rattle.pascal_check.specs.Frames.{used_behind}
-use Rattle.pascal_check.proofs.Framed.{names_words}
+use Rattle.pascal_tree.specs.declared.means.Means.{Means}
 use Rattle.pascal_check.proofs.Unbroken.{before, behind, tested}
 use Rattle.pascal_mean.specs.Predeclared.{Item}
 use Rattle.pascal_code.specs.Frames.{words_of, words_in}
 use Rattle.code_law.specs.Suits.{Routines}
+use Rattle.code_law.proofs.Tests.{parted}
 use Rattle.code_law.proofs.Senses.{AreAlike}
 use Rattle.code_law.proofs.Declared.{no_words}
 
@@ -40,22 +39,23 @@ constants_words None s = refl
 constants_words (Some c) s = definitions_words (c.first ∷ c.rest) s
 
 -- ---- Parameters have at most 16
-kept : (used each : ℕ) (names : List NameAt) → used ≤ 16 → first_broken (too_large 7 16 used each names) ≡ None → used_behind used each names ≤ 16
-kept used each [] fits none = fits
-kept used each (n ∷ more) fits none =
-    let first = tested 7 n.line (nat_lt 16 (used + each)) (too_large 7 16 (used + each) each more) none in
-    kept (used + each) each more (ltb-false 16 (used + each) first.0) first.1
+kept : (m : Means) (names : List NameAt) (s : rules.Scope) → frame_words s ≤ 16 → first_broken (one_by_one judged_parameter s m names) ≡ None
+    → frame_words (behind_names s m names) ≤ 16
+kept m [] s fits none = fits
+kept m (n ∷ more) s fits none =
+    let t = declare s n.letters m in
+    let rest = one_by_one judged_parameter t m more in
+    let once = parted (judged_once s n) (judged_words 6 4096 s m n ∷ judged_words 7 16 s m n ∷ rest) none in
+    let large = parted (judged_words 6 4096 s m n) (judged_words 7 16 s m n ∷ rest) once.1 in
+    let few = tested 7 n.line (nat_lt 16 (frame_words t)) rest large.1 in
+    kept m more t (ltb-false 16 (frame_words t) few.0) few.1
 
 group_kept : (s : rules.Scope) (g : ParameterGroup) → frame_words s ≤ 16 → first_broken (judged_parameter_group s g) ≡ None
     → frame_words (behind_parameter_group s g) ≤ 16
 group_kept s g fits none =
     let m = group_means s g in
     let names = all_names g.names in
-    let large = too_large 6 4096 (frame_words s) (words_of_means m) names in
-    let larger = too_large 7 16 (frame_words s) (words_of_means m) names in
-    let rest : Judged = judged_type_name s g.kind ∷ (large ++ larger) in
-    let some = behind (judged_type_name s g.kind ∷ large) larger (behind (twice_declared s m names) rest none) in
-    subst (λ (n : ℕ). n ≤ 16) (names_words s m names) (kept (frame_words s) (words_of_means m) names fits some)
+    kept m names s fits (parted (judged_type_name s g.kind) (one_by_one judged_parameter s m names) none).1
 
 pub groups_kept : (gs : List ParameterGroup) (s : rules.Scope) → frame_words s ≤ 16 → first_broken (judged_parameter_groups s gs) ≡ None
     → frame_words (behind_parameter_groups s gs) ≤ 16

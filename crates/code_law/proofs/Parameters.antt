@@ -1,11 +1,10 @@
 -- Parameters, to the rules and to the code.
-use Rattle.std.proofs.Common.{◌≡◌, ℕ, Bool, List, [], ◌∷◌, ◌++◌, map, Option, Some, None, is_some, refl, sym, ap, subst}
+use Rattle.std.proofs.Common.{◌≡◌, ℕ, Bool, List, [], ◌∷◌, ◌++◌, map, Option, Some, None, refl, sym, ap, subst}
 use Rattle.pascal_tree.specs.Word.{NameAt}
 use Rattle.pascal_tree.specs.Program.{ParameterGroup, Parameters}
 use Rattle.pascal_tree.specs.Scopes as rules
-use Rattle.pascal_tree.specs.Scopes.{Declared, declare, words_of_means}
-use Rattle.pascal_tree.specs.ExpressionRules.{Judged, breaks}
-use Rattle.pascal_tree.specs.DeclarationRules.{parameter_means, parameter_wants, group_means, group_wants, parameters_wanted, all_groups, all_names, behind_names, twice_declared, too_large, frame_words, judged_type_name, or_integer, scalar_named, behind_parameter_group, behind_parameter_groups, judged_parameter_group, judged_parameter_groups, first_broken}
+use Rattle.pascal_tree.specs.Scopes.{Declared, declare}
+use Rattle.pascal_tree.specs.DeclarationRules.{parameter_means, parameter_wants, group_means, group_wants, parameters_wanted, all_groups, all_names, behind_names, judged_parameter, one_by_one, judged_type_name, or_integer, scalar_named, behind_parameter_group, behind_parameter_groups, judged_parameter_group, judged_parameter_groups, first_broken}
 use Rattle.pascal_tree.specs.declared.parameter.Parameter as wanted
 use Rattle.pascal_tree.specs.declared.scalar.Scalar.{Scalar}
 use Rattle.pascal_check.proofs.Unbroken.{before, behind}
@@ -20,7 +19,7 @@ use Rattle.pascal_code.specs.Senses.{Sense}
 use Rattle.code_law.specs.Suits.{Routines, TakesVariables}
 use Rattle.code_law.proofs.Tests.{parted}
 use Rattle.code_law.proofs.Senses.{AreWanted}
-use Rattle.code_law.proofs.Declared.{Stands, one_declared}
+use Rattle.code_law.proofs.Declared.{Stands, one_declared, AreNew, parameters_new}
 use Rattle.code_law.proofs.Declarations.{group_letters}
 
 declared_both : (these more : List Parameter) (items : List Item)
@@ -31,21 +30,19 @@ declared_both (p ∷ these) more items = declared_both these more _
 module _ {rs : Routines} {routines : Bool} {outer : List Declared} {within : Option (List ℕ)} {first : List Item} where
   names_passed : (v : Option ℕ) (t : Scalar) (u : meant.Scalar) (names : List NameAt) (s : rules.Scope) (items : List Item)
       → Stands rs routines outer within first s items
-      → first_broken (twice_declared s (parameter_means v t) names) ≡ None
+      → AreNew s (parameter_means v t) names
       → Stands rs routines outer within first (behind_names s (parameter_means v t) names)
       (declared_parameters (map (parameter_of v u) (map (λ (n : NameAt). n.letters) names)) items)
-  names_passed None t u [] s items st none = st
-  names_passed (Some l) t u [] s items st none = st
-  names_passed None t u (x ∷ more) s items st none =
+  names_passed None t u [] s items st new = st
+  names_passed (Some l) t u [] s items st new = st
+  names_passed None t u (x ∷ more) s items st new =
       let m = parameter_means None t in
-      let p = parted (breaks 1 (is_some (rules.found s.own x.letters)) x.line) (twice_declared (declare s x.letters m) m more) none in
       names_passed None t u more (declare s x.letters m) (record { letters = x.letters; means = meant.Variable OfRoutine u } ∷ items)
-      (one_declared s items x.letters x.line m (meant.Variable OfRoutine u) st p.0 (λ a. tt) refl (λ no. refl)) p.1
-  names_passed (Some l) t u (x ∷ more) s items st none =
+      (one_declared s items x.letters x.line m (meant.Variable OfRoutine u) st new.0 (λ a. tt) refl (λ no. refl)) new.1
+  names_passed (Some l) t u (x ∷ more) s items st new =
       let m = parameter_means (Some l) t in
-      let p = parted (breaks 1 (is_some (rules.found s.own x.letters)) x.line) (twice_declared (declare s x.letters m) m more) none in
       names_passed (Some l) t u more (declare s x.letters m) (record { letters = x.letters; means = meant.Reference u } ∷ items)
-      (one_declared s items x.letters x.line m (meant.Reference u) st p.0 (λ a. tt) refl (λ no. refl)) p.1
+      (one_declared s items x.letters x.line m (meant.Reference u) st new.0 (λ a. tt) refl (λ no. refl)) new.1
 
   pub groups_passed : (program : List Item) (gs : List (ℕ × ParameterGroup)) (s : rules.Scope) (items : List Item)
       → Stands rs routines outer within first s items
@@ -61,12 +58,11 @@ module _ {rs : Routines} {routines : Bool} {outer : List Declared} {within : Opt
       let names = all_names (g.1).names in
       let t = or_integer (scalar_named s (g.1).kind) in
       let u = meaning.scalar_named (scope ((g.1).kind).letters) in
-      let rest : Judged = judged_type_name s (g.1).kind
-      ∷ (too_large 6 4096 (frame_words s) (words_of_means m) names ++ too_large 7 16 (frame_words s) (words_of_means m) names) in
       let one = subst (λ (xs : List (List ℕ)). Stands rs routines outer within first (behind_parameter_group s g.1)
       (declared_parameters (map (parameter_of (g.1).var u) xs) items)) (group_letters (g.1).names)
       (names_passed (g.1).var t u names s items st
-      (before (twice_declared s m names) rest (before (judged_parameter_group s g.1) (judged_parameter_groups (behind_parameter_group s g.1) later) none))) in
+      (parameters_new names s m (parted (judged_type_name s (g.1).kind) (one_by_one judged_parameter s m names)
+      (before (judged_parameter_group s g.1) (judged_parameter_groups (behind_parameter_group s g.1) later) none)).1)) in
       subst (λ (is : List Item). Stands rs routines outer within first (behind_parameter_groups (behind_parameter_group s g.1) later) is)
       (sym (declared_both these (parameters_after (declared_parameters these items) program more) items))
       (groups_passed program more (behind_parameter_group s g.1) (declared_parameters these items) one

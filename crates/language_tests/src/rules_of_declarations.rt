@@ -40,6 +40,16 @@ fn words_of_a_frame(rt: HostRuntime) -> Result<(), Fail> {
         (
             6,
             2,
+            "VAR X: ARRAY (.1..4000.) OF CHAR;/Y,/X: ARRAY (.1..97.) OF CHAR;/BEGIN END.",
+        ),
+        (
+            6,
+            3,
+            "VAR X: ARRAY (.1..4000.) OF CHAR;/Y,/Z,/X: ARRAY (.1..96.) OF CHAR;/BEGIN END.",
+        ),
+        (
+            6,
+            2,
             "FUNCTION F: INTEGER;/VAR X: ARRAY (.1..4096.) OF CHAR;/BEGIN END;/BEGIN END.",
         ),
         (

@@ -24,12 +24,12 @@ fn names_declared_twice(rt: HostRuntime) -> Result<(), Fail> {
             3,
             "PROCEDURE P;/BEGIN END;/FUNCTION P: INTEGER;/BEGIN END;/BEGIN END.",
         ),
+        (1, 3, "VAR X: CHAR;/Y,/X: INTEGER;/BEGIN END."),
         (
             1,
             2,
-            "FUNCTION F(A: INTEGER;/A: REAL): INTEGER;/BEGIN END;/BEGIN END.",
+            "PROCEDURE P(A: CHAR;/A, B: CHAR);/BEGIN END;/BEGIN END.",
         ),
-        (1, 2, "VAR X,/X: ARRAY (.1..4097.) OF CHAR;/BEGIN END."),
         (1, 2, "CONST A = 1;/A = 2;/A = 3;/BEGIN END."),
         (
             0,
@@ -42,6 +42,50 @@ fn names_declared_twice(rt: HostRuntime) -> Result<(), Fail> {
             "FUNCTION F(F: INTEGER): INTEGER;/BEGIN F := 1 END;/BEGIN END.",
         ),
         (0, 0, "PROGRAM P;/VAR P: INTEGER;/BEGIN P := 1 END."),
+    ];
+    judge_all(&rt, rt.alloc(), &table)
+}
+
+#[test]
+fn names_of_a_group(rt: HostRuntime) -> Result<(), Fail> {
+    let table = [
+        (4, 2, "PROCEDURE P(A: CHAR;/A: FOO);/BEGIN END;/BEGIN END."),
+        (
+            4,
+            2,
+            "FUNCTION F(A: INTEGER;/A: REAL): INTEGER;/BEGIN END;/BEGIN END.",
+        ),
+        (4, 3, "PROCEDURE P(A,/A:/FOO);/BEGIN END;/BEGIN END."),
+        (
+            4,
+            3,
+            "PROCEDURE P(VAR A,B,C,D,E,F,G,H,/A:/REAL);/BEGIN END;/BEGIN END.",
+        ),
+        (4, 3, "VAR X,/X:/REAL;/BEGIN END."),
+        (5, 3, "VAR X,/X:/ARRAY (.2..1.) OF CHAR;/BEGIN END."),
+        (5, 2, "VAR X: CHAR;/X: ARRAY (.2..1.) OF CHAR;/BEGIN END."),
+        (6, 1, "VAR X,/X: ARRAY (.1..4097.) OF CHAR;/BEGIN END."),
+        (6, 2, "VAR X,/Y,/X: ARRAY (.1..3000.) OF CHAR;/BEGIN END."),
+        (1, 2, "VAR X,/X,/Y: ARRAY (.1..3000.) OF CHAR;/BEGIN END."),
+        (1, 2, "VAR X,/X: ARRAY (.1..3000.) OF CHAR;/BEGIN END."),
+        (
+            7,
+            2,
+            "PROCEDURE P(A,B,C,D,E,F,G,H,I,J,K,L,M,N,O,Q,/R,/A: CHAR);/BEGIN END;/BEGIN END.",
+        ),
+        (
+            1,
+            2,
+            "PROCEDURE P(A,B,C,D,E,F,G,H,I,J,K,L,M,N,O,Q,/A: CHAR);/BEGIN END;/BEGIN END.",
+        ),
+        (
+            1,
+            2,
+            "PROCEDURE P(A,B,C,D,E,F,G,H,I,J,K,L,M,N,O,/A,/Q,/R: CHAR);/BEGIN END;/BEGIN END.",
+        ),
+        (1, 2, "VAR INTEGER,/INTEGER: INTEGER;/BEGIN END."),
+        (0, 0, "VAR CHAR, X: CHAR;/BEGIN CHAR := X END."),
+        (0, 0, "PROCEDURE P(CHAR, X: CHAR);/BEGIN END;/BEGIN END."),
     ];
     judge_all(&rt, rt.alloc(), &table)
 }

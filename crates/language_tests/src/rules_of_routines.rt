@@ -15,6 +15,11 @@ fn headings(rt: HostRuntime) -> Result<(), Fail> {
         ),
         (4, 2, "FUNCTION F(A:/REAL):/WORD;/BEGIN END;/BEGIN END."),
         (
+            4,
+            3,
+            "VAR F: CHAR;/FUNCTION F(A,/A: REAL): WORD;/BEGIN END;/BEGIN END.",
+        ),
+        (
             1,
             3,
             "VAR F: CHAR;/FUNCTION F(A,/A: CHAR): CHAR;/BEGIN END;/BEGIN END.",

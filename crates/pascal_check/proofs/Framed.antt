@@ -1,5 +1,5 @@
 -- What declarations leave of a scope, and the words that they add to its frame.
-use Rattle.std.proofs.Common.{◌≡◌, ℕ, ◌+◌, List, [], ◌∷◌, Option, Some, None, refl, sym, ap, ◌∙◌, arith}
+use Rattle.std.proofs.Common.{◌≡◌, ℕ, ◌+◌, List, [], ◌∷◌, Option, Some, None, refl, ◌∙◌, arith}
 use Rattle.pascal_tree.specs.Word.{NameAt}
 use Rattle.pascal_tree.specs.Program.{Consts, Group, Vars, ParameterGroup}
 use Rattle.pascal_tree.specs.Scopes.{Scope, declare, words_of_means, words_of_list, result_words}
@@ -8,7 +8,6 @@ use Rattle.pascal_tree.specs.DeclarationRules.{behind_names, behind_definition, 
 use Rattle.pascal_tree.specs.declared.means.Means.{Means}
 use Rattle.pascal_tree.specs.declared.means.Means.TheVariants as means
 use Rattle.pascal_tree.specs.declared.declaration.Definition.{Definition}
-use Rattle.pascal_check.specs.Frames.{used_behind}
 
 -- the same but for the own list
 pub record SameBut (s t : Scope) : Type 0 where
@@ -55,27 +54,10 @@ parameters_same s (g ∷ more) =
 
 -- ---- Words
 
-one_more : (s : Scope) (name : List ℕ) (m : Means) → frame_words (declare s name m) ≡ frame_words s + words_of_means m
+pub one_more : (s : Scope) (name : List ℕ) (m : Means) → frame_words (declare s name m) ≡ frame_words s + words_of_means m
 one_more s name m = by (words_of_means m) (words_of_list s.own) (result_words s.within) where
   by : (a b c : ℕ) → (a + b) + c ≡ (b + c) + a
   by a b c = omega arith
-
-pub names_words : (s : Scope) (m : Means) (names : List NameAt)
-    → used_behind (frame_words s) (words_of_means m) names ≡ frame_words (behind_names s m names)
-names_words s m [] = refl
-names_words s m (n ∷ more) =
-    ap (λ k. used_behind k (words_of_means m) more) (sym (one_more s n.letters m))
-    ∙ names_words (declare s n.letters m) m more
-
--- what was counted name by name is what the frame has behind them
-pub words_counted : (s t : Scope) (m : Means) (names : List NameAt) (total used each : ℕ) → total ≡ used_behind used each names
-    → used ≡ frame_words s → each ≡ words_of_means m → t ≡ behind_names s m names → total ≡ frame_words t
-words_counted s t m names total used each counted before takes at =
-    counted
-    ∙ ap (λ n. used_behind n each names) before
-    ∙ ap (λ n. used_behind (frame_words s) n names) takes
-    ∙ names_words s m names
-    ∙ sym (ap frame_words at)
 
 constant_words : (v : Option Valued) → words_of_means (constant_means v) ≡ 0
 constant_words None = refl
@@ -115,6 +97,6 @@ parameters_outer s gs = (parameters_same s gs).outer
 pub parameters_within : (s : Scope) (gs : List ParameterGroup) → (behind_parameter_groups s gs).within ≡ s.within
 parameters_within s gs = (parameters_same s gs).within
 
-pub ruleset counted = (names_words)
+pub ruleset counted = (one_more)
 
 pub ruleset blocks = (consts_words, consts_outer, consts_within, vars_outer, vars_within)

@@ -1,29 +1,29 @@
 -- Frames that pass no limit.
-use Rattle.std.proofs.Common.{◌≡◌, ℕ, ◌+◌, ◌≤◌, nat_lt, List, [], ◌∷◌, ◌++◌, Option, Some, None, subst}
+use Rattle.std.proofs.Common.{◌≡◌, ◌≤◌, nat_lt, List, [], ◌∷◌, Option, Some, None, is_some}
 use Rattle.std.proofs.lemmas.Bool.{ltb-false}
 use Rattle.pascal_tree.specs.Word.{NameAt}
 use Rattle.pascal_tree.specs.Program.{Group, Vars}
-use Rattle.pascal_tree.specs.Scopes.{Scope, words_of_means}
-use Rattle.pascal_tree.specs.DeclarationRules.{judged_kind, twice_declared, too_large, judged_group, judged_groups, judged_vars, behind_group, behind_groups, behind_vars, type_of_kind, all_names, frame_words, first_broken}
+use Rattle.pascal_tree.specs.Scopes.{Scope, found, declare}
+use Rattle.pascal_tree.specs.DeclarationRules.{judged_kind, judged_words, judged_variable, one_by_one, behind_names, judged_group, judged_groups, judged_vars, behind_group, behind_groups, behind_vars, type_of_kind, all_names, frame_words, first_broken}
+use Rattle.pascal_tree.specs.declared.means.Means.{Means}
 use Rattle.pascal_tree.specs.declared.means.Means.TheVariants as means
-use Rattle.pascal_check.specs.Frames.{used_behind}
-use Rattle.pascal_check.proofs.Framed.{names_words}
 use Rattle.pascal_check.proofs.Unbroken.{before, behind, tested}
 
-kept : (rule most used each : ℕ) (names : List NameAt) → used ≤ most → first_broken (too_large rule most used each names) ≡ None
-    → used_behind used each names ≤ most
-kept rule most used each [] fits h = fits
-kept rule most used each (n ∷ more) fits h =
-    let first = tested rule n.line (nat_lt most (used + each)) (too_large rule most (used + each) each more) h in
-    kept rule most (used + each) each more (ltb-false most (used + each) first.0) first.1
+kept : (s : Scope) (m : Means) (names : List NameAt) → frame_words s ≤ 4096 → first_broken (one_by_one judged_variable s m names) ≡ None
+    → frame_words (behind_names s m names) ≤ 4096
+kept s m [] fits h = fits
+kept s m (n ∷ more) fits h =
+    let t = declare s n.letters m in
+    let rest = one_by_one judged_variable t m more in
+    let once = tested 1 n.line (is_some (found s.own n.letters)) (judged_words 6 4096 s m n ∷ rest) h in
+    let few = tested 6 n.line (nat_lt 4096 (frame_words t)) rest once.1 in
+    kept t m more (ltb-false 4096 (frame_words t) few.0) few.1
 
 group_kept : (s : Scope) (g : Group) → frame_words s ≤ 4096 → first_broken (judged_group s g) ≡ None → frame_words (behind_group s g) ≤ 4096
 group_kept s g fits h =
     let m = means.Variable (type_of_kind s g.kind) in
     let names = all_names g.names in
-    let large = too_large 6 4096 (frame_words s) (words_of_means m) names in
-    let none = behind (twice_declared s m names) large (behind (judged_kind s g.kind) (twice_declared s m names ++ large) h) in
-    subst (λ n. n ≤ 4096) (names_words s m names) (kept 6 4096 (frame_words s) (words_of_means m) names fits none)
+    kept s m names fits (behind (judged_kind s g.kind) (one_by_one judged_variable s m names) h)
 
 groups_kept : (s : Scope) (gs : List Group) → frame_words s ≤ 4096 → first_broken (judged_groups s gs) ≡ None → frame_words (behind_groups s gs) ≤ 4096
 groups_kept s [] fits h = fits

@@ -22,7 +22,7 @@ past : (r l : ℕ) (b : Bool) (more : Judged) → b ≡ false → first_broken (
 past r l true more h = absurd (true≢false h)
 past r l false more h = refl
 
-past_none : (o : Option Broken) (more : Judged) → o ≡ None → first_broken (o ∷ more) ≡ first_broken more
+pub past_none : (o : Option Broken) (more : Judged) → o ≡ None → first_broken (o ∷ more) ≡ first_broken more
 past_none None more h = refl
 past_none (Some x) more h = cc
 

@@ -6,6 +6,7 @@ pub mod FramesKept
 pub mod Headings
 pub mod JudgedStatements
 pub mod Judging
+pub mod Limits
 pub mod Named
 pub mod ParameterTurns
 pub mod Plain

@@ -5,10 +5,10 @@ ghost use Rattle.std.specs.Prelude.{◌≡◌, ◌≤◌, ◌+◌, ◌∷◌, []
 ghost use Rattle.pascal_tree.specs.Scopes.{words_of_means};
 ghost use Rattle.pascal_tree.specs.Scopes as scopes;
 ghost use Rattle.pascal_tree.specs.SeenProgram.{seen_names, seen_group, seen_vars};
-ghost use Rattle.pascal_tree.specs.DeclarationRules.{are_bounds, judged_kind, judged_type_name, scalar_named, type_of_kind, twice_declared, too_large, all_names, behind_names, judged_group, judged_groups, judged_vars, behind_group, behind_groups, behind_vars, frame_words, first_broken};
+ghost use Rattle.pascal_tree.specs.DeclarationRules.{are_bounds, judged_kind, judged_type_name, scalar_named, type_of_kind, one_by_one, all_names, behind_names, judged_group, judged_groups, judged_vars, behind_group, behind_groups, behind_vars, frame_words, first_broken};
 ghost use Rattle.pascal_tree.specs.declared.declaration.Kind.TheVariants as kinds;
 ghost use Rattle.pascal_check.specs.Faults.{IsFault};
-ghost use Rattle.pascal_check.specs.Frames.{used_behind};
+ghost use Rattle.pascal_check.specs.Frames.{judged_within};
 ghost use Rattle.pascal_check.specs.Holds.{means_held};
 
 use crate::constants::{Valued, judge_constant};
@@ -37,8 +37,8 @@ impl Held {
         }
     }
 
-    /// How many words it takes, at most 65,536.
-    pub fn words(self) -> u32
+    // How many words it takes, at most 65,536.
+    fn words(self) -> u32
         ensures words { result ≡ words_of_means (means_held self) }
         ensures most { result ≤ 65536 }
     {
@@ -49,8 +49,18 @@ impl Held {
     }
 }
 
-/// How many words a frame may have.
-pub const MOST_WORDS: u32 = 4096;
+/// How many words the names of a list may take, and the rule that is broken where they take more.
+#[derive(Clone, Copy)]
+pub struct Limit {
+    pub rule: u8,
+    pub most: u32,
+}
+
+/// The limit of a frame.
+const FRAME: Limit = Limit {
+    rule: 6,
+    most: 4096,
+};
 
 /// The variables of a block or of the program, behind so many words of their frame, and the scope
 /// behind them.
@@ -87,7 +97,6 @@ fn judge_groups(scope: &mut Scope, used: u32, groups: &[Group]) -> Result<(), Ch
 }
 
 // Variables of one type: the type, and then their names.
-#[tactic(auto, using(crate::proofs::Firsts::firsts, crate::proofs::Framed::counted))]
 fn judge_group(scope: &mut Scope, used: u32, group: &Group) -> Result<u32, CheckFault>
     requires used { used ≡ frame_words scope.old }
     requires most { used ≤ 4096 }
@@ -98,8 +107,7 @@ fn judge_group(scope: &mut Scope, used: u32, group: &Group) -> Result<u32, Check
     ensures broken { IfErr result (IsFault (judged_group scope.old (seen_group group.now))) }
 {
     let held = Held::Variable(judge_kind(scope, &group.kind)?);
-    declare_names(scope, held, &group.names)?;
-    Ok(count_words(6, MOST_WORDS, used, held.words(), &group.names)?)
+    declare_names(scope, FRAME, used, held, &group.names)
 }
 
 fn judge_kind(scope: &Scope, kind: &Kind) -> Result<VariableType, Broken>
@@ -168,8 +176,8 @@ fn are_bounds(low: Valued, high: Valued) -> bool
         && low.value <= high.value
 }
 
-/// The scalar type that a name means, if it means one.
-pub fn type_named(scope: &Scope, name: &Name) -> Option<Scalar>
+// The scalar type that a name means, if it means one.
+fn type_named(scope: &Scope, name: &Name) -> Option<Scalar>
     ensures { result ≡ scalar_named scope.now name.now }
 {
     match scope.meaning(name) {
@@ -193,40 +201,75 @@ pub fn judge_type_name(scope: &Scope, name: &Name) -> Result<Scalar, Broken>
     }
 }
 
-/// Declares the names of a group, none of which the list has already.
-pub fn declare_names(scope: &mut Scope, held: Held, names: &Names) -> Result<(), CheckFault>
-    ensures ok { OnOk result (first_broken
-        (twice_declared scope.old (means_held held) (all_names (seen_names names.now))) ≡ None) }
+/// Declares the names of a group one by one, behind so many words of their frame, and counts theirs:
+/// each is one that the list doesn't have, and none passes the limit.
+pub fn declare_names(
+    scope: &mut Scope,
+    limit: Limit,
+    used: u32,
+    held: Held,
+    names: &Names,
+) -> Result<u32, CheckFault>
+    requires used { used ≡ frame_words scope.old }
+    requires most { used ≤ limit.most }
+    requires limit { limit.most ≤ 4096 }
+    ensures ok { OnOk result (first_broken (one_by_one (judged_within limit.rule limit.most) scope.old
+        (means_held held) (all_names (seen_names names.now))) ≡ None) }
     ensures scope { OnOk result (scope.new
         ≡ behind_names scope.old (means_held held) (all_names (seen_names names.now))) }
-    ensures broken { IfErr result (IsFault
-        (twice_declared scope.old (means_held held) (all_names (seen_names names.now)))) }
+    ensures used { IfOk result (λ n. n ≡ frame_words scope.new) }
+    ensures most { IfOk result (λ n. n ≤ limit.most) }
+    ensures broken { IfErr result (IsFault (one_by_one (judged_within limit.rule limit.most) scope.old
+        (means_held held) (all_names (seen_names names.now)))) }
 {
-    declare_name(scope, held, &names.first)?;
-    declare_more(scope, held, &names.rest)
+    let used = declare_name(scope, limit, used, held, &names.first)?;
+    declare_more(scope, limit, used, held, &names.rest)
 }
 
-fn declare_more(scope: &mut Scope, held: Held, names: &[(u32, Name)]) -> Result<(), CheckFault>
-    ensures ok { OnOk result (first_broken
-        (twice_declared scope.old (means_held held) (map (λ n. n.1) names.now)) ≡ None) }
+fn declare_more(
+    scope: &mut Scope,
+    limit: Limit,
+    used: u32,
+    held: Held,
+    names: &[(u32, Name)],
+) -> Result<u32, CheckFault>
+    requires used { used ≡ frame_words scope.old }
+    requires most { used ≤ limit.most }
+    requires limit { limit.most ≤ 4096 }
+    ensures ok { OnOk result (first_broken (one_by_one (judged_within limit.rule limit.most) scope.old
+        (means_held held) (map (λ n. n.1) names.now)) ≡ None) }
     ensures scope { OnOk result (scope.new
         ≡ behind_names scope.old (means_held held) (map (λ n. n.1) names.now)) }
-    ensures broken { IfErr result (IsFault
-        (twice_declared scope.old (means_held held) (map (λ n. n.1) names.now))) }
+    ensures used { IfOk result (λ n. n ≡ frame_words scope.new) }
+    ensures most { IfOk result (λ n. n ≤ limit.most) }
+    ensures broken { IfErr result (IsFault (one_by_one (judged_within limit.rule limit.most) scope.old
+        (means_held held) (map (λ n. n.1) names.now))) }
 {
+    let mut total = used;
     for (_, name) in names {
-        declare_name(scope, held, name)?;
+        total = declare_name(scope, limit, total, held, name)?;
     }
-    Ok(())
+    Ok(total)
 }
 
-fn declare_name(scope: &mut Scope, held: Held, name: &Name) -> Result<(), CheckFault>
-    ensures ok { OnOk result
-        (first_broken (twice_declared scope.old (means_held held) (name.now ∷ [])) ≡ None) }
+fn declare_name(
+    scope: &mut Scope,
+    limit: Limit,
+    used: u32,
+    held: Held,
+    name: &Name,
+) -> Result<u32, CheckFault>
+    requires used { used ≡ frame_words scope.old }
+    requires most { used ≤ limit.most }
+    requires limit { limit.most ≤ 4096 }
+    ensures ok { OnOk result (first_broken
+        (judged_within limit.rule limit.most scope.old (means_held held) name.now) ≡ None) }
     ensures scope { OnOk result
         (scope.new ≡ scopes.declare scope.old name.now.letters (means_held held)) }
-    ensures broken { IfErr result
-        (IsFault (twice_declared scope.old (means_held held) (name.now ∷ []))) }
+    ensures used { IfOk result (λ n. n ≡ frame_words scope.new) }
+    ensures most { IfOk result (λ n. n ≤ limit.most) }
+    ensures broken { IfErr result (IsFault
+        (judged_within limit.rule limit.most scope.old (means_held held) name.now)) }
 {
     if scope.declares(name) {
         return Err(CheckFault::Semantic {
@@ -234,68 +277,13 @@ fn declare_name(scope: &mut Scope, held: Held, name: &Name) -> Result<(), CheckF
             rule: 1,
         });
     }
-    scope.declare(name, held.means())?;
-    Ok(())
-}
-
-/// Counts the words of a group's names, each of which takes so many, behind those that are used. To
-/// pass `most` breaks the rule.
-pub fn count_words(rule: u8, most: u32, used: u32, each: u32, names: &Names) -> Result<u32, Broken>
-    requires used { used ≤ most }
-    requires most { most ≤ 4096 }
-    requires each { each ≤ 65536 }
-    ensures ok { OnOk result
-        (first_broken (too_large rule most used each (all_names (seen_names names.now))) ≡ None) }
-    ensures used { IfOk result (λ n. n ≡ used_behind used each (all_names (seen_names names.now))) }
-    ensures most { IfOk result (λ n. n ≤ most) }
-    ensures broken { IfErr result (λ b. first_broken
-        (too_large rule most used each (all_names (seen_names names.now))) ≡ Some b) }
-{
-    let used = count_name(rule, most, used, each, &names.first)?;
-    count_more(rule, most, used, each, &names.rest)
-}
-
-fn count_more(
-    rule: u8,
-    most: u32,
-    used: u32,
-    each: u32,
-    names: &[(u32, Name)],
-) -> Result<u32, Broken>
-    requires used { used ≤ most }
-    requires most { most ≤ 4096 }
-    requires each { each ≤ 65536 }
-    ensures ok { OnOk result
-        (first_broken (too_large rule most used each (map (λ n. n.1) names.now)) ≡ None) }
-    ensures used { IfOk result (λ n. n ≡ used_behind used each (map (λ n. n.1) names.now)) }
-    ensures most { IfOk result (λ n. n ≤ most) }
-    ensures broken { IfErr result (λ b. first_broken
-        (too_large rule most used each (map (λ n. n.1) names.now)) ≡ Some b) }
-{
-    let mut total = used;
-    for (_, name) in names {
-        total = count_name(rule, most, total, each, name)?;
-    }
-    Ok(total)
-}
-
-fn count_name(rule: u8, most: u32, used: u32, each: u32, name: &Name) -> Result<u32, Broken>
-    requires used { used ≤ most }
-    requires most { most ≤ 4096 }
-    requires each { each ≤ 65536 }
-    ensures ok { OnOk result (first_broken (too_large rule most used each (name.now ∷ [])) ≡ None) }
-    ensures used { IfOk result (λ n. n ≡ used + each) }
-    ensures most { IfOk result (λ n. n ≤ most) }
-    ensures broken { IfErr result
-        (λ b. first_broken (too_large rule most used each (name.now ∷ [])) ≡ Some b) }
-{
-    let total = used + each;
-    if most < total {
-        Err(Broken {
-            rule,
+    let total = used + held.words();
+    if limit.most < total {
+        return Err(CheckFault::Semantic {
             line: name.line,
-        })
-    } else {
-        Ok(total)
+            rule: limit.rule,
+        });
     }
+    scope.declare(name, held.means())?;
+    Ok(total)
 }

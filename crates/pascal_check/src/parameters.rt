@@ -9,14 +9,14 @@ ghost use Rattle.pascal_check.specs.Frames.{group_wanted};
 ghost use Rattle.pascal_check.specs.Holds.{means_held};
 
 use crate::fault::CheckFault;
-use crate::groups::{Held, MOST_WORDS, count_words, declare_names, type_named};
+use crate::groups::{Held, Limit, declare_names, judge_type_name};
 use crate::scope::Scope;
 use pascal_tree::declaration::{Names, ParameterGroup, Parameters};
 use pascal_tree::leaf::Name;
 use pascal_tree::{Parameter, ParameterList, Scalar, VariableType};
 
-/// How many words the parameters of a routine may have.
-const MOST_PARAMETER_WORDS: u32 = 16;
+/// The limit of the parameters of a routine.
+const PARAMETERS: Limit = Limit { rule: 7, most: 16 };
 
 /// The parameters of a heading, from inside the routine; how many words they have, and the scope
 /// behind them. What they want stands behind `wanted`.
@@ -70,8 +70,7 @@ fn judge_more_parameters(
     Ok(total)
 }
 
-// Parameters of one type, which is known before their names are.
-#[tactic(auto, using(crate::proofs::Firsts::firsts, crate::proofs::Framed::counted))]
+// Parameters of one type: the type, and then their names.
 fn judge_parameter_group(
     scope: &mut Scope,
     wanted: &mut ParameterList,
@@ -91,30 +90,16 @@ fn judge_parameter_group(
     ensures broken { IfErr result
         (IsFault (judged_parameter_group scope.old (seen_parameter_group group.now))) }
 {
-    let found = type_named(scope, &group.kind);
-    let type_ = or_integer(found);
-    let held = held(&group.var, type_);
-    declare_names(scope, held, &group.names)?;
-    if found.is_none() {
-        return Err(CheckFault::Semantic {
-            line: group.kind.line,
-            rule: 4,
-        });
-    }
-    count_words(6, MOST_WORDS, used, held.words(), &group.names)?;
-    let total = count_words(7, MOST_PARAMETER_WORDS, used, held.words(), &group.names)?;
+    let type_ = judge_type_name(scope, &group.kind)?;
+    let used = declare_names(
+        scope,
+        PARAMETERS,
+        used,
+        held(&group.var, type_),
+        &group.names,
+    )?;
     want(wanted, parameter(&group.var, type_), &group.names)?;
-    Ok(total)
-}
-
-// The type, or INTEGER in place of none.
-fn or_integer(found: Option<Scalar>) -> Scalar
-    ensures { result ≡ or_integer found }
-{
-    match found {
-        None => Scalar::Integer,
-        Some(found) => found,
-    }
+    Ok(used)
 }
 
 fn held(var: &Option<u32>, type_: Scalar) -> Held

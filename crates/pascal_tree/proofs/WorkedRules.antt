@@ -76,6 +76,30 @@ bounds : broken (prog None (Some (record {
 unfolding broken
 bounds = refl
 
+-- VAR X, X: ARRAY (.1..4097.) OF CHAR;
+too_many : broken (prog None (Some (record {
+  line = 0;
+  first = record {
+    names = record { first = at (codes "X") 1; rest = (0, at (codes "X") 2) ∷ [] };
+    colon = 0;
+    kind = kind.Array 2 0 (constant.Number (record { value = 1; line = 2 })) 0 (constant.Number (record { value = 4097; line = 2 })) 0 0 (at (codes "CHAR") 2);
+    semicolon = 0;
+  };
+  rest = [];
+})) [] empty) ≡ breaks 6 1
+unfolding broken
+too_many = refl
+
+-- PROCEDURE P(A: CHAR; A: FOO); BEGIN END;
+type_first : broken (prog None None (procedure 0 (at (codes "P") 1) (Some (record {
+  opening = 0;
+  first = record { var = None; names = record { first = at (codes "A") 1; rest = [] }; colon = 0; kind = at (codes "CHAR") 1 };
+  rest = (0, record { var = None; names = record { first = at (codes "A") 2; rest = [] }; colon = 0; kind = at (codes "FOO") 3 }) ∷ [];
+  closing = 0;
+})) 0 (record { consts = None; vars = None; body = body 0 (sequence empty no_statement) 0 }) 0 ∷ []) empty) ≡ breaks 4 3
+unfolding broken
+type_first = refl
+
 -- PROCEDURE P(VAR A, B: INTEGER); BEGIN A := 1 END; BEGIN P(X, X) END.
 abbrev adds : Routine
 adds = procedure 0 (at (codes "P") 2) (Some (record { opening = 0; first = record { var = Some 2; names = record { first = at (codes "A") 2; rest = (0, at (codes "B") 2) ∷ [] }; colon = 0; kind = at (codes "INTEGER") 2 }; rest = []; closing = 0 })) 0

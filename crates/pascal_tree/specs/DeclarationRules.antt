@@ -2,7 +2,7 @@
 use Rattle.std.specs.Prelude.{ℕ, ◌+◌, Bool, false, not, ◌&&◌, nat_le, nat_lt, List, [], ◌∷◌, ◌++◌, map, Option, Some, None, is_some, pos, int_le}
 use Rattle.pascal_tree.specs.Word.{NameAt}
 use Rattle.pascal_tree.specs.Program.{Names, Consts, Group, Vars, ParameterGroup, Parameters, Block, Routine, procedure, function, Program}
-use Rattle.pascal_tree.specs.Scopes.{Scope, found, means_of, declare, same_scalar, words_of_means, words_of_list, result_words}
+use Rattle.pascal_tree.specs.Scopes.{Scope, found, means_of, declare, same_scalar, words_of_list, result_words}
 use Rattle.pascal_tree.specs.declared.broken.Broken.{Broken}
 use Rattle.pascal_tree.specs.declared.scalar.Scalar.{Scalar}
 use Rattle.pascal_tree.specs.declared.scalar.Scalar.TheVariants as scalar
@@ -91,32 +91,37 @@ abbrev pub behind_names : Scope → Means → List NameAt → Scope
 behind_names s m [] = s
 behind_names s m (n ∷ more) = behind_names (declare s n.letters m) m more
 
--- names that their list has already
-abbrev pub twice_declared : Scope → Means → List NameAt → Judged
-twice_declared s m [] = []
-twice_declared s m (n ∷ more) =
-    breaks 1 (is_some (found s.own n.letters)) n.line ∷ twice_declared (declare s n.letters m) m more
-
 -- how many words a frame has
 abbrev pub frame_words : Scope → ℕ
 frame_words s = words_of_list s.own + result_words s.within
 
--- names with which so many words are passed, where so many are used before them and each takes so many
-abbrev pub too_large : (rule most used each : ℕ) → List NameAt → Judged
-too_large rule most used each [] = []
-too_large rule most used each (n ∷ more) =
-    breaks rule (nat_lt most (used + each)) n.line ∷ too_large rule most (used + each) each more
+-- a name that its list has already
+abbrev pub judged_once : Scope → NameAt → Option Broken
+judged_once s n = breaks 1 (is_some (found s.own n.letters)) n.line
 
--- variables of one type: the type, and then the group
+-- a name with which the frame has more than so many words
+abbrev pub judged_words : (rule most : ℕ) → Scope → Means → NameAt → Option Broken
+judged_words rule most s m n = breaks rule (nat_lt most (frame_words (declare s n.letters m))) n.line
+
+-- what is judged of a variable, and of a parameter
+abbrev pub judged_variable : Scope → Means → NameAt → Judged
+judged_variable s m n = judged_once s n ∷ judged_words 6 4096 s m n ∷ []
+
+abbrev pub judged_parameter : Scope → Means → NameAt → Judged
+judged_parameter s m n = judged_once s n ∷ judged_words 6 4096 s m n ∷ judged_words 7 16 s m n ∷ []
+
+-- the names of a group one by one, each where those before it are declared
+abbrev pub one_by_one : (Scope → Means → NameAt → Judged) → Scope → Means → List NameAt → Judged
+one_by_one judged s m [] = []
+one_by_one judged s m (n ∷ more) = judged s m n ++ one_by_one judged (declare s n.letters m) m more
+
+-- variables of one type: the type, and then their names
 abbrev pub behind_group : Scope → Group → Scope
 behind_group s g = behind_names s (means.Variable (type_of_kind s g.kind)) (all_names g.names)
 
 abbrev pub judged_group : Scope → Group → Judged
 judged_group s g =
-    let m = means.Variable (type_of_kind s g.kind) in
-    let names = all_names g.names in
-    judged_kind s g.kind
-    ++ (twice_declared s m names ++ too_large 6 4096 (frame_words s) (words_of_means m) names)
+    judged_kind s g.kind ++ one_by_one judged_variable s (means.Variable (type_of_kind s g.kind)) (all_names g.names)
 
 abbrev pub behind_groups : Scope → List Group → Scope
 behind_groups s [] = s
@@ -134,7 +139,7 @@ abbrev pub judged_vars : Scope → Option Vars → Judged
 judged_vars s None = []
 judged_vars s (Some v) = judged_groups s (v.first ∷ v.rest)
 
--- parameters of one type
+-- parameters of one type: the type, and then their names
 abbrev pub parameter_means : Option ℕ → Scalar → Means
 parameter_means None t = means.Variable (variable_type.Plain t)
 parameter_means (Some line) t = means.Reference t
@@ -151,11 +156,7 @@ behind_parameter_group s g = behind_names s (group_means s g) (all_names g.names
 
 abbrev pub judged_parameter_group : Scope → ParameterGroup → Judged
 judged_parameter_group s g =
-    let m = group_means s g in
-    let names = all_names g.names in
-    twice_declared s m names ++ (judged_type_name s g.kind
-    ∷ (too_large 6 4096 (frame_words s) (words_of_means m) names
-    ++ too_large 7 16 (frame_words s) (words_of_means m) names))
+    judged_type_name s g.kind ∷ one_by_one judged_parameter s (group_means s g) (all_names g.names)
 
 abbrev pub behind_parameter_groups : Scope → List ParameterGroup → Scope
 behind_parameter_groups s [] = s

@@ -3,10 +3,21 @@ use Rattle.std.proofs.lemmas.Result.{on_ok_weaker, IfErr-weaker}
 use Rattle.pascal_tree.specs.SeenProgram.{seen_parameter_group, seen_parameters}
 use Rattle.pascal_tree.specs.DeclarationRules.{judged_parameter_group, judged_parameter_groups, behind_parameter_group, behind_parameter_groups, parameters_wanted, all_groups, first_broken}
 use Rattle.pascal_check.specs.Faults.{IsFault}
-use Rattle.pascal_check.proofs.Faulty.{fault_same}
+use Rattle.pascal_check.proofs.Faulty.{err_is, fault_same}
 use Rattle.pascal_check.proofs.ParameterTurns.{seen_groups, all_groups_are, parameters_more}
-use Rattle.pascal_check.proofs.Turns.{turn_judged, turn_behind}
+use Rattle.pascal_check.proofs.Turns.{turn_judged, turn_fault, turn_behind}
 use Rattle.pascal_check.proofs.parameters.judge_parameters.Goals as goal
+
+pub returns-in_err-used-clause-broken : goal.returns-in_err-used-clause-broken
+returns-in_err-used-clause-broken c =
+    let all = all_groups (option_map seen_parameters c.args.parameters.now) in
+    let rest = (c.in-Some.parameters.rest).items in
+    let s = c.args.scope.now in
+    let fault = c.in_err-used.field-0.0 in
+    err_is c.from_residual.result (IsFault (judged_parameter_groups s all)) fault c.from_residual.ensures.1
+    (turn_fault judged_parameter_group judged_parameter_groups behind_parameter_group (λ s g more. refl) s (seen_parameter_group c.in-Some.parameters.first)
+    all (seen_groups rest) (judged_parameter_groups s all) fault (all_groups_are c.args.parameters.now c.in-Some.parameters rest c.in-Some.is refl) refl
+    c.in_err-used.ensures.broken)
 
 pub returns-clause-ok : goal.returns-clause-ok
 returns-clause-ok c =
