@@ -1,52 +1,113 @@
--- A map in the order of insertion, read as a list of declarations.
-use Rattle.std.proofs.Common.{◌≡◌, ℕ, true, false, Bool, List, [], ◌∷◌, ◌++◌, map, reverse, Option, Some, None, cond, refl, sym, ap, ◌∙◌}
-use Rattle.std.specs.Str.{bytes_eq}
-use Rattle.std.specs.Map.{lookup}
+-- Maps of names and of values, read as lists.
+use Rattle.std.proofs.Common.{◌≡◌, ℕ, ℤ, true, false, Bool, ◌||◌, List, [], ◌∷◌, ◌++◌, length, reverse, Option, Some, None, cond, refl, sym, ap, ◌∙◌, true≢false}
+use Rattle.std.specs.Prelude.{option_map, is_some}
+use Rattle.std.specs.BTreeMap.{insert_entry}
+use Rattle.std.specs.Cmp.Lexicographic.{slice_cmp}
 use Rattle.std.specs.Global.{Vec}
+use Rattle.std.specs.List.{list_any}
+use Rattle.std.specs.Map.{lookup}
+use Rattle.std.specs.Ordering.{is_eq, nat_cmp, int_cmp, int_eq}
+use Rattle.std.specs.Str.{bytes_eq}
+use Rattle.std.specs.declared.cmp.Ordering.{Ordering}
+use Rattle.std.specs.declared.cmp.Ordering.TheVariants.{Less, Equal, Greater}
 use Rattle.std.proofs.lemmas.List.{reverse-append}
+use Rattle.std.proofs.lemmas.List.Folds.{list_any-append}
+use Rattle.std.proofs.lemmas.Map.Lookups.{exact_signed}
+use Rattle.std.proofs.lemmas.Map.Text.{is_eq-slice_cmp}
 use Rattle.std.proofs.lemmas.Slice.Eq.{bytes_eq-Decides}
-use Rattle.pascal_tree.specs.Scopes.{found, named_as, or_else}
+use Rattle.std.proofs.lemmas.Option.{none-some}
+use Rattle.pascal_tree.specs.Scopes.{found, named_as}
 use Rattle.pascal_tree.specs.declared.means.Means.{Means}
-use Rattle.pascal_check.specs.Listed.{latest_first}
+use Rattle.pascal_check.specs.Listed.{in_order, AreNumbered, Names, place_of, declared_by, latest_first, looked_up, AreFound, values_added, AreAmong}
+use Rattle.pascal_check.proofs.Added.{found_added, order_added, numbers_added}
 
-abbrev pub Entries : Type 0
-Entries = List (Vec ℕ × Means)
+-- the order of names in a map
+abbrev pub by_letters : Vec ℕ → Vec ℕ → Ordering
+by_letters x y = slice_cmp nat_cmp x.items y.items
 
-pub map_behind : {A B : Type 0} (f : A → B) (xs : List A) (x : A) → map f (xs ++ x ∷ []) ≡ map f xs ++ f x ∷ []
-map_behind f [] x = refl
-map_behind f (y ∷ ys) x = ap (λ zs. f y ∷ zs) (map_behind f ys x)
+same_letters : (a b : List ℕ) → is_eq (slice_cmp nat_cmp a b) ≡ true → a ≡ b
+same_letters a b h = (bytes_eq-Decides a b).0 (sym (is_eq-slice_cmp a b) ∙ h)
 
--- an entry behind the others is the latest declaration
-pub latest_behind : (es : Entries) (k : Vec ℕ) (m : Means) → latest_first (es ++ (k, m) ∷ []) ≡ named_as k.items m ∷ latest_first es
-latest_behind es k m =
-    ap reverse (map_behind (λ e. named_as (e.0).items e.1) es (k, m))
-    ∙ reverse-append (map (λ e. named_as (e.0).items e.1) es) (named_as k.items m ∷ [])
+equal_letters : (a b : List ℕ) → a ≡ b → is_eq (slice_cmp nat_cmp a b) ≡ true
+equal_letters a b h = is_eq-slice_cmp a b ∙ (bytes_eq-Decides a b).1 h
 
-past_first : (b : Bool) (m : Means) (all later last : Option Means) → all ≡ or_else later last → cond b (Some m) all ≡ or_else (cond b (Some m) later) last
-past_first true m all later last h = refl
-past_first false m all later last h = h
+-- a name is found in a map where it was added, and each other as before
+pub looked_up_added : {X : Type 0} (name : List ℕ) (es : List (Vec ℕ × X)) (k : Vec ℕ) (v : X)
+    → looked_up (insert_entry by_letters es k v) name ≡ cond (bytes_eq name k.items) (Some v) (looked_up es name)
+looked_up_added name es k v =
+    found_added by_letters (λ j. is_eq (slice_cmp nat_cmp name j.items))
+    (λ x y h. ap (λ l. is_eq (slice_cmp nat_cmp name l)) (sym (same_letters x.items y.items h)))
+    (λ x y a b. equal_letters x.items y.items (sym (same_letters name x.items a) ∙ same_letters name y.items b)) k v es
+    ∙ ap (λ b. cond b (Some v) (looked_up es name)) (is_eq-slice_cmp name k.items)
 
-pub lookup_behind : (name : List ℕ) (es : Entries) (k : Vec ℕ) (m : Means)
-    → lookup (λ x. bytes_eq name x.items) (es ++ (k, m) ∷ []) ≡ or_else (lookup (λ x. bytes_eq name x.items) es) (cond (bytes_eq name k.items) (Some m) None)
-lookup_behind name [] k m = refl
-lookup_behind name (e ∷ es) k m =
-    past_first (bytes_eq name (e.0).items) e.1 (lookup (λ x. bytes_eq name x.items) (es ++ (k, m) ∷ []))
-    (lookup (λ x. bytes_eq name x.items) es) (cond (bytes_eq name k.items) (Some m) None) (lookup_behind name es k m)
+pub through : {A B : Type 0} (f : A → B) (b : Bool) (v : A) (o : Option A) → option_map f (cond b (Some v) o) ≡ cond b (Some (f v)) (option_map f o)
+through f true v o = refl
+through f false v o = refl
 
-same : (b : Bool) (old new : Option Means) (m : Means) → old ≡ new → (b ≡ true → old ≡ None)
-    → or_else old (cond b (Some m) None) ≡ cond b (Some m) new
-same true old new m is none = ap (λ o. or_else o (Some m)) (none refl)
-same false None new m is none = is
-same false (Some x) new m is none = is
+none_mapped : {A B : Type 0} (f : A → B) (o : Option A) → option_map f o ≡ None → o ≡ None
+none_mapped f None h = refl
+none_mapped f (Some v) h = absurd (none-some (f v) (sym h))
 
--- a new name is found as its declaration is, and each other as before
-pub found_behind : (es : Entries) (k : Vec ℕ) (m : Means)
-    → ((name : List ℕ) → lookup (λ x. bytes_eq name x.items) es ≡ found (latest_first es) name)
-    → lookup (λ x. bytes_eq k.items x.items) es ≡ None
-    → (name : List ℕ) → lookup (λ x. bytes_eq name x.items) (es ++ (k, m) ∷ []) ≡ found (latest_first (es ++ (k, m) ∷ [])) name
-found_behind es k m all absent name =
-    let test = λ (n : List ℕ). lookup (λ x. bytes_eq n x.items) es in
-    let none : bytes_eq name k.items ≡ true → test name ≡ None = λ h. ap test ((bytes_eq-Decides name k.items).0 h) ∙ absent in
-    lookup_behind name es k m
-    ∙ same (bytes_eq name k.items) (test name) (found (latest_first es) name) m (all name) none
-    ∙ sym (ap (λ ds. found ds name) (latest_behind es k m))
+-- ---- A name more
+
+module _ (es : Names) (k : Vec ℕ) (m : Means) (n : ℕ) (next : n ≡ length es) (numbers : AreNumbered place_of declared_by es) (all : AreFound es)
+    (absent : found (latest_first es) k.items ≡ None) where
+  new : looked_up es k.items ≡ None
+  new = none_mapped (λ v. v.1) (looked_up es k.items) (all k.items ∙ absent)
+
+  pub latest_added : latest_first (insert_entry by_letters es k (n, m)) ≡ named_as k.items m ∷ latest_first es
+  latest_added =
+      ap reverse (order_added by_letters place_of declared_by k (n, m) es new next numbers)
+      ∙ reverse-append (in_order place_of declared_by es (length es)) (named_as k.items m ∷ [])
+
+  pub numbers_kept : AreNumbered place_of declared_by (insert_entry by_letters es k (n, m))
+  numbers_kept = numbers_added by_letters place_of declared_by k (n, m) es new next numbers
+
+  pub all_found : AreFound (insert_entry by_letters es k (n, m))
+  all_found name =
+      ap (option_map (λ v. v.1)) (looked_up_added name es k (n, m))
+      ∙ through (λ v. v.1) (bytes_eq name k.items) (n, m) (looked_up es name)
+      ∙ ap (λ o. cond (bytes_eq name k.items) (Some m) o) (all name)
+      ∙ sym (ap (λ ds. found ds name) latest_added)
+
+-- ---- A value more
+
+equal_is : (o : Ordering) → is_eq o ≡ true → o ≡ Equal
+equal_is Less h = absurd (true≢false (sym h))
+equal_is Equal h = refl
+equal_is Greater h = absurd (true≢false (sym h))
+
+same_value : (x y : ℤ) → is_eq (int_cmp x y) ≡ true → x ≡ y
+same_value x y h = exact_signed x y (equal_is (int_cmp x y) h)
+
+itself : (x y z : ℤ) → is_eq (int_cmp x y) ≡ true → is_eq (int_cmp x z) ≡ true → is_eq (int_cmp y z) ≡ true
+itself x y z a b = ap (λ w. is_eq (int_cmp w z)) (sym (same_value x y a)) ∙ b
+
+there : (b : Bool) (n : ℕ) (o : Option ℕ) → is_some (cond b (Some n) o) ≡ (is_some o || (b || false))
+there true n None = refl
+there true n (Some m) = refl
+there false n None = refl
+there false n (Some m) = refl
+
+not_there : {A : Type 0} (o : Option A) → is_some o ≡ false → o ≡ None
+not_there None h = refl
+not_there (Some v) h = absurd (true≢false h)
+
+module _ (es : List (ℤ × ℕ)) (v : ℤ) (n : ℕ) (next : n ≡ length es) (numbers : AreNumbered (λ (e : ℤ × ℕ). e.1) (λ (e : ℤ × ℕ). e.0) es) (all : AreAmong es)
+    (absent : list_any (int_eq v) (values_added es) ≡ false) where
+  fresh : lookup (λ k. is_eq (int_cmp v k)) es ≡ None
+  fresh = not_there (lookup (λ k. is_eq (int_cmp v k)) es) (all v ∙ absent)
+
+  pub value_behind : values_added (insert_entry int_cmp es v n) ≡ values_added es ++ v ∷ []
+  value_behind = order_added int_cmp (λ e. e.1) (λ e. e.0) v n es fresh next numbers
+
+  pub values_numbered : AreNumbered (λ (e : ℤ × ℕ). e.1) (λ (e : ℤ × ℕ). e.0) (insert_entry int_cmp es v n)
+  values_numbered = numbers_added int_cmp (λ e. e.1) (λ e. e.0) v n es fresh next numbers
+
+  pub all_among : AreAmong (insert_entry int_cmp es v n)
+  all_among w =
+      ap is_some (found_added int_cmp (λ k. is_eq (int_cmp w k)) (λ x y h. ap (λ z. is_eq (int_cmp w z)) (sym (same_value x y h))) (itself w) v n es)
+      ∙ there (is_eq (int_cmp w v)) n (lookup (λ k. is_eq (int_cmp w k)) es)
+      ∙ ap (λ b. b || (is_eq (int_cmp w v) || false)) (all w)
+      ∙ sym (list_any-append (int_eq w) (values_added es) (v ∷ []))
+      ∙ sym (ap (list_any (int_eq w)) value_behind)

@@ -9,10 +9,10 @@ ghost use Rattle.pascal_tree.specs.StatementRules.{value_of, constant_meant, jud
 ghost use Rattle.pascal_tree.specs.DeclarationRules.{first_broken};
 ghost use Rattle.pascal_check.specs.Faults.{IsFault};
 
+use crate::earlier::Earlier;
 use crate::fault::CheckFault;
 use crate::scope::Scope;
 use crate::types::is_same;
-use indexmap::IndexSet;
 use pascal_tree::constant::{Constant, Labels};
 use pascal_tree::leaf::Name;
 use pascal_tree::{Broken, Means, Scalar};
@@ -82,15 +82,15 @@ fn first_line(constant: &Constant) -> u32
 pub fn judge_labels(
     scope: &Scope,
     selector: Scalar,
-    earlier: &mut IndexSet<i16>,
+    earlier: &mut Earlier,
     labels: &Labels,
 ) -> Result<(), CheckFault>
     ensures ok { OnOk result (first_broken
-        (judged_labels scope.now (Some selector) earlier.old.keys (seen_labels labels.now)) ≡ None) }
+        (judged_labels scope.now (Some selector) earlier.old (seen_labels labels.now)) ≡ None) }
     ensures values { OnOk result
-        (earlier.new.keys ≡ values_of_labels scope.now earlier.old.keys (seen_labels labels.now)) }
+        (earlier.new ≡ values_of_labels scope.now earlier.old (seen_labels labels.now)) }
     ensures broken { IfErr result (IsFault
-        (judged_labels scope.now (Some selector) earlier.old.keys (seen_labels labels.now))) }
+        (judged_labels scope.now (Some selector) earlier.old (seen_labels labels.now))) }
 {
     judge_label(scope, selector, earlier, &labels.first)?;
     judge_more_labels(scope, selector, earlier, &labels.rest)
@@ -99,15 +99,15 @@ pub fn judge_labels(
 fn judge_more_labels(
     scope: &Scope,
     selector: Scalar,
-    earlier: &mut IndexSet<i16>,
+    earlier: &mut Earlier,
     labels: &[(u32, Constant)],
 ) -> Result<(), CheckFault>
     ensures ok { OnOk result (first_broken
-        (judged_more_labels scope.now (Some selector) earlier.old.keys labels.now) ≡ None) }
+        (judged_more_labels scope.now (Some selector) earlier.old labels.now) ≡ None) }
     ensures values { OnOk result
-        (earlier.new.keys ≡ more_values scope.now earlier.old.keys labels.now) }
+        (earlier.new ≡ more_values scope.now earlier.old labels.now) }
     ensures broken { IfErr result (IsFault
-        (judged_more_labels scope.now (Some selector) earlier.old.keys labels.now)) }
+        (judged_more_labels scope.now (Some selector) earlier.old labels.now)) }
 {
     for (_, label) in labels {
         judge_label(scope, selector, earlier, label)?;
@@ -118,23 +118,23 @@ fn judge_more_labels(
 fn judge_label(
     scope: &Scope,
     selector: Scalar,
-    earlier: &mut IndexSet<i16>,
+    earlier: &mut Earlier,
     label: &Constant,
 ) -> Result<(), CheckFault>
     ensures ok { OnOk result (first_broken
-        (judged_label scope.now (Some selector) earlier.old.keys label.now) ≡ None) }
+        (judged_label scope.now (Some selector) earlier.old label.now) ≡ None) }
     ensures values { OnOk result
-        (earlier.new.keys ≡ with_value (value_of scope.now label.now) earlier.old.keys) }
+        (earlier.new ≡ with_value (value_of scope.now label.now) earlier.old) }
     ensures broken { IfErr result (IsFault
-        (judged_label scope.now (Some selector) earlier.old.keys label.now)) }
+        (judged_label scope.now (Some selector) earlier.old label.now)) }
 {
     let found = judge_constant(scope, label)?;
-    if !is_same(found.type_, selector) || earlier.contains(&found.value) {
+    if !is_same(selector, found.type_) || earlier.contains(found.value) {
         return Err(CheckFault::Semantic {
             line: first_line(label),
             rule: 15,
         });
     }
-    earlier.insert(found.value)?;
+    earlier.add(found.value)?;
     Ok(())
 }

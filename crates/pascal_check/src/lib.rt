@@ -5,6 +5,7 @@ mod arguments;
 mod checker;
 mod constants;
 mod definitions;
+mod earlier;
 mod expressions;
 mod fault;
 mod groups;

@@ -4,34 +4,41 @@ ghost use Rattle.std.specs.Prelude.{◌≡◌, [], ◌∷◌, OnOk, None, is_som
 ghost use Rattle.std.specs.Option.{option_copied};
 ghost use Rattle.pascal_tree.specs.Scopes.{found, named_as};
 
-use indexmap::IndexMap;
-use pascal_tree::{Letters, Means};
+use pascal_tree::Means;
 use solo_base::NoMemory;
 use std::alloc::Global;
+use std::collections::BTreeMap;
 use std::marker::Model;
 
-/// The names of one list, each with what it means. A name is found in the same time however many
-/// there are.
+/// The names of one list, each with how many were declared before it and what it means.
 ///
 /// Contracts see the list, the latest declaration first.
-#[derive(Drop)]
 pub struct Names {
-    entries: IndexMap<Vec<u8>, Means>,
+    alloc: Global,
+    entries: BTreeMap<Vec<u8>, (usize, Means)>,
+}
+
+// Written out, so that who drops a list needn't know how it is kept.
+impl Drop for Names {
+    fn drop(self) {
+        let Self {
+            alloc: _,
+            entries: _,
+        } = self;
+    }
 }
 
 impl Model for Names {
-    ghost use Rattle.std.specs.Prelude.{◌≡◌, ℕ, List, nat_eq};
-    ghost use Rattle.std.specs.Map.{lookup};
-    ghost use Rattle.std.specs.Str.{bytes_eq};
-    ghost use Rattle.pascal_tree.specs.Scopes.{Declared, found};
-    ghost use Rattle.pascal_check.specs.Listed.{latest_first};
+    ghost use Rattle.std.specs.Prelude.{List};
+    ghost use Rattle.pascal_tree.specs.Scopes.{Declared};
+    ghost use Rattle.pascal_check.specs.Listed.{latest_first, place_of, declared_by, AreNumbered, AreFound};
 
     ghost Value = { List Declared };
 
     ghost view = { λ n. latest_first n.entries.entries };
 
-    ghost invariant = { λ n. (name : List ℕ) → lookup (λ k. bytes_eq name k.items) n.entries.entries
-        ≡ found (latest_first n.entries.entries) name };
+    ghost invariant = { λ n. AreFound n.entries.entries
+        × AreNumbered place_of declared_by n.entries.entries };
 }
 
 impl Names {
@@ -40,7 +47,8 @@ impl Names {
         ensures { result ≡ [] }
     {
         Names {
-            entries: IndexMap::new(alloc),
+            alloc,
+            entries: BTreeMap::new(alloc),
         }
     }
 
@@ -48,7 +56,10 @@ impl Names {
     pub fn get(&self, name: &[u8]) -> Option<&Means>
         ensures { option_copied result ≡ found self.now name.now }
     {
-        self.entries.get(name)
+        match self.entries.get(name) {
+            Some((_, means)) => Some(means),
+            None => None,
+        }
     }
 
     /// Whether a name is declared here.
@@ -63,9 +74,9 @@ impl Names {
         requires { found self.old name.now ≡ None }
         ensures { OnOk result (self.new ≡ named_as name.now means ∷ self.old) }
     {
-        let alloc = *self.entries.allocator();
-        let name = Vec::from_slice(alloc, name)?;
-        self.entries.insert(name, means)?;
+        let before = self.entries.len();
+        let name = Vec::from_slice(self.alloc, name)?;
+        self.entries.insert(name, (before, means))?;
         Ok(())
     }
 }

@@ -21,13 +21,25 @@ use std::mem;
 ///
 /// Contracts see those of its own list, those of the program outside a routine, and the function in
 /// whose body it stands.
-#[derive(Drop)]
 pub struct Scope {
     alloc: Global,
     own: Names,
     outer: Names,
     predeclared: Names,
     within: Option<Letters>,
+}
+
+// Written out, so that who drops a scope needn't know what it holds.
+impl Drop for Scope {
+    fn drop(self) {
+        let Self {
+            alloc: _,
+            own: _,
+            outer: _,
+            predeclared: _,
+            within: _,
+        } = self;
+    }
 }
 
 impl Model for Scope {

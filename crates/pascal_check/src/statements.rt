@@ -8,12 +8,12 @@ ghost use Rattle.pascal_tree.specs.DeclarationRules.{first_broken};
 ghost use Rattle.pascal_check.specs.Faults.{IsFault};
 
 use crate::constants::judge_labels;
+use crate::earlier::Earlier;
 use crate::expressions::{judge_arguments, judge_expr};
 use crate::fault::CheckFault;
 use crate::scope::Scope;
 use crate::targets::{judge_call, judge_control, judge_element, judge_target};
 use crate::types::{is_same, parameters_of};
-use indexmap::IndexSet;
 use pascal_tree::statement::{
     Assign, Body, Branch, Call, Case, For, If, Repeat, Statement, Statements, While,
 };
@@ -150,7 +150,7 @@ fn judge_case(scope: &Scope, choice: &Case) -> Result<(), CheckFault>
         (IsFault (judged_statement scope.now (seen_case choice.now))) }
 {
     let selector = judge_expr(scope, &choice.selector)?;
-    let mut earlier = IndexSet::new(scope.alloc());
+    let mut earlier = Earlier::new(scope.alloc());
     judge_branch(scope, selector, &mut earlier, &choice.first)?;
     judge_branches(scope, selector, &mut earlier, &choice.rest)
 }
@@ -160,15 +160,15 @@ fn judge_case(scope: &Scope, choice: &Case) -> Result<(), CheckFault>
 fn judge_branch(
     scope: &Scope,
     selector: Scalar,
-    earlier: &mut IndexSet<i16>,
+    earlier: &mut Earlier,
     branch: &Branch,
 ) -> Result<(), CheckFault>
     ensures ok { OnOk result (first_broken
-        (judged_branch scope.now (Some selector) earlier.old.keys (seen_branch branch.now)) ≡ None) }
-    ensures values { OnOk result (earlier.new.keys
-        ≡ values_of_branch scope.now earlier.old.keys (seen_branch branch.now)) }
+        (judged_branch scope.now (Some selector) earlier.old (seen_branch branch.now)) ≡ None) }
+    ensures values { OnOk result (earlier.new
+        ≡ values_of_branch scope.now earlier.old (seen_branch branch.now)) }
     ensures broken { IfErr result (IsFault
-        (judged_branch scope.now (Some selector) earlier.old.keys (seen_branch branch.now))) }
+        (judged_branch scope.now (Some selector) earlier.old (seen_branch branch.now))) }
 {
     judge_labels(scope, selector, earlier, &branch.labels)?;
     judge_statement(scope, &branch.statement)
@@ -178,13 +178,13 @@ fn judge_branch(
 fn judge_branches(
     scope: &Scope,
     selector: Scalar,
-    earlier: &mut IndexSet<i16>,
+    earlier: &mut Earlier,
     branches: &[(u32, Branch)],
 ) -> Result<(), CheckFault>
     ensures ok { OnOk result (first_broken (judged_branches scope.now (Some selector)
-        earlier.old.keys (seen_branches branches.now)) ≡ None) }
+        earlier.old (seen_branches branches.now)) ≡ None) }
     ensures broken { IfErr result (IsFault (judged_branches scope.now (Some selector)
-        earlier.old.keys (seen_branches branches.now))) }
+        earlier.old (seen_branches branches.now))) }
 {
     for (_, branch) in branches {
         judge_branch(scope, selector, earlier, branch)?;

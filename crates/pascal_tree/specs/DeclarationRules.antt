@@ -121,7 +121,8 @@ behind_group s g = behind_names s (means.Variable (type_of_kind s g.kind)) (all_
 
 abbrev pub judged_group : Scope → Group → Judged
 judged_group s g =
-    judged_kind s g.kind ++ one_by_one judged_variable s (means.Variable (type_of_kind s g.kind)) (all_names g.names)
+    judged_kind s g.kind
+    ++ one_by_one judged_variable s (means.Variable (type_of_kind s g.kind)) (all_names g.names)
 
 abbrev pub behind_groups : Scope → List Group → Scope
 behind_groups s [] = s

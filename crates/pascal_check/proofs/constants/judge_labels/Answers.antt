@@ -6,7 +6,7 @@ use Rattle.pascal_check.proofs.constants.judge_labels.Goals as goal
 pub returns-in_err-judge_label-clause-broken : goal.returns-in_err-judge_label-clause-broken
 returns-in_err-judge_label-clause-broken c =
     let s = c.args.scope.now in
-    let keys = c.args.earlier.now.keys in
+    let keys = c.args.earlier.now in
     let labels = c.args.labels.now in
     err_is c.from_residual.result _ _ c.from_residual.ensures.1
     (fault_here (judged_label s (Some c.args.selector) keys labels.first)

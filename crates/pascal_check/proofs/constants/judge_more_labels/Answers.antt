@@ -13,14 +13,14 @@ returns-in_err-judge_label-clause-broken c =
     let ls = c.args.labels.now in
     let k = c.loop-label.label-index in
     let x = c.loop-label-item.result in
-    let keys = c.loop-label.earlier.keys in
+    let keys = c.loop-label.earlier in
     let below : k < length ls = omega arith in
     let here = judged_label s t keys x.1 in
     let more = judged_more_labels s t (with_value (value_of s x.1) keys) (drop (k + 1) ls) in
     let same = sym c.loop-label.invariant.judged ∙ ap (λ l. first_broken (judged_more_labels s t keys l)) (next_item ls k x c.loop-label-item.is below) in
     let f = c.in_err-judge_label.field-0.0 in
     err_is c.from_residual.result _ _ c.from_residual.ensures.1
-    (fault_same (judged_more_labels s t c.args.earlier.now.keys ls) (here ++ more) f same (fault_here here more f c.in_err-judge_label.ensures.broken))
+    (fault_same (judged_more_labels s t c.args.earlier.now ls) (here ++ more) f same (fault_here here more f c.in_err-judge_label.ensures.broken))
 
 pub loop-label-preserved : goal.loop-label-preserved
 loop-label-preserved c =
@@ -29,7 +29,7 @@ loop-label-preserved c =
     let ls = c.args.labels.now in
     let k = c.loop-label.label-index in
     let x = c.loop-label-item.result in
-    let keys = c.loop-label.earlier.keys in
+    let keys = c.loop-label.earlier in
     let below : k < length ls = omega arith in
     let step = next_item ls k x c.loop-label-item.is below in
     let rest = drop (k + 1) ls in

@@ -270,9 +270,9 @@ judge_case-returns-in_err-judge_branch-clause-broken t c =
 
 pub judge_case-returns-clause-ok : goal.judge_case-returns-clause-ok
 judge_case-returns-clause-ok t c =
-    let same = case_behind c.args.scope.now c.args.choice.now c.in_ok-selector.selector c.new-earlier.result.keys c.judge_branch.new.earlier.keys
+    let same = case_behind c.args.scope.now c.args.choice.now c.in_ok-selector.selector c.new-earlier.result c.judge_branch.new.earlier
     c.new-earlier.ensures.empty c.in_ok-judge_branch.ensures.values c.in_ok-selector.ensures.ok c.in_ok-selector.ensures.typed c.in_ok-judge_branch.ensures.ok
-    ∙ ap (λ l. first_broken (judged_branches c.args.scope.now (Some c.in_ok-selector.selector) c.judge_branch.new.earlier.keys (seen_branches l)))
+    ∙ ap (λ l. first_broken (judged_branches c.args.scope.now (Some c.in_ok-selector.selector) c.judge_branch.new.earlier (seen_branches l)))
     (sym c.deref.ensures.value) in
     subst (λ o. OnOk c.judge_branches.result (o ≡ None)) (sym same) c.judge_branches.ensures.ok
 
@@ -280,10 +280,10 @@ pub judge_case-returns-clause-broken : goal.judge_case-returns-clause-broken
 judge_case-returns-clause-broken t c =
     let s = c.args.scope.now in
     let o = Some c.in_ok-selector.selector in
-    let keys = c.judge_branch.new.earlier.keys in
+    let keys = c.judge_branch.new.earlier in
     let inner = judged_branches s o keys (seen_branches c.deref.result.now) in
     let outer = judged_statement s (seen_case c.args.choice.now) in
-    let same = case_behind s c.args.choice.now c.in_ok-selector.selector c.new-earlier.result.keys keys
+    let same = case_behind s c.args.choice.now c.in_ok-selector.selector c.new-earlier.result keys
     c.new-earlier.ensures.empty c.in_ok-judge_branch.ensures.values c.in_ok-selector.ensures.ok c.in_ok-selector.ensures.typed c.in_ok-judge_branch.ensures.ok
     ∙ ap (λ l. first_broken (judged_branches s o keys (seen_branches l))) (sym c.deref.ensures.value) in
     IfErr-weaker c.judge_branches.result (IsFault inner) (IsFault outer) (λ f is. fault_same outer inner f same is) c.judge_branches.ensures.broken
@@ -294,7 +294,7 @@ pub judge_branch-returns-in_err-judge_labels-clause-broken : goal.judge_branch-r
 judge_branch-returns-in_err-judge_labels-clause-broken t c =
     let s = c.args.scope.now in
     let o = Some c.args.selector in
-    let keys = c.args.earlier.now.keys in
+    let keys = c.args.earlier.now in
     let k = out-Branch c.args.branch.now in
     let f = c.in_err-judge_labels.field-0.0 in
     err_is c.from_residual.result _ _ c.from_residual.ensures.1
@@ -302,12 +302,12 @@ judge_branch-returns-in_err-judge_labels-clause-broken t c =
     (fault_here (judged_labels s o keys (seen_labels k.labels)) (judged_statement s (seen_statement k.statement)) f c.in_err-judge_labels.ensures.broken))
 
 branch_behind : {t : ℕ} (c : goal.judge_branch-After-judge_statement t)
-    → first_broken (judged_branch c.args.scope.now (Some c.args.selector) c.args.earlier.now.keys (seen_branch c.args.branch.now))
+    → first_broken (judged_branch c.args.scope.now (Some c.args.selector) c.args.earlier.now (seen_branch c.args.branch.now))
     ≡ first_broken (judged_statement c.args.scope.now (seen_statement (out-Branch c.args.branch.now).statement))
 branch_behind c =
     let s = c.args.scope.now in
     let o = Some c.args.selector in
-    let keys = c.args.earlier.now.keys in
+    let keys = c.args.earlier.now in
     let k = out-Branch c.args.branch.now in
     ap first_broken (branch_nodes s o keys c.args.branch.now)
     ∙ first_behind (judged_labels s o keys (seen_labels k.labels)) (judged_statement s (seen_statement k.statement)) c.in_ok-judge_labels.ensures.ok
@@ -319,7 +319,7 @@ pub judge_branch-returns-clause-broken : goal.judge_branch-returns-clause-broken
 judge_branch-returns-clause-broken t c =
     let s = c.args.scope.now in
     let inner = judged_statement s (seen_statement (out-Branch c.args.branch.now).statement) in
-    let outer = judged_branch s (Some c.args.selector) c.args.earlier.now.keys (seen_branch c.args.branch.now) in
+    let outer = judged_branch s (Some c.args.selector) c.args.earlier.now (seen_branch c.args.branch.now) in
     IfErr-weaker c.judge_statement.result (IsFault inner) (IsFault outer) (λ f is. fault_same outer inner f (branch_behind c) is)
     c.judge_statement.ensures.broken
 
@@ -330,7 +330,7 @@ judge_branches-returns-in_err-judge_branch-clause-broken t c =
     let bs = c.args.branches.now in
     let k = c.loop-branch.branch-index in
     let x = c.loop-branch-item.result in
-    let keys = c.loop-branch.earlier.keys in
+    let keys = c.loop-branch.earlier in
     let below : k < length bs = omega arith in
     let here = judged_branch s o keys (seen_branch x.1) in
     let more = judged_branches s o (values_of_branch s keys (seen_branch x.1)) (seen_branches (drop (k + 1) bs)) in
@@ -338,7 +338,7 @@ judge_branches-returns-in_err-judge_branch-clause-broken t c =
     (next_item bs k x c.loop-branch-item.is below) in
     let f = c.in_err-judge_branch.field-0.0 in
     err_is c.from_residual.result _ _ c.from_residual.ensures.1
-    (fault_same (judged_branches s o c.args.earlier.now.keys (seen_branches bs)) (here ++ more) f same
+    (fault_same (judged_branches s o c.args.earlier.now (seen_branches bs)) (here ++ more) f same
     (fault_here here more f c.in_err-judge_branch.ensures.broken))
 
 pub judge_branches-loop-branch-preserved : goal.judge_branches-loop-branch-preserved
@@ -348,7 +348,7 @@ judge_branches-loop-branch-preserved t c =
     let bs = c.args.branches.now in
     let k = c.loop-branch.branch-index in
     let x = c.loop-branch-item.result in
-    let keys = c.loop-branch.earlier.keys in
+    let keys = c.loop-branch.earlier in
     let below : k < length bs = omega arith in
     let rest = seen_branches (drop (k + 1) bs) in
     ap (λ v. first_broken (judged_branches s o v rest)) c.in_ok-judge_branch.ensures.values

@@ -6,8 +6,8 @@ use Rattle.pascal_check.proofs.statements.+judge_statement.Given as goal
 
 abbrev pub invariant-judge_branches-loop-branch : goal.invariant-judge_branches-loop-branch
 invariant-judge_branches-loop-branch l =
-    first_broken (judged_branches l.scope (Some l.selector) l.earlier.keys (seen_branches (drop l.branch-index l.branches)))
-    ≡ first_broken (judged_branches l.scope (Some l.selector) l.fn.earlier.keys (seen_branches l.branches))
+    first_broken (judged_branches l.scope (Some l.selector) l.earlier (seen_branches (drop l.branch-index l.branches)))
+    ≡ first_broken (judged_branches l.scope (Some l.selector) l.fn.earlier (seen_branches l.branches))
 
 abbrev pub invariant-judge_statements-loop-statement : goal.invariant-judge_statements-loop-statement
 invariant-judge_statements-loop-statement l =
