@@ -3,7 +3,6 @@ use Rattle.std.proofs.Common.{◌≡◌, ℕ, ◌+◌, ◌<◌, ◌≤◌, List,
 use Rattle.std.specs.Prelude.{slice_get}
 use Rattle.stack_code.specs.declared.instr.Instr.{Instr}
 use Rattle.stack_code.specs.declared.instr.RoutineInfo.{RoutineInfo}
-use Rattle.stack_code.specs.CodeLists.{CodeLists, IsCode}
 use Rattle.pascal_tree.specs.Program.{Program}
 use Rattle.pascal_tree.specs.Limits.{IsTree}
 use Rattle.pascal_tree.specs.DeclarationRules.{broken}

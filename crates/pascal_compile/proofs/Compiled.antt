@@ -1,5 +1,5 @@
 -- What compiling comes to, step by step.
-use Rattle.std.proofs.Common.{◌≡◌, ℕ, ◌+◌, ◌<◌, ◌≤◌, List, ◌∷◌, length, drop, Result, Ok, Err, Some, None, IfOk, IfErr, refl, sym, ap, subst, ◌∙◌}
+use Rattle.std.proofs.Common.{◌≡◌, ℕ, ◌+◌, ◌<◌, ◌≤◌, List, ◌∷◌, length, drop, Result, Ok, Err, Some, None, IfOk, refl, sym, ap, subst, ◌∙◌}
 use Rattle.std.specs.Prelude.{nat_le, slice_get}
 use Rattle.std.proofs.Math.ListN.{drop_of_length-le}
 use Rattle.std.proofs.lemmas.List.{drop_more}
@@ -28,7 +28,7 @@ use Rattle.pascal_code.specs.Code.{code_of}
 use Rattle.pascal_code.specs.Size.{size}
 use Rattle.code_law.specs.Law.{Compiles}
 use Rattle.code_law.proofs.Lawful.{does_what_it_means}
-use Rattle.pascal_compile.specs.Compiling.{Compiling, compiled, semantic_error, bad_word, syntax_error, code_limit, by_rule, by_reading, compiling, IsCodeOf, IsCodeFor, Explains}
+use Rattle.pascal_compile.specs.Compiling.{compiled, bad_word, syntax_error, code_limit, by_rule, by_reading, compiling, IsCodeOf, IsCodeFor}
 
 pub compiling_is : (cards : List (List ℕ)) → compiling cards ≡ by_reading (reading cards)
 unfolding compiling

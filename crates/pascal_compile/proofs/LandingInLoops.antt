@@ -1,5 +1,5 @@
 -- Jumps of a FOR and of a CASE that land behind what was emitted since.
-use Rattle.std.proofs.Common.{◌≡◌, ℕ, ◌+◌, ◌-◌, List, [], ◌∷◌, ◌++◌, length, arith, refl, ap, sym, ◌∙◌, length-append, append_assoc}
+use Rattle.std.proofs.Common.{◌≡◌, ℕ, ◌+◌, ◌-◌, List, [], ◌∷◌, ◌++◌, length, arith, ap, sym, ◌∙◌, length-append, append_assoc}
 use Rattle.std.specs.Prelude.{slice_set}
 use Rattle.stack_code.specs.declared.instr.Instr.{Instr}
 use Rattle.pascal_code.specs.Statements.{jump, jump_if_false}

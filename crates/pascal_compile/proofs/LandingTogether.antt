@@ -1,6 +1,6 @@
 -- Jumps that land together.
 use Rattle.std.proofs.Common.{◌≡◌, ℕ, zero, suc, ◌+◌, ◌<◌, ◌≤◌, List, [], ◌∷◌, ◌++◌, length, arith, refl, ap, sym, subst, ◌∙◌, length-append}
-use Rattle.std.specs.Prelude.{slice_set, ⊤}
+use Rattle.std.specs.Prelude.{slice_set}
 use Rattle.std.proofs.lemmas.List.{length-set}
 use Rattle.stack_code.specs.declared.instr.Instr.{Instr}
 use Rattle.pascal_tree.specs.Statement.{Branch, branch}

@@ -1,5 +1,5 @@
 -- Statements, one behind another, and the words that they take.
-use Rattle.std.proofs.Common.{◌≡◌, ℕ, ◌+◌, ◌<◌, ◌^◌, ◌∷◌, List, ◌++◌, length, arith, ap, ◌∙◌, length-append, append_assoc}
+use Rattle.std.proofs.Common.{◌≡◌, ℕ, ◌+◌, ◌<◌, List, ◌++◌, length, arith, ap, ◌∙◌, length-append, append_assoc}
 use Rattle.std.specs.Prelude.{max}
 use Rattle.stack_code.specs.declared.instr.Instr.{Instr}
 use Rattle.pascal_tree.specs.Statement.{Statement, Statements, next_statement}

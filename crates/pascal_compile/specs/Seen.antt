@@ -1,12 +1,12 @@
 -- What the values of the code stand for.
 use Rattle.std.specs.Prelude.{◌≡◌, ℕ, nat_le, Bool, true, List, [], ◌∷◌, map, Option, option_map, bytes_eq, if◌then◌else◌}
 use Rattle.std.specs.Borrow.{Bor}
-use Rattle.std.specs.Map.{lookup}
 use Rattle.stack_code.specs.declared.instr.Instr.{Instr}
 use Rattle.pascal_mean.specs.Means.{Owner, OfProgram, OfRoutine, Bounds, Standard, Abs, Succ, Pred, Ord, Chr}
 use Rattle.pascal_mean.specs.Predeclared.{predeclared}
 use Rattle.pascal_mean.specs.Variables.{size_of}
 use Rattle.pascal_mean.specs.Calls.{Passing, ByValue, ByVariable, ByArray}
+use Rattle.pascal_check.specs.Listed.{looked_up}
 use Rattle.pascal_code.specs.Frames.{plain_frame}
 use Rattle.pascal_code.specs.Senses.{Sense, Constant, Variable, Array, Reference, Routine, Function, Interface, Nothing, sense_in, first_sense}
 use Rattle.pascal_code.specs.Statements.{jump, jump_if_false}
@@ -60,7 +60,7 @@ seen_draft (draft.JumpIfFalse place) = jump_if_false place
 
 -- what a list of the code says of a name
 abbrev pub seen_names : names_type.Names → List ℕ → Option Sense
-seen_names n x = option_map seen_sense (lookup (λ k. bytes_eq x k.items) (n.entries).entries)
+seen_names n x = option_map seen_sense (looked_up (n.entries).entries x)
 
 -- what a name is by two lists, and before any program
 abbrev pub seen_scope : names_type.Names → names_type.Names → List ℕ → Sense

@@ -113,7 +113,7 @@ fn declare_group<'a>(
 }
 
 /// What a variable of a type holds.
-fn held_by(own: &Names<'_>, program: &Names<'_>, kind: &Kind) -> Held
+fn held_by<'a>(own: &Names<'a>, program: &Names<'a>, kind: &Kind) -> Held
     ensures { (owner : Owner) (scope : Scope) → AreSenses scope (seen_scope own.now program.now)
         → HeldAs result owner (variable_of owner scope kind.now) }
 {

@@ -44,11 +44,21 @@ impl Held {
 
 /// The names of a program or of a routine, and how many words of its frame are taken: those of a
 /// program that breaks no rule are at most 4,096, far below what 16 bits count.
-#[derive(Drop)]
 pub struct Frame<'a> {
     pub owner: Owner,
     pub names: Names<'a>,
     pub words: u16,
+}
+
+// Written out, so that who drops a frame needn't know what it holds.
+impl<'a> Drop for Frame<'a> {
+    fn drop(self) {
+        let Self {
+            owner: _,
+            names: _,
+            words: _,
+        } = self;
+    }
 }
 
 impl<'a> Frame<'a> {

@@ -4,15 +4,24 @@ ghost use Rattle.std.specs.Prelude.{◌≡◌, ℕ, List, None, Some, option_map
 ghost use Rattle.pascal_compile.specs.Seen.{seen_sense, seen_names};
 
 use crate::senses::Sense;
-use indexmap::IndexMap;
 use solo_base::NoMemory;
 use std::alloc::Global;
+use std::collections::BTreeMap;
 
-/// The names of one list, each with what it is to the code. A name is found in the same time
-/// however many there are.
-#[derive(Drop)]
+/// The names of one list, each with what it is to the code.
 pub struct Names<'a> {
-    entries: IndexMap<Vec<u8>, Sense<'a>>,
+    alloc: Global,
+    entries: BTreeMap<Vec<u8>, Sense<'a>>,
+}
+
+// Written out, so that who drops a list needn't know how it is kept.
+impl<'a> Drop for Names<'a> {
+    fn drop(self) {
+        let Self {
+            alloc: _,
+            entries: _,
+        } = self;
+    }
 }
 
 impl<'a> Names<'a> {
@@ -21,7 +30,8 @@ impl<'a> Names<'a> {
         ensures { (x : List ℕ) → seen_names result x ≡ None }
     {
         Names {
-            entries: IndexMap::new(alloc),
+            alloc,
+            entries: BTreeMap::new(alloc),
         }
     }
 
@@ -37,8 +47,7 @@ impl<'a> Names<'a> {
         ensures { OnOk result ((x : List ℕ) → seen_names self.new x
             ≡ (if bytes_eq letters.now x then Some (seen_sense sense.entry) else seen_names self.old x)) }
     {
-        let alloc = *self.entries.allocator();
-        let letters = Vec::from_slice(alloc, letters)?;
+        let letters = Vec::from_slice(self.alloc, letters)?;
         self.entries.insert(letters, sense)?;
         Ok(())
     }

@@ -141,11 +141,11 @@ struct Shape {
 }
 
 /// A routine, or the program itself, behind what was emitted before, where these names are known.
-fn add_framed(
+fn add_framed<'t, 'a>(
     drafts: &mut Drafts,
     infos: &mut Vec<RoutineInfo>,
-    own: &Names<'_>,
-    program: &Names<'_>,
+    own: &'t Names<'a>,
+    program: &'t Names<'a>,
     shape: &Shape,
     statements: &Body,
 ) -> Result<(), NoMemory>

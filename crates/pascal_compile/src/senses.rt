@@ -3,21 +3,21 @@
 use solo_base::Procedure;
 
 /// Whose frame a variable lies in: the program's, or that of the routine in which its name stands.
-#[derive(Clone, Copy, Debug, PartialEq, Eq)]
+#[derive(Clone, Copy)]
 pub enum Owner {
     OfProgram,
     OfRoutine,
 }
 
 /// The first and the last index of an array.
-#[derive(Clone, Copy, Debug, PartialEq, Eq)]
+#[derive(Clone, Copy)]
 pub struct Bounds {
     pub low: i16,
     pub high: i16,
 }
 
 /// The functions ABS, SUCC, PRED, ORD and CHR.
-#[derive(Clone, Copy, Debug, PartialEq, Eq)]
+#[derive(Clone, Copy)]
 pub enum Standard {
     Abs,
     Succ,
@@ -27,7 +27,7 @@ pub enum Standard {
 }
 
 /// How an argument is passed: by its value, as a variable or as a whole array.
-#[derive(Clone, Copy, Debug, PartialEq, Eq)]
+#[derive(Clone, Copy)]
 pub enum Passing {
     ByValue,
     ByVariable,

@@ -25,7 +25,7 @@ pub fn find<'a>(own: &Names<'a>, program: &Names<'a>, letters: &[u8]) -> Sense<'
 }
 
 /// The number that a constant stands for.
-pub fn number(own: &Names<'_>, program: &Names<'_>, constant: &Constant) -> i16
+pub fn number<'a>(own: &Names<'a>, program: &Names<'a>, constant: &Constant) -> i16
     ensures { result ≡ constant_value (seen_scope own.now program.now) constant.now }
 {
     match constant {

@@ -1,4 +1,4 @@
-use Rattle.std.proofs.Common.{◌≡◌, Some, None, Err, Result, sym, ◌∙◌}
+use Rattle.std.proofs.Common.{◌≡◌, Err, sym, ◌∙◌}
 use Rattle.std.proofs.lemmas.Option.{none-some}
 use Rattle.stack_code.specs.declared.fault.CodeFault.{CodeFault}
 use Rattle.stack_code.specs.declared.fault.CodeFault.TheVariants as fault

@@ -1,5 +1,5 @@
 use Rattle.std.proofs.Common.{◌≡◌, rules, w16, to_z, of_z}
-use Rattle.indexmap.proofs.MapLemmas.{OnOk-map}
+use Rattle.std.proofs.lemmas.Result.{on_ok_weaker}
 use Rattle.pascal_code.specs.Senses.{constant_value}
 use Rattle.pascal_compile.specs.Seen.{seen_scope}
 use Rattle.pascal_compile.proofs.Frames.{constant_laid}
@@ -10,5 +10,5 @@ returns-clause-constant c =
     let d = c.args.definition.now in
     let v = to_z w16 (of_z w16 c.number-value.result) in
     let is : v ≡ constant_value (seen_scope (c.args.frame.now).names c.args.program.now) d.value = search rules in
-    OnOk-map c.declare.result _ _
+    on_ok_weaker c.declare.result
     (λ named. constant_laid c.args.program.now c.args.frame.now c.declare.new.self d v is named c.declare.ensures.words) c.declare.ensures.names

@@ -1,6 +1,6 @@
 use Rattle.std.proofs.Common.{[], map, sym, subst}
 use Rattle.std.specs.Prelude.{option_map, OnOk}
-use Rattle.indexmap.proofs.MapLemmas.{OnOk-map}
+use Rattle.std.proofs.lemmas.Result.{on_ok_weaker}
 use Rattle.pascal_tree.specs.SeenProgram.{seen_parameter_group, seen_parameters}
 use Rattle.pascal_mean.specs.Declarations.{declared_parameters, parameter_list}
 use Rattle.pascal_code.specs.Frames.{plain_frame}
@@ -12,7 +12,7 @@ pub returns-clause-parameters : goal.returns-clause-parameters
 returns-clause-parameters c =
     let p = c.in-Some.parameters in
     let after = c.declare_parameter_groups.new.frame in
-    OnOk-map c.declare_parameter_groups.result _ _
+    on_ok_weaker c.declare_parameter_groups.result
     (λ later known owner before.
     subst (λ o. HoldsFrame after (plain_frame (declared_parameters (parameter_list known (option_map seen_parameters o)) []))) (sym c.in-Some.is)
     (parameters_then c.args.frame.now c.declare_parameter_group.new.frame after (p.opening, seen_parameter_group p.first)

@@ -1,6 +1,6 @@
 use Rattle.std.proofs.Common.{map, sym, subst}
 use Rattle.std.specs.Prelude.{option_map, OnOk}
-use Rattle.indexmap.proofs.MapLemmas.{OnOk-map}
+use Rattle.std.proofs.lemmas.Result.{on_ok_weaker}
 use Rattle.pascal_tree.specs.SeenProgram.{seen_names, seen_group, seen_vars}
 use Rattle.pascal_mean.specs.Declarations.{name_list, variable_of, declared_names, declared_groups, declared_variables}
 use Rattle.pascal_compile.specs.Seen.{seen_owner}
@@ -16,7 +16,7 @@ returns-clause-variables c =
     let b = c.declare_group.new.frame in
     let after = c.declare_groups.new.frame in
     let owner = seen_owner a.owner in
-    OnOk-map c.declare_groups.result _ _
+    on_ok_weaker c.declare_groups.result
     (λ later.
     subst (λ o. LaidOut p a after (λ scope. declared_variables owner scope (option_map seen_vars o))) (sym c.in-Some.is)
     (laid_then p a b after (λ scope items. declared_names (variable_of owner (scope items) (v.first).kind) (name_list (seen_names (v.first).names)) items)

@@ -1,7 +1,7 @@
-use Rattle.std.proofs.Common.{length, drop, subst, sym}
+use Rattle.std.proofs.Common.{subst}
 use Rattle.std.proofs.lemmas.List.{drop_more}
 use Rattle.stack_code.specs.CodeLists.{no_routine}
-use Rattle.pascal_compile.specs.WithHeights.{called_in, HasHeight, HaveHeights}
+use Rattle.pascal_compile.specs.WithHeights.{called_in, HaveHeights}
 use Rattle.pascal_compile.proofs.heights.with_heights.Goals as goal
 
 pub with_height-requires : goal.with_height-requires

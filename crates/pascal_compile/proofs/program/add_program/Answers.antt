@@ -1,6 +1,6 @@
 use Rattle.std.proofs.Common.{◌≤◌, [], length, map, refl, sym, ap, subst, arith}
 use Rattle.std.proofs.lemmas.List.{length-map}
-use Rattle.indexmap.proofs.MapLemmas.{OnOk-map}
+use Rattle.std.proofs.lemmas.Result.{on_ok_weaker}
 use Rattle.pascal_tree.specs.SeenProgram.{seen_routine, seen_program}
 use Rattle.pascal_code.specs.Frames.{plain_frame}
 use Rattle.pascal_code.specs.Senses.{all_framed, framed_program}
@@ -45,7 +45,7 @@ returns-clause-code c =
     let after = c.declare_headings.new.frame in
     let h = headings_held p c.in_ok-frame.frame after c.deref.result.now (ap (map seen_routine) c.deref.ensures.value)
     c.in_ok-frame.ensures c.in_ok-declare_headings.ensures few in
-    OnOk-map c.add_framed.result _ _
+    on_ok_weaker c.add_framed.result
     (λ is. program_emitted p c.args.drafts.now c.add_framed.new.drafts (seen_scope c.new-nothing.result after.names) after.words c.requires.first
     (names_same c.new-nothing.result after.names (plain_frame []) (framed_program p).frame c.new-nothing.ensures h.names) h.words is)
     c.add_framed.ensures.code
@@ -57,7 +57,7 @@ returns-clause-info c =
     let after = c.declare_headings.new.frame in
     let h = headings_held p c.in_ok-frame.frame after c.deref.result.now (ap (map seen_routine) c.deref.ensures.value)
     c.in_ok-frame.ensures c.in_ok-declare_headings.ensures few in
-    OnOk-map c.add_framed.result _ _
+    on_ok_weaker c.add_framed.result
     (λ is. program_told (calling_infos (all_framed p)) p (c.args.infos.now).items (c.add_framed.new.infos).items (length c.args.drafts.now) after.words
     (ap length c.requires.first) h.words is)
     c.add_framed.ensures.info

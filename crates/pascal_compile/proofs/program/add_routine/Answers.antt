@@ -2,7 +2,7 @@ use Rattle.std.proofs.Common.{◌≡◌, ◌+◌, ◌<◌, ◌≤◌, Some, leng
 use Rattle.std.specs.Prelude.{slice_get, option_map}
 use Rattle.std.proofs.lemmas.List.{length-map}
 use Rattle.std.proofs.lemmas.Option.{slice_get-map, slice_get-get_or, same_Some}
-use Rattle.indexmap.proofs.MapLemmas.{OnOk-map}
+use Rattle.std.proofs.lemmas.Result.{on_ok_weaker}
 use Rattle.pascal_tree.specs.SeenProgram.{seen_parameters, seen_block, seen_routine, seen_program}
 use Rattle.pascal_mean.specs.Declarations.{declared_variables}
 use Rattle.pascal_code.specs.Frames.{plain_frame}
@@ -136,7 +136,7 @@ returns-clause-code c =
     c.in_ok-declare_variables.ensures.variables) in
     let is = framed_there p j r there in
     let few = few_words p c.requires.tree c.requires.unbroken (j + 1) (the_routine p j r) is in
-    λ r0 at. OnOk-map c.add_framed.result _ _
+    λ r0 at. on_ok_weaker c.add_framed.result
     (λ emitted. routine_emitted r0 (the_routine p j r) c.args.drafts.now c.add_framed.new.drafts (seen_scope f.names n) f.words
     (c.declare_parameters.new.frame).words blk.body (same_Some (the_routine p j r) r0 (sym is ∙ at))
     (names_same f.names n (the_frame p j r) (plain_frame (known_at p (j + 1))) (facts.0).names c.requires.known) (facts.0).words facts.1
@@ -168,7 +168,7 @@ returns-clause-info c =
     c.in_ok-declare_variables.ensures.variables) in
     let is = framed_there p j r there in
     let few = few_words p c.requires.tree c.requires.unbroken (j + 1) (the_routine p j r) is in
-    λ r0 at. OnOk-map c.add_framed.result _ _
+    λ r0 at. on_ok_weaker c.add_framed.result
     (λ told. routine_told (calling_infos (all_framed p)) r0 (the_routine p j r) (c.args.infos.now).items (c.add_framed.new.infos).items
     (length c.args.drafts.now) f.words (c.declare_parameters.new.frame).words c.is_function-function.result blk.body
     (same_Some (the_routine p j r) r0 (sym is ∙ at)) (facts.0).words facts.1 (ap (λ k. k.body) c.block_of-block.ensures)

@@ -1,6 +1,4 @@
 use Rattle.std.proofs.Common.{◌≤◌, length, arith}
-use Rattle.pascal_code.specs.Size.{size}
-use Rattle.code_law.specs.Law.{Compiles}
 use Rattle.pascal_compile.proofs.CodeParts.{emitted_size, can_compile}
 use Rattle.pascal_compile.proofs.program.limited.Goals as goal
 
