@@ -1,0 +1,6 @@
+mod Parting
+pub mod Naming
+mod Pushing
+pub mod Reading
+mod Finding
+mod Climbing

@@ -1,0 +1,7 @@
+pub mod Words
+pub mod Cards
+pub mod Places
+pub mod Description
+pub mod Judgement
+pub mod Adding
+pub mod Runs
