@@ -1,44 +1,47 @@
 use crate::asking::{Ask, ask_all};
 use solo_devices::{Area, BlankArea, HurtArea, MemArea, SureArea};
-use std::test::Fail;
+use std::alloc::Global;
+use std::process::Abort;
+
+/// An area of so many pages at which no call fails.
+pub fn sure_area(rt: &impl Abort, alloc: Global, pages: u16) -> SureArea {
+    SureArea::new(alloc, pages).ok().expect(rt, "ample memory")
+}
+
+/// Numbers of calls.
+fn numbers(rt: &impl Abort, alloc: Global, calls: &[u64]) -> Vec<u64> {
+    calls.to_vec(alloc).ok().expect(rt, "ample memory")
+}
+
+/// Asks all this of an area, and then so many calls have failed.
+fn ask_listed(rt: &impl Abort, area: &mut MemArea, asks: &[Ask], faults: u64) {
+    ask_all(rt, area, asks);
+    assert!(rt; area.faults() == faults);
+}
 
 #[test]
-fn a_listed_call_of_an_area_fails(rt: HostRuntime) -> Result<(), Fail> {
+fn a_listed_call_of_an_area_fails(rt: HostRuntime) {
     let alloc = rt.alloc();
-    let reads = [2].to_vec(alloc)?;
-    let writes = [1, 3].to_vec(alloc)?;
-    let mut area = MemArea::new(alloc, 2, reads, writes)
-        .ok()
-        .expect(&rt, "ample memory");
-    ask_all(
-        &rt,
-        &mut area,
-        &[Ask::WriteFails(0), Ask::Writes(0, 7), Ask::WriteFails(1)],
-    );
-    assert_eq!(rt; area.faults(), 2);
-    ask_all(
-        &rt,
-        &mut area,
-        &[Ask::Reads(1, 0), Ask::ReadFails(0), Ask::Reads(0, 7)],
-    );
-    assert_eq!(rt; area.faults(), 3);
-    Ok(())
+    let (reads, writes) = (numbers(&rt, alloc, &[2]), numbers(&rt, alloc, &[1, 3]));
+    let area = MemArea::new(alloc, 2, reads, writes);
+    let mut area = area.ok().expect(&rt, "ample memory");
+    let asks = [Ask::WriteFails(0), Ask::Writes(0, 7), Ask::WriteFails(1)];
+    ask_listed(&rt, &mut area, &asks, 2);
+    let asks = [Ask::Reads(1, 0), Ask::ReadFails(0), Ask::Reads(0, 7)];
+    ask_listed(&rt, &mut area, &asks, 3);
 }
 
 #[test]
 fn a_blank_area_reads_zero_pages(rt: HostRuntime) {
     let mut area = BlankArea::new(1);
-    assert_eq!(rt; area.size(), 1);
+    assert!(rt; area.size() == 1);
     ask_all(&rt, &mut area, &[Ask::Writes(0, 7), Ask::Reads(0, 0)]);
 }
 
 #[test]
 fn one_read_of_a_hurt_area_gives_a_wrong_byte(rt: HostRuntime) {
-    let area = SureArea::new(rt.alloc(), 2)
-        .ok()
-        .expect(&rt, "ample memory");
-    let mut area = HurtArea::new(area, 2, 511, 9);
-    assert_eq!(rt; area.size(), 2);
+    let mut area = HurtArea::new(sure_area(&rt, rt.alloc(), 2), 2, 511, 9);
+    assert!(rt; area.size() == 2);
     ask_all(
         &rt,
         &mut area,

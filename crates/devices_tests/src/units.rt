@@ -1,14 +1,14 @@
 ghost use Rattle.std.specs.Prelude.{◌≡◌, ◌<◌, true};
 
+use crate::areas::sure_area;
 use crate::asking::{Ask, ask_all};
 use solo_base::{Line, NoMemory};
 use solo_devices::{
-    Area, CardRead, CardUnit, MemSink, MemSource, PrintFault, PrinterUnit, Sink, Source, SureArea,
-    SureSink, SureSource,
+    Area, CardRead, CardUnit, MemSink, MemSource, PrintFault, PrinterUnit, Sink, Source, SureSink,
+    SureSource,
 };
 use std::alloc::Global;
 use std::process::Abort;
-use std::test::Fail;
 
 /// Texts, and what a unit tells of them.
 const TEXTS: [(&str, &str); 11] = [
@@ -68,52 +68,69 @@ fn told_of<S: Source + Drop>(alloc: Global, source: S) -> Result<Vec<u8>, NoMemo
     Ok(told)
 }
 
+/// What a unit tells over a source that never fails, and that gives so many bytes in a call.
+fn told_surely(alloc: Global, text: &[u8], piece: usize) -> Result<Vec<u8>, NoMemory>
+    requires { 0 < piece }
+{
+    told_of(alloc, SureSource::new(text.to_vec(alloc)?, piece))
+}
+
+/// What a unit tells over a source at which no call fails, and that gives so many bytes in a call.
+fn told(alloc: Global, text: Vec<u8>, piece: usize) -> Result<Vec<u8>, NoMemory>
+    requires { 0 < piece }
+{
+    told_of(alloc, MemSource::new(text, piece, Vec::new(alloc)))
+}
+
+/// Whether this was told.
+fn is_told(told: Result<Vec<u8>, NoMemory>, want: &str) -> bool {
+    match told {
+        Ok(told) => told.as_slice() == want.as_bytes(),
+        Err(_) => false,
+    }
+}
+
 /// How the texts are told by sources that give so many bytes in a call.
-fn tell_in_pieces(rt: &impl Abort, alloc: Global, piece: usize) -> Result<(), Fail>
+fn tell_in_pieces(rt: &impl Abort, alloc: Global, piece: usize)
     requires { 0 < piece }
 {
     for (text, want) in TEXTS {
-        let sure = told_of(
-            alloc,
-            SureSource::new(text.as_bytes().to_vec(alloc)?, piece),
-        )?;
-        assert_eq!(rt;
-            sure.as_slice(),
-            want.as_bytes(),
-            "{text:?} in pieces of {piece}"
-        );
-        let source = MemSource::new(text.as_bytes().to_vec(alloc)?, piece, Vec::new(alloc));
-        let told = told_of(alloc, source)?;
-        assert_eq!(rt;
-            told.as_slice(),
-            want.as_bytes(),
+        let surely = told_surely(alloc, text.as_bytes(), piece);
+        assert!(rt; is_told(surely, want), "{text:?} in pieces of {piece}");
+        let bytes = row(rt, alloc, 0, text);
+        assert!(rt;
+            is_told(told(alloc, bytes, piece), want),
             "{text:?} in pieces of {piece}"
         );
     }
-    Ok(())
 }
 
 #[test]
-fn a_text_is_told_in_any_pieces(rt: HostRuntime) -> Result<(), Fail> {
-    tell_in_pieces(&rt, rt.alloc(), 1)?;
-    tell_in_pieces(&rt, rt.alloc(), 2)?;
-    tell_in_pieces(&rt, rt.alloc(), 7)?;
-    tell_in_pieces(&rt, rt.alloc(), 512)
+fn a_text_is_told_in_any_pieces(rt: HostRuntime) {
+    tell_in_pieces(&rt, rt.alloc(), 1);
+    tell_in_pieces(&rt, rt.alloc(), 2);
+    tell_in_pieces(&rt, rt.alloc(), 7);
+    tell_in_pieces(&rt, rt.alloc(), 512);
 }
 
 /// A line of so many columns, and what stands behind it.
-fn row(alloc: Global, columns: usize, behind: &str) -> Result<Vec<u8>, NoMemory> {
-    let mut text = Vec::new(alloc);
-    for _ in 0..columns {
-        text.push(b'X')?;
-    }
-    text.extend_from_slice(behind.as_bytes())?;
-    Ok(text)
+fn row(rt: &impl Abort, alloc: Global, columns: usize, behind: &str) -> Vec<u8> {
+    let mut text = vec![in alloc; b'X'; columns].ok().expect(rt, "memory");
+    assert!(rt; text.extend_from_slice(behind.as_bytes()).is_ok());
+    text
+}
+
+/// How much is told of a row in pieces of so many bytes: at its end of the card A.
+fn length_told(rt: &impl Abort, alloc: Global, row: Vec<u8>, piece: usize) -> usize
+    requires { 0 < piece }
+{
+    let told = told(alloc, row, piece).ok().expect(rt, "ample memory");
+    assert!(rt; told.as_slice().ends_with(b"[A].."));
+    told.len()
 }
 
 #[test]
-fn eighty_columns_are_a_card_and_more_are_none(rt: HostRuntime) -> Result<(), Fail> {
-    let alloc = rt.alloc();
+fn eighty_columns_are_a_card_and_more_are_none(rt: HostRuntime) {
     for (columns, behind, length) in [
         (80, "\nA", 87),
         (80, "\r\nA", 87),
@@ -124,30 +141,25 @@ fn eighty_columns_are_a_card_and_more_are_none(rt: HostRuntime) -> Result<(), Fa
         (700, "\r\r\nA", 6),
     ] {
         for piece in [1, 7, 512] {
-            let source = MemSource::new(row(alloc, columns, behind)?, 1 + piece, Vec::new(alloc));
-            let told = told_of(alloc, source)?;
-            assert_eq!(rt;
-                told.as_slice().len(),
-                length,
+            let row = row(&rt, rt.alloc(), columns, behind);
+            assert!(rt;
+                length_told(&rt, rt.alloc(), row, 1 + piece) == length,
                 "{columns} columns, {behind:?}"
             );
-            assert!(rt; told.as_slice().ends_with(b"[A].."));
         }
     }
-    Ok(())
 }
 
 #[test]
-fn a_failing_take_is_told_and_counted(rt: HostRuntime) -> Result<(), Fail> {
+fn a_failing_take_is_told_and_counted(rt: HostRuntime) {
     let alloc = rt.alloc();
-    let failing = [2].to_vec(alloc)?;
-    let source = MemSource::new(b"A\nB\nC".to_vec(alloc)?, 4, failing);
+    let failing = [2].to_vec(alloc).ok().expect(&rt, "memory");
+    let source = MemSource::new(row(&rt, alloc, 0, "A\nB\nC"), 4, failing);
     let mut unit = CardUnit::new(source);
     let mut told = Vec::new(alloc);
-    tell(&mut unit, &mut told)?;
-    assert_eq!(rt; told.as_slice(), b"[A][B]!".as_slice());
-    assert_eq!(rt; unit.into_inner().faults(), 1);
-    Ok(())
+    assert!(rt; tell(&mut unit, &mut told).is_ok());
+    assert!(rt; told.as_slice() == b"[A][B]!".as_slice());
+    assert!(rt; unit.into_inner().faults() == 1);
 }
 
 /// Prints two lines, and tells whether the second one was printed.
@@ -166,22 +178,22 @@ fn starting(bytes: &[u8]) -> Line {
 }
 
 #[test]
-fn a_printer_prints_up_to_its_first_fault(rt: HostRuntime) -> Result<(), Fail> {
+fn a_printer_prints_up_to_its_first_fault(rt: HostRuntime) {
     let alloc = rt.alloc();
     let (sink, fault) = print_two(SureSink::new(alloc));
-    assert_eq!(rt; fault, None);
-    assert_eq!(rt; sink.bytes(), b"JOB A\nHELLO\n".as_slice());
-    let (sink, fault) = print_two(MemSink::new(alloc, [2].to_vec(alloc)?));
-    assert_eq!(rt; fault, Some(PrintFault::Failed));
-    assert_eq!(rt; sink.bytes(), b"JOB A\n".as_slice());
-    assert_eq!(rt; sink.faults(), 1);
-    Ok(())
+    assert!(rt; fault == None);
+    assert!(rt; sink.bytes() == b"JOB A\nHELLO\n".as_slice());
+    let failing = [2].to_vec(alloc).ok().expect(&rt, "memory");
+    let (sink, fault) = print_two(MemSink::new(alloc, failing));
+    assert!(rt; fault == Some(PrintFault::Failed));
+    assert!(rt; sink.bytes() == b"JOB A\n".as_slice());
+    assert!(rt; sink.faults() == 1);
 }
 
 #[test]
-fn an_area_keeps_its_pages(rt: HostRuntime) -> Result<(), Fail> {
-    let mut area = SureArea::new(rt.alloc(), 3)?;
-    assert_eq!(rt; area.size(), 3);
+fn an_area_keeps_its_pages(rt: HostRuntime) {
+    let mut area = sure_area(&rt, rt.alloc(), 3);
+    assert!(rt; area.size() == 3);
     ask_all(
         &rt,
         &mut area,
@@ -192,5 +204,4 @@ fn an_area_keeps_its_pages(rt: HostRuntime) -> Result<(), Fail> {
             Ask::Reads(2, 0),
         ],
     );
-    Ok(())
 }
