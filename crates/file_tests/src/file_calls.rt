@@ -65,7 +65,7 @@ pub fn answers<A: Area>(
     calls: &[(Call, Option<FileFault>)],
 ) {
     for (call, wanted) in calls {
-        assert_eq!(rt; refusal(rt, files, *call), *wanted, "{call:?}");
+        answer_is(rt, files, *call, *wanted);
     }
 }
 
@@ -91,6 +91,44 @@ pub fn byte_in<A: Area>(
     files.read_page(name, n, &mut page)?;
     assert!(rt; page.0 == [page.0[0]; 512], "page {n}");
     Ok(page.0[0])
+}
+
+/// A file has this kind, this protection and so many pages.
+pub fn is_file<A: Area>(
+    rt: &impl Abort,
+    files: &mut FileArea<A>,
+    name: &Ident,
+    (kind, protected, pages): (FileKind, bool, u16),
+) {
+    let wanted = FileInfo {
+        kind,
+        protected,
+        pages,
+    };
+    let found = info(rt, files, name).ok();
+    assert!(rt; found == Some(wanted), "{found:?}");
+}
+
+/// Page n of a file is filled with this byte.
+pub fn is_filled<A: Area>(
+    rt: &impl Abort,
+    files: &mut FileArea<A>,
+    name: &Ident,
+    n: u16,
+    byte: u8,
+) {
+    let found = byte_in(rt, files, name, n).ok();
+    assert!(rt; found == Some(byte), "page {n}");
+}
+
+/// A call is refused so, if it is.
+pub fn answer_is<A: Area>(
+    rt: &impl Abort,
+    files: &mut FileArea<A>,
+    call: Call,
+    wanted: Option<FileFault>,
+) {
+    assert!(rt; refusal(rt, files, call) == wanted, "{call:?}");
 }
 
 /// How many pages are free.

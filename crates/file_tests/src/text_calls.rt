@@ -61,6 +61,64 @@ pub fn code_read<A: Area>(
     load_code(alloc, files, &name(rt, letters))
 }
 
+/// A file is made of a text, or is not, for this reason.
+pub fn store_is<A: Area>(
+    rt: &impl Abort,
+    alloc: Global,
+    files: &mut FileArea<A>,
+    (letters, text): (&[u8], &[u8]),
+    wanted: Result<(), SystemFault>,
+) {
+    let answer = stored(rt, alloc, files, letters, text);
+    assert!(rt; answer == wanted, "{answer:?}: {} bytes", text.len());
+}
+
+/// A file has this text.
+pub fn is_text_of<A: Area>(
+    rt: &impl Abort,
+    alloc: Global,
+    files: &mut FileArea<A>,
+    letters: &[u8],
+    text: &[u8],
+) {
+    let found = read(rt, alloc, files, letters).ok().expect(rt, "a text");
+    assert!(rt; found.as_slice() == text, "of {} bytes", text.len());
+}
+
+/// A file has no text, for this reason.
+pub fn no_text_is<A: Area>(
+    rt: &impl Abort,
+    alloc: Global,
+    files: &mut FileArea<A>,
+    letters: &[u8],
+    wanted: SystemFault,
+) {
+    let fault = read(rt, alloc, files, letters).err();
+    assert!(rt; fault == Some(wanted), "{fault:?}");
+}
+
+/// A file is made of code, or is not, for this reason.
+pub fn code_store_is<A: Area>(
+    rt: &impl Abort,
+    alloc: Global,
+    files: &mut FileArea<A>,
+    code: &Verified,
+    wanted: Result<(), SystemFault>,
+) {
+    let answer = code_stored(rt, alloc, files, b"prog", code);
+    assert!(rt; answer == wanted, "{answer:?}");
+}
+
+/// Why a file has no code, if it has none.
+pub fn code_fault<A: Area>(
+    rt: &impl Abort,
+    alloc: Global,
+    files: &mut FileArea<A>,
+    letters: &[u8],
+) -> Option<SystemFault> {
+    code_read(rt, alloc, files, letters).err()
+}
+
 /// The lines of the catalogue.
 pub fn listed<A: Area>(
     rt: &impl Abort,
