@@ -1,14 +1,13 @@
-use crate::file_calls::{Call, answers, byte_in, free_pages, info};
+use crate::file_calls::{Call, answer_is, free_pages, is_file, is_filled};
 use crate::made_area::{mount, mounted, name, page_of, set_byte, set_page, zero_area};
 use disk_files::bare_area::judge_older;
-use disk_files::{FileFault, FileInfo};
+use disk_files::{FileArea, FileFault};
 use disk_layout::{Entry, FileKind, key_of, label, label1};
 use disk_pages::{AREA_PAGES, PageMap, set_number};
-use solo_base::Page;
+use solo_base::{Ident, Page};
 use solo_devices::{Area, SureArea};
 use std::alloc::Global;
 use std::process::Abort;
-use std::test::Fail;
 
 // The entry of no file.
 const BLANK: Entry = Entry {
@@ -54,56 +53,54 @@ fn low_bits(count: u16) -> Page {
     map.to_pages().0
 }
 
+// Appends to a file and replaces its first page.
+fn write_tea(rt: &impl Abort, files: &mut FileArea<SureArea>, tea: Ident) {
+    answer_is(rt, files, Call::Append(tea, 7), None);
+    answer_is(rt, files, Call::Append(tea, 8), None);
+    answer_is(rt, files, Call::Replace(tea, 1, 9), None);
+    is_filled(rt, files, &tea, 1, 9);
+    is_filled(rt, files, &tea, 2, 8);
+    let past = Some(FileFault::PageRange);
+    answer_is(rt, files, Call::Read(tea, 3), past);
+}
+
+// Makes a file, once.
+fn create_milk(rt: &impl Abort, files: &mut FileArea<SureArea>, milk: Ident) {
+    let exists = Some(FileFault::Exists);
+    answer_is(rt, files, Call::Create(milk, FileKind::SeqCode), None);
+    answer_is(rt, files, Call::Create(milk, FileKind::Ascii), exists);
+}
+
+// A file that is protected takes no page.
+fn protect_tea(rt: &impl Abort, files: &mut FileArea<SureArea>, tea: Ident) {
+    let protected = Some(FileFault::Protected);
+    answer_is(rt, files, Call::Protect(tea, true), None);
+    answer_is(rt, files, Call::Append(tea, 1), protected);
+}
+
 #[test]
 fn a_file_is_looked_up_appended_to_read_and_replaced(rt: HostRuntime) {
-    let tea = name(&rt, b"tea");
-    let milk = name(&rt, b"milk");
+    let (tea, milk) = (name(&rt, b"tea"), name(&rt, b"milk"));
     let area = one_file(&rt, rt.alloc(), b"TEA         ");
     let mut files = mounted(&rt, rt.alloc(), area);
-    assert_eq!(rt; free_pages(&rt, &files), 4269);
-    answers(
-        &rt,
-        &mut files,
-        &[
-            (Call::Lookup(milk), Some(FileFault::NoFile)),
-            (Call::Append(tea, 7), None),
-            (Call::Append(tea, 8), None),
-            (Call::Replace(tea, 1, 9), None),
-        ],
-    );
-    for (n, wanted) in [(1, Ok(9)), (2, Ok(8)), (3, Err(FileFault::PageRange))] {
-        assert_eq!(rt; byte_in(&rt, &mut files, &tea, n), wanted, "page {n}");
-    }
-    answers(
-        &rt,
-        &mut files,
-        &[
-            (Call::Protect(tea, true), None),
-            (Call::Append(tea, 1), Some(FileFault::Protected)),
-        ],
-    );
-    assert_eq!(rt; free_pages(&rt, &files), 4266);
-    answers(
-        &rt,
-        &mut files,
-        &[
-            (Call::Create(milk, FileKind::SeqCode), None),
-            (Call::Create(milk, FileKind::Ascii), Some(FileFault::Exists)),
-        ],
-    );
-    for (file, kind, protected, pages) in [
-        (&tea, FileKind::Ascii, true, 2),
-        (&milk, FileKind::SeqCode, false, 0),
-    ] {
-        let wanted = FileInfo {
-            kind,
-            protected,
-            pages,
-        };
-        assert_eq!(rt; info(&rt, &mut files, file), Ok(wanted));
-    }
+    assert!(rt; free_pages(&rt, &files) == 4269);
+    answer_is(&rt, &mut files, Call::Lookup(milk), Some(FileFault::NoFile));
+    write_tea(&rt, &mut files, tea);
+    protect_tea(&rt, &mut files, tea);
+    assert!(rt; free_pages(&rt, &files) == 4266);
+    create_milk(&rt, &mut files, milk);
+    is_file(&rt, &mut files, &tea, (FileKind::Ascii, true, 2));
+    is_file(&rt, &mut files, &milk, (FileKind::SeqCode, false, 0));
     let again = mounted(&rt, rt.alloc(), files.into_inner());
-    assert_eq!(rt; free_pages(&rt, &again), 4265);
+    assert!(rt; free_pages(&rt, &again) == 4265);
+}
+
+// The page that a mount of an area names.
+fn page_named(rt: &impl Abort, alloc: Global, area: SureArea) -> Option<u16> {
+    match mount(rt, alloc, area) {
+        Err((_, FileFault::NotSolo { page })) => Some(page),
+        _ => None,
+    }
 }
 
 #[test]
@@ -118,11 +115,10 @@ fn the_least_page_that_breaks_the_format_is_named(rt: HostRuntime) {
     ] {
         let mut area = one_file(&rt, rt.alloc(), b"A           ");
         set_byte(&rt, &mut area, page, byte, 77);
-        let named_page = match mount(&rt, rt.alloc(), area) {
-            Err((_, FileFault::NotSolo { page })) => Some(page),
-            _ => None,
-        };
-        assert_eq!(rt; named_page, Some(named), "at {page}");
+        assert!(rt;
+            page_named(&rt, rt.alloc(), area) == Some(named),
+            "at {page}"
+        );
     }
 }
 
@@ -165,6 +161,6 @@ fn an_area_of_format_1_is_judged(rt: HostRuntime) {
         ),
     ] {
         set_page(&rt, &mut area, n, &page);
-        assert_eq!(rt; judged(&rt, rt.alloc(), &mut area), wanted, "page {n}");
+        assert!(rt; judged(&rt, rt.alloc(), &mut area) == wanted, "page {n}");
     }
 }
