@@ -1,14 +1,13 @@
-use crate::file_calls::{Call, answers, free_pages, info, names, refusal};
+use crate::file_calls::{Call, answer_is, free_pages, is_file, names};
 use crate::made_area::{blank_files, formatted, has_bytes, mounted, name, set_page, zero_area};
-use crate::text_calls::{bytes, listed, read, stored};
-use disk_files::{FileArea, FileFault, FileInfo};
+use crate::text_calls::{bytes, is_text_of, listed, no_text_is, store_is};
+use disk_files::{FileArea, FileFault};
 use disk_layout::{FileKind, label};
 use disk_system::{SystemFault, is_text};
 use solo_base::{LineList, Page};
 use solo_devices::SureArea;
 use std::alloc::Global;
 use std::process::Abort;
-use std::test::Fail;
 
 #[test]
 fn an_area_of_ones_is_formatted(rt: HostRuntime) {
@@ -24,17 +23,14 @@ fn an_area_of_ones_is_formatted(rt: HostRuntime) {
         has_bytes(&rt, &mut area, n, 0, &[byte; 512]);
     }
     let files = mounted(&rt, rt.alloc(), area);
-    assert_eq!(rt; names(&rt, &files), 0);
-    assert_eq!(rt; free_pages(&rt, &files), 4270);
+    assert!(rt; names(&rt, &files) == 0);
+    assert!(rt; free_pages(&rt, &files) == 4270);
 }
 
 #[test]
 fn a_text_stands_in_its_pages(rt: HostRuntime) {
     let mut files = blank_files(&rt, rt.alloc());
-    assert_eq!(rt;
-        stored(&rt, rt.alloc(), &mut files, b"text", b"HI\n"),
-        Ok(())
-    );
+    store_is(&rt, rt.alloc(), &mut files, (b"text", b"HI\n"), Ok(()));
     let mut area = files.into_inner();
     // the name, the kind, the address, no protection, spare bytes, the key 37, and the search length
     has_bytes(&rt, &mut area, 3, 128, b"TEXT        \0\x02\0\x12\0\0");
@@ -53,18 +49,12 @@ fn is_read_again(
     count: usize,
     pages: u16,
 ) {
+    let file = name(rt, b"text");
     let text = bytes(rt, alloc, count, b'A');
-    let answer = stored(rt, alloc, files, b"text", &text);
-    assert_eq!(rt; answer, Ok(()), "of {count} bytes");
-    let wanted = FileInfo {
-        kind: FileKind::Ascii,
-        protected: false,
-        pages,
-    };
-    assert_eq!(rt; info(rt, files, &name(rt, b"text")), Ok(wanted));
-    let again = read(rt, alloc, files, b"text").ok().expect(rt, "the text");
-    assert!(rt; again.as_slice() == text.as_slice(), "of {count} bytes");
-    answers(rt, files, &[(Call::Delete(name(rt, b"text")), None)]);
+    store_is(rt, alloc, files, (b"text", &text), Ok(()));
+    is_file(rt, files, &file, (FileKind::Ascii, false, pages));
+    is_text_of(rt, alloc, files, b"text", &text);
+    answer_is(rt, files, Call::Delete(file), None);
 }
 
 #[test]
@@ -83,91 +73,93 @@ fn a_text_of_any_length_is_read_again(rt: HostRuntime) {
         is_read_again(&rt, rt.alloc(), &mut files, count, pages);
     }
     let long = bytes(&rt, rt.alloc(), 2_048_000, b'A');
-    assert_eq!(rt;
-        stored(&rt, rt.alloc(), &mut files, b"text", &long),
-        Err(SystemFault::File(FileFault::FileFull))
-    );
-    assert_eq!(rt; free_pages(&rt, &files), 4270);
+    let full = Err(SystemFault::File(FileFault::FileFull));
+    store_is(&rt, rt.alloc(), &mut files, (b"text", &long), full);
+    assert!(rt; free_pages(&rt, &files) == 4270);
+}
+
+// A text of so many bytes is stored, or is not, and so many pages are free then.
+fn store_leaves(
+    rt: &impl Abort,
+    alloc: Global,
+    files: &mut FileArea<SureArea>,
+    (letters, count): (&[u8], usize),
+    (wanted, free): (Result<(), SystemFault>, u16),
+) {
+    let text = bytes(rt, alloc, count, b'B');
+    store_is(rt, alloc, files, (letters, &text), wanted);
+    assert!(rt; free_pages(rt, files) == free);
 }
 
 #[test]
 fn a_store_without_room_is_refused(rt: HostRuntime) {
-    let mut files = blank_files(&rt, rt.alloc());
-    for (letters, count, wanted, free) in [
-        // 4,270 without 3,907 pages, their 16 parts and their index page
-        (b"a", 2_000_000, Ok(()), 346),
-        (
-            b"a",
-            3_000_000,
-            Err(SystemFault::File(FileFault::Exists)),
-            346,
-        ),
-        // 344 pages need two parts and an index page
-        (
-            b"b",
-            175_616,
-            Err(SystemFault::File(FileFault::DiskFull)),
-            346,
-        ),
-        (b"b", 175_615, Ok(()), 0),
-    ] {
-        let text = bytes(&rt, rt.alloc(), count, b'B');
-        let answer = stored(&rt, rt.alloc(), &mut files, letters, &text);
-        assert_eq!(rt; answer, wanted, "of {count} bytes");
-        assert_eq!(rt; free_pages(&rt, &files), free);
+    let alloc = rt.alloc();
+    let mut files = blank_files(&rt, alloc);
+    let exists = Err(SystemFault::File(FileFault::Exists));
+    let full = Err(SystemFault::File(FileFault::DiskFull));
+    // 4,270 without 3,907 pages, their 16 parts and their index page
+    store_leaves(&rt, alloc, &mut files, (b"a", 2_000_000), (Ok(()), 346));
+    store_leaves(&rt, alloc, &mut files, (b"a", 3_000_000), (exists, 346));
+    // 344 pages need two parts and an index page
+    store_leaves(&rt, alloc, &mut files, (b"b", 175_616), (full, 346));
+    store_leaves(&rt, alloc, &mut files, (b"b", 175_615), (Ok(()), 0));
+}
+
+// Makes a file for each of 240 names of two letters.
+fn create_all(rt: &impl Abort, files: &mut FileArea<SureArea>) {
+    for first in b'A'..b'P' {
+        for second in b'A'..b'Q' {
+            let file = name(rt, &[first, second]);
+            answer_is(rt, files, Call::Create(file, FileKind::Scratch), None);
+        }
     }
 }
 
 #[test]
 fn a_name_too_many_is_refused(rt: HostRuntime) {
     let mut files = blank_files(&rt, rt.alloc());
-    for first in b'A'..b'P' {
-        for second in b'A'..b'Q' {
-            let create = Call::Create(name(&rt, &[first, second]), FileKind::Scratch);
-            assert_eq!(rt; refusal(&rt, &mut files, create), None);
-        }
-    }
+    create_all(&rt, &mut files);
     let text = bytes(&rt, rt.alloc(), 3_000_000, b'B');
-    assert_eq!(rt;
-        stored(&rt, rt.alloc(), &mut files, b"z", &text),
-        Err(SystemFault::File(FileFault::CatalogFull))
-    );
+    let full = Err(SystemFault::File(FileFault::CatalogFull));
+    store_is(&rt, rt.alloc(), &mut files, (b"z", &text), full);
+}
+
+// Whether a list has this line at this place.
+fn has_line(lines: &LineList, place: usize, wanted: &str) -> bool {
+    place < lines.len() && lines.get(place).bytes() == wanted.as_bytes()
 }
 
 // The lines are these.
-fn are_lines(rt: &impl Abort, lines: &LineList, wanted: &[&[u8]]) {
-    assert_eq!(rt; lines.len(), wanted.len());
+fn are_lines(rt: &impl Abort, lines: &LineList, wanted: &[&str]) {
+    assert!(rt; lines.len() == wanted.len());
     for (place, line) in wanted.iter().enumerate() {
-        assert!(rt; place < lines.len());
-        assert!(rt; *lines.get(place).bytes() == **line, "line {place}");
+        assert!(rt; has_line(lines, place, line), "line {place}");
     }
 }
+
+const CATALOGUE: [&str; 4] = [
+    "BOOT CONCODE 0 PAGES",
+    "PROG SEQCODE 0 PAGES",
+    "TEX2 SCRATCH 0 PAGES",
+    "TEXT ASCII 2 PAGES PROTECTED",
+];
 
 #[test]
 fn files_are_listed_by_name(rt: HostRuntime) {
     let mut files = blank_files(&rt, rt.alloc());
-    let text = [b'B'; 600];
-    assert_eq!(rt; stored(&rt, rt.alloc(), &mut files, b"text", &text), Ok(()));
-    answers(
-        &rt,
-        &mut files,
-        &[
-            (Call::Create(name(&rt, b"prog"), FileKind::SeqCode), None),
-            (Call::Create(name(&rt, b"boot"), FileKind::ConCode), None),
-            (Call::Create(name(&rt, b"tex2"), FileKind::Scratch), None),
-            (Call::Protect(name(&rt, b"text"), true), None),
-        ],
-    );
-    let lines = listed(&rt, rt.alloc(), &mut files)
-        .ok()
-        .expect(&rt, "the lines");
-    let wanted: &[&[u8]] = &[
-        b"BOOT CONCODE 0 PAGES",
-        b"PROG SEQCODE 0 PAGES",
-        b"TEX2 SCRATCH 0 PAGES",
-        b"TEXT ASCII 2 PAGES PROTECTED",
-    ];
-    are_lines(&rt, &lines, wanted);
+    store_is(&rt, rt.alloc(), &mut files, (b"text", &[b'B'; 600]), Ok(()));
+    for (letters, kind) in [
+        (b"prog", FileKind::SeqCode),
+        (b"boot", FileKind::ConCode),
+        (b"tex2", FileKind::Scratch),
+    ] {
+        let create = Call::Create(name(&rt, letters), kind);
+        answer_is(&rt, &mut files, create, None);
+    }
+    let protect = Call::Protect(name(&rt, b"text"), true);
+    answer_is(&rt, &mut files, protect, None);
+    let lines = listed(&rt, rt.alloc(), &mut files).ok();
+    are_lines(&rt, &lines.expect(&rt, "the lines"), &CATALOGUE);
 }
 
 #[test]
@@ -179,29 +171,18 @@ fn a_byte_25_is_in_no_text(rt: HostRuntime) {
 
 #[test]
 fn a_text_that_is_none_is_refused(rt: HostRuntime) {
-    let mut files = blank_files(&rt, rt.alloc());
-    assert_eq!(rt;
-        read(&rt, rt.alloc(), &mut files, b"text").err(),
-        Some(SystemFault::File(FileFault::NoFile))
-    );
-    let text = name(&rt, b"text");
-    let all = name(&rt, b"all");
-    answers(
-        &rt,
-        &mut files,
-        &[
-            (Call::Create(text, FileKind::Scratch), None),
-            (Call::Create(all, FileKind::Ascii), None),
-        ],
-    );
-    assert_eq!(rt;
-        read(&rt, rt.alloc(), &mut files, b"text").err(),
-        Some(SystemFault::NotText)
-    );
+    let alloc = rt.alloc();
+    let mut files = blank_files(&rt, alloc);
+    let no_file = SystemFault::File(FileFault::NoFile);
+    no_text_is(&rt, alloc, &mut files, b"text", no_file);
+    let (text, all) = (name(&rt, b"text"), name(&rt, b"all"));
+    let create = Call::Create(text, FileKind::Scratch);
+    answer_is(&rt, &mut files, create, None);
+    no_text_is(&rt, alloc, &mut files, b"text", SystemFault::NotText);
     // an empty file, and one without the byte 25
-    let none = read(&rt, rt.alloc(), &mut files, b"all");
-    assert_eq!(rt; none.ok().expect(&rt, "no text").len(), 0);
-    answers(&rt, &mut files, &[(Call::Append(all, 7), None)]);
-    let whole = read(&rt, rt.alloc(), &mut files, b"all");
-    assert!(rt; whole.ok().expect(&rt, "a text").as_slice() == [7; 512].as_slice());
+    let create = Call::Create(all, FileKind::Ascii);
+    answer_is(&rt, &mut files, create, None);
+    is_text_of(&rt, alloc, &mut files, b"all", b"");
+    answer_is(&rt, &mut files, Call::Append(all, 7), None);
+    is_text_of(&rt, alloc, &mut files, b"all", &[7; 512]);
 }
