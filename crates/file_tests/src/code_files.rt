@@ -1,6 +1,6 @@
-use crate::file_calls::{Call, answers, info};
+use crate::file_calls::{Call, answer_is, info};
 use crate::made_area::{blank_files, mounted, name, set_byte};
-use crate::text_calls::{code_read, code_stored, stored};
+use crate::text_calls::{code_fault, code_read, code_store_is, store_is};
 use disk_files::{FileArea, FileFault};
 use disk_layout::FileKind;
 use disk_system::{Loaded, SystemFault, load_job};
@@ -9,7 +9,6 @@ use solo_devices::SureArea;
 use stack_code::{Verified, decode, encode, verify};
 use std::alloc::Global;
 use std::process::Abort;
-use std::test::Fail;
 
 // The code of `BEGIN WRITE('A') END.`, without the zeros up to the end of the page.
 const WRITE_A: [u8; 40] = [
@@ -36,6 +35,12 @@ fn file_of(rt: &impl Abort, alloc: Global, code: &Verified) -> Vec<u8> {
     encode(alloc, code.code()).ok().expect(rt, "ample memory")
 }
 
+// Code has this code file.
+fn has_file(rt: &impl Abort, alloc: Global, code: &Verified, file: &[u8]) {
+    let found = file_of(rt, alloc, code);
+    assert!(rt; found.as_slice() == file);
+}
+
 // The code of a code file is stored in a file of so many pages and loaded again, and then is the same.
 fn is_loaded_again(
     rt: &impl Abort,
@@ -45,36 +50,41 @@ fn is_loaded_again(
     pages: u16,
 ) {
     let code = code_of(rt, alloc, file);
-    assert!(rt; *file_of(rt, alloc, &code) == *file);
-    let answer = code_stored(rt, alloc, files, b"prog", &code);
-    assert_eq!(rt; answer, Ok(()));
-    let told = info(rt, files, &name(rt, b"prog"));
-    assert_eq!(rt; told.ok().expect(rt, "the file").pages, pages);
-    let loaded = code_read(rt, alloc, files, b"prog")
-        .ok()
-        .expect(rt, "the code");
-    assert!(rt; *file_of(rt, alloc, &loaded) == *file);
+    has_file(rt, alloc, &code, file);
+    code_store_is(rt, alloc, files, &code, Ok(()));
+    let told = info(rt, files, &name(rt, b"prog")).ok();
+    assert!(rt; told.expect(rt, "the file").pages == pages);
+    let loaded = code_read(rt, alloc, files, b"prog").ok();
+    has_file(rt, alloc, &loaded.expect(rt, "the code"), file);
 }
+
+// A file has no code, for this reason.
+fn no_code_is(
+    rt: &impl Abort,
+    alloc: Global,
+    files: &mut FileArea<SureArea>,
+    letters: &[u8],
+    wanted: SystemFault,
+) {
+    let fault = code_fault(rt, alloc, files, letters);
+    assert!(rt; fault == Some(wanted), "{fault:?}");
+}
+
+const NO_FILE: SystemFault = SystemFault::File(FileFault::NoFile);
+
+const EXISTS: Result<(), SystemFault> = Err(SystemFault::File(FileFault::Exists));
 
 #[test]
 fn code_is_loaded_as_it_was_stored(rt: HostRuntime) {
-    let mut files = blank_files(&rt, rt.alloc());
-    assert_eq!(rt;
-        code_read(&rt, rt.alloc(), &mut files, b"prog").err(),
-        Some(SystemFault::File(FileFault::NoFile))
-    );
+    let alloc = rt.alloc();
+    let mut files = blank_files(&rt, alloc);
+    no_code_is(&rt, alloc, &mut files, b"prog", NO_FILE);
     let file = write_a();
-    is_loaded_again(&rt, rt.alloc(), &mut files, file.bytes(), 1);
-    let code = code_of(&rt, rt.alloc(), file.bytes());
-    assert_eq!(rt;
-        code_stored(&rt, rt.alloc(), &mut files, b"prog", &code).err(),
-        Some(SystemFault::File(FileFault::Exists))
-    );
-    assert_eq!(rt; stored(&rt, rt.alloc(), &mut files, b"text", b"A"), Ok(()));
-    assert_eq!(rt;
-        code_read(&rt, rt.alloc(), &mut files, b"text").err(),
-        Some(SystemFault::NotCode)
-    );
+    is_loaded_again(&rt, alloc, &mut files, file.bytes(), 1);
+    let code = code_of(&rt, alloc, file.bytes());
+    code_store_is(&rt, alloc, &mut files, &code, EXISTS);
+    store_is(&rt, alloc, &mut files, (b"text", b"A"), Ok(()));
+    no_code_is(&rt, alloc, &mut files, b"text", SystemFault::NotCode);
 }
 
 // Puts these bytes behind others.
@@ -113,10 +123,10 @@ fn refused_with(rt: &impl Abort, alloc: Global, changes: &[(usize, u8)]) -> Opti
         set_byte(rt, &mut area, 20, *at, *byte);
     }
     let mut files = mounted(rt, alloc, area);
-    match code_read(rt, alloc, &mut files, b"prog") {
-        Ok(_) => None,
-        Err(SystemFault::BadCode { at }) => Some(at),
-        Err(_) => panic!(rt; "another fault"),
+    match code_fault(rt, alloc, &mut files, b"prog") {
+        None => None,
+        Some(SystemFault::BadCode { at }) => Some(at),
+        Some(_) => panic!(rt; "another fault"),
     }
 }
 
@@ -124,32 +134,36 @@ fn refused_with(rt: &impl Abort, alloc: Global, changes: &[(usize, u8)]) -> Opti
 fn one_page(rt: &impl Abort, alloc: Global) -> SureArea {
     let mut files = blank_files(rt, alloc);
     let code = code_of(rt, alloc, write_a().bytes());
-    let answer = code_stored(rt, alloc, &mut files, b"prog", &code);
-    assert_eq!(rt; answer, Ok(()));
+    code_store_is(rt, alloc, &mut files, &code, Ok(()));
     files.into_inner()
 }
 
+// Bytes of the code file that are others, and the place at which it is refused then.
+const DAMAGES: [(&[(usize, u8)], Option<u32>); 13] = [
+    (&[], None),
+    // a letter, the counts, a function's mark, an operation, an unused operand, the zeros behind
+    (&[(6, 0x65)], Some(6)),
+    (&[(8, 1)], Some(8)),
+    (&[(9, 0)], Some(8)),
+    (&[(10, 0x20)], Some(10)),
+    (&[(15, 2)], Some(15)),
+    (&[(20, 42)], Some(20)),
+    (&[(38, 1)], Some(38)),
+    (&[(40, 1)], Some(40)),
+    (&[(511, 1)], Some(511)),
+    // a record of a routine with a parameter, and a jump to the TICK and one to the PUSH
+    (&[(14, 1)], Some(12)),
+    (&[(35, 27)], None),
+    (&[(35, 27), (37, 1)], Some(35)),
+];
+
 #[test]
 fn damaged_code_is_refused_at_its_place(rt: HostRuntime) {
-    let cases: &[(&[(usize, u8)], Option<u32>)] = &[
-        (&[], None),
-        // a letter, the counts, a function's mark, an operation, an unused operand, the zeros behind
-        (&[(6, 0x65)], Some(6)),
-        (&[(8, 1)], Some(8)),
-        (&[(9, 0)], Some(8)),
-        (&[(10, 0x20)], Some(10)),
-        (&[(15, 2)], Some(15)),
-        (&[(20, 42)], Some(20)),
-        (&[(38, 1)], Some(38)),
-        (&[(40, 1)], Some(40)),
-        (&[(511, 1)], Some(511)),
-        // a record of a routine with a parameter, and a jump to the TICK and one to the PUSH
-        (&[(14, 1)], Some(12)),
-        (&[(35, 27)], None),
-        (&[(35, 27), (37, 1)], Some(35)),
-    ];
-    for (changes, at) in cases {
-        assert_eq!(rt; refused_with(&rt, rt.alloc(), changes), *at, "{changes:?}");
+    for (changes, at) in &DAMAGES {
+        assert!(rt;
+            refused_with(&rt, rt.alloc(), changes) == *at,
+            "{changes:?}"
+        );
     }
 }
 
@@ -159,20 +173,32 @@ fn append(rt: &impl Abort, files: &mut FileArea<SureArea>, letters: &[u8], page:
     assert!(rt; files.append(&name(rt, letters), page).is_ok());
 }
 
+// Makes an empty file of code.
+fn create(rt: &impl Abort, files: &mut FileArea<SureArea>, letters: &[u8]) {
+    let create = Call::Create(name(rt, letters), FileKind::SeqCode);
+    answer_is(rt, files, create, None);
+}
+
 #[test]
 fn an_empty_code_file_is_refused_at_its_first_byte(rt: HostRuntime) {
-    let mut files = blank_files(&rt, rt.alloc());
-    let create = Call::Create(name(&rt, b"prog"), FileKind::SeqCode);
-    answers(&rt, &mut files, &[(create, None)]);
-    assert_eq!(rt;
-        code_read(&rt, rt.alloc(), &mut files, b"prog").err(),
-        Some(SystemFault::BadCode { at: 0 })
+    let alloc = rt.alloc();
+    let mut files = blank_files(&rt, alloc);
+    create(&rt, &mut files, b"prog");
+    no_code_is(
+        &rt,
+        alloc,
+        &mut files,
+        b"prog",
+        SystemFault::BadCode { at: 0 },
     );
     append(&rt, &mut files, b"prog", &write_a());
     append(&rt, &mut files, b"prog", &Page::zeros());
-    assert_eq!(rt;
-        code_read(&rt, rt.alloc(), &mut files, b"prog").err(),
-        Some(SystemFault::BadCode { at: 512 })
+    no_code_is(
+        &rt,
+        alloc,
+        &mut files,
+        b"prog",
+        SystemFault::BadCode { at: 512 },
     );
 }
 
@@ -195,23 +221,27 @@ fn found(
     }
 }
 
+// A job finds this of a program.
+fn finds(
+    rt: &impl Abort,
+    alloc: Global,
+    files: &mut FileArea<SureArea>,
+    program: &[u8],
+    wanted: (&str, u32),
+) {
+    let (word, number) = found(rt, alloc, files, program);
+    assert!(rt; word == wanted.0 && number == wanted.1, "{word} {number}");
+}
+
 #[test]
 fn a_job_finds_its_program_or_why_there_is_none(rt: HostRuntime) {
-    let mut files = blank_files(&rt, rt.alloc());
-    let file = write_a();
-    is_loaded_again(&rt, rt.alloc(), &mut files, file.bytes(), 1);
-    assert_eq!(rt; stored(&rt, rt.alloc(), &mut files, b"text", b"A"), Ok(()));
-    let create = Call::Create(name(&rt, b"empty"), FileKind::SeqCode);
-    answers(&rt, &mut files, &[(create, None)]);
-    let cases: &[(&[u8], (&str, u32))] = &[
-        (b"prog", ("code", 4)),
-        (b"none", ("no file", 0)),
-        (b"text", ("not code", 0)),
-        (b"empty", ("bad code", 0)),
-    ];
-    for (program, wanted) in cases {
-        let answer = found(&rt, rt.alloc(), &mut files, program);
-        assert_eq!(rt; answer.0, wanted.0);
-        assert_eq!(rt; answer.1, wanted.1);
-    }
+    let alloc = rt.alloc();
+    let mut files = blank_files(&rt, alloc);
+    is_loaded_again(&rt, alloc, &mut files, write_a().bytes(), 1);
+    store_is(&rt, alloc, &mut files, (b"text", b"A"), Ok(()));
+    create(&rt, &mut files, b"empty");
+    finds(&rt, alloc, &mut files, b"prog", ("code", 4));
+    finds(&rt, alloc, &mut files, b"none", ("no file", 0));
+    finds(&rt, alloc, &mut files, b"text", ("not code", 0));
+    finds(&rt, alloc, &mut files, b"empty", ("bad code", 0));
 }
