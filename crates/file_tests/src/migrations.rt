@@ -1,10 +1,10 @@
-use crate::file_calls::{byte_in, info};
+use crate::file_calls::{is_file, is_filled};
 use crate::made_area::{
     failing_area, has_bytes, mounted, name, page_of, set_byte, set_page, zero_area,
 };
 use crate::made_older::{begin, end, put_file, with_file};
 use crate::text_calls::read;
-use disk_files::{FileArea, FileInfo};
+use disk_files::FileArea;
 use disk_layout::{FileKind, key_of, label};
 use disk_pages::AREA_PAGES;
 use disk_system::{MigrateFault, migrate};
@@ -12,7 +12,6 @@ use solo_base::trim_end;
 use solo_devices::{Area, SureArea};
 use std::alloc::Global;
 use std::process::Abort;
-use std::test::Fail;
 
 // How many files a migrated area has, or why it isn't migrated.
 fn migrated<A: Area>(rt: &impl Abort, alloc: Global, area: &mut A) -> Result<u16, MigrateFault> {
@@ -25,16 +24,16 @@ fn a_small_area_of_format_1_gets_its_parts(rt: HostRuntime) {
     let label = label();
     let zeros = zero_area(&rt, rt.alloc());
     let mut area = with_file(&rt, zeros, b"TEXT        ", 1);
-    assert_eq!(rt; migrated(&rt, rt.alloc(), &mut area), Ok(1));
+    assert!(rt; migrated(&rt, rt.alloc(), &mut area) == Ok(1));
     has_bytes(&rt, &mut area, 0, 0, &label.0);
     // the index page has the part 20, and the part page 19
     has_bytes(&rt, &mut area, 18, 0, b"\0\x01\0\x14\0\0");
     has_bytes(&rt, &mut area, 20, 0, b"\0\x13");
     // nothing is left to do
-    assert_eq!(rt; migrated(&rt, rt.alloc(), &mut area), Ok(1));
+    assert!(rt; migrated(&rt, rt.alloc(), &mut area) == Ok(1));
     let mut files = mounted(&rt, rt.alloc(), area);
     let text = read(&rt, rt.alloc(), &mut files, b"text");
-    assert_eq!(rt; text.ok().expect(&rt, "a text").len(), 512);
+    assert!(rt; text.ok().expect(&rt, "a text").len() == 512);
 }
 
 // Names of keys that are all different, so that each stands at the place of its key.
@@ -55,7 +54,7 @@ fn names(rt: &impl Abort) -> [[u8; 12]; 17] {
             }
         }
     }
-    assert_eq!(rt; found, 17);
+    assert!(rt; found == 17);
     names
 }
 
@@ -93,12 +92,12 @@ fn copy_of(rt: &impl Abort, alloc: Global, area: &mut SureArea) -> SureArea {
 fn a_full_area_of_format_1_has_no_room_for_parts(rt: HostRuntime) {
     let mut area = seventeen_files(&rt, rt.alloc(), &FULL);
     let mut before = copy_of(&rt, rt.alloc(), &mut area);
-    assert_eq!(rt;
-        migrated(&rt, rt.alloc(), &mut area),
-        Err(MigrateFault::NoRoom {
-            needed: 33,
-            free: 0
-        })
+    assert!(rt;
+        migrated(&rt, rt.alloc(), &mut area)
+            == Err(MigrateFault::NoRoom {
+                needed: 33,
+                free: 0
+            })
     );
     for n in 0..AREA_PAGES {
         let page = page_of(&rt, &mut before, n);
@@ -109,21 +108,16 @@ fn a_full_area_of_format_1_has_no_room_for_parts(rt: HostRuntime) {
 // A file has so many pages, and page j, from 0, is of the byte j mod 251.
 fn has_pages(rt: &impl Abort, files: &mut FileArea<SureArea>, letters: &[u8], pages: u16) {
     let name = name(rt, letters);
-    let wanted = FileInfo {
-        kind: FileKind::Ascii,
-        protected: false,
-        pages,
-    };
-    assert_eq!(rt; info(rt, files, &name), Ok(wanted));
+    is_file(rt, files, &name, (FileKind::Ascii, false, pages));
     for j in 0..pages {
-        assert_eq!(rt; byte_in(rt, files, &name, j + 1), Ok((j % 251) as u8));
+        is_filled(rt, files, &name, j + 1, (j % 251) as u8);
     }
 }
 
 #[test]
 fn files_of_255_pages_are_the_same_afterwards(rt: HostRuntime) {
     let mut area = seventeen_files(&rt, rt.alloc(), &LONG_AND_SHORT);
-    assert_eq!(rt; migrated(&rt, rt.alloc(), &mut area), Ok(17));
+    assert!(rt; migrated(&rt, rt.alloc(), &mut area) == Ok(17));
     let mut files = mounted(&rt, rt.alloc(), area);
     let names = names(&rt);
     for k in 0..17usize {
@@ -134,10 +128,7 @@ fn files_of_255_pages_are_the_same_afterwards(rt: HostRuntime) {
 #[test]
 fn a_damaged_area_of_format_1_is_named(rt: HostRuntime) {
     let mut zeros = zero_area(&rt, rt.alloc());
-    assert_eq!(rt;
-        migrated(&rt, rt.alloc(), &mut zeros),
-        Err(MigrateFault::NotSolo { page: 0 })
-    );
+    assert!(rt; migrated(&rt, rt.alloc(), &mut zeros) == Err(MigrateFault::NotSolo { page: 0 }));
     for (page, byte, value, named) in [
         (0, 20, 1, 0),
         (3, 128 + 15, 17, 3),
@@ -152,9 +143,8 @@ fn a_damaged_area_of_format_1_is_named(rt: HostRuntime) {
         let zeros = zero_area(&rt, rt.alloc());
         let mut area = with_file(&rt, zeros, b"TEXT        ", 1);
         set_byte(&rt, &mut area, page, byte, value);
-        assert_eq!(rt;
-            migrated(&rt, rt.alloc(), &mut area),
-            Err(MigrateFault::NotSolo { page: named }),
+        assert!(rt;
+            migrated(&rt, rt.alloc(), &mut area) == Err(MigrateFault::NotSolo { page: named }),
             "at {page}"
         );
     }
