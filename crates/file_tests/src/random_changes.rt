@@ -1,14 +1,13 @@
 ghost use Rattle.std.specs.Prelude.{◌<◌};
 
-use crate::file_calls::{Call, byte_in, info, names, refusal};
+use crate::file_calls::{Call, is_file, is_filled, names, refusal};
 use crate::made_area::{blank_files, mounted, name, numbered};
-use disk_files::{FileArea, FileFault, FileInfo};
+use disk_files::{FileArea, FileFault};
 use disk_layout::FileKind;
 use solo_base::Ident;
 use solo_devices::SureArea;
 use std::alloc::Global;
 use std::process::Abort;
-use std::test::Fail;
 
 // A file as a plain table has it: its pages by the byte that fills each.
 #[derive(Drop)]
@@ -175,16 +174,12 @@ fn call_of(rt: &impl Abort, dice: &mut Dice) -> Call {
 // One file is as the table has it.
 fn has(rt: &impl Abort, files: &mut FileArea<SureArea>, file: &PlainFile) {
     let name = name(rt, &file.name[..5]);
-    let wanted = FileInfo {
-        kind: FileKind::Ascii,
-        protected: file.protected,
-        pages: file.pages.len().min(4000) as u16,
-    };
-    assert_eq!(rt; info(rt, files, &name), Ok(wanted));
+    let pages = file.pages.len().min(4000) as u16;
+    is_file(rt, files, &name, (FileKind::Ascii, file.protected, pages));
     let mut n = 0u16;
     for byte in &file.pages {
         n = n.saturating_add(1);
-        assert_eq!(rt; byte_in(rt, files, &name, n), Ok(*byte));
+        is_filled(rt, files, &name, n, *byte);
     }
 }
 
@@ -220,14 +215,20 @@ fn thousand_calls(rt: &impl Abort, alloc: Global, seed: u32) {
     for _ in 0..1000u16 {
         let call = call_of(rt, &mut dice);
         let answer = refusal(rt, &mut files, call);
-        assert_eq!(rt; answer, plain(alloc, &mut table, call), "{call:?}");
+        assert!(rt; answer == plain(alloc, &mut table, call), "{call:?}");
     }
-    let mut again = mounted(rt, alloc, files.into_inner());
-    assert_eq!(rt; names(rt, &again) as usize, table.len());
-    for file in &table {
+    let again = mounted(rt, alloc, files.into_inner());
+    are_the_files(rt, again, &table);
+}
+
+// The files of an area are those of the table.
+fn are_the_files(rt: &impl Abort, files: FileArea<SureArea>, table: &Vec<PlainFile>) {
+    let mut again = files;
+    assert!(rt; (names(rt, &again) as usize) == table.len());
+    for file in table {
         has(rt, &mut again, file);
     }
-    same_names(rt, &mut again, &table);
+    same_names(rt, &mut again, table);
 }
 
 #[test]
