@@ -1,17 +1,15 @@
-use crate::file_calls::{Call, answers, byte_in, free_pages, names, refusal};
+use crate::file_calls::{Call, answer_is, answers, free_pages, is_filled, names};
 use crate::made_area::{blank_files, has_bytes, mounted, numbered};
 use disk_files::{FileArea, FileFault};
 use disk_layout::{FileKind, key_of};
 use solo_base::Ident;
 use solo_devices::SureArea;
 use std::process::Abort;
-use std::test::Fail;
 
 // Puts so many pages behind a file.
 fn append_all(rt: &impl Abort, files: &mut FileArea<SureArea>, name: Ident, count: u16) {
     for n in 0..count {
-        let answer = refusal(rt, files, Call::Append(name, (n % 251) as u8));
-        assert_eq!(rt; answer, None, "at {n}");
+        answer_is(rt, files, Call::Append(name, (n % 251) as u8), None);
     }
 }
 
@@ -24,57 +22,47 @@ fn create(name: Ident) -> Call {
 fn there_is_room_for_240_names(rt: HostRuntime) {
     let mut files = blank_files(&rt, rt.alloc());
     for number in 1..241u16 {
-        let answer = refusal(&rt, &mut files, create(numbered(&rt, number)));
-        assert_eq!(rt; answer, None, "name {number}");
+        answer_is(&rt, &mut files, create(numbered(&rt, number)), None);
     }
-    let last = numbered(&rt, 241);
-    answers(
-        &rt,
-        &mut files,
-        &[(create(last), Some(FileFault::CatalogFull))],
-    );
-    assert_eq!(rt; names(&rt, &files), 240);
-    answers(
-        &rt,
-        &mut files,
-        &[(Call::Delete(numbered(&rt, 7)), None), (create(last), None)],
-    );
+    let full = Some(FileFault::CatalogFull);
+    answer_is(&rt, &mut files, create(numbered(&rt, 241)), full);
+    assert!(rt; names(&rt, &files) == 240);
+    answer_is(&rt, &mut files, Call::Delete(numbered(&rt, 7)), None);
+    answer_is(&rt, &mut files, create(numbered(&rt, 241)), None);
     let again = mounted(&rt, rt.alloc(), files.into_inner());
-    assert_eq!(rt; names(&rt, &again), 240);
-    assert_eq!(rt; free_pages(&rt, &again), 4030);
+    assert!(rt; names(&rt, &again) == 240);
+    assert!(rt; free_pages(&rt, &again) == 4030);
+}
+
+// A file of 4,000 pages takes no page more.
+fn fill_file(rt: &impl Abort, files: &mut FileArea<SureArea>, file: Ident) {
+    answer_is(rt, files, create(file), None);
+    append_all(rt, files, file, 4000);
+    let full = Some(FileFault::FileFull);
+    answer_is(rt, files, Call::Append(file, 1), full);
+}
+
+// A file of the pages that are left, and one without a page, and then there is no room.
+fn fill_area(rt: &impl Abort, files: &mut FileArea<SureArea>, file: Ident) {
+    answer_is(rt, files, create(file), None);
+    append_all(rt, files, file, 250);
+    let full = Some(FileFault::DiskFull);
+    answer_is(rt, files, Call::Append(file, 1), full);
+    answer_is(rt, files, create(numbered(rt, 3)), None);
+    answer_is(rt, files, create(numbered(rt, 4)), full);
 }
 
 #[test]
 fn a_file_takes_4000_pages_and_the_area_is_full(rt: HostRuntime) {
-    let first = numbered(&rt, 1);
-    let second = numbered(&rt, 2);
+    let (first, second) = (numbered(&rt, 1), numbered(&rt, 2));
     let mut files = blank_files(&rt, rt.alloc());
-    answers(&rt, &mut files, &[(create(first), None)]);
-    append_all(&rt, &mut files, first, 4000);
-    answers(
-        &rt,
-        &mut files,
-        &[
-            (Call::Append(first, 1), Some(FileFault::FileFull)),
-            (create(second), None),
-        ],
-    );
-    append_all(&rt, &mut files, second, 250);
-    answers(
-        &rt,
-        &mut files,
-        &[
-            (Call::Append(second, 1), Some(FileFault::DiskFull)),
-            (create(numbered(&rt, 3)), None),
-            (create(numbered(&rt, 4)), Some(FileFault::DiskFull)),
-        ],
-    );
+    fill_file(&rt, &mut files, first);
+    fill_area(&rt, &mut files, second);
     let mut again = mounted(&rt, rt.alloc(), files.into_inner());
-    assert_eq!(rt; free_pages(&rt, &again), 0);
-    let last = byte_in(&rt, &mut again, &first, 4000);
-    assert_eq!(rt; last, Ok((3999 % 251) as u8));
-    answers(&rt, &mut again, &[(Call::Delete(first), None)]);
-    assert_eq!(rt; free_pages(&rt, &again), 4017);
+    assert!(rt; free_pages(&rt, &again) == 0);
+    is_filled(&rt, &mut again, &first, 4000, (3999 % 251) as u8);
+    answer_is(&rt, &mut again, Call::Delete(first), None);
+    assert!(rt; free_pages(&rt, &again) == 4017);
     append_all(&rt, &mut again, second, 1);
     let _last = mounted(&rt, rt.alloc(), again.into_inner());
 }
@@ -95,7 +83,7 @@ fn names_of_the_last_key(rt: &impl Abort) -> [Ident; 4] {
             found += 1;
         }
     }
-    assert_eq!(rt; found, 4);
+    assert!(rt; found == 4);
     names
 }
 
