@@ -1,7 +1,8 @@
+ghost use Rattle.std.specs.Prelude.{◌≡◌, false};
+
 use page_codec::{BadPage, Packer, PageItems, Unpacker};
 use solo_base::{Item, LINE_LENGTH, Line, PAGE_LENGTH, Page};
 use std::process::Abort;
-use std::test::Fail;
 
 fn line(rt: &impl Abort, bytes: &[u8]) -> Item {
     Item::Line(Line::of(bytes).expect(rt, "it is a line"))
@@ -47,6 +48,11 @@ fn listing(rt: &impl Abort, columns: usize) -> (Page, Page) {
     (first, packer.finish())
 }
 
+/// Whether a page begins with these bytes.
+fn begins(page: &Page, bytes: &[u8]) -> bool {
+    page.0.starts_with(bytes)
+}
+
 #[test]
 fn seven_cards_fill_the_first_page_of_a_listing(rt: HostRuntime) {
     for (columns, on_first, on_last) in [
@@ -64,100 +70,105 @@ fn seven_cards_fill_the_first_page_of_a_listing(rt: HostRuntime) {
         ),
     ] {
         let (first, last) = listing(&rt, columns);
-        assert_eq!(rt; &first.0[..8], on_first.as_slice());
-        assert_eq!(rt; &last.0[..8], on_last.as_slice());
+        assert!(rt; begins(&first, &on_first));
+        assert!(rt; begins(&last, &on_last));
     }
 }
 
-#[test]
-fn the_pages_of_a_listing_are_read_back(rt: HostRuntime) -> Result<(), Fail> {
-    let (first, last) = listing(&rt, 13);
-    let mut unpacker = Unpacker::new();
-    let mut items = unpacker.take(&first, first.last())?;
-    assert!(rt; !items.last());
-    let card = [b'B'; 80];
-    are_left(
-        &rt,
-        &mut items,
-        &[
-            b"JOB A",
-            &card,
-            &card,
-            &card,
-            &card,
-            &card,
-            &card,
-            &[b'B'; 13],
-        ],
-    );
-    let mut items = unpacker.take(&last, last.last())?;
-    assert!(rt; items.last());
-    are_left(&rt, &mut items, &[b"A: LISTED 7 CARDS"]);
-    Ok(())
+/// A page, which is the last or is not, has these lines.
+fn is_taken(rt: &impl Abort, unpacker: &mut Unpacker, page: &Page, last: bool, lines: &[&[u8]])
+    requires { unpacker.old.ended ≡ false }
+    ensures { unpacker.new.ended ≡ last }
+{
+    let items = unpacker.take(page, last);
+    let mut items = items.ok().expect(rt, "a page");
+    assert!(rt; items.last() == last);
+    are_left(rt, &mut items, lines);
 }
 
 #[test]
-fn a_spoiled_card_is_one_byte(rt: HostRuntime) -> Result<(), Fail> {
+fn the_pages_of_a_listing_are_read_back(rt: HostRuntime) {
+    let (first, last) = listing(&rt, 13);
+    let mut unpacker = Unpacker::new();
+    let card = [b'B'; 80].as_slice();
+    let end = [b'B'; 13].as_slice();
+    let lines = [b"JOB A", card, card, card, card, card, card, end];
+    is_taken(&rt, &mut unpacker, &first, false, &lines);
+    is_taken(&rt, &mut unpacker, &last, true, &[b"A: LISTED 7 CARDS"]);
+}
+
+#[test]
+fn a_spoiled_card_is_one_byte(rt: HostRuntime) {
     let mut packer = Packer::new();
     put(&rt, &mut packer, &Item::Spoiled);
     let page = packer.finish();
-    assert_eq!(rt; &page.0[..8], [0, 0, 1, 0, 0, 1, 255, 0].as_slice());
-    let mut items = Unpacker::new().take(&page, true)?;
+    assert!(rt; begins(&page, &[0, 0, 1, 0, 0, 1, 255, 0]));
+    let mut unpacker = Unpacker::new();
+    let items = unpacker.take(&page, true);
+    let mut items = items.ok().expect(&rt, "a page");
     assert!(rt; matches!(items.next(), Some(Item::Spoiled)));
     assert!(rt; items.next().is_none());
-    Ok(())
 }
+
+/// The page of the lines HI and A: 0, 0, 1, 0, 0, 5, 2, `H`, `I`, 1, `A`, and zeros.
+fn short_page(rt: &impl Abort) -> Page {
+    let mut packer = Packer::new();
+    put(rt, &mut packer, &line(rt, b"HI"));
+    put(rt, &mut packer, &line(rt, b"A"));
+    packer.finish()
+}
+
+/// How a page is refused that has this byte at a place.
+fn refused_with(rt: &impl Abort, page: &Page, byte: usize, value: u8) -> Option<BadPage> {
+    let mut wrong = *page;
+    assert!(rt; byte < PAGE_LENGTH);
+    wrong.0[byte] = value;
+    Unpacker::new().take(&wrong, true).err()
+}
+
+/// A byte, its wrong value, the number of a page that is found, and the place that is refused.
+const WRONG: [(usize, u8, u16, u16); 14] = [
+    (1, 7, 7, 0),
+    (0, 1, 256, 0),
+    (2, 0, 0, 2),
+    (3, 1, 0, 3),
+    (4, 2, 0, 4),
+    (6, 133, 0, 6),
+    (6, 3, 0, 6),
+    (8, 10, 0, 6),
+    (9, 2, 0, 9),
+    (10, 127, 0, 9),
+    (5, 4, 0, 9),
+    (5, 3, 0, 9),
+    (11, 1, 0, 11),
+    (511, 32, 0, 511),
+];
 
 #[test]
 fn a_wrong_byte_is_found_at_its_place(rt: HostRuntime) {
-    let mut packer = Packer::new();
-    put(&rt, &mut packer, &line(&rt, b"HI"));
-    put(&rt, &mut packer, &line(&rt, b"A"));
-    // 0, 0, 1, 0, 0, 5, 2, `H`, `I`, 1, `A`, and zeros
-    let page = packer.finish();
-    for (byte, value, found, at) in [
-        (1, 7, 7, 0),
-        (0, 1, 256, 0),
-        (2, 0, 0, 2),
-        (3, 1, 0, 3),
-        (4, 2, 0, 4),
-        (6, 133, 0, 6),
-        (6, 3, 0, 6),
-        (8, 10, 0, 6),
-        (9, 2, 0, 9),
-        (10, 127, 0, 9),
-        (5, 4, 0, 9),
-        (5, 3, 0, 9),
-        (11, 1, 0, 11),
-        (511, 32, 0, 511),
-    ] {
-        let mut wrong = page;
-        assert!(rt; byte < PAGE_LENGTH);
-        wrong.0[byte] = value;
+    let page = short_page(&rt);
+    for (byte, value, found, at) in WRONG {
         let refusal = BadPage {
             expected: 0,
             found,
             at,
         };
-        assert_eq!(rt;
-            Unpacker::new().take(&wrong, true).err(),
-            Some(refusal),
+        assert!(rt;
+            refused_with(&rt, &page, byte, value) == Some(refusal),
             "at {byte}"
         );
     }
 }
 
 #[test]
-fn a_refusal_changes_nothing(rt: HostRuntime) -> Result<(), Fail> {
+fn a_refusal_changes_nothing(rt: HostRuntime) {
     let page = Packer::new().finish();
     let mut unpacker = Unpacker::new();
-    let Err(refusal) = unpacker.take(&page, false) else {
-        panic!(rt; "the mark is another");
-    };
-    assert_eq!(rt; refusal.at, 2);
-    let items = unpacker.take(&page, true)?;
-    assert!(rt; items.last());
-    Ok(())
+    let refusal = unpacker.take(&page, false).err();
+    // the mark is another
+    assert!(rt; refusal.expect(&rt, "a refusal").at == 2);
+    let items = unpacker.take(&page, true);
+    assert!(rt; items.ok().expect(&rt, "a page").last());
 }
 
 #[test]
@@ -175,23 +186,33 @@ fn a_page_before_the_last_is_full(rt: HostRuntime) {
     );
 }
 
+/// Packs two lines and one for which there is no room, and takes the page that is full, of this number.
+fn pass_page(
+    rt: &impl Abort,
+    packer: &mut Packer,
+    unpacker: &mut Unpacker,
+    long: &Item,
+    number: u32,
+)
+    requires { unpacker.old.ended ≡ false }
+    ensures { unpacker.new.ended ≡ false }
+{
+    put(rt, packer, long);
+    put(rt, packer, long);
+    let page = packer.push(long).expect(rt, "the page is full");
+    assert!(rt; u32::from(page.0[0]) * 256 + u32::from(page.0[1]) == number);
+    assert!(rt; unpacker.take(&page, false).is_ok());
+}
+
 #[test]
-fn the_places_begin_again_after_65536_pages(rt: HostRuntime) -> Result<(), Fail> {
+fn the_places_begin_again_after_65536_pages(rt: HostRuntime) {
     let mut packer = Packer::new();
     let mut unpacker = Unpacker::new();
     let long = letters(&rt, 132);
     // three lines fill a page, and the fourth begins the next
     put(&rt, &mut packer, &long);
     for place in 0..65_538u32 {
-        put(&rt, &mut packer, &long);
-        put(&rt, &mut packer, &long);
-        let page = packer.push(&long).expect(&rt, "the page is full");
-        assert_eq!(rt;
-            u32::from(page.0[0]) * 256 + u32::from(page.0[1]),
-            place % 65_536
-        );
-        let _ = unpacker.take(&page, false)?;
+        pass_page(&rt, &mut packer, &mut unpacker, &long, place % 65_536);
     }
-    let _ = unpacker.take(&packer.finish(), true)?;
-    Ok(())
+    assert!(rt; unpacker.take(&packer.finish(), true).is_ok());
 }
