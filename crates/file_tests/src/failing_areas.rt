@@ -5,7 +5,6 @@ use disk_layout::FileKind;
 use solo_devices::MemArea;
 use std::alloc::Global;
 use std::process::Abort;
-use std::test::Fail;
 
 // How many pages a format writes.
 const FORMATTED: u64 = 18;
@@ -46,9 +45,9 @@ fn script_ends(rt: &impl Abort, alloc: Global, files: FileArea<MemArea>) -> bool
     let mut files = files;
     let answer = script(rt, &mut files);
     let ended = answer.is_none();
-    assert_eq!(rt; files.sound(), ended);
+    assert!(rt; files.sound() == ended);
     if !ended {
-        assert_eq!(rt; answer, Some(FileFault::DiskFault));
+        assert!(rt; answer == Some(FileFault::DiskFault));
         mounts_or_names(rt, alloc, files.into_inner());
     }
     ended
@@ -62,7 +61,7 @@ fn ends(rt: &impl Abort, alloc: Global, read: u64, write: u64) -> bool {
     match mount(rt, alloc, area) {
         Ok(files) => script_ends(rt, alloc, files),
         Err((area, fault)) => {
-            assert_eq!(rt; fault, FileFault::DiskFault);
+            assert!(rt; fault == FileFault::DiskFault);
             mounts_or_names(rt, alloc, area);
             false
         }

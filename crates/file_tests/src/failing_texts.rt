@@ -6,7 +6,6 @@ use disk_system::{SystemFault, format};
 use solo_devices::{Area, MemArea};
 use std::alloc::Global;
 use std::process::Abort;
-use std::test::Fail;
 
 // Formats an area, and makes every call once.
 fn script(rt: &impl Abort, alloc: Global, mut area: MemArea) -> Result<(), SystemFault> {
@@ -17,7 +16,7 @@ fn script(rt: &impl Abort, alloc: Global, mut area: MemArea) -> Result<(), Syste
     match mount(rt, alloc, area) {
         Ok(mut files) => {
             let answer = calls(rt, alloc, &mut files);
-            assert_eq!(rt; files.sound(), answer.is_ok());
+            assert!(rt; files.sound() == answer.is_ok());
             answer
         }
         Err((_, fault)) => Err(SystemFault::File(fault)),
@@ -29,7 +28,7 @@ fn calls(rt: &impl Abort, alloc: Global, files: &mut FileArea<MemArea>) -> Resul
     let text = read(rt, alloc, files, b"text")?;
     assert!(rt; text.as_slice() == [b'A'; 600].as_slice());
     let lines = listed(rt, alloc, files)?;
-    assert_eq!(rt; lines.len(), 1);
+    assert!(rt; lines.len() == 1);
     Ok(())
 }
 
@@ -39,7 +38,7 @@ fn ends(rt: &impl Abort, alloc: Global, read: u64, write: u64) -> bool {
     match script(rt, alloc, area) {
         Ok(()) => true,
         Err(fault) => {
-            assert_eq!(rt; fault, SystemFault::File(FileFault::DiskFault));
+            assert!(rt; fault == SystemFault::File(FileFault::DiskFault));
             false
         }
     }
