@@ -5,7 +5,6 @@ use pascal_read::{ParseFault, parse, scan};
 use solo_base::LineList;
 use std::alloc::Global;
 use std::process::Abort;
-use std::test::Fail;
 
 /// A text that stands so many times behind itself.
 pub type Times = (&'static str, usize);
@@ -15,55 +14,48 @@ pub type Times = (&'static str, usize);
 pub type Levels = (&'static str, &'static str, usize, Option<u32>);
 
 /// The line of the first error of a program, or nothing where the program is read.
-pub fn error_line(alloc: Global, program: &LineList) -> Result<Option<u32>, Fail> {
-    let Ok(tokens) = scan(alloc, program) else {
-        return Err("no words".into());
-    };
+pub fn error_line(rt: &impl Abort, alloc: Global, program: &LineList) -> Option<u32> {
+    let tokens = scan(alloc, program).ok().expect(rt, "words");
     match parse(alloc, tokens) {
-        Ok(_) => Ok(None),
-        Err(ParseFault::Syntax { line }) => Ok(Some(line)),
-        Err(ParseFault::NoMemory) => Err("no memory".into()),
+        Ok(_) => None,
+        Err(ParseFault::Syntax { line }) => Some(line),
+        Err(ParseFault::NoMemory) => panic!(rt; "no memory"),
     }
 }
 
-/// Adds each word of a text on a card of its own.
-fn add_words(program: &mut LineList, text: &str) -> Result<(), Fail> {
-    for word in text.split_whitespace() {
-        add_card(program, word)?;
+/// Adds each word of a text, so many times, on a card of its own.
+fn add_words(program: &mut LineList, text: &str, times: usize) -> Option<()> {
+    for _ in 0..times {
+        for word in text.split_whitespace() {
+            add_card(program, word)?;
+        }
     }
-    Ok(())
+    Some(())
 }
 
 /// The number from 1 of the word at which a program has its first error, or nothing where it is
 /// read.
-pub fn error_word(alloc: Global, texts: &[Times]) -> Result<Option<u32>, Fail> {
+pub fn error_word(rt: &impl Abort, alloc: Global, texts: &[Times]) -> Option<u32> {
     let mut program = LineList::new(alloc);
     for (text, times) in texts {
-        for _ in 0..*times {
-            add_words(&mut program, text)?;
-        }
+        add_words(&mut program, text, *times).expect(rt, "cards");
     }
-    error_line(alloc, &program)
+    error_line(rt, alloc, &program)
 }
 
 /// Each of these programs is read.
-pub fn each_is_read(rt: &impl Abort, alloc: Global, programs: &[&'static str]) -> Result<(), Fail> {
+pub fn each_is_read(rt: &impl Abort, alloc: Global, programs: &[&'static str]) {
     for text in programs {
-        assert_eq!(rt; error_word(alloc, &[(*text, 1)])?, None, "{text}");
+        assert!(rt; error_word(rt, alloc, &[(*text, 1)]) == None, "{text}");
     }
-    Ok(())
 }
 
 /// Each row of a table: the program, and the word at which its first error stands.
-pub fn each_has_its_error(
-    rt: &impl Abort,
-    alloc: Global,
-    table: &[(&'static str, u32)],
-) -> Result<(), Fail> {
+pub fn each_has_its_error(rt: &impl Abort, alloc: Global, table: &[(&'static str, u32)]) {
     for (text, word) in table {
-        assert_eq!(rt; error_word(alloc, &[(*text, 1)])?, Some(*word), "{text}");
+        let found = error_word(rt, alloc, &[(*text, 1)]);
+        assert!(rt; found == Some(*word), "{found:?}: {text}");
     }
-    Ok(())
 }
 
 /// Each row of a table, with what stands before it and inside it.
@@ -72,7 +64,7 @@ pub fn each_has_its_levels(
     alloc: Global,
     (before, inside): (&'static str, &'static str),
     table: &[Levels],
-) -> Result<(), Fail> {
+) {
     for (opening, closing, times, word) in table {
         let texts = [
             (before, 1),
@@ -81,7 +73,7 @@ pub fn each_has_its_levels(
             (*closing, *times),
             ("END .", 1),
         ];
-        assert_eq!(rt; error_word(alloc, &texts)?, *word, "{opening} {times}");
+        let found = error_word(rt, alloc, &texts);
+        assert!(rt; found == *word, "{found:?}: {opening} {times}");
     }
-    Ok(())
 }

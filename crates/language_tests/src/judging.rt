@@ -1,50 +1,49 @@
 // A program is judged.
 
-use crate::cards::add_parted;
-use crate::reading::tree_of;
+use crate::cards::parted;
 use pascal_check::{CheckFault, check};
+use pascal_read::{parse, scan};
 use solo_base::LineList;
 use std::alloc::Global;
 use std::process::Abort;
-use std::test::Fail;
 
 /// The first broken rule of a program with its line, and 0 and 0 where none is.
-pub fn judged(alloc: Global, program: &LineList) -> Result<(u8, u32), Fail> {
-    match check(tree_of(alloc, program)?) {
-        Ok(_) => Ok((0, 0)),
-        Err(CheckFault::Semantic { line, rule }) => Ok((rule, line)),
-        Err(CheckFault::NoMemory) => Err("no memory".into()),
+pub fn judged(alloc: Global, program: &LineList) -> Option<(u8, u32)> {
+    let tokens = scan(alloc, program).ok()?;
+    match parse(alloc, tokens) {
+        Ok(tree) => match check(tree) {
+            Ok(_) => Some((0, 0)),
+            Err(CheckFault::Semantic { line, rule }) => Some((rule, line)),
+            Err(CheckFault::NoMemory) => None,
+        },
+        Err(_) => None,
     }
 }
 
-/// The same of a text, in which the cards are parted by `/`.
-fn judged_text(alloc: Global, text: &str) -> Result<(u8, u32), Fail> {
-    let mut program = LineList::new(alloc);
-    add_parted(&mut program, text)?;
-    judged(alloc, &program)
-}
+/// A row of a table: the rule, the line, and the program, whose cards are parted by `/`.
+pub type Row = (u8, u32, &'static str);
 
-/// Each row of a table: the rule, the line, and the program, whose cards are parted by `/`.
-pub fn judge_all(rt: &impl Abort, alloc: Global, table: &[(u8, u32, &str)]) -> Result<(), Fail> {
+/// Each row of a table.
+pub fn judge_all(rt: &impl Abort, alloc: Global, table: &[Row]) {
     for (rule, line, text) in table {
-        assert_eq!(rt; judged_text(alloc, text)?, (*rule, *line), "{text}");
+        let program = parted(rt, alloc, text);
+        let found = judged(alloc, &program);
+        assert!(rt; found == Some((*rule, *line)), "{found:?}: {text}");
     }
-    Ok(())
 }
 
 /// Each row of a table, with each of these names in the place of `?`.
-pub fn judge_each(
-    rt: &impl Abort,
-    alloc: Global,
-    names: &[&str],
-    table: &[(u8, u32, &str)],
-) -> Result<(), Fail> {
+pub fn judge_each(rt: &impl Abort, alloc: Global, names: &[&str], table: &[Row]) {
     for name in names {
-        for (rule, line, text) in table {
-            let program = text.replace(alloc, '?', name)?;
-            let found = judged_text(alloc, program.as_str())?;
-            assert_eq!(rt; found, (*rule, *line), "{name}: {text}");
+        for row in table {
+            judge_named(rt, alloc, name, row);
         }
     }
-    Ok(())
+}
+
+fn judge_named(rt: &impl Abort, alloc: Global, name: &str, (rule, line, text): &Row) {
+    let text = text.replace(alloc, '?', name).ok().expect(rt, "memory");
+    let program = parted(rt, alloc, text.as_str());
+    let found = judged(alloc, &program);
+    assert!(rt; found == Some((*rule, *line)), "{found:?}: {text}");
 }

@@ -4,49 +4,49 @@ use pascal_read::{parse, scan};
 use pascal_tree::{Token, Tree, Word};
 use solo_base::LineList;
 use std::alloc::Global;
-use std::test::Fail;
+use std::process::Abort;
 
 /// The tree of a program.
-pub fn tree_of(alloc: Global, program: &LineList) -> Result<Tree, Fail> {
-    let Ok(tokens) = scan(alloc, program) else {
-        return Err("no words".into());
-    };
-    let Ok(tree) = parse(alloc, tokens) else {
-        return Err("no tree".into());
-    };
-    Ok(tree)
+pub fn tree_of(rt: &impl Abort, alloc: Global, program: &LineList) -> Tree {
+    let tokens = scan(alloc, program).ok().expect(rt, "words");
+    parse(alloc, tokens).ok().expect(rt, "a tree")
 }
 
 /// A word as a text: a name by its letters, a number by its digits, a character by its code behind
 /// a quote, and any other word by the variant that it is.
-fn add_word(text: &mut String, word: &Word) -> Result<(), Fail> {
+fn add_word(text: &mut String, word: &Word) -> Option<()> {
     match word {
         Word::Name(name) => add_letters(text, name.bytes()),
-        Word::Reserved(found) => Ok(write!(text, "{found:?}")?),
-        Word::Number(number) => Ok(write!(text, "{number}")?),
-        Word::Character(code) => Ok(write!(text, "'{code}")?),
-        Word::Symbol(found) => Ok(write!(text, "{found:?}")?),
-        Word::End => Ok(text.push('.')?),
+        Word::Reserved(found) => write!(text, "{found:?}").ok(),
+        Word::Number(number) => write!(text, "{number}").ok(),
+        Word::Character(code) => write!(text, "'{code}").ok(),
+        Word::Symbol(found) => write!(text, "{found:?}").ok(),
+        Word::End => text.push('.').ok(),
     }
 }
 
-fn add_letters(text: &mut String, letters: &[u8]) -> Result<(), Fail> {
+fn add_letters(text: &mut String, letters: &[u8]) -> Option<()> {
     for letter in letters {
-        text.push(char::from(*letter))?;
+        text.push(char::from(*letter)).ok()?;
     }
-    Ok(())
+    Some(())
 }
 
 /// Words, each behind its line: `1 X, 2 .` is the name X on line 1, and the end.
-pub fn text_of(alloc: Global, tokens: &[Token]) -> Result<String, Fail> {
+pub fn text_of(rt: &impl Abort, alloc: Global, tokens: &[Token]) -> String {
     let mut text = String::new(alloc);
+    add_words(&mut text, tokens).expect(rt, "memory");
+    text
+}
+
+fn add_words(text: &mut String, tokens: &[Token]) -> Option<()> {
     for token in tokens {
         if !text.is_empty() {
-            text.push_str(", ")?;
+            text.push_str(", ").ok()?;
         }
         let line = token.line;
-        write!(text, "{line} ")?;
-        add_word(&mut text, &token.word)?;
+        write!(text, "{line} ").ok()?;
+        add_word(text, &token.word)?;
     }
-    Ok(text)
+    Some(())
 }

@@ -6,7 +6,7 @@ use pascal_tree::statement::{Assign, Body, Statement, Statements};
 use pascal_tree::{LeadingSign, Letters, Tree, spell};
 use solo_base::NoMemory;
 use std::alloc::Global;
-use std::test::Fail;
+use std::process::Abort;
 
 // `BEGIN X := 1 END.` on one card, where the assignment stands on the second.
 fn assignment(alloc: Global) -> Result<Tree, NoMemory> {
@@ -51,31 +51,33 @@ fn assignment(alloc: Global) -> Result<Tree, NoMemory> {
 }
 
 #[test]
-fn an_assignment_is_spelled_with_its_lines(rt: HostRuntime) -> Result<(), Fail> {
-    let tokens = spell(&assignment(rt.alloc())?)?;
-    let text = text_of(rt.alloc(), &tokens)?;
-    assert_eq!(rt;
-        text.as_str(),
-        "1 Begin, 2 X, 2 Becomes, 2 1, 3 End, 3 Period, 4 ."
-    );
-    Ok(())
+fn an_assignment_is_spelled_with_its_lines(rt: HostRuntime) {
+    let tree = assignment(rt.alloc()).ok().expect(&rt, "memory");
+    let tokens = spell(&tree).ok().expect(&rt, "memory");
+    let text = text_of(&rt, rt.alloc(), &tokens);
+    let wanted = "1 Begin, 2 X, 2 Becomes, 2 1, 3 End, 3 Period, 4 .";
+    assert!(rt; text.as_str() == wanted, "{text}");
+}
+
+/// Letters come back from a copy too.
+fn come_back(rt: &impl Abort, alloc: Global, bytes: &[u8]) {
+    let letters = Letters::of(alloc, bytes).ok().expect(rt, "memory");
+    assert!(rt; letters.bytes() == bytes);
+    let copy = letters.copy().ok().expect(rt, "memory");
+    assert!(rt; copy.bytes() == bytes);
 }
 
 #[test]
-fn letters_come_back_as_few_and_as_many(rt: HostRuntime) -> Result<(), Fail> {
+fn letters_come_back_as_few_and_as_many(rt: HostRuntime) {
     let alphabet = b"ABCDEFGHIJKLMNOPQRSTUVWXYZ";
     for count in [1, 13, 14, 15, 26] {
-        let bytes = alphabet.get(..count).ok_or("no letters")?;
-        let letters = Letters::of(rt.alloc(), bytes)?;
-        assert_eq!(rt; letters.bytes(), bytes);
-        assert_eq!(rt; letters.copy()?.bytes(), bytes);
+        come_back(&rt, rt.alloc(), &alphabet[..count]);
     }
-    Ok(())
 }
 
 #[test]
 fn a_leading_sign_keeps_its_line(rt: HostRuntime) {
     for sign in [None, Some((Sign::Plus, 1)), Some((Sign::Minus, u32::MAX))] {
-        assert_eq!(rt; LeadingSign::of(sign).get(), sign);
+        assert!(rt; LeadingSign::of(sign).get() == sign);
     }
 }

@@ -6,31 +6,31 @@ use pascal_tree::{Tree, spell};
 use solo_base::LineList;
 use std::alloc::Global;
 use std::process::Abort;
-use std::test::Fail;
 use std::thread::Builder;
 
 /// The words of a program.
-fn words_of(alloc: Global, program: &LineList) -> Result<String, Fail> {
-    let Ok(tokens) = scan(alloc, program) else {
-        return Err("no words".into());
-    };
-    text_of(alloc, &tokens)
-}
-
-/// The words that the tree of a program is spelled by.
-fn spelling_of(alloc: Global, program: &LineList) -> Result<String, Fail> {
-    text_of(alloc, &spell(&tree_of(alloc, program)?)?)
+fn words_of(rt: &impl Abort, alloc: Global, program: &LineList) -> String {
+    let tokens = scan(alloc, program).ok().expect(rt, "words");
+    text_of(rt, alloc, &tokens)
 }
 
 /// A program's tree is spelled by the words of the program.
-fn is_spelled_back(rt: &impl Abort, alloc: Global, program: &LineList) -> Result<(), Fail> {
-    let words = words_of(alloc, program)?;
-    assert_eq!(rt; spelling_of(alloc, program)?.as_str(), words.as_str());
-    Ok(())
+fn is_spelled_back(rt: &impl Abort, alloc: Global, program: &LineList, tree: &Tree) {
+    let words = words_of(rt, alloc, program);
+    let tokens = spell(tree).ok().expect(rt, "memory");
+    let spelling = text_of(rt, alloc, &tokens);
+    assert!(rt; spelling.as_str() == words.as_str(), "{spelling}");
+}
+
+/// A program is spelled back.
+fn spells_its_words(rt: &impl Abort, alloc: Global, cards: &[&str]) {
+    let program = program_of(rt, alloc, cards);
+    let tree = tree_of(rt, alloc, &program);
+    is_spelled_back(rt, alloc, &program, &tree);
 }
 
 #[test]
-fn a_tree_is_spelled_by_the_words_that_it_was_read_from(rt: HostRuntime) -> Result<(), Fail> {
+fn a_tree_is_spelled_by_the_words_that_it_was_read_from(rt: HostRuntime) {
     let alloc = rt.alloc();
     let table: [&[&str]; 9] = [
         &["BEGIN END."],
@@ -76,31 +76,33 @@ fn a_tree_is_spelled_by_the_words_that_it_was_read_from(rt: HostRuntime) -> Resu
         ],
     ];
     for cards in table {
-        is_spelled_back(&rt, alloc, &program_of(alloc, cards)?)?;
+        spells_its_words(&rt, alloc, cards);
     }
-    Ok(())
 }
 
-/// The letters of the name that the first statement of a program calls are these.
-fn calls(rt: &impl Abort, tree: &Tree, letters: &[u8]) -> Result<(), Fail> {
-    let Statement::Call(call) = &tree.program.body.statements.first else {
-        return Err("no call".into());
-    };
-    assert_eq!(rt; call.name.letters.bytes(), letters);
-    Ok(())
+/// Whether the first statement of a program calls this name.
+fn calls(tree: &Tree, letters: &[u8]) -> bool {
+    match &tree.program.body.statements.first {
+        Statement::Call(call) => call.name.letters.bytes() == letters,
+        _ => false,
+    }
+}
+
+/// A call of this name is read, and spelled back.
+fn name_is_read(rt: &impl Abort, alloc: Global, name: &str) {
+    let program = program_of(rt, alloc, &["BEGIN", name, "END."]);
+    let tree = tree_of(rt, alloc, &program);
+    assert!(rt; calls(&tree, name.as_bytes()));
+    is_spelled_back(rt, alloc, &program, &tree);
 }
 
 #[test]
-fn names_are_as_long_as_a_card_or_a_line(rt: HostRuntime) -> Result<(), Fail> {
-    let alloc = rt.alloc();
-    let letters = "A".repeat(alloc, 132)?;
+fn names_are_as_long_as_a_card_or_a_line(rt: HostRuntime) {
+    let letters = "A".repeat(rt.alloc(), 132).ok().expect(&rt, "memory");
     for length in [1, 14, 15, 80, 132] {
-        let name = letters.get(..length).ok_or("no letters")?;
-        let program = program_of(alloc, &["BEGIN", name, "END."])?;
-        calls(&rt, &tree_of(alloc, &program)?, name.as_bytes())?;
-        is_spelled_back(&rt, alloc, &program)?;
+        let name = letters.get(..length).expect(&rt, "letters");
+        name_is_read(&rt, rt.alloc(), name);
     }
-    Ok(())
 }
 
 /// The line of the ELSE that belongs to the inner one of two IFs, where the outer one has none.
@@ -118,40 +120,52 @@ fn inner_else(tree: &Tree) -> Option<u32> {
 }
 
 #[test]
-fn else_belongs_to_the_nearest_if(rt: HostRuntime) -> Result<(), Fail> {
+fn else_belongs_to_the_nearest_if(rt: HostRuntime) {
     let cards = ["BEGIN IF A THEN", "IF B THEN C", "ELSE D END."];
-    let tree = tree_of(rt.alloc(), &program_of(rt.alloc(), &cards)?)?;
-    assert_eq!(rt; inner_else(&tree), Some(3));
-    Ok(())
+    let program = program_of(&rt, rt.alloc(), &cards);
+    let tree = tree_of(&rt, rt.alloc(), &program);
+    assert!(rt; inner_else(&tree) == Some(3));
 }
+
+/// What stands before and behind what is inside.
+type Around = (&'static str, &'static str);
 
 /// Sixty-two statements, each in the one before, and in the last of them an IF whose test has
 /// sixty-three factors, each in the one before. A statement and a factor are given by what stands
 /// in each before the next one and behind it.
-fn deepest_program(
-    alloc: Global,
-    statement: (&str, &str),
-    factor: (&str, &str),
-) -> Option<LineList> {
+fn deepest_program(alloc: Global, statement: Around, factor: Around) -> Option<LineList> {
     let mut program = LineList::new(alloc);
-    add_times(&mut program, "BEGIN", 1)?;
-    add_times(&mut program, statement.0, 62)?;
-    add_times(&mut program, "IF", 1)?;
-    add_times(&mut program, factor.0, 63)?;
-    add_times(&mut program, "1", 1)?;
-    add_times(&mut program, factor.1, 63)?;
-    add_times(&mut program, "THEN B ELSE", 1)?;
-    add_times(&mut program, statement.1, 62)?;
-    add_times(&mut program, "END.", 1)?;
+    let cards: [(&'static str, usize); 9] = [
+        ("BEGIN", 1),
+        (statement.0, 62),
+        ("IF", 1),
+        (factor.0, 63),
+        ("1", 1),
+        (factor.1, 63),
+        ("THEN B ELSE", 1),
+        (statement.1, 62),
+        ("END.", 1),
+    ];
+    for (card, times) in cards {
+        add_times(&mut program, card, times)?;
+    }
     Some(program)
 }
 
 /// Whether such a program is spelled by as many words as it has.
-fn spells_back(alloc: Global, statement: (&str, &str), factor: (&str, &str)) -> Option<bool> {
-    let tokens = scan(alloc, &deepest_program(alloc, statement, factor)?).ok()?;
+fn spells_back(alloc: Global, statement: Around, factor: Around) -> Option<bool> {
+    let program = deepest_program(alloc, statement, factor)?;
+    let tokens = scan(alloc, &program).ok()?;
     let count = tokens.len();
-    let tree = parse(alloc, tokens).ok()?;
-    let spelling = spell(&tree).ok()?;
+    match parse(alloc, tokens) {
+        Ok(tree) => has_words(&tree, count),
+        Err(_) => None,
+    }
+}
+
+/// Whether a tree is spelled by so many words.
+fn has_words(tree: &Tree, count: usize) -> Option<bool> {
+    let spelling = spell(tree).ok()?;
     Some(spelling.len() == count)
 }
 
@@ -180,30 +194,31 @@ fn all_spell_back(alloc: Global) -> Option<bool> {
 }
 
 #[test]
-fn the_deepest_programs_are_read_and_spelled_in_two_megabytes_of_stack(
-    rt: HostRuntime,
-) -> Result<(), Fail> {
+fn the_deepest_programs_are_read_and_spelled_in_two_megabytes_of_stack(rt: HostRuntime) {
     let alloc = rt.alloc();
-    let read = Builder::new()
+    let reader = Builder::new()
         .stack_size(2 << 20)
-        .spawn(&rt, move || all_spell_back(alloc))?
-        .join(&rt);
-    assert_eq!(rt; read, Some(true));
-    Ok(())
+        .spawn(&rt, move || all_spell_back(alloc));
+    let read = reader.ok().expect(&rt, "a thread").join(&rt);
+    assert!(rt; read == Some(true));
 }
 
-#[test]
-fn cards_of_semicolons_are_read(rt: HostRuntime) -> Result<(), Fail> {
-    let alloc = rt.alloc();
+/// Four thousand cards of semicolons.
+fn semicolons(alloc: Global) -> Option<LineList> {
     let mut program = LineList::new(alloc);
     add_card(&mut program, "BEGIN")?;
     let semicolons =
         ";;;;;;;;;;;;;;;;;;;;;;;;;;;;;;;;;;;;;;;;;;;;;;;;;;;;;;;;;;;;;;;;;;;;;;;;;;;;;;;;";
-    add_times(&mut program, semicolons, 4_000).ok_or("no card")?;
+    add_times(&mut program, semicolons, 4_000)?;
     add_card(&mut program, "END.")?;
-    let tree = tree_of(alloc, &program)?;
-    assert_eq!(rt; tree.program.body.statements.rest.len(), 320_000);
-    Ok(())
+    Some(program)
+}
+
+#[test]
+fn cards_of_semicolons_are_read(rt: HostRuntime) {
+    let program = semicolons(rt.alloc()).expect(&rt, "cards");
+    let tree = tree_of(&rt, rt.alloc(), &program);
+    assert!(rt; tree.program.body.statements.rest.len() == 320_000);
 }
 
 #[test]
