@@ -46,6 +46,51 @@ fn names_declared_twice(rt: HostRuntime) {
     judge_all(&rt, rt.alloc(), &NAMES_DECLARED_TWICE);
 }
 
+const NAMES_OF_A_GROUP: [Row; 17] = [
+    (4, 2, "PROCEDURE P(A: CHAR;/A: FOO);/BEGIN END;/BEGIN END."),
+    (
+        4,
+        2,
+        "FUNCTION F(A: INTEGER;/A: REAL): INTEGER;/BEGIN END;/BEGIN END.",
+    ),
+    (4, 3, "PROCEDURE P(A,/A:/FOO);/BEGIN END;/BEGIN END."),
+    (
+        4,
+        3,
+        "PROCEDURE P(VAR A,B,C,D,E,F,G,H,/A:/REAL);/BEGIN END;/BEGIN END.",
+    ),
+    (4, 3, "VAR X,/X:/REAL;/BEGIN END."),
+    (5, 3, "VAR X,/X:/ARRAY (.2..1.) OF CHAR;/BEGIN END."),
+    (5, 2, "VAR X: CHAR;/X: ARRAY (.2..1.) OF CHAR;/BEGIN END."),
+    (6, 1, "VAR X,/X: ARRAY (.1..4097.) OF CHAR;/BEGIN END."),
+    (6, 2, "VAR X,/Y,/X: ARRAY (.1..3000.) OF CHAR;/BEGIN END."),
+    (1, 2, "VAR X,/X,/Y: ARRAY (.1..3000.) OF CHAR;/BEGIN END."),
+    (1, 2, "VAR X,/X: ARRAY (.1..3000.) OF CHAR;/BEGIN END."),
+    (
+        7,
+        2,
+        "PROCEDURE P(A,B,C,D,E,F,G,H,I,J,K,L,M,N,O,Q,/R,/A: CHAR);/BEGIN END;/BEGIN END.",
+    ),
+    (
+        1,
+        2,
+        "PROCEDURE P(A,B,C,D,E,F,G,H,I,J,K,L,M,N,O,Q,/A: CHAR);/BEGIN END;/BEGIN END.",
+    ),
+    (
+        1,
+        2,
+        "PROCEDURE P(A,B,C,D,E,F,G,H,I,J,K,L,M,N,O,/A,/Q,/R: CHAR);/BEGIN END;/BEGIN END.",
+    ),
+    (1, 2, "VAR INTEGER,/INTEGER: INTEGER;/BEGIN END."),
+    (0, 0, "VAR CHAR, X: CHAR;/BEGIN CHAR := X END."),
+    (0, 0, "PROCEDURE P(CHAR, X: CHAR);/BEGIN END;/BEGIN END."),
+];
+
+#[test]
+fn names_of_a_group(rt: HostRuntime) {
+    judge_all(&rt, rt.alloc(), &NAMES_OF_A_GROUP);
+}
+
 const NAMES_THAT_ARE_NOT_DECLARED: [Row; 20] = [
     (2, 1, "BEGIN X := 1 END."),
     (2, 3, "VAR X: INTEGER;/BEGIN/X := Y END."),
