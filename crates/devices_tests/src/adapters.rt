@@ -1,68 +1,46 @@
 use crate::asking::{Ask, ask_all};
 use solo_devices::{Area, Gave, Sink, Source, Took};
-use solo_edge::{DriveArea, ReaderSource, WriterSink, make_drive, open_drive};
-use std::fs::{self, File, Files, OpenOptions};
+use solo_edge::{DriveArea, ReaderSource, WriterSink, open_drive, paper_over, take_drive};
+use std::fs::{self, File, OpenOptions};
 use std::process::Abort;
+use std::test::Fail;
 
-/// Makes a file of these bytes.
-fn write<R: Abort + Files>(rt: &R, path: &str, bytes: &[u8]) {
-    assert!(rt; fs::write(rt, path, bytes).is_ok());
-}
-
-/// The file at this path, opened to read and write.
-fn opened<R: Abort + Files>(rt: &R, path: &str) -> R::File {
-    let file = OpenOptions::new().read(true).write(true).open(rt, path);
-    file.ok().expect(rt, "a file")
-}
-
-/// The file at this path goes.
-fn remove<R: Abort + Files>(rt: &R, path: &str) {
-    assert!(rt; fs::remove_file(rt, path).is_ok());
+fn opened(rt: &HostRuntime, path: &str) -> Result<File, Fail> {
+    Ok(OpenOptions::new().read(true).write(true).open(rt, path)?)
 }
 
 /// A new file with these bytes in it, opened to read and write, whose name is gone already.
-fn drive<R: Abort + Files>(rt: &R, path: &str, bytes: &[u8]) -> Option<R::File> {
-    write(rt, path, bytes);
-    let file = opened(rt, path);
-    remove(rt, path);
-    Some(file)
+fn drive(rt: &HostRuntime, path: &str, bytes: &[u8]) -> Result<File, Fail> {
+    fs::write(rt, path, bytes)?;
+    let file = opened(rt, path)?;
+    fs::remove_file(rt, path)?;
+    Ok(file)
 }
 
-/// A directory, opened to read.
-fn directory<R: Abort + Files>(rt: &R) -> R::File {
-    File::open(rt, ".").ok().expect(rt, "a directory")
+/// Asks all this of so many pages of a drive.
+fn ask_drive(rt: &impl Abort, drive: Option<File>, size: u16, asks: &[Ask]) {
+    let mut area = DriveArea::new(drive, 0, size);
+    ask_all(rt, &mut area, asks);
 }
 
-/// The bytes of the file at this path.
-fn bytes_of<R: Abort + Files + AllocGlobal>(rt: &R, path: &str) -> Vec<u8> {
-    fs::read(rt, path).ok().expect(rt, "a file")
-}
-
-/// Asks all this of an area of a drive, and then so many calls have failed.
-fn ask_drive(rt: &impl Abort, area: &mut DriveArea<File>, asks: &[Ask], faults: u64) {
-    ask_all(rt, area, asks);
-    assert!(rt; area.faults() == faults);
-}
-
-/// Asks all this of so many pages of a drive, from page `first` on: so many calls fail.
-fn ask_pages(
-    rt: &impl Abort,
-    drive: Option<File>,
-    first: u16,
-    size: u16,
-    asks: &[Ask],
-    faults: u64,
-) {
-    let mut area = DriveArea::new(drive, first, size);
-    assert!(rt; area.size() == size);
-    ask_drive(rt, &mut area, asks, faults);
+/// Asks all this of four pages of a drive, after which so many calls have failed.
+fn ask_counted(rt: &impl Abort, drive: File, asks: &[Ask], faults: u64) {
+    let mut area = DriveArea::new(Some(drive), 0, 4);
+    ask_all(rt, &mut area, asks);
+    assert_eq!(rt; area.faults(), faults);
 }
 
 #[test]
-fn a_page_of_a_drive_is_read_as_it_was_written(rt: HostRuntime) {
-    let drive = drive(&rt, "solo_edge_pages", &[9; 4 * 512]);
-    let asks = [Ask::Writes(2, 7), Ask::Reads(1, 9), Ask::Reads(2, 7)];
-    ask_pages(&rt, drive, 1, 3, &asks, 0);
+fn a_page_of_a_drive_is_read_as_it_was_written(rt: HostRuntime) -> Result<(), Fail> {
+    let mut area = DriveArea::new(Some(drive(&rt, "solo_edge_pages", &[9; 4 * 512])?), 1, 3);
+    assert_eq!(rt; area.size(), 3);
+    ask_all(
+        &rt,
+        &mut area,
+        &[Ask::Writes(2, 7), Ask::Reads(1, 9), Ask::Reads(2, 7)],
+    );
+    assert_eq!(rt; area.faults(), 0);
+    Ok(())
 }
 
 /// Writes to both areas of two pages of one drive, and reads from the second.
@@ -75,119 +53,185 @@ fn ask_both(rt: &impl Abort, first: File, second: File) {
 }
 
 #[test]
-fn areas_of_one_drive_lie_behind_each_other(rt: HostRuntime) {
+fn areas_of_one_drive_lie_behind_each_other(rt: HostRuntime) -> Result<(), Fail> {
     let path = "solo_edge_behind";
-    write(&rt, path, &[0; 4 * 512]);
-    ask_both(&rt, opened(&rt, path), opened(&rt, path));
-    let bytes = bytes_of(&rt, path);
+    fs::write(&rt, path, [0; 4 * 512].as_slice())?;
+    ask_both(&rt, opened(&rt, path)?, opened(&rt, path)?);
+    let bytes = fs::read(&rt, path)?;
     for (at, byte) in [(511, 0), (512, 4), (1023, 4), (1024, 5)] {
-        assert!(rt; bytes.get(at).copied() == Some(byte), "at {at}");
+        assert_eq!(rt; bytes.get(at).copied(), Some(byte), "at {at}");
     }
-    remove(&rt, path);
+    fs::remove_file(&rt, path)?;
+    Ok(())
 }
 
 #[test]
-fn a_read_past_the_end_of_the_drive_fails_and_is_counted(rt: HostRuntime) {
-    let mut area = DriveArea::new(drive(&rt, "solo_edge_short", &[9; 512 + 511]), 0, 2);
-    ask_drive(&rt, &mut area, &[Ask::Reads(0, 9), Ask::ReadFails(1)], 1);
-    ask_drive(&rt, &mut area, &[Ask::Writes(1, 7), Ask::Reads(1, 7)], 1);
+fn a_page_that_the_drive_has_not_whole_is_neither_read_nor_written(
+    rt: HostRuntime,
+) -> Result<(), Fail> {
+    let path = "solo_edge_short";
+    fs::write(&rt, path, [9; 2 * 512 + 511].as_slice())?;
+    let asks = [Ask::Reads(1, 9), Ask::ReadFails(2), Ask::WriteFails(2)];
+    ask_counted(&rt, opened(&rt, path)?, &asks, 2);
+    ask_counted(
+        &rt,
+        opened(&rt, path)?,
+        &[Ask::WriteFails(3), Ask::Writes(1, 9)],
+        1,
+    );
+    assert_eq!(rt;
+        fs::read(&rt, path)?.as_slice(),
+        [9; 2 * 512 + 511].as_slice()
+    );
+    fs::remove_file(&rt, path)?;
+    Ok(())
 }
 
 #[test]
-fn a_drive_file_that_is_not_there_is_made_of_zeros(rt: HostRuntime) {
-    let path = "solo_edge_made";
+fn a_drive_that_is_not_there_is_made_of_zeros_under_its_other_name(
+    rt: HostRuntime,
+) -> Result<(), Fail> {
+    let (path, other) = ("solo_edge_made", "solo_edge_made_new");
+    // What an earlier maker left.
+    fs::write(&rt, other, [5; 4 * 512].as_slice())?;
+    let taken = take_drive(&rt, path, other, 3);
+    assert!(rt; taken.is_some_and(|drive| drive.is_new()));
     assert!(rt; open_drive(&rt, path).is_none());
-    assert!(rt; make_drive(&rt, path, 3));
-    let asks = [Ask::Reads(2, 0), Ask::ReadFails(3)];
-    ask_pages(&rt, open_drive(&rt, path), 0, 4, &asks, 1);
-    assert!(rt; bytes_of(&rt, path).as_slice() == [0; 3 * 512].as_slice());
-    ask_pages(&rt, open_drive(&rt, path), 0, 4, &[Ask::Writes(1, 7)], 0);
-    remove(&rt, path);
+    assert_eq!(rt; fs::read(&rt, other)?.as_slice(), [0; 3 * 512].as_slice());
+    fs::remove_file(&rt, other)?;
+    Ok(())
 }
 
 #[test]
-fn a_drive_file_that_is_there_is_left_as_it_is(rt: HostRuntime) {
-    let path = "solo_edge_kept";
-    write(&rt, path, &[5; 512]);
-    assert!(rt; !make_drive(&rt, path, 3));
-    ask_pages(&rt, open_drive(&rt, path), 0, 3, &[Ask::Reads(0, 5)], 0);
-    assert!(rt; bytes_of(&rt, path).len() == 512);
-    remove(&rt, path);
+fn who_has_a_drive_has_it_alone_while_it_is_made_and_behind(rt: HostRuntime) -> Result<(), Fail> {
+    let (path, other) = ("solo_edge_own", "solo_edge_own_new");
+    let first = take_drive(&rt, path, other, 3);
+    assert!(rt; first.is_some());
+    assert!(rt; take_drive(&rt, path, other, 3).is_none());
+    fs::rename(&rt, other, path)?;
+    assert!(rt; take_drive(&rt, path, other, 3).is_none());
+    drop(first);
+    let second = take_drive(&rt, path, other, 3);
+    assert!(rt; second.is_some_and(|drive| !drive.is_new()));
+    assert!(rt; open_drive(&rt, other).is_none());
+    fs::remove_file(&rt, path)?;
+    Ok(())
 }
 
 #[test]
-fn a_directory_and_a_path_through_a_file_are_no_drive(rt: HostRuntime) {
+fn a_drive_that_is_there_is_left_as_it_is_until_it_is_lengthened(
+    rt: HostRuntime,
+) -> Result<(), Fail> {
+    let (path, other) = ("solo_edge_kept", "solo_edge_kept_new");
+    fs::write(&rt, path, [5; 512].as_slice())?;
+    let drive = take_drive(&rt, path, other, 3).ok_or("no drive")?;
+    assert!(rt; !drive.is_new());
+    assert_eq!(rt; fs::read(&rt, path)?.len(), 512);
+    assert!(rt; drive.lengthen(3));
+    assert!(rt; drive.lengthen(2));
+    ask_drive(
+        &rt,
+        open_drive(&rt, path),
+        3,
+        &[Ask::Reads(0, 5), Ask::Reads(2, 0)],
+    );
+    assert_eq!(rt; fs::read(&rt, path)?.len(), 3 * 512);
+    fs::remove_file(&rt, path)?;
+    Ok(())
+}
+
+#[test]
+fn a_directory_and_a_path_through_a_file_are_no_drive(rt: HostRuntime) -> Result<(), Fail> {
     let path = "solo_edge_file";
-    write(&rt, path, b"X");
+    fs::write(&rt, path, b"X".as_slice())?;
     for path in [".", "solo_edge_file/drive", "solo_edge_nowhere/drive"] {
-        assert!(rt; !make_drive(&rt, path, 1), "{path}");
-        assert!(rt; open_drive(&rt, path).is_none(), "{path}");
+        assert!(rt; take_drive(&rt, path, "solo_edge_file/new", 1).is_none());
+        assert!(rt; open_drive(&rt, path).is_none());
     }
-    remove(&rt, path);
+    fs::remove_file(&rt, path)?;
+    Ok(())
 }
 
 #[test]
 fn each_call_on_no_drive_fails_and_is_counted(rt: HostRuntime) {
-    let asks = [Ask::ReadFails(0), Ask::WriteFails(0)];
-    ask_pages(&rt, None, 0, 1, &asks, 2);
+    let mut area: DriveArea<File> = DriveArea::new(None, 0, 1);
+    assert_eq!(rt; area.size(), 1);
+    ask_all(&rt, &mut area, &[Ask::ReadFails(0), Ask::WriteFails(0)]);
+    assert_eq!(rt; area.faults(), 2);
 }
 
 #[test]
-fn a_full_device_takes_no_page_and_no_line(rt: HostRuntime) {
-    let full = Some(opened(&rt, "/dev/full"));
-    ask_pages(&rt, full, 0, 1, &[Ask::WriteFails(0)], 1);
-    let mut sink = WriterSink::new(opened(&rt, "/dev/full"));
+fn a_full_device_takes_no_page_and_no_line(rt: HostRuntime) -> Result<(), Fail> {
+    let mut area = DriveArea::new(Some(opened(&rt, "/dev/full")?), 0, 1);
+    ask_all(&rt, &mut area, &[Ask::WriteFails(0)]);
+    assert_eq!(rt; area.faults(), 1);
+    let mut sink = WriterSink::new(opened(&rt, "/dev/full")?);
     assert!(rt; matches!(sink.give(b"JOB A\n"), Gave::Failed));
-    assert!(rt; sink.faults() == 1);
-}
-
-/// Whether the next piece of a deck, of at most five bytes, is this.
-fn is_next(source: &mut ReaderSource<File>, wanted: &[u8]) -> bool {
-    let mut piece = [0; 5];
-    match source.take(&mut piece) {
-        Took::Bytes(count) => count <= 5 && &piece[..count] == wanted,
-        Took::Failed => false,
-    }
-}
-
-/// Whether the next take of a deck fails.
-fn fails(source: &mut ReaderSource<File>) -> bool {
-    let mut piece = [0; 16];
-    matches!(source.take(&mut piece), Took::Failed)
+    assert_eq!(rt; sink.faults(), 1);
+    Ok(())
 }
 
 #[test]
-fn a_directory_is_no_deck_and_no_drive(rt: HostRuntime) {
-    let mut source = ReaderSource::new(directory(&rt));
-    assert!(rt; fails(&mut source));
-    assert!(rt; source.faults() == 1);
-    let drive = Some(directory(&rt));
-    ask_pages(&rt, drive, 0, 1, &[Ask::ReadFails(0)], 1);
+fn a_directory_is_no_deck_and_no_drive(rt: HostRuntime) -> Result<(), Fail> {
+    let mut source = ReaderSource::new(File::open(&rt, ".")?);
+    let mut piece = [0; 16];
+    assert!(rt; matches!(source.take(&mut piece), Took::Failed));
+    assert_eq!(rt; source.faults(), 1);
+    let mut area = DriveArea::new(Some(File::open(&rt, ".")?), 0, 1);
+    ask_all(&rt, &mut area, &[Ask::ReadFails(0)]);
+    assert_eq!(rt; area.faults(), 1);
+    Ok(())
 }
 
 /// The bytes of a deck of eight come in pieces of five, to their end.
 fn take_all(rt: &impl Abort, deck: File) {
     let mut source = ReaderSource::new(deck);
-    assert!(rt; is_next(&mut source, b"#LIST"));
-    assert!(rt; is_next(&mut source, b" A\n"));
-    assert!(rt; is_next(&mut source, b""));
-    assert!(rt; source.faults() == 0);
+    let mut piece = [0; 5];
+    assert!(rt; matches!(source.take(&mut piece), Took::Bytes(5)));
+    assert_eq!(rt; piece.as_slice(), b"#LIST".as_slice());
+    assert!(rt; matches!(source.take(&mut piece), Took::Bytes(3)));
+    assert!(rt; matches!(source.take(&mut piece), Took::Bytes(0)));
+    assert_eq!(rt; source.faults(), 0);
 }
 
 /// A line is given whole, and goes out.
-fn give_line(rt: &impl Abort, paper: File) {
+fn give_line(rt: &impl Abort, paper: File) -> Result<(), Fail> {
     let mut sink = WriterSink::new(paper);
     assert!(rt; matches!(sink.give(b"JOB A\n"), Gave::Bytes(6)));
-    assert!(rt; sink.flush().is_ok());
+    sink.flush()?;
+    Ok(())
 }
 
 #[test]
-fn a_file_is_a_source_to_its_end_and_a_sink(rt: HostRuntime) {
+fn a_file_is_a_source_to_its_end_and_a_sink(rt: HostRuntime) -> Result<(), Fail> {
+    take_all(&rt, drive(&rt, "solo_edge_deck", b"#LIST A\n")?);
     let path = "solo_edge_paper";
-    write(&rt, path, b"#LIST A\n");
-    take_all(&rt, opened(&rt, path));
-    write(&rt, path, b"");
-    give_line(&rt, opened(&rt, path));
-    assert!(rt; bytes_of(&rt, path).as_slice() == b"JOB A\n".as_slice());
-    remove(&rt, path);
+    give_line(&rt, File::create(&rt, path)?)?;
+    assert_eq!(rt; fs::read(&rt, path)?.as_slice(), b"JOB A\n".as_slice());
+    fs::remove_file(&rt, path)?;
+    Ok(())
+}
+
+/// Gives a line to a paper, and tells what is in its file before the rest goes out; then the line is there.
+fn give_paper(rt: &HostRuntime, path: &str, by_line: bool) -> Result<usize, Fail> {
+    let file = File::create(rt, path)?;
+    let mut sink = WriterSink::new(paper_over(rt.alloc(), file, by_line)?);
+    let gave = sink.give(b"JOB A\n");
+    let early = fs::read(rt, path)?.len();
+    sink.flush()?;
+    if gave != Gave::Bytes(6) || fs::read(rt, path)?.as_slice() != b"JOB A\n".as_slice() {
+        return Err(Fail::new("the line isn't there"));
+    }
+    Ok(early)
+}
+
+#[test]
+fn a_paper_by_the_line_goes_out_at_once_and_another_is_kept_back(
+    rt: HostRuntime,
+) -> Result<(), Fail> {
+    let path = "solo_edge_kept_back";
+    assert_eq!(rt; give_paper(&rt, path, true)?, 6);
+    assert_eq!(rt; give_paper(&rt, path, false)?, 0);
+    fs::remove_file(&rt, path)?;
+    Ok(())
 }

@@ -7,27 +7,34 @@ ghost use Rattle.std.specs.Prelude.{◌≡◌};
 
 use fault::Fault;
 use solo_base::NoMemory;
-use solo_cli::{Finished, top};
+use solo_cli::{Command, Finished, command_of, top};
 use solo_devices::{Area, Sink, Source, SureSink, SureSource};
-use solo_edge::{DriveArea, ReaderSource, WriterSink, make_drive, open_drive};
+use solo_edge::{
+    DriveArea, OwnDrive, ReaderSource, WriterSink, hold_streams, open_drive, paper_over,
+    reads_file, take_drive,
+};
 use std::env;
-use std::fs::Files;
-use std::io::{self, BufWriter, ErrorKind};
+use std::fs::{self, File, Files};
+use std::io::{self, ErrorKind, IsTerminal};
 use std::process::ExitCode;
 use std::rt::Env;
 use std::sync::Wait;
 use std::thread::Threads;
 
-/// The file that is the drive. It stands where the program runs.
+/// The file that is the drive, and its name while it is made. It stands where the program runs.
 const DRIVE: &str = "solo.disk";
+
+const NEW_DRIVE: &str = "solo.disk.new";
 
 /// The drive's pages of files, and behind them those of the input spool and those of the output spool.
 const FILE_PAGES: u16 = 4288;
 
 const SPOOL_PAGES: u16 = 256;
 
+const DRIVE_PAGES: u16 = FILE_PAGES + 2 * SPOOL_PAGES;
+
 fn main(rt: HostRuntime) -> ExitCode {
-    let ended = run(&rt).unwrap_or(Ended::without_memory());
+    let ended = run(&rt, rt.stdout().is_terminal()).unwrap_or(Ended::without_memory());
     if let Some(fault) = ended.fault {
         let _ = rt.eprintln(fault);
     }
@@ -54,29 +61,72 @@ impl Ended {
     }
 }
 
-/// Runs the command of the words over standard input and standard output. A drive that isn't there is made
-/// and formatted before.
-fn run<R: Env + Input + Print + Files + AllocGlobal + Threads + Wait + Sync>(
+/// Runs the command of the words over standard input and standard output, with the drive for itself.
+fn run<R: Env + Input + Print + Files<File = File> + AllocGlobal + Threads + Wait + Sync>(
     rt: &R,
+    on_terminal: bool,
 ) -> Result<Ended, NoMemory>
 where
     R::Reader: Send + Drop,
-    R::File: Send + Drop,
 {
-    if make_drive(rt, DRIVE, FILE_PAGES + 2 * SPOOL_PAGES) {
-        let formatted = format(rt)?;
-        if formatted.status != 0 {
-            return Ok(formatted);
+    // The places of closed streams are held, and the drive is locked, until all is done.
+    let streams = hold_streams(rt);
+    let own = match &streams {
+        Some(_) => take_drive(rt, DRIVE, NEW_DRIVE, DRIVE_PAGES),
+        None => None,
+    };
+    if let Some(drive) = &own {
+        if drive.is_new() {
+            let made = finish_drive(rt)?;
+            if made.status != 0 {
+                return Ok(made);
+            }
         }
     }
     let Some(words) = words(rt)? else {
         return Ok(Ended::with(1, Fault::Usage));
     };
-    let Ok(writer) = BufWriter::new(rt.alloc(), io::writer(rt)) else {
-        return Err(NoMemory);
+    run_words(rt, &words, own.as_ref(), on_terminal)
+}
+
+/// Formats the new drive under its other name, and gives it its own.
+fn finish_drive<R: Files<File = File> + AllocGlobal + Threads + Wait + Sync>(
+    rt: &R,
+) -> Result<Ended, NoMemory> {
+    let mut words = Vec::new(rt.alloc());
+    words.push(String::from_str(rt.alloc(), "format")?)?;
+    let deck = SureSource::new(Vec::new(rt.alloc()), 1);
+    let (_, ended) = over_drive(rt, Some(NEW_DRIVE), &words, deck, SureSink::new(rt.alloc()));
+    if ended.status == 0 && fs::rename(rt, NEW_DRIVE, DRIVE).is_err() {
+        return Ok(Ended::with(3, Fault::Disk));
+    }
+    Ok(ended)
+}
+
+/// Runs the command over the standard streams and the drive, where this run has it.
+fn run_words<R: Input + Print + Files<File = File> + AllocGlobal + Threads + Wait + Sync>(
+    rt: &R,
+    words: &[String],
+    own: Option<&OwnDrive>,
+    on_terminal: bool,
+) -> Result<Ended, NoMemory>
+where
+    R::Reader: Send + Drop,
+{
+    let path = match own {
+        Some(drive) => {
+            if command_of(words) == Some(Command::Format) {
+                // Where this fails, the writes of `format` fail too.
+                let _ = drive.lengthen(DRIVE_PAGES);
+            }
+            Some(DRIVE)
+        }
+        None => None,
     };
+    let by_line = on_terminal || !reads_file(rt);
+    let paper = WriterSink::new(paper_over(rt.alloc(), io::writer(rt), by_line)?);
     let deck = ReaderSource::new(rt.reader());
-    let (mut paper, ended) = over_drive(rt, &words, deck, WriterSink::new(writer));
+    let (mut paper, ended) = over_drive(rt, path, words, deck, paper);
     // What was printed so far goes out whatever the status, and the lowest status decides.
     if paper.flush().is_err() && (ended.status == 0 || ended.status > 4) {
         return Ok(Ended::with(4, Fault::Print));
@@ -84,28 +134,16 @@ where
     Ok(ended)
 }
 
-/// Formats the files of the drive.
-fn format<R: Files + AllocGlobal + Threads + Wait + Sync>(rt: &R) -> Result<Ended, NoMemory>
-where
-    R::File: Send + Drop,
-{
-    let mut words = Vec::new(rt.alloc());
-    words.push(String::from_str(rt.alloc(), "format")?)?;
-    let deck = SureSource::new(Vec::new(rt.alloc()), 1);
-    let (_, ended) = over_drive(rt, &words, deck, SureSink::new(rt.alloc()));
-    Ok(ended)
-}
-
-/// Runs the command of the words over a deck, a paper and the drive, with no keys and a console in memory.
-/// The paper comes back.
-fn over_drive<R: Files + AllocGlobal + Threads + Wait + Sync, S: Source, K: Sink>(
+/// Runs the command of the words over a deck, a paper and the drive at this path, with no keys and a console
+/// in memory. The paper comes back.
+fn over_drive<R: Files<File = File> + AllocGlobal + Threads + Wait + Sync, S: Source, K: Sink>(
     rt: &R,
+    path: Option<&str>,
     words: &[String],
     deck: S,
     paper: K,
 ) -> (K, Ended)
 where
-    R::File: Send + Drop,
     S: Send + Drop,
     K: Send + Drop,
     requires { S.taken deck ≡ 0 }
@@ -128,20 +166,29 @@ where
         SureSource::new(Vec::new(rt.alloc()), 1),
         paper,
         SureSink::new(rt.alloc()),
-        area(rt, 0, FILE_PAGES),
-        area(rt, FILE_PAGES, SPOOL_PAGES),
-        area(rt, FILE_PAGES + SPOOL_PAGES, SPOOL_PAGES),
+        area(rt, path, 0, FILE_PAGES),
+        area(rt, path, FILE_PAGES, SPOOL_PAGES),
+        area(rt, path, FILE_PAGES + SPOOL_PAGES, SPOOL_PAGES),
     );
     let fault = cause.map(Fault::of);
     (paper, Ended { status, fault })
 }
 
-/// The area of so many pages of the drive, from page `first` on. Each area opens the file for itself, since a
-/// file has one position.
-fn area<R: Files>(rt: &R, first: u16, pages: u16) -> DriveArea<R::File>
-    ensures { ⟦<DriveArea<R::File> as Area>⟧.size result ≡ pages }
+/// The area of so many pages of the drive at this path, from page `first` on. Each area opens the file for
+/// itself, since a file has one position. Without a path each call on the area fails.
+fn area<R: Files<File = File>>(
+    rt: &R,
+    path: Option<&str>,
+    first: u16,
+    pages: u16,
+) -> DriveArea<File>
+    ensures { ⟦<DriveArea<File> as Area>⟧.size result ≡ pages }
 {
-    DriveArea::new(open_drive(rt, DRIVE), first, pages)
+    let drive = match path {
+        Some(path) => open_drive(rt, path),
+        None => None,
+    };
+    DriveArea::new(drive, first, pages)
 }
 
 /// The words of the command line behind the program's name, or `None` where they can't be read.

@@ -1,13 +1,13 @@
-ghost use Rattle.std.specs.Prelude.{◌≡◌, ◌<◌, ◌^◌, None};
+ghost use Rattle.std.specs.Prelude.{◌≡◌, ◌<◌, ◌≤◌, ◌^◌, ◌*◌, ◌+◌, ◌↔◌, None, true};
 ghost use Rattle.solo_devices.specs.Area.{ReadsFrom, Writes, CountsFaults, HasWholePages};
 
 use solo_base::{PAGE_LENGTH, Page};
 use solo_devices::{Area, Moved};
-use std::io::{self, Read, Seek, SeekFrom, Write};
+use std::io::{self, ErrorKind, Read, Seek, SeekFrom, Write};
 
 /// A range of pages of a drive, which is a file or anything else that is read and written at positions.
-/// A drive that couldn't be opened is none: each call fails then. So does a read where the drive ends
-/// before the end of its page. What failed is counted.
+/// A drive that couldn't be opened is none: each call fails then. So does a call on a page that the drive
+/// doesn't have whole: nothing is written behind its end. What failed is counted.
 #[derive(Drop)]
 pub struct DriveArea<D> {
     drive: Option<D>,
@@ -114,10 +114,22 @@ fn read_page<D: Read + Seek>(drive: &mut D, address: u64, page: &mut Page) -> io
     drive.read_exact(&mut page.0)
 }
 
-/// Writes the page at this address of the drive.
+/// Writes the page at this address of the drive, where the drive has it.
 fn write_page<D: Write + Seek>(drive: &mut D, address: u64, page: &Page) -> io::Result<()>
     requires { address < 2 ^ 17 }
 {
+    let length = drive.seek(SeekFrom::End(0))?;
+    if !has_page(length, address) {
+        return Err(io::Error::from(ErrorKind::UnexpectedEof));
+    }
     drive.seek(SeekFrom::Start(address * PAGE_LENGTH as u64))?;
     drive.write_all(&page.0)
+}
+
+/// Whether a drive of so many bytes has the whole page of this address.
+fn has_page(length: u64, address: u64) -> bool
+    requires { address < 2 ^ 17 }
+    ensures { (result ≡ true) ↔ ((address + 1) * 512 ≤ length) }
+{
+    (address + 1) * PAGE_LENGTH as u64 <= length
 }

@@ -4,11 +4,15 @@
 
 mod drive_area;
 mod drive_file;
+mod paper;
 mod reader_source;
 mod retried;
+mod streams;
 mod writer_sink;
 
 pub use drive_area::DriveArea;
-pub use drive_file::{make_drive, open_drive};
+pub use drive_file::{OwnDrive, open_drive, take_drive};
+pub use paper::paper_over;
 pub use reader_source::ReaderSource;
+pub use streams::{Streams, hold_streams, reads_file};
 pub use writer_sink::WriterSink;

@@ -57,7 +57,7 @@ fn a_read_past_the_end_of_the_drive_is_a_fault_of_the_files(rt: HostRuntime) -> 
 }
 
 #[test]
-fn a_spool_makes_its_drive_longer(rt: HostRuntime) -> Result<(), Fail> {
+fn a_spool_writes_nothing_behind_the_end_of_its_drive(rt: HostRuntime) -> Result<(), Fail> {
     let alloc = rt.alloc();
     let came = run_over(
         &rt,
@@ -68,7 +68,8 @@ fn a_spool_makes_its_drive_longer(rt: HostRuntime) -> Result<(), Fail> {
         drive(&rt, "solo_cli_spool", &[], 256)?,
         spool(&rt, alloc, 256, 0, 0)?,
     )?;
-    assert!(rt; came.has(PAPER, b""));
-    assert_eq!(rt; came.failures.input, 0);
+    assert_eq!(rt; came.status, 3);
+    assert_eq!(rt; came.failures.input, 1);
+    assert!(rt; came.paper.is_empty());
     Ok(())
 }
