@@ -4,6 +4,14 @@ use std::test::Fail;
 // The words of `CODE1`, with blanks behind it.
 const CODE1: [i16; 12] = [67, 79, 68, 69, 49, 32, 32, 32, 32, 32, 32, 32];
 
+// Whether the argument is this name.
+fn is_named(arg: Arg, letters: &[u8]) -> bool {
+    match arg {
+        Arg::Id(name) => name.name() == letters,
+        _ => false,
+    }
+}
+
 #[test]
 fn arguments_come_back_in_their_order(rt: HostRuntime) -> Result<(), Fail> {
     let mut list = ArgList::new();
@@ -14,7 +22,7 @@ fn arguments_come_back_in_their_order(rt: HostRuntime) -> Result<(), Fail> {
     assert_eq!(rt; list.len(), 3);
     assert!(rt; matches!(list.get(0), Arg::Int(-7)));
     assert!(rt; matches!(list.get(1), Arg::Bool(true)));
-    assert!(rt; matches!(list.get(2), Arg::Id(name) if name.name() == b"CODE1".as_slice()));
+    assert!(rt; is_named(list.get(2), b"CODE1"));
     Ok(())
 }
 
