@@ -1,8 +1,10 @@
 //! The calls on texts and code in files, as tests make them: of files that are sound, and of texts.
 
 use crate::made_area::name;
-use disk_files::FileArea;
-use disk_system::{SystemFault, is_text, list, load_code, store_code, store_text, text_of};
+use disk_files::{FileArea, FileFault, FileKind};
+use disk_system::{
+    SystemFault, bytes_of, is_text, list, load_code, store, store_code, store_text, text_of,
+};
 use solo_base::LineList;
 use solo_devices::Area;
 use stack_code::Verified;
@@ -127,4 +129,28 @@ pub fn listed<A: Area>(
 ) -> Result<LineList, SystemFault> {
     assert!(rt; files.sound());
     list(alloc, files)
+}
+
+/// Makes a file of whole pages of bytes, of any kind.
+pub fn pages_stored<A: Area>(
+    rt: &impl Abort,
+    files: &mut FileArea<A>,
+    letters: &[u8],
+    kind: FileKind,
+    bytes: &[u8],
+) -> Result<(), FileFault> {
+    assert!(rt; files.sound());
+    store(files, &name(rt, letters), kind, bytes)
+}
+
+/// The bytes of a file of so many pages.
+pub fn pages_read<A: Area>(
+    rt: &impl Abort,
+    alloc: Global,
+    files: &mut FileArea<A>,
+    letters: &[u8],
+    pages: u16,
+) -> Result<Vec<u8>, SystemFault> {
+    assert!(rt; files.sound());
+    bytes_of(alloc, files, &name(rt, letters), pages)
 }

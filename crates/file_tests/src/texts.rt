@@ -1,6 +1,8 @@
 use crate::file_calls::{Call, answer_is, free_pages, is_file, names};
 use crate::made_area::{blank_files, formatted, has_bytes, mounted, name, set_page, zero_area};
-use crate::text_calls::{bytes, is_text_of, listed, no_text_is, store_is};
+use crate::text_calls::{
+    bytes, is_text_of, listed, no_text_is, pages_read, pages_stored, store_is,
+};
 use disk_files::{FileArea, FileFault};
 use disk_layout::{FileKind, label};
 use disk_system::{SystemFault, is_text};
@@ -185,4 +187,25 @@ fn a_text_that_is_none_is_refused(rt: HostRuntime) {
     is_text_of(&rt, alloc, &mut files, b"all", b"");
     answer_is(&rt, &mut files, Call::Append(all, 7), None);
     is_text_of(&rt, alloc, &mut files, b"all", &[7; 512]);
+}
+
+#[test]
+fn whole_pages_of_any_kind_are_stored_and_read(rt: HostRuntime) {
+    let mut files = blank_files(&rt, rt.alloc());
+    let some = bytes(&rt, rt.alloc(), 1100, b'X');
+    let answer = pages_stored(&rt, &mut files, b"data", FileKind::Scratch, &some);
+    assert!(rt; answer == Ok(()));
+    let data = name(&rt, b"data");
+    is_file(&rt, &mut files, &data, (FileKind::Scratch, false, 2));
+    assert!(rt; free_pages(&rt, &files) == 4266);
+    let again = pages_read(&rt, rt.alloc(), &mut files, b"data", 2)
+        .ok()
+        .expect(&rt, "the bytes");
+    let whole = bytes(&rt, rt.alloc(), 1024, b'X');
+    assert!(rt; again.as_slice() == whole.as_slice());
+    let mut area = files.into_inner();
+    // the index page, its part, and the two pages, in the order in which they were taken
+    has_bytes(&rt, &mut area, 18, 0, b"\0\x02\0\x13");
+    has_bytes(&rt, &mut area, 19, 0, b"\0\x14\0\x15");
+    has_bytes(&rt, &mut area, 21, 0, &[b'X'; 512]);
 }
