@@ -1,7 +1,6 @@
 -- Calls of the interface, as the batch answers them.
-use Rattle.std.proofs.Common.{◌≡◌, ℕ, zero, suc, ◌+◌, ◌-◌, ◌<◌, Bool, true, false, ◌&&◌, Option, Some, None, inl, inr, List, [], ◌∷◌, ◌++◌, map, drop, ℤ, pos, ◌+ℤ◌, cond, refl, sym, ◌∙◌, ap, add-zero, add-one, arith}
-use Rattle.std.specs.Prelude.{◌⊎◌, reverse, flat_map, unsigned_abs}
-use Rattle.std.specs.List.{list_all}
+use Rattle.std.proofs.Common.{◌≡◌, ℕ, zero, suc, ◌+◌, ◌-◌, ◌<◌, Bool, true, false, ◌&&◌, Option, Some, None, inl, inr, List, [], ◌∷◌, ◌++◌, map, drop, ℤ, pos, ◌+ℤ◌, refl, sym, ◌∙◌, ap, add-zero, add-one, arith}
+use Rattle.std.specs.Prelude.{◌⊎◌, reverse, flat_map}
 use Rattle.std.proofs.lemmas.Grind.{flat_map-append, reverse_onto}
 use Rattle.std.proofs.lemmas.List.{map-append}
 use Rattle.std.proofs.lemmas.Int.{ints}
@@ -15,8 +14,8 @@ use Rattle.solo_base.specs.declared.system_call.SysReply.{SysReply}
 use Rattle.solo_base.specs.declared.system_call.SysReply.TheVariants as replies
 use Rattle.solo_base.specs.declared.interface.Procedure.{Procedure}
 use Rattle.solo_base.specs.declared.interface.Procedure.TheVariants as row
-use Rattle.pascal_mean.specs.Situation.{Answers, Place, Situation, Course, Part, Gives, Over, and_then, with_call, answered_by, make_call}
-use Rattle.pascal_mean.specs.Variables.{stored, ArrayPlace, element_at, elements_from, whole_array, stored_elements}
+use Rattle.pascal_mean.specs.Situation.{Place, Situation, Course, Part, Gives, and_then, with_call, answered_by}
+use Rattle.pascal_mean.specs.Variables.{stored, ArrayPlace, element_at, elements_from, whole_array}
 use Rattle.pascal_mean.specs.Calls.{Given, Value, Alias, Elements, first_value, variables_in, arrays_in, array_read, set_array, set_variables, set_by, after_call, interface_value}
 use Rattle.pascal_mean.specs.Batch.{characters_of, next_character, but_the_first, batch_reply, input_after, batch_answers}
 use Rattle.pascal_evaluate.specs.declared.run.Made.{Made}

@@ -7,7 +7,7 @@ use Rattle.solo_base.specs.RunOutcome.{RunOutcome, Ends, Waits}
 use Rattle.solo_base.specs.Text.{text}
 use Rattle.pascal_tree.specs.Statement.{body, Sequence}
 use Rattle.pascal_tree.specs.Program.{Program}
-use Rattle.pascal_mean.specs.Situation.{Situation, Course, Gives, Over}
+use Rattle.pascal_mean.specs.Situation.{Situation, Course, Gives}
 use Rattle.pascal_mean.specs.Declarations.{Declared, all_declared}
 use Rattle.pascal_mean.specs.Expressions.{Setting}
 use Rattle.pascal_mean.specs.Statements.{after_body, after_sequence}

@@ -1,5 +1,5 @@
 -- The operands behind a first value, one after the other.
-use Rattle.std.proofs.Common.{◌≡◌, ℕ, ◌+◌, ◌<◌, ◌≤◌, List, [], ◌∷◌, ◌++◌, map, length, get_or, take, drop, ◌-◌, arith, Option, ℤ, refl, sym, ◌∙◌, ap, append-nil, Result, Ok, Err}
+use Rattle.std.proofs.Common.{◌≡◌, ℕ, ◌+◌, ◌<◌, ◌≤◌, List, [], ◌∷◌, ◌++◌, map, length, get_or, take, drop, ◌-◌, arith, ℤ, refl, sym, ◌∙◌, ap, append-nil, append_assoc, Result, Ok, Err}
 use Rattle.std.specs.Prelude.{IsErrAnd, Vec}
 use Rattle.std.proofs.lemmas.List.{at_drop_more, at_drop_all, take_rest}
 use Rattle.pascal_tree.specs.Word.{NameAt}
@@ -11,7 +11,7 @@ use Rattle.pascal_tree.specs.declared.expression.Multiplying.{Multiplying}
 use Rattle.pascal_tree.specs.declared.expression.Term.{Term}
 use Rattle.pascal_tree.specs.declared.expression.Factor.{Factor}
 use Rattle.pascal_tree.specs.declared.expression.Expr.{Expr}
-use Rattle.pascal_mean.specs.Situation.{Situation, Course, Part, Gives, and_then, number_or_overflow}
+use Rattle.pascal_mean.specs.Situation.{Situation, Course, Part, Gives, Over, and_then, number_or_overflow}
 use Rattle.pascal_mean.specs.Values.{added, multiplied}
 use Rattle.pascal_mean.specs.Means.{Means}
 use Rattle.pascal_mean.specs.Variables.{ArrayPlace, array_named, element_at}
@@ -90,6 +90,12 @@ none_taken : (c : Setting) (more : Exprs) (now : Situation) → exprs_given c []
 none_taken c no_expr now = refl
 none_taken c (next_expr comma e more) now = refl
 
+-- a part given more, behind those given before
+one_given_more : (course : Course (List Given)) (given : List Given) (v : Given) → and_then course (λ more then_is. Gives ((given ++ v ∷ []) ++ more) then_is)
+    ≡ and_then (and_then course (λ more then_is. Gives (v ∷ more) then_is)) (λ more then_is. Gives (given ++ more) then_is)
+one_given_more (Gives more then_is) given v = ap (λ all. Gives all then_is) (append_assoc given (v ∷ []) more)
+one_given_more (Over outcome) given v = refl
+
 module _ (c : Setting) (ways : List Passing) (rest : List (ℕ × Expr)) (place : ℕ) (given : List Given) (before : Situation)
     (whole : Course (List Given))
     (left : and_then (exprs_given c (map seen_passing (drop place ways)) (seen_exprs (drop place rest)) before)
@@ -118,6 +124,25 @@ module _ (c : Setting) (ways : List Passing) (rest : List (ℕ × Expr)) (place 
       (opens_at (λ ps. exprs_given c (map seen_passing ps) (seen_exprs (drop place rest)) before) ways place way less_ways is_way
       ∙ opens_at (λ es. exprs_given c (map seen_passing (way ∷ drop (place + 1) ways)) (seen_exprs es) before) rest place e less is_e)
       why now stopped)
+
+  pub argument_gives : (way : Passing) (e : ℕ × Expr) → place < length ways → way ≡ get_or ways place way → place < length rest
+      → e ≡ get_or rest place e → (v : Given) (mid : Situation)
+      → passed (seen_passing way) (c.scope (name_in (seen_expr e.1))) c.number (name_in (seen_expr e.1)) (expr_value c (seen_expr e.1)) before ≡ Gives v mid
+      → and_then (exprs_given c (map seen_passing (drop (place + 1) ways)) (seen_exprs (drop (place + 1) rest)) mid)
+      (λ more then_is. Gives ((given ++ v ∷ []) ++ more) then_is)
+      ≡ whole
+  argument_gives way e less_ways is_way less is_e v mid gives =
+      let others : Course (List Given) = exprs_given c (map seen_passing (drop (place + 1) ways)) (seen_exprs (drop (place + 1) rest)) mid in
+      let opened : exprs_given c (map seen_passing (drop place ways)) (seen_exprs (drop place rest)) before
+      ≡ and_then others (λ more then_is. Gives (v ∷ more) then_is)
+      = first_gives (exprs_given c (map seen_passing (drop place ways)) (seen_exprs (drop place rest)) before)
+      (passed (seen_passing way) (c.scope (name_in (seen_expr e.1))) c.number (name_in (seen_expr e.1)) (expr_value c (seen_expr e.1)) before)
+      (λ first now. and_then (exprs_given c (map seen_passing (drop (place + 1) ways)) (seen_exprs (drop (place + 1) rest)) now)
+      (λ more then_is. Gives (first ∷ more) then_is))
+      (opens_at (λ ps. exprs_given c (map seen_passing ps) (seen_exprs (drop place rest)) before) ways place way less_ways is_way
+      ∙ opens_at (λ es. exprs_given c (map seen_passing (way ∷ drop (place + 1) ways)) (seen_exprs es) before) rest place e less is_e)
+      v mid gives in
+      one_given_more others given v ∙ ap (λ q. and_then q (λ more then_is. Gives (given ++ more) then_is)) (sym opened) ∙ left
 
 -- where the error of a call behind it is passed on
 pub more_passed_on : (course : Course (List Given)) (before : List Given) (answer : Result (Unit {0}) Stop) (after : List Given) (why : Stop)

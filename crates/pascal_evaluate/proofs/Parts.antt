@@ -8,7 +8,7 @@ use Rattle.solo_base.specs.RunOutcome.{RunOutcome, Ends}
 use Rattle.pascal_mean.specs.Situation.{Situation, Course, Part, Gives, Over, and_then, choose, end_with, time_is_up, take_tick}
 use Rattle.pascal_evaluate.specs.declared.stop.Stop.{Stop}
 use Rattle.pascal_evaluate.specs.declared.stop.Stop.TheVariants as stop
-use Rattle.pascal_evaluate.specs.Ran.{IsEnd, IsStopped, Ran}
+use Rattle.pascal_evaluate.specs.Ran.{IsStopped, Ran}
 
 -- a part that ends with a result here
 pub ends_here : {A : Type 0} (r : ProgResult) (now : Situation) → IsStopped (end_with {A = A} r now) (stop.Over r) now

@@ -1,10 +1,10 @@
 -- What a list of declared names says of a name.
-use Rattle.std.proofs.Common.{◌≡◌, ℕ, Bool, true, false, cond, Option, Some, None, List, [], ◌∷◌, refl, ◌∙◌, ap}
+use Rattle.std.proofs.Common.{◌≡◌, ℕ, Bool, true, false, cond, Option, Some, List, [], ◌∷◌, refl, ◌∙◌, ap}
 use Rattle.std.specs.Prelude.{bytes_eq}
 use Rattle.pascal_mean.specs.Means.{Means}
 use Rattle.pascal_mean.specs.Means as meant
 use Rattle.pascal_mean.specs.Predeclared.{Item}
-use Rattle.pascal_mean.specs.Scope.{found, scope_of}
+use Rattle.pascal_mean.specs.Scope.{found}
 use Rattle.pascal_evaluate.specs.SeenNames.{means_or_nothing}
 
 -- row by row, as a table of the code is searched

@@ -6,7 +6,7 @@ use Rattle.solo_base.specs.declared.outcome.ProgResult.TheVariants as result
 use Rattle.pascal_tree.specs.Statement.{Labels, Statement, while_do, repeat_until, for_do, branch}
 use Rattle.pascal_tree.specs.declared.statement.Branch.{Branch}
 use Rattle.pascal_tree.specs.SeenStatement.{seen_branch, seen_branches}
-use Rattle.pascal_mean.specs.Situation.{Situation, Course, Gives, Over, choose, end_with}
+use Rattle.pascal_mean.specs.Situation.{Situation, Course, Gives, choose, end_with}
 use Rattle.pascal_mean.specs.Variables.{assigned}
 use Rattle.pascal_mean.specs.Expressions.{Setting, is_true, is_false}
 use Rattle.pascal_mean.specs.Statements.{is_labelled, after_statement, after_sequence, after_branch, after_branches}

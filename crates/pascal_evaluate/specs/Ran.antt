@@ -1,5 +1,5 @@
 -- What the code did for a part of a program.
-use Rattle.std.specs.Prelude.{◌≡◌, ℕ, List, ◌++◌, flat_map, Result, Ok, Err, Vec}
+use Rattle.std.specs.Prelude.{◌≡◌, List, ◌++◌, flat_map, Result, Ok, Err, Vec}
 use Rattle.solo_base.specs.declared.outcome.ProgResult.{ProgResult}
 use Rattle.solo_base.specs.RunOutcome.{RunOutcome, Ends, Waits}
 use Rattle.pascal_mean.specs.Situation.{Situation, Course, Gives, Over, and_then}

@@ -1,6 +1,7 @@
 use Rattle.std.proofs.Common.{◌≡◌, ◌++◌, ◌≤◌, ◌-◌, [], ◌∷◌, map, take, drop, length, ◌∙◌, ap, rules, arith}
 use Rattle.std.proofs.lemmas.Grind.{common_steps}
 use Rattle.std.proofs.lemmas.Int.{to_z-of_z}
+use Rattle.std.proofs.lemmas.List.{map_push}
 use Rattle.std.proofs.lemmas.Option.{gets}
 use Rattle.std.specs.Int.{w16, w32}
 use mir.Val.{SFits, to_z, of_z}
@@ -19,7 +20,7 @@ use Rattle.pascal_evaluate.specs.Ran.{IsStopped}
 use Rattle.pascal_evaluate.specs.SeenStore.{situation, seen_passing, all_given, seen_given, seen_extent}
 use Rattle.pascal_evaluate.specs.SeenSetting.{seen_setting}
 use Rattle.pascal_evaluate.proofs.Parts.{passed_on, stopped_then, stopped_first}
-use Rattle.pascal_evaluate.proofs.Operands.{sum_stops, sum_goes, multiplier_stops, product_stops, product_goes, takes_no_more, argument_stops, more_passed_on, all_passed_on, first_stops, behind_the_first, whole_list, element_stops, element_gives}
+use Rattle.pascal_evaluate.proofs.Operands.{addend_stops, sum_stops, sum_goes, multiplier_stops, product_stops, product_goes, takes_no_more, argument_stops, argument_gives, more_passed_on, all_passed_on, first_stops, behind_the_first, whole_list, element_stops, element_gives}
 use Rattle.pascal_evaluate.proofs.expression.+expression.Goals as goal
 
 -- ---- Terms behind a first value
@@ -35,6 +36,14 @@ addends-returns-in_err-left g t c =
     (to_z w16 c.loop-adding.left-bits)
     (situation c.loop-adding.run) _ c.loop-adding-test.true c.loop-adding-item.is rest c.in_ok-right.right (situation c.term.new.run) c.in_ok-right.ensures _
     stopped)
+
+pub addends-returns-in_err-right : goal.addends-returns-in_err-right
+addends-returns-in_err-right g t c =
+    let rest = rw (to_z-of_z w16 c.args.first c.ranges.first) at c.loop-adding.invariant in
+    passed_on _ _ _ _ c.from_residual.ensures.1
+    (addend_stops (seen_setting g.L.Level.free c.args.setting.now) c.args.rest.now c.loop-adding.adding-index c.loop-adding-item.result
+    (to_z w16 c.loop-adding.left-bits) (situation c.loop-adding.run) _ c.loop-adding-test.true c.loop-adding-item.is rest _ _
+    c.in_err-right.ensures)
 
 pub addends-loop-adding-preserved : goal.addends-loop-adding-preserved
 addends-loop-adding-preserved g t c =
@@ -196,6 +205,17 @@ more_arguments-returns-in_err-value g t c =
     (argument_stops (seen_setting g.L.Level.free c.args.setting.now) c.args.passing.now c.args.rest.now c.loop-place.place (all_given c.loop-place.given.items)
     (situation c.loop-place.run) _ c.loop-place.invariant c.in-Some.next.now c.index-rest-place.result c.in-Some.ensures.lookup.3.0 c.in-Some.ensures.lookup.1
     c.loop-place-test.true c.index-rest-place.is _ _ stopped))
+
+pub more_arguments-loop-place-preserved : goal.more_arguments-loop-place-preserved
+more_arguments-loop-place-preserved g t c =
+    let v = seen_given c.in_ok-value.value in
+    let gives = rw (← c.index-rest-place.is) at c.in_ok-value.ensures in
+    let pushed : all_given c.push.new.self.items ≡ all_given c.loop-place.given.items ++ v ∷ [] =
+    ap all_given c.in_ok-push.ensures.items ∙ map_push seen_given c.loop-place.given.items c.in_ok-value.value in
+    rw pushed
+    (argument_gives (seen_setting g.L.Level.free c.args.setting.now) c.args.passing.now c.args.rest.now c.loop-place.place (all_given c.loop-place.given.items)
+    (situation c.loop-place.run) _ c.loop-place.invariant c.in-Some.next.now c.index-rest-place.result c.in-Some.ensures.lookup.3.0 c.in-Some.ensures.lookup.1
+    c.loop-place-test.true c.index-rest-place.is v (situation c.argument.new.run) gives)
 
 pub argument-returns-in-ByVariable : goal.argument-returns-in-ByVariable
 argument-returns-in-ByVariable g t c = rw (c.in-ByVariable.is, ← c.name_in.ensures) c.variable_given.ensures

@@ -1,4 +1,4 @@
-use Rattle.std.proofs.Common.{◌≡◌, ℕ, ◌+◌, ◌<◌, length, get_or, drop, map, ◌∙◌, arith}
+use Rattle.std.proofs.Common.{ℕ, ◌+◌, ◌<◌, length, get_or, drop, map, ◌∙◌, arith}
 use Rattle.pascal_tree.specs.SeenProgram.{seen_parameter_group}
 use Rattle.pascal_tree.specs.Program as seen
 use Rattle.pascal_tree.specs.declared.declaration.ParameterGroup.{ParameterGroup}

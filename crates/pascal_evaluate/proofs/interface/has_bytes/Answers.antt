@@ -1,7 +1,5 @@
-use Rattle.std.proofs.Common.{◌≡◌, ◌<◌, false, true, sym, ◌∙◌, arith}
+use Rattle.std.proofs.Common.{◌<◌, sym, ◌∙◌, arith}
 use Rattle.pascal_mean.specs.Variables.{size_of}
-use Rattle.solo_base.specs.Arithmetic.{is_byte}
-use Rattle.pascal_evaluate.specs.SeenNames.{seen_bounds}
 use Rattle.pascal_evaluate.specs.SeenStore.{seen_array, situation}
 use Rattle.pascal_evaluate.proofs.Answered.{no_byte_at, byte_at}
 use Rattle.pascal_evaluate.proofs.interface.has_bytes.Goals as goal

@@ -1,7 +1,6 @@
 use Rattle.std.proofs.Common.{◌≡◌, ◌-◌, pos, ◌+ℤ◌}
 use Rattle.solo_base.specs.Arithmetic.{are_bytes}
 use Rattle.pascal_mean.specs.Variables.{size_of, elements_from, whole_array}
-use Rattle.pascal_evaluate.specs.SeenNames.{seen_bounds}
 use Rattle.pascal_evaluate.specs.SeenStore.{situation, seen_array}
 use Rattle.pascal_evaluate.proofs.interface.has_bytes.Given as goal
 

@@ -1,4 +1,4 @@
-use Rattle.std.proofs.Common.{◌≡◌, ℕ, ◌+◌, ◌-◌, ◌<◌, [], ◌∷◌, ◌++◌, length, drop, map, sym, ◌∙◌, ap, arith}
+use Rattle.std.proofs.Common.{◌≡◌, ◌+◌, ◌-◌, ◌<◌, [], ◌∷◌, ◌++◌, length, drop, map, sym, ◌∙◌, ap, arith}
 use Rattle.std.proofs.lemmas.List.{drop-map, map-append, length-map, length-drop}
 use Rattle.pascal_tree.specs.SeenProgram.{seen_routine, seen_program}
 use Rattle.pascal_mean.specs.Declarations.{global_items, signature_of, block_of, declared_routine, declared_headings, routines_after, program_itself, all_declared}

@@ -1,9 +1,8 @@
-use Rattle.std.proofs.Common.{◌≡◌, [], map, ◌∙◌, ap}
+use Rattle.std.proofs.Common.{[], map, ◌∙◌, ap}
 use Rattle.std.specs.Prelude.{option_map}
 use Rattle.pascal_tree.specs.SeenProgram.{seen_consts, seen_vars, seen_routine}
 use Rattle.pascal_mean.specs.Means.{OfProgram}
-use Rattle.pascal_mean.specs.Predeclared.{Item}
-use Rattle.pascal_mean.specs.Scope.{Scope, scope_of}
+use Rattle.pascal_mean.specs.Scope.{scope_of}
 use Rattle.pascal_mean.specs.Declarations.{declared_constants, declared_variables, declared_headings}
 use Rattle.pascal_evaluate.specs.SeenNames.{seen_items}
 use Rattle.pascal_evaluate.proofs.Declared.{one_scope}

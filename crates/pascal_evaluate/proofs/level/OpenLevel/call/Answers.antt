@@ -1,4 +1,3 @@
-use Rattle.std.proofs.Common.{sym}
 use Rattle.pascal_evaluate.specs.SeenNames.{seen_declared}
 use Rattle.pascal_evaluate.specs.SeenStore.{situation, all_given}
 use Rattle.pascal_evaluate.proofs.Opened.{called_one, called_none}
