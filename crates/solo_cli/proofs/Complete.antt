@@ -10,7 +10,7 @@ use Rattle.solo_cli.specs.declared.refusal.Refusal.TheVariants.{Fault, NoRoom}
 use Rattle.solo_cli.specs.declared.words.Command.{Command}
 use Rattle.solo_cli.specs.declared.words.Command.TheVariants as command
 use Rattle.solo_cli.specs.Status.{number_of, status_of}
-use Rattle.solo_cli.specs.Causes.{IsMakeCause}
+use Rattle.solo_cli.specs.Causes.{IsMakeCause, IsCheckCause}
 use Rattle.solo_cli.specs.Refusals.{IsDeckCause, IsMadeDeckCause, IsMigrateCause, IsNotSolo, MayBeRefused, OfFault}
 
 -- a command that there is has one of these causes
@@ -29,6 +29,12 @@ among-migrate why (inl is) = inl (inr (inl is))
 among-migrate why (inr (inl is)) = inl (inr (inr (inr (inr (inr is)))))
 among-migrate why (inr (inr is)) = inr is
 
+among-check : (why : Cause) → IsCheckCause why → IsDeckCause why
+among-check why (inl is) = inl (inr (inr (inl is)))
+among-check why (inr (inl is)) = inl (inl is)
+among-check why (inr (inr (inl is))) = inl (inr (inr (inr (inl is))))
+among-check why (inr (inr (inr is))) = inl (inr (inr (inr (inr (inr is)))))
+
 fault-of : {a b : Cause} → Fault a ≡ Fault b → a ≡ b
 fault-of same = cc
 
@@ -39,6 +45,7 @@ among (Some (command.Core schedule)) why is = inr is
 among (Some (command.Make number)) why is = inr (among-made why is)
 among (Some command.Format) why is = inr (inl (inr (inl (fault-of is))))
 among (Some command.Migrate) why is = inr (among-migrate why is)
+among (Some command.Check) why is = inr (among-check why is)
 
 -- want of room is a migration's
 pub room_is : (asked : Option Command) (needed free : ℕ) → MayBeRefused asked (NoRoom needed free) → asked ≡ Some command.Migrate
@@ -48,6 +55,7 @@ room_is (Some (command.Core schedule)) needed free is = absurd is
 room_is (Some (command.Make number)) needed free is = absurd is
 room_is (Some command.Format) needed free is = cc
 room_is (Some command.Migrate) needed free is = refl
+room_is (Some command.Check) needed free is = absurd is
 
 -- all causes but want of memory are shut out, and for a migration want of room
 ends-of : (asked : Option Command) (why : Cause) → (why ≡ Usage) ⊎ IsDeckCause why →

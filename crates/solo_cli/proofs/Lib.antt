@@ -21,3 +21,5 @@ mod UnprintedNumbers
 mod MadeRuns
 mod UncountedRuns
 mod Reading
+mod ReadingItems
+mod Checks

@@ -11,6 +11,7 @@ use Rattle.solo_cli.specs.declared.refusal.Refusal.{Refusal}
 use Rattle.solo_cli.specs.declared.refusal.Refusal.TheVariants.{Fault, NoRoom}
 use Rattle.solo_cli.specs.declared.words.Command.{Command}
 use Rattle.solo_cli.specs.declared.words.Command.TheVariants as command
+use Rattle.solo_cli.specs.Causes.{IsCheckCause}
 use Rattle.solo_cli.specs.FileCommands.{CanUse, KeepsItsFormat, MigratesTo}
 use Rattle.solo_cli.specs.Refusals.{MayBeRefused, refusal_of}
 use Rattle.solo_cli.specs.Status.{status_of}
@@ -50,6 +51,13 @@ neither pages now page (newer, older) (it, is, by_newer, by_older) =
     = λ new. newer-bad pages page (subst (RefusesNewer pages) same (by_newer new)) (newer new) in
     older-bad pages page (subst (RefusesOlder pages) same (by_older no)) (older no)
 
+-- a judgement names no page
+no_page : (page : ℕ) → IsCheckCause (cause.NotSolo page) → ⊥
+no_page page (inl is) = cc
+no_page page (inr (inl is)) = cc
+no_page page (inr (inr (inl is))) = cc
+no_page page (inr (inr (inr is))) = cc
+
 -- no page of an area that the command can use is named
 pub usable : (asked : Option Command) (told now : Option (List (List ℕ))) (answer : Option Refusal) (page : ℕ)
     → IfSome answer (MayBeRefused asked) → CanUse asked told
@@ -67,3 +75,5 @@ usable (Some command.Format) told now answer page known can mounts migrates at =
     let is : Fault (cause.NotSolo page) ≡ Fault cause.DiskFault = subst (λ it. IfSome it (MayBeRefused (Some command.Format))) at known in cc
 usable (Some command.Migrate) told now answer page known (pages, is, keeps) mounts migrates at =
     neither pages now page keeps (subst (MigratesTo pages now) at (migrates refl pages is))
+usable (Some command.Check) told now answer page known can mounts migrates at =
+    no_page page (subst (λ it. IfSome it (MayBeRefused (Some command.Check))) at known)

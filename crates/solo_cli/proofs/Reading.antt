@@ -32,6 +32,7 @@ no-deck (Some command.Batch) is known = tt
 no-deck (Some (command.Core schedule)) is known = tt
 no-deck (Some (command.Make n)) is known = absurd (not_limit known)
 no-deck (Some command.Format) is known = absurd cc
+no-deck (Some command.Check) is known = tt
 no-deck (Some command.Migrate) is (inl known) = absurd cc
 no-deck (Some command.Migrate) is (inr (inl known)) = absurd cc
 no-deck (Some command.Migrate) is (inr (inr known)) = absurd (let page = known.1 in cc)

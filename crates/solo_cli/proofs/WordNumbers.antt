@@ -68,18 +68,20 @@ or-both : (first second : Option Command) (n : ℕ) → IsMadeOf n first → IsM
 or-both None second n one two = two
 or-both (Some found) second n one two = one
 
-alone-by : (batch format migrate : Bool) (n : ℕ)
+alone-by : (batch format migrate check : Bool) (n : ℕ)
     → IsMadeOf n (if batch then Some command.Batch else if format then Some command.Format
-    else if migrate then Some command.Migrate else None)
-alone-by true format migrate n = λ is. cc
-alone-by false true migrate n = λ is. cc
-alone-by false false true n = λ is. cc
-alone-by false false false n = λ is. cc
+    else if migrate then Some command.Migrate else if check then Some command.Check else None)
+alone-by true format migrate check n = λ is. cc
+alone-by false true migrate check n = λ is. cc
+alone-by false false true check n = λ is. cc
+alone-by false false false true n = λ is. cc
+alone-by false false false false n = λ is. cc
 
 pub number_made : (words : List (List ℕ)) (n : ℕ) → form words ≡ Some (command.Make n) → n ≤ 50000
 number_made [] n = λ is. cc
 number_made (word ∷ []) n =
-    alone-by (bytes_eq word (codes "batch")) (bytes_eq word (codes "format")) (bytes_eq word (codes "migrate")) n
+    alone-by (bytes_eq word (codes "batch")) (bytes_eq word (codes "format")) (bytes_eq word (codes "migrate"))
+    (bytes_eq word (codes "check")) n
 number_made (first ∷ second ∷ []) n =
     or-both (joined first second) (joined second first) n (with-joined second (takes_number first) n) (with-joined first (takes_number second) n)
 number_made (first ∷ second ∷ third ∷ []) n =

@@ -18,6 +18,14 @@ IsRunCause c =
 abbrev pub IsMakeCause : Cause → Type 0
 IsMakeCause c = (c ≡ cause.DiskFault) ⊎ ((c ≡ cause.PrintFault) ⊎ (IsDamaged c ⊎ (c ≡ cause.NoMemory)))
 
+-- what may end the reading of a deck into memory
+abbrev pub IsReadCause : Cause → Type 0
+IsReadCause c = (c ≡ cause.ReadFault) ⊎ ((c ≡ cause.DeckLimit) ⊎ (c ≡ cause.NoMemory))
+
+-- what may end the judgement of a deck: its line may not be printed
+abbrev pub IsCheckCause : Cause → Type 0
+IsCheckCause c = (c ≡ cause.PrintFault) ⊎ IsReadCause c
+
 -- a deck that tells its bytes, no more than the limit allows
 abbrev pub IsWithinLimit : Option (List ℕ) → Type 0
 IsWithinLimit None = ⊥

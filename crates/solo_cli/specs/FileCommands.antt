@@ -52,3 +52,4 @@ CanUse (Some (command.Core schedule)) told = Told told IsSoloDisk
 CanUse (Some (command.Make number)) told = Told told IsSoloDisk
 CanUse (Some command.Format) told = Unit {0}
 CanUse (Some command.Migrate) told = Told told KeepsItsFormat
+CanUse (Some command.Check) told = Unit {0}

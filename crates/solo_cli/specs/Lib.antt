@@ -3,6 +3,8 @@ pub use Rattle.solo_devices.specs.Count
 pub use Rattle.solo_devices.specs.CardUnit
 pub use Rattle.solo_devices.specs.PrinterUnit
 pub use Rattle.made_deck.specs.MadeDeck
+pub use Rattle.access_check.specs.Judgement
+pub use Rattle.access_check.specs.Runs
 pub use Rattle.disk_layout.specs.Format1
 pub use Rattle.disk_files.specs.Answers
 pub use Rattle.disk_system.specs.Formatted
@@ -19,3 +21,4 @@ pub mod Refusals
 pub mod FileCommands
 pub mod CountsPaper
 pub mod MadePaper
+pub mod AccessLines

@@ -10,6 +10,7 @@ MountsFiles (Some (command.Core schedule)) = Unit {0}
 MountsFiles (Some (command.Make number)) = Unit {0}
 MountsFiles (Some command.Format) = ⊥
 MountsFiles (Some command.Migrate) = ⊥
+MountsFiles (Some command.Check) = ⊥
 MountsFiles None = ⊥
 
 -- the command reads the deck
@@ -19,6 +20,7 @@ ReadsDeck (Some (command.Core schedule)) = Unit {0}
 ReadsDeck (Some (command.Make number)) = ⊥
 ReadsDeck (Some command.Format) = ⊥
 ReadsDeck (Some command.Migrate) = ⊥
+ReadsDeck (Some command.Check) = Unit {0}
 ReadsDeck None = ⊥
 
 -- the command uses the area of the files alone
@@ -28,4 +30,5 @@ UsesFilesAlone (Some command.Migrate) = Unit {0}
 UsesFilesAlone (Some command.Batch) = ⊥
 UsesFilesAlone (Some (command.Core schedule)) = ⊥
 UsesFilesAlone (Some (command.Make number)) = ⊥
+UsesFilesAlone (Some command.Check) = ⊥
 UsesFilesAlone None = ⊥

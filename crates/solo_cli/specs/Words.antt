@@ -13,7 +13,8 @@ abbrev pub alone : List ℕ → Option Command
 alone word =
     if bytes_eq word (codes "batch") then Some command.Batch
     else if bytes_eq word (codes "format") then Some command.Format
-    else if bytes_eq word (codes "migrate") then Some command.Migrate else None
+    else if bytes_eq word (codes "migrate") then Some command.Migrate
+    else if bytes_eq word (codes "check") then Some command.Check else None
 
 -- the commands that take a number
 abbrev pub takes_number : List ℕ → Option Numbered

@@ -1,6 +1,6 @@
 //! Which command the words are, and what it does.
 ghost use Rattle.std.specs.Prelude.{◌≡◌, ◌⊎◌, ◌↔◌, ◌<◌, ◌≤◌, ℕ, List, [], Some, None, IsSome, IfSome, map, string_bytes};
-ghost use Rattle.solo_base.specs.Text.{text};
+ghost use Rattle.solo_base.specs.Text.{text, line_text};
 ghost use Rattle.solo_base.specs.Card.{cards};
 ghost use Rattle.solo_devices.specs.CardUnit.{IsAllTaken};
 ghost use Rattle.solo_devices.specs.PrinterUnit.{Gains};
@@ -14,6 +14,8 @@ ghost use Rattle.core_law.specs.Holds.{AreFound};
 ghost use Rattle.core_law.specs.Opening.{opened};
 ghost use Rattle.core_net.specs.Causes.{counting};
 ghost use Rattle.core_net.specs.Openings.{spools_over, files_found};
+ghost use Rattle.access_check.specs.Judgement.{judge};
+ghost use Rattle.solo_cli.specs.AccessLines.{judgement_line};
 ghost use Rattle.solo_cli.specs.Words.{form};
 ghost use Rattle.solo_cli.specs.CountsPaper.{GainsCounted};
 ghost use Rattle.solo_cli.specs.MadePaper.{GainsNumbers};
@@ -21,6 +23,7 @@ ghost use Rattle.solo_cli.specs.FileCommands.{FormatsTo, MigratesTo, RefusesFile
 ghost use Rattle.solo_cli.specs.Refusals.{HasItsReason, MayBeRefused, OfFault};
 ghost use Rattle.solo_cli.specs.Uses.{MountsFiles, ReadsDeck, UsesFilesAlone};
 
+use crate::checking::run_check;
 use crate::file_commands::{format_files, migrate_files};
 use crate::mounting::{Mode, Used, run_deck, run_made_deck};
 use crate::refusal::Refusal;
@@ -85,6 +88,10 @@ pub fn run_command<
         form (map (λ word. string_bytes word) words.now) ≡ Some (Command.Make number) →
         IfSome result.cause (λ refusal.
         (refusal ≡ Refusal.Fault Cause.DiskFault) ⊎ OfFault IsDamaged refusal → result.paper ≡ paper) }
+    ensures check { form (map (λ word. string_bytes word) words.now) ≡ Some Command.Check →
+        (bytes : List ℕ) → S.left deck ≡ Some bytes →
+        Gains (K.given paper) (K.given result.paper) (line_text (judgement_line (judge (cards bytes))))
+        (result.cause ≡ None) }
 
     // What becomes of the files.
     ensures formatted { form (map (λ word. string_bytes word) words.now) ≡ Some Command.Format →
@@ -120,6 +127,9 @@ pub fn run_command<
         × (result.output ≡ output) }
     ensures files_alone { UsesFilesAlone (form (map (λ word. string_bytes word) words.now)) →
         (result.deck ≡ deck) × (result.paper ≡ paper) × (result.input ≡ input) × (result.output ≡ output) }
+
+    ensures no_area { form (map (λ word. string_bytes word) words.now) ≡ Some Command.Check →
+        (result.files ≡ files) × (result.input ≡ input) × (result.output ≡ output) }
 
     // The cause is one of those that there can be, and each has its reason.
     ensures all_taken { ReadsDeck (form (map (λ word. string_bytes word) words.now)) → result.cause ≡ None →
@@ -181,5 +191,6 @@ pub fn run_command<
                 output,
             }
         }
+        Some(Command::Check) => run_check(alloc, deck, paper, files, input, output),
     }
 }

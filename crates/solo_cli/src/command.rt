@@ -1,5 +1,5 @@
 ghost use Rattle.std.specs.Prelude.{◌≡◌, ◌≢◌, ◌↔◌, ◌⊎◌, ◌<◌, ◌≤◌, ℕ, List, [], None, Some, IsSome, IfSome, length, map, string_bytes};
-ghost use Rattle.solo_base.specs.Text.{text};
+ghost use Rattle.solo_base.specs.Text.{text, line_text};
 ghost use Rattle.solo_base.specs.Card.{cards};
 ghost use Rattle.solo_devices.specs.Count.{Rose, Stayed};
 ghost use Rattle.solo_devices.specs.CardUnit.{byte_limit};
@@ -12,6 +12,8 @@ ghost use Rattle.made_deck.specs.MadeDeck.{made_deck};
 ghost use Rattle.core_law.specs.Holds.{AreFound};
 ghost use Rattle.core_law.specs.Opening.{opened};
 ghost use Rattle.core_net.specs.Openings.{spools_over, files_found};
+ghost use Rattle.access_check.specs.Judgement.{judge};
+ghost use Rattle.solo_cli.specs.AccessLines.{judgement_line};
 ghost use Rattle.solo_cli.specs.Words.{form};
 ghost use Rattle.solo_cli.specs.Status.{status_of};
 ghost use Rattle.solo_cli.specs.Causes.{IsWithinLimit};
@@ -52,7 +54,8 @@ pub struct Finished<S, Y, K, T, F, I, O> {
 /// `batch` on threads, `core` under the schedule of a number, and behind the reports it prints what it
 /// counted. `make` makes the deck of a number, runs it in memory under the schedule of this number, and
 /// prints the numbers of both. `format` makes the area of the files one without a file, and `migrate` makes
-/// one of format 1 one of format 2 with the same files. Where the words are no command, nothing is done.
+/// one of format 1 one of format 2 with the same files. `check` judges the deck as a description of access
+/// rights, and prints the line of its judgement. Where the words are no command, nothing is done.
 pub fn top<
     S: Source + Drop + Send,
     Y: Source,
@@ -116,6 +119,15 @@ pub fn top<
     ensures make_unprinted { (number : ℕ) →
         form (map (λ word. string_bytes word) words.now) ≡ Some (Command.Make number) →
         (result.status ≡ 3) ⊎ (result.status ≡ 8) → result.paper ≡ paper }
+
+    // `check` judges the deck as a description of access rights. The paper gains the line of the judgement,
+    // or a prefix of it, and all of it at status 0; the areas come back as they came.
+    ensures check_output { (bytes : List ℕ) → S.left deck ≡ Some bytes →
+        form (map (λ word. string_bytes word) words.now) ≡ Some Command.Check →
+        Gains (K.given paper) (K.given result.paper) (line_text (judgement_line (judge (cards bytes))))
+        (result.status ≡ 0) }
+    ensures no_area { form (map (λ word. string_bytes word) words.now) ≡ Some Command.Check →
+        (result.files ≡ files) × (result.input ≡ input) × (result.output ≡ output) }
 
     // `format` leaves an area without a file, and whatever fails the pages of files.
     ensures formatted { form (map (λ word. string_bytes word) words.now) ≡ Some Command.Format →

@@ -42,7 +42,7 @@ pub fn number_line(word: &[u8], number: u64) -> Line
 }
 
 /// Adds a count at the end, in decimal.
-fn append_count(line: &mut Line, count: u128)
+pub fn append_count(line: &mut Line, count: u128)
     requires room { length line.old + COUNT_LENGTH ≤ 132 }
     requires few { count < 10 ^ 30 }
     ensures text { line.new ≡ line.old ++ decimal count }

@@ -1,6 +1,8 @@
 //! The commands of the program `solo`, over devices that the caller hands in.
 #![tactic(auto)]
 
+mod access_lines;
+mod checking;
 mod choosing;
 mod command;
 mod counts;

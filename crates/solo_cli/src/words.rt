@@ -17,6 +17,8 @@ pub enum Command {
     Format,
     /// Makes an area of format 1 one of format 2 with the same files.
     Migrate,
+    /// Judges a description of access rights.
+    Check,
 }
 
 /// A command that takes a number.
@@ -57,6 +59,8 @@ fn alone(word: &str) -> Option<Command>
         Some(Command::Format)
     } else if word == "migrate" {
         Some(Command::Migrate)
+    } else if word == "check" {
+        Some(Command::Check)
     } else {
         None
     }

@@ -1,7 +1,9 @@
 use Rattle.std.proofs.Common.{◌≡◌, ◌⊎◌, inl, inr, [], Some, map, sym, ◌∙◌, ap, subst, arith}
 use Rattle.std.specs.Prelude.{string_bytes, IfSome}
 use Rattle.solo_base.specs.Card.{cards}
-use Rattle.solo_base.specs.Text.{text}
+use Rattle.solo_base.specs.Text.{text, line_text}
+use Rattle.access_check.specs.Judgement.{judge}
+use Rattle.solo_cli.specs.AccessLines.{judgement_line}
 use Rattle.batch_job.specs.OneThread.{one_thread_output}
 use Rattle.made_deck.specs.MadeDeck.{made_deck}
 use Rattle.core_law.specs.Opening.{opened}
@@ -40,6 +42,12 @@ returns-clause-make_output g c = λ number is input_told output_told.
     (opened (spools_over (g.I.Area.size c.args.input) (g.I.Area.pages c.args.input) (g.O.Area.size c.args.output) (g.O.Area.pages c.args.output))
     (Some (cards (made_deck number))) (Some []) (files_found (g.F.Area.pages c.args.files))) (made_deck number)
     (c.run_command-cause.ensures.make number is input_told output_told)
+
+pub returns-clause-check_output : goal.returns-clause-check_output
+returns-clause-check_output g c = λ bytes told is.
+    gains_where (g.K.Sink.given c.args.paper) (g.K.Sink.given c.run_command-cause.result.paper) _ _
+    (λ zero. no_cause c.run_command-cause.result.cause (sym c.status_of.ensures ∙ zero)) (line_text (judgement_line (judge (cards bytes))))
+    (c.run_command-cause.ensures.check is bytes told)
 
 pub returns-clause-make_unread : goal.returns-clause-make_unread
 returns-clause-make_unread g c = λ number is.
