@@ -75,7 +75,8 @@ impl<A: Area> FileArea<A> {
             (fin.insert (files pages) name.now (with_page_at file n page.now.0)) (free_count pages)) }
         ensures place { (pages : List (List ℕ)) → A.pages self.old.area ≡ Some pages
             → OnOk result ((index : ℕ) × HasIndex pages name.now index
-            × (A.pages self.new.area ≡ Some (slice_set pages (page_of (disk_of pages) index (n - 1)) page.now.0))) }
+            × (A.pages self.new.area
+            ≡ Some (slice_set pages (page_of (disk_of pages) index (n - 1)) page.now.0))) }
         ensures kept { KeepsTable self.old self.new }
         ensures refusals { IfErr result (λ fault. (fault ≡ NoFile) ⊎ (fault ≡ Protected) ⊎ (fault ≡ PageRange)
             ⊎ (fault ≡ DiskFault)) }

@@ -144,7 +144,8 @@ fn append_pages<A: Area>(
         (fin.insert others name.now (record file { pages = cut bytes.now count }))
         (unused - (count + part_count count))) }
     ensures taken { (others : Files) (file : File) (unused : ℕ)
-        → (held : Holds (A.pages files.old.area) (fin.insert others name.now (record file { pages = [] })) unused)
+        → (held : Holds (A.pages files.old.area)
+        (fin.insert others name.now (record file { pages = [] })) unused)
         → file.protected ≡ false → count ≤ 4000 → count + part_count count ≤ unused
         → OnOk result (Told (A.pages files.new.area) (λ after. TakesPages held.pages after name.now count)) }
     ensures fault { (others : Files) (file : File) (unused : ℕ)

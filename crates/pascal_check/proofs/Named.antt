@@ -18,7 +18,7 @@ use Rattle.std.proofs.lemmas.Slice.Eq.{bytes_eq-Decides}
 use Rattle.std.proofs.lemmas.Option.{none-some}
 use Rattle.pascal_tree.specs.Scopes.{found, named_as}
 use Rattle.pascal_tree.specs.declared.means.Means.{Means}
-use Rattle.pascal_check.specs.Listed.{in_order, AreNumbered, Names, place_of, declared_by, latest_first, looked_up, AreFound, values_added, AreAmong}
+use Rattle.pascal_check.specs.Listed.{in_order, AreNumbered, NumberedNames, place_of, declared_by, latest_first, looked_up, AreLookedUp, values_added, AreAmong}
 use Rattle.pascal_check.proofs.Added.{found_added, order_added, numbers_added}
 
 -- the order of names in a map
@@ -50,7 +50,7 @@ none_mapped f (Some v) h = absurd (none-some (f v) (sym h))
 
 -- ---- A name more
 
-module _ (es : Names) (k : Vec ℕ) (m : Means) (n : ℕ) (next : n ≡ length es) (numbers : AreNumbered place_of declared_by es) (all : AreFound es)
+module _ (es : NumberedNames) (k : Vec ℕ) (m : Means) (n : ℕ) (next : n ≡ length es) (numbers : AreNumbered place_of declared_by es) (all : AreLookedUp es)
     (absent : found (latest_first es) k.items ≡ None) where
   new : looked_up es k.items ≡ None
   new = none_mapped (λ v. v.1) (looked_up es k.items) (all k.items ∙ absent)
@@ -63,7 +63,7 @@ module _ (es : Names) (k : Vec ℕ) (m : Means) (n : ℕ) (next : n ≡ length e
   pub numbers_kept : AreNumbered place_of declared_by (insert_entry by_letters es k (n, m))
   numbers_kept = numbers_added by_letters place_of declared_by k (n, m) es new next numbers
 
-  pub all_found : AreFound (insert_entry by_letters es k (n, m))
+  pub all_found : AreLookedUp (insert_entry by_letters es k (n, m))
   all_found name =
       ap (option_map (λ v. v.1)) (looked_up_added name es k (n, m))
       ∙ through (λ v. v.1) (bytes_eq name k.items) (n, m) (looked_up es name)

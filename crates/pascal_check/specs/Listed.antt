@@ -26,8 +26,8 @@ module _ {E D : Type 0} (number : E → ℕ) (shown : E → D) where
 
 -- ---- Declarations by their names
 
-abbrev pub Names : Type 0
-Names = List (Vec ℕ × (ℕ × Means))
+abbrev pub NumberedNames : Type 0
+NumberedNames = List (Vec ℕ × (ℕ × Means))
 
 abbrev pub place_of : Vec ℕ × (ℕ × Means) → ℕ
 place_of e = (e.1).0
@@ -36,7 +36,7 @@ abbrev pub declared_by : Vec ℕ × (ℕ × Means) → Declared
 declared_by e = named_as (e.0).items (e.1).1
 
 -- the latest first
-abbrev pub latest_first : Names → List Declared
+abbrev pub latest_first : NumberedNames → List Declared
 latest_first es = reverse (in_order place_of declared_by es (length es))
 
 -- what a map has at a name
@@ -44,8 +44,8 @@ abbrev pub looked_up : {X : Type 0} → List (Vec ℕ × X) → List ℕ → Opt
 looked_up es name = lookup (λ k. is_eq (slice_cmp nat_cmp name k.items)) es
 
 -- a name is found as in the list
-abbrev pub AreFound : Names → Type 0
-AreFound es = (name : List ℕ) → option_map (λ v. v.1) (looked_up es name) ≡ found (latest_first es) name
+abbrev pub AreLookedUp : NumberedNames → Type 0
+AreLookedUp es = (name : List ℕ) → option_map (λ v. v.1) (looked_up es name) ≡ found (latest_first es) name
 
 -- ---- Values
 

@@ -31,13 +31,13 @@ impl Drop for Names {
 impl Model for Names {
     ghost use Rattle.std.specs.Prelude.{List};
     ghost use Rattle.pascal_tree.specs.Scopes.{Declared};
-    ghost use Rattle.pascal_check.specs.Listed.{latest_first, place_of, declared_by, AreNumbered, AreFound};
+    ghost use Rattle.pascal_check.specs.Listed.{latest_first, place_of, declared_by, AreNumbered, AreLookedUp};
 
     ghost Value = { List Declared };
 
     ghost view = { λ n. latest_first n.entries.entries };
 
-    ghost invariant = { λ n. AreFound n.entries.entries
+    ghost invariant = { λ n. AreLookedUp n.entries.entries
         × AreNumbered place_of declared_by n.entries.entries };
 }
 

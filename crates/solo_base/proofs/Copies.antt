@@ -20,7 +20,8 @@ one_place_more Holds d ys k y inside before here i below =
 pub image : {A B : Type 0} (f : A → B) (d : A) (e : B) (xs : List A) (ys : List B) → length ys ≡ length xs
     → ((i : ℕ) → i < length xs → get_or ys i e ≡ f (get_or xs i d)) → ys ≡ map f xs
 image f d e xs ys long same =
-    ext_get_or e ys (map f xs) (long ∙ sym (length-map xs f)) (λ i below. let inside : i < length xs = omega (arith, long) in same i inside ∙ sym (get_or-map f xs i d e inside))
+    ext_get_or e ys (map f xs) (long ∙ sym (length-map xs f)) (λ i below.
+    let inside : i < length xs = omega (arith, long) in same i inside ∙ sym (get_or-map f xs i d e inside))
 
 each_is : {A : Type 0} (p : A → Bool) (xs : List A) (d : A) (i : ℕ) → list_all p xs ≡ true → i < length xs → p (get_or xs i d) ≡ true
 each_is p xs d i are inside =

@@ -40,7 +40,8 @@ impl HurtArea {
         ensures untold { ⟦<HurtArea as Area>⟧.pages result ≡ None }
         ensures size { ⟦<HurtArea as Area>⟧.size result ≡ ⟦<SureArea as Area>⟧.size area }
         ensures faults { ⟦<HurtArea as Area>⟧.faults result ≡ 0 }
-        ensures whole { result ≡ record { area = area; reads = 0; harm = record { read = read; at = at; byte = byte } } }
+        ensures whole { result
+            ≡ record { area = area; reads = 0; harm = record { read = read; at = at; byte = byte } } }
     {
         HurtArea {
             area,
@@ -87,8 +88,8 @@ impl Area for HurtArea {
         ensures size { ⟦<HurtArea as Area>⟧.size self.new ≡ ⟦<HurtArea as Area>⟧.size self.old }
         ensures counted { self.new.reads ≡ self.old.reads }
         ensures same { self.new.harm ≡ self.old.harm }
-        ensures written { Writes (⟦<SureArea as Area>⟧.pages self.old.area) (⟦<SureArea as Area>⟧.pages self.new.area)
-            n result page.now.0 }
+        ensures written { Writes (⟦<SureArea as Area>⟧.pages self.old.area)
+            (⟦<SureArea as Area>⟧.pages self.new.area) n result page.now.0 }
     {
         self.area.write(n, page)
     }

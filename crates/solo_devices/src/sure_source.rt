@@ -19,7 +19,8 @@ impl Model for SureSource {
 
     ghost Value = { Stock };
 
-    ghost view = { λ source. record { bytes = source.bytes.items; taken = source.place; piece = source.piece } };
+    ghost view = { λ source.
+        record { bytes = source.bytes.items; taken = source.place; piece = source.piece } };
 
     ghost invariant = { λ source. (source.place ≤ length source.bytes.items) × (0 < source.piece) };
 }
@@ -62,9 +63,12 @@ impl Source for SureSource {
         ensures same { self.new.piece ≡ self.old.piece }
         // As the trait says.
         ensures fits { FitsPiece result piece.new }
-        ensures bytes { TakesFrom (⟦<SureSource as Source>⟧.left self.old) (⟦<SureSource as Source>⟧.left self.new) result piece.new }
-        ensures taken { ⟦<SureSource as Source>⟧.taken self.new ≡ raised (⟦<SureSource as Source>⟧.taken self.old) (bytes_taken result) }
-        ensures cause { CountsFaults (⟦<SureSource as Source>⟧.faults self.old) (⟦<SureSource as Source>⟧.faults self.new) result }
+        ensures bytes { TakesFrom (⟦<SureSource as Source>⟧.left self.old)
+            (⟦<SureSource as Source>⟧.left self.new) result piece.new }
+        ensures taken { ⟦<SureSource as Source>⟧.taken self.new
+            ≡ raised (⟦<SureSource as Source>⟧.taken self.old) (bytes_taken result) }
+        ensures cause { CountsFaults (⟦<SureSource as Source>⟧.faults self.old)
+            (⟦<SureSource as Source>⟧.faults self.new) result }
     {
         let count = give_bytes(&self.bytes[self.place..], self.piece, piece);
         self.place += count;

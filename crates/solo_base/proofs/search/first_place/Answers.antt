@@ -7,5 +7,6 @@ use Rattle.solo_base.proofs.search.first_place.Goals as goal
 
 pub returns : goal.returns
 returns c =
-    let found = position_from_yields_List (λ other. other == c.args.byte) _ _ c.position.result c.position.ensures.ran (YieldsList-from_slice _ c.iter.ensures.rest) (λ x b q k. search (rules, tests)) in
+    let found = position_from_yields_List (λ other. other == c.args.byte) _ _ c.position.result c.position.ensures.ran
+    (YieldsList-from_slice _ c.iter.ensures.rest) (λ x b q k. search (rules, tests)) in
     c.unwrap_or.ensures ∙ ap (λ r. unwrap_or r (length c.args.bytes.now)) found ∙ unwrapped (λ other. other == c.args.byte) c.args.bytes.now

@@ -14,7 +14,8 @@ invariant_of-self-2 c =
     let v = to_z w16 (of_z w16 c.args.value) in
     let same : v ≡ c.args.value = to_z-of_z w16 c.args.value c.ranges.value in
     let next = c.len-before.ensures.len in
-    let absent : list_any (int_eq v) (values_added es) ≡ false = ap (list_any (int_eq v)) c.self.view_is ∙ ap (λ (w : ℤ). list_any (int_eq w) c.args.self.now) same ∙ c.requires in
+    let absent : list_any (int_eq v) (values_added es) ≡ false =
+    ap (list_any (int_eq v)) c.self.view_is ∙ ap (λ (w : ℤ). list_any (int_eq w) c.args.self.now) same ∙ c.requires in
     subst (λ all. AreAmong all × AreNumbered (λ (e : ℤ × ℕ). e.1) (λ (e : ℤ × ℕ). e.0) all) (sym c.in_ok-insert.ensures.entries) (
       all_among es v c.len-before.result next c.self.invariant.1 c.self.invariant.0 absent,
       values_numbered es v c.len-before.result next c.self.invariant.1 c.self.invariant.0 absent,
@@ -25,7 +26,8 @@ returns c =
     let es = c.self.inside.entries.entries in
     let v = to_z w16 (of_z w16 c.args.value) in
     let same : v ≡ c.args.value = to_z-of_z w16 c.args.value c.ranges.value in
-    let absent : list_any (int_eq v) (values_added es) ≡ false = ap (list_any (int_eq v)) c.self.view_is ∙ ap (λ (w : ℤ). list_any (int_eq w) c.args.self.now) same ∙ c.requires in
+    let absent : list_any (int_eq v) (values_added es) ≡ false =
+    ap (list_any (int_eq v)) c.self.view_is ∙ ap (λ (w : ℤ). list_any (int_eq w) c.args.self.now) same ∙ c.requires in
     ap values_added c.in_ok-insert.ensures.entries
     ∙ value_behind es v c.len-before.result c.len-before.ensures.len c.self.invariant.1 c.self.invariant.0 absent
     ∙ ap (λ vs. vs ++ v ∷ []) c.self.view_is

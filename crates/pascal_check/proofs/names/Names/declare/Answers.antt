@@ -1,6 +1,6 @@
 use Rattle.std.proofs.Common.{◌≡◌, ◌∷◌, None, sym, ap, subst, ◌∙◌}
 use Rattle.pascal_tree.specs.Scopes.{found, named_as}
-use Rattle.pascal_check.specs.Listed.{place_of, declared_by, latest_first, AreNumbered, AreFound}
+use Rattle.pascal_check.specs.Listed.{place_of, declared_by, latest_first, AreNumbered, AreLookedUp}
 use Rattle.pascal_check.proofs.Named.{latest_added, numbers_kept, all_found}
 use Rattle.pascal_check.proofs.names.Names.declare.Goals as goal
 
@@ -11,7 +11,7 @@ invariant_of-self-2 c =
     let next = c.len-before.ensures.len in
     let absent : found (latest_first es) key.items ≡ None =
     ap (λ ds. found ds key.items) c.self.view_is ∙ ap (λ n. found c.args.self.now n) c.in_ok-name.ensures.items ∙ c.requires in
-    subst (λ all. AreFound all × AreNumbered place_of declared_by all) (sym c.in_ok-insert.ensures.entries) (
+    subst (λ all. AreLookedUp all × AreNumbered place_of declared_by all) (sym c.in_ok-insert.ensures.entries) (
       all_found es key c.args.means c.len-before.result next c.self.invariant.1 c.self.invariant.0 absent,
       numbers_kept es key c.args.means c.len-before.result next c.self.invariant.1 c.self.invariant.0 absent,
     )
