@@ -1,0 +1,4 @@
+pub mod Along
+pub mod Picking
+pub mod RunMore
+pub mod OneRun
