@@ -1,0 +1,4 @@
+pub mod Typed
+pub mod Starts
+pub mod Awaiting
+pub mod Rows

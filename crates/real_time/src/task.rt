@@ -1,0 +1,89 @@
+ghost use Rattle.std.specs.Prelude.{◌≡◌, ◌<◌, ◌≤◌, ◌+◌, ℕ, Some, None};
+ghost use Rattle.real_time.specs.Starts.{Plan, Never, First};
+ghost use Rattle.real_time.specs.Awaiting.{Row, Awaits, Passed, next_behind, unplanned};
+
+use solo_base::Ident;
+use std::marker::Model;
+
+/// The last second of the clock, and the longest period.
+pub const LAST_SECOND: u32 = 1_000_000;
+
+/// A task that has a name, with the second of its next start.
+#[derive(Debug, Drop)]
+pub struct Task {
+    name: Ident,
+    next: Option<u32>,
+    period: u32,
+}
+
+impl Model for Task {
+    ghost use Rattle.std.specs.Prelude.{◌≤◌};
+    ghost use Rattle.real_time.specs.Awaiting.{Row};
+
+    ghost Value = { Row };
+
+    ghost view = { λ task. record { name = task.name; next = task.next; period = task.period } };
+
+    ghost invariant = { λ task. task.period ≤ 1000000 };
+}
+
+impl Task {
+    /// A task without a plan.
+    pub fn new(name: Ident) -> Task
+        ensures row { result ≡ unplanned name }
+        ensures plan { (now : ℕ) → Awaits Never now result }
+    {
+        Task {
+            name,
+            next: None,
+            period: 0,
+        }
+    }
+
+    /// It starts first at a time, and then each so many seconds; with a period of 0 never again.
+    pub fn plan(&mut self, time: u32, period: u32)
+        requires { period ≤ 1000000 }
+        ensures row { self.new ≡ record self.old { next = Some time; period = period } }
+        ensures plan { (now : ℕ) → now < time → Awaits (First time period) now self.new }
+    {
+        self.next = Some(time);
+        self.period = period;
+    }
+
+    /// It doesn't start any more.
+    pub fn stop(&mut self)
+        ensures row { self.new ≡ record self.old { next = None } }
+        ensures plan { (now : ℕ) → Awaits Never now self.new }
+    {
+        self.next = None;
+    }
+
+    /// Whether it starts in a second: the one behind that which the row stands for.
+    pub fn passes(&mut self, second: u32) -> bool
+        requires { second ≤ 1000000 }
+        ensures name { self.new.name ≡ self.old.name }
+        ensures passes { (plan : Plan) (now : ℕ) → second ≡ now + 1 → Awaits plan now self.old
+            → Passed plan second self.old self.new result }
+    {
+        let Some(next) = self.next else {
+            return false;
+        };
+        if next != second {
+            return false;
+        }
+        self.next = next_behind(second, self.period);
+        true
+    }
+}
+
+// The start behind one in this second, where the period isn't 0.
+fn next_behind(second: u32, period: u32) -> Option<u32>
+    requires few { second ≤ 1000000 }
+    requires short { period ≤ 1000000 }
+    ensures { result ≡ next_behind second period }
+{
+    if period == 0 {
+        return None;
+    }
+    Some(second + period)
+}
