@@ -4,7 +4,9 @@ use Rattle.std.specs.Prelude.{nat_lt, if◌then◌else◌, ◌==◌, ◌&&◌, �
 use Rattle.std.proofs.lemmas.Bool.{ltb-true, lt-ltb}
 use Rattle.std.proofs.lemmas.Bool.Decides.{eqb_tells}
 use Rattle.std.proofs.Math.Nat.{div-add-mod, mul-mod_right}
-use Rattle.real_time.specs.Starts.{Plan, Never, First, is_due}
+use Rattle.real_time.specs.declared.plan.Plan.{Plan}
+use Rattle.real_time.specs.declared.plan.Plan.TheVariants.{Never, First}
+use Rattle.real_time.specs.Starts.{is_due}
 use Rattle.real_time.specs.Awaiting.{Row, Awaits, Passed, next_behind}
 
 -- ---- a plan's starts are its first one, and so many periods behind it

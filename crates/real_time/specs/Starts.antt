@@ -5,14 +5,11 @@ use Rattle.std.specs.Fmt.{decimal}
 use Rattle.std.specs.Str.{bytes_eq}
 use Rattle.solo_base.specs.Blanks.{trimmed}
 use Rattle.solo_base.specs.declared.item.Item.{Item}
+use Rattle.real_time.specs.declared.plan.Plan.{Plan}
+use Rattle.real_time.specs.declared.plan.Plan.TheVariants.{Never, First}
 use Rattle.real_time.specs.Typed.{Typed, Blank, Names, Plans, Stops, Passes, Bad, typed}
 
 -- ---- the plan of a task
--- at no time, or first at a second and then each so many seconds, where 0 is never again
-pub data Plan : Type 0 where
-  Never : Plan
-  First : ℕ → ℕ → Plan
-
 -- The task starts in this second.
 abbrev pub is_due : Plan → ℕ → Bool
 is_due Never second = false

@@ -1,8 +1,12 @@
 //! The real-time scheduler: a table of tasks that start by typed plans, and the lines that its console shows.
 #![tactic(auto)]
 
+mod plan;
 mod rows;
 mod task;
+mod tasks;
 
+pub use plan::Plan;
 pub use rows::worked_rows;
 pub use task::{LAST_SECOND, Task};
+pub use tasks::change_named;

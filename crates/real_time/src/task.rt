@@ -1,7 +1,9 @@
 ghost use Rattle.std.specs.Prelude.{◌≡◌, ◌<◌, ◌≤◌, ◌+◌, ℕ, Some, None};
-ghost use Rattle.real_time.specs.Starts.{Plan, Never, First};
-ghost use Rattle.real_time.specs.Awaiting.{Row, Awaits, Passed, next_behind, unplanned};
+ghost use Rattle.real_time.specs.declared.plan.Plan.{Plan};
+ghost use Rattle.real_time.specs.declared.plan.Plan.TheVariants.{Never, First};
+ghost use Rattle.real_time.specs.Awaiting.{Row, Awaits, IsAhead, IsShort, Passed, has_name, next_behind, unplanned};
 
+use crate::Plan;
 use solo_base::Ident;
 use std::marker::Model;
 
@@ -40,8 +42,27 @@ impl Task {
         }
     }
 
-    /// It starts first at a time, and then each so many seconds; with a period of 0 never again.
-    pub fn plan(&mut self, time: u32, period: u32)
+    /// Whether this is its name.
+    pub fn has_name(&self, name: &Ident) -> bool
+        ensures { result ≡ has_name name.now self.now }
+    {
+        self.name.bytes() == name.bytes()
+    }
+
+    /// It has this plan from now on.
+    pub fn change(&mut self, plan: Plan)
+        requires { IsShort plan }
+        ensures name { self.new.name ≡ self.old.name }
+        ensures awaits { (now : ℕ) → IsAhead plan now → Awaits plan now self.new }
+    {
+        match plan {
+            Plan::Never => self.stop(),
+            Plan::First { start, period } => self.plan(start, period),
+        }
+    }
+
+    // It starts first at a time, and then each so many seconds; with a period of 0 never again.
+    fn plan(&mut self, time: u32, period: u32)
         requires { period ≤ 1000000 }
         ensures row { self.new ≡ record self.old { next = Some time; period = period } }
         ensures plan { (now : ℕ) → now < time → Awaits (First time period) now self.new }
@@ -50,8 +71,8 @@ impl Task {
         self.period = period;
     }
 
-    /// It doesn't start any more.
-    pub fn stop(&mut self)
+    // It doesn't start any more.
+    fn stop(&mut self)
         ensures row { self.new ≡ record self.old { next = None } }
         ensures plan { (now : ℕ) → Awaits Never now self.new }
     {
