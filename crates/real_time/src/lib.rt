@@ -8,5 +8,5 @@ mod tasks;
 
 pub use plan::Plan;
 pub use rows::worked_rows;
-pub use task::{LAST_SECOND, Task};
+pub use task::Task;
 pub use tasks::change_named;

@@ -7,9 +7,6 @@ use crate::Plan;
 use solo_base::Ident;
 use std::marker::Model;
 
-/// The last second of the clock, and the longest period.
-pub const LAST_SECOND: u32 = 1_000_000;
-
 /// A task that has a name, with the second of its next start.
 #[derive(Debug, Drop)]
 pub struct Task {
@@ -49,7 +46,7 @@ impl Task {
         self.name.bytes() == name.bytes()
     }
 
-    /// It has this plan from now on.
+    /// It has this plan from now on. A period is at most 1,000,000 seconds.
     pub fn change(&mut self, plan: Plan)
         requires { IsShort plan }
         ensures name { self.new.name ≡ self.old.name }
@@ -79,7 +76,7 @@ impl Task {
         self.next = None;
     }
 
-    /// Whether it starts in a second: the one behind that which the row stands for.
+    /// Whether it starts in a second, which is the one behind those that have passed.
     pub fn passes(&mut self, second: u32) -> bool
         requires { second ≤ 1000000 }
         ensures name { self.new.name ≡ self.old.name }
