@@ -1,3 +1,4 @@
 pub mod Digits
 pub mod Due
 pub mod Changing
+pub mod Answering

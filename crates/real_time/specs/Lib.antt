@@ -1,4 +1,5 @@
 pub mod Typed
 pub mod Starts
 pub mod Awaiting
+pub mod Answers
 pub mod Rows

@@ -6,7 +6,7 @@ mod rows;
 mod task;
 mod tasks;
 
-pub use plan::Plan;
+pub use plan::{Plan, Planned};
 pub use rows::worked_rows;
 pub use task::Task;
-pub use tasks::change_named;
+pub use tasks::{change_named, is_task, start, stop};
