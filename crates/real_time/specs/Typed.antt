@@ -46,15 +46,15 @@ of_four word name time period =
     then planning (identifier name) (number_within 7 1 1000000 time) (number_within 7 0 1000000 period)
     else Bad
 
-abbrev pub of_words : List (List ℕ) → Typed
-of_words [] = Blank
-of_words (word ∷ []) = Bad
-of_words (word ∷ other ∷ []) = of_two word other
-of_words (word ∷ name ∷ time ∷ []) = Bad
-of_words (word ∷ name ∷ time ∷ period ∷ []) = of_four word name time period
-of_words (word ∷ name ∷ time ∷ period ∷ more ∷ others) = Bad
+abbrev pub typed_words : List (List ℕ) → Typed
+typed_words [] = Blank
+typed_words (word ∷ []) = Bad
+typed_words (word ∷ other ∷ []) = of_two word other
+typed_words (word ∷ name ∷ time ∷ []) = Bad
+typed_words (word ∷ name ∷ time ∷ period ∷ []) = of_four word name time period
+typed_words (word ∷ name ∷ time ∷ period ∷ more ∷ others) = Bad
 
 -- `start a 2 3` plans A at second 2, and every 3 seconds behind it
 abbrev pub typed : Item → Typed
-typed (item.Line text) = of_words (words text)
+typed (item.Line text) = typed_words (words text)
 typed item.Spoiled = Bad
