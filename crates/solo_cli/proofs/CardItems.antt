@@ -5,7 +5,7 @@ use Rattle.std.specs.List.{list_all}
 use Rattle.std.proofs.lemmas.Bool.Decides.{nat_tests}
 use Rattle.solo_base.specs.Line.{is_printable}
 use Rattle.solo_base.specs.Blanks.{before_trimmed, trimmed}
-use Rattle.solo_base.specs.Card.{lines, without_return, judged, card_of, cards}
+use Rattle.solo_base.specs.Card.{lines, without_return, card_of, cards}
 use Rattle.solo_base.specs.declared.item.Item.TheVariants.{Line, Spoiled}
 use Rattle.page_codec.specs.Items.{IsItem, AreItems}
 

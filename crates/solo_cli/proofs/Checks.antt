@@ -1,5 +1,5 @@
 -- What may end a judgement, as the cause of a command.
-use Rattle.std.proofs.Common.{◌≡◌, ◌<◌, ℕ, List, Option, Some, None, inl, inr, subst, sym, ap, refl}
+use Rattle.std.proofs.Common.{◌≡◌, ◌<◌, ℕ, List, Option, Some, None, inl, inr, subst, ap}
 use Rattle.std.specs.Prelude.{IfSome}
 use Rattle.solo_base.specs.declared.outcome.Cause.{Cause}
 use Rattle.solo_base.specs.declared.outcome.Cause.TheVariants as cause
@@ -7,7 +7,6 @@ use Rattle.solo_devices.specs.Count.{Rose}
 use Rattle.solo_devices.specs.CardUnit.{byte_limit, bytes_total}
 use Rattle.batch_procs.specs.Faults.{IsDamaged}
 use Rattle.core_net.specs.Causes.{Counts}
-use Rattle.core_net.specs.Faults.{Peripherals}
 use Rattle.solo_cli.specs.Causes.{IsCheckCause}
 use Rattle.solo_cli.specs.declared.refusal.Refusal.TheVariants.{Fault}
 use Rattle.solo_cli.specs.Refusals.{HasItsReason, OfFault, as_refusal}

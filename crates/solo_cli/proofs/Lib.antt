@@ -4,7 +4,6 @@ mod Endings
 mod Gaining
 mod Mounts
 mod Migrations
-mod Printing
 mod Lowest
 mod AllDone
 mod CardItems

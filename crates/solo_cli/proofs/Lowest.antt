@@ -1,6 +1,6 @@
 -- What the deciding cause says of the outcomes: it is the fault of some process, no fault has a lower number, and
 -- where there is none no process ended with a fault.
-use Rattle.std.proofs.Common.{◌≡◌, ◌⊎◌, inl, inr, ℕ, ◌≤◌, Bool, true, false, nat_le, if◌then◌else◌, List, [], ◌∷◌, Option, Some, None, refl, subst, arith}
+use Rattle.std.proofs.Common.{◌≡◌, ◌⊎◌, inl, inr, ◌≤◌, Bool, true, false, nat_le, if◌then◌else◌, List, [], ◌∷◌, Option, Some, None, refl, subst, arith}
 use Rattle.std.proofs.lemmas.Bool.Decides.{nat_tests}
 use Rattle.solo_base.specs.declared.outcome.Cause.{Cause}
 use Rattle.solo_base.specs.declared.outcome.Outcome.{Outcome}

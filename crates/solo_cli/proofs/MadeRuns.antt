@@ -8,7 +8,6 @@ use Rattle.solo_devices.specs.CardUnit.{byte_limit, bytes_total}
 use Rattle.solo_devices.specs.Count.{Rose}
 use Rattle.core_net.specs.declared.finish.Outcomes.{Outcomes}
 use Rattle.core_net.specs.Causes.{Counts}
-use Rattle.core_net.specs.Faults.{Peripherals}
 use Rattle.core_net.specs.Ended.{FaultsAre}
 use Rattle.solo_cli.specs.Causes.{IsRunCause, IsMakeCause}
 use Rattle.solo_cli.specs.declared.refusal.Refusal.TheVariants.{Fault}

@@ -8,7 +8,7 @@ use Rattle.disk_system.specs.declared.migrating.MigrateFault.{MigrateFault}
 use Rattle.disk_system.specs.declared.migrating.MigrateFault.TheVariants as migrating
 use Rattle.disk_system.specs.Migrating.{IsNewer, RefusesNewer, RefusesOlder}
 use Rattle.solo_cli.specs.declared.refusal.Refusal.{Refusal}
-use Rattle.solo_cli.specs.declared.refusal.Refusal.TheVariants.{Fault, NoRoom}
+use Rattle.solo_cli.specs.declared.refusal.Refusal.TheVariants.{Fault}
 use Rattle.solo_cli.specs.declared.words.Command.{Command}
 use Rattle.solo_cli.specs.declared.words.Command.TheVariants as command
 use Rattle.solo_cli.specs.Causes.{IsCheckCause}

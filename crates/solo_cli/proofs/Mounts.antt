@@ -1,15 +1,10 @@
 -- A Solo disk has no broken page; and what is the reason of a cause behind a mount was so before it.
-use Rattle.std.proofs.Common.{◌≡◌, ◌⊎◌, inl, inr, ◌≤◌, ℕ, List, Option, Some, None, refl, sym, ap, arith}
-use Rattle.std.specs.Prelude.{IfSome}
-use Rattle.solo_base.specs.declared.outcome.Cause.{Cause}
-use Rattle.solo_base.specs.declared.outcome.Cause.TheVariants as cause
-use Rattle.solo_devices.specs.Count.{Rose}
+use Rattle.std.proofs.Common.{inl, inr, ◌≤◌, ℕ, List, Option, arith}
 use Rattle.disk_layout.specs.Format.{IsBad, IsSoloDisk}
 use Rattle.core_net.specs.Causes.{Counts}
 use Rattle.core_net.specs.Faults.{Peripherals}
 use Rattle.solo_cli.specs.declared.refusal.Refusal.{Refusal}
-use Rattle.solo_cli.specs.Causes.{IsMakeCause}
-use Rattle.solo_cli.specs.Refusals.{HasItsReason, as_refusal}
+use Rattle.solo_cli.specs.Refusals.{HasItsReason}
 
 pub no_solo : (pages : List (List ℕ)) (n : ℕ) → IsSoloDisk pages → IsBad pages n → ⊥
 no_solo pages n solo bad = bad.breaks (solo n)

@@ -6,7 +6,6 @@ ghost use Rattle.core_net.specs.Runs.{AreFew};
 ghost use Rattle.solo_cli.specs.CountsLine.{counts_line};
 
 use core_net::Counts;
-use itoa::Buffer;
 use solo_base::Line;
 
 /// How many digits a count has at most.
@@ -48,6 +47,10 @@ pub fn append_count(line: &mut Line, count: u128)
     ensures text { line.new ≡ line.old ++ decimal count }
     ensures short { length line.new ≤ length line.old + COUNT_LENGTH }
 {
-    let mut digits = Buffer::new();
-    line.append(digits.format(count).as_bytes());
+    if count < 10 {
+        line.push(b'0' + count as u8);
+        return;
+    }
+    append_count(line, count / 10);
+    line.push(b'0' + (count % 10) as u8);
 }

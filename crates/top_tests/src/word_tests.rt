@@ -48,6 +48,7 @@ fn each_written_form_is_a_command(rt: HostRuntime) -> Result<(), Fail> {
         ("batch", Command::Batch),
         ("format", Command::Format),
         ("migrate", Command::Migrate),
+        ("check", Command::Check),
     ] {
         assert_eq!(rt; command(alloc, &[word])?, Some(asked));
     }
@@ -69,7 +70,7 @@ fn each_written_form_is_a_command(rt: HostRuntime) -> Result<(), Fail> {
 }
 
 /// Words that are no written form.
-const OTHERS: [&[&str]; 58] = [
+const OTHERS: [&[&str]; 61] = [
     &[],
     &[""],
     &["BATCH"],
@@ -128,6 +129,9 @@ const OTHERS: [&[&str]; 58] = [
     &["MIGRATE"],
     &["migrate", "format"],
     &["migrate", "--schedule", "7"],
+    &["CHECK"],
+    &["check", "batch"],
+    &["check", "--number", "7"],
 ];
 
 #[test]

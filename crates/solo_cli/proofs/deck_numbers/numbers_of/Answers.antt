@@ -10,8 +10,8 @@ same_Some same = cc
 pub loop-item-init : goal.loop-item-init
 loop-item-init c =
     let whole : c.in_ok-to_vec.field-0.items ≡ c.args.deck.now = search rules in
-    let left : drop c.new.result.place c.new.result.bytes.items ≡ c.args.deck.now = same_Some c.new.ensures.left ∙ whole in
-    let long : length (drop c.new.result.place c.new.result.bytes.items) ≡ length c.args.deck.now = ap length left in
+    let left : drop c.new.result.taken c.new.result.bytes ≡ c.args.deck.now = same_Some c.new.ensures.left ∙ whole in
+    let long : length (drop c.new.result.taken c.new.result.bytes) ≡ length c.args.deck.now = ap length left in
     rw c.new-unit.ensures (
       refl,
       omega (arith, c.new.ensures.taken, long, c.requires),
@@ -27,7 +27,7 @@ pub loop-item-preserved : goal.loop-item-preserved
 loop-item-preserved c =
     let before = c.loop-item.invariant in
     let unit = c.loop-item.unit in
-    let first = c.in-Some.ensures.next (cards (unit.pending ++ drop unit.source.place unit.source.bytes.items)) refl in
+    let first = c.in-Some.ensures.next (cards (unit.pending ++ drop unit.source.taken unit.source.bytes)) refl in
     let all = same_Some c.in-Some.ensures.total in (
       c.in-Some.ensures.live refl,
       omega (arith, all, before.1),
@@ -45,13 +45,13 @@ finish-requires c =
 pub returns-clause-jobs : goal.returns-clause-jobs
 returns-clause-jobs c =
     let unit = c.loop-item.unit in
-    let none : cards (unit.pending ++ drop unit.source.place unit.source.bytes.items) ≡ []
-    = c.in_default.ensures.next (cards (unit.pending ++ drop unit.source.place unit.source.bytes.items)) refl in
+    let none : cards (unit.pending ++ drop unit.source.taken unit.source.bytes) ≡ []
+    = c.in_default.ensures.next (cards (unit.pending ++ drop unit.source.taken unit.source.bytes)) refl in
     c.finish.ensures.jobs (cards c.args.deck.now) (subst (λ left. CountsOn (cards c.args.deck.now) left c.loop-item.tally) none c.loop-item.invariant.2)
 
 pub returns-clause-cards : goal.returns-clause-cards
 returns-clause-cards c =
     let unit = c.loop-item.unit in
-    let none : cards (unit.pending ++ drop unit.source.place unit.source.bytes.items) ≡ []
-    = c.in_default.ensures.next (cards (unit.pending ++ drop unit.source.place unit.source.bytes.items)) refl in
+    let none : cards (unit.pending ++ drop unit.source.taken unit.source.bytes) ≡ []
+    = c.in_default.ensures.next (cards (unit.pending ++ drop unit.source.taken unit.source.bytes)) refl in
     c.finish.ensures.cards (cards c.args.deck.now) (subst (λ left. CountsOn (cards c.args.deck.now) left c.loop-item.tally) none c.loop-item.invariant.2)

@@ -7,8 +7,8 @@ use Rattle.solo_cli.proofs.deck_numbers.numbers_of.Given as goal
 abbrev pub invariant-loop-item : goal.invariant-loop-item
 invariant-loop-item l =
     (l.unit.live ≡ true)
-    × (l.unit.source.place + length (drop l.unit.source.place l.unit.source.bytes.items) ≤ byte_limit)
-    × CountsOn (cards l.fn.deck) (cards (l.unit.pending ++ drop l.unit.source.place l.unit.source.bytes.items)) l.tally
+    × (l.unit.source.taken + length (drop l.unit.source.taken l.unit.source.bytes) ≤ byte_limit)
+    × CountsOn (cards l.fn.deck) (cards (l.unit.pending ++ drop l.unit.source.taken l.unit.source.bytes)) l.tally
 
 abbrev pub decreases-loop-item : goal.decreases-loop-item
-decreases-loop-item l = work_ahead l.unit.source.place l.unit.pending l.unit.ended
+decreases-loop-item l = work_ahead l.unit.source.taken l.unit.pending l.unit.ended

@@ -2,7 +2,7 @@ use Rattle.std.proofs.Common.{◌⊎◌, [], drop, Some, sym, ◌∙◌, ap, sub
 use Rattle.std.specs.Prelude.{IfSome}
 use Rattle.solo_base.specs.Card.{cards}
 use Rattle.solo_devices.specs.CardUnit.{items_ahead}
-use Rattle.solo_devices.specs.Count.{Rose}
+use Rattle.solo_devices.specs.Count.{Rose, raised}
 use Rattle.batch_procs.specs.Faults.{IsDamaged}
 use Rattle.core_law.specs.Core.{Devices}
 use Rattle.core_law.specs.Opening.{opened}
@@ -28,7 +28,7 @@ returns-clause-counted g c = λ found files input_told output_told none.
     let told_files = files_found (g.F.Area.pages c.args.files.area) in
     let runs : RunsToEnd (Numbered c.args.number) (opened spools (Some items) (Some []) told_files) counts ran.outcomes ran.stopped_by devices
     = subst (λ paper. RunsToEnd (Numbered c.args.number) (opened spools (Some items) paper told_files) counts ran.outcomes ran.stopped_by devices)
-    c.new-paper.ensures
+    c.new-paper.ensures.given
     (subst (λ ahead. RunsToEnd (Numbered c.args.number) (opened spools ahead (Some c.new-paper.result.bytes.items) told_files) counts ran.outcomes
     ran.stopped_by devices)
     (ap (λ left. items_ahead left []) c.new-deck.ensures.left) e.runs) in
@@ -40,7 +40,7 @@ returns-clause-printed g c = λ found files input_told output_told none.
     let e = c.run_core-ran.ensures in
     let ran = c.run_core-ran.result.0 in
     let gained = (e.prints (cards c.args.deck.items) found (ap (λ left. items_ahead left []) c.new-deck.ensures.left) (card-items c.args.deck.items)
-    files record { input = input_told; output = output_told }).told [] c.new-paper.ensures in
+    files record { input = input_told; output = output_told }).told [] c.new-paper.ensures.given in
     ap (λ paper. Some paper.bytes.items) c.came_to.ensures.units.1 ∙ gained.now_is
     ∙ ap Some (gained.all_is (all-done ran.outcomes ran.stopped_by e.together (sym c.came_to.ensures.decided ∙ none)))
 
@@ -81,7 +81,7 @@ returns-clause-known g c =
     let deck = c.new-deck.result in
     subst (λ why. IfSome why IsMakeCause) (sym c.came_to.ensures.decided)
     (known_made c.run_core-ran.result.0.outcomes e.faults (λ at. never_rose (e.counted.read at))
-    (λ at. within_limit now.place deck.place (drop now.place now.bytes.items) (drop deck.place deck.bytes.items) c.args.deck.items
+    (λ at. within_limit (raised now.taken 0) (raised deck.taken 0) (drop now.taken now.bytes) (drop deck.taken deck.bytes) c.args.deck.items
     e.total c.new-deck.ensures.taken c.new-deck.ensures.left c.requires.deck (e.counted.limit at)))
 
 pub returns-clause-sure : goal.returns-clause-sure

@@ -1,4 +1,4 @@
-use Rattle.std.proofs.Common.{◌≡◌, refl, sym, ◌∙◌, ap}
+use Rattle.std.proofs.Common.{sym, ap}
 use Rattle.solo_base.specs.Text.{line_text}
 use Rattle.solo_cli.proofs.Adding.{gains-same}
 use Rattle.solo_cli.proofs.runs.print_counts.Goals as goal
