@@ -3,13 +3,12 @@ use crate::made_code::{HALT, READ, TICK, WRITEINT, Written, load, push, store, s
 use solo_base::ProgResult::Terminated;
 use stack_code::Op;
 use stack_machine::Finish;
-use std::test::Fail;
 
 /// RUN of the program in words 0 to 11.
 const RUN: [Written; 5] = [TICK, (Op::SysG, 13, 0), WRITEINT, WRITEINT, HALT];
 
 #[test]
-fn each_reply_sets_its_words(rt: HostRuntime) -> Result<(), Fail> {
+fn each_reply_sets_its_words(rt: HostRuntime) {
     let table: [(&[Written], &[i16]); 7] = [
         (&[TICK, READ, WRITEINT, HALT], &[90]),
         // ACCEPT and DISPLAY
@@ -30,14 +29,14 @@ fn each_reply_sets_its_words(rt: HostRuntime) -> Result<(), Fail> {
         // CLOSE
         (&[TICK, push(2), sys(6), HALT], &[2]),
     ];
-    each_brings(&rt, rt.alloc(), &table)?;
+    each_brings(&rt, rt.alloc(), &table);
     // the called program took 4 ticks
     let run: [(&[Written], u32, Finish); 1] = [(&RUN, 10, ends(Terminated, 1, 5))];
-    each_ends(&rt, rt.alloc(), &run)
+    each_ends(&rt, rt.alloc(), &run);
 }
 
 #[test]
-fn a_reply_sets_its_array_and_no_other_word(rt: HostRuntime) -> Result<(), Fail> {
+fn a_reply_sets_its_array_and_no_other_word(rt: HostRuntime) {
     let table: [(&[Written], &[i16]); 2] = [
         // page 2 of file 1 into words 10 to 521, between a 7 and an 8
         (
@@ -82,11 +81,11 @@ fn a_reply_sets_its_array_and_no_other_word(rt: HostRuntime) -> Result<(), Fail>
             &[7, 3, 65, 76, 0],
         ),
     ];
-    each_brings(&rt, rt.alloc(), &table)
+    each_brings(&rt, rt.alloc(), &table);
 }
 
 #[test]
-fn a_call_takes_its_values_and_its_array(rt: HostRuntime) -> Result<(), Fail> {
+fn a_call_takes_its_values_and_its_array(rt: HostRuntime) {
     let table: [(&[Written], &[i16]); 2] = [
         // OPEN of the name in words 2 to 13
         (
@@ -119,5 +118,5 @@ fn a_call_takes_its_values_and_its_array(rt: HostRuntime) -> Result<(), Fail> {
             &[2, 3, 66, 255],
         ),
     ];
-    each_brings(&rt, rt.alloc(), &table)
+    each_brings(&rt, rt.alloc(), &table);
 }

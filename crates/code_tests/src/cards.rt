@@ -2,15 +2,19 @@
 
 use solo_base::{Line, LineList, NoMemory};
 use std::alloc::Global;
-use std::test::Fail;
 
 /// The cards of a text, each of which ends with a line feed or the text.
-pub fn cards_of(alloc: Global, text: &str) -> Result<LineList, Fail> {
+pub fn cards_of(alloc: Global, text: &str) -> Option<LineList> {
     let mut cards = LineList::new(alloc);
     for card in text.lines() {
-        cards.push(&Line::of(card.as_bytes()).ok_or("no card")?)?;
+        add_card(&mut cards, card)?;
     }
-    Ok(cards)
+    Some(cards)
+}
+
+fn add_card(cards: &mut LineList, card: &str) -> Option<()> {
+    let card = Line::of(card.as_bytes())?;
+    cards.push(&card).ok()
 }
 
 /// These lines as a text, each with `/` behind it.

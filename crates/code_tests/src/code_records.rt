@@ -3,7 +3,6 @@ use crate::made_code::{Numbers, Routine, code_file};
 use stack_code::{Code, CodeFault, decode, encode, listing, verify};
 use std::alloc::Global;
 use std::process::Abort;
-use std::test::Fail;
 
 /// The first bytes of a file.
 fn front(bytes: &[u8], len: usize) -> &[u8] {
@@ -26,15 +25,23 @@ fn refused_at(alloc: Global, bytes: &[u8]) -> Option<u32> {
     }
 }
 
+/// A code file.
+fn file_of(rt: &impl Abort, alloc: Global, routines: &[Routine], instrs: &[Numbers]) -> Vec<u8> {
+    code_file(alloc, routines, instrs)
+        .ok()
+        .expect(rt, "ample memory")
+}
+
 /// The code of a file, which is written by the same bytes again and has this listing, each line of it
 /// with `/` behind it.
-fn is_code(rt: &impl Abort, alloc: Global, bytes: &[u8], lines: &[u8]) -> Result<Code, Fail> {
-    let code = decode(alloc, bytes).ok().ok_or("the bytes are code")?;
-    let again = encode(alloc, &code).ok().ok_or("there is memory")?;
-    assert_eq!(rt; again.as_slice(), bytes);
-    let found = joined(alloc, &listing(alloc, &code)?)?;
-    assert_eq!(rt; found.as_slice(), lines);
-    Ok(code)
+fn is_code(rt: &impl Abort, alloc: Global, bytes: &[u8], lines: &[u8]) -> Code {
+    let code = decode(alloc, bytes).ok().expect(rt, "code");
+    let again = encode(alloc, &code).ok().expect(rt, "ample memory");
+    assert!(rt; again.as_slice() == bytes);
+    let listed = listing(alloc, &code).ok().expect(rt, "ample memory");
+    let found = joined(alloc, &listed).ok().expect(rt, "ample memory");
+    assert!(rt; found.as_slice() == lines, "{found:?}");
+    code
 }
 
 /// BEGIN WRITE('A') END.
@@ -48,16 +55,15 @@ const BYTES_OF_WRITE_A: [u8; 40] = [
 ];
 
 #[test]
-fn the_code_of_a_write_has_its_bytes_and_its_listing(rt: HostRuntime) -> Result<(), Fail> {
-    let bytes = code_file(rt.alloc(), &[[0, 0, 0, 0, 1]], &WRITE_A)?;
-    assert_eq!(rt; bytes.len(), 512);
-    assert_eq!(rt; front(&bytes, 40), BYTES_OF_WRITE_A.as_slice());
+fn the_code_of_a_write_has_its_bytes_and_its_listing(rt: HostRuntime) {
+    let bytes = file_of(&rt, rt.alloc(), &[[0, 0, 0, 0, 1]], &WRITE_A);
+    assert!(rt; bytes.len() == 512);
+    assert!(rt; front(&bytes, 40) == BYTES_OF_WRITE_A.as_slice());
     let lines = b"TICK 0 1/PUSH 65 0/SYS 1 0/HALT 0 0/";
-    let code = is_code(&rt, rt.alloc(), &bytes, lines)?;
-    let verified = verify(code).ok().ok_or("the code is good")?;
-    assert_eq!(rt; verified.code().instrs().len(), 4);
-    assert_eq!(rt; verified.code().routines().len(), 1);
-    Ok(())
+    let code = is_code(&rt, rt.alloc(), &bytes, lines);
+    let verified = verify(code).ok().expect(&rt, "good code");
+    assert!(rt; verified.code().instrs().len() == 4);
+    assert!(rt; verified.code().routines().len() == 1);
 }
 
 /// The word that words 0 and 1 refer to, where word 0 is 5.
@@ -71,46 +77,44 @@ const REFERENCE: [Numbers; 6] = [
 ];
 
 #[test]
-fn a_reference_has_its_bytes_and_its_listing(rt: HostRuntime) -> Result<(), Fail> {
-    let bytes = code_file(rt.alloc(), &[[0, 0, 0, 2, 1]], &REFERENCE)?;
+fn a_reference_has_its_bytes_and_its_listing(rt: HostRuntime) {
+    let bytes = file_of(&rt, rt.alloc(), &[[0, 0, 0, 2, 1]], &REFERENCE);
     assert!(rt; front(&bytes, 40).ends_with(&[0x28, 0, 0, 0, 0]));
     let lines = b"TICK 0 1/PUSH 5 0/STOREG 0 0/LOADR 0 0/STOREG 1 0/HALT 0 0/";
-    is_code(&rt, rt.alloc(), &bytes, lines)?;
-    Ok(())
+    let _code = is_code(&rt, rt.alloc(), &bytes, lines);
 }
 
-/// The file with this byte at a place.
-fn with_byte(alloc: Global, bytes: &[u8], place: usize, byte: u8) -> Result<Vec<u8>, Fail> {
-    let mut changed = bytes.to_vec(alloc)?;
-    if let Some(at) = changed.get_mut(place) {
-        *at = byte;
-    }
-    Ok(changed)
-}
-
-/// Each row of a table: a place, a wrong byte there, and the place at which the file is refused then.
-fn each_byte_is_refused(
+/// The place at which a file is refused that has this byte at a place.
+fn refused_with(
     rt: &impl Abort,
     alloc: Global,
     bytes: &[u8],
-    table: &[(usize, u8, u32)],
-) -> Result<(), Fail> {
-    for (place, byte, at) in table {
-        let wrong = with_byte(alloc, bytes, *place, *byte)?;
-        let found = refused_at(alloc, &wrong);
-        assert_eq!(rt; found, Some(*at), "byte {place} is {byte}");
+    place: usize,
+    byte: u8,
+) -> Option<u32> {
+    let mut changed = bytes.to_vec(alloc).ok().expect(rt, "ample memory");
+    if let Some(at) = changed.get_mut(place) {
+        *at = byte;
     }
-    Ok(())
+    refused_at(alloc, &changed)
+}
+
+/// Each row of a table: a place, a wrong byte there, and the place at which the file is refused then.
+fn each_byte_is_refused(rt: &impl Abort, alloc: Global, bytes: &[u8], table: &[(usize, u8, u32)]) {
+    for (place, byte, at) in table {
+        let found = refused_with(rt, alloc, bytes, *place, *byte);
+        assert!(rt; found == Some(*at), "byte {place} is {byte}");
+    }
 }
 
 #[test]
-fn a_file_is_refused_at_its_least_wrong_byte(rt: HostRuntime) -> Result<(), Fail> {
+fn a_file_is_refused_at_its_least_wrong_byte(rt: HostRuntime) {
     // BEGIN END.
-    let mut bytes = code_file(rt.alloc(), &[[0, 0, 0, 0, 0]], &[[35, 0, 0]])?;
-    assert_eq!(rt; bytes.len(), 512);
-    assert_eq!(rt; refused_at(rt.alloc(), &bytes), None);
-    assert_eq!(rt; refused_at(rt.alloc(), front(&bytes, 511)), Some(511));
-    assert_eq!(rt; refused_at(rt.alloc(), &[]), Some(0));
+    let mut bytes = file_of(&rt, rt.alloc(), &[[0, 0, 0, 0, 0]], &[[35, 0, 0]]);
+    assert!(rt; bytes.len() == 512);
+    assert!(rt; refused_at(rt.alloc(), &bytes) == None);
+    assert!(rt; refused_at(rt.alloc(), front(&bytes, 511)) == Some(511));
+    assert!(rt; refused_at(rt.alloc(), &[]) == Some(0));
     let table = [
         (0, 0x73, 0), // a wrong letter
         (7, 0x32, 7),
@@ -126,26 +130,24 @@ fn a_file_is_refused_at_its_least_wrong_byte(rt: HostRuntime) -> Result<(), Fail
         (30, 0x01, 30),
         (511, 0x01, 511),
     ];
-    each_byte_is_refused(&rt, rt.alloc(), &bytes, &table)?;
-    bytes.push(0)?;
-    assert_eq!(rt; refused_at(rt.alloc(), &bytes), Some(512));
-    Ok(())
+    each_byte_is_refused(&rt, rt.alloc(), &bytes, &table);
+    assert!(rt; bytes.push(0).is_ok());
+    assert!(rt; refused_at(rt.alloc(), &bytes) == Some(512));
 }
 
 /// Routines, instructions, and the place at which their file is refused.
 type Case<'a> = (&'a [Routine], &'a [Numbers], Option<u32>);
 
 /// Whether each row is so.
-fn each_is_refused(rt: &impl Abort, alloc: Global, cases: &[Case]) -> Result<(), Fail> {
+fn each_is_refused(rt: &impl Abort, alloc: Global, cases: &[Case]) {
     for (routines, instrs, at) in cases {
-        let bytes = code_file(alloc, routines, instrs)?;
-        assert_eq!(rt; refused_at(alloc, &bytes), *at, "{instrs:?}");
+        let bytes = file_of(rt, alloc, routines, instrs);
+        assert!(rt; refused_at(alloc, &bytes) == *at, "{instrs:?}");
     }
-    Ok(())
 }
 
 #[test]
-fn code_is_refused_at_its_first_broken_record(rt: HostRuntime) -> Result<(), Fail> {
+fn code_is_refused_at_its_first_broken_record(rt: HostRuntime) {
     let one: &[Routine] = &[[0, 0, 0, 2, 2]];
     let two: &[Routine] = &[[0, 0, 0, 2, 2], [3, 1, 1, 2, 1]];
     let cases: &[Case] = &[
@@ -292,5 +294,5 @@ fn code_is_refused_at_its_first_broken_record(rt: HostRuntime) -> Result<(), Fai
         (&[[0, 0, 0, 4353, 2]], &[[35, 0, 0]], Some(12)),
         (&[[0, 0, 0, 2, 1537]], &[[35, 0, 0]], Some(12)),
     ];
-    each_is_refused(&rt, rt.alloc(), cases)
+    each_is_refused(&rt, rt.alloc(), cases);
 }

@@ -9,7 +9,6 @@ use solo_base::{PAGE_LENGTH, Page, ProgResult, SysCall, SysReply};
 use stack_machine::{Finish, Machine, World};
 use std::alloc::Global;
 use std::process::Abort;
-use std::test::Fail;
 
 /// A page whose bytes count from 0.
 fn counting_page() -> Page
@@ -107,19 +106,39 @@ pub const fn ends(how: ProgResult, line: u32, ticks: u32) -> Finish {
 }
 
 /// The end of a program, and the numbers that its calls brought.
-pub fn run_code(
+fn run_code(
     alloc: Global,
     routines: &[Routine],
     instrs: &[Written],
     limit: u32,
-) -> Result<(Finish, Vec<i16>), Fail> {
+) -> Option<(Finish, Vec<i16>)> {
     let code = verified(alloc, routines, instrs)?;
-    let mut machine = Machine::make(alloc, code, limit).ok().ok_or("no memory")?;
+    match Machine::make(alloc, code, limit) {
+        Ok(mut machine) => run_at_desk(alloc, &mut machine),
+        Err(_) => None,
+    }
+}
+
+fn run_at_desk(alloc: Global, machine: &mut Machine) -> Option<(Finish, Vec<i16>)> {
     let mut desk = Desk {
         numbers: Vec::new(alloc),
     };
-    let finish = machine.run(&mut desk).ok().ok_or("the desk failed")?;
-    Ok((finish, desk.numbers))
+    match machine.run(&mut desk) {
+        Ok(finish) => Some((finish, desk.numbers)),
+        Err(()) => None,
+    }
+}
+
+/// The end of code, and the numbers that its calls brought.
+pub fn sure_run(
+    rt: &impl Abort,
+    alloc: Global,
+    routines: &[Routine],
+    instrs: &[Written],
+    limit: u32,
+) -> (Finish, Vec<i16>) {
+    let run = run_code(alloc, routines, instrs, limit);
+    run.expect(rt, "good code, and memory")
 }
 
 /// Code ends so, and its calls bring these numbers.
@@ -128,35 +147,24 @@ pub fn runs(
     alloc: Global,
     (routines, instrs): (&[Routine], &[Written]),
     (finish, numbers): (Finish, &[i16]),
-) -> Result<(), Fail> {
-    let (found, brought) = run_code(alloc, routines, instrs, 1000)?;
-    assert_eq!(rt; found, finish);
-    assert_eq!(rt; brought.as_slice(), numbers);
-    Ok(())
+) {
+    let (found, brought) = sure_run(rt, alloc, routines, instrs, 1000);
+    assert!(rt; found == finish, "{found:?}");
+    assert!(rt; brought.as_slice() == numbers, "{brought:?}");
 }
 
 /// Each row of a table: the instructions of a program of 600 words, its limit of ticks, and its end.
-pub fn each_ends(
-    rt: &impl Abort,
-    alloc: Global,
-    table: &[(&[Written], u32, Finish)],
-) -> Result<(), Fail> {
+pub fn each_ends(rt: &impl Abort, alloc: Global, table: &[(&[Written], u32, Finish)]) {
     for (instrs, limit, finish) in table {
-        let (found, _) = run_code(alloc, PROGRAM, instrs, *limit)?;
-        assert_eq!(rt; found, *finish, "{instrs:?}");
+        let (found, _) = sure_run(rt, alloc, PROGRAM, instrs, *limit);
+        assert!(rt; found == *finish, "{found:?}: {instrs:?}");
     }
-    Ok(())
 }
 
 /// Each row of a table: the instructions of a program of 600 words, and what its calls bring.
-pub fn each_brings(
-    rt: &impl Abort,
-    alloc: Global,
-    table: &[(&[Written], &[i16])],
-) -> Result<(), Fail> {
+pub fn each_brings(rt: &impl Abort, alloc: Global, table: &[(&[Written], &[i16])]) {
     for (instrs, numbers) in table {
-        let (_, brought) = run_code(alloc, PROGRAM, instrs, 10)?;
-        assert_eq!(rt; brought.as_slice(), *numbers, "{instrs:?}");
+        let (_, brought) = sure_run(rt, alloc, PROGRAM, instrs, 10);
+        assert!(rt; brought.as_slice() == *numbers, "{brought:?}: {instrs:?}");
     }
-    Ok(())
 }

@@ -24,8 +24,6 @@ mod code_records;
 #[cfg(test)]
 mod desk_runs;
 #[cfg(test)]
-mod failing;
-#[cfg(test)]
 mod limits;
 #[cfg(test)]
 mod listings;

@@ -1,98 +1,80 @@
 // A program, and the listing of its code.
 
 use crate::cards::cards_of;
-use crate::failing::fails;
 use pascal_compile::{CompileFault, compile};
+use solo_base::NoMemory;
 use stack_code::{Code, RoutineInfo, Verified, listing};
 use std::alloc::Global;
-use std::test::Fail;
+use std::process::Abort;
 
 /// A program, its routines and its instructions. Cards end with a line feed; instructions are parted
 /// by semicolons, and an operand that isn't named is 0; routines are parted by semicolons, each with
 /// its start, parameters, result, words and height.
 pub type Row = (&'static str, &'static str, &'static str);
 
-/// Whether each program has this code.
-pub fn each_compiles(alloc: Global, rows: &[Row]) -> Result<(), Fail> {
+/// Each program has this code.
+pub fn each_compiles(rt: &impl Abort, alloc: Global, rows: &[Row]) {
     for row in rows {
-        compiles(alloc, row)?;
+        compiles(rt, alloc, row);
     }
-    Ok(())
 }
 
-fn compiles(alloc: Global, row: &Row) -> Result<(), Fail> {
+fn compiles(rt: &impl Abort, alloc: Global, row: &Row) {
     let (program, routines, instrs) = *row;
-    let verified = code_for(alloc, program)?;
+    let verified = code_of(rt, alloc, program);
     let code = verified.code();
-    same(
-        alloc,
-        "instructions",
-        program,
-        &written(alloc, code)?,
-        instrs,
-    )?;
-    let found = infos(alloc, code.routines())?;
-    same(alloc, "routines", program, &found, routines)
+    let found = written(alloc, code).expect(rt, "a listing");
+    assert!(rt;
+        found.as_str() == instrs,
+        "instructions: {program}\n{found}"
+    );
+    let found = infos(alloc, code.routines())
+        .ok()
+        .expect(rt, "ample memory");
+    assert!(rt; found.as_str() == routines, "routines: {program}\n{found}");
 }
 
 /// The code of a program.
-pub fn code_for(alloc: Global, program: &str) -> Result<Verified, Fail> {
-    match compile(alloc, &cards_of(alloc, program)?) {
-        Ok(verified) => Ok(verified),
-        Err(fault) => Err(Fail::new(format!(in alloc; "{fault:?}: {program}")?)),
+pub fn code_of(rt: &impl Abort, alloc: Global, program: &str) -> Verified {
+    let cards = cards_of(alloc, program).expect(rt, "cards");
+    match compile(alloc, &cards) {
+        Ok(verified) => verified,
+        Err(fault) => panic!(rt; "{fault:?}: {program}"),
     }
 }
 
 /// A program that has no code, and why.
 pub type FaultRow = (&'static str, CompileFault);
 
-/// Whether each program is refused for its reason.
-pub fn each_is_refused(alloc: Global, rows: &[FaultRow]) -> Result<(), Fail> {
-    for row in rows {
-        let (program, fault) = *row;
-        is_refused(alloc, program, fault)?;
+/// Each program is refused for its reason.
+pub fn each_is_refused(rt: &impl Abort, alloc: Global, rows: &[FaultRow]) {
+    for (program, fault) in rows {
+        is_refused(rt, alloc, program, *fault);
     }
-    Ok(())
 }
 
-/// Whether the program is refused for this reason.
-pub fn is_refused(alloc: Global, program: &str, fault: CompileFault) -> Result<(), Fail> {
-    let found = match compile(alloc, &cards_of(alloc, program)?) {
-        Ok(_) => return fails(alloc, "code", program, ""),
-        Err(found) => found,
-    };
-    if found != fault {
-        return fails(
-            alloc,
-            "another fault",
-            program,
-            &format!(in alloc; "{found:?}")?,
-        );
-    }
-    Ok(())
+/// The program is refused for this reason.
+pub fn is_refused(rt: &impl Abort, alloc: Global, program: &str, fault: CompileFault) {
+    let cards = cards_of(alloc, program).expect(rt, "cards");
+    let found = compile(alloc, &cards).err();
+    assert!(rt; found == Some(fault), "{found:?}: {program}");
 }
 
-fn same(alloc: Global, what: &str, program: &str, found: &str, wanted: &str) -> Result<(), Fail> {
-    if found != wanted {
-        return fails(alloc, what, program, found);
-    }
-    Ok(())
-}
-
-fn written(alloc: Global, code: &Code) -> Result<String, Fail> {
-    let lines = listing(alloc, code)?;
+fn written(alloc: Global, code: &Code) -> Option<String> {
+    let lines = listing(alloc, code).ok()?;
     let mut text = String::new(alloc);
     for place in 0..lines.len() {
-        if place > 0 {
-            text.push_str(";")?;
-        }
-        let line = lines.get(place);
-        let Ok(line) = str::from_utf8(line.bytes()) else {
-            return Err(Fail::new(format!(in alloc; "no text")?));
-        };
-        text.push_str(short(line))?;
+        add_line(&mut text, place, lines.get(place).bytes())?;
     }
-    Ok(text)
+    Some(text)
+}
+
+fn add_line(text: &mut String, place: usize, line: &[u8]) -> Option<()> {
+    if place > 0 {
+        text.push_str(";").ok()?;
+    }
+    let line = str::from_utf8(line).ok()?;
+    text.push_str(short(line)).ok()
 }
 
 fn short(line: &str) -> &str {
@@ -102,7 +84,7 @@ fn short(line: &str) -> &str {
     }
 }
 
-fn infos(alloc: Global, routines: &[RoutineInfo]) -> Result<String, Fail> {
+fn infos(alloc: Global, routines: &[RoutineInfo]) -> Result<String, NoMemory> {
     let mut text = String::new(alloc);
     for place in 0..routines.len() {
         if place > 0 {

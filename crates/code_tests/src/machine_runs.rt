@@ -10,10 +10,9 @@ use stack_code::{Code, Op, decode, encode};
 use stack_machine::{Finish, Machine, Pause};
 use std::alloc::Global;
 use std::process::Abort;
-use std::test::Fail;
 
 #[test]
-fn each_result_comes_with_its_line_and_ticks(rt: HostRuntime) -> Result<(), Fail> {
+fn each_result_comes_with_its_line_and_ticks(rt: HostRuntime) {
     let table: [(&[Written], u32, Finish); 6] = [
         // BEGIN WRITE('A') END.
         (&[TICK, push(65), WRITE, HALT], 10, ends(Terminated, 1, 1)),
@@ -32,7 +31,7 @@ fn each_result_comes_with_its_line_and_ticks(rt: HostRuntime) -> Result<(), Fail
         ),
         (&[TICK, push(9), sys(6), HALT], 9, ends(CallError, 1, 1)),
     ];
-    each_ends(&rt, rt.alloc(), &table)
+    each_ends(&rt, rt.alloc(), &table);
 }
 
 const OUT_OF_RANGE: Finish = Finish {
@@ -42,7 +41,7 @@ const OUT_OF_RANGE: Finish = Finish {
 };
 
 #[test]
-fn numbers_out_of_range_are_refused(rt: HostRuntime) -> Result<(), Fail> {
+fn numbers_out_of_range_are_refused(rt: HostRuntime) {
     let table: [(&[Written], u32, Finish); 8] = [
         // past an array and before it
         (
@@ -88,21 +87,21 @@ fn numbers_out_of_range_are_refused(rt: HostRuntime) -> Result<(), Fail> {
             OUT_OF_RANGE,
         ),
     ];
-    each_ends(&rt, rt.alloc(), &table)
+    each_ends(&rt, rt.alloc(), &table);
 }
 
 #[test]
-fn the_65th_activation_is_one_too_many(rt: HostRuntime) -> Result<(), Fail> {
+fn the_65th_activation_is_one_too_many(rt: HostRuntime) {
     // a procedure that calls itself: the program and 63 calls of it take a tick each
     let routines: &[Routine] = &[[0, 0, 0, 0, 0], [3, 0, 0, 0, 0]];
     let call = (Op::Call, 1, 0);
     let instrs = [TICK, call, HALT, tick(2), call, (Op::Return, 0, 0)];
     let wanted = (ends(StackLimit, 2, 64), [].as_slice());
-    runs(&rt, rt.alloc(), (routines, &instrs), wanted)
+    runs(&rt, rt.alloc(), (routines, &instrs), wanted);
 }
 
 #[test]
-fn a_loop_goes_on_to_its_end(rt: HostRuntime) -> Result<(), Fail> {
+fn a_loop_goes_on_to_its_end(rt: HostRuntime) {
     // word 0 counts to 3
     let instrs = [
         TICK,
@@ -118,11 +117,11 @@ fn a_loop_goes_on_to_its_end(rt: HostRuntime) -> Result<(), Fail> {
         HALT,
     ];
     let wanted = (ends(Terminated, 1, 3), [3].as_slice());
-    runs(&rt, rt.alloc(), (PROGRAM, &instrs), wanted)
+    runs(&rt, rt.alloc(), (PROGRAM, &instrs), wanted);
 }
 
 #[test]
-fn a_function_gives_the_word_behind_its_parameters(rt: HostRuntime) -> Result<(), Fail> {
+fn a_function_gives_the_word_behind_its_parameters(rt: HostRuntime) {
     // 10 - 4, in a function of two parameters
     let routines: &[Routine] = &[[0, 0, 0, 0, 2], [6, 2, 1, 3, 2]];
     let instrs = [
@@ -140,11 +139,11 @@ fn a_function_gives_the_word_behind_its_parameters(rt: HostRuntime) -> Result<()
         (Op::Return, 0, 0),
     ];
     let wanted = (ends(Terminated, 1, 2), [6].as_slice());
-    runs(&rt, rt.alloc(), (routines, &instrs), wanted)
+    runs(&rt, rt.alloc(), (routines, &instrs), wanted);
 }
 
 #[test]
-fn a_procedure_has_words_of_its_own(rt: HostRuntime) -> Result<(), Fail> {
+fn a_procedure_has_words_of_its_own(rt: HostRuntime) {
     // LOOKUP of a name in words 1 to 12 of the procedure; FOUND is written first, and then KIND
     let routines: &[Routine] = &[[0, 0, 0, 0, 0], [3, 0, 0, 14, 2]];
     let instrs = [
@@ -162,28 +161,32 @@ fn a_procedure_has_words_of_its_own(rt: HostRuntime) -> Result<(), Fail> {
         (Op::Return, 0, 0),
     ];
     let wanted = (ends(Terminated, 1, 2), [72, 73, 1, 3].as_slice());
-    runs(&rt, rt.alloc(), (routines, &instrs), wanted)
+    runs(&rt, rt.alloc(), (routines, &instrs), wanted);
 }
 
-/// The program has ended so.
-fn has_ended(rt: &impl Abort, machine: &mut Machine, wanted: Finish) -> Result<(), Fail> {
-    let Pause::Finished(finish) = machine.go() else {
-        return Err("no end".into());
-    };
-    assert_eq!(rt; finish, wanted);
-    Ok(())
+/// A machine for these instructions of a program of 600 words.
+fn machine_of(rt: &impl Abort, alloc: Global, instrs: &[Written]) -> Machine {
+    let code = verified(alloc, PROGRAM, instrs).expect(rt, "good code");
+    Machine::make(alloc, code, 10).ok().expect(rt, "memory")
+}
+
+/// Whether the program has ended so.
+fn has_ended(machine: &mut Machine, wanted: Finish) -> bool {
+    match machine.go() {
+        Pause::Finished(finish) => finish == wanted,
+        Pause::Call(_) => false,
+    }
 }
 
 #[test]
-fn a_program_that_ended_stays_so(rt: HostRuntime) -> Result<(), Fail> {
-    let code = verified(rt.alloc(), PROGRAM, &[TICK, READ, WRITE, HALT])?;
-    let mut machine = Machine::make(rt.alloc(), code, 10).ok().ok_or("no memory")?;
+fn a_program_that_ended_stays_so(rt: HostRuntime) {
+    let mut machine = machine_of(&rt, rt.alloc(), &[TICK, READ, WRITE, HALT]);
     // the program asks until it is answered
     assert!(rt; matches!(machine.go(), Pause::Call(SysCall::Read)));
     assert!(rt; matches!(machine.go(), Pause::Call(SysCall::Read)));
     machine.answer(SysReply::CallError);
-    has_ended(&rt, &mut machine, ends(CallError, 1, 1))?;
-    has_ended(&rt, &mut machine, ends(CallError, 1, 1))
+    assert!(rt; has_ended(&mut machine, ends(CallError, 1, 1)));
+    assert!(rt; has_ended(&mut machine, ends(CallError, 1, 1)));
 }
 
 /// The code, written and read again.
@@ -197,10 +200,10 @@ fn read_again(alloc: Global, code: &Code) -> Option<Code>
 }
 
 #[test]
-fn code_that_is_written_is_read_again(rt: HostRuntime) -> Result<(), Fail> {
-    let code = verified(rt.alloc(), PROGRAM, &[TICK, push(-3), WRITEINT, HALT])?;
-    let again = read_again(rt.alloc(), code.code()).ok_or("no code")?;
-    assert_eq!(rt; again.instrs(), code.code().instrs());
-    assert_eq!(rt; again.routines(), code.code().routines());
-    Ok(())
+fn code_that_is_written_is_read_again(rt: HostRuntime) {
+    let instrs = [TICK, push(-3), WRITEINT, HALT];
+    let code = verified(rt.alloc(), PROGRAM, &instrs).expect(&rt, "good code");
+    let again = read_again(rt.alloc(), code.code()).expect(&rt, "code");
+    assert!(rt; again.instrs() == code.code().instrs());
+    assert!(rt; again.routines() == code.code().routines());
 }

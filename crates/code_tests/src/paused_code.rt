@@ -4,10 +4,9 @@ ghost use Rattle.batch_program.specs.Progress.{NeedsCard};
 
 use crate::made_code::{Routine, Written, verified};
 use batch_program::{BatchProgram, Told};
-use solo_base::{Line, ProgResult};
+use solo_base::{Line, NoMemory, ProgResult};
 use std::alloc::Global;
 use std::process::Abort;
-use std::test::Fail;
 
 /// A program of two words.
 const PROGRAM: &[Routine] = &[[0, 0, 0, 2, 4]];
@@ -22,25 +21,29 @@ fn end_text(how: ProgResult) -> &'static [u8] {
 }
 
 /// What is told in order: each line in quotes, `card` where one is needed, and the end.
-pub fn told(
-    alloc: Global,
-    instrs: &[Written],
-    limit: u32,
-    cards: &[&[u8]],
-) -> Result<Vec<u8>, Fail> {
+fn told(alloc: Global, instrs: &[Written], limit: u32, cards: &[&[u8]]) -> Option<Vec<u8>> {
     let code = verified(alloc, PROGRAM, instrs)?;
-    let mut program = BatchProgram::make(alloc, code, limit)
-        .ok()
-        .ok_or("no memory")?;
+    match BatchProgram::make(alloc, code, limit) {
+        Ok(mut program) => told_of(alloc, &mut program, cards),
+        Err(_) => None,
+    }
+}
+
+fn told_of(alloc: Global, program: &mut BatchProgram, cards: &[&[u8]]) -> Option<Vec<u8>> {
     let mut all = Vec::new(alloc);
+    tell_all(program, &mut all, cards)?;
+    Some(all)
+}
+
+fn tell_all(program: &mut BatchProgram, all: &mut Vec<u8>, cards: &[&[u8]]) -> Option<()> {
     let mut fed = 0;
     for _ in 0..1000 {
-        match tell(&mut program, &mut all, cards, fed)? {
+        match tell(program, all, cards, fed)? {
             Some(next) => fed = next,
-            None => return Ok(all),
+            None => return Some(()),
         }
     }
-    Ok(all)
+    Some(())
 }
 
 /// What is told next, and which card is needed then, unless the program has ended.
@@ -49,43 +52,43 @@ fn tell(
     all: &mut Vec<u8>,
     cards: &[&[u8]],
     fed: usize,
-) -> Result<Option<usize>, Fail> {
+) -> Option<Option<usize>> {
     match program.next() {
         Told::Line(line) => {
-            put_line(all, &line)?;
-            Ok(Some(fed))
+            put_line(all, &line).ok()?;
+            Some(Some(fed))
         }
         Told::WaitsForCard => {
             give(program, cards.get(fed).copied())?;
-            all.extend_from_slice(b"card ")?;
-            Ok(Some(fed.saturating_add(1)))
+            all.extend_from_slice(b"card ").ok()?;
+            Some(Some(fed.saturating_add(1)))
         }
         Told::Ended { how, line } => {
-            all.extend_from_slice(end_text(how))?;
-            all.push((line % 10) as u8 + b'0')?;
-            Ok(None)
+            all.extend_from_slice(end_text(how)).ok()?;
+            all.push((line % 10) as u8 + b'0').ok()?;
+            Some(None)
         }
     }
 }
 
-fn put_line(all: &mut Vec<u8>, line: &Line) -> Result<(), Fail> {
+fn put_line(all: &mut Vec<u8>, line: &Line) -> Result<(), NoMemory> {
     all.push(b'"')?;
     all.extend_from_slice(line.bytes())?;
     Ok(all.extend_from_slice(b"\" ")?)
 }
 
 /// A card for a program that needs one, or that no further one comes.
-fn give(program: &mut BatchProgram, card: Option<&[u8]>) -> Result<(), Fail>
+fn give(program: &mut BatchProgram, card: Option<&[u8]>) -> Option<()>
     requires { NeedsCard program.old }
 {
     match card {
         Some(bytes) => {
-            program.feed(&Line::of(bytes).ok_or("no card")?);
-            Ok(())
+            program.feed(&Line::of(bytes)?);
+            Some(())
         }
         None => {
             program.close();
-            Ok(())
+            Some(())
         }
     }
 }
@@ -98,11 +101,20 @@ pub type Row = (
     &'static [u8],
 );
 
-/// Whether each row is so.
-pub fn each_tells(rt: &impl Abort, alloc: Global, table: &[Row]) -> Result<(), Fail> {
+/// Each row is so.
+pub fn each_tells(rt: &impl Abort, alloc: Global, table: &[Row]) {
     for (instrs, limit, cards, wanted) in table {
-        let found = told(alloc, instrs, *limit, cards)?;
-        assert_eq!(rt; found.as_slice(), *wanted);
+        tells(rt, alloc, (instrs, *limit, cards), wanted);
     }
-    Ok(())
+}
+
+/// This is told of these instructions with a limit of ticks and with these cards.
+pub fn tells(
+    rt: &impl Abort,
+    alloc: Global,
+    (instrs, limit, cards): (&[Written], u32, &[&[u8]]),
+    wanted: &[u8],
+) {
+    let found = told(alloc, instrs, limit, cards).expect(rt, "all that is told");
+    assert!(rt; found.as_slice() == wanted, "{found:?}");
 }

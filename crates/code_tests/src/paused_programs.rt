@@ -1,9 +1,9 @@
 use crate::made_code::{HALT, READ, TICK, WRITE, WRITEINT, Written, load, push, store, tick};
-use crate::paused_code::{Row, each_tells, told};
+use crate::paused_code::{Row, each_tells, tells};
+use solo_base::NoMemory;
 use stack_code::Op;
 use std::alloc::Global;
 use std::process::Abort;
-use std::test::Fail;
 
 /// READ(C); WHILE C <> EM DO BEGIN WRITE(C); READ(C) END.
 const COPY: [Written; 14] = [
@@ -29,7 +29,7 @@ fn columns(
     count: i16,
     pushes: Written,
     more: &[Written],
-) -> Result<Vec<Written>, Fail> {
+) -> Result<Vec<Written>, NoMemory> {
     let mut instrs = Vec::new(alloc);
     instrs.extend_from_slice(&[
         TICK,
@@ -53,7 +53,7 @@ fn columns(
 }
 
 /// `"XX..X` with so many of them, and then the rest.
-fn quoted(alloc: Global, count: usize, rest: &[u8]) -> Result<Vec<u8>, Fail> {
+fn quoted(alloc: Global, count: usize, rest: &[u8]) -> Result<Vec<u8>, NoMemory> {
     let mut all = Vec::new(alloc);
     all.push(b'"')?;
     for _ in 0..count {
@@ -66,27 +66,29 @@ fn quoted(alloc: Global, count: usize, rest: &[u8]) -> Result<Vec<u8>, Fail> {
 /// How many X are written and what more, and what is told: so many X in the first line, and the rest.
 type Column<'a> = (i16, &'a [Written], usize, &'a [u8]);
 
-fn each_column_tells(rt: &impl Abort, alloc: Global, table: &[Column]) -> Result<(), Fail> {
+fn each_column_tells(rt: &impl Abort, alloc: Global, table: &[Column]) {
     for (count, more, first, rest) in table {
-        let found = told(alloc, &columns(alloc, *count, push(88), more)?, 1000, &[])?;
-        assert_eq!(rt; found.as_slice(), quoted(alloc, *first, rest)?.as_slice());
+        let instrs = columns(alloc, *count, push(88), more)
+            .ok()
+            .expect(rt, "memory");
+        let wanted = quoted(alloc, *first, rest).ok().expect(rt, "memory");
+        tells(rt, alloc, (&instrs, 1000, &[]), &wanted);
     }
-    Ok(())
 }
 
 #[test]
-fn a_copy_gives_each_line_before_it_needs_the_next_card(rt: HostRuntime) -> Result<(), Fail> {
+fn a_copy_gives_each_line_before_it_needs_the_next_card(rt: HostRuntime) {
     let copied: [Row; 1] = [(
         &COPY,
         1000,
         &[b"ONE", b"", b"TWO"],
         b"card \"ONE\" card \"\" card \"TWO\" card terminated 2",
     )];
-    each_tells(&rt, rt.alloc(), &copied)
+    each_tells(&rt, rt.alloc(), &copied);
 }
 
 #[test]
-fn a_line_of_132_characters_ends_before_the_next_one(rt: HostRuntime) -> Result<(), Fail> {
+fn a_line_of_132_characters_ends_before_the_next_one(rt: HostRuntime) {
     let table: [Column; 4] = [
         (131, &[], 131, b"\" terminated 2"),
         (132, &[], 132, b"\" terminated 2"),
@@ -94,11 +96,11 @@ fn a_line_of_132_characters_ends_before_the_next_one(rt: HostRuntime) -> Result<
         // a line end behind 132 characters ends that line, and no empty one follows
         (132, &[push(10), WRITE], 132, b"\" terminated 2"),
     ];
-    each_column_tells(&rt, rt.alloc(), &table)
+    each_column_tells(&rt, rt.alloc(), &table);
 }
 
 #[test]
-fn a_number_goes_on_in_the_next_line(rt: HostRuntime) -> Result<(), Fail> {
+fn a_number_goes_on_in_the_next_line(rt: HostRuntime) {
     let table: [Column; 2] = [
         (
             130,
@@ -113,11 +115,11 @@ fn a_number_goes_on_in_the_next_line(rt: HostRuntime) -> Result<(), Fail> {
             b"-32768\" terminated 2",
         ),
     ];
-    each_column_tells(&rt, rt.alloc(), &table)
+    each_column_tells(&rt, rt.alloc(), &table);
 }
 
 /// What is told of the characters of all codes.
-fn all_codes(alloc: Global) -> Result<Vec<u8>, Fail> {
+fn all_codes(alloc: Global) -> Result<Vec<u8>, NoMemory> {
     let mut all = Vec::new(alloc);
     all.extend_from_slice(b"\"??????????\" \"")?;
     for code in 11..=255u8 {
@@ -131,11 +133,11 @@ fn all_codes(alloc: Global) -> Result<Vec<u8>, Fail> {
 }
 
 #[test]
-fn each_code_from_0_to_255_is_shown(rt: HostRuntime) -> Result<(), Fail> {
+fn each_code_from_0_to_255_is_shown(rt: HostRuntime) {
     let alloc = rt.alloc();
-    let shown = told(alloc, &columns(alloc, 256, load(0), &[])?, 1000, &[])?;
-    assert_eq!(rt; shown.as_slice(), all_codes(alloc)?.as_slice());
-    Ok(())
+    let instrs = columns(alloc, 256, load(0), &[]).ok().expect(&rt, "memory");
+    let wanted = all_codes(alloc).ok().expect(&rt, "memory");
+    tells(&rt, alloc, (&instrs, 1000, &[]), &wanted);
 }
 
 /// Pushes a comma.
@@ -147,18 +149,23 @@ const CODES: [Written; 18] = [
     READ, WRITEINT, COMMA, WRITE, HALT,
 ];
 
+const BEHIND_THE_LAST_CARD_CODE_25_IS_READ_FOR_EVER: [Row; 2] = [
+    (
+        &CODES,
+        10,
+        &[b"A"],
+        b"card card \"65,10,25,25,\" terminated 1",
+    ),
+    (&CODES, 10, &[], b"card \"25,25,25,25,\" terminated 1"),
+];
+
 #[test]
-fn behind_the_last_card_code_25_is_read_for_ever(rt: HostRuntime) -> Result<(), Fail> {
-    let table: [Row; 2] = [
-        (
-            &CODES,
-            10,
-            &[b"A"],
-            b"card card \"65,10,25,25,\" terminated 1",
-        ),
-        (&CODES, 10, &[], b"card \"25,25,25,25,\" terminated 1"),
-    ];
-    each_tells(&rt, rt.alloc(), &table)
+fn behind_the_last_card_code_25_is_read_for_ever(rt: HostRuntime) {
+    each_tells(
+        &rt,
+        rt.alloc(),
+        &BEHIND_THE_LAST_CARD_CODE_25_IS_READ_FOR_EVER,
+    );
 }
 
 /// Pushes the codes of A, of B, and of a line end.
@@ -174,20 +181,25 @@ const LINE_AND_CARD: [Written; 10] = [TICK, A, WRITE, NL, WRITE, B, WRITE, READ,
 /// Writes a line end.
 const EMPTY_LINE: [Written; 4] = [TICK, NL, WRITE, HALT];
 
+const WHAT_IS_COMPLETE_IS_GIVEN_BEFORE_A_CARD_IS_NEEDED: [Row; 3] = [
+    (
+        &LINE_AND_CARD,
+        10,
+        &[b"C"],
+        b"\"A\" card \"BC\" terminated 1",
+    ),
+    // an empty line that was ended is a line, and nothing printed is none
+    (&EMPTY_LINE, 10, &[], b"\"\" terminated 1"),
+    (&[HALT], 0, &[], b"terminated 0"),
+];
+
 #[test]
-fn what_is_complete_is_given_before_a_card_is_needed(rt: HostRuntime) -> Result<(), Fail> {
-    let table: [Row; 3] = [
-        (
-            &LINE_AND_CARD,
-            10,
-            &[b"C"],
-            b"\"A\" card \"BC\" terminated 1",
-        ),
-        // an empty line that was ended is a line, and nothing printed is none
-        (&EMPTY_LINE, 10, &[], b"\"\" terminated 1"),
-        (&[HALT], 0, &[], b"terminated 0"),
-    ];
-    each_tells(&rt, rt.alloc(), &table)
+fn what_is_complete_is_given_before_a_card_is_needed(rt: HostRuntime) {
+    each_tells(
+        &rt,
+        rt.alloc(),
+        &WHAT_IS_COMPLETE_IS_GIVEN_BEFORE_A_CARD_IS_NEEDED,
+    );
 }
 
 const TICK_IN_5: Written = (Op::Tick, 0, 5);
@@ -207,13 +219,14 @@ const ACCEPTS: [Written; 6] = [
     HALT,
 ];
 
+const A_PROGRAM_ENDS_WITH_ITS_RESULT_AND_LINE: [Row; 3] = [
+    (&ENDLESS, 2, &[], b"\"A\" \"A\" time limit 7"),
+    (&COPY, 1, &[b"A"], b"card time limit 2"),
+    // ACCEPT is refused in the batch, behind a line that is not complete
+    (&ACCEPTS, 10, &[], b"\"A\" call error 5"),
+];
+
 #[test]
-fn a_program_ends_with_its_result_and_line(rt: HostRuntime) -> Result<(), Fail> {
-    let table: [Row; 3] = [
-        (&ENDLESS, 2, &[], b"\"A\" \"A\" time limit 7"),
-        (&COPY, 1, &[b"A"], b"card time limit 2"),
-        // ACCEPT is refused in the batch, behind a line that is not complete
-        (&ACCEPTS, 10, &[], b"\"A\" call error 5"),
-    ];
-    each_tells(&rt, rt.alloc(), &table)
+fn a_program_ends_with_its_result_and_line(rt: HostRuntime) {
+    each_tells(&rt, rt.alloc(), &A_PROGRAM_ENDS_WITH_ITS_RESULT_AND_LINE);
 }

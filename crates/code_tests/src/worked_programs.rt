@@ -1,12 +1,11 @@
 use crate::program_ends::{MANY, Row, each_ends, each_ends_with};
 use solo_base::ProgResult::{Overflow, RangeError, Terminated, TimeLimit};
-use std::test::Fail;
 
 const SUM: &str =
     "VAR I, S: INTEGER;\nBEGIN\nS := 0;\nFOR I := 1 TO 4 DO S := S + I;\nWRITEINT(S); WRITE(NL)\nEND.";
 
 #[test]
-fn worked_programs(rt: HostRuntime) -> Result<(), Fail> {
+fn worked_programs(rt: HostRuntime) {
     let rows: [Row; 6] = [
         (SUM, Terminated, 5, 12, "10/"),
         (
@@ -45,7 +44,7 @@ fn worked_programs(rt: HostRuntime) -> Result<(), Fail> {
             "1/2/3/",
         ),
     ];
-    each_ends(rt.alloc(), &rows)?;
+    each_ends(&rt, rt.alloc(), &rows);
     let limited: [(&str, u32, Row); 2] = [
         ("", 11, (SUM, TimeLimit, 5, 11, "10/")),
         (
@@ -60,53 +59,54 @@ fn worked_programs(rt: HostRuntime) -> Result<(), Fail> {
             ),
         ),
     ];
-    each_ends_with(rt.alloc(), &limited)
+    each_ends_with(&rt, rt.alloc(), &limited);
+}
+
+const LINES_THAT_ARE_PRINTED: [Row; 5] = [
+    (
+        "BEGIN WRITE('A'); WRITE(NL); WRITE('B') END.",
+        Terminated,
+        1,
+        3,
+        "A/B/",
+    ),
+    (
+        "BEGIN WRITE(NL); WRITE('A'); WRITE(NL) END.",
+        Terminated,
+        1,
+        3,
+        "/A/",
+    ),
+    (
+        "BEGIN WRITEINT(0); WRITE(' '); WRITEINT(-10) END.",
+        Terminated,
+        1,
+        3,
+        "0 -10/",
+    ),
+    (
+        "BEGIN WRITE(EM); WRITE(CHR(32)); WRITE(CHR(126)) END.",
+        Terminated,
+        1,
+        3,
+        "? ~/",
+    ),
+    (
+        "VAR I: INTEGER;\nBEGIN FOR I := 1 TO 133 DO WRITE('A') END.",
+        Terminated,
+        2,
+        267,
+        "AAAAAAAAAAAAAAAAAAAAAAAAAAAAAAAAAAAAAAAAAAAAAAAAAAAAAAAAAAAAAAAAAAAAAAAAAAAAAAAAAAAAAAAAAAAAAAAAAAAAAAAAAAAAAAAAAAAAAAAAAAAAAAAAAAAA/A/",
+    ),
+];
+
+#[test]
+fn lines_that_are_printed(rt: HostRuntime) {
+    each_ends(&rt, rt.alloc(), &LINES_THAT_ARE_PRINTED);
 }
 
 #[test]
-fn lines_that_are_printed(rt: HostRuntime) -> Result<(), Fail> {
-    let rows: [Row; 5] = [
-        (
-            "BEGIN WRITE('A'); WRITE(NL); WRITE('B') END.",
-            Terminated,
-            1,
-            3,
-            "A/B/",
-        ),
-        (
-            "BEGIN WRITE(NL); WRITE('A'); WRITE(NL) END.",
-            Terminated,
-            1,
-            3,
-            "/A/",
-        ),
-        (
-            "BEGIN WRITEINT(0); WRITE(' '); WRITEINT(-10) END.",
-            Terminated,
-            1,
-            3,
-            "0 -10/",
-        ),
-        (
-            "BEGIN WRITE(EM); WRITE(CHR(32)); WRITE(CHR(126)) END.",
-            Terminated,
-            1,
-            3,
-            "? ~/",
-        ),
-        (
-            "VAR I: INTEGER;\nBEGIN FOR I := 1 TO 133 DO WRITE('A') END.",
-            Terminated,
-            2,
-            267,
-            "AAAAAAAAAAAAAAAAAAAAAAAAAAAAAAAAAAAAAAAAAAAAAAAAAAAAAAAAAAAAAAAAAAAAAAAAAAAAAAAAAAAAAAAAAAAAAAAAAAAAAAAAAAAAAAAAAAAAAAAAAAAAAAAAAAAA/A/",
-        ),
-    ];
-    each_ends(rt.alloc(), &rows)
-}
-
-#[test]
-fn characters_that_are_read(rt: HostRuntime) -> Result<(), Fail> {
+fn characters_that_are_read(rt: HostRuntime) {
     let five =
         "VAR C: CHAR; I: INTEGER;\nBEGIN FOR I := 1 TO 5 DO BEGIN READ(C); WRITEINT(ORD(C)); WRITE(' ') END END.";
     let rows: [(&str, u32, Row); 4] = [
@@ -125,5 +125,5 @@ fn characters_that_are_read(rt: HostRuntime) -> Result<(), Fail> {
             ),
         ),
     ];
-    each_ends_with(rt.alloc(), &rows)
+    each_ends_with(&rt, rt.alloc(), &rows);
 }
