@@ -40,7 +40,7 @@ fn positions_go_around_in_order_of_arrival(rt: HostRuntime) {
             Move::Departs if !order.empty() => Some(order.departure()),
             _ => None,
         };
-        assert_eq!(rt; given, position);
+        assert!(rt; given == position);
     }
 }
 
@@ -57,7 +57,7 @@ fn the_first_stop_is_the_one_that_counts(rt: HostRuntime) {
         (Stops::Both(Receiver), Sender, Stops::Both(Receiver)),
     ];
     for (before, side, after) in table {
-        assert_eq!(rt; before.with(side), after);
+        assert!(rt; before.with(side) == after);
     }
     let first = [
         (Stops::Neither, None),
@@ -65,7 +65,7 @@ fn the_first_stop_is_the_one_that_counts(rt: HostRuntime) {
         (Stops::Both(Sender), Some(Sender)),
     ];
     for (stops, side) in first {
-        assert_eq!(rt; stops.first(), side);
+        assert!(rt; stops.first() == side);
     }
 }
 
@@ -73,12 +73,12 @@ fn the_first_stop_is_the_one_that_counts(rt: HostRuntime) {
 fn a_queue_variable_holds_one_process_until_it_resumes(rt: HostRuntime) {
     let mut queue = QueueVar::new();
     assert!(rt; queue.empty());
-    assert_eq!(rt; queue.cont(), None);
+    assert!(rt; queue.cont() == None);
     queue.delay(4);
     assert!(rt; !queue.empty());
-    assert_eq!(rt; queue.cont(), Some(4));
-    assert_eq!(rt; queue.cont(), Some(4));
-    assert_eq!(rt; queue.resume(), 4);
+    assert!(rt; queue.cont() == Some(4));
+    assert!(rt; queue.cont() == Some(4));
+    assert!(rt; queue.resume() == 4);
     assert!(rt; queue.empty());
 }
 
@@ -89,8 +89,8 @@ fn receiver_waits(rt: &impl Abort, sides: &mut Sides)
 {
     sides.enter(Receiver);
     sides.delay(Receiver, 2);
-    assert_eq!(rt; sides.waiting(Receiver), Some(2));
-    assert_eq!(rt; sides.handed(), None);
+    assert!(rt; sides.waiting(Receiver) == Some(2));
+    assert!(rt; sides.handed() == None);
     assert!(rt;
         sides.may_enter(Sender, 1) && !sides.may_enter(Receiver, 2) && !sides.may_stop(Receiver)
     );
@@ -103,7 +103,7 @@ fn sender_hands_over(rt: &impl Abort, sides: &mut Sides)
 {
     sides.enter(Sender);
     sides.cont(Receiver);
-    assert_eq!(rt; sides.handed(), Some(2));
+    assert!(rt; sides.handed() == Some(2));
     assert!(rt; sides.may_enter(Receiver, 2) && !sides.may_enter(Sender, 1));
     assert!(rt; sides.admits(2) && !sides.admits(1) && !sides.may_stop(Sender));
 }
@@ -113,9 +113,9 @@ fn receiver_resumes(rt: &impl Abort, sides: &mut Sides)
     requires { sides.old ≡ continued (delayed nobody Receiver 2) Receiver }
 {
     sides.enter(Receiver);
-    assert_eq!(rt; sides.waiting(Receiver), None);
+    assert!(rt; sides.waiting(Receiver) == None);
     sides.cont(Sender);
-    assert_eq!(rt; sides.handed(), None);
+    assert!(rt; sides.handed() == None);
 }
 
 #[test]
@@ -127,5 +127,5 @@ fn the_turn_goes_to_the_side_that_waits(rt: HostRuntime) {
     receiver_resumes(&rt, &mut sides);
     sides.stop(Receiver);
     sides.stop(Sender);
-    assert_eq!(rt; sides.stopped_by(), Some(Receiver));
+    assert!(rt; sides.stopped_by() == Some(Receiver));
 }

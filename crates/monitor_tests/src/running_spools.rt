@@ -148,13 +148,27 @@ fn run<R: Threads + Wait + Sync + Abort>(
     (in_place, meet(gate, sender, receiver))
 }
 
+/// An area of so many pages whose reads and writes with these numbers fail, counted from 1.
+pub fn failing_area(
+    rt: &impl Abort,
+    alloc: Global,
+    size: u16,
+    reads: &[u64],
+    writes: &[u64],
+) -> MemArea
+    ensures { ⟦<MemArea as Area>⟧.size result ≡ size }
+{
+    let reads = reads.to_vec(alloc).ok().expect(rt, "memory");
+    let writes = writes.to_vec(alloc).ok().expect(rt, "memory");
+    let area = MemArea::new(alloc, size, reads, writes);
+    area.ok().expect(rt, "memory")
+}
+
 // An area of so many pages at which no call fails.
 fn sure_area(rt: &impl Abort, alloc: Global, size: u16) -> MemArea
     ensures { ⟦<MemArea as Area>⟧.size result ≡ size }
 {
-    MemArea::new(alloc, size, Vec::new(alloc), Vec::new(alloc))
-        .ok()
-        .expect(rt, "memory")
+    failing_area(rt, alloc, size, &[], &[])
 }
 
 // Ten thousand pages pass a spool of so many.
@@ -173,26 +187,29 @@ fn ten_thousand_pages_pass_spools_of_each_size(rt: HostRuntime) {
     ten_thousand_pages(&rt, rt.alloc(), 256);
 }
 
-#[test]
-fn each_side_is_told_that_the_other_stopped(rt: HostRuntime) {
-    let area = sure_area(&rt, rt.alloc(), 2);
-    let (in_place, met) = run(&rt, rt.alloc(), area, (100, PAGES));
-    assert!(rt; in_place == 100 && met.stopped_by == Some(Side::Sender));
-    let area = sure_area(&rt, rt.alloc(), 2);
-    let (in_place, met) = run(&rt, rt.alloc(), area, (PAGES, 100));
-    assert!(rt; in_place == 100 && met.stopped_by == Some(Side::Receiver));
+// So many pages are put and so many taken, and the side that comes to its end first has stopped the spool.
+fn stopped_by<R: Threads + Wait + Sync + Abort>(
+    rt: &R,
+    alloc: Global,
+    pages: (u32, u32),
+) -> Option<Side> {
+    let area = sure_area(rt, alloc, 2);
+    let (in_place, met) = run(rt, alloc, area, pages);
+    assert!(rt; in_place == 100);
+    met.stopped_by
 }
 
 #[test]
-fn an_area_that_fails_at_listed_calls_comes_back_with_its_count(
-    rt: HostRuntime,
-) -> Result<(), Fail> {
-    let reads = [3].to_vec(rt.alloc())?;
-    let writes = [5, 7].to_vec(rt.alloc())?;
-    let area = MemArea::new(rt.alloc(), 4, reads, writes)
-        .ok()
-        .expect(&rt, "memory");
+fn each_side_is_told_that_the_other_stopped(rt: HostRuntime) {
+    let sender = stopped_by(&rt, rt.alloc(), (100, PAGES));
+    assert!(rt; sender == Some(Side::Sender));
+    let receiver = stopped_by(&rt, rt.alloc(), (PAGES, 100));
+    assert!(rt; receiver == Some(Side::Receiver));
+}
+
+#[test]
+fn an_area_that_fails_at_listed_calls_comes_back_with_its_count(rt: HostRuntime) {
+    let area = failing_area(&rt, rt.alloc(), 4, &[3], &[5, 7]);
     let (in_place, met) = run(&rt, rt.alloc(), area, (50, 50));
     assert!(rt; in_place < 50 && met.area.faults() == 3);
-    Ok(())
 }

@@ -2,12 +2,12 @@ ghost use Rattle.std.specs.Prelude.{◌≡◌, ◌<◌, ◌≤◌, false};
 ghost use Rattle.solo_base.specs.declared.outcome.Side.TheVariants.{Sender, Receiver};
 ghost use Rattle.queue_var.specs.Sides.{MayEnter, nobody, entered, continued, has_stopped};
 
+use crate::running_spools::failing_area;
 use disk_spool::{Await, Fetched, Spool};
 use solo_base::{Page, Side};
-use solo_devices::{Area, BlankArea, MemArea, Moved, SureArea};
+use solo_devices::{Area, BlankArea, Moved, SureArea};
 use std::alloc::Global;
 use std::process::Abort;
-use std::test::Fail;
 
 const SENDER: u8 = 1;
 
@@ -37,8 +37,8 @@ fn send<A: Area>(rt: &impl Abort, spool: &mut Spool<A>, byte: u8)
     requires { spool.old.sides ≡ nobody }
     ensures { spool.new.sides ≡ nobody }
 {
-    assert_eq!(rt; spool.await_room(SENDER), Await::Ready);
-    assert_eq!(rt; spool.put(&page_of(byte)), Moved::Done);
+    assert!(rt; spool.await_room(SENDER) == Await::Ready);
+    assert!(rt; spool.put(&page_of(byte)) == Moved::Done);
 }
 
 fn receive<A: Area>(rt: &impl Abort, spool: &mut Spool<A>, byte: u8)
@@ -48,9 +48,9 @@ fn receive<A: Area>(rt: &impl Abort, spool: &mut Spool<A>, byte: u8)
 {
     let mut page = Page([0; 512]);
     let last = byte % 3 == 0;
-    assert_eq!(rt; spool.await_item(RECEIVER), Await::Ready);
-    assert_eq!(rt; spool.take(&mut page), Fetched::Done { last });
-    assert_eq!(rt; page.0[511], byte);
+    assert!(rt; spool.await_item(RECEIVER) == Await::Ready);
+    assert!(rt; spool.take(&mut page) == Fetched::Done { last });
+    assert!(rt; page.0[511] == byte);
 }
 
 // A put fails, and the same one is made again.
@@ -58,9 +58,9 @@ fn send_twice<A: Area>(rt: &impl Abort, spool: &mut Spool<A>, byte: u8)
     requires { spool.old.sides ≡ nobody }
     ensures { spool.new.sides ≡ nobody }
 {
-    assert_eq!(rt; spool.await_room(SENDER), Await::Ready);
-    assert_eq!(rt; spool.put(&page_of(byte)), Moved::Failed);
-    assert_eq!(rt; spool.put(&page_of(byte)), Moved::Done);
+    assert!(rt; spool.await_room(SENDER) == Await::Ready);
+    assert!(rt; spool.put(&page_of(byte)) == Moved::Failed);
+    assert!(rt; spool.put(&page_of(byte)) == Moved::Done);
 }
 
 // A take fails, and the same one is made again.
@@ -70,10 +70,10 @@ fn receive_twice<A: Area>(rt: &impl Abort, spool: &mut Spool<A>, byte: u8)
 {
     let mut page = Page([0; 512]);
     let last = byte % 3 == 0;
-    assert_eq!(rt; spool.await_item(RECEIVER), Await::Ready);
-    assert_eq!(rt; spool.take(&mut page), Fetched::Failed);
-    assert_eq!(rt; spool.take(&mut page), Fetched::Done { last });
-    assert_eq!(rt; page.0[511], byte);
+    assert!(rt; spool.await_item(RECEIVER) == Await::Ready);
+    assert!(rt; spool.take(&mut page) == Fetched::Failed);
+    assert!(rt; spool.take(&mut page) == Fetched::Done { last });
+    assert!(rt; page.0[511] == byte);
 }
 
 // A spool of so many pages, at which no call fails.
@@ -121,28 +121,21 @@ fn a_spool_of_256_pages_is_filled_and_emptied(rt: HostRuntime) {
 fn a_full_spool_delays_its_sender_until_the_take(rt: HostRuntime) {
     let mut spool = spool_of(&rt, rt.alloc(), 1);
     send(&rt, &mut spool, 6);
-    assert_eq!(rt; spool.await_room(SENDER), Await::Delayed);
+    assert!(rt; spool.await_room(SENDER) == Await::Delayed);
     receive(&rt, &mut spool, 6);
-    assert_eq!(rt; spool.handed(), Some(SENDER));
-    assert_eq!(rt; spool.await_room(SENDER), Await::Ready);
-    assert_eq!(rt; spool.handed(), None);
+    assert!(rt; spool.handed() == Some(SENDER));
+    assert!(rt; spool.await_room(SENDER) == Await::Ready);
+    assert!(rt; spool.handed() == None);
 }
 
 #[test]
-fn a_failed_call_is_made_again(rt: HostRuntime) -> Result<(), Fail> {
-    let alloc = rt.alloc();
-    let reads = [1].to_vec(alloc)?;
-    let writes = [2].to_vec(alloc)?;
-    let area = MemArea::new(alloc, 2, reads, writes)
-        .ok()
-        .expect(&rt, "ample memory");
-    let mut spool = Spool::make(area);
+fn a_failed_call_is_made_again(rt: HostRuntime) {
+    let mut spool = Spool::make(failing_area(&rt, rt.alloc(), 2, &[1], &[2]));
     send(&rt, &mut spool, 4);
     send_twice(&rt, &mut spool, 6);
     receive_twice(&rt, &mut spool, 4);
     receive(&rt, &mut spool, 6);
-    assert_eq!(rt; spool.into_inner().faults(), 2);
-    Ok(())
+    assert!(rt; spool.into_inner().faults() == 2);
 }
 
 #[test]
@@ -151,19 +144,19 @@ fn what_was_put_before_the_stop_is_still_taken(rt: HostRuntime) {
     send(&rt, &mut spool, 1);
     spool.stop(Side::Sender);
     receive(&rt, &mut spool, 1);
-    assert_eq!(rt; spool.await_item(RECEIVER), Await::Stopped);
-    assert_eq!(rt; spool.stopped_by(), Some(Side::Sender));
+    assert!(rt; spool.await_item(RECEIVER) == Await::Stopped);
+    assert!(rt; spool.stopped_by() == Some(Side::Sender));
 }
 
 #[test]
 fn a_stop_of_the_receiver_wakes_the_sender_that_waits(rt: HostRuntime) {
     let mut spool = spool_of(&rt, rt.alloc(), 1);
     send(&rt, &mut spool, 1);
-    assert_eq!(rt; spool.await_room(SENDER), Await::Delayed);
+    assert!(rt; spool.await_room(SENDER) == Await::Delayed);
     spool.stop(Side::Receiver);
     assert!(rt; spool.admits(SENDER) && !spool.admits(RECEIVER));
-    assert_eq!(rt; spool.await_room(SENDER), Await::Stopped);
-    assert_eq!(rt; spool.stopped_by(), Some(Side::Receiver));
+    assert!(rt; spool.await_room(SENDER) == Await::Stopped);
+    assert!(rt; spool.stopped_by() == Some(Side::Receiver));
 }
 
 #[test]
@@ -171,7 +164,7 @@ fn a_mark_is_never_read_from_the_area(rt: HostRuntime) {
     let mut spool = crosses_threads(Spool::make(BlankArea::new(1)));
     let mut page = Page([0; 512]);
     send(&rt, &mut spool, 6);
-    assert_eq!(rt; spool.await_item(RECEIVER), Await::Ready);
-    assert_eq!(rt; spool.take(&mut page), Fetched::Done { last: true });
-    assert_eq!(rt; page.0[2], 0);
+    assert!(rt; spool.await_item(RECEIVER) == Await::Ready);
+    assert!(rt; spool.take(&mut page) == Fetched::Done { last: true });
+    assert!(rt; page.0[2] == 0);
 }
