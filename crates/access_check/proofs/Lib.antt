@@ -1,4 +1,3 @@
-mod Parting
 pub mod Naming
 mod Pushing
 pub mod Reading

@@ -3,7 +3,7 @@ use Rattle.std.specs.Prelude.{ℕ, List, [], ◌∷◌, Option, Some, None, code
 use Rattle.solo_base.specs.Ident.{identifier}
 use Rattle.solo_base.specs.declared.item.Item.{Item}
 use Rattle.solo_base.specs.declared.item.Item.TheVariants.{Line, Spoiled}
-use Rattle.access_check.specs.Words.{words, spells}
+use Rattle.solo_base.specs.Words.{words, spells}
 use Rattle.access_check.specs.declared.card.Card.{Card}
 use Rattle.access_check.specs.declared.card.Card.TheVariants.{Blank, Bad, Monitor, Process, Right, Order}
 

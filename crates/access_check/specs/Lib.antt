@@ -1,4 +1,3 @@
-pub mod Words
 pub mod Cards
 pub mod Places
 pub mod Description

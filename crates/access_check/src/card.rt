@@ -1,11 +1,10 @@
 ghost use Rattle.std.specs.Prelude.{◌≡◌, IfOk};
-ghost use Rattle.access_check.specs.Words.{words};
+ghost use Rattle.solo_base.specs.Words.{words};
 ghost use Rattle.access_check.specs.Cards.{card_meaning, names_of, of_word, declares_name, gives_rights, orders_monitors};
 ghost use Rattle.access_check.specs.declared.card.Card.TheVariants.{Monitor, Process};
 
 use crate::names::Names;
-use crate::words::{spells, split_word};
-use solo_base::{Ident, Item, NoMemory};
+use solo_base::{Ident, Item, NoMemory, spells, split_word};
 use std::alloc::Global;
 
 /// What a card of a description says.

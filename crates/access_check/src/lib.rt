@@ -8,7 +8,6 @@ mod fault;
 mod judge;
 mod name_list;
 mod names;
-mod words;
 
 pub use fault::{Accepted, AccessFault};
 pub use judge::check;

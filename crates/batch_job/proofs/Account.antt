@@ -21,7 +21,8 @@ use Rattle.disk_system.specs.declared.loading.Loaded.{Loaded}
 use Rattle.disk_system.specs.declared.loading.Loaded.TheVariants.{NoFile}
 use Rattle.batch_job.specs.Report.{heading, listed_line, skipped_line, run_lines, file_limit, source_loaded}
 use Rattle.batch_job.specs.Loads.{load_for, begun}
-use Rattle.batch_job.specs.LinesSoFar.{IsPrefixOf, is_closed, runs_so_far, stretch_lines, group_lines}
+use Rattle.solo_base.specs.Prefixes.{IsPrefixOf}
+use Rattle.batch_job.specs.LinesSoFar.{is_closed, runs_so_far, stretch_lines, group_lines}
 use Rattle.batch_job.specs.LinesAhead.{Where, Outside, InList, InProgram, Dropped, name_of, told_by, told_behind, task_in, behind, part_lines, is_there, lines_ahead, closed_lines, opened, is_in_group}
 use Rattle.batch_job.specs.Places.{program_group, IsInput, IsPart, is_in_a_group, StillGives, Holds, HasLoad, LeavesLoads, IsLoadOf, Leads, Opens, Ends, Adds, GivesOn, RestsAt}
 use Rattle.batch_job.specs.declared.part.Part.{Part}

@@ -18,7 +18,8 @@ use Rattle.disk_system.specs.declared.loading.Loaded.TheVariants.{NoFile}
 use Rattle.batch_job.specs.Report.{Loads, no_files, report, heading, listed_line, listing_end}
 use Rattle.batch_job.specs.OneThread.{one_thread_lines}
 use Rattle.batch_job.specs.Loads.{file_named, files_named, loads_of, Begun, load_for, Deck, with_group, begin_by, begun}
-use Rattle.batch_job.specs.LinesSoFar.{IsPrefixOf, is_closed, fault_so_far, open_lines, stretch_lines, closed_group, last_lines, group_lines, lines_by, lines_so_far, is_whole, LoadsGoOn}
+use Rattle.solo_base.specs.Prefixes.{IsPrefixOf}
+use Rattle.batch_job.specs.LinesSoFar.{is_closed, fault_so_far, open_lines, stretch_lines, closed_group, last_lines, group_lines, lines_by, lines_so_far, is_whole, LoadsGoOn}
 use Rattle.deck_format.specs.declared.group.Group.{Group}
 use Rattle.deck_format.specs.JobReader.{opened as opened_group}
 use Rattle.batch_job.specs.LinesAhead.{Where, Outside, InList, InProgram, Dropped, name_of, is_list, told_behind, behind, open_program, end_line, list_lines, open_list, part_lines, is_there, lines_ahead, closed_lines, opened, added_lines, added, is_in_group}

@@ -11,7 +11,8 @@ use Rattle.deck_format.specs.declared.control.Opener.{Opener}
 use Rattle.deck_format.specs.declared.control.Opener.TheVariants as opener
 use Rattle.deck_format.specs.declared.control.Control.{Control}
 use Rattle.deck_format.specs.declared.control.Control.TheVariants.{Opens, Data, End, Bad}
-use Rattle.deck_format.specs.Control.{words, spells, limit_of, default_limit, lone, named, with_limit, with_file, with_last, form, behind_mark}
+use Rattle.solo_base.specs.Words.{words, spells}
+use Rattle.deck_format.specs.Control.{limit_of, default_limit, lone, named, with_limit, with_file, with_last, form, behind_mark}
 use Rattle.deck_format.specs.Jobs.{opener_in}
 use Rattle.deck_format.specs.JobReader.{control_in}
 use Rattle.batch_job.specs.LinesAhead as ahead

@@ -20,7 +20,8 @@ use Rattle.disk_system.specs.declared.loading.Loaded.{Loaded}
 use Rattle.program_lines.specs.Task.{Source, source_of, source_lines, program_lines}
 use Rattle.program_lines.proofs.Going.{more-cards, all-cards}
 use Rattle.batch_job.specs.Report.{report, heading, fault_line, run_lines, file_limit, source_loaded}
-use Rattle.batch_job.specs.LinesSoFar.{IsPrefixOf, has_data, runs_so_far, open_lines}
+use Rattle.solo_base.specs.Prefixes.{IsPrefixOf}
+use Rattle.batch_job.specs.LinesSoFar.{has_data, runs_so_far, open_lines}
 use Rattle.batch_job.specs.LinesAhead.{name_of, limit_of, is_list, source_in, told_by, behind}
 
 -- ---- what an item leaves as it is

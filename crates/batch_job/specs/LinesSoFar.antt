@@ -2,6 +2,7 @@
 use Rattle.std.specs.Prelude.{◌≡◌, ℕ, ◌+◌, ◌*◌, ◌≤◌, Bool, true, false, ◌||◌, List, [], ◌∷◌, ◌++◌, length, flat_map, Option, Some, None, if◌then◌else◌}
 use Rattle.solo_base.specs.declared.item.Item.{Item}
 use Rattle.solo_base.specs.Card.{cards}
+use Rattle.solo_base.specs.Prefixes.{IsPrefixOf}
 use Rattle.page_codec.specs.Items.{AreItems}
 use Rattle.deck_format.specs.declared.control.Opener.{Opener}
 use Rattle.deck_format.specs.declared.control.Opener.TheVariants as opener
@@ -92,8 +93,6 @@ abbrev pub is_whole : List Item → List Loaded → Bool → Bool
 is_whole items loads ended = (begun (cut items).groups loads ended).ended
 
 -- ---- what holds of them
-abbrev pub IsPrefixOf : {T : Type 0} → List T → List T → Type 0
-IsPrefixOf {T} part whole = (rest : List T) × (part ++ rest ≡ whole)
 
 -- The lines of the items so far are a prefix of those with more items and more loads.
 abbrev pub LinesGoOn : Type 0

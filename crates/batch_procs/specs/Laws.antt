@@ -4,7 +4,7 @@ use Rattle.std.specs.List.{AllByRecursion}
 use Rattle.solo_base.specs.declared.outcome.Outcome.{Outcome}
 use Rattle.solo_base.specs.declared.outcome.Outcome.TheVariants as outcome
 use Rattle.solo_base.specs.declared.page.Page.{Page}
-use Rattle.batch_job.specs.LinesSoFar.{IsPrefixOf}
+use Rattle.solo_base.specs.Prefixes.{IsPrefixOf}
 use Rattle.batch_procs.specs.declared.actions.Action.{Action}
 use Rattle.batch_procs.specs.declared.actions.Action.TheVariants as act
 use Rattle.disk_system.specs.declared.loading.Loaded.{Loaded}

@@ -1,7 +1,7 @@
 -- Prefixes, and functions under which they stay prefixes.
 use Rattle.std.proofs.Common.{◌≡◌, ℕ, zero, suc, List, [], ◌∷◌, ◌++◌, length, drop, Some, refl, sym, ◌∙◌, ap, append_assoc}
 use Rattle.std.proofs.lemmas.List.{append-nil}
-use Rattle.batch_job.specs.LinesSoFar.{IsPrefixOf}
+use Rattle.solo_base.specs.Prefixes.{IsPrefixOf}
 
 pub some-same : {X : Type 0} (x y : X) → Some x ≡ Some y → x ≡ y
 some-same x y e = cc

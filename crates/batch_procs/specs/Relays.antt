@@ -13,7 +13,8 @@ use Rattle.page_codec.specs.Packing.{PageInHand, fits, first_page, page_given, h
 use Rattle.page_codec.specs.Reading.{PageContent, page_read}
 use Rattle.disk_system.specs.declared.loading.Loaded.{Loaded}
 use Rattle.batch_job.specs.Loads.{files_named}
-use Rattle.batch_job.specs.LinesSoFar.{IsPrefixOf, lines_so_far, is_whole}
+use Rattle.solo_base.specs.Prefixes.{IsPrefixOf}
+use Rattle.batch_job.specs.LinesSoFar.{lines_so_far, is_whole}
 use Rattle.batch_job.proofs.LinesSoFar.{lines_go_on, loads_go_on, never_whole}
 use Rattle.batch_procs.specs.Parcels.{Parcel, OfFeed, OfPage, OfLine, OfLoad, loads, mark, IsMarked, NothingBehind}
 use Rattle.batch_procs.specs.Process.{Process}

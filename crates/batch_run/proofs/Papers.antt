@@ -4,7 +4,7 @@ use Rattle.std.specs.Option.{option_map}
 use Rattle.solo_base.specs.Text.{line_text}
 use Rattle.solo_devices.specs.Count.{Rose}
 use Rattle.solo_devices.specs.PrinterUnit.{Printing}
-use Rattle.batch_job.specs.LinesSoFar.{IsPrefixOf}
+use Rattle.solo_base.specs.Prefixes.{IsPrefixOf}
 use Rattle.batch_procs.specs.declared.actions.Action.TheVariants as act
 use Rattle.batch_procs.specs.declared.actions.Reply.{Reply}
 use Rattle.batch_procs.specs.declared.actions.Reply.TheVariants as reply

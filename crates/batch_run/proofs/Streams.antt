@@ -13,7 +13,7 @@ use Rattle.disk_spool.specs.declared.call.SpoolCall.{SpoolCall}
 use Rattle.disk_spool.specs.declared.call.SpoolCall.TheVariants as spool
 use Rattle.disk_spool.specs.Calls as pages
 use Rattle.disk_spool.specs.Spool.{Received, mark, received_mark, received_page}
-use Rattle.batch_job.specs.LinesSoFar.{IsPrefixOf}
+use Rattle.solo_base.specs.Prefixes.{IsPrefixOf}
 use Rattle.batch_procs.specs.declared.actions.Action.{Action}
 use Rattle.batch_procs.specs.declared.actions.Action.TheVariants as act
 use Rattle.batch_procs.specs.declared.actions.Reply.{Reply}

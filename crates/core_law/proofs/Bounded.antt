@@ -15,7 +15,8 @@ use Rattle.deck_format.specs.Jobs.{opener_of}
 use Rattle.disk_system.specs.declared.loading.Loaded.{Loaded}
 use Rattle.batch_job.specs.Report.{Loads}
 use Rattle.batch_job.specs.Loads.{file_named, files_named, loads_of}
-use Rattle.batch_job.specs.LinesSoFar.{lines_so_far, IsPrefixOf}
+use Rattle.solo_base.specs.Prefixes.{IsPrefixOf}
+use Rattle.batch_job.specs.LinesSoFar.{lines_so_far}
 use Rattle.batch_job.proofs.LinesSoFar.{whole_lines}
 use Rattle.batch_procs.specs.declared.actions.Action.{Action}
 use Rattle.batch_procs.specs.declared.actions.Action.TheVariants as act

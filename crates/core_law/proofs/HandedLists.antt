@@ -4,7 +4,7 @@ use Rattle.std.proofs.lemmas.List.{append-nil}
 use Rattle.page_codec.specs.Packing.{first_page}
 use Rattle.page_codec.specs.Reading.{page_read}
 use Rattle.disk_system.specs.declared.loading.Loaded.{Loaded}
-use Rattle.batch_job.specs.LinesSoFar.{IsPrefixOf}
+use Rattle.solo_base.specs.Prefixes.{IsPrefixOf}
 use Rattle.batch_procs.specs.Parcels.{Parcel, OfFeed, OfPage, OfLine, OfLoad, is_last, is_ended, pages, loads, handed}
 use Rattle.batch_procs.specs.Relays.{loads-append}
 use Rattle.batch_procs.specs.Sends.{feeds, packed, unpacked_by, unpacked, job_lines, job_sends}

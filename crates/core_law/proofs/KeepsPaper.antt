@@ -5,7 +5,7 @@ use Rattle.std.proofs.lemmas.List.{append-nil}
 use Rattle.solo_base.specs.declared.item.Item.{Item}
 use Rattle.solo_base.specs.Text.{line_text}
 use Rattle.batch_job.specs.Report.{Loads}
-use Rattle.batch_job.specs.LinesSoFar.{IsPrefixOf}
+use Rattle.solo_base.specs.Prefixes.{IsPrefixOf}
 use Rattle.batch_procs.specs.declared.actions.Action.{Action}
 use Rattle.batch_procs.specs.declared.actions.Action.TheVariants as act
 use Rattle.batch_procs.specs.declared.actions.Reply.{Reply}

@@ -9,7 +9,8 @@ use Rattle.deck_format.specs.declared.control.Opener.{Opener}
 use Rattle.deck_format.specs.declared.control.Opener.TheVariants as opener
 use Rattle.deck_format.specs.declared.control.Control.{Control}
 use Rattle.deck_format.specs.declared.control.Control.TheVariants.{Opens, Data, End, Bad}
-use Rattle.deck_format.specs.Control.{spells, limit_of, default_limit, lone, with_limit, with_file, form, words, behind_mark, control_of}
+use Rattle.solo_base.specs.Words.{spells, words}
+use Rattle.deck_format.specs.Control.{limit_of, default_limit, lone, with_limit, with_file, form, behind_mark, control_of}
 use Rattle.deck_format.specs.Jobs.{opener_in, opener_of}
 use Rattle.core_law.proofs.PrintedTexts.{IsNamed, identifier-named}
 

@@ -9,7 +9,7 @@ use Rattle.page_codec.specs.Items.{AreItems}
 use Rattle.disk_system.specs.declared.loading.Loaded.{Loaded}
 use Rattle.batch_job.specs.Report.{Loads}
 use Rattle.batch_job.specs.Loads.{files_named, loads_of}
-use Rattle.batch_job.specs.LinesSoFar.{IsPrefixOf}
+use Rattle.solo_base.specs.Prefixes.{IsPrefixOf}
 use Rattle.batch_procs.specs.declared.actions.Action.TheVariants as act
 use Rattle.batch_procs.specs.Parcels.{Parcel, is_ended, loads, handed, NothingBehind}
 use Rattle.batch_procs.specs.History.{Entry, taken, sent, newest}

@@ -15,7 +15,8 @@ use Rattle.page_codec.specs.Stream.{IsStream}
 use Rattle.disk_system.specs.declared.loading.Loaded.{Loaded}
 use Rattle.disk_system.specs.declared.loading.Loaded.TheVariants.{NoFile}
 use Rattle.batch_job.specs.Loads.{files_named}
-use Rattle.batch_job.specs.LinesSoFar.{lines_so_far, IsPrefixOf}
+use Rattle.solo_base.specs.Prefixes.{IsPrefixOf}
+use Rattle.batch_job.specs.LinesSoFar.{lines_so_far}
 use Rattle.batch_procs.specs.declared.actions.Action.{Action}
 use Rattle.batch_procs.specs.declared.actions.Action.TheVariants as act
 use Rattle.batch_procs.specs.declared.actions.Reply.TheVariants as reply

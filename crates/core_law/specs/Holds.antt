@@ -12,7 +12,7 @@ use Rattle.queue_var.specs.HandsOver.{is_one_of}
 use Rattle.resource_mon.specs.Claims.{HasOneHolder}
 use Rattle.batch_job.specs.Report.{Loads}
 use Rattle.batch_job.specs.Loads.{files_named}
-use Rattle.batch_job.specs.LinesSoFar.{IsPrefixOf}
+use Rattle.solo_base.specs.Prefixes.{IsPrefixOf}
 use Rattle.batch_job.specs.OneThread.{one_thread_lines}
 use Rattle.batch_procs.specs.Faults.{IsDamaged}
 use Rattle.batch_procs.specs.Parcels.{is_last, handed}

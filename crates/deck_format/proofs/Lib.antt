@@ -1,4 +1,3 @@
-mod Parting
 mod Numerals
 pub mod Steps
 pub mod Completed

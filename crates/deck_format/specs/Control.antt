@@ -1,36 +1,12 @@
 -- What a card says to the deck: `#` in column 1, directly followed by its first word.
-use Rattle.std.specs.Prelude.{ℕ, ◌+◌, Bool, true, false, ◌&&◌, ◌==◌, List, [], ◌∷◌, filter, Option, Some, None, codes, if◌then◌else◌}
+use Rattle.std.specs.Prelude.{ℕ, ◌==◌, List, [], ◌∷◌, Option, Some, None, codes, if◌then◌else◌}
 use Rattle.std.specs.Option.{option_map_or}
-use Rattle.solo_base.specs.Ident.{capital, identifier}
+use Rattle.solo_base.specs.Ident.{identifier}
+use Rattle.solo_base.specs.Words.{words, spells}
 use Rattle.deck_format.specs.Numeral.{number_within}
 use Rattle.deck_format.specs.declared.control.Opener.TheVariants as opener
 use Rattle.deck_format.specs.declared.control.Control.{Control}
 use Rattle.deck_format.specs.declared.control.Control.TheVariants.{Opens, Data, End, Bad}
-
--- a character in front of a text that was parted: it goes in front of the first part
-abbrev pub before_parts : ℕ → List (List ℕ) → List (List ℕ)
-before_parts code [] = (code ∷ []) ∷ []
-before_parts code (first ∷ others) = (code ∷ first) ∷ others
-
--- the parts between the blanks, of which some may be empty
-abbrev pub parts : List ℕ → List (List ℕ)
-parts [] = [] ∷ []
-parts (code ∷ rest) = if code == 32 then [] ∷ parts rest else before_parts code (parts rest)
-
-abbrev pub is_word : List ℕ → Bool
-is_word [] = false
-is_word (code ∷ rest) = true
-
--- the words of a text: the parts that aren't empty
-abbrev pub words : List ℕ → List (List ℕ)
-words text = filter is_word (parts text)
-
--- the same letters, of either case
-abbrev pub spells : List ℕ → List ℕ → Bool
-spells [] [] = true
-spells (code ∷ rest) (letter ∷ letters) = (capital code == letter) && spells rest letters
-spells [] (letter ∷ letters) = false
-spells (code ∷ rest) [] = false
 
 -- a limit of ticks: one to seven digits, of a value from 1 to 1,000,000
 abbrev pub limit_of : List ℕ → Option ℕ
@@ -83,8 +59,3 @@ behind_mark (code ∷ rest) = if code == 32 then Bad else form (words (code ∷ 
 abbrev pub control_of : List ℕ → Option Control
 control_of [] = None
 control_of (code ∷ rest) = if code == 35 then Some (behind_mark rest) else None
-
--- how long the word is with which a text begins
-abbrev pub word_length : List ℕ → ℕ
-word_length [] = 0
-word_length (code ∷ rest) = if code == 32 then 0 else word_length rest + 1

@@ -1,10 +1,10 @@
 ghost use Rattle.std.specs.Prelude.{◌≡◌};
 ghost use Rattle.solo_base.specs.Ident.{identifier};
-ghost use Rattle.deck_format.specs.Control.{control_of, behind_mark, form, words, lone, named, with_last, with_limit, with_file, limit_of};
+ghost use Rattle.solo_base.specs.Words.{words};
+ghost use Rattle.deck_format.specs.Control.{control_of, behind_mark, form, lone, named, with_last, with_limit, with_file, limit_of};
 
 use crate::numeral::number_within;
-use crate::words::{spells, split_word};
-use solo_base::Ident;
+use solo_base::{Ident, spells, split_word};
 
 /// A card that opens a group of cards.
 #[derive(Clone, Copy, Debug)]

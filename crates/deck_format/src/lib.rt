@@ -7,7 +7,6 @@ mod job;
 mod job_reader;
 mod numeral;
 mod place;
-mod words;
 
 pub use control::{Control, DEFAULT_LIMIT, Opener, control_of};
 pub use group::{Group, Kept};

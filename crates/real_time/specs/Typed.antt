@@ -3,7 +3,7 @@ use Rattle.std.specs.Prelude.{ℕ, List, [], ◌∷◌, Option, Some, None, code
 use Rattle.solo_base.specs.Ident.{identifier}
 use Rattle.solo_base.specs.declared.item.Item.{Item}
 use Rattle.solo_base.specs.declared.item.Item.TheVariants as item
-use Rattle.deck_format.specs.Control.{words, spells}
+use Rattle.solo_base.specs.Words.{words, spells}
 use Rattle.deck_format.specs.Numeral.{number_within}
 
 -- a time is a number of seconds, and so is a period, where 0 is none

@@ -6,7 +6,7 @@ use Rattle.page_codec.specs.Items.{AreItems}
 use Rattle.disk_system.specs.declared.loading.Loaded.{Loaded}
 use Rattle.batch_job.specs.Report.{Loads, no_files}
 use Rattle.batch_job.specs.Loads.{files_named}
-use Rattle.batch_job.specs.LinesSoFar.{IsPrefixOf}
+use Rattle.solo_base.specs.Prefixes.{IsPrefixOf}
 use Rattle.batch_procs.specs.declared.actions.Action.TheVariants as act
 use Rattle.batch_procs.specs.declared.actions.Reply.TheVariants as reply
 use Rattle.batch_procs.specs.History.{Entry, Does, LacksMemory, Delays, action_of}

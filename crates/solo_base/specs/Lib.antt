@@ -3,6 +3,8 @@ pub mod LineList
 pub mod Text
 pub mod Blanks
 pub mod Ident
+pub mod Words
+pub mod Prefixes
 pub mod Card
 pub mod PageBytes
 pub mod Arithmetic

@@ -14,6 +14,7 @@ mod outcome;
 mod page;
 mod search;
 mod system_call;
+mod words;
 
 pub use arg_list::{ARG_LIMIT, ArgList};
 pub use blanks::trim_end;
@@ -27,3 +28,4 @@ pub use outcome::{BufferNo, Cause, Outcome, ProcNo, ProgResult, Side, line_word}
 pub use page::{PAGE_LENGTH, Page, number_at};
 pub use search::first_place;
 pub use system_call::{Arg, SysCall, SysReply};
+pub use words::{spells, split_word};

@@ -13,7 +13,8 @@ use Rattle.solo_base.specs.Text.{text}
 use Rattle.solo_base.specs.declared.item.Item.TheVariants.{Line, Spoiled}
 use Rattle.deck_format.specs.declared.control.Opener.TheVariants as opener
 use Rattle.deck_format.specs.declared.control.Control.TheVariants.{Opens, Data, End, Bad}
-use Rattle.deck_format.specs.Control.{before_parts, parts, is_word, words, spells, limit_of, default_limit, with_limit, with_file, form, behind_mark, control_of}
+use Rattle.solo_base.specs.Words.{before_parts, parts, is_word, words, spells}
+use Rattle.deck_format.specs.Control.{limit_of, default_limit, with_limit, with_file, form, behind_mark, control_of}
 use Rattle.deck_format.specs.Jobs.{opener_in, opener_of}
 use Rattle.batch_job.specs.Loads.{file_named, files_named}
 use Rattle.made_deck.specs.MadeDeck.{numbered_cards, list_cards, program_cards, job_cards, jobs_to, made_deck}

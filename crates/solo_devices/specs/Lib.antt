@@ -11,3 +11,4 @@ pub mod Area
 pub mod CardUnit
 pub mod Reader
 pub mod PrinterUnit
+pub mod Typewriter

@@ -1,5 +1,6 @@
 //! The devices of Solo and of the Job Stream System: what bytes are read from, what they are written
-//! to, the pages of a disk, the same in memory, and the units that read cards and print lines.
+//! to, the pages of a disk, the same in memory, the units that read cards and print lines, and the
+//! typewriter.
 #![tactic(auto)]
 
 mod area;
@@ -20,6 +21,7 @@ mod source;
 mod sure_area;
 mod sure_sink;
 mod sure_source;
+mod typewriter;
 
 pub use area::{Area, Moved};
 pub use blank_area::BlankArea;
@@ -36,3 +38,4 @@ pub use source::{Source, Took};
 pub use sure_area::SureArea;
 pub use sure_sink::SureSink;
 pub use sure_source::SureSource;
+pub use typewriter::Typewriter;

@@ -1,5 +1,5 @@
 use Rattle.std.proofs.Common.{length, ◌≡◌}
-use Rattle.access_check.specs.Words.{words}
+use Rattle.solo_base.specs.Words.{words}
 use Rattle.access_check.specs.Cards.{names_of}
 use Rattle.access_check.proofs.Naming.{behind_names}
 use Rattle.access_check.proofs.card.names_of.Given as goal

@@ -1,4 +1,4 @@
--- The words of a card, parted by blanks.
+-- The words of a card or of a typed line, parted by blanks.
 use Rattle.std.specs.Prelude.{ℕ, ◌+◌, Bool, true, false, ◌&&◌, ◌==◌, List, [], ◌∷◌, filter, if◌then◌else◌}
 use Rattle.solo_base.specs.Ident.{capital}
 

@@ -1,7 +1,7 @@
 ghost use Rattle.std.specs.Prelude.{◌≡◌, ◌<◌, ◌≤◌, [], ◌∷◌, length, IfSome, IfNone};
-ghost use Rattle.access_check.specs.Words.{words, word_length, spells};
+ghost use Rattle.solo_base.specs.Words.{words, word_length, spells};
 
-use solo_base::capital;
+use crate::capital;
 
 /// The first word of a text, and what stands behind it.
 pub fn split_word(text: &[u8]) -> Option<(&[u8], &[u8])>

@@ -1,5 +1,5 @@
 use Rattle.std.proofs.Common.{length}
-use Rattle.deck_format.proofs.words.+word_length.Given as goal
+use Rattle.solo_base.proofs.words.+word_length.Given as goal
 
 abbrev pub decreases-word_length : goal.decreases-word_length
 decreases-word_length l = length l.text.now

@@ -1,5 +1,5 @@
 use Rattle.std.proofs.Common.{length}
-use Rattle.deck_format.proofs.words.+spells.Given as goal
+use Rattle.solo_base.proofs.words.+spells.Given as goal
 
 abbrev pub decreases-spells : goal.decreases-spells
 decreases-spells l = length l.word.now

@@ -1,8 +1,8 @@
 use Rattle.std.proofs.Common.{◌≡◌, ◌<◌, ℕ, false, length, take, arith}
 use Rattle.std.specs.Prelude.{◌==◌}
 use Rattle.std.proofs.lemmas.Bool.Decides.{nat_tests}
-use Rattle.deck_format.proofs.Parting.{words-first}
-use Rattle.deck_format.proofs.words.split_word.Goals as goal
+use Rattle.solo_base.proofs.Parting.{words-first}
+use Rattle.solo_base.proofs.words.split_word.Goals as goal
 
 some_of : (n : ℕ) → false ≡ n == 0 → 0 < n
 some_of n test = grind (arith, nat_tests)

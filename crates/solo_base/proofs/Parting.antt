@@ -1,7 +1,7 @@
 -- The first word of a text, and the others.
 use Rattle.std.proofs.Common.{◌≡◌, ℕ, ◌<◌, List, [], ◌∷◌, length, take, drop, refl, ap, ◌∙◌, arith, Bool, true, false, add-one}
 use Rattle.std.specs.Prelude.{filter, ◌==◌}
-use Rattle.access_check.specs.Words.{parts, is_word, words, word_length}
+use Rattle.solo_base.specs.Words.{parts, is_word, words, word_length}
 
 -- the parts behind the first
 abbrev others : List ℕ → List (List ℕ)
