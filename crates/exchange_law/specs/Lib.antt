@@ -1,0 +1,4 @@
+pub mod Pages
+pub mod Parcels
+pub mod Phases
+pub mod Meeting
