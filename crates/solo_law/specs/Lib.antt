@@ -1,0 +1,10 @@
+pub mod Work
+pub mod Actions
+pub mod Buffers
+pub mod Replies
+pub mod InputPlaces
+pub mod OutputPlaces
+pub mod JobPlaces
+pub mod Devices
+pub mod Solo
+pub mod Holds

@@ -1,0 +1,23 @@
+ghost use Rattle.network_law.specs.Processes.{IsLawful};
+ghost use Rattle.solo_law.specs.Devices.{Devices};
+ghost use Rattle.solo_law.specs.Solo.{solo, SoloState, IsReached, IsStuck};
+ghost use Rattle.solo_law.specs.Holds.{Holds};
+
+/// Solo meets what the law of networks asks of its processes. Nothing is done here: the contract is the law.
+pub fn is_lawful()
+    ensures { IsLawful solo }
+{}
+
+/// Whatever the order of the events, whichever calls of the devices fail and wherever memory is refused: in
+/// each state that can be reached the six buffers hand over in order, a stop is told rightly, and each
+/// process ends as its cause says. Nothing is done here: the contract is the law.
+pub fn every_interleaving()
+    ensures { (devices : Devices) (s : SoloState) → IsReached devices s → Holds s }
+{}
+
+/// No state that can be reached is stuck, whichever calls of the devices failed and wherever memory was
+/// refused: where no event may happen but by a failure, all three have ended. Nothing is done here: the
+/// contract is the law.
+pub fn no_state_is_stuck()
+    ensures { (devices : Devices) (s : SoloState) → IsReached devices s → IsStuck s → ⊥ }
+{}
