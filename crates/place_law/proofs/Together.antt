@@ -77,9 +77,9 @@ module _ {Devices Action Reply Parcel : Type 0} (t : Table Devices Action Reply 
     how-ended : (p : ℕ) (how : Outcome) → IsOne (network_of t) p → HasEndedSo t s p how → EndsRightly t.view (t.process p) (s.histories p) how
     how-ended p how one e = ends-rightly t is p (s.histories p) how one (st.follows p) e
 
-    done-free : AllDone t s → (p : ℕ) → IsOne (network_of t) p → caused t.view (t.process p) (s.histories p) ≡ None
-    done-free all p one =
-        free-by (caused t.view (t.process p) (s.histories p)) (never-done p (s.histories p) one) (how-ended p outcome.Done one (all p one)).by_cause
+    pub done-free : (p : ℕ) → IsOne (network_of t) p → HasEndedSo t s p outcome.Done → caused t.view (t.process p) (s.histories p) ≡ None
+    done-free p one done =
+        free-by (caused t.view (t.process p) (s.histories p)) (never-done p (s.histories p) one) (how-ended p outcome.Done one done).by_cause
 
     unstopped-done : (p : ℕ) (how : Outcome) → IsOne (network_of t) p → HasEndedSo t s p how
         → AllByRecursion (λ b. stopped_by (s.buffers b).sides ≡ None) (t.process p).buffers → how ≡ outcome.Done
@@ -115,7 +115,7 @@ module _ {Devices Action Reply Parcel : Type 0} (t : Table Devices Action Reply 
       pub together : EndsTogether t s
       together = record {
         done = λ all b. neither-first (s.buffers b).sides.stops
-            (λ side. none-stopped t is seats start s st b side (done-free all _ (seats b side)));
+            (λ side. none-stopped t is seats start s st b side (done-free _ (seats b side) (all _ (seats b side))));
         unstopped = unstopped-done;
         stopped = stopped-ends;
       }

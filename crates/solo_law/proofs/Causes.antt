@@ -19,8 +19,8 @@ use Rattle.exchange_law.specs.Pages.{is_last, page_gives, items_read, lines_of, 
 use Rattle.exchange_law.specs.Parcels.{Parcel, OfPage, count_behind, count_after, AreNumbered}
 use Rattle.exchange_law.proofs.Counted.{none-delayed}
 use Rattle.exchange_law.proofs.Streams.{count-append, numbered-front, next-undamaged}
-use Rattle.place_law.specs.Process.{caused, given_cause, fault_in}
-use Rattle.place_law.proofs.Moved.{each-cause}
+use Rattle.place_law.specs.Process.{place, caused, given_cause, fault_in}
+use Rattle.place_law.proofs.Moved.{moved-so, each-cause}
 use Rattle.place_law.proofs.Given.{given-by}
 use Rattle.solo_law.specs.Work.{Need, CardsNeeded, LineNeeded, DisplayNeeded, PageNeeded, EndNeeded}
 use Rattle.solo_law.specs.Actions.{Reply}
@@ -232,7 +232,7 @@ abbrev behind_last : Bool → ℕ → ℕ
 behind_last true pages = 0
 behind_last false pages = pages
 
-abbrev OutputTakes : OutputPlace → ℕ → Type 0
+abbrev pub OutputTakes : OutputPlace → ℕ → Type 0
 OutputTakes (output_at.TakesPage pages) n = pages ≡ n
 OutputTakes (output_at.PrintsLine line later last pages) n = behind_last last pages ≡ n
 OutputTakes other n = 0 ≡ n
@@ -264,6 +264,13 @@ output-takes output_at.AwaitsPrinting act.Stopped parcels fits free e = absurd c
 output-takes (output_at.TakesPage pages) act.Stopped parcels fits free e = absurd cc
 output-takes output_at.ReportsPrinted act.Stopped parcels fits free e = absurd cc
 output-takes a reply parcels fits free e = absurd fits
+
+pub output-count : (h : List SoloEntry) → Follows solo 3 h → caused view output h ≡ None
+    → OutputTakes (place output h) (count_after 0 (moved 5 Receiver (acts solo 3 h)))
+output-count h follows none =
+    moved-so table 3 (λ a before. OutputTakes a (count_after 0 (moved 5 Receiver before))) refl
+    (λ a reply before fits free is. output-takes a reply (moved 5 Receiver before) fits free is)
+    (λ a c before is. count-delayed (OutputTakes a) 5 c before is) h follows none
 
 abbrev output_faults : List Cause
 output_faults = cause.PrintFault ∷ cause.NoMemory ∷ []

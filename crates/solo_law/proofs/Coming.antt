@@ -172,7 +172,7 @@ work-comes s p work (Some plan) e sound = record {
   the-plan other e = cc
 
 module _ (opening s : SoloState) (st : Stands solo opening s) (told : (b : ℕ) → IsTold (opening.buffers b)) (sound : AreSound s.devices) where
-  marks-inside : (b : ℕ) (inside : List Parcel) → (s.buffers b).inside ≡ Some inside → (s.buffers b).marks ≡ map mark inside
+  pub marks-inside : (b : ℕ) (inside : List Parcel) → (s.buffers b).inside ≡ Some inside → (s.buffers b).marks ≡ map mark inside
   marks-inside b inside e =
       let h = st.buffers.hand_over b in
       same-front (map mark (passed solo s b Receiver)) _ _ (h.marks.in_order ∙ ap (map mark) (sym (h.parcels inside e))

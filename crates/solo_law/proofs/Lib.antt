@@ -11,3 +11,9 @@ pub mod Numbered
 pub mod Causes
 pub mod Reached
 mod Examples
+pub mod Sinks
+pub mod Shown
+pub mod Consoles
+pub mod Printed
+pub mod Put
+pub mod Papers

@@ -18,8 +18,8 @@ use Rattle.exchange_law.specs.Parcels.{Parcel, count_behind, count_after, IsNumb
 use Rattle.exchange_law.proofs.Counted.{none-delayed}
 use Rattle.exchange_law.proofs.Lines.{HandFits, empty-fits, one-fits, more-fits, full-page, last-page}
 use Rattle.exchange_law.proofs.Streams.{Stands, stands-still, page-put}
-use Rattle.place_law.specs.Process.{given_cause}
-use Rattle.place_law.proofs.Moved.{IsClosing, moved-all}
+use Rattle.place_law.specs.Process.{given_cause, place, caused}
+use Rattle.place_law.proofs.Moved.{IsClosing, moved-so, moved-all}
 use Rattle.solo_law.specs.Work.{Need, CardsNeeded, LineNeeded, DisplayNeeded, PageNeeded, EndNeeded, NeedFits}
 use Rattle.solo_law.specs.Actions.{Reply}
 use Rattle.solo_law.specs.Actions as act
@@ -149,7 +149,7 @@ abbrev last_by : Behind → Bool
 last_by GoesOn = false
 last_by (EndsWith lines) = true
 
-abbrev JobSo : JobPlace → ℕ → Type 0
+abbrev pub JobSo : JobPlace → ℕ → Type 0
 JobSo (at.Toils work) n = work.pages ≡ n
 JobSo (at.OrdersCards pages) n = pages ≡ n
 JobSo (at.TakesCards taken items pages) n = pages ≡ n
@@ -269,3 +269,10 @@ job-numbered h follows =
     (λ a reply before fits is. (job-answered a reply (moved 5 Sender before) fits is).numbered)
     (λ c w before is are. still-numbered (moved 5 Sender before) (moved_by 5 Sender c w) (closing-none 5 Sender c w is) are)
     h follows
+
+-- and its place tells how many of its command's pages it has put
+pub job-so : (h : List SoloEntry) → Follows solo 2 h → caused view job h ≡ None → JobSo (place job h) (count_after 0 (moved 5 Sender (acts solo 2 h)))
+job-so h follows none =
+    (moved-so table 2 JobMoved record { so = refl; numbered = tt }
+    (λ a reply before fits free is. (let now = job-answered a reply (moved 5 Sender before) fits is in record { so = now.so free; numbered = now.numbered }))
+    (λ a c before is. still-delayed (JobSo a) 5 Sender c before is) h follows none).so

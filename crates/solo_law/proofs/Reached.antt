@@ -9,8 +9,10 @@ use Rattle.solo_law.specs.Solo.{table, solo, opened, SoloState, IsReached}
 use Rattle.solo_law.specs.Holds.{Holds}
 use Rattle.solo_law.proofs.Placed.{seats, placed, solo-lawful}
 use Rattle.solo_law.proofs.Causes.{have-causes}
+use Rattle.solo_law.proofs.Consoles.{console-gains}
+use Rattle.solo_law.proofs.Papers.{paper-gains}
 
-pub reached-holds : (devices : Devices) (s : SoloState) → IsReached devices s → Holds s
+pub reached-holds : (devices : Devices) (s : SoloState) → IsReached devices s → Holds devices s
 reached-holds devices s reached =
     let st = reached-stands solo-lawful devices (λ b. 1) (λ b. true) s reached.reached in
     let causes = causes-reached table placed seats (opened devices) s (opening-stands solo devices (λ b. 1) (λ b. true)) (λ p one. refl) reached.reached in
@@ -25,5 +27,7 @@ reached-holds devices s reached =
       ends = together table placed seats (opened devices) s st causes;
       reasons = reasons table placed seats (opened devices) s st causes;
       causes = have-causes (opened devices) s st (λ b. ([], refl));
+      shows = console-gains devices s reached;
+      prints = paper-gains devices s reached;
       follows = st.follows;
     }

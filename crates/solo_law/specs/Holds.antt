@@ -7,6 +7,8 @@ use Rattle.solo_base.specs.declared.outcome.Outcome.{Outcome}
 use Rattle.solo_base.specs.declared.outcome.Outcome.TheVariants as outcome
 use Rattle.solo_base.specs.declared.outcome.Cause.{Cause}
 use Rattle.solo_base.specs.declared.outcome.Cause.TheVariants as cause
+use Rattle.solo_base.specs.Text.{text}
+use Rattle.solo_devices.specs.PrinterUnit.{Gains}
 use Rattle.queue_var.specs.HandsOver.{is_one_of}
 use Rattle.network_law.specs.Acts.{made_stop, was_told}
 use Rattle.network_law.specs.Network.{Follows}
@@ -15,6 +17,8 @@ use Rattle.exchange_law.specs.Parcels.{mark}
 use Rattle.place_law.specs.Process.{caused}
 use Rattle.place_law.specs.Ending.{EndsRightly, GivenBy, HasEndedSo, HaveReasons, EndsTogether}
 use Rattle.solo_law.specs.Replies.{view}
+use Rattle.solo_law.specs.Devices.{Devices}
+use Rattle.solo_law.specs.Told.{needs, on_console, on_paper, lines_of_all}
 use Rattle.solo_law.specs.Solo.{process, table, solo, SoloState, IsProcess}
 
 abbrev pub IsBuffer : ℕ → Type 0
@@ -39,7 +43,7 @@ pub record HaveCauses (s : SoloState) : Type 0 where
   pub output : (c : Cause) → HasFault s 3 c → IsAmong c (cause.PrintFault ∷ cause.NoMemory ∷ [])
 
 -- ---- all that holds
-pub record Holds (s : SoloState) : Type 0 where
+pub record Holds (devices : Devices) (s : SoloState) : Type 0 where
   -- Each buffer hands over in order what its sender put, and who waits there has a cause to.
   pub hands_over : (b : ℕ) → IsBuffer b
       → StandsFor mark (passed solo s b Sender) (passed solo s b Receiver) (s.buffers b)
@@ -60,5 +64,13 @@ pub record Holds (s : SoloState) : Type 0 where
   pub ends : EndsTogether table s
   pub reasons : HaveReasons table s
   pub causes : HaveCauses s
+  -- What the console gained is a first part of what the needs of the commands show, in order, and all of it
+  -- where the job process ended with its work done.
+  pub shows : Gains devices.console s.devices.console (text (lines_of_all on_console (needs (s.histories 2))))
+      (HasEndedSo table s 2 outcome.Done)
+  -- What the paper gained is a first part of what they print, and all of it where the output process did so
+  -- too.
+  pub prints : Gains devices.paper s.devices.paper (text (lines_of_all on_paper (needs (s.histories 2))))
+      (HasEndedSo table s 2 outcome.Done × HasEndedSo table s 3 outcome.Done)
   -- Each process did what its history asks for.
   pub follows : (p : ℕ) → Follows solo p (s.histories p)

@@ -8,3 +8,4 @@ pub mod JobPlaces
 pub mod Devices
 pub mod Solo
 pub mod Holds
+pub mod Told
