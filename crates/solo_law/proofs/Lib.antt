@@ -17,3 +17,4 @@ pub mod Consoles
 pub mod Printed
 pub mod Put
 pub mod Papers
+pub mod Working

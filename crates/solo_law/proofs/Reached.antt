@@ -9,6 +9,7 @@ use Rattle.solo_law.specs.Solo.{table, solo, opened, SoloState, IsReached}
 use Rattle.solo_law.specs.Holds.{Holds}
 use Rattle.solo_law.proofs.Placed.{seats, placed, solo-lawful}
 use Rattle.solo_law.proofs.Causes.{have-causes}
+use Rattle.solo_law.proofs.Working.{works-so}
 use Rattle.solo_law.proofs.Consoles.{console-gains}
 use Rattle.solo_law.proofs.Papers.{paper-gains}
 
@@ -27,6 +28,7 @@ reached-holds devices s reached =
       ends = together table placed seats (opened devices) s st causes;
       reasons = reasons table placed seats (opened devices) s st causes;
       causes = have-causes (opened devices) s st (λ b. ([], refl));
+      works = λ plan e. works-so plan devices s e reached;
       shows = console-gains devices s reached;
       prints = paper-gains devices s reached;
       follows = st.follows;

@@ -17,8 +17,9 @@ use Rattle.exchange_law.specs.Parcels.{mark}
 use Rattle.place_law.specs.Process.{caused}
 use Rattle.place_law.specs.Ending.{EndsRightly, GivenBy, HasEndedSo, HaveReasons, EndsTogether}
 use Rattle.solo_law.specs.Replies.{view}
+use Rattle.solo_law.specs.Work.{Plan}
 use Rattle.solo_law.specs.Devices.{Devices}
-use Rattle.solo_law.specs.Told.{needs, on_console, on_paper, lines_of_all}
+use Rattle.solo_law.specs.Told.{needs, on_console, on_paper, lines_of_all, begun, needs_of}
 use Rattle.solo_law.specs.Solo.{process, table, solo, SoloState, IsProcess}
 
 abbrev pub IsBuffer : ℕ → Type 0
@@ -64,6 +65,9 @@ pub record Holds (devices : Devices) (s : SoloState) : Type 0 where
   pub ends : EndsTogether table s
   pub reasons : HaveReasons table s
   pub causes : HaveCauses s
+  -- Over told files the needs are those that these files make of what the work began with.
+  pub works : (plan : Plan) → devices.work ≡ Some plan
+      → needs (s.histories 2) ≡ needs_of plan (begun (s.histories 2))
   -- What the console gained is a first part of what the needs of the commands show, in order, and all of it
   -- where the job process ended with its work done.
   pub shows : Gains devices.console s.devices.console (text (lines_of_all on_console (needs (s.histories 2))))

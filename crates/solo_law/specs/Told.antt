@@ -1,8 +1,9 @@
 -- What the needs of the commands tell console and paper, and what a process gave them.
 use Rattle.std.specs.Prelude.{ℕ, List, [], ◌∷◌, ◌++◌, Option, None, Some}
 use Rattle.place_law.specs.Process.{Does, LacksMemory, Delays}
-use Rattle.solo_law.specs.Work.{Need, DisplayNeeded, PageNeeded, EndNeeded}
+use Rattle.solo_law.specs.Work.{Plan, Given, Need, DisplayNeeded, PageNeeded, EndNeeded}
 use Rattle.solo_law.specs.Actions.{Action, Reply}
+use Rattle.solo_law.specs.Devices.{plan_behind}
 use Rattle.solo_law.specs.Actions as act
 use Rattle.solo_law.specs.Solo.{SoloEntry}
 
@@ -17,6 +18,22 @@ needs [] = []
 needs (Does action reply ∷ before) = needs before ++ need_by action reply
 needs (LacksMemory action reply ∷ before) = needs before
 needs (Delays action ∷ before) = needs before
+
+-- and what they began with
+abbrev pub begun_by : Action → Reply → List Given
+begun_by (act.Works work) (act.Found need) = work.given ∷ []
+begun_by action reply = []
+
+abbrev pub begun : List SoloEntry → List Given
+begun [] = []
+begun (Does action reply ∷ before) = begun before ++ begun_by action reply
+begun (LacksMemory action reply ∷ before) = begun before
+begun (Delays action ∷ before) = begun before
+
+-- what told files make of pieces of work that begin so, one after the other
+abbrev pub needs_of : Plan → List Given → List Need
+needs_of plan [] = []
+needs_of plan (given ∷ rest) = plan [] given ∷ needs_of (plan_behind given plan) rest
 
 -- the lines that a need shows on the console, and those that it prints
 abbrev pub on_console : Need → List (List ℕ)

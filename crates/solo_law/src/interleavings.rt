@@ -9,9 +9,9 @@ pub fn is_lawful()
 {}
 
 /// Whatever the order of the events, whichever calls of the devices fail and wherever memory is refused: in
-/// each state that can be reached the six buffers hand over in order, a stop is told rightly, each process ends
-/// as its cause says, and console and paper gained what the needs of the commands show and print, in order.
-/// Nothing is done here: the contract is the law.
+/// each state that can be reached the six buffers hand over in order, a stop is told rightly, each process
+/// ends as its cause says, and console and paper gained what the needs of the commands show and print, in
+/// order. Nothing is done here: the contract is the law.
 pub fn every_interleaving()
     ensures { (devices : Devices) (s : SoloState) → IsReached devices s → Holds devices s }
 {}
