@@ -3,20 +3,26 @@ ghost use Rattle.std.specs.Prelude.{◌≡◌};
 
 use std::sync::atomic::{AtomicU64, Ordering};
 use std::sync::{OnceLock, OnceToken, Wait};
-use std::thread::yield_now;
+use std::thread::Parker;
+use std::time::Duration;
 
 /// How many processes there are.
 const PROCESSES: u64 = 5;
 
-/// How often the process that tells looks whether the others have come: for some seconds. A thread that was
-/// made comes at once.
-const TURNS: u32 = 10_000_000;
+/// How often the process that tells waits for the others. A wait ends when one comes, or with its time: so
+/// they take four seconds at most, and three at least where one doesn't come. A thread that was made comes as
+/// soon as it has a processor. A program that is stopped and goes on has lost the time of one wait alone.
+const WAITS: u32 = 16;
+
+/// How many milliseconds a wait takes at most.
+const WAIT: u64 = 250;
 
 /// The start of the five processes. A process for which no thread can be made would run once the others have
 /// ended, which would wait for it: so none begins before all have come.
 #[derive(Drop)]
 pub struct Start {
     come: AtomicU64,
+    teller: Parker,
     all: OnceLock<bool>,
 }
 
@@ -27,6 +33,7 @@ impl Start {
     pub fn new() -> Start {
         Start {
             come: AtomicU64::new(0),
+            teller: Parker::new(),
             all: OnceLock::new(),
         }
     }
@@ -36,6 +43,7 @@ impl Start {
         ensures { result.of ≡ self.now.all.id }
     {
         self.come.fetch_add(1, Ordering::SeqCst);
+        self.teller.unpark();
         self.hear(rt)
     }
 
@@ -44,7 +52,7 @@ impl Start {
         ensures { result.of ≡ self.now.all.id }
     {
         self.come.fetch_add(1, Ordering::SeqCst);
-        match self.all.set(rt, self.have_come()) {
+        match self.all.set(rt, self.have_come(rt)) {
             Ok(told) => told,
             Err(_) => self.hear(rt),
         }
@@ -71,14 +79,18 @@ impl Start {
         unreachable!()
     }
 
-    /// Whether all come within so many turns, each of which lets other threads go on.
-    fn have_come(&self) -> bool {
-        for _ in 0..TURNS {
-            if self.come.load(Ordering::SeqCst) == PROCESSES {
+    /// Whether all come while this process waits for them.
+    fn have_come<R: Wait>(&self, rt: &R) -> bool {
+        for _ in 0..WAITS {
+            if self.all_have_come() {
                 return true;
             }
-            yield_now();
+            self.teller.park_timeout(rt, Duration::from_millis(WAIT));
         }
-        false
+        self.all_have_come()
+    }
+
+    fn all_have_come(&self) -> bool {
+        self.come.load(Ordering::SeqCst) == PROCESSES
     }
 }
