@@ -46,9 +46,10 @@ module _ (law : Law) where
       (all.0, by-rule-more (behind rule (Some (law.process first))) (law.happens s first) events event all.1 last)
 
   -- ---- the counts
-  delays-more : (events : List law.Event) (event : law.Event) → delays_of law (events ++ event ∷ []) ≡ delays_of law events + delays_by (law.went event)
-  delays-more [] event = omega arith
-  delays-more (first ∷ events) event = (let rest = delays-more events event in omega (arith, rest))
+  delays-more : (s : law.State) (events : List law.Event) (event : law.Event)
+      → delays_of law s (events ++ event ∷ []) ≡ delays_of law s events + delays_by (law.went (run law s events) event)
+  delays-more s [] event = omega arith
+  delays-more s (first ∷ events) event = (let rest = delays-more (law.happens s first) events event in omega (arith, rest))
 
   grants-more : (s : law.State) (events : List law.Event) (event : law.Event)
       → grants_of law s (events ++ event ∷ []) ≡ grants_of law s events + law.grants (run law s events) event
@@ -56,13 +57,14 @@ module _ (law : Law) where
   grants-more s (first ∷ events) event = (let rest = grants-more (law.happens s first) events event in omega (arith, rest))
 
   counts-more : (before after : Counts) (s : law.State) (events : List law.Event) (event : law.Event) → before ≡ counts_of law s events
-      → after ≡ counted_by before (delays_by (law.went event)) (law.grants (run law s events) event) → after ≡ counts_of law s (events ++ event ∷ [])
+      → after ≡ counted_by before (delays_by (law.went (run law s events) event)) (law.grants (run law s events) event)
+      → after ≡ counts_of law s (events ++ event ∷ [])
   counts-more before after s events event was counted =
       counted
-      ∙ ap (λ (c : Counts). counted_by c (delays_by (law.went event)) (law.grants (run law s events) event)) was
+      ∙ ap (λ (c : Counts). counted_by c (delays_by (law.went (run law s events) event)) (law.grants (run law s events) event)) was
       ∙ same-counts _ _ _ _ _ _
       (raised-more (length events) 1 ∙ ap (raised 0) (sym (length-append events (event ∷ []))))
-      (raised-more (delays_of law events) (delays_by (law.went event)) ∙ ap (raised 0) (sym (delays-more events event)))
+      (raised-more (delays_of law s events) (delays_by (law.went (run law s events) event)) ∙ ap (raised 0) (sym (delays-more s events event)))
       (raised-more (grants_of law s events) (law.grants (run law s events) event) ∙ ap (raised 0) (sym (grants-more s events event)))
 
   -- ---- a run so far
@@ -150,7 +152,7 @@ module _ (law : Law) where
       counted =
           counted
           ∙ ap (λ went. counted_by before (delays_by went) (grants_by was is)) steps.told
-          ∙ ap (λ n. counted_by before (delays_by (law.went steps.event)) n)
+          ∙ ap (λ n. counted_by before (delays_by (law.went at.state steps.event)) n)
           (ap (λ h. grants_by h is) was_is ∙ ap (λ h. grants_by (law.holder at.state) h) is_is ∙ sym grants);
     }
 

@@ -35,9 +35,9 @@ counted_by counts delays grants = record {
 abbrev pub no_counts : Counts
 no_counts = record { events = 0; delays = 0; grants = 0 }
 
-abbrev pub delays_of : (law : Law) → List law.Event → ℕ
-delays_of law [] = 0
-delays_of law (event ∷ events) = delays_by (law.went event) + delays_of law events
+abbrev pub delays_of : (law : Law) → law.State → List law.Event → ℕ
+delays_of law s [] = 0
+delays_of law s (event ∷ events) = delays_by (law.went s event) + delays_of law (law.happens s event) events
 
 abbrev pub grants_of : (law : Law) → law.State → List law.Event → ℕ
 grants_of law s [] = 0
@@ -47,6 +47,6 @@ grants_of law s (event ∷ events) = law.grants s event + grants_of law (law.hap
 abbrev pub counts_of : (law : Law) → law.State → List law.Event → Counts
 counts_of law s events = record {
   events = raised 0 (length events);
-  delays = raised 0 (delays_of law events);
+  delays = raised 0 (delays_of law s events);
   grants = raised 0 (grants_of law s events);
 }

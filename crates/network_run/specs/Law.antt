@@ -14,9 +14,9 @@ pub record Law : Type 1 where
   -- a process has a next action, and is at its turn
   pub MayGo : State → ℕ → Type 0
   pub HasEnded : State → ℕ → Type 0
-  -- whose event it is, and how it went
+  -- whose event it is, and how it goes
   pub process : Event → ℕ
-  pub went : Event → Stepped
+  pub went : State → Event → Stepped
   -- the process that has what is requested and granted, and how many requests an event grants
   pub holder : State → Option ℕ
   pub grants : State → Event → ℕ
@@ -71,7 +71,7 @@ pub record Steps {N : Type 0} (law : Law) (Stands : N → law.State → Type 0)
     : Type 0 where
   pub event : law.Event
   pub process_is : law.process event ≡ p
-  pub told : result ≡ law.went event
+  pub told : result ≡ law.went s event
   pub enabled : law.IsEnabled s event
   pub stands : Stands new (law.happens s event)
   pub moves : Moves old event new

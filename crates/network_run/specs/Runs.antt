@@ -65,7 +65,7 @@ pub record TurnTaken {N : Type 0} (law : Law) (Stands : N → law.State → Type
   pub enabled : law.IsEnabled s event
   pub stands : Stands new (law.happens s event)
   pub falls : left new (law.happens s event) < left old s
-  pub counted : after ≡ counted_by before (delays_by (law.went event)) (law.grants s event)
+  pub counted : after ≡ counted_by before (delays_by (law.went s event)) (law.grants s event)
 
 -- A run by a rule, to its end: from each place where the network stood, it ran so. It stands at a place where
 -- all have ended, and kept what every run keeps. No run counts more than might happen.
