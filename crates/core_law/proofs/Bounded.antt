@@ -35,14 +35,16 @@ use Rattle.batch_procs.proofs.Falling.{one-most}
 use Rattle.batch_procs.proofs.Held.{IsFree}
 use Rattle.batch_procs.proofs.Machines.{not-held}
 use Rattle.network_law.specs.Acts.{is_delayed}
-use Rattle.network_law.specs.Network.{AreEnabled, run, happens}
+use Rattle.network_run.specs.Law.{AreEnabled, run}
+use Rattle.network_law.specs.Network.{happens}
 use Rattle.network_law.specs.Kept.{Stands}
 use Rattle.network_law.proofs.Reached.{stands-event}
 use Rattle.core_law.specs.Bound.{longest_run}
 use Rattle.core_law.specs.Core.{call, core, went, CoreState, CoreEvent, IsBuffer}
 use Rattle.core_law.specs.Ends.{IsProcess}
 use Rattle.core_law.specs.Holds.{AreTold, AreFound}
-use Rattle.core_law.specs.Opening.{Spools, AreInBounds, opened, IsReached}
+use Rattle.core_law.specs.Opening.{Opening, first_state}
+use Rattle.core_law.specs.TheLaw.{the_law, IsReached}
 use Rattle.core_law.specs.Work.{sleepers}
 use Rattle.core_law.proofs.Acting.{follows-of}
 use Rattle.core_law.proofs.CallsCaused.{HasSlack, made-most}
@@ -140,8 +142,8 @@ add-up : (n k m c s now all sl : ℕ) → k ≡ m + c → s + 1 ≤ c + now → 
 add-up n k m c s now all sl is more rest = omega (arith, is, more, rest)
 
 -- Each event of a list is counted, or sleeps.
-events-counted : (opening s : CoreState) (events : List CoreEvent) → AreEnabled (core process) s events → Stands (core process) opening s
-    → length events + all_made s + sleepers s ≤ all_made (run (core process) s events) + sleepers (run (core process) s events)
+events-counted : (opening s : CoreState) (events : List CoreEvent) → AreEnabled the_law s events → Stands (core process) opening s
+    → length events + all_made s + sleepers s ≤ all_made (run the_law s events) + sleepers (run the_law s events)
 events-counted opening s [] are st = omega arith
 events-counted opening s (event ∷ events) are st =
     let enabled = are.0 in
@@ -343,35 +345,32 @@ module _ (opening s : CoreState) (st : Stands (core process) opening s) (d : Dev
       (omega (arith, p3, p3_is, p3_most, l)) (omega (arith, t4, n4, n4_is, l)) (omega (arith, p4, p4_is, l)) (omega (arith, t5, n5)) (omega (arith, p5, p5_is))
 
 -- No list of events from an opening over told devices is longer.
-pub no-longer : (spools : Spools) (deck : Option (List Item)) (paper : Option (List ℕ)) (files : Option Loads) (items : List Item) (found : Loads)
-    (events : List CoreEvent) → AreInBounds spools → AreTold spools → deck ≡ Some items → AreItems items → AreFound files found items
-    → AreEnabled (core process) (opened spools deck paper files) events → length events ≤ longest_run found items
-no-longer spools deck paper files items found events bounds are_told deck_is are known enabled =
-    let opening = opened spools deck paper files in
-    let end = run (core process) opening events in
-    let last = centre-run opening opening events enabled (opening-centre spools deck paper files) in
-    let told = λ (b : ℕ) (at : IsBuffer b). told-is spools b (all-told spools are_told b at) in
-    let counted = events-counted opening opening events enabled (opening-centre spools deck paper files).stands in
+pub no-longer : (o : Opening) (items : List Item) (found : Loads) (events : List CoreEvent) → AreTold o.spools → o.deck ≡ Some items → AreItems items
+    → AreFound o.files found items → AreEnabled the_law (first_state o) events → length events ≤ longest_run found items
+no-longer o items found events are_told deck_is are known enabled =
+    let opening = first_state o in
+    let first = opening-centre o.spools o.deck o.paper o.files in
+    let end = run the_law opening events in
+    let last = centre-run opening opening events enabled first in
+    let told = λ (b : ℕ) (at : IsBuffer b). told-is o.spools b (all-told o.spools are_told b at) in
+    let counted = events-counted opening opening events enabled first.stands in
     let few = made-few opening end last.stands last.devices (hands-over opening end last.stands told) items deck_is are found
-    (found-by files opening end found items refl last.devices known) in
-    let asleep = seven-sleep opening end last.stands (all-sized spools bounds) in
+    (found-by o.files opening end found items refl last.devices known) in
+    let asleep = seven-sleep opening end last.stands (all-sized o.spools o.bounds) in
     let same = ap length (whole_lines found items).0 in
     omega (arith, counted, few, asleep, same)
 
-enabled-more : (s : CoreState) (some more : List CoreEvent) → AreEnabled (core process) s some → AreEnabled (core process) (run (core process) s some) more
-    → AreEnabled (core process) s (some ++ more)
+enabled-more : (s : CoreState) (some more : List CoreEvent) → AreEnabled the_law s some → AreEnabled the_law (run the_law s some) more
+    → AreEnabled the_law s (some ++ more)
 enabled-more s [] more are rest = rest
 enabled-more s (event ∷ some) more are rest = (are.0, enabled-more (happens (core process) s event) some more are.1 rest)
 
 -- Nor one from a reached state.
-pub no-run_longer : (spools : Spools) (deck : Option (List Item)) (paper : Option (List ℕ)) (files : Option Loads) (s : CoreState) (items : List Item)
-    (found : Loads) (events : List CoreEvent) → IsReached spools deck paper files s → AreTold spools → deck ≡ Some items → AreItems items
-    → AreFound files found items → AreEnabled (core process) s events → length events ≤ longest_run found items
-no-run_longer spools deck paper files s items found events r are_told deck_is are known enabled =
-    let opening = opened spools deck paper files in
-    let before = r.reached.events in
-    let here = subst (λ s. AreEnabled (core process) s events) (sym r.reached.leads) enabled in
-    let all = no-longer spools deck paper files items found (before ++ events) r.bounds are_told deck_is are known
-    (enabled-more opening before events r.reached.enabled here) in
+pub no-run_longer : (o : Opening) (s : CoreState) (items : List Item) (found : Loads) (events : List CoreEvent) → IsReached o s → AreTold o.spools
+    → o.deck ≡ Some items → AreItems items → AreFound o.files found items → AreEnabled the_law s events → length events ≤ longest_run found items
+no-run_longer o s items found events r are_told deck_is are known enabled =
+    let before = r.events in
+    let here = subst (λ s. AreEnabled the_law s events) (sym r.leads) enabled in
+    let all = no-longer o items found (before ++ events) are_told deck_is are known (enabled-more (first_state o) before events r.enabled here) in
     let both = length-append before events in
     omega (arith, all, both)

@@ -36,3 +36,7 @@ mod CallsMade
 mod CallsCaused
 mod FewSleep
 pub mod Bounded
+pub mod Askers
+pub mod Knowing
+pub mod OneEvent
+pub mod Law

@@ -2,6 +2,7 @@
 use Rattle.std.proofs.Common.{◌≡◌, inl, inr, ℕ, suc, ◌≤◌, true, List, [], ◌∷◌, ◌++◌, Option, Some, refl, sym, ◌∙◌, ap, subst, lit≤}
 use Rattle.std.proofs.lemmas.List.{append-nil}
 use Rattle.solo_base.specs.declared.item.Item.{Item}
+use Rattle.solo_base.specs.Prefixes.{IsPrefixOf}
 use Rattle.solo_base.specs.Text.{text}
 use Rattle.solo_devices.specs.PrinterUnit.{Gains, GainsOf}
 use Rattle.page_codec.specs.Items.{AreItems}
@@ -11,15 +12,17 @@ use Rattle.network_law.specs.Buffer.{fresh}
 use Rattle.batch_procs.specs.Process.{Process, Follows}
 use Rattle.batch_procs.specs.Table.{process}
 use Rattle.batch_procs.proofs.Holding.{holder-next}
-use Rattle.network_law.specs.Network.{IsEnabled, AreEnabled, run, happens, inside_at}
+use Rattle.network_run.specs.Law.{AreEnabled, run}
+use Rattle.network_law.specs.Network.{IsEnabled, happens, inside_at}
 use Rattle.network_law.specs.Kept.{IsTold, Stands}
 use Rattle.network_law.proofs.Reached.{stands-event, opening-stands}
 use Rattle.core_law.specs.Core.{core, CoreState, CoreEvent, IsBuffer, seat}
 use Rattle.batch_job.specs.Report.{Loads}
-use Rattle.core_law.specs.Opening.{Spools, AreInBounds, AreGoodFiles, size_of, told_of, opened, IsReached}
+use Rattle.core_law.specs.Opening.{Spools, AreInBounds, AreGoodFiles, Opening, size_of, told_of, opened, first_state}
 use Rattle.core_law.specs.Ends.{IsProcess, HasEnded, AllDone, IsSmooth}
 use Rattle.batch_job.specs.OneThread.{one_thread_lines}
 use Rattle.core_law.specs.Holds.{AreTold, AreFound, LoadsInOrder, GoesOn, Holds, IsStuck}
+use Rattle.core_law.specs.TheLaw.{the_law, IsReached}
 use Rattle.core_law.proofs.Streams.{text_of, DevicesStand}
 use Rattle.core_law.proofs.Row.{feeds-at, each-buffer}
 use Rattle.core_law.proofs.Ends.{the-five}
@@ -37,8 +40,8 @@ pub record Centre (opening s : CoreState) : Type 0 where
   pub stands : Stands (core process) opening s
   pub devices : DevicesStand process opening s
 
-pub centre-run : (opening s : CoreState) (events : List CoreEvent) → AreEnabled (core process) s events → Centre opening s
-    → Centre opening (run (core process) s events)
+pub centre-run : (opening s : CoreState) (events : List CoreEvent) → AreEnabled the_law s events → Centre opening s
+    → Centre opening (run the_law s events)
 centre-run opening s [] are c = c
 centre-run opening s (event ∷ events) are c =
     centre-run opening (happens (core process) s event) events are.1 record {
@@ -47,7 +50,7 @@ centre-run opening s (event ∷ events) are c =
     }
 
 -- ---- the opening
-text-nothing : (p : Process) → Rattle.batch_job.specs.LinesSoFar.IsPrefixOf [] (text_of (p.sends []))
+text-nothing : (p : Process) → IsPrefixOf [] (text_of (p.sends []))
 text-nothing p = (text_of (p.sends []), refl)
 
 paper-nothing : (paper : Option (List ℕ)) (given : List ℕ) → paper ≡ Some given → paper ≡ Some (given ++ [])
@@ -72,11 +75,9 @@ opening-centre spools deck paper files = record {
   };
 }
 
-pub reached-centre : (spools : Spools) (deck : Option (List Item)) (paper : Option (List ℕ)) (files : Option Loads) (s : CoreState)
-    → IsReached spools deck paper files s → Centre (opened spools deck paper files) s
-reached-centre spools deck paper files s r =
-    subst (Centre (opened spools deck paper files)) r.reached.leads (centre-run (opened spools deck paper files)
-    (opened spools deck paper files) r.reached.events r.reached.enabled (opening-centre spools deck paper files))
+pub reached-centre : (o : Opening) (s : CoreState) → IsReached o s → Centre (first_state o) s
+reached-centre o s r =
+    subst (Centre (first_state o)) r.leads (centre-run (first_state o) (first_state o) r.events r.enabled (opening-centre o.spools o.deck o.paper o.files))
 
 -- ---- what is told, and the sizes
 pub told-is : (spools : Spools) (b : ℕ) → told_of spools b ≡ true → IsTold {Parcel = Parcel} (fresh (size_of spools b) (inside_at (told_of spools b)))
@@ -116,20 +117,22 @@ gained-whole spools deck paper files s c are items found is valid known given pa
     gains-of s.histories (follows-in opening s c.stands) (hands-over opening s c.stands told) items s.devices.deck given s.devices.paper valid
     (c.devices.read items is) found (found-by files opening s found items refl c.devices known) (c.devices.gained given paper_is)
 
-module _ (spools : Spools) (deck : Option (List Item)) (paper : Option (List ℕ)) (files : Option Loads) (s : CoreState)
-    (r : IsReached spools deck paper files s) where
-  abbrev c : Centre (opened spools deck paper files) s
-  c = reached-centre spools deck paper files s r
+module _ (o : Opening) (s : CoreState) (r : IsReached o s) where
+  abbrev c : Centre (first_state o) s
+  c = reached-centre o s r
 
   abbrev opening : CoreState
-  opening = opened spools deck paper files
+  opening = first_state o
 
-  gains : AreTold spools → (items : List Item) (found : Loads) → deck ≡ Some items → AreItems items → AreFound files found items
-      → Gains paper s.devices.paper (text (one_thread_lines found items)) (AllDone s)
+  abbrev spools : Spools
+  spools = o.spools
+
+  gains : AreTold o.spools → (items : List Item) (found : Loads) → o.deck ≡ Some items → AreItems items → AreFound o.files found items
+      → Gains o.paper s.devices.paper (text (one_thread_lines found items)) (AllDone s)
   gains are items found is valid known =
-      record { told = gained-whole spools deck paper files s c are items found is valid known; untold = λ e. c.devices.paper_untold e }
+      record { told = gained-whole o.spools o.deck o.paper o.files s c are items found is valid known; untold = λ e. c.devices.paper_untold e }
 
-  loads-in_order : AreTold spools → (items : List Item) → deck ≡ Some items → AreItems items → LoadsInOrder s items
+  loads-in_order : AreTold o.spools → (items : List Item) → o.deck ≡ Some items → AreItems items → LoadsInOrder s items
   loads-in_order are items is valid =
       let over = hands-over opening s c.stands (λ b at. told-is spools b (all-told spools are b at)) in
       let read = c.devices.read items is in
@@ -146,7 +149,7 @@ module _ (spools : Spools) (deck : Option (List Item)) (paper : Option (List ℕ
         | inr on ↦ inr (holder-next (process p) (s.histories p) (the-five.relays p) follows (sym (holds-are process p (s.histories p) follows) ∙ on))
       ]
 
-  pub reached-holds : Holds spools deck paper files s
+  pub reached-holds : Holds o s
   reached-holds = record {
     prints = gains;
     loads = loads-in_order;
@@ -167,8 +170,8 @@ module _ (spools : Spools) (deck : Option (List Item)) (paper : Option (List ℕ
 
   -- where no event may happen in which no device fails and no memory is refused, all have ended
   pub ended-where : ((event : CoreEvent) → IsEnabled (core process) s event → IsSmooth event.entry → ⊥) → (p : ℕ) → IsProcess p → HasEnded s p
-  ended-where none = ended-all the-five opening s c.stands (λ b is takes. told-is spools b (lines-told spools b takes)) (all-sized spools r.bounds)
-      (subst AreGoodFiles (sym c.devices.files_same) r.good) none
+  ended-where none = ended-all the-five opening s c.stands (λ b is takes. told-is spools b (lines-told spools b takes)) (all-sized spools o.bounds)
+      (subst AreGoodFiles (sym c.devices.files_same) o.good) none
 
   pub never-stuck : IsStuck s → ⊥
   never-stuck stuck = stuck.not_ended (ended-where stuck.none_enabled)

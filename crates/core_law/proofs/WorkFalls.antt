@@ -1,7 +1,5 @@
 -- Each event of the core lowers the work that is left.
-use Rattle.std.proofs.Common.{◌≡◌, ℕ, ◌+◌, ◌*◌, ◌-◌, ◌≤◌, ◌<◌, false, List, Option, refl, subst, arith}
-use Rattle.solo_base.specs.declared.item.Item.{Item}
-use Rattle.batch_job.specs.Report.{Loads}
+use Rattle.std.proofs.Common.{◌≡◌, ℕ, ◌+◌, ◌*◌, ◌-◌, ◌≤◌, ◌<◌, false, refl, subst, arith}
 use Rattle.batch_procs.specs.declared.actions.Action.{Action}
 use Rattle.batch_procs.specs.Parcels.{Parcel}
 use Rattle.batch_procs.specs.History.{Entry, Does, LacksMemory, Delays}
@@ -10,7 +8,8 @@ use Rattle.network_law.specs.Acts.{Went, Delayed, is_delayed}
 use Rattle.network_law.specs.Network.{IsEnabled, happens}
 use Rattle.network_law.specs.Kept.{Stands}
 use Rattle.core_law.specs.Core.{call, core, went, CoreState, CoreEvent}
-use Rattle.core_law.specs.Opening.{Spools, opened, IsReached}
+use Rattle.core_law.specs.Opening.{Opening, first_state}
+use Rattle.core_law.specs.TheLaw.{IsReached}
 use Rattle.core_law.specs.Work.{calls_left, sleepers, events_left, LeavesFewer}
 use Rattle.core_law.proofs.Acting.{follows-of, delays-of}
 use Rattle.core_law.proofs.CallsFall.{cost, st-next, calls-fall}
@@ -51,13 +50,14 @@ fall (LacksMemory a r) c left s now n less slept one most =
     lower c left s now n less (subst (λ d. Slept d n s now) (answered (LacksMemory a r) (λ b e. cc)) slept) one
 fall (Delays a) c left s now n less slept one most = omega (arith, less, slept, most)
 
--- each event of a reached state
-pub work-falls : (spools : Spools) (deck : Option (List Item)) (paper : Option (List ℕ)) (files : Option Loads) (s : CoreState) (event : CoreEvent)
-    (cards left : ℕ) → IsReached spools deck paper files s → IsEnabled (core process) s event → LeavesFewer event.entry cards left
-    → events_left left (happens (core process) s event) < events_left cards s
-work-falls spools deck paper files s event cards left reached enabled leaves =
-    let st = (reached-centre spools deck paper files s reached).stands in
+-- each event of a state that stands as every event keeps it
+pub work-lower : (opening s : CoreState) (event : CoreEvent) (cards left : ℕ) → Stands (core process) opening s → IsEnabled (core process) s event
+    → LeavesFewer event.entry cards left → events_left left (happens (core process) s event) < events_left cards s
+work-lower opening s event cards left st enabled leaves =
     fall event.entry (calls_left cards s) (calls_left left (happens (core process) s event)) (sleepers s) (sleepers (happens (core process) s event)) _
-    (calls-fall (opened spools deck paper files) s st event cards left leaves enabled)
-    (slept (opened spools deck paper files) s event st enabled) (wakes-most _ _)
-    (few (opened spools deck paper files) s event st enabled)
+    (calls-fall opening s st event cards left leaves enabled) (slept opening s event st enabled) (wakes-most _ _) (few opening s event st enabled)
+
+-- and so of a reached one
+pub work-falls : (o : Opening) (s : CoreState) (event : CoreEvent) (cards left : ℕ) → IsReached o s → IsEnabled (core process) s event
+    → LeavesFewer event.entry cards left → events_left left (happens (core process) s event) < events_left cards s
+work-falls o s event cards left reached = work-lower (first_state o) s event cards left (reached-centre o s reached).stands

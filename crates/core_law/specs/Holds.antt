@@ -25,7 +25,7 @@ use Rattle.network_law.specs.Network.{IsEnabled, acts}
 use Rattle.network_law.specs.Kept.{StandsFor, WasToldRightly}
 use Rattle.core_law.specs.Core.{core, CoreState, CoreEvent, IsBuffer, seat}
 use Rattle.core_law.specs.FilesLoaded.{files_loaded, AreLoadedSo}
-use Rattle.core_law.specs.Opening.{Spools}
+use Rattle.core_law.specs.Opening.{Spools, Opening}
 use Rattle.core_law.specs.Ends.{IsProcess, HasEnded, HasEndedSo, AllDone, EndsTogether, HaveCauses, IsSmooth}
 
 -- both spools tell their pages
@@ -47,18 +47,18 @@ pub record LoadsInOrder (s : CoreState) (items : List Item) : Type 0 where
   pub prefix : IsPrefixOf (files_loaded (s.histories 3)) (files_named items)
   pub all : AllDone s → files_loaded (s.histories 3) ≡ files_named items
 
-pub record Holds (spools : Spools) (deck : Option (List Item)) (paper : Option (List ℕ))
-    (files : Option Loads) (s : CoreState) : Type 0 where
+pub record Holds (opening : Opening) (s : CoreState) : Type 0 where
   -- What the paper gained is a prefix of what one thread prints, and all of it where all five ended with
   -- their work done.
-  pub prints : AreTold spools → (items : List Item) (found : Loads) → deck ≡ Some items → AreItems items
-      → AreFound files found items
-      → Gains paper s.devices.paper (text (one_thread_lines found items)) (AllDone s)
+  pub prints : AreTold opening.spools → (items : List Item) (found : Loads) → opening.deck ≡ Some items
+      → AreItems items → AreFound opening.files found items
+      → Gains opening.paper s.devices.paper (text (one_thread_lines found items)) (AllDone s)
   -- The job process loads the files that the jobs of the deck name, in order, and each as the files say.
-  pub loads : AreTold spools → (items : List Item) → deck ≡ Some items → AreItems items → LoadsInOrder s items
-  pub loads_so : (found : Loads) → files ≡ Some found → (p : ℕ) → AreLoadedSo found (s.histories p)
+  pub loads : AreTold opening.spools → (items : List Item) → opening.deck ≡ Some items → AreItems items
+      → LoadsInOrder s items
+  pub loads_so : (found : Loads) → opening.files ≡ Some found → (p : ℕ) → AreLoadedSo found (s.histories p)
   -- Where all are done nothing is left of the deck.
-  pub reads : (items : List Item) → deck ≡ Some items → AllDone s → s.devices.deck ≡ Some []
+  pub reads : (items : List Item) → opening.deck ≡ Some items → AllDone s → s.devices.deck ≡ Some []
   -- Each buffer hands over in order what its sender sent, and who waits there has a cause to.
   pub hands_over : (b : ℕ) → IsBuffer b → StandsFor is_last (sent (s.histories b))
       (handed (taken (s.histories (suc b)))) (s.buffers b)
@@ -75,7 +75,7 @@ pub record Holds (spools : Spools) (deck : Option (List Item)) (paper : Option (
   pub ends : EndsTogether s
   pub causes : HaveCauses s
   -- Over told areas no page is damaged.
-  pub undamaged : AreTold spools → (items : List Item) → deck ≡ Some items → AreItems items
+  pub undamaged : AreTold opening.spools → (items : List Item) → opening.deck ≡ Some items → AreItems items
       → (p : ℕ) (c : Cause) → IsProcess p → HasEndedSo s (outcome.Fault c) p → IsDamaged c → ⊥
   -- Each process did what its history asks for.
   pub follows : (p : ℕ) → Follows (process p) (s.histories p)

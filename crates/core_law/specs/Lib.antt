@@ -5,3 +5,6 @@ pub mod Ends
 pub mod Holds
 pub mod Work
 pub mod Bound
+pub mod FilesKnown
+pub mod Replies
+pub mod TheLaw

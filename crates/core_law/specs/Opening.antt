@@ -1,11 +1,10 @@
--- The opening of the core, and its reached states.
+-- The openings of the core.
 use Rattle.std.specs.Prelude.{◌≡◌, ◌≤◌, ◌==◌, ℕ, Bool, true, if◌then◌else◌, List, Option, Some}
 use Rattle.solo_base.specs.declared.item.Item.{Item}
 use Rattle.batch_job.specs.Report.{Loads}
 use Rattle.batch_job.specs.Loads.{IsLoaded}
-use Rattle.batch_procs.specs.Table.{process}
 use Rattle.network_law.specs.Network as law
-use Rattle.core_law.specs.Core.{core, CoreState}
+use Rattle.core_law.specs.Core.{Devices, CoreState}
 
 -- the two spools: how many pages each has room for, and whether its area tells its pages
 pub record Spools : Type 0 where
@@ -28,6 +27,7 @@ size_of spools b = if b == 2 then spools.input_size else if b == 3 then spools.o
 abbrev pub told_of : Spools → ℕ → Bool
 told_of spools b = if b == 2 then spools.input_told else if b == 3 then spools.output_told else true
 
+-- The state with which the core opens over these.
 abbrev pub opened : Spools → Option (List Item) → Option (List ℕ) → Option Loads → CoreState
 opened spools deck paper files =
     law.opening record { deck = deck; paper = paper; files = files } (size_of spools) (told_of spools)
@@ -36,9 +36,18 @@ opened spools deck paper files =
 abbrev pub AreGoodFiles : Option Loads → Type 0
 AreGoodFiles files = (found : Loads) → files ≡ Some found → (file : List ℕ) → IsLoaded (found file)
 
--- A state of the five that some list of enabled events leads to, from spools of such sizes.
-pub record IsReached (spools : Spools) (deck : Option (List Item)) (paper : Option (List ℕ))
-    (files : Option Loads) (s : CoreState) : Type 0 where
+-- An opening: the spools, the cards of the deck, what the paper was given and what each file is loaded as,
+-- where these are told.
+pub record Opening : Type 0 where
+  pub spools : Spools
+  pub deck : Option (List Item)
+  pub paper : Option (List ℕ)
+  pub files : Option Loads
   pub bounds : AreInBounds spools
   pub good : AreGoodFiles files
-  pub reached : law.IsReached (core process) (opened spools deck paper files) s
+
+abbrev pub devices_at : Opening → Devices
+devices_at opening = record { deck = opening.deck; paper = opening.paper; files = opening.files }
+
+abbrev pub first_state : Opening → CoreState
+first_state opening = opened opening.spools opening.deck opening.paper opening.files

@@ -5,5 +5,6 @@
 mod interleavings;
 
 pub use interleavings::{
-    each_event_leaves_less, every_interleaving, no_run_is_longer, no_state_is_stuck,
+    each_event_leaves_less, every_interleaving, law_of_the_core, no_run_is_longer,
+    no_state_is_stuck,
 };

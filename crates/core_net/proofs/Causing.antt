@@ -9,7 +9,7 @@ use Rattle.batch_procs.specs.declared.actions.Action.TheVariants as act
 use Rattle.batch_procs.specs.declared.actions.Reply.{Reply}
 use Rattle.batch_procs.specs.declared.actions.Reply.TheVariants as reply
 use Rattle.core_net.specs.declared.shared.Shared.{Shared}
-use Rattle.core_net.specs.Calls.{ReplyFits}
+use Rattle.core_law.specs.Replies.{ReplyFits}
 use Rattle.disk_files.specs.Answers.{FileTable}
 use Rattle.core_net.specs.Causes.{Counts, MovesInput, MovesOutput, IsPrint, IsLoad, HasCauses}
 

@@ -1,12 +1,10 @@
 -- Each step keeps that the faults so far were counted by their devices.
 use Rattle.std.proofs.Common.{◌≡◌, ◌≢◌, ◌≤◌, ◌<◌, ◌⊎◌, inl, inr, ℕ, ◌==◌, if◌then◌else◌, Bool, List, ◌∷◌, Option, None, Some, Result, Ok, Err, refl, sym, ◌∙◌, ap, subst, arith}
 use Rattle.std.proofs.lemmas.Bool.Decides.{eqb_tells}
-use Rattle.solo_base.specs.declared.item.Item.{Item}
 use Rattle.solo_base.specs.declared.outcome.Outcome.{Outcome}
 use Rattle.solo_base.specs.declared.outcome.Outcome.TheVariants as outcome
 use Rattle.solo_base.specs.declared.outcome.Cause.{Cause}
 use Rattle.solo_base.specs.declared.outcome.Cause.TheVariants as cause
-use Rattle.batch_job.specs.Report.{Loads}
 use Rattle.solo_devices.specs.Count.{Rose}
 use Rattle.solo_devices.specs.CardUnit.{Held, byte_limit}
 use Rattle.solo_devices.specs.declared.card_read.CardRead.{CardRead}
@@ -24,21 +22,21 @@ use Rattle.batch_procs.specs.History.{Entry, Does, LacksMemory, Delays, action_o
 use Rattle.batch_procs.specs.Process.{Process, IsFitting, Follows, next_action}
 use Rattle.batch_procs.specs.Table.{process}
 use Rattle.batch_procs.proofs.Relay.{open-next}
-use Rattle.network_law.specs.Network.{happens}
+use Rattle.network_law.specs.Network.{IsEnabled, happens}
 use Rattle.core_law.specs.Core.{core, CoreState, CoreEvent}
 use Rattle.core_law.specs.Ends.{IsProcess, outcome_by}
-use Rattle.core_law.specs.Opening.{Spools, IsReached}
+use Rattle.core_law.specs.Opening.{Opening}
+use Rattle.core_law.specs.TheLaw.{IsReached}
 use Rattle.core_law.proofs.Acting.{follows-of}
 use Rattle.core_law.proofs.Reached.{reached-centre}
 use Rattle.core_net.specs.declared.finish.Outcomes.{Outcomes}
 use Rattle.core_net.specs.declared.net.Net.{Net}
-use Rattle.core_net.specs.declared.step.Stepped.{Stepped}
 use Rattle.core_net.specs.Causes.{Counts, HasCauses, IsPrint, IsLoad, MovesInput, MovesOutput}
 use Rattle.core_net.specs.Faults.{Peripherals, devices_of, AreCounted, outcomes_in, CausesAreCounted}
-use Rattle.core_net.specs.Net.{Keeps, NetStands, MayStepNet, StepsNet}
+use Rattle.core_net.specs.Net.{Keeps, NetStands}
 use Rattle.core_net.specs.Shared.{Tells}
 use Rattle.core_net.specs.Steps.{reply_of}
-use Rattle.core_net.proofs.Askers.{moves-page, takes-page, reads-deck, loads-files}
+use Rattle.core_law.proofs.Askers.{moves-page, takes-page, reads-deck, loads-files}
 
 -- ---- what an entry that gave a fault was told
 abbrev IsMove : Action → Type 0
@@ -225,29 +223,19 @@ module _ {S K A B F : Type 0} (keeps : Keeps) (tells : Tells S K A B F) (counts 
   counted-each net before s stands are = λ t other. subst (AreCounted counts before (devices_of net.shared)) (same-outcomes net s t stands other) are
 
   -- ---- one step
-  module _ (old new : Net S K A B F) (spools : Spools) (deck : Option (List Item)) (paper : Option (List ℕ)) (files : Option Loads) (s : CoreState) (p : ℕ)
-      (action : Action)
-      (stepped : Stepped) (reached : IsReached spools deck paper files s)
-      (step : StepsNet keeps tells counts old new s p action stepped) where
-    abbrev event : CoreEvent
-    event = step.event
-
+  module _ (old new : Net S K A B F) (o : Opening) (s : CoreState) (event : CoreEvent) (reached : IsReached o s) (enabled : IsEnabled (core process) s event)
+      (causes : HasCauses counts old.shared new.shared event.process (action_of event.entry) (reply_of event.entry)) where
     abbrev q : ℕ
     q = event.process
 
     abbrev made : Action
     made = action_of event.entry
 
-    causes : HasCauses counts old.shared new.shared q made (reply_of event.entry)
-    causes =
-        subst (λ p. HasCauses counts old.shared new.shared p made (reply_of event.entry)) (sym step.process_is)
-        (subst (λ a. HasCauses counts old.shared new.shared p a (reply_of event.entry)) (sym step.action_is) step.causes)
-
     follows : Follows (process q) (s.histories q)
-    follows = follows-of process q (s.histories q) ((reached-centre spools deck paper files s reached).stands.follows q)
+    follows = follows-of process q (s.histories q) ((reached-centre o s reached).stands.follows q)
 
     next : next_action (process q) (s.histories q) ≡ Some made
-    next = step.enabled.next
+    next = enabled.next
 
     now-or-before : (n : ℕ) (c : Cause) → outcome_by (caused ((happens (core process) s event).histories n)) ≡ outcome.Fault c
         → (outcome_by (caused (s.histories n)) ≡ outcome.Fault c) ⊎ ((q ≡ n) × Told c made (reply_of event.entry))
@@ -255,7 +243,7 @@ module _ {S K A B F : Type 0} (keeps : Keeps) (tells : Tells S K A B F) (counts 
         elim (event-gave s event n (outcome.Fault c) (fault-of (caused ((happens (core process) s event).histories n)) c is))
         as (λ _. (outcome_by (caused (s.histories n)) ≡ outcome.Fault c) ⊎ ((q ≡ n) × Told c made (reply_of event.entry))) [
           | inl before ↦ inl (ap outcome_by before)
-          | inr now ↦ inr (now.0, told-so (process q) event.entry (s.histories n) c step.enabled.suits now.1)
+          | inr now ↦ inr (now.0, told-so (process q) event.entry (s.histories n) c enabled.suits now.1)
         ]
 
     -- with a cause the card process reads no more
@@ -269,7 +257,7 @@ module _ {S K A B F : Type 0} (keeps : Keeps) (tells : Tells S K A B F) (counts 
 
     module _ (before : Peripherals S K A B F) (was : AreCounted counts before (devices_of old.shared) (outcomes_in s)) where
       moves : IsMove made → MovesInput q made ⊎ MovesOutput q made
-      moves is = moves-so q (s.histories q) made step.enabled.one follows next is
+      moves is = moves-so q (s.histories q) made enabled.one follows next is
 
       input-rose : MovesInput q made → reply_of event.entry ≡ Some reply.Failed
           → Rose (counts.input_faults before.input) (counts.input_faults new.shared.input.area)
@@ -289,7 +277,7 @@ module _ {S K A B F : Type 0} (keeps : Keeps) (tells : Tells S K A B F) (counts 
       FilesRose = Rose (counts.file_faults before.files) (counts.file_faults new.shared.files.area)
 
       loads : IsLoad made → q ≡ 3
-      loads is = loads-so q (s.histories q) made step.enabled.one follows next is
+      loads is = loads-so q (s.histories q) made enabled.one follows next is
 
       files-rose : IsLoad made → reply_of event.entry ≡ Some reply.Failed
           → Rose (counts.file_faults before.files) (counts.file_faults new.shared.files.area)
@@ -317,7 +305,7 @@ module _ {S K A B F : Type 0} (keeps : Keeps) (tells : Tells S K A B F) (counts 
       longer few over =
           elim (reads-or-not made) as (λ _. outcome_by (caused ((happens (core process) s event).histories 1)) ≡ outcome.Fault cause.DeckLimit) [
             | inl reads ↦ ap outcome_by (event-own s event 1 (outcome.Fault cause.DeckLimit) (reads-deck q (s.histories q) (next ∙ ap Some reads))
-                (limit-gives (process q) event.entry (s.histories q) step.enabled.suits (causes.limit_told reads over)
+                (limit-gives (process q) event.entry (s.histories q) enabled.suits (causes.limit_told reads over)
                 (open-next (process q) (s.histories q) act.ReadCard (next ∙ ap Some reads) tt)))
             | inr not ↦ ap outcome_by (event-keeps s event 1 (outcome.Fault cause.DeckLimit) (fault-of (caused (s.histories 1)) cause.DeckLimit
                 (was.longer few (subst (λ (d : Held S). byte_limit < counts.taken d.source) (causes.deck_stays not) over))))
@@ -392,13 +380,13 @@ module _ {S K A B F : Type 0} (keeps : Keeps) (tells : Tells S K A B F) (counts 
         files_on = on-then _ _ _ was.files_on causes.files_on;
       }
 
-  -- A turn keeps that they were counted.
-  pub turn-counted : (old new : Net S K A B F) (p : ℕ) (stepped : Stepped) (may : MayStepNet keeps tells old p)
-      → StepsNet keeps tells counts old new may.state p may.action stepped
+  -- An event keeps that they were counted.
+  pub event-counted : (old new : Net S K A B F) (o : Opening) (s : CoreState) (event : CoreEvent) → IsReached o s → NetStands keeps tells old s
+      → IsEnabled (core process) s event → NetStands keeps tells new (happens (core process) s event)
+      → HasCauses counts old.shared new.shared event.process (action_of event.entry) (reply_of event.entry)
       → (before : Peripherals S K A B F) → CausesAreCounted keeps tells counts before old → CausesAreCounted keeps tells counts before new
-  turn-counted old new p stepped may step before were =
-      counted-each new before (happens (core process) may.state step.event) step.stands
-      (counted old new may.spools may.deck may.paper may.files may.state p may.action stepped may.reached step before (were may.state may.stands))
+  event-counted old new o s event reached stood enabled stands causes before were =
+      counted-each new before (happens (core process) s event) stands (counted old new o s event reached enabled causes before (were s stood))
 
   -- What was counted until all ended is what the run tells.
   pub ended-counted : (net : Net S K A B F) (outcomes : Outcomes) (now : Peripherals S K A B F) (s : CoreState) → NetStands keeps tells net s

@@ -29,7 +29,7 @@ use Rattle.core_law.specs.Core.{CoreState, IsBuffer}
 use Rattle.core_law.specs.Ends.{IsProcess, HasEndedSo, AllDone, EndsTogether, outcome_by}
 use Rattle.batch_job.specs.OneThread.{one_thread_lines}
 use Rattle.core_law.specs.Holds.{AreTold, AreFound, Holds}
-use Rattle.core_law.specs.Opening.{Spools}
+use Rattle.core_law.proofs.Law.{all-ended}
 use Rattle.core_law.proofs.Outcomes.{ended-as}
 use Rattle.core_law.proofs.Reached.{reached-holds}
 use Rattle.core_law.proofs.Row.{each-buffer, each-process}
@@ -37,7 +37,7 @@ use Rattle.core_net.specs.declared.finish.Outcomes.{Outcomes}
 use Rattle.core_net.specs.declared.net.Net.{Net}
 use Rattle.core_net.specs.declared.shared.Shared.{Shared}
 use Rattle.core_net.specs.Shared.{Tells, SharedStands}
-use Rattle.core_net.specs.Net.{Keeps, NetStands, StandsReached}
+use Rattle.core_net.specs.Net.{Keeps, NetStands, IsPlaced}
 use Rattle.core_net.specs.Ended.{HaveEnded, outcome_at, all_done, sides_of, none_stopped, EndsSo, stopped_at, StoppedBeside, SomeFault, EndTogether, FaultsAre, NoneDamaged}
 
 -- ---- one process
@@ -123,22 +123,23 @@ module _ {S K A B F : Type 0} (keeps : Keeps) (tells : Tells S K A B F) (net : N
     (printer-is : (h : List Entry) → StandsFor printer keeps.printer net.printer h → outcomes.printer ≡ outcome_by (caused h))
     (stops-are : (s : CoreState) → NetStands keeps tells net s → stops ≡ sides_of s) where
   abbrev first : CoreState
-  first = some.is.state
+  first = some.at.state
 
   abbrev stood : NetStands keeps tells net first
-  stood = some.is.stands
+  stood = some.at.stands.is
+
+  the-end : (p : ℕ) → IsProcess p → HasEnded (first.histories p)
+  the-end p one = all-ended first some.all p one
 
   ended : (s : CoreState) → NetStands keeps tells net s → (p : ℕ) → IsProcess p → HasEndedSo s (outcome_at outcomes p) p
   ended s st p one =
       each-process (λ p. HasEndedSo s (outcome_at outcomes p) p) p one
-      (ends-so card keeps.card net.card outcomes.card card-is (s.histories 1) st.card (first.histories 1) (relays 1) stood.card (some.all 1 (lit≤ tt, lit≤ tt)))
-      (ends-so input keeps.input net.input outcomes.input input-is (s.histories 2) st.input (first.histories 2) (relays 2) stood.input (some.all 2
-      (lit≤ tt, lit≤ tt)))
-      (ends-so job keeps.job net.job outcomes.job job-is (s.histories 3) st.job (first.histories 3) (relays 3) stood.job (some.all 3 (lit≤ tt, lit≤ tt)))
-      (ends-so output keeps.output net.output outcomes.output output-is (s.histories 4) st.output (first.histories 4) (relays 4) stood.output (some.all 4
-      (lit≤ tt, lit≤ tt)))
+      (ends-so card keeps.card net.card outcomes.card card-is (s.histories 1) st.card (first.histories 1) (relays 1) stood.card (the-end 1 (lit≤ tt, lit≤ tt)))
+      (ends-so input keeps.input net.input outcomes.input input-is (s.histories 2) st.input (first.histories 2) (relays 2) stood.input (the-end 2 (lit≤ tt, lit≤ tt)))
+      (ends-so job keeps.job net.job outcomes.job job-is (s.histories 3) st.job (first.histories 3) (relays 3) stood.job (the-end 3 (lit≤ tt, lit≤ tt)))
+      (ends-so output keeps.output net.output outcomes.output output-is (s.histories 4) st.output (first.histories 4) (relays 4) stood.output (the-end 4 (lit≤ tt, lit≤ tt)))
       (ends-so printer keeps.printer net.printer outcomes.printer printer-is (s.histories 5) st.printer (first.histories 5) (relays 5) stood.printer
-      (some.all 5 (lit≤ tt, lit≤ tt)))
+      (the-end 5 (lit≤ tt, lit≤ tt)))
 
   given : (s : CoreState) → NetStands keeps tells net s → (p : ℕ) (how : Outcome) → IsProcess p → outcome_at outcomes p ≡ how → IsNotDone (Some how)
       → GivenBy (s.histories p) how
@@ -167,7 +168,7 @@ module _ {S K A B F : Type 0} (keeps : Keeps) (tells : Tells S K A B F) (net : N
   all-are s st e p one = subst (λ how. HasEndedSo s how p) (ap (λ o. outcome_at o p) e ∙ all-done p one) (ended s st p one)
 
   law : EndsTogether first
-  law = (reached-holds some.spools some.deck some.paper some.files first some.is.reached).ends
+  law = (reached-holds some.at.opening first some.at.reached).ends
 
   stopped-first : (b : ℕ) → IsBuffer b → stopped_at stops b ≡ stopped_by (first.buffers b).sides
   stopped-first b is = ap (λ all. stopped_at all b) (stops-are first stood) ∙ stopped-so first b is
@@ -192,7 +193,7 @@ module _ {S K A B F : Type 0} (keeps : Keeps) (tells : Tells S K A B F) (net : N
 
   beside : (p : ℕ) → IsProcess p → outcome_at outcomes p ≡ outcome.Stopped → StoppedBeside stops p × SomeFault outcomes
   beside p one e =
-      let (told, found) = law.stopped some.all p one (subst (λ how. HasEndedSo first how p) e (ended first stood p one)) in
+      let (told, found) = law.stopped the-end p one (subst (λ how. HasEndedSo first how p) e (ended first stood p one)) in
       let (q, cause, q_one, fault) = found in (
         record {
           buffer = told.buffer;
@@ -208,21 +209,21 @@ module _ {S K A B F : Type 0} (keeps : Keeps) (tells : Tells S K A B F) (net : N
   together = record { done = (done-none, none-done); stopped = beside }
 
   -- ---- for an opening
-  module _ (spools : Spools) (deck : Option (List Item)) (paper : Option (List ℕ)) (files : Option Loads)
-      (st : StandsReached keeps tells net spools deck paper files) where
-    holds : Holds spools deck paper files st.state
-    holds = reached-holds spools deck paper files st.state st.reached
+  module _ (at : IsPlaced keeps tells net) where
+    holds : Holds at.opening at.state
+    holds = reached-holds at.opening at.state at.reached
 
-    pub prints : AreTold spools → (items : List Item) (found : Loads) → deck ≡ Some items → AreItems items → AreFound files found items
-        → Gains paper (tells.given net.shared.paper.sink) (text (one_thread_lines found items)) (outcomes ≡ all_done)
+    pub prints : AreTold at.opening.spools → (items : List Item) (found : Loads) → at.opening.deck ≡ Some items → AreItems items
+        → AreFound at.opening.files found items
+        → Gains at.opening.paper (tells.given net.shared.paper.sink) (text (one_thread_lines found items)) (outcomes ≡ all_done)
     prints told items found is valid are_found =
-        subst (λ now. Gains paper now (text (one_thread_lines found items)) (outcomes ≡ all_done)) st.stands.shared.paper
-        (gains-where paper st.state.devices.paper _ _ _ (all-are st.state st.stands) (holds.prints told items found is valid are_found))
+        subst (λ now. Gains at.opening.paper now (text (one_thread_lines found items)) (outcomes ≡ all_done)) at.stands.is.shared.paper
+        (gains-where at.opening.paper at.state.devices.paper _ _ _ (all-are at.state at.stands.is) (holds.prints told items found is valid are_found))
 
-    pub reads : (items : List Item) → deck ≡ Some items → outcomes ≡ all_done
+    pub reads : (items : List Item) → at.opening.deck ≡ Some items → outcomes ≡ all_done
         → items_ahead (tells.left net.shared.deck.source) net.shared.deck.pending ≡ Some []
-    reads items is e = sym st.stands.shared.deck ∙ holds.reads items is (all-are st.state st.stands e)
+    reads items is e = sym at.stands.is.shared.deck ∙ holds.reads items is (all-are at.state at.stands.is e)
 
-    pub undamaged : AreTold spools → (items : List Item) → deck ≡ Some items → AreItems items → NoneDamaged outcomes
+    pub undamaged : AreTold at.opening.spools → (items : List Item) → at.opening.deck ≡ Some items → AreItems items → NoneDamaged outcomes
     undamaged told items is valid p c one e =
-        holds.undamaged told items is valid p c one (subst (λ how. HasEndedSo st.state how p) e (ended st.state st.stands p one))
+        holds.undamaged told items is valid p c one (subst (λ how. HasEndedSo at.state how p) e (ended at.state at.stands.is p one))

@@ -32,7 +32,7 @@ use Rattle.core_law.proofs.NeverStuck.{mark-is}
 use Rattle.core_law.proofs.Places.{call-buffer}
 use Rattle.core_net.specs.declared.shared.Shared.{Shared}
 use Rattle.core_net.specs.Shared.{Tells, SharedStands, Choice, AtNumbers, WaitsAt, PutsAt, TakesAt, StopsAt, MayPerform}
-use Rattle.core_net.proofs.Askers.{feed-puts, room-waits, moves-page, takes-feed, takes-page, item-waits, reads-deck, prints-paper, loads-files}
+use Rattle.core_law.proofs.Askers.{feed-puts, room-waits, moves-page, takes-feed, takes-page, item-waits, reads-deck, prints-paper, loads-files}
 
 -- ---- numbers
 given-first : (t : Bool) (X Y : Type 0) → t ≡ true → X → Choice t X Y

@@ -1,7 +1,5 @@
 -- A step of one of the machines is a step of the network.
 use Rattle.std.proofs.Common.{◌≡◌, ◌≢◌, ℕ, true, List, ◌∷◌, Option, None, Some, refl, sym, ◌∙◌, ap, subst, arith}
-use Rattle.solo_base.specs.declared.item.Item.{Item}
-use Rattle.batch_job.specs.Report.{Loads}
 use Rattle.solo_devices.specs.declared.card_read.CardRead.{CardRead}
 use Rattle.solo_devices.specs.declared.card_read.CardRead.TheVariants as card_read
 use Rattle.batch_procs.specs.declared.actions.Action.{Action}
@@ -23,20 +21,28 @@ use Rattle.batch_procs.specs.Table.{process, card, input, job, output, printer}
 use Rattle.batch_procs.proofs.Closing.{or-none}
 use Rattle.batch_procs.proofs.Holding.{some-not_none}
 use Rattle.network_law.specs.Kept.{Stands}
+use Rattle.network_run.specs.declared.stepped.Stepped.{Stepped}
+use Rattle.network_run.specs.Law as law
+use Rattle.network_law.specs.Acts.{is_delayed}
 use Rattle.network_law.specs.Network.{happens}
-use Rattle.core_law.specs.Core.{core, CoreState}
+use Rattle.network_law.specs.Stepping.{MayGo, is_again, stepped_so}
+use Rattle.core_law.specs.Core.{call, core, went, CoreState, CoreEvent}
 use Rattle.core_law.specs.Ends.{IsProcess}
-use Rattle.core_law.specs.Opening.{Spools, opened, IsReached}
+use Rattle.core_law.specs.Opening.{Opening, first_state}
+use Rattle.core_law.specs.TheLaw.{the_law, IsReached}
 use Rattle.core_law.proofs.Reached.{Centre, reached-centre}
+use Rattle.core_law.proofs.WorkFalls.{work-falls}
 use Rattle.core_law.proofs.Acting.{follows-of}
 use Rattle.core_net.specs.declared.net.Net.{Net}
 use Rattle.core_net.specs.declared.shared.Shared.{Shared}
-use Rattle.core_net.specs.declared.step.Stepped.{Stepped}
 use Rattle.core_net.specs.Causes.{Counts, IsPrint, IsLoad, HasCauses}
-use Rattle.core_net.specs.Shared.{Tells, SharedStands, MayPerform}
-use Rattle.core_net.specs.Steps.{reply_of, MayStep, Steps}
-use Rattle.core_net.specs.Net.{Keeps, NetStands, MayStepIn, MayStepNet, StepsNet}
-use Rattle.core_net.proofs.Askers.{reads-deck, prints-paper, loads-files}
+use Rattle.core_net.specs.Moves.{MovesBy}
+use Rattle.core_net.specs.Shared.{Tells, SharedStands, MayPerform, cards_left}
+use Rattle.core_net.specs.Steps.{is_end, reply_of, MayStep, Steps}
+use Rattle.core_net.specs.Net.{Keeps, NetStands, StandsWithin, MayStepIn}
+use Rattle.core_net.proofs.FaultsCounted.{event-counted}
+use Rattle.core_net.proofs.Turning.{has-place, goes-so}
+use Rattle.core_law.proofs.Askers.{reads-deck, prints-paper, loads-files}
 use Rattle.core_net.proofs.MayPerforming.{may-perform}
 use Rattle.core_law.proofs.DeskRoom.{desk-room}
 use Rattle.core_net.proofs.Entering.{is-event}
@@ -113,21 +119,26 @@ file-of (act.Load file) is = (file, refl)
 file-of a is = absurd is
 
 -- ---- one step
-module _ {S K A B F : Type 0} (keeps : Keeps) (tells : Tells S K A B F) (counts : Counts S K A B F) (net : Net S K A B F) (spools : Spools) (deck : Option
-    (List Item))
-    (paper : Option (List ℕ)) (files : Option Loads) (s : CoreState)
-    (reached : IsReached spools deck paper files s) (stands : NetStands keeps tells net s) where
-  abbrev centre : Centre (opened spools deck paper files) s
-  centre = reached-centre spools deck paper files s reached
+-- an event of the process, from one network to the next
+abbrev pub GoesOn : {S K A B F : Type 0} → Keeps → Tells S K A B F → Counts S K A B F → Net S K A B F → Net S K A B F → CoreState → ℕ → Stepped → Type 0
+GoesOn keeps tells counts old new s p result = law.Steps the_law (StandsWithin keeps tells) (MovesBy keeps tells counts) old new s p result
+
+module _ {S K A B F : Type 0} (keeps : Keeps) (tells : Tells S K A B F) (counts : Counts S K A B F) (net : Net S K A B F) (o : Opening) (s : CoreState)
+    (reached : IsReached o s) (stood : StandsWithin keeps tells net s) where
+  abbrev stands : NetStands keeps tells net s
+  stands = stood.is
+
+  abbrev centre : Centre (first_state o) s
+  centre = reached-centre o s reached
 
   follows : (p : ℕ) → Follows (process p) (s.histories p)
   follows p = follows-of process p (s.histories p) (centre.stands.follows p)
 
   pub may-now : (p : ℕ) (action : Action) → MayStepIn s p action → MayPerform net.shared p action
   may-now p action step =
-      may-perform tells (opened spools deck paper files) s centre.stands net.shared stands.shared p step.one stands.deck_live stands.paper_live
+      may-perform tells (first_state o) s centre.stands net.shared stands.shared p step.one stands.deck_live stands.paper_live
       stands.files_sound
-      (desk-room (opened spools deck paper files) s centre.stands) action step.next step.may
+      (desk-room (first_state o) s centre.stands) action step.next step.may
 
   -- ---- the devices after it
   module _ (p : ℕ) (action : Action) (step : MayStepIn s p action) (new : Shared S K A B F) (entry : Entry) (same : action_of entry ≡ action)
@@ -307,53 +318,64 @@ module _ {S K A B F : Type 0} (keeps : Keeps) (tells : Tells S K A B F) (counts 
       → (st : Steps Stands tells counts net.shared next.shared p action (s.histories p) result) → IsFitting (process p) st.entry
       → ((gained : List ℕ) → SharedStands tells next.shared (happens (core process) s record { process = p; entry = st.entry; gained = gained })
       → NetStands keeps tells next (happens (core process) s record { process = p; entry = st.entry; gained = gained }))
-      → StepsNet keeps tells counts net next s p action result
-  step-of p next Stands action result step st suits stood =
+      → GoesOn keeps tells counts net next s p result
+  step-of p next Stands action result step st suits stand =
       let is = is-event tells net.shared next.shared s stands.shared p step.one action step.next step.may st.entry st.action_is suits st.enters in
+      let event : CoreEvent = record { process = p; entry = st.entry; gained = is.gained } in
+      let causes = subst (λ a. HasCauses counts net.shared next.shared p a (reply_of st.entry)) (sym st.action_is) st.causes in
+      let left = work-falls o s event (cards_left tells.taken net.shared.deck) (cards_left tells.taken next.shared.deck) reached is.enabled st.enters.deck in
+      let most = stood.within in
+      let now = stand is.gained is.after in
+      let told = st.told s stands.shared (has-place tells net.shared o s reached stands.shared p step.one action step.next) in
       record {
-        event = record { process = p; entry = st.entry; gained = is.gained };
+        event = event;
         process_is = refl;
-        action_is = st.action_is;
-        told = st.told;
+        told = subst (λ a. result ≡ stepped_so (is_delayed (went st.entry)) (is_end a) (is_again s (call p a))) (sym st.action_is) told
+            ∙ goes-so (process p) st.entry (s.histories p) (is_again s (call p (action_of st.entry)));
         enabled = is.enabled;
-        stands = stood is.gained is.after;
-        causes = st.causes;
-        deck = st.enters.deck;
-        total = st.enters.total;
-        files = st.enters.files;
+        stands = record { is = now; within = omega (arith, left, most) };
+        moves = record {
+          causes = causes;
+          deck = st.enters.deck;
+          all = record {
+            counted = event-counted keeps tells counts net next o s event reached stands is.enabled now causes;
+            total = st.enters.total;
+            files = st.enters.files;
+          };
+        };
       }
 
   pub at-card : (m : Machine CardWork) (new : Shared S K A B F) (action : Action) (result : Stepped) → MayStepIn s 1 action
       → Steps (StandsFor card keeps.card m) tells counts net.shared new 1 action (s.histories 1) result
-      → StepsNet keeps tells counts net (record net { card = m; shared = new }) s 1 action result
+      → GoesOn keeps tells counts net (record net { card = m; shared = new }) s 1 result
   at-card m new action result step st =
       step-of 1 (record net { card = m; shared = new }) (StandsFor card keeps.card m) action result step st st.stands.follows.1
       (λ gained shared. card-stands m new action st.entry gained st.stands step st.action_is st.causes shared)
 
   pub at-input : (m : Machine InputWork) (new : Shared S K A B F) (action : Action) (result : Stepped) → MayStepIn s 2 action
       → Steps (StandsFor input keeps.input m) tells counts net.shared new 2 action (s.histories 2) result
-      → StepsNet keeps tells counts net (record net { input = m; shared = new }) s 2 action result
+      → GoesOn keeps tells counts net (record net { input = m; shared = new }) s 2 result
   at-input m new action result step st =
       step-of 2 (record net { input = m; shared = new }) (StandsFor input keeps.input m) action result step st st.stands.follows.1
       (λ gained shared. input-stands m new action st.entry gained st.stands step st.action_is st.causes shared)
 
   pub at-job : (m : Machine JobWork) (new : Shared S K A B F) (action : Action) (result : Stepped) → MayStepIn s 3 action
       → Steps (StandsFor job keeps.job m) tells counts net.shared new 3 action (s.histories 3) result
-      → StepsNet keeps tells counts net (record net { job = m; shared = new }) s 3 action result
+      → GoesOn keeps tells counts net (record net { job = m; shared = new }) s 3 result
   at-job m new action result step st =
       step-of 3 (record net { job = m; shared = new }) (StandsFor job keeps.job m) action result step st st.stands.follows.1
       (λ gained shared. job-stands m new action st.entry gained st.stands step st.action_is st.causes shared)
 
   pub at-output : (m : Machine OutputWork) (new : Shared S K A B F) (action : Action) (result : Stepped) → MayStepIn s 4 action
       → Steps (StandsFor output keeps.output m) tells counts net.shared new 4 action (s.histories 4) result
-      → StepsNet keeps tells counts net (record net { output = m; shared = new }) s 4 action result
+      → GoesOn keeps tells counts net (record net { output = m; shared = new }) s 4 result
   at-output m new action result step st =
       step-of 4 (record net { output = m; shared = new }) (StandsFor output keeps.output m) action result step st st.stands.follows.1
       (λ gained shared. output-stands m new action st.entry gained st.stands step st.action_is st.causes shared)
 
   pub at-printer : (m : Machine PrinterWork) (new : Shared S K A B F) (action : Action) (result : Stepped) → MayStepIn s 5 action
       → Steps (StandsFor printer keeps.printer m) tells counts net.shared new 5 action (s.histories 5) result
-      → StepsNet keeps tells counts net (record net { printer = m; shared = new }) s 5 action result
+      → GoesOn keeps tells counts net (record net { printer = m; shared = new }) s 5 result
   at-printer m new action result step st =
       step-of 5 (record net { printer = m; shared = new }) (StandsFor printer keeps.printer m) action result step st st.stands.follows.1
       (λ gained shared. printer-stands m new action st.entry gained st.stands step st.action_is st.causes shared)
@@ -362,36 +384,36 @@ module _ {S K A B F : Type 0} (keeps : Keeps) (tells : Tells S K A B F) (counts 
 pub next-at : (s : CoreState) (p q : ℕ) (action : Action) → p ≡ q → MayStepIn s p action → next_action (process q) (s.histories q) ≡ Some action
 next-at s p q action e step = subst (λ q. next_action (process q) (s.histories q) ≡ Some action) e step.next
 
+pub in-step : (s : CoreState) (p : ℕ) (may : MayGo (core process) s p) → MayStepIn s p may.action
+in-step s p may = record { one = may.one; next = may.next; may = may.may }
+
 -- that a machine may step
 pub may-step : {S K A B F : Type 0} (keeps : Keeps) (tells : Tells S K A B F) (net : Net S K A B F) (p q : ℕ) (Stands : List Entry → Type 0) → p ≡ q
-    → (m : MayStepNet keeps tells net p) → Stands (m.state.histories q) → MayStep (process q) Stands net.shared p
+    → (m : law.MayStep the_law (StandsWithin keeps tells net) p) → Stands (m.at.state.histories q) → MayStep (process q) Stands net.shared p
 may-step keeps tells net p q Stands e m stands = record {
-  history = m.state.histories q;
-  action = m.action;
+  history = m.at.state.histories q;
+  action = m.may.action;
   stands = stands;
-  next = next-at m.state p q m.action e m.step;
+  next = next-at m.at.state p q m.may.action e (in-step m.at.state p m.may);
   may =
       may-now keeps tells record {
-        read_faults =
-            λ x. 0;
-        taken =
-            λ x. 0;
-        print_faults =
-            λ x. 0;
+        read_faults = λ x. 0;
+        taken = λ x. 0;
+        print_faults = λ x. 0;
         input_faults = λ x. 0;
         output_faults = λ x. 0;
         file_faults = λ x. 0;
-      } net m.spools m.deck m.paper m.files m.state m.reached m.stands p m.action m.step;
+      } net m.at.opening m.at.state m.at.reached m.at.stands p m.may.action (in-step m.at.state p m.may);
 }
 
 pub steps-at : {S K A B F : Type 0} (keeps : Keeps) (tells : Tells S K A B F) (counts : Counts S K A B F) (old new : Net S K A B F) (s : CoreState)
     (Stands : List Entry
     → Type 0) (p q : ℕ) (action : Action) (result : Stepped) (h : List Entry) → p ≡ q
-    → (MayStepIn s q action → Steps Stands tells counts old.shared new.shared q action h result → StepsNet keeps tells counts old new s q action result)
-    → MayStepIn s p action → Steps Stands tells counts old.shared new.shared p action h result → StepsNet keeps tells counts old new s p action result
+    → (MayStepIn s q action → Steps Stands tells counts old.shared new.shared q action h result → GoesOn keeps tells counts old new s q result)
+    → MayStepIn s p action → Steps Stands tells counts old.shared new.shared p action h result → GoesOn keeps tells counts old new s p result
 steps-at keeps tells counts old new s Stands p q action result h e each =
     subst (λ p. MayStepIn s p action → Steps Stands tells counts old.shared new.shared p action h result
-    → StepsNet keeps tells counts old new s p action result) (sym e) each
+    → GoesOn keeps tells counts old new s p result) (sym e) each
 
 pub last-number : (p : ℕ) → IsProcess p → (p ≡ 1 → ⊥) → (p ≡ 2 → ⊥) → (p ≡ 3 → ⊥) → (p ≡ 4 → ⊥) → p ≡ 5
 last-number p one a b c d = (let low = one.0 in let high = one.1 in omega (arith, a, b, c, d, low, high))

@@ -19,7 +19,8 @@ use Rattle.network_law.specs.Acts.{Visit, At}
 use Rattle.core_law.specs.Core.{Devices, Allows, given, items_by, read_off, call, went, CoreState}
 use Rattle.core_law.specs.Work.{LeavesFewer}
 use Rattle.core_net.specs.declared.shared.Shared.{Shared}
-use Rattle.core_net.specs.Calls.{entry_of, Visited}
+use Rattle.core_law.specs.Replies.{entry_of}
+use Rattle.core_net.specs.Calls.{Visited}
 use Rattle.core_net.specs.Lines.{LineStands}
 use Rattle.core_net.specs.Spools.{SpoolStands}
 use Rattle.core_net.specs.Desks.{Asked, Given}

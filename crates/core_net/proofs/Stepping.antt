@@ -1,5 +1,5 @@
 -- From what is performed to the entry of the process.
-use Rattle.std.proofs.Common.{◌≡◌, ℕ, List, ◌∷◌, Option, None, Some, refl, sym, ◌∙◌, subst}
+use Rattle.std.proofs.Common.{◌≡◌, ℕ, Bool, false, List, ◌∷◌, Option, None, Some, refl, sym, ◌∙◌, ap, subst}
 use Rattle.batch_procs.specs.declared.actions.Action.{Action}
 use Rattle.batch_procs.specs.declared.actions.Action.TheVariants as act
 use Rattle.batch_procs.specs.declared.actions.Reply.{Reply}
@@ -7,12 +7,18 @@ use Rattle.batch_procs.specs.declared.actions.Reply.TheVariants as reply
 use Rattle.batch_procs.specs.History.{Entry, Does, LacksMemory, Delays}
 use Rattle.batch_procs.specs.Fits.{Fits, MayLack, MayWait}
 use Rattle.batch_procs.specs.Machine.{NextIs}
+use Rattle.network_run.specs.declared.stepped.Stepped.{Stepped}
+use Rattle.network_run.specs.declared.stepped.Stepped.TheVariants.{Delayed}
+use Rattle.network_law.specs.Acts.{is_delayed}
+use Rattle.network_law.specs.Stepping.{is_again, stepped_so}
+use Rattle.core_law.specs.Core.{call, went, CoreState}
+use Rattle.core_law.proofs.WorkFalls.{answered}
 use Rattle.core_net.specs.declared.shared.Shared.{Shared}
-use Rattle.core_net.specs.declared.step.Stepped.TheVariants.{Acted, Delayed, Lacked}
-use Rattle.core_net.specs.Calls.{entry_of}
+use Rattle.core_law.specs.Replies.{entry_of}
 use Rattle.core_net.specs.Causes.{Counts, HasCauses}
-use Rattle.core_net.specs.Shared.{Tells, Performs}
-use Rattle.core_net.specs.Steps.{Enters, Steps}
+use Rattle.core_net.specs.Shared.{Tells, SharedStands, Performs}
+use Rattle.core_net.specs.Steps.{is_end, Enters, Steps}
+use Rattle.core_net.specs.Turns.{HasPlace}
 
 module _ {S K A B F : Type 0} (tells : Tells S K A B F) (old new : Shared S K A B F) (p : ℕ) where
   pub enters : (action : Action) (result : Option Reply) → Performs tells old new p action result → Enters tells old new p action (entry_of action result)
@@ -36,6 +42,9 @@ module _ {S K A B F : Type 0} (tells : Tells S K A B F) (old new : Shared S K A 
   enters-lacking action r may is = absurd may
 
 -- ---- a step of a machine
+same-stepped : (d e g x y z : Bool) → d ≡ x → e ≡ y → g ≡ z → stepped_so d e g ≡ stepped_so x y z
+same-stepped d e g x y z i j k = rw (i, j, k) refl
+
 pub next-is : (next : Option Action) (a r : Action) → NextIs next r → next ≡ Some a → a ≡ r
 next-is None a r is e = absurd cc
 next-is (Some b) a r is e = (let same : b ≡ a = cc in sym same ∙ is)
@@ -54,45 +63,46 @@ module _ {S K A B F : Type 0} (Stands : List Entry → Type 0) (tells : Tells S 
   steps-delayed is causes stands =
       let own = same-action None is in
       record {
-        entry =
-            Delays a;
-        told = refl;
+        entry = Delays a;
+        told = λ s stood place. refl;
         action_is = refl;
         stands = stands own.suits;
         enters = enters tells old new p a None own;
         causes = same-causes None causes;
       }
 
-  pub steps-acted : (reply : Reply) → Performs tells old new p r (Some reply) → HasCauses counts old new p r (Some reply)
-      → (Fits a reply → Stands (Does a reply ∷ h)) → Steps Stands tells counts old new p a h Acted
-  steps-acted reply is causes stands =
-      let own = same-action (Some reply) is in
-      record {
-        entry =
-            Does a reply;
-        told =
-            refl;
-        action_is = refl;
-        stands = stands own.suits;
-        enters = enters tells old new p a (Some reply) own;
-        causes = same-causes (Some reply) causes;
-      }
+  module _ (ends again : Bool) (result : Stepped) (result-is : result ≡ stepped_so false ends again) (ends-is : ends ≡ is_end r)
+      (again-is : (s : CoreState) → SharedStands tells old s → HasPlace s p r → again ≡ is_again s (call p r)) where
+    told-so : (entry : Entry) → ((b : Action) → entry ≡ Delays b → ⊥) → (s : CoreState) → SharedStands tells old s → HasPlace s p a
+        → result ≡ stepped_so (is_delayed (went entry)) (is_end a) (is_again s (call p a))
+    told-so entry not s stood place =
+        let ends_so : ends ≡ is_end a = ends-is ∙ ap is_end (sym same) in
+        let again_so = again-is s stood (subst (HasPlace s p) same place) ∙ ap (λ a. is_again s (call p a)) (sym same) in
+        result-is ∙ same-stepped _ _ _ _ _ _ (sym (answered entry not)) ends_so again_so
 
-  pub steps-lacking : (reply : Reply) → Performs tells old new p r (Some reply) → HasCauses counts old new p r (Some reply)
-      → (Fits a reply → Stands (LacksMemory a reply ∷ h)) → (Stands (LacksMemory a reply ∷ h) → MayLack a reply)
-      → Steps Stands tells counts old new p a h Lacked
-  steps-lacking reply is causes stands lack =
-      let own = same-action (Some reply) is in
-      record {
-        entry =
-            LacksMemory a reply;
-        told =
-            refl;
-        action_is =
-            refl;
-        stands =
-            stands own.suits;
-        enters =
-            enters-lacking tells old new p a reply (lack (stands own.suits)) own;
-        causes = same-causes (Some reply) causes;
-      }
+    pub steps-acted : (reply : Reply) → Performs tells old new p r (Some reply) → HasCauses counts old new p r (Some reply)
+        → (Fits a reply → Stands (Does a reply ∷ h)) → Steps Stands tells counts old new p a h result
+    steps-acted reply is causes stands =
+        let own = same-action (Some reply) is in
+        record {
+          entry = Does a reply;
+          told = told-so (Does a reply) (λ b e. cc);
+          action_is = refl;
+          stands = stands own.suits;
+          enters = enters tells old new p a (Some reply) own;
+          causes = same-causes (Some reply) causes;
+        }
+
+    pub steps-lacking : (reply : Reply) → Performs tells old new p r (Some reply) → HasCauses counts old new p r (Some reply)
+        → (Fits a reply → Stands (LacksMemory a reply ∷ h)) → (Stands (LacksMemory a reply ∷ h) → MayLack a reply)
+        → Steps Stands tells counts old new p a h result
+    steps-lacking reply is causes stands lack =
+        let own = same-action (Some reply) is in
+        record {
+          entry = LacksMemory a reply;
+          told = told-so (LacksMemory a reply) (λ b e. cc);
+          action_is = refl;
+          stands = stands own.suits;
+          enters = enters-lacking tells old new p a reply (lack (stands own.suits)) own;
+          causes = same-causes (Some reply) causes;
+        }

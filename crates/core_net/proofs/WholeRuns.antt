@@ -1,29 +1,32 @@
 -- A run from an opening to its end.
-use Rattle.std.proofs.Common.{◌≡◌, ◌≤◌, ◌==◌, if◌then◌else◌, ℕ, Bool, true, false, List, [], ◌∷◌, ◌++◌, map, Option, None, Some, refl, sym, ◌∙◌, ap, subst, arith}
+use Rattle.std.proofs.Common.{◌≡◌, ◌≤◌, ◌==◌, if◌then◌else◌, ℕ, Bool, true, false, List, [], ◌∷◌, ◌++◌, map, length, Option, None, Some, refl, sym, ◌∙◌, ap, subst, arith}
 use Rattle.solo_base.specs.Card.{lines, before_lines, card_of, cards}
 use Rattle.solo_base.specs.declared.item.Item.{Item}
 use Rattle.solo_base.specs.declared.outcome.Side.{Side}
 use Rattle.batch_job.specs.Report.{Loads}
 use Rattle.disk_files.specs.Answers.{FileTable}
-use Rattle.batch_procs.specs.Table.{process}
 use Rattle.solo_devices.specs.CardUnit.{Held, items_ahead, bytes_total, IsAllTaken}
 use Rattle.solo_devices.specs.PrinterUnit.{Printing}
-use Rattle.network_law.specs.Network.{run, happens}
-use Rattle.core_law.specs.Core.{core, CoreState, Devices}
-use Rattle.core_law.specs.Opening.{Spools, IsReached}
-use Rattle.core_law.specs.Work.{events_left}
-use Rattle.core_law.proofs.WorkFalls.{work-falls}
-use Rattle.core_net.specs.declared.counts.Counts.{Counts}
+use Rattle.page_codec.specs.Items.{AreItems}
+use Rattle.network_run.specs.declared.counts.Counts.{Counts}
+use Rattle.network_run.specs.declared.rules.Rule.{Rule}
+use Rattle.network_run.specs.Counting.{raised}
+use Rattle.network_run.specs.Law.{run}
+use Rattle.network_run.specs.Runs.{RunsBy}
+use Rattle.network_run.proofs.RunMore.{raised-few}
+use Rattle.core_law.specs.Bound.{longest_run}
+use Rattle.core_law.specs.Core.{CoreState, Devices}
+use Rattle.core_law.specs.Holds.{AreTold, AreFound}
+use Rattle.core_law.specs.Opening.{Opening}
+use Rattle.core_law.specs.TheLaw.{the_law, IsReached}
+use Rattle.core_law.proofs.Bounded.{no-run_longer}
 use Rattle.core_net.specs.declared.finish.Outcomes.{Outcomes}
 use Rattle.core_net.specs.declared.net.Net.{Net}
-use Rattle.core_net.specs.declared.rules.Rule.{Rule}
 use Rattle.core_net.specs.Ended.{EndsSo}
 use Rattle.core_net.specs.Openings.{files_found}
-use Rattle.core_net.specs.Net.{Keeps, NetStands, StandsReached, most_events}
-use Rattle.core_net.specs.Runs.{RunsBy, TurnTaken}
-use Rattle.core_net.specs.Shared.{Tells, cards_left}
+use Rattle.core_net.specs.Net.{Keeps, NetStands, StandsWithin}
+use Rattle.core_net.specs.Shared.{Tells}
 use Rattle.core_net.specs.WholeRuns.{RunsToEnd}
-use Rattle.core_net.proofs.TurnTaken.{reached-more}
 
 same-told : (devices : Devices) (deck : Option (List Item)) (paper : Option (List ℕ)) (files : Option Loads) → devices.deck ≡ deck → devices.paper ≡ paper
     → devices.files ≡ files → devices ≡ record { deck = deck; paper = paper; files = files }
@@ -61,30 +64,20 @@ all-taken (Some bytes) now taken_before taken_now pending total reads = λ rest 
     last-none pending rest (lines-none (pending ++ rest) (map-none card_of (lines (pending ++ rest)) (some-none (cards (pending ++ rest)) none)))
 
 module _ {S K A B F : Type 0} (keeps : Keeps) (tells : Tells S K A B F) where
-  -- a turn leads from a reached state to a reached state of the same opening
-  pub turn-reaches : (old new : Net S K A B F) (p : ℕ) (before after : Counts) (spools : Spools) (deck : Option (List Item)) (paper : Option (List ℕ))
-      (files : Option Loads)
-      (st : StandsReached keeps tells old spools deck paper files) → TurnTaken keeps tells old new st.state p before after
-      → StandsReached keeps tells new spools deck paper files
-  turn-reaches old new p before after spools deck paper files st turn =
-      let less = work-falls spools deck paper files st.state turn.event (cards_left tells.taken old.shared.deck) (cards_left tells.taken new.shared.deck)
-      st.reached turn.enabled turn.deck in
-      let all = st.within in
-      record {
-        state = happens (core process) st.state turn.event;
-        reached = reached-more spools deck paper files st.state turn.event st.reached turn.enabled;
-        stands = turn.stands;
-        within = omega (arith, less, all);
-      }
-
-  -- where a network begins, as one that is reached
-  pub reached-first : (net : Net S K A B F) (spools : Spools) (deck : Option (List Item)) (paper : Option (List ℕ)) (files : Option Loads) (s : CoreState)
-      → IsReached spools deck paper files s → NetStands keeps tells net s → events_left (cards_left tells.taken net.shared.deck) s ≤ most_events
-      → StandsReached keeps tells net spools deck paper files
-  reached-first net spools deck paper files s reached stands within = record { state = s; reached = reached; stands = stands; within = within }
+  -- over told devices it is no longer than its deck allows
+  pub run-bounded : (rule : Rule) (net : Net S K A B F) (o : Opening) (s : CoreState) (counts : Counts) (items : List Item) (found : Loads) → IsReached o s
+      → AreTold o.spools → o.deck ≡ Some items → AreItems items → AreFound o.files found items
+      → RunsBy the_law (StandsWithin keeps tells net) rule s counts → counts.events ≤ longest_run found items
+  run-bounded rule net o s counts items found reached told deck_is are are_found ran =
+      let few = no-run_longer o s items found ran.events reached told deck_is are are_found ran.enabled in
+      let most = raised-few (length ran.events) in
+      bounded counts.events (raised 0 (length ran.events)) (length ran.events) (longest_run found items) (ap (λ (c : Counts). c.events) ran.counts_are) most few
+    where
+      bounded : (n m long most : ℕ) → n ≡ m → m ≤ long → long ≤ most → n ≤ most
+      bounded n m long most a b c = omega (arith, a, b, c)
 
   -- how a run went, once it has ended, told without its network
-  pub runs-to-end : (rule : Rule) (net : Net S K A B F) (s : CoreState) (counts : Counts) → RunsBy keeps tells rule net s counts
+  pub runs-to-end : (rule : Rule) (net : Net S K A B F) (s : CoreState) (counts : Counts) → RunsBy the_law (StandsWithin keeps tells net) rule s counts
       → (outcomes : Outcomes) (stops : List (Option Side)) → ((s : CoreState) → NetStands keeps tells net s → EndsSo s outcomes stops)
       → (deck : Held S) (paper : Printing K) (files : FileTable F) → deck ≡ net.shared.deck → paper ≡ net.shared.paper → files ≡ net.shared.files
       → RunsToEnd rule s counts outcomes stops record {
@@ -97,10 +90,10 @@ module _ {S K A B F : Type 0} (keeps : Keeps) (tells : Tells S K A B F) where
     enabled = ran.enabled;
     by_rule = ran.by_rule;
     counts_are = ran.counts_are;
-    ends = ends (run (core process) s ran.events) ran.stands;
+    ends = ends (run the_law s ran.events) ran.stands.is;
     devices_are =
-        same-told (run (core process) s ran.events).devices _ _ _
-        (ran.stands.shared.deck ∙ ap (λ (d : Held S). items_ahead (tells.left d.source) d.pending) (sym deck_is))
-        (ran.stands.shared.paper ∙ ap (λ (d : Printing K). tells.given d.sink) (sym paper_is))
-        (ran.stands.shared.files ∙ ap (λ (t : FileTable F). files_found (tells.file_pages t.area)) (sym files_are));
+        same-told (run the_law s ran.events).devices _ _ _
+        (ran.stands.is.shared.deck ∙ ap (λ (d : Held S). items_ahead (tells.left d.source) d.pending) (sym deck_is))
+        (ran.stands.is.shared.paper ∙ ap (λ (d : Printing K). tells.given d.sink) (sym paper_is))
+        (ran.stands.is.shared.files ∙ ap (λ (t : FileTable F). files_found (tells.file_pages t.area)) (sym files_are));
   }

@@ -5,7 +5,7 @@ use Rattle.batch_job.specs.Report.{Loads}
 use Rattle.solo_devices.specs.CardUnit.{fresh_unit}
 use Rattle.core_law.specs.Opening.{Spools, opened}
 use Rattle.core_law.specs.Work.{calls_left, events_left}
-use Rattle.core_net.specs.Net.{most_events}
+use Rattle.network_run.specs.Runs.{most_events}
 use Rattle.core_net.specs.Shared.{cards_left}
 
 opening-calls : (cards : ℕ) (spools : Spools) (deck : Option (List Item)) (paper : Option (List ℕ)) (files : Option Loads)

@@ -6,20 +6,10 @@ use Rattle.batch_procs.specs.declared.actions.Action.{Action}
 use Rattle.batch_procs.specs.declared.actions.Reply.{Reply}
 use Rattle.batch_procs.specs.declared.actions.Reply.TheVariants as reply
 use Rattle.batch_procs.specs.Parcels.{Parcel, is_last}
-use Rattle.batch_procs.specs.History.{Entry, Does, Delays}
-use Rattle.batch_procs.specs.Fits.{Fits, MayWait}
 use Rattle.network_law.specs.Acts.{Visit}
 use Rattle.network_law.specs.Buffer.{Buffer, VisitFits, after_visit}
 use Rattle.core_law.specs.Core.{went}
-
--- the entry of an action: with its reply, or a delay where there is none
-abbrev pub entry_of : Action → Option Reply → Entry
-entry_of action None = Delays action
-entry_of action (Some r) = Does action r
-
-abbrev pub ReplyFits : Action → Option Reply → Type 0
-ReplyFits action None = MayWait action
-ReplyFits action (Some r) = Fits action r
+use Rattle.core_law.specs.Replies.{entry_of, ReplyFits}
 
 -- the reply to an await
 abbrev pub await_reply : Await → Option Reply

@@ -6,7 +6,7 @@ use Rattle.batch_procs.specs.declared.actions.Reply.{Reply}
 use Rattle.network_law.specs.Acts.{Done}
 use Rattle.network_law.specs.Desk.{Desk, asked, after_asking, after_giving}
 use Rattle.core_law.specs.Core.{went}
-use Rattle.core_net.specs.Calls.{entry_of, ReplyFits}
+use Rattle.core_law.specs.Replies.{entry_of, ReplyFits}
 
 -- a request, by what the desk's claims were and are
 pub record Asked (old new : Claims) (p : ℕ) (result : Option Reply) : Type 0 where

@@ -1,36 +1,27 @@
 -- How the network ended, once all five have.
 use Rattle.std.specs.Prelude.{◌≡◌, ◌↔◌, ◌==◌, ◌-◌, ◌⊎◌, ℕ, List, [], ◌∷◌, Option, None, Some, if◌then◌else◌}
-use Rattle.solo_base.specs.declared.item.Item.{Item}
 use Rattle.solo_base.specs.declared.outcome.Side.{Side}
 use Rattle.solo_base.specs.declared.outcome.Outcome.{Outcome}
 use Rattle.solo_base.specs.declared.outcome.Outcome.TheVariants as outcome
 use Rattle.solo_base.specs.declared.outcome.Cause.{Cause}
 use Rattle.solo_base.specs.declared.outcome.Cause.TheVariants as cause
-use Rattle.batch_job.specs.Report.{Loads}
 use Rattle.queue_var.specs.Sides.{stopped_by, other}
+use Rattle.network_run.specs.Law.{AllEnded}
 use Rattle.batch_procs.specs.Faults.{GivenBy, IsDamaged}
 use Rattle.batch_procs.specs.Laws.{IsNotDone}
 use Rattle.core_law.specs.Core.{CoreState, IsBuffer, seat}
-use Rattle.core_law.specs.Ends.{IsProcess, HasEndedSo, HasEnded}
-use Rattle.core_law.specs.Opening.{Spools}
+use Rattle.core_law.specs.Ends.{IsProcess, HasEndedSo}
+use Rattle.core_law.specs.TheLaw.{the_law}
 use Rattle.core_net.specs.declared.finish.Outcomes.{Outcomes}
 use Rattle.core_net.specs.declared.net.Net.{Net}
 use Rattle.core_net.specs.Shared.{Tells}
-use Rattle.core_net.specs.Net.{Keeps, StandsReached}
-
--- all five have ended
-abbrev pub AllEnded : CoreState → Type 0
-AllEnded s = (p : ℕ) → IsProcess p → HasEnded s p
+use Rattle.core_net.specs.Net.{Keeps, IsPlaced}
 
 -- The network stands for some reached state in which all five have ended.
 pub record HaveEnded {S K A B F : Type 0} (keeps : Keeps) (tells : Tells S K A B F)
     (net : Net S K A B F) : Type 0 where
-  pub spools : Spools
-  pub deck : Option (List Item)
-  pub paper : Option (List ℕ)
-  pub files : Option Loads
-  pub is : StandsReached keeps tells net spools deck paper files
-  pub all : AllEnded is.state
+  pub at : IsPlaced keeps tells net
+  pub all : AllEnded the_law at.state
 
 -- the outcome of a process, by its number
 abbrev pub outcome_at : Outcomes → ℕ → Outcome

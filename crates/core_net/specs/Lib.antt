@@ -8,11 +8,8 @@ pub mod Steps
 pub mod Causes
 pub mod Net
 pub mod Ended
-pub mod Going
-pub mod Rules
-pub mod Counting
-pub mod Runs
 pub mod Openings
 pub mod Turns
 pub mod Faults
+pub mod Moves
 pub mod WholeRuns

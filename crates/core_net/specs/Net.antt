@@ -1,5 +1,5 @@
 -- The five machines over what they share, and the states of the core that they stand for.
-use Rattle.std.specs.Prelude.{◌≡◌, ◌≤◌, ℕ, Bool, true, List, Option, None, Some}
+use Rattle.std.specs.Prelude.{◌≡◌, ◌≤◌, ℕ, Bool, true, List, [], Option, None, Some, refl}
 use Rattle.solo_base.specs.declared.item.Item.{Item}
 use Rattle.batch_job.specs.Report.{Loads}
 use Rattle.batch_procs.specs.declared.actions.Action.{Action}
@@ -14,21 +14,20 @@ use Rattle.batch_procs.specs.contracts.job_proc.JobWorkWork.TheImpl as job_work
 use Rattle.batch_procs.specs.contracts.output_proc.OutputWorkWork.TheImpl as output_work
 use Rattle.batch_procs.specs.contracts.printer_proc.PrinterWorkWork.TheImpl as printer_work
 use Rattle.batch_procs.specs.Parcels.{Parcel}
-use Rattle.batch_procs.specs.History.{action_of}
 use Rattle.batch_procs.specs.Causes.{caused}
 use Rattle.batch_procs.specs.Machine.{StandsFor}
 use Rattle.batch_procs.specs.Process.{next_action}
 use Rattle.batch_procs.specs.Table.{process, card, input, job, output, printer}
-use Rattle.network_law.specs.Network.{IsEnabled, MayCall, happens}
-use Rattle.core_law.specs.Core.{call, core, CoreState, CoreEvent}
+use Rattle.network_run.specs.Law.{Placed}
+use Rattle.network_run.specs.Runs.{most_events}
+use Rattle.network_law.specs.Network.{MayCall}
+use Rattle.core_law.specs.Core.{call, CoreState}
 use Rattle.core_law.specs.Ends.{IsProcess}
-use Rattle.core_law.specs.Opening.{Spools, IsReached}
-use Rattle.core_law.specs.Work.{events_left, LeavesFewer}
+use Rattle.core_law.specs.Opening.{Spools, AreInBounds, AreGoodFiles, opened}
+use Rattle.core_law.specs.TheLaw.{the_law}
+use Rattle.core_law.specs.Work.{events_left}
 use Rattle.core_net.specs.declared.net.Net.{Net}
-use Rattle.core_net.specs.declared.step.Stepped.{Stepped}
-use Rattle.core_net.specs.Causes.{Counts, HasCauses}
-use Rattle.core_net.specs.Shared.{Tells, SharedStands, cards_left, deck_total}
-use Rattle.core_net.specs.Steps.{reply_of, stepped_by}
+use Rattle.core_net.specs.Shared.{Tells, SharedStands, cards_left}
 
 -- what the work of each machine keeps of what was taken and put
 pub record Keeps : Type 1 where
@@ -68,52 +67,39 @@ pub record MayStepIn (s : CoreState) (p : ℕ) (action : Action) : Type 0 where
   pub next : next_action (process p) (s.histories p) ≡ Some action
   pub may : MayCall s p (call p action)
 
--- The network stands for some reached state in which the process may step.
-pub record MayStepNet {S K A B F : Type 0} (keeps : Keeps) (tells : Tells S K A B F) (net : Net S K A B F)
-    (p : ℕ) : Type 0 where
-  pub spools : Spools
-  pub deck : Option (List Item)
-  pub paper : Option (List ℕ)
-  pub files : Option Loads
-  pub state : CoreState
-  pub reached : IsReached spools deck paper files state
-  pub stands : NetStands keeps tells net state
-  pub action : Action
-  pub step : MayStepIn state p action
+-- The network stands for a state from which no run has more events than can be counted.
+pub record StandsWithin {S K A B F : Type 0} (keeps : Keeps) (tells : Tells S K A B F) (net : Net S K A B F)
+    (s : CoreState) : Type 0 where
+  pub is : NetStands keeps tells net s
+  pub within : events_left (cards_left tells.taken net.shared.deck) s ≤ most_events
 
--- One enabled event of the process, and the network stands for the state behind it.
-pub record StepsNet {S K A B F : Type 0} (keeps : Keeps) (tells : Tells S K A B F) (counts : Counts S K A B F)
-    (old new : Net S K A B F) (s : CoreState) (p : ℕ) (action : Action) (result : Stepped) : Type 0 where
-  pub event : CoreEvent
-  pub process_is : event.process ≡ p
-  pub action_is : action_of event.entry ≡ action
-  pub told : result ≡ stepped_by event.entry
-  pub enabled : IsEnabled (core process) s event
-  pub stands : NetStands keeps tells new (happens (core process) s event)
-  pub causes : HasCauses counts old.shared new.shared p action (reply_of event.entry)
-  pub deck : LeavesFewer event.entry (cards_left tells.taken old.shared.deck)
-      (cards_left tells.taken new.shared.deck)
-  pub total : deck_total tells new.shared.deck ≡ deck_total tells old.shared.deck
-  pub files : tells.file_pages new.shared.files.area ≡ tells.file_pages old.shared.files.area
+-- ---- where it stands
+-- It stands for the state with which the core opens over these.
+pub record StandsAtOpening {S K A B F : Type 0} (keeps : Keeps) (tells : Tells S K A B F)
+    (net : Net S K A B F) (spools : Spools) (deck : Option (List Item)) (paper : Option (List ℕ))
+    (files : Option Loads) : Type 0 where
+  pub bounds : AreInBounds spools
+  pub good : AreGoodFiles files
+  pub stands : StandsWithin keeps tells net (opened spools deck paper files)
 
--- no run from an opening has more events
-abbrev pub most_events : ℕ
-most_events = 200000000000000000000000000000
+-- It stands for some reached state.
+abbrev pub IsPlaced : {S K A B F : Type 0} → Keeps → Tells S K A B F → Net S K A B F → Type 0
+IsPlaced keeps tells net = Placed the_law (StandsWithin keeps tells net)
 
--- The network stands for a state that is reached from this opening.
-pub record StandsReached {S K A B F : Type 0} (keeps : Keeps) (tells : Tells S K A B F) (net : Net S K A B F)
-    (spools : Spools) (deck : Option (List Item)) (paper : Option (List ℕ)) (files : Option Loads)
-    : Type 0 where
-  pub state : CoreState
-  pub reached : IsReached spools deck paper files state
-  pub stands : NetStands keeps tells net state
-  pub within : events_left (cards_left tells.taken net.shared.deck) state ≤ most_events
-
--- It stands for a state that is reached from some opening.
-pub record StandsSomewhere {S K A B F : Type 0} (keeps : Keeps) (tells : Tells S K A B F)
-    (net : Net S K A B F) : Type 0 where
-  pub spools : Spools
-  pub deck : Option (List Item)
-  pub paper : Option (List ℕ)
-  pub files : Option Loads
-  pub is : StandsReached keeps tells net spools deck paper files
+-- the place of a network at an opening
+abbrev pub first_place : {S K A B F : Type 0} {keeps : Keeps} {tells : Tells S K A B F} {net : Net S K A B F}
+    {spools : Spools} {deck : Option (List Item)} {paper : Option (List ℕ)} {files : Option Loads}
+    → StandsAtOpening keeps tells net spools deck paper files → IsPlaced keeps tells net
+first_place {spools = spools} {deck = deck} {paper = paper} {files = files} at = record {
+  opening = record {
+    spools = spools;
+    deck = deck;
+    paper = paper;
+    files = files;
+    bounds = at.bounds;
+    good = at.good;
+  };
+  state = opened spools deck paper files;
+  reached = record { events = []; enabled = tt; leads = refl };
+  stands = at.stands;
+}

@@ -15,7 +15,7 @@ use Rattle.network_law.specs.Network.{Fits, buffers_after, desk_after}
 use Rattle.core_law.specs.Core.{Allows, given, call, went, side_at, CoreState}
 use Rattle.core_law.specs.Work.{LeavesFewer}
 use Rattle.core_net.specs.declared.shared.Shared.{Shared}
-use Rattle.core_net.specs.Calls.{entry_of, ReplyFits}
+use Rattle.core_law.specs.Replies.{entry_of, ReplyFits}
 use Rattle.core_net.specs.Lines.{LineStands}
 use Rattle.core_net.specs.Openings.{files_found}
 use Rattle.core_net.specs.Spools.{SpoolStands}

@@ -1,18 +1,21 @@
 -- What a step of a process is to the law.
-use Rattle.std.specs.Prelude.{◌≡◌, ℕ, List, ◌∷◌, Option, None, Some}
+use Rattle.std.specs.Prelude.{◌≡◌, ℕ, Bool, true, false, List, ◌∷◌, Option, None, Some}
 use Rattle.batch_procs.specs.declared.actions.Action.{Action}
+use Rattle.batch_procs.specs.declared.actions.Action.TheVariants as act
 use Rattle.batch_procs.specs.declared.actions.Reply.{Reply}
 use Rattle.batch_procs.specs.Parcels.{is_last}
 use Rattle.batch_procs.specs.History.{Entry, Does, LacksMemory, Delays, action_of}
 use Rattle.batch_procs.specs.Process.{Process, next_action}
+use Rattle.network_run.specs.declared.stepped.Stepped.{Stepped}
+use Rattle.network_law.specs.Acts.{is_delayed}
+use Rattle.network_law.specs.Stepping.{stepped_so, is_again}
 use Rattle.network_law.specs.Network.{Fits, buffers_after, desk_after}
 use Rattle.core_law.specs.Core.{Allows, given, call, went, CoreState}
 use Rattle.core_law.specs.Work.{LeavesFewer}
 use Rattle.core_net.specs.declared.shared.Shared.{Shared}
-use Rattle.core_net.specs.declared.step.Stepped.{Stepped}
-use Rattle.core_net.specs.declared.step.Stepped.TheVariants.{Acted, Delayed, Lacked}
 use Rattle.core_net.specs.Causes.{Counts, HasCauses}
 use Rattle.core_net.specs.Shared.{Tells, SharedStands, MayPerform, cards_left, deck_total}
+use Rattle.core_net.specs.Turns.{HasPlace}
 
 -- An entry of a process goes as the law allows in each state that is stood for, and what is shared stands for
 -- the state behind it.
@@ -42,11 +45,9 @@ pub record MayStep {S K A B F : Type 0} (process : Process) (Stands : List Entry
   pub next : next_action process history ≡ Some action
   pub may : MayPerform shared p action
 
--- how a step went, by its entry
-abbrev pub stepped_by : Entry → Stepped
-stepped_by (Does action r) = Acted
-stepped_by (LacksMemory action r) = Lacked
-stepped_by (Delays action) = Delayed
+abbrev pub is_end : Action → Bool
+is_end (act.Ended how) = true
+is_end action = false
 
 -- the reply of an entry
 abbrev pub reply_of : Entry → Option Reply
@@ -54,13 +55,14 @@ reply_of (Does action r) = Some r
 reply_of (LacksMemory action r) = Some r
 reply_of (Delays action) = None
 
--- Behind a history after which it does this, the machine stands for one entry more, and the answer says which
--- kind.
+-- Behind a history after which it does this, the machine stands for one entry more, and the answer says how
+-- that went.
 pub record Steps {S K A B F : Type 0} (Stands : List Entry → Type 0) (tells : Tells S K A B F)
     (counts : Counts S K A B F) (old new : Shared S K A B F) (p : ℕ) (action : Action) (history : List Entry)
     (result : Stepped) : Type 0 where
   pub entry : Entry
-  pub told : result ≡ stepped_by entry
+  pub told : (s : CoreState) → SharedStands tells old s → HasPlace s p action
+      → result ≡ stepped_so (is_delayed (went entry)) (is_end action) (is_again s (call p action))
   pub action_is : action_of entry ≡ action
   pub stands : Stands (entry ∷ history)
   pub enters : Enters tells old new p action entry

@@ -14,11 +14,11 @@ ghost use Rattle.core_net.specs.Causes.{counting};
 ghost use Rattle.core_net.specs.Ended.{all_done, EndTogether, FaultsAre, NoneDamaged};
 ghost use Rattle.core_net.specs.Faults.{FaultsAreCounted};
 ghost use Rattle.core_net.specs.Openings.{spools_over, files_found};
-ghost use Rattle.core_net.specs.Runs.{AreFew};
 ghost use Rattle.core_net.specs.WholeRuns.{RunsToEnd};
 
-use crate::{Counts, Net, Ran, Rule};
+use crate::{Net, Ran};
 use disk_files::FileArea;
+use network_run::{Counts, Falling, Rule};
 use solo_devices::{Area, Sink, Source};
 use std::alloc::Global;
 
@@ -88,9 +88,8 @@ pub fn run_core<S: Source, K: Sink, A: Area, B: Area, F: Area>(
         AreFound (files_found (F.pages files.area)) found items →
         AreTold (spools_over (A.size input) (A.pages input) (B.size output) (B.pages output)) →
         result.1.events ≤ longest_run found items }
-    ensures few { AreFew result.1 }
 {
     let mut net = Net::make(alloc, source, input, output, sink, files);
-    let counts = net.run(rule);
+    let counts = net.run_by(rule);
     (net.finish(), counts)
 }

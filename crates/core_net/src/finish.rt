@@ -1,4 +1,4 @@
-ghost use Rattle.std.specs.Prelude.{◌≡◌, ℕ, List, [], Option, Some};
+ghost use Rattle.std.specs.Prelude.{◌≡◌, List, [], Some};
 ghost use Rattle.solo_base.specs.declared.item.Item.{Item};
 ghost use Rattle.batch_job.specs.Report.{Loads};
 ghost use Rattle.solo_base.specs.Text.{text};
@@ -12,10 +12,9 @@ ghost use Rattle.core_law.specs.Core.{CoreState};
 ghost use Rattle.core_law.specs.Ends.{outcome_by};
 ghost use Rattle.batch_job.specs.OneThread.{one_thread_lines};
 ghost use Rattle.core_law.specs.Holds.{AreTold, AreFound};
-ghost use Rattle.core_law.specs.Opening.{Spools};
 ghost use Rattle.core_net.specs.Causes.{counting};
 ghost use Rattle.core_net.specs.Faults.{Peripherals, CausesAreCounted, FaultsAreCounted};
-ghost use Rattle.core_net.specs.Net.{NetStands, StandsReached, the_keeps};
+ghost use Rattle.core_net.specs.Net.{NetStands, IsPlaced, the_keeps};
 ghost use Rattle.core_net.specs.Shared.{telling};
 ghost use Rattle.core_net.specs.Ended.{HaveEnded, EndsSo, EndTogether, FaultsAre, NoneDamaged, all_done};
 
@@ -66,28 +65,22 @@ impl<S: Source, K: Sink, A: Area, B: Area, F: Area> Net<S, K, A, B, F> {
             (counting S.faults S.taken K.faults A.faults B.faults F.faults) before self →
             FaultsAreCounted (counting S.faults S.taken K.faults A.faults B.faults F.faults) before result }
 
-        // For each opening that it is reached from: the paper gained what one thread prints or a part of it,
-        // all of it where all are done, and then nothing is left of the deck.
-        ensures prints { (spools : Spools) (deck : Option (List Item)) (paper : Option (List ℕ))
-            (files : Option Loads) →
-            StandsReached the_keeps
-            (telling S.left S.taken K.given A.pages B.pages F.pages) self spools deck paper files →
-            AreTold spools → (items : List Item) (found : Loads) → deck ≡ Some items → AreItems items →
-            AreFound files found items →
-            Gains paper (K.given result.paper.sink) (text (one_thread_lines found items))
+        // For each place where it stands: the paper gained what one thread prints or a part of it, all of it
+        // where all are done, and then nothing is left of the deck.
+        ensures prints { (at : IsPlaced the_keeps
+            (telling S.left S.taken K.given A.pages B.pages F.pages) self) →
+            AreTold at.opening.spools → (items : List Item) (found : Loads) →
+            at.opening.deck ≡ Some items → AreItems items → AreFound at.opening.files found items →
+            Gains at.opening.paper (K.given result.paper.sink) (text (one_thread_lines found items))
             (result.outcomes ≡ all_done) }
-        ensures reads { (spools : Spools) (deck : Option (List Item)) (paper : Option (List ℕ))
-            (files : Option Loads) →
-            StandsReached the_keeps
-            (telling S.left S.taken K.given A.pages B.pages F.pages) self spools deck paper files →
-            (items : List Item) → deck ≡ Some items → result.outcomes ≡ all_done →
+        ensures reads { (at : IsPlaced the_keeps
+            (telling S.left S.taken K.given A.pages B.pages F.pages) self) →
+            (items : List Item) → at.opening.deck ≡ Some items → result.outcomes ≡ all_done →
             items_ahead (S.left result.deck.source) result.deck.pending ≡ Some [] }
         // and no page was damaged
-        ensures undamaged { (spools : Spools) (deck : Option (List Item)) (paper : Option (List ℕ))
-            (files : Option Loads) →
-            StandsReached the_keeps (telling S.left S.taken K.given A.pages B.pages F.pages) self
-            spools deck paper files →
-            AreTold spools → (items : List Item) → deck ≡ Some items → AreItems items →
+        ensures undamaged { (at : IsPlaced the_keeps
+            (telling S.left S.taken K.given A.pages B.pages F.pages) self) →
+            AreTold at.opening.spools → (items : List Item) → at.opening.deck ≡ Some items → AreItems items →
             NoneDamaged result.outcomes }
         ensures units { (result.deck ≡ self.shared.deck) × (result.paper ≡ self.shared.paper) }
         ensures files { result.files ≡ self.shared.files }

@@ -3,28 +3,22 @@
 #![tactic(auto)]
 
 mod core_run;
-mod counts;
 mod desk_calls;
 mod device_calls;
 mod finish;
-mod going;
 mod line_calls;
 mod net;
-mod rules;
-mod running;
 mod shared;
 mod spool_calls;
 mod step;
 mod turns;
 
 pub use core_run::run_core;
-pub use counts::Counts;
 pub use desk_calls::{release, request};
 pub use device_calls::{load_file, print, read_card};
 pub use finish::{Outcomes, Ran};
 pub use line_calls::{put_feed, stop_line, take_feed};
 pub use net::Net;
-pub use rules::Rule;
 pub use shared::Shared;
 pub use spool_calls::{await_item, await_room, put_page, stop_spool, take_page};
-pub use step::{Stepped, step_machine};
+pub use step::step_machine;

@@ -1,27 +1,18 @@
-ghost use Rattle.std.specs.Prelude.{◌≡◌, List, Some};
+ghost use Rattle.std.specs.Prelude.{◌≡◌, List, Some, false};
 ghost use Rattle.batch_procs.specs.declared.actions.Action.{Action as ActionOf};
 ghost use Rattle.batch_procs.specs.History.{Entry};
 ghost use Rattle.batch_procs.specs.Process.{next_action};
 ghost use Rattle.batch_procs.specs.Machine.{StandsFor};
+ghost use Rattle.network_law.specs.Stepping.{stepped_so};
 ghost use Rattle.core_net.specs.Causes.{counting};
 ghost use Rattle.core_net.specs.Shared.{telling};
-ghost use Rattle.core_net.specs.Steps.{MayStep, Steps};
+ghost use Rattle.core_net.specs.Steps.{is_end, MayStep, Steps};
 
 use crate::Shared;
-use batch_procs::{Machine, Work};
+use batch_procs::{Action, Machine, Work};
+use network_run::Stepped;
 use solo_base::ProcNo;
 use solo_devices::{Area, Sink, Source};
-
-/// How a step went.
-#[derive(Clone, Copy, Debug, PartialEq, Eq)]
-pub enum Stepped {
-    /// The process has its reply.
-    Acted,
-    /// It waits, and makes the same call again.
-    Delayed,
-    /// It has its reply, and memory was refused.
-    Lacked,
-}
 
 /// Takes the next action of a process.
 pub fn step_machine<W: Work, S: Source, K: Sink, A: Area, B: Area, F: Area>(
@@ -38,11 +29,31 @@ pub fn step_machine<W: Work, S: Source, K: Sink, A: Area, B: Area, F: Area>(
         shared.old shared.new p action h result }
 {
     let action = machine.next();
+    let ends = is_end(&action);
+    let again = shared.is_again(p, &action);
     match shared.perform(p, action) {
         None => Stepped::Delayed,
         Some(reply) => match machine.give(reply) {
-            Ok(()) => Stepped::Acted,
-            Err(_) => Stepped::Lacked,
+            Ok(()) => stepped(ends, again),
+            Err(_) => stepped(ends, again),
         },
+    }
+}
+
+// Whether an action is the last of its process.
+fn is_end(action: &Action) -> bool
+    ensures { result ≡ is_end action.now }
+{
+    matches!(action, Action::Ended(_))
+}
+
+// How a step went that did not end in a delay.
+fn stepped(ends: bool, again: bool) -> Stepped
+    ensures { result ≡ stepped_so false ends again }
+{
+    match (ends, again) {
+        (true, _) => Stepped::Ended,
+        (false, true) => Stepped::Resumed,
+        (false, false) => Stepped::Acted,
     }
 }

@@ -6,9 +6,10 @@ ghost use Rattle.batch_procs.specs.Machine.{StandsFor};
 ghost use Rattle.batch_procs.specs.Process.{next_action};
 ghost use Rattle.queue_var.specs.Sides.{MayEnter, MayStop};
 ghost use Rattle.network_law.specs.Network.{MayCall};
+ghost use Rattle.network_law.specs.Stepping.{is_named, is_again};
 ghost use Rattle.core_law.specs.Core.{call, upstream, CoreState, IsBuffer};
 ghost use Rattle.core_net.specs.Shared.{SharedStands, telling};
-ghost use Rattle.core_net.specs.Turns.{HasPlace};
+ghost use Rattle.core_net.specs.Turns.{HasPlace, IsAtTurn};
 
 use crate::Shared;
 use crate::shared::side_at;
@@ -73,6 +74,46 @@ impl<S: Source, K: Sink, A: Area, B: Area, F: Area> Shared<S, K, A, B, F> {
             | Action::Ended(_) => true,
         }
     }
+
+    /// Whether the turn of a buffer is handed.
+    fn is_named(&self, b: BufferNo) -> bool
+        ensures { (s : CoreState) →
+            SharedStands (telling S.left S.taken K.given A.pages B.pages F.pages) self.now s →
+            IsBuffer b → result ≡ is_named (s.buffers b).sides.turn }
+    {
+        if b == 1 {
+            self.cards.handed().is_some()
+        } else if b == 2 {
+            self.input.handed().is_some()
+        } else if b == 3 {
+            self.output.handed().is_some()
+        } else {
+            self.lines.handed().is_some()
+        }
+    }
+
+    /// Whether a call that waits is made at a handed turn, and so is made again.
+    #[inline(always)]
+    pub fn is_again(&self, p: ProcNo, action: &Action) -> bool
+        ensures { (s : CoreState) →
+            SharedStands (telling S.left S.taken K.given A.pages B.pages F.pages) self.now s →
+            HasPlace s p action.now → result ≡ is_again s (call p action.now) }
+    {
+        match action {
+            Action::PutFeed(_) | Action::AwaitRoom => self.is_named(p),
+            Action::TakeFeed | Action::AwaitItem => self.is_named(upstream(p)),
+            Action::Request => self.desk.handed().is_some(),
+            Action::PutPage(_)
+            | Action::TakePage
+            | Action::Release
+            | Action::Stop(_)
+            | Action::ReadCard
+            | Action::Load(_)
+            | Action::Local
+            | Action::Print(_)
+            | Action::Ended(_) => false,
+        }
+    }
 }
 
 /// The buffer that a process takes from.
@@ -82,19 +123,22 @@ fn upstream(p: ProcNo) -> BufferNo
     p.saturating_sub(1)
 }
 
-/// Whether a process may make the call that its machine makes next.
+/// Whether a process has a next action, and is at its turn.
 #[inline(always)]
 pub fn may_step<W: Work, S: Source, K: Sink, A: Area, B: Area, F: Area>(
     machine: &Machine<W>,
     p: ProcNo,
     shared: &Shared<S, K, A, B, F>,
 ) -> bool
-    ensures { (h : List Entry) (action : ActionOf) (s : CoreState) →
+    ensures { (h : List Entry) (s : CoreState) →
         StandsFor W.process W.keeps machine.now h →
-        next_action W.process h ≡ Some action →
         SharedStands (telling S.left S.taken K.given A.pages B.pages F.pages) shared.now s →
-        HasPlace s p action → IsTrue result ↔ MayCall s p (call p action) }
+        ((action : ActionOf) → next_action W.process h ≡ Some action → HasPlace s p action) →
+        IsTrue result ↔ IsAtTurn W.process h s p }
 {
+    if machine.has_ended() {
+        return false;
+    }
     let action = machine.next();
     shared.may_call(p, &action)
 }

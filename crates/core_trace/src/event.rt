@@ -1,10 +1,12 @@
-ghost use Rattle.core_law.specs.Ends.{IsProcess};
-ghost use Rattle.core_net.specs.Net.{StandsSomewhere, the_keeps};
+ghost use Rattle.network_run.specs.Law.{MayStep};
+ghost use Rattle.core_law.specs.TheLaw.{the_law};
+ghost use Rattle.core_net.specs.Net.{IsPlaced, StandsWithin, the_keeps};
 ghost use Rattle.core_net.specs.Shared.{telling};
 
 use crate::board::Board;
 use batch_procs::Action;
-use core_net::{Net, Stepped};
+use core_net::Net;
+use network_run::{Network, Stepped};
 use solo_base::{Feed, Outcome, ProcNo};
 use solo_devices::{Area, Sink, Source};
 
@@ -31,21 +33,20 @@ pub struct Event {
     pub told: Told,
 }
 
-/// Lets the next action of a process happen. None: the process may not go on.
+/// Lets the next action of a process happen that may go on.
 pub fn happen<S: Source, K: Sink, A: Area, B: Area, F: Area>(
     net: &mut Net<S, K, A, B, F>,
     process: ProcNo,
     board: &mut Board,
-) -> Option<Event>
-    requires one { IsProcess process }
-    requires before { StandsSomewhere the_keeps
-        (telling S.left S.taken K.given A.pages B.pages F.pages) net.old }
-    ensures { StandsSomewhere the_keeps
+) -> Event
+    requires { MayStep the_law
+        (StandsWithin the_keeps (telling S.left S.taken K.given A.pages B.pages F.pages) net.old) process }
+    ensures { IsPlaced the_keeps
         (telling S.left S.taken K.given A.pages B.pages F.pages) net.new }
 {
     let action = next_of(net, process);
     let closed_before = cause_of(net, process).is_some();
-    let stepped = net.turn(process)?;
+    let stepped = net.step(process);
     let cause = match cause_of(net, process) {
         Some(cause) if !closed_before => Some(cause),
         _ => None,
@@ -55,11 +56,11 @@ pub fn happen<S: Source, K: Sink, A: Area, B: Area, F: Area>(
         (_, Some(cause)) => Told::Closes(cause),
         (_, None) => came_of(net, process, &action, board),
     };
-    Some(Event {
+    Event {
         process,
         action,
         told,
-    })
+    }
 }
 
 /// What came of an action that neither waits nor gives a cause. A card that was read is put next, and what

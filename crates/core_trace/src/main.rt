@@ -12,10 +12,11 @@ mod trace;
 mod words;
 
 use anyhow::{Context, Result};
-use core_net::{Counts, Net};
+use core_net::Net;
 use disk_files::FileArea;
 use disk_pages::AREA_PAGES;
 use disk_system::format;
+use network_run::Counts;
 use solo_devices::{SureArea, SureSink};
 use solo_edge::ReaderSource;
 use std::alloc::Global;

@@ -1,4 +1,4 @@
-ghost use Rattle.core_net.specs.Net.{StandsSomewhere, the_keeps};
+ghost use Rattle.core_net.specs.Net.{IsPlaced, the_keeps};
 ghost use Rattle.core_net.specs.Shared.{telling};
 
 use crate::board::Board;
@@ -7,7 +7,8 @@ use crate::row::row_of;
 use crate::words::Asked;
 use anyhow::Result;
 use batch_procs::Action;
-use core_net::{Counts, Net, Rule};
+use core_net::Net;
+use network_run::{Counts, Rule, next_by};
 use solo_devices::{Area, Sink, Source};
 
 /// A run so far.
@@ -25,7 +26,7 @@ pub fn trace<S: Source, K: Sink, A: Area, B: Area, F: Area>(
     net: &mut Net<S, K, A, B, F>,
     asked: Asked,
 ) -> Result<Counts>
-    requires { StandsSomewhere the_keeps (telling S.left S.taken K.given A.pages B.pages F.pages) net.old }
+    requires { IsPlaced the_keeps (telling S.left S.taken K.given A.pages B.pages F.pages) net.old }
 {
     let mut run = Run {
         rule: asked.rule,
@@ -53,15 +54,13 @@ fn go_on<S: Source, K: Sink, A: Area, B: Area, F: Area>(
     run: &mut Run,
     number: u64,
 ) -> Result<bool>
-    requires { StandsSomewhere the_keeps (telling S.left S.taken K.given A.pages B.pages F.pages) net.old }
-    ensures { StandsSomewhere the_keeps (telling S.left S.taken K.given A.pages B.pages F.pages) net.new }
+    requires { IsPlaced the_keeps (telling S.left S.taken K.given A.pages B.pages F.pages) net.old }
+    ensures { IsPlaced the_keeps (telling S.left S.taken K.given A.pages B.pages F.pages) net.new }
 {
-    let Some(process) = net.next_by(&mut run.rule) else {
+    let Some(process) = next_by(net, &mut run.rule) else {
         return Ok(false);
     };
-    let Some(event) = happen(net, process, &mut run.board) else {
-        return Ok(false);
-    };
+    let event = happen(net, process, &mut run.board);
     run.counts = counted(run.counts, &event);
     run.board.note(&event)?;
     if asked.from <= number && number <= asked.to {
@@ -77,7 +76,7 @@ fn counted(counts: Counts, event: &Event) -> Counts {
     let asks = matches!(event.action, Action::Request);
     Counts {
         events: counts.events.saturating_add(1),
-        delays: counts.delays.saturating_add(u128::from(waits)),
-        grants: counts.grants.saturating_add(u128::from(asks && !waits)),
+        delays: counts.delays.saturating_add(u64::from(waits)),
+        grants: counts.grants.saturating_add(u64::from(asks && !waits)),
     }
 }

@@ -1,5 +1,5 @@
-use core_net::Rule;
 use deck_format::number_within;
+use network_run::Rule;
 
 /// What the words of the command line ask for: the rule of the run, and the numbers of the first and the last
 /// event that are shown.

@@ -9,3 +9,5 @@ pub mod KeepsDesk
 pub mod Reached
 pub mod Rests
 pub mod Stopping
+pub mod Goers
+pub mod Telling

@@ -6,9 +6,11 @@ use Rattle.solo_base.specs.declared.outcome.Side.TheVariants.{Sender, Receiver}
 use Rattle.queue_var.specs.Sides.{queue, nobody}
 use Rattle.network_law.specs.Acts.{Visit, Awaits, Passes, Moves, Stops, Call, Alone, At, Asks, Gives, Went, Delayed, Told, Done, Moved}
 use Rattle.network_law.specs.Buffer.{Buffer, fresh, moved_through, after_visit}
-use Rattle.network_law.specs.Network.{Network, State, Event, IsOne, IsEnabled, AreEnabled, IsReached, Follows, call_of, buffers_after, happens, run, inside_at, opening}
+use Rattle.network_run.specs.Law.{AreEnabled, IsReached, run}
+use Rattle.network_law.specs.Network.{Network, State, Event, IsOne, IsEnabled, Follows, call_of, buffers_after, happens, inside_at, opening}
 use Rattle.network_law.specs.Processes.{IsLawful}
 use Rattle.network_law.specs.Kept.{StandsFor, IsTold, Stands}
+use Rattle.network_law.specs.Stepping.{Openings, law_of}
 use Rattle.network_law.proofs.Numbers.{set-same, set-other, set-related}
 use Rattle.network_law.proofs.Lasts.{same-capacity}
 use Rattle.network_law.proofs.KeepsReady.{keeps-buffers}
@@ -86,10 +88,10 @@ module _ {Devices Action Entry Parcel : Type 0} {network : Network Devices Actio
   }
 
 pub stands-run : {Devices Action Entry Parcel : Type 0} {network : Network Devices Action Entry Parcel} (laws : IsLawful network)
-    (start s : State Devices Entry Parcel) (events : List (Event Entry)) → AreEnabled network s events → Stands network start s
-    → Stands network start (run network s events)
-stands-run laws start s [] are st = st
-stands-run {network = network} laws start s (event ∷ events) are st = stands-run laws start (happens network s event) events are.1
+    (openings : Openings Devices Entry) (start s : State Devices Entry Parcel) (events : List (Event Entry)) → AreEnabled (law_of network openings) s events
+    → Stands network start s → Stands network start (run (law_of network openings) s events)
+stands-run laws openings start s [] are st = st
+stands-run {network = network} laws openings start s (event ∷ events) are st = stands-run laws openings start (happens network s event) events are.1
     (stands-event laws start s event st are.0)
 
 -- ---- the opening
@@ -133,8 +135,9 @@ opening-stands network devices sizes told = record {
 
 -- Every reached state has all that every event keeps.
 pub reached-stands : {Devices Action Entry Parcel : Type 0} {network : Network Devices Action Entry Parcel} → IsLawful network
-    → (devices : Devices) (sizes : ℕ → ℕ) (told : ℕ → Bool) (s : State Devices Entry Parcel) → IsReached network (opening devices sizes told) s
-    → Stands network (opening devices sizes told) s
-reached-stands {network = network} laws devices sizes told s reached =
-    subst (Stands network (opening devices sizes told)) reached.leads (stands-run laws (opening devices sizes told)
-    (opening devices sizes told) reached.events reached.enabled (opening-stands network devices sizes told))
+    → (openings : Openings Devices Entry) (o : openings.Opening) (s : State Devices Entry Parcel)
+    → IsReached (law_of network openings) ((law_of network openings).opened o) s → Stands network ((law_of network openings).opened o) s
+reached-stands {network = network} laws openings o s reached =
+    let start = (law_of network openings).opened o in
+    subst (Stands network start) reached.leads (stands-run laws openings start start reached.events reached.enabled
+    (opening-stands network (openings.devices o) (openings.sizes o) (openings.told o)))

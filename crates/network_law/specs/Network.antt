@@ -112,24 +112,6 @@ pub record IsEnabled {Devices Action Entry Parcel : Type 0} (network : Network D
   pub fits : Fits network.mark s (call_of network event.process event.entry) (network.went event.entry)
   pub allowed : network.Allows s.devices event.entry event.gained
 
-abbrev pub run : {Devices Action Entry Parcel : Type 0} → Network Devices Action Entry Parcel
-    → State Devices Entry Parcel → List (Event Entry) → State Devices Entry Parcel
-run network s [] = s
-run network s (event ∷ events) = run network (happens network s event) events
-
-abbrev pub AreEnabled : {Devices Action Entry Parcel : Type 0} → Network Devices Action Entry Parcel
-    → State Devices Entry Parcel → List (Event Entry) → Type 0
-AreEnabled network s [] = Unit {0}
-AreEnabled network s (event ∷ events) = IsEnabled network s event
-    × AreEnabled network (happens network s event) events
-
--- some list of enabled events leads to it
-pub record IsReached {Devices Action Entry Parcel : Type 0} (network : Network Devices Action Entry Parcel)
-    (opening s : State Devices Entry Parcel) : Type 0 where
-  pub events : List (Event Entry)
-  pub enabled : AreEnabled network opening events
-  pub leads : run network opening events ≡ s
-
 -- ---- the acts of a process
 abbrev pub acts : {Devices Action Entry Parcel : Type 0} → Network Devices Action Entry Parcel → ℕ
     → List Entry → List (Act Parcel)

@@ -3,7 +3,8 @@
 use crate::failing::{Failing, Kind, NONE_FAILS};
 use crate::made_files::no_files;
 use crate::runs::{By, Setting, area, run, run_over, source};
-use core_net::{Outcomes, Rule};
+use core_net::Outcomes;
+use network_run::Rule;
 use solo_base::{Cause, Outcome};
 use solo_devices::{BlankArea, MemSink};
 use std::alloc::Global;

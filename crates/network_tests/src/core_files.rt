@@ -3,7 +3,7 @@
 use crate::file_runs::{COPIES, NO_FILE, failing_reads_met, prints, run_jobs};
 use crate::made_files::{hurt_files, no_files, with_copy};
 use crate::runs::{By, DONE};
-use core_net::{Counts, Rule};
+use network_run::{Counts, Rule};
 use std::process::Abort;
 use std::sync::Wait;
 use std::test::Fail;

@@ -3,7 +3,7 @@
 use crate::failing::NONE_FAILS;
 use crate::made_files::no_files;
 use crate::runs::{By, DONE, Setting, run};
-use core_net::{Counts, Rule};
+use network_run::{Counts, Rule};
 use std::process::Abort;
 use std::sync::Wait;
 use std::test::Fail;
@@ -35,7 +35,7 @@ const LISTING: &str = "#LIST A\nHELLO\n#END\n";
 
 const LISTED: Option<&str> = Some("JOB A\nHELLO\nA: LISTED 1 CARDS\n");
 
-fn counted(events: u128, delays: u128, grants: u128) -> Option<Counts> {
+fn counted(events: u64, delays: u64, grants: u64) -> Option<Counts> {
     Some(Counts {
         events,
         delays,
@@ -91,7 +91,7 @@ fn no_run_is_longer_than_its_bound(rt: HostRuntime) -> Result<(), Fail> {
 
 // Decks, each with the number of a schedule, the pages of the two spools, and the events, delays and grants
 // that the plain simulation counts.
-const SHORT: [(&str, u32, (u16, u16), [u128; 3]); 10] = [
+const SHORT: [(&str, u32, (u16, u16), [u64; 3]); 10] = [
     (
         "\nXXXXXXXXXXXXXXXXXXXXXXXXXXXXXXXXXXXXXXXXXXXXXXXXXXXXXXXXXXXXXXXXXXXXXXXXXXXXXXXX\n#bad\n",
         196844699,
@@ -145,7 +145,7 @@ const SHORT: [(&str, u32, (u16, u16), [u128; 3]); 10] = [
     ("  PLAIN  \n", 1369597099, (1, 2), [39, 6, 4]),
 ];
 
-const LONG: [(&str, u32, (u16, u16), [u128; 3]); 10] = [
+const LONG: [(&str, u32, (u16, u16), [u64; 3]); 10] = [
     (
         "XXXXXXXXXXXXXXXXXXXXXXXXXXXXXXX\nXXXXXXXXXXXXXXXXXXXXXXXXXXXXXXX\n#END\n",
         589833353,

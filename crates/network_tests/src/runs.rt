@@ -3,8 +3,9 @@ ghost use Rattle.std.specs.Prelude.{◌≡◌, ◌<◌, ◌≤◌, true, IfOk};
 
 use crate::failing::Failing;
 use batch_run::{Units, run_batch};
-use core_net::{Counts, Outcomes, Ran, Rule, run_core};
+use core_net::{Outcomes, Ran, run_core};
 use disk_files::FileArea;
+use network_run::{Counts, Rule};
 use schedule_law::run_schedule;
 use solo_base::{Outcome, Side};
 use solo_devices::{

@@ -3,7 +3,7 @@
 use crate::failing::NONE_FAILS;
 use crate::made_files::no_files;
 use crate::runs::{By, DONE, Setting, run};
-use core_net::Counts;
+use network_run::Counts;
 use std::test::Fail;
 
 #[test]

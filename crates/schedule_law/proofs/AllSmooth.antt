@@ -10,10 +10,12 @@ use Rattle.batch_procs.specs.History.{Entry, Does, LacksMemory, Delays}
 use Rattle.batch_procs.specs.Causes.{caused, or_new, given_cause, fault_at}
 use Rattle.batch_procs.specs.Table.{process}
 use Rattle.batch_procs.proofs.Ended.{done-free}
-use Rattle.network_law.specs.Network.{AreEnabled, happens, run}
+use Rattle.network_run.specs.Law.{AreEnabled, run}
+use Rattle.network_law.specs.Network.{happens}
 use Rattle.network_law.proofs.Numbers.{set-same, set-related}
 use Rattle.core_law.specs.Core.{core, CoreState, CoreEvent}
 use Rattle.core_law.specs.Ends.{IsProcess, IsSmooth, AllDone}
+use Rattle.core_law.specs.TheLaw.{the_law}
 use Rattle.core_law.proofs.Acting.{follows-of}
 use Rattle.core_law.proofs.Reached.{Centre}
 
@@ -54,12 +56,12 @@ event-free s event p =
     let h = s.histories event.process in
     set-related (λ old new. caused new ≡ None → caused old ≡ None) (λ h e. e) s.histories event.process (event.entry ∷ h) p (before-free event.entry h)
 
-run-free : (s : CoreState) (events : List CoreEvent) (p : ℕ) → caused ((run (core process) s events).histories p) ≡ None → caused (s.histories p) ≡ None
+run-free : (s : CoreState) (events : List CoreEvent) (p : ℕ) → caused ((run the_law s events).histories p) ≡ None → caused (s.histories p) ≡ None
 run-free s [] p e = e
 run-free s (event ∷ events) p e = event-free s event p (run-free (happens (core process) s event) events p e)
 
-all-smooth : (s : CoreState) (events : List CoreEvent) → AreEnabled (core process) s events
-    → ((p : ℕ) → IsProcess p → caused ((run (core process) s events).histories p) ≡ None) → AllByRecursion (λ event. IsSmooth event.entry) events
+all-smooth : (s : CoreState) (events : List CoreEvent) → AreEnabled the_law s events
+    → ((p : ℕ) → IsProcess p → caused ((run the_law s events).histories p) ≡ None) → AllByRecursion (λ event. IsSmooth event.entry) events
 all-smooth s [] are free = tt
 all-smooth s (event ∷ events) are free =
     let p = event.process in
@@ -68,8 +70,8 @@ all-smooth s (event ∷ events) are free =
     let here : caused (event.entry ∷ h) ≡ None = subst (λ h. caused h ≡ None) (set-same s.histories p (event.entry ∷ h)) now in
     (entry-smooth event.entry h here, all-smooth (happens (core process) s event) events are.1 free)
 
-pub done-smooth : (opening s : CoreState) (events : List CoreEvent) → AreEnabled (core process) s events → Centre opening (run (core process) s events)
-    → AllDone (run (core process) s events) → AllByRecursion (λ event. IsSmooth event.entry) events
+pub done-smooth : (opening s : CoreState) (events : List CoreEvent) → AreEnabled the_law s events → Centre opening (run the_law s events)
+    → AllDone (run the_law s events) → AllByRecursion (λ event. IsSmooth event.entry) events
 done-smooth opening s events are c done =
-    all-smooth s events are (λ p one. (let h = (run (core process) s events).histories p in
+    all-smooth s events are (λ p one. (let h = (run the_law s events).histories p in
     done-free (process p) h (follows-of process p h (c.stands.follows p)) (done p one)))

@@ -1,3 +1,1 @@
-pub mod Undisturbed
 pub mod NoneCounted
-pub mod FilesKnown

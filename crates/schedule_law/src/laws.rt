@@ -1,32 +1,29 @@
 // Each law is in a contract.
 
-ghost use Rattle.std.specs.Prelude.{◌≡◌, ℕ, List, Option, Some};
-ghost use Rattle.solo_base.specs.declared.item.Item.{Item};
-ghost use Rattle.batch_job.specs.Report.{Loads};
+ghost use Rattle.std.specs.Prelude.{◌≡◌, ℕ, List, Option};
 ghost use Rattle.solo_base.specs.declared.outcome.Side.{Side};
 ghost use Rattle.page_codec.specs.Items.{AreItems};
 ghost use Rattle.batch_procs.specs.Table.{process};
+ghost use Rattle.network_run.specs.declared.counts.Counts.{Counts};
+ghost use Rattle.network_run.specs.declared.rules.Rule.{Rule};
+ghost use Rattle.network_run.specs.declared.rules.Rule.TheVariants as rule;
+ghost use Rattle.network_run.specs.OneRun.{IsUndisturbed, TheRun, AreItsCounts};
+ghost use Rattle.network_run.specs.Runs.{RunsBy};
 ghost use Rattle.network_law.specs.Network.{IsEnabled};
 ghost use Rattle.core_law.specs.Core.{core, CoreState, CoreEvent, Devices};
 ghost use Rattle.core_law.specs.Ends.{IsSmooth};
-ghost use Rattle.core_law.specs.Holds.{AreTold};
-ghost use Rattle.core_law.specs.Opening.{Spools, AreInBounds, opened, IsReached};
-ghost use Rattle.core_net.specs.declared.counts.Counts.{Counts};
+ghost use Rattle.core_law.specs.Opening.{Opening, first_state};
+ghost use Rattle.core_law.specs.TheLaw.{TellsAll, the_law, IsReached};
 ghost use Rattle.core_net.specs.declared.finish.Outcomes.{Outcomes};
 ghost use Rattle.core_net.specs.declared.finish.Ran.{Ran};
 ghost use Rattle.core_net.specs.declared.net.Net.{Net};
-ghost use Rattle.core_net.specs.declared.rules.Rule.{Rule};
-ghost use Rattle.core_net.specs.declared.rules.Rule.TheVariants as rule;
 ghost use Rattle.core_net.specs.Causes.{counting};
 ghost use Rattle.core_net.specs.Ended.{EndsSo, all_done};
 ghost use Rattle.core_net.specs.Faults.{Peripherals, AreCounted, FaultsAreCounted, devices_left};
-ghost use Rattle.core_net.specs.Net.{NetStands, the_keeps};
-ghost use Rattle.core_net.specs.Runs.{RunsBy};
+ghost use Rattle.core_net.specs.Net.{NetStands, StandsWithin, the_keeps};
 ghost use Rattle.core_net.specs.Shared.{telling};
 ghost use Rattle.core_net.specs.WholeRuns.{RunsToEnd};
-ghost use Rattle.schedule_law.specs.FilesKnown.{AreFilesKnown};
 ghost use Rattle.schedule_law.specs.NoneCounted.{NoneCounted, NoneLacked};
-ghost use Rattle.schedule_law.specs.Undisturbed.{IsUndisturbed, TheRun, AreItsCounts};
 
 use solo_devices::{Area, Sink, Source};
 
@@ -34,10 +31,8 @@ use solo_devices::{Area, Sink, Source};
 /// and no memory is refused. The files may be untold where the deck names none. Nothing is done here: the
 /// contract is the law.
 pub fn one_event()
-    ensures { (spools : Spools) (deck : Option (List Item)) (paper : Option (List ℕ)) (files : Option Loads)
-        (s : CoreState) (items : List Item) (event other : CoreEvent)
-        → IsReached spools deck paper files s → AreTold spools
-        → deck ≡ Some items → AreFilesKnown files items
+    ensures { (opening : Opening) (s : CoreState) (event other : CoreEvent)
+        → IsReached opening s → TellsAll opening
         → IsEnabled (core process) s event → IsEnabled (core process) s other
         → IsSmooth event.entry → IsSmooth other.entry → other.process ≡ event.process → other ≡ event }
 {}
@@ -45,17 +40,13 @@ pub fn one_event()
 /// Over told devices there is, under each rule, one run to the end in which no device fails and no memory is
 /// refused: some run, and no other. So its counts are one. Nothing is done here: the contract is the law.
 pub fn one_run()
-    ensures some { (spools : Spools) (deck : Option (List Item)) (paper : Option (List ℕ))
-        (files : Option Loads) (s : CoreState) (items : List Item) (rule : Rule)
-        → IsReached spools deck paper files s → AreTold spools
-        → deck ≡ Some items → AreItems items → AreFilesKnown files items → TheRun rule s }
-    ensures only { (spools : Spools) (deck : Option (List Item)) (paper : Option (List ℕ))
-        (files : Option Loads) (s : CoreState) (items : List Item) (rule : Rule)
-        (events others : List CoreEvent) → IsReached spools deck paper files s
-        → AreTold spools → deck ≡ Some items → AreFilesKnown files items → IsUndisturbed rule s events
-        → IsUndisturbed rule s others → others ≡ events }
-    ensures counts { (s : CoreState) (rule : Rule) (some others : Counts) → AreItsCounts rule s some
-        → AreItsCounts rule s others → others ≡ some }
+    ensures some { (opening : Opening) (s : CoreState) (rule : Rule)
+        → IsReached opening s → TellsAll opening → TheRun the_law rule s }
+    ensures only { (opening : Opening) (s : CoreState) (rule : Rule) (events others : List CoreEvent)
+        → IsReached opening s → TellsAll opening → IsUndisturbed the_law rule s events
+        → IsUndisturbed the_law rule s others → others ≡ events }
+    ensures counts { (s : CoreState) (rule : Rule) (some others : Counts) → AreItsCounts the_law rule s some
+        → AreItsCounts the_law rule s others → others ≡ some }
 {}
 
 /// What `run_core` answers over told devices are the counts of the one run of its rule from the opening. That
@@ -63,22 +54,18 @@ pub fn one_run()
 /// Nothing is done here: the contract is the law.
 pub fn counts_of_a_whole_run<S: Source, K: Sink, A: Area, B: Area, F: Area>()
     // where all five are done
-    ensures done { (spools : Spools) (deck : Option (List Item)) (paper : Option (List ℕ))
-        (files : Option Loads) (items : List Item) (rule : Rule) (counts : Counts) (outcomes : Outcomes)
-        (stops : List (Option Side)) (devices : Devices)
-        → AreInBounds spools → AreTold spools → deck ≡ Some items → AreFilesKnown files items
-        → RunsToEnd rule (opened spools deck paper files) counts outcomes stops devices → outcomes ≡ all_done
-        → AreItsCounts rule (opened spools deck paper files) counts }
+    ensures done { (opening : Opening) (rule : Rule) (counts : Counts) (outcomes : Outcomes)
+        (stops : List (Option Side)) (devices : Devices) → TellsAll opening
+        → RunsToEnd rule (first_state opening) counts outcomes stops devices → outcomes ≡ all_done
+        → AreItsCounts the_law rule (first_state opening) counts }
     // where no count rose and memory was refused to none
-    ensures uncounted { (spools : Spools) (deck : Option (List Item)) (paper : Option (List ℕ))
-        (files : Option Loads) (items : List Item) (rule : Rule) (counts : Counts) (outcomes : Outcomes)
+    ensures uncounted { (opening : Opening) (rule : Rule) (counts : Counts) (outcomes : Outcomes)
         (stops : List (Option Side)) (devices : Devices) (before now : Peripherals S K A B F)
-        → AreInBounds spools → AreTold spools → deck ≡ Some items → AreItems items
-        → AreFilesKnown files items
-        → RunsToEnd rule (opened spools deck paper files) counts outcomes stops devices
+        (told : TellsAll opening) → AreItems told.items
+        → RunsToEnd rule (first_state opening) counts outcomes stops devices
         → AreCounted (counting S.faults S.taken K.faults A.faults B.faults F.faults) before now outcomes
         → NoneCounted (counting S.faults S.taken K.faults A.faults B.faults F.faults) before now
-        → NoneLacked outcomes → AreItsCounts rule (opened spools deck paper files) counts }
+        → NoneLacked outcomes → AreItsCounts the_law rule (first_state opening) counts }
 {}
 
 /// What `run_numbered` answers over told devices are the counts of the one run of the schedule of its number.
@@ -86,30 +73,27 @@ pub fn counts_of_a_whole_run<S: Source, K: Sink, A: Area, B: Area, F: Area>()
 /// done here: the contract is the law.
 pub fn counts_of_a_schedule<S: Source, K: Sink, A: Area, B: Area, F: Area>()
     // where all five are done
-    ensures done { (spools : Spools) (deck : Option (List Item)) (paper : Option (List ℕ))
-        (files : Option Loads) (s : CoreState) (items : List Item) (number : ℕ) (counts : Counts)
-        (net : Net S K A B F) (ran : Ran S K A B F)
-        → IsReached spools deck paper files s → AreTold spools → deck ≡ Some items
-        → AreFilesKnown files items
-        → RunsBy the_keeps (telling S.left S.taken K.given A.pages B.pages F.pages)
-        (rule.Numbered number) net s counts
+    ensures done { (opening : Opening) (s : CoreState) (number : ℕ) (counts : Counts)
+        (net : Net S K A B F) (ran : Ran S K A B F) → IsReached opening s → TellsAll opening
+        → RunsBy the_law
+        (StandsWithin the_keeps (telling S.left S.taken K.given A.pages B.pages F.pages) net)
+        (rule.Numbered number) s counts
         → ((t : CoreState)
         → NetStands the_keeps (telling S.left S.taken K.given A.pages B.pages F.pages) net t
         → EndsSo t ran.outcomes ran.stopped_by)
-        → ran.outcomes ≡ all_done → AreItsCounts (rule.Numbered number) s counts }
+        → ran.outcomes ≡ all_done → AreItsCounts the_law (rule.Numbered number) s counts }
     // where no count rose and memory was refused to none
-    ensures uncounted { (spools : Spools) (deck : Option (List Item)) (paper : Option (List ℕ))
-        (files : Option Loads) (s : CoreState) (items : List Item) (number : ℕ) (counts : Counts)
+    ensures uncounted { (opening : Opening) (s : CoreState) (number : ℕ) (counts : Counts)
         (net : Net S K A B F) (ran : Ran S K A B F) (before : Peripherals S K A B F)
-        → IsReached spools deck paper files s → AreTold spools → deck ≡ Some items → AreItems items
-        → AreFilesKnown files items
-        → RunsBy the_keeps (telling S.left S.taken K.given A.pages B.pages F.pages)
-        (rule.Numbered number) net s counts
+        → IsReached opening s → (told : TellsAll opening) → AreItems told.items
+        → RunsBy the_law
+        (StandsWithin the_keeps (telling S.left S.taken K.given A.pages B.pages F.pages) net)
+        (rule.Numbered number) s counts
         → ((t : CoreState)
         → NetStands the_keeps (telling S.left S.taken K.given A.pages B.pages F.pages) net t
         → EndsSo t ran.outcomes ran.stopped_by)
         → FaultsAreCounted (counting S.faults S.taken K.faults A.faults B.faults F.faults) before ran
         → NoneCounted (counting S.faults S.taken K.faults A.faults B.faults F.faults) before
         (devices_left ran)
-        → NoneLacked ran.outcomes → AreItsCounts (rule.Numbered number) s counts }
+        → NoneLacked ran.outcomes → AreItsCounts the_law (rule.Numbered number) s counts }
 {}

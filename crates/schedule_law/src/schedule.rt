@@ -2,19 +2,21 @@ ghost use Rattle.std.specs.Prelude.{◌≡◌, ◌≤◌, ◌<◌, true, List, [
 ghost use Rattle.solo_base.specs.declared.item.Item.{Item};
 ghost use Rattle.solo_devices.specs.CardUnit.{items_ahead};
 ghost use Rattle.page_codec.specs.Items.{AreItems};
+ghost use Rattle.network_run.specs.declared.rules.Rule.TheVariants as rule;
+ghost use Rattle.network_run.specs.OneRun.{AreItsCounts};
+ghost use Rattle.core_law.specs.FilesKnown.{AreFilesKnown};
 ghost use Rattle.core_law.specs.Holds.{AreTold};
 ghost use Rattle.core_law.specs.Opening.{opened};
-ghost use Rattle.core_net.specs.declared.rules.Rule.TheVariants as rule;
+ghost use Rattle.core_law.specs.TheLaw.{the_law};
 ghost use Rattle.core_net.specs.Causes.{counting};
 ghost use Rattle.core_net.specs.Ended.{all_done};
 ghost use Rattle.core_net.specs.Faults.{devices_left};
 ghost use Rattle.core_net.specs.Openings.{spools_over, files_found};
-ghost use Rattle.schedule_law.specs.FilesKnown.{AreFilesKnown};
 ghost use Rattle.schedule_law.specs.NoneCounted.{NoneCounted, NoneLacked};
-ghost use Rattle.schedule_law.specs.Undisturbed.{AreItsCounts};
 
-use core_net::{Counts, Net, Ran};
+use core_net::{Net, Ran};
 use disk_files::FileArea;
+use network_run::{Counts, Falling};
 use solo_devices::{Area, Sink, Source};
 use std::alloc::Global;
 
@@ -40,7 +42,7 @@ pub fn run_schedule<S: Source, K: Sink, A: Area, B: Area, F: Area>(
         AreFilesKnown (files_found (F.pages files.area)) items →
         AreTold (spools_over (A.size input) (A.pages input) (B.size output) (B.pages output)) →
         result.0.outcomes ≡ all_done →
-        AreItsCounts (rule.Numbered number)
+        AreItsCounts the_law (rule.Numbered number)
         (opened
         (spools_over (A.size input) (A.pages input) (B.size output) (B.pages output))
         (items_ahead (S.left source) [])
@@ -55,7 +57,7 @@ pub fn run_schedule<S: Source, K: Sink, A: Area, B: Area, F: Area>(
         record { source = source; sink = sink; input = input; output = output; files = files.area }
         (devices_left result.0) →
         NoneLacked result.0.outcomes →
-        AreItsCounts (rule.Numbered number)
+        AreItsCounts the_law (rule.Numbered number)
         (opened
         (spools_over (A.size input) (A.pages input) (B.size output) (B.pages output))
         (items_ahead (S.left source) [])

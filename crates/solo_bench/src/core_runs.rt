@@ -3,10 +3,11 @@ ghost use Rattle.std.specs.Prelude.{◌≡◌, true, IfSome};
 
 use crate::clock;
 use crate::fault::Fault;
-use core_net::{Counts, Net, Rule};
+use core_net::Net;
 use disk_files::FileArea;
 use disk_pages::AREA_PAGES;
 use disk_system::format;
+use network_run::{Counts, Falling, Rule};
 use solo_base::NoMemory;
 use solo_devices::{SureArea, SureSink, SureSource};
 use std::alloc::Global;
@@ -61,7 +62,7 @@ fn run_once(
     let files = no_files(rt.alloc()).ok_or(NoMemory)?;
     let mut net = Net::make(rt.alloc(), source, input, output, paper, files);
     let began = clock::micros(rt)?;
-    let counts = net.run(Rule::Numbered { number: SCHEDULE });
+    let counts = net.run_by(Rule::Numbered { number: SCHEDULE });
     *time = time.saturating_add(clock::micros_since(rt, began)?);
     Ok(counts)
 }

@@ -7,36 +7,60 @@ use Rattle.page_codec.specs.Items.{AreItems}
 use Rattle.core_law.specs.Core.{Devices}
 use Rattle.batch_job.specs.Report.{Loads}
 use Rattle.core_law.specs.Holds.{AreTold, AreFound}
-use Rattle.core_law.specs.Opening.{Spools, AreInBounds, AreGoodFiles, opened}
-use Rattle.core_net.specs.declared.counts.Counts.{Counts}
+use Rattle.core_law.specs.Opening.{Spools, AreInBounds, AreGoodFiles, Opening, opened, first_state}
+use Rattle.core_law.specs.TheLaw.{TellsAll, the_law}
+use Rattle.network_run.specs.declared.counts.Counts.{Counts}
 use Rattle.core_net.specs.declared.finish.Outcomes.{Outcomes}
-use Rattle.core_net.specs.declared.rules.Rule.{Rule}
-use Rattle.core_net.specs.Counting.{counts_of}
+use Rattle.network_run.specs.declared.rules.Rule.{Rule}
+use Rattle.network_run.specs.Counting.{counts_of}
 use Rattle.core_net.specs.Ended.{all_done}
 use Rattle.core_net.specs.WholeRuns.{RunsToEnd}
-use Rattle.core_law.proofs.Reached.{opening-centre}
-use Rattle.schedule_law.specs.FilesKnown.{AreFilesKnown}
-use Rattle.schedule_law.specs.Undisturbed.{AreItsCounts}
-use Rattle.schedule_law.proofs.SomeRun.{the-run}
-use Rattle.schedule_law.proofs.TheCounts.{opening-reached, where-done}
+use Rattle.core_law.proofs.Law.{opening-reached, sound, sure}
+use Rattle.core_law.specs.FilesKnown.{AreFilesKnown}
+use Rattle.network_run.specs.OneRun.{TheRun, AreItsCounts}
+use Rattle.network_run.proofs.OneRun.{some-run}
+use Rattle.schedule_law.proofs.TheCounts.{where-done}
 
 pub known-files : (files : Option Loads) (found : Loads) (items : List Item) → AreItems items → AreFound files found items → AreFilesKnown files items
 known-files files found items valid (inl told) = inl (ap is_some told)
 known-files files found items valid (inr none) = inr (valid, none)
 
+-- what an opening over told devices is
+abbrev pub opening_of : (spools : Spools) (items : List Item) (paper : Option (List ℕ)) (files : Option Loads) → AreGoodFiles files → AreInBounds spools → Opening
+opening_of spools items paper files good bounds = record {
+  spools = spools;
+  deck = Some items;
+  paper = paper;
+  files = files;
+  bounds = bounds;
+  good = good;
+}
+
+pub tells-all : (spools : Spools) (items : List Item) (paper : Option (List ℕ)) (files : Option Loads) (found : Loads) (good : AreGoodFiles files)
+    (bounds : AreInBounds spools) → AreItems items → AreFound files found items → AreTold spools
+    → TellsAll (opening_of spools items paper files good bounds)
+tells-all spools items paper files found good bounds valid are told =
+    record { spools = told; items = items; deck = refl; files = known-files files found items valid are }
+
 pub counted-whole : (spools : Spools) (items : List Item) (found : Loads) {paper : Option (List ℕ)} {files : Option Loads} {rule : Rule} {counts : Counts}
-    {outcomes : Outcomes} {stops : List (Option Side)} {devices : Devices} → AreItems items → AreFound files found items
-    → RunsToEnd rule (opened spools (Some items) paper files) counts outcomes stops devices
-    → AreTold spools → outcomes ≡ all_done → AreItsCounts rule (opened spools (Some items) paper files) counts
-counted-whole spools items found {paper = paper} {files = files} valid are runs told all =
-    where-done (opening-centre spools (Some items) paper files) told refl (known-files files found items valid are) runs all
+    {outcomes : Outcomes} {stops : List (Option Side)} {devices : Devices} → AreGoodFiles files → AreInBounds spools → AreItems items
+    → AreFound files found items → RunsToEnd rule (opened spools (Some items) paper files) counts outcomes stops devices
+    → AreTold spools → outcomes ≡ all_done → AreItsCounts the_law rule (opened spools (Some items) paper files) counts
+counted-whole spools items found {paper = paper} {files = files} good bounds valid are runs told all =
+    let o = opening_of spools items paper files good bounds in
+    where-done o (first_state o) (opening-reached o) (tells-all spools items paper files found good bounds valid are told) runs all
 
 -- whether it is run or not
+pub the-run : (spools : Spools) (items : List Item) (paper : Option (List ℕ)) (files : Option Loads) (found : Loads) (rule : Rule)
+    → AreGoodFiles files → AreFound files found items → AreInBounds spools → AreTold spools → AreItems items
+    → TheRun the_law rule (opened spools (Some items) paper files)
+the-run spools items paper files found rule good are bounds told valid =
+    let o = opening_of spools items paper files good bounds in
+    some-run the_law sound sure o (tells-all spools items paper files found good bounds valid are told) rule (first_state o) (opening-reached o)
+
 pub some-counts : (spools : Spools) (items : List Item) (paper : Option (List ℕ)) (files : Option Loads) (found : Loads) (rule : Rule)
     → AreGoodFiles files → AreFound files found items → AreInBounds spools → AreTold spools → AreItems items
-    → (counts : Counts) × AreItsCounts rule (opened spools (Some items) paper files) counts
+    → (counts : Counts) × AreItsCounts the_law rule (opened spools (Some items) paper files) counts
 some-counts spools items paper files found rule good are bounds told valid =
-    let s = opened spools (Some items) paper files in
-    let one = the-run spools (Some items) paper files s items rule (opening-reached spools (Some items) paper files bounds good) told refl valid
-    (known-files files found items valid are) in
-    (counts_of s one.events, record { the_run = one; counts_are = refl })
+    let one = the-run spools items paper files found rule good are bounds told valid in
+    (counts_of the_law (opened spools (Some items) paper files) one.events, record { the_run = one; counts_are = refl })

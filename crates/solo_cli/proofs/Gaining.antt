@@ -3,7 +3,7 @@ use Rattle.std.proofs.Common.{◌≡◌, ℕ, List, [], ◌∷◌, ◌++◌, Opt
 use Rattle.solo_base.specs.Text.{text}
 use Rattle.solo_devices.specs.PrinterUnit.{Gains}
 use Rattle.core_law.specs.Core.{CoreState}
-use Rattle.core_net.specs.declared.rules.Rule.{Rule}
+use Rattle.network_run.specs.declared.rules.Rule.{Rule}
 use Rattle.solo_cli.specs.CountsLine.{counts_line}
 use Rattle.solo_cli.specs.CountsPaper.{GainsCounted}
 use Rattle.solo_cli.specs.DeckNumbers.{deck_lines}

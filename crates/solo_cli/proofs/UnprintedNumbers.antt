@@ -6,7 +6,7 @@ use Rattle.batch_job.specs.Loads.{files_named}
 use Rattle.batch_job.specs.Report.{Loads, no_files}
 use Rattle.core_law.specs.Holds.{AreTold}
 use Rattle.core_law.specs.Opening.{Spools, AreInBounds, AreGoodFiles, opened}
-use Rattle.core_net.specs.declared.rules.Rule.{Rule}
+use Rattle.network_run.specs.declared.rules.Rule.{Rule}
 use Rattle.solo_cli.specs.DeckNumbers.{deck_lines}
 use Rattle.solo_cli.specs.MadePaper.{GainsNumbers}
 use Rattle.solo_cli.proofs.Adding.{nothing}

@@ -4,12 +4,13 @@ use Rattle.solo_base.specs.Text.{text}
 use Rattle.solo_base.specs.declared.outcome.Side.{Side}
 use Rattle.solo_devices.specs.PrinterUnit.{Gains}
 use Rattle.core_law.specs.Core.{CoreState, Devices}
-use Rattle.core_net.specs.declared.counts.Counts.{Counts}
+use Rattle.core_law.specs.TheLaw.{the_law}
+use Rattle.network_run.specs.declared.counts.Counts.{Counts}
 use Rattle.core_net.specs.declared.finish.Outcomes.{Outcomes}
-use Rattle.core_net.specs.declared.rules.Rule.{Rule}
+use Rattle.network_run.specs.declared.rules.Rule.{Rule}
 use Rattle.core_net.specs.Ended.{all_done}
 use Rattle.core_net.specs.WholeRuns.{RunsToEnd}
-use Rattle.schedule_law.specs.Undisturbed.{AreItsCounts}
+use Rattle.network_run.specs.OneRun.{AreItsCounts}
 use Rattle.solo_cli.specs.CountsLine.{counts_line}
 
 -- Of a run by the rule from this state the paper gains these lines and behind them the line of its counts, or
@@ -25,4 +26,4 @@ pub record GainsCounted (rule : Rule) (s : CoreState) (before now : Option (List
   pub gains : Gains before now
       (text (lines ++ counts_line counts.events counts.delays counts.grants ∷ [])) all
   pub done : all → outcomes ≡ all_done
-  pub counted : all → AreItsCounts rule s counts
+  pub counted : all → AreItsCounts the_law rule s counts

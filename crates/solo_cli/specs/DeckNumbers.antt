@@ -5,7 +5,7 @@ use Rattle.solo_base.specs.Card.{cards}
 use Rattle.deck_format.specs.Jobs.{jobs}
 use Rattle.batch_job.specs.Report.{Loads}
 use Rattle.batch_job.specs.OneThread.{one_thread_output}
-use Rattle.core_net.specs.declared.counts.Counts.{Counts}
+use Rattle.network_run.specs.declared.counts.Counts.{Counts}
 use Rattle.solo_cli.specs.CountsLine.{counts_line}
 
 -- how many characters lines have, without their ends

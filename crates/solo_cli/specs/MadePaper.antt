@@ -4,9 +4,10 @@ use Rattle.solo_base.specs.Text.{text}
 use Rattle.solo_devices.specs.PrinterUnit.{Gains}
 use Rattle.batch_job.specs.Report.{Loads}
 use Rattle.core_law.specs.Core.{CoreState}
-use Rattle.core_net.specs.declared.counts.Counts.{Counts}
-use Rattle.core_net.specs.declared.rules.Rule.{Rule}
-use Rattle.schedule_law.specs.Undisturbed.{AreItsCounts}
+use Rattle.core_law.specs.TheLaw.{the_law}
+use Rattle.network_run.specs.declared.counts.Counts.{Counts}
+use Rattle.network_run.specs.declared.rules.Rule.{Rule}
+use Rattle.network_run.specs.OneRun.{AreItsCounts}
 use Rattle.solo_cli.specs.DeckNumbers.{deck_lines}
 
 -- The paper gains the numbers of a deck and the counts of its run, or a prefix of these lines; all of them
@@ -15,5 +16,5 @@ use Rattle.solo_cli.specs.DeckNumbers.{deck_lines}
 pub record GainsNumbers (rule : Rule) (s : CoreState) (deck : List ℕ) (before now : Option (List ℕ))
     (all : Type 0) : Type 0 where
   pub counts : Counts
-  pub counted : AreItsCounts rule s counts
+  pub counted : AreItsCounts the_law rule s counts
   pub gains : (found : Loads) → Gains before now (text (deck_lines found deck counts)) all

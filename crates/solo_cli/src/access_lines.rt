@@ -43,9 +43,9 @@ fn accepted_line(accepted: &Accepted) -> Line
 {
     let mut line = Line::new();
     line.append(b"ACCEPTED ");
-    append_count(&mut line, u128::from(accepted.monitors));
+    append_count(&mut line, u64::from(accepted.monitors));
     line.append(b" MONITORS, ");
-    append_count(&mut line, u128::from(accepted.processes));
+    append_count(&mut line, u64::from(accepted.processes));
     line.append(b" PROCESSES");
     line
 }
@@ -57,7 +57,7 @@ fn card_line(card: u32, words: &[u8]) -> Line
 {
     let mut line = Line::new();
     line.append(b"CARD ");
-    append_count(&mut line, u128::from(card));
+    append_count(&mut line, u64::from(card));
     line.append(words);
     line
 }

@@ -28,7 +28,7 @@ use crate::file_commands::{format_files, migrate_files};
 use crate::mounting::{Mode, Used, run_deck, run_made_deck};
 use crate::refusal::Refusal;
 use crate::words::{Command, command_of};
-use core_net::Rule;
+use network_run::Rule;
 use solo_base::Cause;
 use solo_devices::{Area, Sink, Source};
 use std::alloc::Global;

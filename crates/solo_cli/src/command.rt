@@ -28,7 +28,7 @@ use crate::mounting::Used;
 use crate::refusal::Refusal;
 use crate::status::status_of;
 use crate::words::Command;
-use core_net::Rule;
+use network_run::Rule;
 use solo_base::Cause;
 use solo_devices::{Area, Sink, Source};
 use std::alloc::Global;

@@ -1,20 +1,18 @@
-ghost use Rattle.std.specs.Prelude.{◌≡◌, ◌+◌, ◌≤◌, ◌<◌, ◌^◌, ◌++◌, length, IsTrue};
+ghost use Rattle.std.specs.Prelude.{◌≡◌, ◌+◌, ◌≤◌, ◌++◌, length, IsTrue};
 ghost use Rattle.std.specs.List.{list_all};
 ghost use Rattle.std.specs.Fmt.{decimal};
 ghost use Rattle.solo_base.specs.Line.{is_printable};
-ghost use Rattle.core_net.specs.Runs.{AreFew};
 ghost use Rattle.solo_cli.specs.CountsLine.{counts_line};
 
-use core_net::Counts;
+use network_run::Counts;
 use solo_base::Line;
 
 /// How many digits a count has at most.
-const COUNT_LENGTH: usize = 30;
+const COUNT_LENGTH: usize = 20;
 
 /// The line that tells how many events a run had, how many of them ended in a delay, and how often the disk
 /// was granted.
 pub fn counts_line(counts: Counts) -> Line
-    requires { AreFew counts }
     ensures { result ≡ counts_line counts.events counts.delays counts.grants }
 {
     let mut line = Line::new();
@@ -36,14 +34,13 @@ pub fn number_line(word: &[u8], number: u64) -> Line
 {
     let mut line = Line::new();
     line.append(word);
-    append_count(&mut line, u128::from(number));
+    append_count(&mut line, number);
     line
 }
 
 /// Adds a count at the end, in decimal.
-pub fn append_count(line: &mut Line, count: u128)
+pub fn append_count(line: &mut Line, count: u64)
     requires room { length line.old + COUNT_LENGTH ≤ 132 }
-    requires few { count < 10 ^ 30 }
     ensures text { line.new ≡ line.old ++ decimal count }
     ensures short { length line.new ≤ length line.old + COUNT_LENGTH }
 {

@@ -15,9 +15,9 @@ ghost use Rattle.batch_procs.specs.Faults.{IsDamaged};
 ghost use Rattle.made_deck.specs.MadeDeck.{made_deck};
 ghost use Rattle.core_law.specs.Holds.{AreFound};
 ghost use Rattle.core_law.specs.Opening.{opened};
+ghost use Rattle.core_law.specs.TheLaw.{the_law};
 ghost use Rattle.core_net.specs.Openings.{spools_over, files_found};
-ghost use Rattle.core_net.specs.Runs.{AreFew};
-ghost use Rattle.schedule_law.specs.Undisturbed.{AreItsCounts};
+ghost use Rattle.network_run.specs.OneRun.{AreItsCounts};
 ghost use Rattle.solo_cli.specs.Causes.{IsMakeCause};
 ghost use Rattle.solo_cli.specs.DeckNumbers.{five_lines, characters_of};
 ghost use Rattle.solo_cli.specs.MadePaper.{GainsNumbers};
@@ -25,9 +25,10 @@ ghost use Rattle.solo_cli.specs.MadePaper.{GainsNumbers};
 use crate::counts::{counts_line, number_line};
 use crate::deck_numbers::{DeckNumbers, PIECE, numbers_of};
 use crate::runs::{Done, came_to, cause_of};
-use core_net::{Counts, Rule, run_core};
+use core_net::run_core;
 use disk_files::FileArea;
 use made_deck::make_deck;
+use network_run::{Counts, Rule};
 use solo_base::{Cause, Line, NoMemory};
 use solo_devices::{Area, PrintFault, PrinterUnit, Sink, SureSink, SureSource};
 use std::alloc::Global;
@@ -180,7 +181,7 @@ fn run_in_memory<F: Area, I: Area, O: Area>(
     requires output { (0 < O.size output) × (O.size output ≤ 256) }
     ensures counted { (found : Loads) → AreFound (files_found (F.pages files.area)) found (cards deck.items) →
         IsSome (I.pages input) → IsSome (O.pages output) → result.0.cause ≡ None →
-        AreItsCounts (Rule.Numbered number)
+        AreItsCounts the_law (Rule.Numbered number)
         (opened (spools_over (I.size input) (I.pages input) (O.size output) (O.pages output))
         (Some (cards deck.items)) (Some []) (files_found (F.pages files.area))) result.1 }
     ensures printed { (found : Loads) → AreFound (files_found (F.pages files.area)) found (cards deck.items) →
@@ -196,7 +197,6 @@ fn run_in_memory<F: Area, I: Area, O: Area>(
         IfSome result.0.cause (λ cause. IsDamaged cause → ⊥) }
     ensures known { IfSome result.0.cause IsMakeCause }
     ensures sure { result.0.cause ≢ Some Cause.PrintFault }
-    ensures few { AreFew result.1 }
 {
     let deck = SureSource::new(deck, PIECE);
     let paper = SureSink::new(alloc);
@@ -207,7 +207,6 @@ fn run_in_memory<F: Area, I: Area, O: Area>(
 
 // The lines that tell the numbers of a deck, of the text that was printed of it and of its run.
 fn lines_of(deck: DeckNumbers, printed: &[u8], counts: Counts) -> [Line; 5]
-    requires { AreFew counts }
     ensures { (lines : List (List ℕ)) → AllByRecursion IsLine lines → printed.now ≡ text lines →
         result ≡ five_lines deck.jobs deck.cards (length lines) (characters_of lines) counts }
 {

@@ -22,8 +22,8 @@ ghost use Rattle.solo_cli.specs.Refusals.{HasItsReason, IsDeckCause, IsMadeDeckC
 use crate::making::{Made, make};
 use crate::refusal::Refusal;
 use crate::runs::{Done, batch, core};
-use core_net::Rule;
 use disk_files::{FileArea, FileFault};
+use network_run::Rule;
 use solo_base::Cause;
 use solo_devices::{Area, Sink, Source};
 use std::alloc::Global;

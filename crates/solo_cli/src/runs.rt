@@ -12,7 +12,6 @@ ghost use Rattle.core_law.specs.Holds.{AreFound};
 ghost use Rattle.core_law.specs.Opening.{opened};
 ghost use Rattle.core_net.specs.Causes.{counting};
 ghost use Rattle.core_net.specs.Openings.{spools_over, files_found};
-ghost use Rattle.core_net.specs.Runs.{AreFew};
 ghost use Rattle.solo_cli.specs.Decides.{decides, list_of};
 ghost use Rattle.solo_cli.specs.CountsLine.{counts_line};
 ghost use Rattle.solo_cli.specs.Causes.{HasItsCause, IsRunCause};
@@ -21,8 +20,9 @@ ghost use Rattle.solo_cli.specs.CountsPaper.{GainsCounted};
 use crate::counts::counts_line;
 use crate::deciding::decides;
 use batch_run::{Units, run_batch};
-use core_net::{Counts, Outcomes, Ran, Rule, run_core};
+use core_net::{Outcomes, Ran, run_core};
 use disk_files::FileArea;
+use network_run::{Counts, Rule};
 use solo_base::{Cause, NoMemory, Outcome};
 use solo_devices::{Area, CardUnit, PrintFault, PrinterUnit, Sink, Source};
 use std::alloc::Global;
@@ -177,7 +177,6 @@ fn with_counts<S: Source, K: Sink, F: Area, I: Area, O: Area>(
     done: Done<S, K, F, I, O>,
     counts: Counts,
 ) -> Done<S, K, F, I, O>
-    requires { AreFew counts }
     ensures line { Gains (K.given done.paper) (K.given result.paper)
         (line_text (counts_line counts.events counts.delays counts.grants)) (result.cause ≡ None) }
     ensures causes { (result.cause ≡ None) ⊎ (result.cause ≡ Some Cause.PrintFault)
@@ -208,7 +207,6 @@ fn with_counts<S: Source, K: Sink, F: Area, I: Area, O: Area>(
 
 // Prints what a run counted.
 fn print_counts<K: Sink>(paper: K, counts: Counts) -> (Option<Cause>, K)
-    requires { AreFew counts }
     ensures line { Gains (K.given paper) (K.given result.1)
         (line_text (counts_line counts.events counts.delays counts.grants)) (result.0 ≡ None) }
     ensures causes { (result.0 ≡ None) ⊎ (result.0 ≡ Some Cause.PrintFault)

@@ -1,19 +1,12 @@
+use Rattle.std.proofs.Common.{[], ◌∷◌}
+use Rattle.network_run.proofs.Along.{place-behind}
+use Rattle.core_law.specs.TheLaw.{the_law}
 use Rattle.core_trace.proofs.event.happen.Goals as goal
 
-pub returns-in_err-stepped : goal.returns-in_err-stepped
-returns-in_err-stepped g c = record {
-  spools = c.requires.before.spools;
-  deck = c.requires.before.deck;
-  paper = c.requires.before.paper;
-  files = c.requires.before.files;
-  is = c.turn.ensures.reached c.requires.before.spools c.requires.before.deck c.requires.before.paper c.requires.before.files c.requires.before.is;
-}
+pub step-stepped-requires : goal.step-stepped-requires
+step-stepped-requires g c = record { may = c.requires }
 
 pub returns : goal.returns
-returns g c = record {
-  spools = c.requires.before.spools;
-  deck = c.requires.before.deck;
-  paper = c.requires.before.paper;
-  files = c.requires.before.files;
-  is = c.turn.ensures.reached c.requires.before.spools c.requires.before.deck c.requires.before.paper c.requires.before.files c.requires.before.is;
-}
+returns g c =
+    let steps = c.step-stepped.ensures.steps c.requires.at c.requires.may in
+    place-behind the_law _ _ c.requires.at (steps.event ∷ []) (steps.enabled, tt) steps.stands

@@ -1,11 +1,12 @@
-use Rattle.core_law.proofs.Reached.{opening-centre}
+use Rattle.core_law.specs.Opening.{first_state}
+use Rattle.core_law.proofs.Law.{opening-reached}
 use Rattle.schedule_law.proofs.TheCounts.{where-done, where-none_counted}
 use Rattle.schedule_law.proofs.laws.counts_of_a_whole_run.Goals as goal
 
 pub returns-clause-done : goal.returns-clause-done
-returns-clause-done g c = λ spools deck paper files items rule counts outcomes stops devices bounds.
-    where-done (opening-centre spools deck paper files)
+returns-clause-done g c = λ opening rule counts outcomes stops devices told ran.
+    where-done opening (first_state opening) (opening-reached opening) told ran
 
 pub returns-clause-uncounted : goal.returns-clause-uncounted
-returns-clause-uncounted g c = λ spools deck paper files items rule counts outcomes stops devices before now bounds are deck_is valid known ran.
-    where-none_counted (opening-centre spools deck paper files) are deck_is known ran valid
+returns-clause-uncounted g c = λ opening rule counts outcomes stops devices before now told valid ran.
+    where-none_counted opening (first_state opening) (opening-reached opening) told ran valid

@@ -1,5 +1,5 @@
-use Rattle.schedule_law.proofs.OneRun.{events-are_one}
+use Rattle.core_law.proofs.Law.{sure}
 use Rattle.schedule_law.proofs.laws.one_event.Goals as goal
 
 pub returns : goal.returns
-returns c = events-are_one
+returns c = sure.one_event

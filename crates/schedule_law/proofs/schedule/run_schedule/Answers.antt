@@ -1,14 +1,24 @@
-use Rattle.core_law.proofs.Reached.{reached-centre}
+use Rattle.core_net.specs.Net.{first_place}
 use Rattle.schedule_law.proofs.TheCounts.{to-end, where-done, where-none_counted}
 use Rattle.schedule_law.proofs.schedule.run_schedule.Goals as goal
 
+pub run_numbered-counts-requires : goal.run_numbered-counts-requires
+run_numbered-counts-requires g c = record { before = first_place c.make-net.ensures.opens }
+
+pub finish-requires : goal.finish-requires
+finish-requires g c =
+    let run = c.run_numbered-counts.ensures in
+    record { ended = record { at = run.after; all = run.ended run.after } }
+
 pub returns-clause-done : goal.returns-clause-done
 returns-clause-done g c = λ items is known told.
-    let by = c.run_numbered-counts.ensures.runs _ _ _ _ _ c.make-net.ensures.reached c.make-net.ensures.stands in
-    where-done (reached-centre _ _ _ _ _ c.make-net.ensures.reached) told is known (to-end by c.finish.ensures.ends)
+    let at = first_place c.make-net.ensures.opens in
+    where-done at.opening at.state at.reached record { spools = told; items = items; deck = is; files = known }
+    (to-end (c.run_numbered-counts.ensures.runs at) c.finish.ensures.ends)
 
 pub returns-clause-uncounted : goal.returns-clause-uncounted
 returns-clause-uncounted g c = λ items is valid known told.
-    let by = c.run_numbered-counts.ensures.runs _ _ _ _ _ c.make-net.ensures.reached c.make-net.ensures.stands in
-    let counted = c.finish.ensures.counted _ (c.run_numbered-counts.ensures.counted _ c.make-net.ensures.counted) in
-    where-none_counted (reached-centre _ _ _ _ _ c.make-net.ensures.reached) told is known (to-end by c.finish.ensures.ends) valid counted
+    let at = first_place c.make-net.ensures.opens in
+    where-none_counted at.opening at.state at.reached record { spools = told; items = items; deck = is; files = known }
+    (to-end (c.run_numbered-counts.ensures.runs at) c.finish.ensures.ends) valid
+    (c.finish.ensures.counted _ (c.run_numbered-counts.ensures.keeps.counted _ c.make-net.ensures.counted))

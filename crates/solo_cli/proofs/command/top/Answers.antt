@@ -7,7 +7,7 @@ use Rattle.solo_cli.specs.AccessLines.{judgement_line}
 use Rattle.batch_job.specs.OneThread.{one_thread_output}
 use Rattle.made_deck.specs.MadeDeck.{made_deck}
 use Rattle.core_law.specs.Opening.{opened}
-use Rattle.core_net.specs.declared.rules.Rule.TheVariants.{Numbered}
+use Rattle.network_run.specs.declared.rules.Rule.TheVariants.{Numbered}
 use Rattle.core_net.specs.Openings.{spools_over, files_found}
 use Rattle.solo_cli.specs.declared.words.Command.TheVariants.{Migrate}
 use Rattle.solo_cli.specs.Words.{form}

@@ -2,7 +2,7 @@ use Rattle.std.proofs.Common.{◌≡◌, [], Some, None, ap, ◌∙◌, subst, a
 use Rattle.solo_base.specs.Card.{cards}
 use Rattle.batch_job.specs.Loads.{files_named}
 use Rattle.core_law.specs.Opening.{opened}
-use Rattle.core_net.specs.declared.rules.Rule.TheVariants.{Numbered}
+use Rattle.network_run.specs.declared.rules.Rule.TheVariants.{Numbered}
 use Rattle.core_net.specs.Openings.{spools_over, files_found}
 use Rattle.core_net.proofs.GoodFiles.{are-good}
 use Rattle.made_deck.specs.MadeDeck.{made_deck}

@@ -1,4 +1,4 @@
-use Rattle.std.proofs.Common.{◌⊎◌, [], drop, Some, sym, ◌∙◌, ap, subst, inl, inr}
+use Rattle.std.proofs.Common.{◌⊎◌, [], drop, Some, sym, ◌∙◌, ap, subst, inl, inr, arith}
 use Rattle.std.specs.Prelude.{IfSome}
 use Rattle.solo_base.specs.Card.{cards}
 use Rattle.solo_devices.specs.CardUnit.{items_ahead}
@@ -6,9 +6,10 @@ use Rattle.solo_devices.specs.Count.{Rose, raised}
 use Rattle.batch_procs.specs.Faults.{IsDamaged}
 use Rattle.core_law.specs.Core.{Devices}
 use Rattle.core_law.specs.Opening.{opened}
-use Rattle.core_net.specs.declared.rules.Rule.TheVariants.{Numbered}
+use Rattle.network_run.specs.declared.rules.Rule.TheVariants.{Numbered}
 use Rattle.core_net.specs.Openings.{spools_over, files_found}
 use Rattle.core_net.specs.WholeRuns.{RunsToEnd}
+use Rattle.core_net.proofs.GoodFiles.{are-good}
 use Rattle.solo_cli.specs.Causes.{IsMakeCause}
 use Rattle.solo_cli.proofs.AllDone.{all-done, by-print, by-disk}
 use Rattle.solo_cli.proofs.CardItems.{card-items}
@@ -32,7 +33,12 @@ returns-clause-counted g c = λ found files input_told output_told none.
     (subst (λ ahead. RunsToEnd (Numbered c.args.number) (opened spools ahead (Some c.new-paper.result.bytes.items) told_files) counts ran.outcomes
     ran.stopped_by devices)
     (ap (λ left. items_ahead left []) c.new-deck.ensures.left) e.runs) in
-    counted-whole spools items found (card-items c.args.deck.items) files runs (record { input = input_told; output = output_told })
+    counted-whole spools items found (are-good (g.F.Area.pages c.args.files.area)) record {
+      input_some = omega (arith, c.requires.input.0);
+      input_most = c.requires.input.1;
+      output_some = omega (arith, c.requires.output.0);
+      output_most = c.requires.output.1;
+    } (card-items c.args.deck.items) files runs (record { input = input_told; output = output_told })
     (all-done ran.outcomes ran.stopped_by e.together (sym c.came_to.ensures.decided ∙ none))
 
 pub returns-clause-printed : goal.returns-clause-printed

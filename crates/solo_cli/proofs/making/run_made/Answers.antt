@@ -4,7 +4,7 @@ use Rattle.solo_base.specs.Text.{text}
 use Rattle.solo_devices.specs.PrinterUnit.{Gains}
 use Rattle.batch_job.specs.Report.{Loads, no_files}
 use Rattle.batch_job.specs.OneThread.{one_thread_output}
-use Rattle.core_net.specs.declared.rules.Rule.TheVariants.{Numbered}
+use Rattle.network_run.specs.declared.rules.Rule.TheVariants.{Numbered}
 use Rattle.core_net.specs.Openings.{spools_over, files_found}
 use Rattle.core_net.proofs.GoodFiles.{are-good}
 use Rattle.core_law.proofs.ReportLines.{report-lines}

@@ -1,5 +1,5 @@
 use Rattle.std.proofs.Common.{◌≡◌, refl, sym, ◌∙◌, ap}
-use Rattle.core_net.specs.declared.rules.Rule.TheVariants.{Numbered}
+use Rattle.network_run.specs.declared.rules.Rule.TheVariants.{Numbered}
 use Rattle.solo_cli.specs.declared.mounting.Mode.TheVariants as mode
 use Rattle.solo_cli.proofs.Adding.{gains-same}
 use Rattle.solo_cli.proofs.Endings.{none_is}

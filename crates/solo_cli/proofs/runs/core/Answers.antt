@@ -1,4 +1,4 @@
-use Rattle.std.proofs.Common.{◌≡◌, ◌≤◌, [], Some, None, refl, sym, ◌∙◌, ap, subst}
+use Rattle.std.proofs.Common.{◌≡◌, ◌≤◌, [], Some, None, refl, sym, ◌∙◌, ap, subst, arith}
 use Rattle.std.specs.Prelude.{IfSome}
 use Rattle.solo_base.specs.Card.{cards}
 use Rattle.solo_devices.specs.CardUnit.{items_ahead, IsAllTaken}
@@ -6,11 +6,12 @@ use Rattle.batch_procs.specs.Faults.{IsDamaged}
 use Rattle.batch_job.specs.OneThread.{one_thread_output}
 use Rattle.core_law.specs.Core.{Devices}
 use Rattle.core_law.specs.Opening.{opened}
-use Rattle.core_net.specs.declared.rules.Rule.TheVariants.{Numbered}
+use Rattle.network_run.specs.declared.rules.Rule.TheVariants.{Numbered}
 use Rattle.core_net.specs.Causes.{counting}
 use Rattle.core_net.specs.Faults.{devices_left}
 use Rattle.core_net.specs.Openings.{spools_over, files_found}
 use Rattle.core_net.specs.WholeRuns.{RunsToEnd}
+use Rattle.core_net.proofs.GoodFiles.{are-good}
 use Rattle.solo_cli.specs.Causes.{IsRunCause}
 use Rattle.solo_cli.specs.CountsLine.{counts_line}
 use Rattle.solo_cli.proofs.AllDone.{all-done}
@@ -51,7 +52,12 @@ returns-in-None-clause-output g c = λ bytes found told files input_told output_
           record { input = input_told; output = output_told }))
           c.with_counts.ensures.line;
       done = λ none. all-done ran.outcomes ran.stopped_by e.together (sym c.came_to-done.ensures.decided ∙ c.in-None.is);
-      counted = λ none. counted-whole spools (cards bytes) found (card-items bytes) files runs (record { input = input_told; output = output_told })
+      counted = λ none. counted-whole spools (cards bytes) found (are-good (g.F.Area.pages c.args.files.area)) record {
+        input_some = omega (arith, c.requires.input.0);
+        input_most = c.requires.input.1;
+        output_some = omega (arith, c.requires.output.0);
+        output_most = c.requires.output.1;
+      } (card-items bytes) files runs (record { input = input_told; output = output_told })
           (all-done ran.outcomes ran.stopped_by e.together (sym c.came_to-done.ensures.decided ∙ c.in-None.is));
     }
 
@@ -84,7 +90,12 @@ returns-in-Some-clause-output g c = λ bytes found told files input_told output_
           (e.prints (cards bytes) found (ap (λ left. items_ahead left []) told) (card-items bytes) files
           record { input = input_told; output = output_told }));
       done = λ none. all-done ran.outcomes ran.stopped_by e.together (sym c.came_to-done.ensures.decided ∙ none);
-      counted = λ none. counted-whole spools (cards bytes) found (card-items bytes) files runs (record { input = input_told; output = output_told })
+      counted = λ none. counted-whole spools (cards bytes) found (are-good (g.F.Area.pages c.args.files.area)) record {
+        input_some = omega (arith, c.requires.input.0);
+        input_most = c.requires.input.1;
+        output_some = omega (arith, c.requires.output.0);
+        output_most = c.requires.output.1;
+      } (card-items bytes) files runs (record { input = input_told; output = output_told })
           (all-done ran.outcomes ran.stopped_by e.together (sym c.came_to-done.ensures.decided ∙ none));
     }
 

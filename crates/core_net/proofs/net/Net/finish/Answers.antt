@@ -24,10 +24,10 @@ returns g c = record {
       (λ s st. sides-are _ c.args.self.shared s st.shared _ _ _ _ c.stopped_by.ensures.marked c.stopped_by-2.ensures.marked c.stopped_by-3.ensures.marked
       c.stopped_by-4.ensures.marked);
   counted = λ before were.
-      let some = c.requires.ended.is in
-      ended-counted _ _ _ c.args.self _ _ some.state some.stands (c.outcome.ensures (some.state.histories 1) some.stands.card)
-      (c.outcome-2.ensures (some.state.histories 2) some.stands.input) (c.outcome-3.ensures (some.state.histories 3) some.stands.job)
-      (c.outcome-4.ensures (some.state.histories 4) some.stands.output) (c.outcome-5.ensures (some.state.histories 5) some.stands.printer)
+      let some = c.requires.ended.at in
+      ended-counted _ _ _ c.args.self _ _ some.state some.stands.is (c.outcome.ensures (some.state.histories 1) some.stands.is.card)
+      (c.outcome-2.ensures (some.state.histories 2) some.stands.is.input) (c.outcome-3.ensures (some.state.histories 3) some.stands.is.job)
+      (c.outcome-4.ensures (some.state.histories 4) some.stands.is.output) (c.outcome-5.ensures (some.state.histories 5) some.stands.is.printer)
       (same-devices _ _ _ _ _ _ _ c.into_inner.ensures c.into_inner-2.ensures) before were;
   units = (refl, refl);
   files = refl;

@@ -1,0 +1,8 @@
+use Rattle.core_law.proofs.Law.{sound, sure}
+use Rattle.core_law.proofs.interleavings.law_of_the_core.Goals as goal
+
+pub returns-clause-sound : goal.returns-clause-sound
+returns-clause-sound c = sound
+
+pub returns-clause-sure : goal.returns-clause-sure
+returns-clause-sure c = sure
