@@ -17,7 +17,7 @@ named name [] = refl
 named name (row ∷ rows) = ap (λ t. bytes_eq name row.name || t) (named name rows)
 
 module _ (s : Script) (name : List ℕ) (old : List Row) (st : StandsForScript s old) where
-  is-task : (t : Bool) → list_any (has_name name) old ≡ t → is_task s name ≡ t
+  pub is-task : (t : Bool) → list_any (has_name name) old ≡ t → is_task s name ≡ t
   is-task t e = ap (list_any (bytes_eq name)) (sym st.names) ∙ sym (named name old) ∙ e
 
   pub start-none : (time period : ℕ) → list_any (has_name name) old ≡ false → AnswersLine s (Plans name time period) (start_text NoTask) old
@@ -36,14 +36,14 @@ module _ (s : Script) (name : List ℕ) (old : List Row) (st : StandsForScript s
   start-done time period now new at some ahead same all =
       let is = is-task true some in
       let soon : nat_lt s.now time ≡ true = ap (λ n. nat_lt n time) at ∙ ahead in
-      record { shows = rw (is, soon) refl; stands = rw (is, soon) (record { names = same ∙ st.names; await = all }) }
+      record { shows = rw (is, soon) refl; stands = rw (is, soon) (record { names = same ∙ st.names; await = all; known = (is, st.known) }) }
 
   pub stop-none : list_any (has_name name) old ≡ false → AnswersLine s (Stops name) (stop_text NoTask) old
   stop-none none = (let no = is-task false none in record { shows = rw no refl; stands = rw no st })
 
   pub stop-done : (new : List Row) → list_any (has_name name) old ≡ true → map name_of new ≡ map name_of old
       → AllAwait (record { name = name; plan = Never } ∷ s.accepted) s.now new → AnswersLine s (Stops name) (stop_text Done) new
-  stop-done new some same all = (let is = is-task true some in record { shows = rw is refl; stands = rw is (record { names = same ∙ st.names; await = all }) })
+  stop-done new some same all = (let is = is-task true some in record { shows = rw is refl; stands = rw is (record { names = same ∙ st.names; await = all; known = (is, st.known) }) })
 
 pub has-passed : (now time : ℕ) → time ≤ now → nat_lt now time ≡ false
 has-passed now time most = by (nat_lt now time) refl

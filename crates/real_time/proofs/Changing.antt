@@ -16,7 +16,7 @@ same-names [] place is d below same = absurd (omega (arith, below))
 same-names (row ∷ rows) zero is d below same = two-names _ _ _ _ same refl
 same-names (row ∷ rows) (suc place) is d below same = two-names _ _ _ _ refl (same-names rows place is d (omega (arith, below)) same)
 
-all-append : (accepted : List Change) (now : ℕ) (rows : List Row) (row : Row) → AllAwait accepted now rows → Awaits (plan_of row.name accepted) now row
+pub all-append : (accepted : List Change) (now : ℕ) (rows : List Row) (row : Row) → AllAwait accepted now rows → Awaits (plan_of row.name accepted) now row
     → AllAwait accepted now (rows ++ row ∷ [])
 all-append accepted now [] row all last = (last, tt)
 all-append accepted now (first ∷ rows) row all last = (all.0, all-append accepted now rows row all.1 last)

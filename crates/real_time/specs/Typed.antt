@@ -5,15 +5,8 @@ use Rattle.solo_base.specs.declared.item.Item.{Item}
 use Rattle.solo_base.specs.declared.item.Item.TheVariants as item
 use Rattle.solo_base.specs.Words.{words, spells}
 use Rattle.deck_format.specs.Numeral.{number_within}
-
--- a time is a number of seconds, and so is a period, where 0 is none
-pub data Typed : Type 0 where
-  Blank : Typed
-  Names : List ℕ → Typed
-  Plans : List ℕ → ℕ → ℕ → Typed
-  Stops : List ℕ → Typed
-  Passes : ℕ → Typed
-  Bad : Typed
+pub use Rattle.real_time.specs.declared.typed_line.Typed.{Typed}
+pub use Rattle.real_time.specs.declared.typed_line.Typed.TheVariants.{Blank, Names, Plans, Stops, Passes, Bad}
 
 abbrev pub naming : Option (List ℕ) → Typed
 naming (Some name) = Names name

@@ -3,10 +3,16 @@
 
 mod plan;
 mod rows;
+mod table;
 mod task;
 mod tasks;
+mod texts;
+mod typed_line;
 
-pub use plan::{Plan, Planned};
+pub use plan::{Named, Plan, Planned};
 pub use rows::worked_rows;
+pub use table::{OPERATOR, Seat, TimeTable, Waited, Woken};
 pub use task::Task;
-pub use tasks::{change_named, is_task, start, stop};
+pub use tasks::{MOST_TASKS, change_named, is_task, name, pass, second_passes, start, stop};
+pub use texts::{name_line, plan_line, runs_line, start_line, stop_line, time_line};
+pub use typed_line::{Typed, line_says};

@@ -7,6 +7,17 @@ pub enum Plan {
     First { start: u32, period: u32 },
 }
 
+/// What TASK answers.
+#[derive(Clone, Copy, Debug)]
+pub enum Named {
+    /// A task has the name already.
+    TaskExists,
+    /// There are eight tasks.
+    TableFull,
+    /// There is one task more.
+    Done,
+}
+
 /// What START or STOP answers.
 #[derive(Clone, Copy, Debug)]
 pub enum Planned {

@@ -1,12 +1,16 @@
-ghost use Rattle.std.specs.Prelude.{◌≡◌, ◌≤◌, ◌∷◌, ℕ, List, map};
+ghost use Rattle.std.specs.Prelude.{◌≡◌, ◌≤◌, ◌<◌, ◌+◌, ◌∷◌, ℕ, List, length, map};
 ghost use Rattle.std.specs.List.{list_any};
-ghost use Rattle.real_time.specs.Typed.{Plans, Stops};
-ghost use Rattle.real_time.specs.Starts.{Change, Script, plan_of};
-ghost use Rattle.real_time.specs.Awaiting.{Awaits, AllAwait, IsAhead, IsShort, has_name};
-ghost use Rattle.real_time.specs.Answers.{StandsForScript, AnswersLine, start_text, stop_text};
+ghost use Rattle.real_time.specs.Typed.{Names, Plans, Stops};
+ghost use Rattle.real_time.specs.Starts.{Change, Script, next_second, plan_of};
+ghost use Rattle.real_time.specs.Awaiting.{Awaits, AllAwait, IsAhead, IsShort, Row, has_name};
+ghost use Rattle.real_time.specs.Answers.{StandsForScript, StandsWithin, AnswersLine, name_text, start_text, stop_text, starts_at};
 
-use crate::{Plan, Planned, Task};
+use crate::{Named, Plan, Planned, Task};
+use arrayvec::ArrayVec;
 use solo_base::Ident;
+
+/// How many tasks there are at most.
+pub const MOST_TASKS: usize = 8;
 
 // Gives a plan to the task where it has this name.
 fn change_if_named(task: &mut Task, name: &Ident, plan: Plan)
@@ -40,6 +44,21 @@ pub fn is_task(tasks: &[Task], name: &Ident) -> bool
     ensures { result ≡ list_any (has_name name.now) tasks.now }
 {
     tasks.iter().any(|task| task.has_name(name))
+}
+
+/// The entry of TASK.
+pub fn name(tasks: &mut ArrayVec<Task, MOST_TASKS>, name: Ident) -> Named
+    ensures { (s : Script) → StandsForScript s tasks.old.items
+        → AnswersLine s (Names name) (name_text result) tasks.new.items }
+{
+    if is_task(tasks.as_slice(), &name) {
+        return Named::TaskExists;
+    }
+    if tasks.len() == MOST_TASKS {
+        return Named::TableFull;
+    }
+    tasks.push(Task::new(name));
+    Named::Done
 }
 
 /// The entry of START, which is handed the second that has passed last.
@@ -76,3 +95,24 @@ pub fn stop(tasks: &mut [Task], name: &Ident) -> Planned
     change_named(tasks, name, Plan::Never);
     Planned::Done
 }
+
+/// A second passes for the task at a place, once it has passed for those in front: whether the task starts.
+pub fn pass(tasks: &mut [Task], place: usize, second: u32) -> bool
+    requires place { place < length tasks.old }
+    requires second { second ≤ 1000000 }
+    ensures starts { (s : Script) → second ≡ s.now + 1 → StandsWithin s place tasks.old
+        → result ≡ starts_at s place }
+    ensures stands { (s : Script) → second ≡ s.now + 1 → StandsWithin s place tasks.old
+        → StandsWithin s (place + 1) tasks.new }
+{
+    let task = &mut tasks[place];
+    task.passes(second)
+}
+
+/// A second has passed once it has passed for each task, one after the other. Nothing is done here: the
+/// contract is the law.
+pub fn second_passes()
+    ensures begins { (s : Script) (rows : List Row) → StandsForScript s rows → StandsWithin s 0 rows }
+    ensures ends { (s : Script) (rows : List Row) → StandsWithin s (length rows) rows
+        → StandsForScript (next_second s) rows }
+{}
