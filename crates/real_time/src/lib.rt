@@ -1,6 +1,7 @@
 //! The real-time scheduler: a table of tasks that start by typed plans, and the lines that its console shows.
 #![tactic(auto)]
 
+mod laws;
 mod plan;
 mod rows;
 mod table;
@@ -9,6 +10,7 @@ mod tasks;
 mod texts;
 mod typed_line;
 
+pub use laws::timing_law;
 pub use plan::{Named, Plan, Planned};
 pub use rows::worked_rows;
 pub use table::{OPERATOR, Seat, TimeTable, Waited, Woken};
