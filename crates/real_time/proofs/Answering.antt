@@ -43,7 +43,8 @@ module _ (s : Script) (name : List ℕ) (old : List Row) (st : StandsForScript s
 
   pub stop-done : (new : List Row) → list_any (has_name name) old ≡ true → map name_of new ≡ map name_of old
       → AllAwait (record { name = name; plan = Never } ∷ s.accepted) s.now new → AnswersLine s (Stops name) (stop_text Done) new
-  stop-done new some same all = (let is = is-task true some in record { shows = rw is refl; stands = rw is (record { names = same ∙ st.names; await = all; known = (is, st.known) }) })
+  stop-done new some same all =
+      (let is = is-task true some in record { shows = rw is refl; stands = rw is (record { names = same ∙ st.names; await = all; known = (is, st.known) }) })
 
 pub has-passed : (now time : ℕ) → time ≤ now → nat_lt now time ≡ false
 has-passed now time most = by (nat_lt now time) refl

@@ -31,7 +31,8 @@ module _ (s : Script) (rows : List Row) (place second : ℕ) (is d : Row) (start
     front =
         (let there = subst (λ name. Awaits (plan_of name s.accepted) (s.now + 1) is) (sym same)
             (subst (λ second. Awaits (plan_of (get_or rows place d).name s.accepted) second is) second_is passed.awaits) in
-        subst (AllAwait s.accepted (s.now + 1)) (sym (take_more_set rows place is below)) (all-append s.accepted (s.now + 1) (take place rows) is st.front there));
+        subst (AllAwait s.accepted (s.now + 1)) (sym (take_more_set rows place is below)) (all-append s.accepted (s.now + 1)
+            (take place rows) is st.front there));
     back = subst (AllAwait s.accepted s.now) (sym (drop-set-lt (place + 1) rows place is (omega arith)))
         (subst (AllAwait s.accepted s.now) (drop_more rows place d below) st.back).1;
     known = st.known;

@@ -24,17 +24,17 @@ use Rattle.real_time.specs.declared.table.Seat.TheVariants.{Operator, Task}
 use Rattle.real_time.specs.declared.table.Woken.TheVariants as woken
 use Rattle.real_time.specs.declared.table.Waited.{Waited}
 use Rattle.real_time.specs.declared.table.Waited.TheVariants as waited
-use Rattle.real_time.specs.Table.{Table, MayEnter, after_close, after_wait, after_wake, all_left, behind_leave, has_left, in_queue, is_awaited, operator_resumed, out_of_queue, waited_by, woken_by}
+use Rattle.real_time.specs.Table.{Table, MayComeIn, after_close, behind_wait, after_wake, all_left, behind_leave, has_left, sleeper_at, is_awaited, operator_resumed, out_of_queue, waited_by, woken_by}
 use Rattle.real_time.specs.Orderly.{IsOrderly}
 use Rattle.real_time.specs.Typed.{typed}
 use Rattle.real_time.specs.Starts.{Script, behind_line, opening, runs_line, times, times_from, times_started}
 use Rattle.real_time.specs.Deeds.{Deed, Enters, Shows, Wakes, Returns, deeds_of, starts, starts_from}
-use Rattle.real_time.specs.States.{Stage, Works, Closes, Joins, Tells, Ended, State, Opening, opened, seen_at, Prints, told_line, next_of, Event, Accepts, Displays, Moves, keys_behind, after_item, after_accept, behind_display, behind_fault, display_cause, line_of, displayed, after_display, after_woken, names_by, names_told, joined_by, joined, operator_move, with_start, stage_told, waits, task_move, happens, OperatorMay, TaskMay, IsMove, IsEnabled}
+use Rattle.real_time.specs.States.{Stage, Works, Closes, Joins, Tells, Ended, TimeState, Opening, opened, seen_at, Prints, told_line, action_at, TimeEvent, Accepts, Displays, Moves, keys_behind, after_item, after_accept, behind_display, behind_fault, display_cause, lines_printed, displayed, after_display, after_woken, names_by, names_told, joined_by, join_move, operator_move, with_start, stage_told, waits, task_move, occurs, OperatorMay, TaskMay, IsMove, MayHappen}
 use Rattle.real_time.specs.TimesLaw.{timing}
-use Rattle.real_time.specs.Owed.{lines_by, starts_by, lines_owed, starts_owed, pending, pending_of, LinesAdd, StartsAdd, IsBehind}
+use Rattle.real_time.specs.Owed.{lines_shown, starts_by, lines_owed, starts_owed, pending, pending_of, LinesAdd, StartsAdd, IsBehind}
 use Rattle.real_time.specs.LineDeeds.{line-shows, line-starts}
 use Rattle.real_time.specs.Counted.{behind_all, runs-told}
-use Rattle.real_time.specs.Reaching.{Fits, Holds, at-opening, keeps, reads-at, not-awaiting, outside, awaited-is}
+use Rattle.real_time.specs.Reaching.{Fits, Holds, at-opening, keeps, reads-at, not-awaiting, is-outside, awaited-is}
 
 -- the names that are still told are those of the tasks from the place on
 abbrev pub IsTelling : Stage → Option Cause → List (List ℕ) → Type 0
@@ -45,7 +45,7 @@ IsTelling Closes fault tasks = Unit {0}
 IsTelling Joins fault tasks = Unit {0}
 IsTelling Ended fault tasks = Unit {0}
 
-pub record Accounts (items : List Item) (s : State) : Type 0 where
+pub record Accounts (items : List Item) (s : TimeState) : Type 0 where
   pub rest : List Item
   pub keys : s.keys ≡ Some rest
   pub script : behind_all s.script rest ≡ behind_all opening items
@@ -70,7 +70,7 @@ operator-pending : (t : Table) (place : ℕ) → t.turn ≡ Handed Operator → 
 operator-pending t place is = rw is refl
 
 -- ---- a line is read
-module _ (items : List Item) (s : State) (a : Accounts items s) (stage_is : s.stage ≡ Works []) where
+module _ (items : List Item) (s : TimeState) (a : Accounts items s) (stage_is : s.stage ≡ Works []) where
   no-fault : s.fault ≡ None
   no-fault = subst (λ stage. IsBehind stage s.fault a.rest) stage_is a.behind
 
@@ -145,8 +145,8 @@ module _ (items : List Item) (s : State) (a : Accounts items s) (stage_is : s.st
   account-accept read.Limit takes = account-failed cause.DeckLimit (keys_behind s.keys read.Limit) takes.rest takes.now_are takes.items_are
 
 -- ---- a line is displayed
-account-fault : (items : List Item) (s : State) (fault : PrintFault) (now : Option (List ℕ)) → Accounts items s → (text : List ℕ)
-    → next_of s.stage s.seen ≡ Prints text → Accounts items (after_display s (Some fault) now)
+account-fault : (items : List Item) (s : TimeState) (fault : PrintFault) (now : Option (List ℕ)) → Accounts items s → (text : List ℕ)
+    → action_at s.stage s.seen ≡ Prints text → Accounts items (after_display s (Some fault) now)
 account-fault items s fault now a text next = record {
   rest = a.rest;
   keys = a.keys;
@@ -157,14 +157,14 @@ account-fault items s fault now a text next = record {
   starts = λ place. record { more = (a.starts place).more; all_are = (a.starts place).all_are; are = λ none. absurd cc };
 }
   where
-    faulty : (stage : Stage) → next_of stage s.seen ≡ Prints text → IsBehind (behind_fault stage) (Some (display_cause fault)) a.rest
+    faulty : (stage : Stage) → action_at stage s.seen ≡ Prints text → IsBehind (behind_fault stage) (Some (display_cause fault)) a.rest
     faulty (Works deeds) is = λ none. absurd cc
     faulty Closes is = λ none. absurd cc
     faulty Joins is = λ none. absurd cc
     faulty (Tells place names) is = λ none. absurd cc
     faulty Ended is = λ none. absurd cc
 
-    silent : (stage : Stage) → next_of stage s.seen ≡ Prints text → IsTelling (behind_fault stage) (Some (display_cause fault)) s.script.tasks
+    silent : (stage : Stage) → action_at stage s.seen ≡ Prints text → IsTelling (behind_fault stage) (Some (display_cause fault)) s.script.tasks
     silent (Works deeds) is = tt
     silent Closes is = tt
     silent Joins is = tt
@@ -172,14 +172,14 @@ account-fault items s fault now a text next = record {
     silent Ended is = tt
 
 -- what is displayed is the first of what is owed
-pub record Displayed (items : List Item) (s : State) (rest : List Item) (text : List ℕ) (stage : Stage) : Type 0 where
+pub record Displayed (items : List Item) (s : TimeState) (rest : List Item) (text : List ℕ) (stage : Stage) : Type 0 where
   pub fault : s.fault ≡ None
   pub lines : lines_owed s.stage s.script rest ≡ text ∷ lines_owed stage s.script rest
   pub starts : (place : ℕ) → starts_owed place s.stage s.script rest ≡ starts_owed place stage s.script rest
   pub behind : IsBehind stage s.fault rest
   pub telling : IsTelling stage s.fault s.script.tasks
 
-account-display : (items : List Item) (s : State) (now : Option (List ℕ)) (text : List ℕ) → (a : Accounts items s) → next_of s.stage s.seen ≡ Prints text
+account-display : (items : List Item) (s : TimeState) (now : Option (List ℕ)) (text : List ℕ) → (a : Accounts items s) → action_at s.stage s.seen ≡ Prints text
     → Displayed items s a.rest text (behind_display s.stage) → Accounts items (after_display s None now)
 account-display items s now text a next d = record {
   rest = a.rest;
@@ -189,7 +189,7 @@ account-display items s now text a next d = record {
   telling = d.telling;
   lines = record {
     more = lines_owed (behind_display s.stage) s.script a.rest;
-    all_are = ap (λ next. (s.shown ++ line_of next) ++ lines_owed (behind_display s.stage) s.script a.rest) next
+    all_are = ap (λ next. (s.shown ++ lines_printed next) ++ lines_owed (behind_display s.stage) s.script a.rest) next
         ∙ append_assoc s.shown (text ∷ []) (lines_owed (behind_display s.stage) s.script a.rest)
         ∙ ap (λ lines. s.shown ++ lines) (sym (a.lines.are d.fault ∙ d.lines))
         ∙ a.lines.all_are;
@@ -203,7 +203,7 @@ account-display items s now text a next d = record {
 }
 
 -- the count that a task tells is that of its starts
-told-runs : (items : List Item) (s : State) (h : Holds s) (a : Accounts items s) (place : ℕ) (name : List ℕ) (names : List (List ℕ))
+told-runs : (items : List Item) (s : TimeState) (h : Holds s) (a : Accounts items s) (place : ℕ) (name : List ℕ) (names : List (List ℕ))
     → s.stage ≡ Tells place (name ∷ names) → s.fault ≡ None → told_line s.seen place name ≡ runs_line s.script name
 told-runs items s h a place name names stage_is none =
     let telling = subst (λ stage. IsTelling stage s.fault s.script.tasks) stage_is a.telling in
@@ -214,7 +214,8 @@ told-runs items s h a place name names stage_is none =
     let closed : s.table.closed ≡ true = (subst (λ stage. Fits stage s.table) stage_is h.fits).0 in
     let more : (a.starts place).more ≡ [] = (a.starts place).are none ∙ ap (λ stage. starts_owed place stage s.script a.rest) stage_is in
     let seen : seen_at s place ≡ starts place items =
-        sym (append-nil (seen_at s place)) ∙ ap (λ more. seen_at s place ++ more) (sym (ap (λ p. p ++ (a.starts place).more) (closed-pending s.table place closed) ∙ more))
+        sym (append-nil (seen_at s place))
+            ∙ ap (λ more. seen_at s place ++ more) (sym (ap (λ p. p ++ (a.starts place).more) (closed-pending s.table place closed) ∙ more))
         ∙ (a.starts place).all_are in
     let count = ap length seen ∙ sym runs ∙ ap (λ script. times_started name script) (sym script) in
     ap (λ n. trimmed name ++ codes ": " ++ decimal n ++ codes " RUNS") count
@@ -225,15 +226,15 @@ told-runs items s h a place name names stage_is none =
         plus-zero : (n : ℕ) → n ≡ n + 0
         plus-zero n = omega arith
 
-pub displays-first : (items : List Item) (s : State) (h : Holds s) (a : Accounts items s) (text : List ℕ) (stage : Stage) → s.stage ≡ stage
-    → next_of stage s.seen ≡ Prints text → Displayed items s a.rest text (behind_display stage)
+pub displays-first : (items : List Item) (s : TimeState) (h : Holds s) (a : Accounts items s) (text : List ℕ) (stage : Stage) → s.stage ≡ stage
+    → action_at stage s.seen ≡ Prints text → Displayed items s a.rest text (behind_display stage)
 displays-first items s h a text (Works []) stage_is is = absurd cc
 displays-first items s h a text (Works (Enters line ∷ deeds)) stage_is is = absurd cc
 displays-first items s h a text (Works (Shows line ∷ deeds)) stage_is is =
     let none = subst (λ stage. IsBehind stage s.fault a.rest) stage_is a.behind in
     record {
       fault = none;
-      lines = rw stage_is (let same : line ≡ text = cc in ap (λ first. first ∷ (lines_by deeds ++ times_from s.script a.rest)) same);
+      lines = rw stage_is (let same : line ≡ text = cc in ap (λ first. first ∷ (lines_shown deeds ++ times_from s.script a.rest)) same);
       starts = λ place. rw stage_is refl;
       behind = none;
       telling = tt;
@@ -259,7 +260,8 @@ displays-first items s h a text (Tells place (name ∷ names)) stage_is is =
     by None e telling = e
     by (Some why) e telling = absurd (let none = rw e at telling in cc)
 
-    next : ((i : ℕ) → slice_get (name ∷ names) i ≡ slice_get s.script.tasks (place + i)) → (i : ℕ) → slice_get names i ≡ slice_get s.script.tasks (suc place + i)
+    next : ((i : ℕ) → slice_get (name ∷ names) i ≡ slice_get s.script.tasks (place + i)) → (i : ℕ)
+        → slice_get names i ≡ slice_get s.script.tasks (suc place + i)
     next telling i = telling (suc i) ∙ ap (slice_get s.script.tasks) (moved place i)
       where
         moved : (place i : ℕ) → place + suc i ≡ suc place + i
@@ -268,8 +270,8 @@ displays-first items s h a text Ended stage_is is = absurd cc
 
 -- ---- the operator moves
 -- while it works on a line
-works-on : (items : List Item) (s : State) (a : Accounts items s) (deeds new : List Deed) (table : Table) → s.stage ≡ Works deeds
-    → lines_by new ≡ lines_by deeds
+works-on : (items : List Item) (s : TimeState) (a : Accounts items s) (deeds new : List Deed) (table : Table) → s.stage ≡ Works deeds
+    → lines_shown new ≡ lines_shown deeds
     → ((place : ℕ) → pending table.turn table.closed table.second place ++ starts_by place new ≡ pending_of s place ++ starts_by place deeds)
     → Accounts items (record s { stage = Works new; table = table })
 works-on items s a deeds new table stage_is lines starts_are =
@@ -300,7 +302,7 @@ works-on items s a deeds new table stage_is lines starts_are =
     }
 
 -- where nothing that is owed changes
-same-owed : (items : List Item) (s : State) (a : Accounts items s) (stage : Stage) (table : Table)
+same-owed : (items : List Item) (s : TimeState) (a : Accounts items s) (stage : Stage) (table : Table)
     → (lines_owed s.stage s.script a.rest ≡ lines_owed stage s.script a.rest) ⊎ (s.fault ≡ None → ⊥)
     → ((place : ℕ) → starts_owed place s.stage s.script a.rest ≡ starts_owed place stage s.script a.rest)
     → ((place : ℕ) → pending table.turn table.closed table.second place ≡ pending_of s place)
@@ -323,7 +325,7 @@ same-owed items s a stage table lines owed same behind telling = record {
   };
 }
 
-joined-account : (items : List Item) (s : State) (a : Accounts items s) (t : Table) (how : Stepped) (all : Bool) → s.stage ≡ Joins
+joined-account : (items : List Item) (s : TimeState) (a : Accounts items s) (t : Table) (how : Stepped) (all : Bool) → s.stage ≡ Joins
     → s.table.closed ≡ true → t.closed ≡ true → Accounts items (joined_by all how s t).to
 joined-account items s a t how true stage_is closed still =
     same-owed items s a (Tells 0 (names_told s)) t (by s.fault refl) (λ place. rw stage_is refl)
@@ -347,12 +349,12 @@ joined-account items s a t how false stage_is closed still =
     same-owed items s a Joins (record t { operator = Some 1 }) (inl (rw stage_is refl)) (λ place. rw stage_is refl)
     (λ place. closed-pending t place still ∙ sym (closed-pending s.table place closed)) (subst (λ stage. IsBehind stage s.fault a.rest) stage_is a.behind) tt
 
-joins-account : (items : List Item) (s : State) (a : Accounts items s) (operator : Option ℕ) → s.stage ≡ Joins → s.table.closed ≡ true
-    → Accounts items (joined operator s).to
+joins-account : (items : List Item) (s : TimeState) (a : Accounts items s) (operator : Option ℕ) → s.stage ≡ Joins → s.table.closed ≡ true
+    → Accounts items (join_move operator s).to
 joins-account items s a None stage_is closed = joined-account items s a s.table stepped.Acted (all_left s.table) stage_is closed closed
 joins-account items s a (Some p) stage_is closed = joined-account items s a (operator_resumed s.table) stepped.Resumed (all_left s.table) stage_is closed closed
 
-wakes-account : (items : List Item) (s : State) (a : Accounts items s) (place second : ℕ) (due : Bool) (deeds : List Deed) (held : Option ℕ)
+wakes-account : (items : List Item) (s : TimeState) (a : Accounts items s) (place second : ℕ) (due : Bool) (deeds : List Deed) (held : Option ℕ)
     → s.stage ≡ Works (Wakes place second due ∷ deeds) → s.table.turn ≡ Free → s.table.closed ≡ false
     → Accounts items (after_woken (woken_by due held) s place second deeds).to
 wakes-account items s a place second false deeds held stage_is free open_yet =
@@ -379,25 +381,26 @@ wakes-account items s a place second true deeds None stage_is free open_yet =
     (λ q. ap (λ p. p ++ starts_by q (Wakes place second true ∷ deeds))
     (free-pending (after_wake s.table place second woken.Delayed) q free ∙ sym (free-pending s.table q free)))
 
-operator-account : (items : List Item) (s : State) (h : Holds s) (a : Accounts items s) (stage : Stage) → s.stage ≡ stage → Fits stage s.table
-    → OperatorMay (next_of stage s.seen) s.table → IsMove (next_of stage s.seen) → Accounts items (operator_move stage s).to
+operator-account : (items : List Item) (s : TimeState) (h : Holds s) (a : Accounts items s) (stage : Stage) → s.stage ≡ stage → Fits stage s.table
+    → OperatorMay (action_at stage s.seen) s.table → IsMove (action_at stage s.seen) → Accounts items (operator_move stage s).to
 operator-account items s h a (Works []) stage_is fits may move = absurd move
 operator-account items s h a (Works (Enters line ∷ deeds)) stage_is fits may move =
     works-on items s a (Enters line ∷ deeds) deeds s.table stage_is refl (λ place. refl)
 operator-account items s h a (Works (Shows text ∷ deeds)) stage_is fits may move = absurd move
 operator-account items s h a (Works (Wakes place second due ∷ deeds)) stage_is fits may move =
-    wakes-account items s a place second due deeds (in_queue s.table.queues place) stage_is
-    (outside s h (not-awaiting s place second due h may fits.1.1) may) fits.0
+    wakes-account items s a place second due deeds (sleeper_at s.table.queues place) stage_is
+    (is-outside s h (not-awaiting s place second due h may fits.1.1) may) fits.0
 operator-account items s h a (Works (Returns ∷ deeds)) stage_is fits may move =
     works-on items s a (Returns ∷ deeds) deeds (operator_resumed s.table) stage_is refl
     (λ place. ap (λ p. p ++ starts_by place deeds) (sym (operator-pending s.table place fits.1)))
 operator-account items s h a Closes stage_is fits may move =
     same-owed items s a Joins (after_close s.table) (inl (rw stage_is refl)) (λ place. rw stage_is refl)
-    (λ place. closed-pending (after_close s.table) place refl ∙ sym (free-pending s.table place (outside s h fits.1 may)))
+    (λ place. closed-pending (after_close s.table) place refl ∙ sym (free-pending s.table place (is-outside s h fits.1 may)))
     (subst (λ stage. IsBehind stage s.fault a.rest) stage_is a.behind) tt
 operator-account items s h a Joins stage_is fits may move = joins-account items s a s.table.operator stage_is fits
 operator-account items s h a (Tells place []) stage_is fits may move =
-    same-owed items s a Ended s.table (inl (rw stage_is refl)) (λ q. rw stage_is refl) (λ q. refl) (subst (λ stage. IsBehind stage s.fault a.rest) stage_is a.behind) tt
+    same-owed items s a Ended s.table (inl (rw stage_is refl)) (λ q. rw stage_is refl) (λ q. refl) (subst
+        (λ stage. IsBehind stage s.fault a.rest) stage_is a.behind) tt
 operator-account items s h a (Tells place (name ∷ names)) stage_is fits may move = absurd move
 operator-account items s h a Ended stage_is fits may move = absurd move
 
@@ -408,7 +411,7 @@ seen-other seen place q starts other = rw get_or-set_other refl
 seen-own : (seen : List (List ℕ)) (place : ℕ) (starts : List ℕ) → place < length seen → slice_index_or (slice_set seen place starts) place [] ≡ starts
 seen-own seen place starts below = rw get_or-set_same refl
 
-task-account : (items : List Item) (s : State) (a : Accounts items s) (stage : Stage) (table : Table) (seen : List (List ℕ))
+task-account : (items : List Item) (s : TimeState) (a : Accounts items s) (stage : Stage) (table : Table) (seen : List (List ℕ))
     → ((script : Script) (rest : List Item) → lines_owed s.stage script rest ≡ lines_owed stage script rest)
     → (IsBehind s.stage s.fault a.rest → IsBehind stage s.fault a.rest) → (IsTelling s.stage s.fault s.script.tasks → IsTelling stage s.fault s.script.tasks)
     → ((q : ℕ) → (more : List ℕ) × (slice_index_or seen q [] ++ (pending table.turn table.closed table.second q ++ more) ≡ starts q items)
@@ -425,7 +428,7 @@ task-account items s a stage table seen lines behind telling starts_are = record
 }
 
 -- it has not seen a start, and none is pending that wasn't
-quiet-account : (items : List Item) (s : State) (a : Accounts items s) (table : Table)
+quiet-account : (items : List Item) (s : TimeState) (a : Accounts items s) (table : Table)
     → ((q : ℕ) → pending table.turn table.closed table.second q ≡ pending_of s q)
     → Accounts items (record s { table = table; seen = s.seen; stage = s.stage })
 quiet-account items s a table same =
@@ -436,7 +439,7 @@ quiet-account items s a table same =
       (a.starts q).are,
     ))
 
-resumes-account : (items : List Item) (s : State) (h : Holds s) (a : Accounts items s) (place : ℕ) (closed : Bool) → place < 8
+resumes-account : (items : List Item) (s : TimeState) (h : Holds s) (a : Accounts items s) (place : ℕ) (closed : Bool) → place < 8
     → s.table.turn ≡ Handed (Task place) → s.table.closed ≡ closed
     → Accounts items (record s {
       table = if closed then behind_leave (out_of_queue s.table place) place else out_of_queue s.table place;
@@ -477,10 +480,10 @@ resumes-account items s h a place false one handed c =
         ]
 
 -- the operator's wake is done: the task has seen the start for which it waited
-told-account : (items : List Item) (s : State) (h : Holds s) (a : Accounts items s) (place : ℕ) (stage : Stage) → place < 8 → s.stage ≡ stage
+told-account : (items : List Item) (s : TimeState) (h : Holds s) (a : Accounts items s) (place : ℕ) (stage : Stage) → place < 8 → s.stage ≡ stage
     → Fits stage s.table → s.table.awaited ≡ Some place → s.table.turn ≡ Free
     → Accounts items (record s {
-      table = after_wait s.table place (waited.Starts s.table.second);
+      table = behind_wait s.table place (waited.Starts s.table.second);
       seen = with_start s.seen place (waited.Starts s.table.second);
       stage = stage_told (waited.Starts s.table.second) stage;
     })
@@ -492,8 +495,9 @@ told-account items s h a place (Works (Shows text ∷ deeds)) one stage_is fits 
     absurd (let none = fits.1 in let waits = (h.table.awaits place is).operator in cc)
 told-account items s h a place (Works (Wakes q second due ∷ deeds)) one stage_is fits is free =
     let wakes = waking fits.1.1 in
-    task-account items s a (Works (Returns ∷ deeds)) (after_wait s.table place (waited.Starts s.table.second))
-    (with_start s.seen place (waited.Starts s.table.second)) (λ script rest. rw stage_is refl) (λ behind. subst (λ stage. IsBehind stage s.fault a.rest) stage_is behind)
+    task-account items s a (Works (Returns ∷ deeds)) (behind_wait s.table place (waited.Starts s.table.second))
+    (with_start s.seen place (waited.Starts s.table.second)) (λ script rest. rw stage_is refl) (λ behind. subst
+        (λ stage. IsBehind stage s.fault a.rest) stage_is behind)
     (λ telling. tt)
     (λ r. (starts_by r deeds ++ starts_from r s.script a.rest, all wakes r, λ none. refl))
   where
@@ -526,20 +530,25 @@ told-account items s h a place (Works (Wakes q second due ∷ deeds)) one stage_
         first wakes r = rw (wakes.0, wakes.1, wakes.2) (both (place == r) second)
 
     all : (q ≡ place) × (due ≡ true) × (s.table.second ≡ second) → (r : ℕ)
-        → slice_index_or (with_start s.seen place (waited.Starts s.table.second)) r [] ++ ([] ++ (starts_by r deeds ++ starts_from r s.script a.rest)) ≡ starts r items
+        → slice_index_or (with_start s.seen place (waited.Starts s.table.second)) r [] ++ ([] ++ (starts_by r deeds ++ starts_from r s.script a.rest))
+            ≡ starts r items
     all wakes r = elim (eqb_tells r place) as
-        (λ _. slice_index_or (with_start s.seen place (waited.Starts s.table.second)) r [] ++ (starts_by r deeds ++ starts_from r s.script a.rest) ≡ starts r items) [
+        (λ _. slice_index_or (with_start s.seen place (waited.Starts s.table.second)) r [] ++ (starts_by r deeds ++ starts_from r s.script a.rest)
+            ≡ starts r items) [
       | inl same ↦
           (let is = same.1 in
           let long : place < length s.seen = (let eight = h.lists.0 in omega (arith, one, eight)) in
           let own = eq-eqb place place refl in
-          subst (λ r. slice_index_or (with_start s.seen place (waited.Starts s.table.second)) r [] ++ (starts_by r deeds ++ starts_from r s.script a.rest) ≡ starts r items) (sym is)
-          (ap (λ seen. seen ++ (starts_by place deeds ++ starts_from place s.script a.rest)) (seen-own s.seen place (seen_at s place ++ s.table.second ∷ []) long)
+          subst (λ r. slice_index_or (with_start s.seen place (waited.Starts s.table.second)) r [] ++ (starts_by r deeds ++ starts_from r s.script a.rest)
+              ≡ starts r items) (sym is)
+          (ap (λ seen. seen ++ (starts_by place deeds ++ starts_from place s.script a.rest)) (seen-own s.seen place
+              (seen_at s place ++ s.table.second ∷ []) long)
           ∙ append_assoc (seen_at s place) (s.table.second ∷ []) (starts_by place deeds ++ starts_from place s.script a.rest)
           ∙ ap (λ t. seen_at s place ++ ((if t then s.table.second ∷ [] else []) ++ (starts_by place deeds ++ starts_from place s.script a.rest))) (sym own)
           ∙ owed wakes place))
       | inr other ↦
-          (ap (λ seen. seen ++ (starts_by r deeds ++ starts_from r s.script a.rest)) (seen-other s.seen place r (seen_at s place ++ s.table.second ∷ []) other.1)
+          (ap (λ seen. seen ++ (starts_by r deeds ++ starts_from r s.script a.rest)) (seen-other s.seen place r
+              (seen_at s place ++ s.table.second ∷ []) other.1)
           ∙ ap (λ l. seen_at s r ++ (l ++ (starts_by r deeds ++ starts_from r s.script a.rest))) (sym (apart other.1))
           ∙ owed wakes r)
     ]
@@ -556,19 +565,19 @@ told-account items s h a place (Tells q names) one stage_is fits is free =
     absurd (let closed = fits.0 in let not_closed = (h.table.awaits place is).open_yet in cc)
 told-account items s h a place Ended one stage_is fits is free = absurd (let closed = fits.0 in let not_closed = (h.table.awaits place is).open_yet in cc)
 
-waits-account : (items : List Item) (s : State) (h : Holds s) (a : Accounts items s) (place : ℕ) (closed awaited : Bool) → place < 8
+waits-account : (items : List Item) (s : TimeState) (h : Holds s) (a : Accounts items s) (place : ℕ) (closed awaited : Bool) → place < 8
     → s.table.turn ≡ Free → s.table.closed ≡ closed → is_awaited s.table.awaited place ≡ awaited
     → Accounts items (waits (if closed then waited.Leaves else (if awaited then waited.Starts s.table.second else waited.Delayed)) s place).to
 waits-account items s h a place true awaited one free c is =
-    quiet-account items s a (after_wait s.table place waited.Leaves)
-    (λ q. closed-pending (after_wait s.table place waited.Leaves) q c ∙ sym (closed-pending s.table q c))
+    quiet-account items s a (behind_wait s.table place waited.Leaves)
+    (λ q. closed-pending (behind_wait s.table place waited.Leaves) q c ∙ sym (closed-pending s.table q c))
 waits-account items s h a place false true one free c is =
     told-account items s h a place s.stage one refl h.fits (awaited-is s.table.awaited place is) free
 waits-account items s h a place false false one free c is =
-    quiet-account items s a (after_wait s.table place waited.Delayed) (λ q. refl)
+    quiet-account items s a (behind_wait s.table place waited.Delayed) (λ q. refl)
 
-task-moves-account : (items : List Item) (s : State) (h : Holds s) (a : Accounts items s) (place : ℕ) (left : Bool) (held : Option ℕ) → place < 8
-    → has_left s.table place ≡ left → in_queue s.table.queues place ≡ held → TaskMay left s.table place → Accounts items (task_move left held s place).to
+task-moves-account : (items : List Item) (s : TimeState) (h : Holds s) (a : Accounts items s) (place : ℕ) (left : Bool) (held : Option ℕ) → place < 8
+    → has_left s.table place ≡ left → sleeper_at s.table.queues place ≡ held → TaskMay left s.table place → Accounts items (task_move left held s place).to
 task-moves-account items s h a place true held one gone is may = record {
   rest = a.rest;
   keys = a.keys;
@@ -585,7 +594,7 @@ task-moves-account items s h a place false None one gone is (inl free) =
 task-moves-account items s h a place false None one gone is (inr handed) = absurd (let there = h.table.handed place handed in cc)
 
 -- ---- each event keeps them
-pub keeps-accounts : (items : List Item) (s : State) (event : Event) → Holds s → Accounts items s → IsEnabled s event → Accounts items (happens s event)
+pub keeps-accounts : (items : List Item) (s : TimeState) (event : TimeEvent) → Holds s → Accounts items s → MayHappen s event → Accounts items (occurs s event)
 keeps-accounts items s (Accepts answer) h a is =
     account-accept items s a (reads-at s.stage s.seen is.0) answer (is.1.told a.rest a.keys)
 keeps-accounts items s (Displays None now) h a is =
@@ -594,7 +603,7 @@ keeps-accounts items s (Displays (Some fault) now) h a is = account-fault items 
 keeps-accounts items s (Moves zero how) h a is = absurd is.0
 keeps-accounts items s (Moves (suc zero) how) h a is = operator-account items s h a s.stage refl h.fits is.0 is.1
 keeps-accounts items s (Moves (suc (suc place)) how) h a is =
-    task-moves-account items s h a place (has_left s.table place) (in_queue s.table.queues place) is.0.0 refl refl is.0.2
+    task-moves-account items s h a place (has_left s.table place) (sleeper_at s.table.queues place) is.0.0 refl refl is.0.2
 
 pub accounts-open : (o : Opening) (items : List Item) → o.keys ≡ Some items → Accounts items (opened o)
 accounts-open o items is = record {
@@ -618,11 +627,11 @@ accounts-open o items is = record {
     none-seen (suc (suc (suc (suc (suc (suc (suc zero))))))) = refl
     none-seen (suc (suc (suc (suc (suc (suc (suc (suc place)))))))) = refl
 
-accounts-along : (items : List Item) (s : State) (events : List Event) → Holds s → Accounts items s → AreEnabled timing s events
+accounts-along : (items : List Item) (s : TimeState) (events : List TimeEvent) → Holds s → Accounts items s → AreEnabled timing s events
     → Accounts items (run timing s events)
 accounts-along items s [] h a all = a
 accounts-along items s (event ∷ events) h a all =
-    accounts-along items (happens s event) events (keeps s event h all.0) (keeps-accounts items s event h a all.0) all.1
+    accounts-along items (occurs s event) events (keeps s event h all.0) (keeps-accounts items s event h a all.0) all.1
 
-pub accounts : (o : Opening) (s : State) (items : List Item) → IsReached timing (opened o) s → o.keys ≡ Some items → Accounts items s
+pub accounts : (o : Opening) (s : TimeState) (items : List Item) → IsReached timing (opened o) s → o.keys ≡ Some items → Accounts items s
 accounts o s items r is = subst (Accounts items) r.leads (accounts-along items (opened o) r.events (at-opening o) (accounts-open o items is) r.enabled)

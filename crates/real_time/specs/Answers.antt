@@ -30,7 +30,8 @@ abbrev pub AllNamed : List (List ℕ) → List Change → Type 0
 AllNamed tasks [] = Unit {0}
 AllNamed tasks (change ∷ earlier) = (list_any (bytes_eq change.name) tasks ≡ true) × AllNamed tasks earlier
 
--- The rows are those of the script's tasks, in order, and stand for what was accepted, which is of tasks alone.
+-- The rows are those of the script's tasks, in order, and stand for what was accepted, which is of tasks
+-- alone.
 pub record StandsForScript (s : Script) (rows : List Row) : Type 0 where
   pub names : map (λ row. row.name) rows ≡ s.tasks
   pub await : AllAwait s.accepted s.now rows

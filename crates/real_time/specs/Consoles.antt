@@ -10,10 +10,10 @@ use Rattle.solo_devices.specs.declared.printer_unit.PrintFault.{PrintFault}
 use Rattle.solo_devices.specs.PrinterUnit.{Gains, GainsOf}
 use Rattle.network_run.specs.Law.{IsReached, AreEnabled, run}
 use Rattle.real_time.specs.declared.table.Woken.TheVariants as woken
-use Rattle.real_time.specs.Table.{all_left, has_left, in_queue, operator_resumed, woken_by, Table}
+use Rattle.real_time.specs.Table.{all_left, has_left, sleeper_at, operator_resumed, woken_by, Table}
 use Rattle.real_time.specs.Starts.{times}
 use Rattle.real_time.specs.Deeds.{Deed, Enters, Shows, Wakes, Returns, starts}
-use Rattle.real_time.specs.States.{Stage, Works, Closes, Joins, Tells, Ended, State, Opening, opened, seen_at, Prints, next_of, Event, Accepts, Displays, Moves, after_accept, behind_display, line_of, displayed, after_display, after_woken, joined_by, joined, operator_move, task_move, happens, IsEnabled}
+use Rattle.real_time.specs.States.{Stage, Works, Closes, Joins, Tells, Ended, TimeState, Opening, opened, seen_at, Prints, action_at, TimeEvent, Accepts, Displays, Moves, after_accept, behind_display, lines_printed, displayed, after_display, after_woken, joined_by, join_move, operator_move, task_move, occurs, MayHappen}
 use Rattle.real_time.specs.TimesLaw.{timing}
 use Rattle.real_time.specs.Owed.{lines_owed, starts_owed, pending_of, IsBehind}
 use Rattle.real_time.specs.Reaching.{Holds, at-opening, keeps, holds, Fits}
@@ -26,7 +26,7 @@ use Rattle.std.specs.Prelude.{Bool, false, true}
 
 -- The console that tells it has the lines that were displayed, and where there was a fault perhaps a part of
 -- the next one.
-pub record HasShown (given : List ℕ) (all : List ℕ) (s : State) : Type 0 where
+pub record HasShown (given : List ℕ) (all : List ℕ) (s : TimeState) : Type 0 where
   pub part : List ℕ
   pub console : s.console ≡ Some (given ++ (text s.shown ++ part))
   pub more : List ℕ
@@ -39,12 +39,12 @@ text-append (line ∷ some) more =
     ap (λ rest. line_text line ++ rest) (text-append some more) ∙ sym (append_assoc (line_text line) (text some) (text more))
 
 -- an event that isn't a display leaves both
-record SameConsole (s new : State) : Type 0 where
+record SameConsole (s new : TimeState) : Type 0 where
   console : new.console ≡ s.console
   shown : new.shown ≡ s.shown
   fault : new.fault ≡ None → s.fault ≡ None
 
-same-tells : (given all : List ℕ) (s new : State) → SameConsole s new → HasShown given all s → HasShown given all new
+same-tells : (given all : List ℕ) (s new : TimeState) → SameConsole s new → HasShown given all s → HasShown given all new
 same-tells given all s new same t = record {
   part = t.part;
   console = same.console ∙ t.console ∙ ap (λ shown. Some (given ++ (text shown ++ t.part))) (sym same.shown);
@@ -53,35 +53,35 @@ same-tells given all s new same t = record {
   whole = λ none. t.whole (same.fault none);
 }
 
-accept-same : (s : State) (answer : CardRead) → SameConsole s (after_accept s answer)
+accept-same : (s : TimeState) (answer : CardRead) → SameConsole s (after_accept s answer)
 accept-same s (read.Card line) = record { console = refl; shown = refl; fault = λ none. none }
 accept-same s read.Spoiled = record { console = refl; shown = refl; fault = λ none. none }
 accept-same s read.End = record { console = refl; shown = refl; fault = λ none. none }
 accept-same s read.Failed = record { console = refl; shown = refl; fault = λ none. absurd cc }
 accept-same s read.Limit = record { console = refl; shown = refl; fault = λ none. absurd cc }
 
-same-itself : (s : State) → SameConsole s s
+same-itself : (s : TimeState) → SameConsole s s
 same-itself s = record { console = refl; shown = refl; fault = λ none. none }
 
-woken-same : (s : State) (w : Woken) (place second : ℕ) (deeds : List Deed) → SameConsole s (after_woken w s place second deeds).to
+woken-same : (s : TimeState) (w : Woken) (place second : ℕ) (deeds : List Deed) → SameConsole s (after_woken w s place second deeds).to
 woken-same s woken.NotDue place second deeds = record { console = refl; shown = refl; fault = λ none. none }
 woken-same s woken.Continued place second deeds = record { console = refl; shown = refl; fault = λ none. none }
 woken-same s woken.Delayed place second deeds = record { console = refl; shown = refl; fault = λ none. none }
 
-joined-same : (s : State) (t : Table) (how : Stepped) (all : Bool)
+joined-same : (s : TimeState) (t : Table) (how : Stepped) (all : Bool)
     → SameConsole s (joined_by all how s t).to
 joined-same s t how true = record { console = refl; shown = refl; fault = λ none. none }
 joined-same s t how false = record { console = refl; shown = refl; fault = λ none. none }
 
-joins-same : (s : State) (operator : Option ℕ) → SameConsole s (joined operator s).to
+joins-same : (s : TimeState) (operator : Option ℕ) → SameConsole s (join_move operator s).to
 joins-same s None = joined-same s s.table stepped.Acted (all_left s.table)
 joins-same s (Some p) = joined-same s (operator_resumed s.table) stepped.Resumed (all_left s.table)
 
-operator-same : (s : State) (stage : Stage) → SameConsole s (operator_move stage s).to
+operator-same : (s : TimeState) (stage : Stage) → SameConsole s (operator_move stage s).to
 operator-same s (Works []) = same-itself s
 operator-same s (Works (Enters line ∷ deeds)) = record { console = refl; shown = refl; fault = λ none. none }
 operator-same s (Works (Shows text ∷ deeds)) = same-itself s
-operator-same s (Works (Wakes place second due ∷ deeds)) = woken-same s (woken_by due (in_queue s.table.queues place)) place second deeds
+operator-same s (Works (Wakes place second due ∷ deeds)) = woken-same s (woken_by due (sleeper_at s.table.queues place)) place second deeds
 operator-same s (Works (Returns ∷ deeds)) = record { console = refl; shown = refl; fault = λ none. none }
 operator-same s Closes = record { console = refl; shown = refl; fault = λ none. none }
 operator-same s Joins = joins-same s s.table.operator
@@ -89,20 +89,22 @@ operator-same s (Tells place []) = record { console = refl; shown = refl; fault 
 operator-same s (Tells place (name ∷ names)) = same-itself s
 operator-same s Ended = same-itself s
 
-task-same : (s : State) (place : ℕ) (left : Bool) (held : Option ℕ) → SameConsole s (task_move left held s place).to
+task-same : (s : TimeState) (place : ℕ) (left : Bool) (held : Option ℕ) → SameConsole s (task_move left held s place).to
 task-same s place true held = record { console = refl; shown = refl; fault = λ none. none }
 task-same s place false (Some p) = record { console = refl; shown = refl; fault = λ none. none }
 task-same s place false None = record { console = refl; shown = refl; fault = λ none. none }
 
 -- ---- a line is displayed
-printed-tells : (given : List ℕ) (items : List Item) (s : State) (now : Option (List ℕ)) (line : List ℕ) (all : Type 0) → all → HasShown given (text (times items)) s
-    → next_of s.stage s.seen ≡ Prints line → s.fault ≡ None → Gains s.console now (line_text line) all
+printed-tells : (given : List ℕ) (items : List Item) (s : TimeState) (now : Option (List ℕ)) (line : List ℕ) (all : Type 0) → all
+    → HasShown given (text (times items)) s
+    → action_at s.stage s.seen ≡ Prints line → s.fault ≡ None → Gains s.console now (line_text line) all
     → Accounts items (after_display s None now) → HasShown given (text (times items)) (after_display s None now)
 printed-tells given items s now line all holds t next none gains a =
     let empty = t.whole none in
     let gained = gains.told _ t.console in
     let whole = gained.all_is holds in
-    let shown : text (s.shown ++ line ∷ []) ≡ text s.shown ++ line_text line = text-append s.shown (line ∷ []) ∙ ap (λ l. text s.shown ++ l) (append-nil (line_text line)) in
+    let shown : text (s.shown ++ line ∷ []) ≡ text s.shown ++ line_text line = text-append s.shown (line ∷ [])
+        ∙ ap (λ l. text s.shown ++ l) (append-nil (line_text line)) in
     record {
       part = [];
       console = gained.now_is
@@ -110,13 +112,15 @@ printed-tells given items s now line all holds t next none gains a =
           ∙ ap (λ part. (given ++ (text s.shown ++ part)) ++ line_text line) empty
           ∙ ap (λ l. (given ++ l) ++ line_text line) (append-nil (text s.shown))
           ∙ append_assoc given (text s.shown) (line_text line)
-          ∙ ap (λ l. given ++ l) (sym (append-nil _ ∙ ap (λ next. text (s.shown ++ line_of next)) next ∙ shown)));
+          ∙ ap (λ l. given ++ l) (sym (append-nil _ ∙ ap (λ next. text (s.shown ++ lines_printed next)) next ∙ shown)));
       more = text a.lines.more;
-      all_are = ap (λ l. l ++ text a.lines.more) (append-nil _) ∙ sym (text-append (s.shown ++ line_of (next_of s.stage s.seen)) a.lines.more) ∙ ap text a.lines.all_are;
+      all_are = ap (λ l. l ++ text a.lines.more) (append-nil _) ∙ sym (text-append (s.shown ++ lines_printed (action_at s.stage s.seen)) a.lines.more)
+          ∙ ap text a.lines.all_are;
       whole = λ n. refl;
     }
 
-failed-tells : (given : List ℕ) (items : List Item) (s : State) (fault : PrintFault) (now : Option (List ℕ)) (line : List ℕ) → HasShown given (text (times items)) s
+failed-tells : (given : List ℕ) (items : List Item) (s : TimeState) (fault : PrintFault) (now : Option (List ℕ)) (line : List ℕ)
+    → HasShown given (text (times items)) s
     → (a : Accounts items s) → Displayed items s a.rest line (behind_display s.stage) → Gains s.console now (line_text line) (Some fault ≡ None)
     → HasShown given (text (times items)) (after_display s (Some fault) now)
 failed-tells given items s fault now line t a d gains =
@@ -139,8 +143,8 @@ failed-tells given items s fault now line t a d gains =
       whole = λ n. absurd cc;
     }
 
-keeps-tells : (given : List ℕ) (items : List Item) (s : State) (event : Event) → Holds s → (a : Accounts items s) → IsEnabled s event
-    → HasShown given (text (times items)) s → HasShown given (text (times items)) (happens s event)
+keeps-tells : (given : List ℕ) (items : List Item) (s : TimeState) (event : TimeEvent) → Holds s → (a : Accounts items s) → MayHappen s event
+    → HasShown given (text (times items)) s → HasShown given (text (times items)) (occurs s event)
 keeps-tells given items s (Accepts answer) h a is t = same-tells given _ s (after_accept s answer) (accept-same s answer) t
 keeps-tells given items s (Displays None now) h a is t =
     let d = displays-first items s h a is.0 s.stage refl is.1 in
@@ -150,31 +154,31 @@ keeps-tells given items s (Displays (Some fault) now) h a is t =
 keeps-tells given items s (Moves zero how) h a is t = absurd is.0
 keeps-tells given items s (Moves (suc zero) how) h a is t = same-tells given _ s (operator_move s.stage s).to (operator-same s s.stage) t
 keeps-tells given items s (Moves (suc (suc place)) how) h a is t =
-    same-tells given _ s (task_move (has_left s.table place) (in_queue s.table.queues place) s place).to
-    (task-same s place (has_left s.table place) (in_queue s.table.queues place)) t
+    same-tells given _ s (task_move (has_left s.table place) (sleeper_at s.table.queues place) s place).to
+    (task-same s place (has_left s.table place) (sleeper_at s.table.queues place)) t
 
-tells-along : (given : List ℕ) (items : List Item) (s : State) (events : List Event) → Holds s → Accounts items s → AreEnabled timing s events
+tells-along : (given : List ℕ) (items : List Item) (s : TimeState) (events : List TimeEvent) → Holds s → Accounts items s → AreEnabled timing s events
     → HasShown given (text (times items)) s → HasShown given (text (times items)) (run timing s events)
 tells-along given items s [] h a all t = t
 tells-along given items s (event ∷ events) h a all t =
-    tells-along given items (happens s event) events (keeps s event h all.0) (keeps-accounts items s event h a all.0) all.1
+    tells-along given items (occurs s event) events (keeps s event h all.0) (keeps-accounts items s event h a all.0) all.1
     (keeps-tells given items s event h a all.0 t)
 
 -- ---- a console that doesn't tell
-untold-event : (s : State) (event : Event) → IsEnabled s event → s.console ≡ None → (happens s event).console ≡ None
+untold-event : (s : TimeState) (event : TimeEvent) → MayHappen s event → s.console ≡ None → (occurs s event).console ≡ None
 untold-event s (Accepts answer) is none = (accept-same s answer).console ∙ none
 untold-event s (Displays fault now) is none = is.2.untold none
 untold-event s (Moves zero how) is none = absurd is.0
 untold-event s (Moves (suc zero) how) is none = (operator-same s s.stage).console ∙ none
 untold-event s (Moves (suc (suc place)) how) is none =
-    (task-same s place (has_left s.table place) (in_queue s.table.queues place)).console ∙ none
+    (task-same s place (has_left s.table place) (sleeper_at s.table.queues place)).console ∙ none
 
-untold-along : (s : State) (events : List Event) → AreEnabled timing s events → s.console ≡ None → (run timing s events).console ≡ None
+untold-along : (s : TimeState) (events : List TimeEvent) → AreEnabled timing s events → s.console ≡ None → (run timing s events).console ≡ None
 untold-along s [] all none = none
-untold-along s (event ∷ events) all none = untold-along (happens s event) events all.1 (untold-event s event all.0 none)
+untold-along s (event ∷ events) all none = untold-along (occurs s event) events all.1 (untold-event s event all.0 none)
 
 -- ---- the whole
-module _ (o : Opening) (items : List Item) (told : o.keys ≡ Some items) (s : State) (r : IsReached timing (opened o) s) where
+module _ (o : Opening) (items : List Item) (told : o.keys ≡ Some items) (s : TimeState) (r : IsReached timing (opened o) s) where
   holds-here : Holds s
   holds-here = holds o s r
 

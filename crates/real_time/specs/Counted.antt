@@ -58,7 +58,8 @@ none-named name test (first ∷ names) none = by (bytes_eq name first) refl (tes
     by true e due d rest = absurd (let some : list_any (bytes_eq name) (first ∷ names) ≡ true = rw e refl in cc)
     by false e false d rest = rw d (rest (rw e at none))
     by false e true d rest =
-        let differ : bytes_eq first name ≡ false = other-name first name (λ same. (let own = own-name name in let no : bytes_eq name name ≡ false = subst (λ n. bytes_eq name n ≡ false) same e in cc)) in
+        let differ : bytes_eq first name ≡ false = other-name first name (λ same. (let own = own-name name in
+        let no : bytes_eq name name ≡ false = subst (λ n. bytes_eq name n ≡ false) same e in cc)) in
         rw (d, differ) (rest (rw e at none))
 
 in-names : (names : List (List ℕ)) (place : ℕ) (name : List ℕ) → slice_get names place ≡ Some name → list_any (bytes_eq name) names ≡ true
@@ -85,7 +86,8 @@ once-named (first ∷ names) zero name test second apart is =
     by false e none = (let others = none-named name test names none in rw (e, others) refl)
 once-named (first ∷ names) (suc place) name test second apart is =
     let some = in-names names place name is in
-    let differ : bytes_eq first name ≡ false = other-name first name (λ same. (let none = subst (λ n. list_any (bytes_eq n) names ≡ false) same apart.0 in cc)) in
+    let differ : bytes_eq first name ≡ false = other-name first name (λ same. (let none = subst (λ n. list_any (bytes_eq n) names ≡ false) same apart.0 in
+    cc)) in
     by (test first) refl differ (once-named names place name test second apart.1 is)
   where
     by : (due : Bool) → test first ≡ due → bytes_eq first name ≡ false
@@ -98,7 +100,8 @@ filter-append : (test : List ℕ → Bool) (some more : List (List ℕ)) → len
 filter-append test [] more = omega arith
 filter-append test (name ∷ some) more = by (test name) refl (filter-append test some more)
   where
-    by : (t : Bool) → test name ≡ t → length (filter test (some ++ more)) ≡ length (filter test some) + length (filter test more) → length (filter test ((name ∷ some) ++ more)) ≡ length (filter test (name ∷ some)) + length (filter test more)
+    by : (t : Bool) → test name ≡ t → length (filter test (some ++ more)) ≡ length (filter test some) + length (filter test more)
+        → length (filter test ((name ∷ some) ++ more)) ≡ length (filter test (name ∷ some)) + length (filter test more)
     by true e rest = rw e (omega (arith, rest))
     by false e rest = rw e rest
 
@@ -153,7 +156,8 @@ known-seconds : (seconds : ℕ) (s : Script) → IsKnown s → IsKnown (behind_s
 known-seconds zero s known = known
 known-seconds (suc seconds) s known = known-seconds seconds (next_second s) (known-second s known)
 
-runs-seconds : (place seconds : ℕ) (s : Script) → IsKnown s → length (starts_of_seconds place seconds s) + runs_at place s ≡ runs_at place (behind_seconds seconds s)
+runs-seconds : (place seconds : ℕ) (s : Script) → IsKnown s
+    → length (starts_of_seconds place seconds s) + runs_at place s ≡ runs_at place (behind_seconds seconds s)
 runs-seconds place zero s known = omega arith
 runs-seconds place (suc seconds) s known =
     let one = runs-second place s known in
@@ -171,11 +175,13 @@ any-more test (task ∷ tasks) name some = by (test task) refl (any-more test ta
     by true e rest = rw e refl
     by false e rest = rw e (rest (rw e at some))
 
-none-more : (test : List ℕ → Bool) (tasks : List (List ℕ)) (name : List ℕ) → list_any test tasks ≡ false → test name ≡ false → list_any test (tasks ++ name ∷ []) ≡ false
+none-more : (test : List ℕ → Bool) (tasks : List (List ℕ)) (name : List ℕ) → list_any test tasks ≡ false → test name ≡ false
+    → list_any test (tasks ++ name ∷ []) ≡ false
 none-more test [] name none last = rw last refl
 none-more test (task ∷ tasks) name none last = by (test task) refl (λ rest. none-more test tasks name rest last)
   where
-    by : (t : Bool) → test task ≡ t → (list_any test tasks ≡ false → list_any test (tasks ++ name ∷ []) ≡ false) → (test task || list_any test (tasks ++ name ∷ [])) ≡ false
+    by : (t : Bool) → test task ≡ t → (list_any test tasks ≡ false → list_any test (tasks ++ name ∷ []) ≡ false)
+        → (test task || list_any test (tasks ++ name ∷ [])) ≡ false
     by true e rest = absurd (let some : list_any test (task ∷ tasks) ≡ true = rw e refl in cc)
     by false e rest = rw e (rest (rw e at none))
 
@@ -186,7 +192,8 @@ apart-more (task ∷ tasks) name apart none = by (bytes_eq name task) refl (apar
     by : (t : Bool) → bytes_eq name task ≡ t → (list_any (bytes_eq name) tasks ≡ false → AreApart (tasks ++ name ∷ [])) → AreApart ((task ∷ tasks) ++ name ∷ [])
     by true e rest = absurd (let some : list_any (bytes_eq name) (task ∷ tasks) ≡ true = rw e refl in cc)
     by false e rest =
-        let differ : bytes_eq task name ≡ false = other-name task name (λ same. (let own = own-name name in let no : bytes_eq name name ≡ false = subst (λ n. bytes_eq name n ≡ false) same e in cc)) in
+        let differ : bytes_eq task name ≡ false = other-name task name (λ same. (let own = own-name name in
+        let no : bytes_eq name name ≡ false = subst (λ n. bytes_eq name n ≡ false) same e in cc)) in
         (none-more (bytes_eq task) tasks name apart.0 differ, rest (rw e at none))
 
 started-more : (tasks started : List (List ℕ)) (name : List ℕ) → AllByRecursion (λ n. list_any (bytes_eq n) tasks ≡ true) started
@@ -199,7 +206,8 @@ never-started : (name : List ℕ) (tasks started : List (List ℕ)) → list_any
 never-started name tasks [] none all = refl
 never-started name tasks (first ∷ started) none all = by (bytes_eq first name) refl (never-started name tasks started none all.1)
   where
-    by : (t : Bool) → bytes_eq first name ≡ t → length (filter (λ n. bytes_eq n name) started) ≡ 0 → length (filter (λ n. bytes_eq n name) (first ∷ started)) ≡ 0
+    by : (t : Bool) → bytes_eq first name ≡ t → length (filter (λ n. bytes_eq n name) started) ≡ 0
+        → length (filter (λ n. bytes_eq n name) (first ∷ started)) ≡ 0
     by true e rest =
         let same = (bytes_eq-Decides first name).0 e in
         let some = subst (λ n. list_any (bytes_eq n) tasks ≡ true) same all.0 in

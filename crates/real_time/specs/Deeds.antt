@@ -23,7 +23,8 @@ abbrev pub wakes_of : List Change → ℕ → ℕ → List (List ℕ) → List D
 wakes_of accepted second place [] = []
 wakes_of accepted second place (name ∷ names) =
     Wakes place second (is_due (plan_of name accepted) second)
-    ∷ shows_start (is_due (plan_of name accepted) second) second name ++ wakes_of accepted second (suc place) names
+    ∷ shows_start (is_due (plan_of name accepted) second) second name
+    ++ wakes_of accepted second (suc place) names
 
 abbrev pub deeds_of_seconds : ℕ → Script → List Deed
 deeds_of_seconds zero s = []
@@ -33,7 +34,8 @@ deeds_of_seconds (suc seconds) s =
 abbrev pub deeds_of : Script → Typed → List Deed
 deeds_of s Blank = []
 deeds_of s (Names name) = Enters (Names name) ∷ map Shows (answer s (Names name))
-deeds_of s (Plans name time period) = Enters (Plans name time period) ∷ map Shows (answer s (Plans name time period))
+deeds_of s (Plans name time period) =
+    Enters (Plans name time period) ∷ map Shows (answer s (Plans name time period))
 deeds_of s (Stops name) = Enters (Stops name) ∷ map Shows (answer s (Stops name))
 deeds_of s (Passes seconds) =
     if within_clock s seconds
@@ -59,7 +61,8 @@ starts_of_line place s Blank = []
 starts_of_line place s (Names name) = []
 starts_of_line place s (Plans name time period) = []
 starts_of_line place s (Stops name) = []
-starts_of_line place s (Passes seconds) = if within_clock s seconds then starts_of_seconds place seconds s else []
+starts_of_line place s (Passes seconds) =
+    if within_clock s seconds then starts_of_seconds place seconds s else []
 starts_of_line place s Bad = []
 
 abbrev pub starts_from : ℕ → Script → List Item → List ℕ

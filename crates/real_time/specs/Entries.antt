@@ -7,12 +7,12 @@ use Rattle.queue_var.specs.declared.turn.Turn.TheVariants.{Free, Handed}
 use Rattle.real_time.specs.declared.table.Seat.TheVariants.{Operator, Task}
 use Rattle.real_time.specs.declared.table.Woken.TheVariants as woken
 use Rattle.real_time.specs.declared.table.Waited.TheVariants as waited
-use Rattle.real_time.specs.Table.{Table, after_close, after_wait, after_wake, all_left, behind_leave, empty_table, first_asleep, handed_on, has_left, in_queue, operator_resumed, out_of_queue, turn_to}
+use Rattle.real_time.specs.Table.{Table, after_close, behind_wait, after_wake, all_left, behind_leave, empty_table, first_asleep, handed_on, has_left, sleeper_at, operator_resumed, out_of_queue, next_turn}
 use Rattle.real_time.specs.Orderly.{IsOrderly, IsAwaited}
 use Rattle.std.specs.Prelude.{slice_index_or}
 
 -- ---- of queues
-none-in : (queues : List (Option ℕ)) → AllByRecursion (λ held. held ≡ None) queues → (place : ℕ) → in_queue queues place ≡ None
+none-in : (queues : List (Option ℕ)) → AllByRecursion (λ held. held ≡ None) queues → (place : ℕ) → sleeper_at queues place ≡ None
 none-in [] all place = refl
 none-in (held ∷ queues) all zero = all.0
 none-in (held ∷ queues) all (suc place) = none-in queues all.1 place
@@ -26,31 +26,31 @@ none-left left all t is place = rw is (found left all place)
     found (l ∷ left) all (suc place) = found left all.1 place
 
 -- the place that is found has a process, and where none is found nobody sleeps
-found-asleep : (queues : List (Option ℕ)) (n place : ℕ) → first_asleep n queues ≡ Some place → (i p : ℕ) × (place ≡ n + i) × (in_queue queues i ≡ Some p)
+found-asleep : (queues : List (Option ℕ)) (n place : ℕ) → first_asleep n queues ≡ Some place → (i p : ℕ) × (place ≡ n + i) × (sleeper_at queues i ≡ Some p)
 found-asleep [] n place found = absurd cc
 found-asleep (None ∷ queues) n place found =
     let (i, p, is, there) = found-asleep queues (suc n) place found in
     (suc i, p, omega (arith, is), there)
 found-asleep (Some p ∷ queues) n place found = (0, p, (let same : n ≡ place = cc in omega (arith, same)), refl)
 
-nobody-asleep : (queues : List (Option ℕ)) (n : ℕ) → first_asleep n queues ≡ None → (i : ℕ) → in_queue queues i ≡ None
+nobody-asleep : (queues : List (Option ℕ)) (n : ℕ) → first_asleep n queues ≡ None → (i : ℕ) → sleeper_at queues i ≡ None
 nobody-asleep [] n none i = refl
 nobody-asleep (None ∷ queues) n none zero = refl
 nobody-asleep (None ∷ queues) n none (suc i) = nobody-asleep queues (suc n) none i
 nobody-asleep (Some p ∷ queues) n none i = absurd cc
 
 -- ---- who goes next
-turn-task : (found operator : Option ℕ) (place : ℕ) → turn_to found operator ≡ Handed (Task place) → found ≡ Some place
+turn-task : (found operator : Option ℕ) (place : ℕ) → next_turn found operator ≡ Handed (Task place) → found ≡ Some place
 turn-task (Some q) operator place e = cc
 turn-task None (Some p) place e = absurd cc
 turn-task None None place e = absurd cc
 
-turn-operator : (found operator : Option ℕ) → turn_to found operator ≡ Handed Operator → (p : ℕ) × (operator ≡ Some p)
+turn-operator : (found operator : Option ℕ) → next_turn found operator ≡ Handed Operator → (p : ℕ) × (operator ≡ Some p)
 turn-operator (Some q) operator e = absurd cc
 turn-operator None (Some p) e = (p, refl)
 turn-operator None None e = absurd cc
 
-turn-free : (found operator : Option ℕ) → turn_to found operator ≡ Free → (operator ≡ None) × (found ≡ None)
+turn-free : (found operator : Option ℕ) → next_turn found operator ≡ Free → (operator ≡ None) × (found ≡ None)
 turn-free (Some q) operator e = absurd cc
 turn-free None (Some p) e = absurd cc
 turn-free None None e = (refl, refl)
@@ -59,10 +59,10 @@ turn-free None None e = (refl, refl)
 record IsLeft (t : Table) : Type 0 where
   queues : length t.queues ≡ 8
   places : length t.left ≡ 8
-  own : (place p : ℕ) → in_queue t.queues place ≡ Some p → p ≡ place + 2
+  own : (place p : ℕ) → sleeper_at t.queues place ≡ Some p → p ≡ place + 2
   operator : (p : ℕ) → t.operator ≡ Some p → p ≡ 1
   unawaited : t.awaited ≡ None
-  gone : (place : ℕ) → has_left t place ≡ true → (in_queue t.queues place ≡ None) × (t.closed ≡ true)
+  gone : (place : ℕ) → has_left t place ≡ true → (sleeper_at t.queues place ≡ None) × (t.closed ≡ true)
   closed : t.closed ≡ true
 
 hands-on : (t : Table) → IsLeft t → IsOrderly (handed_on t)
@@ -83,8 +83,8 @@ hands-on t h = record {
   all_go = λ c place p there. next place p there (first_asleep 0 t.queues) refl;
 }
   where
-    next : (place p : ℕ) → in_queue t.queues place ≡ Some p → (found : Option ℕ) → first_asleep 0 t.queues ≡ found
-        → (q : ℕ) × (turn_to (first_asleep 0 t.queues) t.operator ≡ Handed (Task q))
+    next : (place p : ℕ) → sleeper_at t.queues place ≡ Some p → (found : Option ℕ) → first_asleep 0 t.queues ≡ found
+        → (q : ℕ) × (next_turn (first_asleep 0 t.queues) t.operator ≡ Handed (Task q))
     next place p there (Some q) e = (q, rw e refl)
     next place p there None e = absurd (let none = nobody-asleep t.queues 0 e place in cc)
 
@@ -100,11 +100,12 @@ opens = record {
   outside = λ place is not_closed. absurd cc;
   awaits = λ place is. absurd cc;
   waits = λ is free. absurd cc;
-  gone = λ place is. absurd (let no = none-left empty_table.left (refl, (refl, (refl, (refl, (refl, (refl, (refl, (refl, tt)))))))) empty_table refl place in cc);
+  gone = λ place is. absurd (let no = none-left empty_table.left (refl, (refl, (refl, (refl, (refl, (refl, (refl, (refl, tt)))))))) empty_table refl place in
+  cc);
   all_go = λ closed place p is. absurd cc;
 }
   where
-    nobody : (place : ℕ) → in_queue empty_table.queues place ≡ None
+    nobody : (place : ℕ) → sleeper_at empty_table.queues place ≡ None
     nobody place = none-in empty_table.queues (refl, (refl, (refl, (refl, (refl, (refl, (refl, (refl, tt)))))))) place
 
 -- ---- the operator's entries
@@ -113,7 +114,7 @@ module _ (t : Table) (o : IsOrderly t) (free : t.turn ≡ Free) (inside : t.oper
   nobody-awaited None is = refl
   nobody-awaited (Some place) is = absurd (let waits = (o.awaits place is).operator in cc)
 
-  pub continues : (place p second : ℕ) → in_queue t.queues place ≡ Some p → IsOrderly (after_wake t place second woken.Continued)
+  pub continues : (place p second : ℕ) → sleeper_at t.queues place ≡ Some p → IsOrderly (after_wake t place second woken.Continued)
   continues place p second there = record {
     queues = o.queues;
     places = o.places;
@@ -128,7 +129,7 @@ module _ (t : Table) (o : IsOrderly t) (free : t.turn ≡ Free) (inside : t.oper
     all_go = λ closed q r is. (place, refl);
   }
 
-  pub awaits : (place second : ℕ) → place < 8 → in_queue t.queues place ≡ None → has_left t place ≡ false → t.closed ≡ false
+  pub awaits : (place second : ℕ) → place < 8 → sleeper_at t.queues place ≡ None → has_left t place ≡ false → t.closed ≡ false
       → IsOrderly (after_wake t place second woken.Delayed)
   awaits place second below awake here not_closed = record {
     queues = o.queues;
@@ -193,19 +194,19 @@ operator-resumes t o handed = record {
 }
 
 -- ---- a task's entries
-set-in : (queues : List (Option ℕ)) (place : ℕ) (held : Option ℕ) → place < length queues → in_queue (slice_set queues place held) place ≡ held
+set-in : (queues : List (Option ℕ)) (place : ℕ) (held : Option ℕ) → place < length queues → sleeper_at (slice_set queues place held) place ≡ held
 set-in queues place held below = rw get_or-set_same refl
 
-set-out : (queues : List (Option ℕ)) (place q : ℕ) (held : Option ℕ) → q ≢ place → in_queue (slice_set queues place held) q ≡ in_queue queues q
+set-out : (queues : List (Option ℕ)) (place q : ℕ) (held : Option ℕ) → q ≢ place → sleeper_at (slice_set queues place held) q ≡ sleeper_at queues q
 set-out queues place q held other = rw get_or-set_other refl
 
 left-out : (left : List Bool) (place q : ℕ) (l : Bool) → q ≢ place → slice_index_or (slice_set left place l) q false ≡ slice_index_or left q false
 left-out left place q l other = rw get_or-set_other refl
 
 -- a task leaves that is in no queue
-leaves-table : (t : Table) (place : ℕ) → length t.queues ≡ 8 → length t.left ≡ 8 → ((q p : ℕ) → in_queue t.queues q ≡ Some p → p ≡ q + 2)
+leaves-table : (t : Table) (place : ℕ) → length t.queues ≡ 8 → length t.left ≡ 8 → ((q p : ℕ) → sleeper_at t.queues q ≡ Some p → p ≡ q + 2)
     → ((p : ℕ) → t.operator ≡ Some p → p ≡ 1) → t.awaited ≡ None
-    → ((q : ℕ) → has_left t q ≡ true → (in_queue t.queues q ≡ None) × (t.closed ≡ true)) → t.closed ≡ true → in_queue t.queues place ≡ None
+    → ((q : ℕ) → has_left t q ≡ true → (sleeper_at t.queues q ≡ None) × (t.closed ≡ true)) → t.closed ≡ true → sleeper_at t.queues place ≡ None
     → IsOrderly (behind_leave t place)
 leaves-table t place queues places own operator unawaited gone closed awake = hands-on (record t { left = slice_set t.left place true }) record {
   queues = queues;
@@ -213,7 +214,7 @@ leaves-table t place queues places own operator unawaited gone closed awake = ha
   own = own;
   operator = operator;
   unawaited = unawaited;
-  gone = λ q is. elim (eqb_tells q place) as (λ _. (in_queue t.queues q ≡ None) × (t.closed ≡ true)) [
+  gone = λ q is. elim (eqb_tells q place) as (λ _. (sleeper_at t.queues q ≡ None) × (t.closed ≡ true)) [
     | inl same ↦ ((let is = same.1 in rw is awake), closed)
     | inr other ↦ gone q (sym (left-out t.left place q true other.1) ∙ is)
   ];
@@ -222,16 +223,16 @@ leaves-table t place queues places own operator unawaited gone closed awake = ha
 
 module _ (t : Table) (o : IsOrderly t) (place : ℕ) (one : place < 8) where
   -- in no queue, and the turn is free
-  module _ (free : t.turn ≡ Free) (awake : in_queue t.queues place ≡ None) where
+  module _ (free : t.turn ≡ Free) (awake : sleeper_at t.queues place ≡ None) where
     closed-unawaited : t.closed ≡ true → (awaited : Option ℕ) → t.awaited ≡ awaited → awaited ≡ None
     closed-unawaited closed None is = refl
     closed-unawaited closed (Some q) is = absurd (let not_closed = (o.awaits q is).open_yet in cc)
 
-    pub leaves : t.closed ≡ true → IsOrderly (after_wait t place waited.Leaves)
+    pub leaves : t.closed ≡ true → IsOrderly (behind_wait t place waited.Leaves)
     leaves closed =
         leaves-table t place o.queues o.places o.own o.operator (closed-unawaited closed t.awaited refl) o.gone closed awake
 
-    pub starts : (second : ℕ) → t.awaited ≡ Some place → IsOrderly (after_wait t place (waited.Starts second))
+    pub starts : (second : ℕ) → t.awaited ≡ Some place → IsOrderly (behind_wait t place (waited.Starts second))
     starts second is =
         let awaited = o.awaits place is in
         record {
@@ -248,14 +249,14 @@ module _ (t : Table) (o : IsOrderly t) (place : ℕ) (one : place < 8) where
           all_go = λ closed q r e. absurd (let not_closed = awaited.open_yet in cc);
         }
 
-    pub sleeps : t.closed ≡ false → (t.awaited ≡ Some place → ⊥) → IsOrderly (after_wait t place waited.Delayed)
+    pub sleeps : t.closed ≡ false → (t.awaited ≡ Some place → ⊥) → IsOrderly (behind_wait t place waited.Delayed)
     sleeps not_closed unawaited = record {
       queues = length-set t.queues place (Some (place + 2)) ∙ o.queues;
       places = o.places;
       own = λ q p is. elim (eqb_tells q place) as (λ _. p ≡ q + 2) [
         | inl same ↦ (let is_place = same.1 in
           let held = set-in t.queues place (Some (place + 2)) (rw o.queues one) in
-          let there = subst (λ r. in_queue (slice_set t.queues place (Some (place + 2))) r ≡ Some p) is_place is in
+          let there = subst (λ r. sleeper_at (slice_set t.queues place (Some (place + 2))) r ≡ Some p) is_place is in
           let e : place + 2 ≡ p = cc in rw is_place (sym e))
         | inr other ↦ o.own q p (sym (set-out t.queues place q (Some (place + 2)) other.1) ∙ is)
       ];
@@ -281,18 +282,18 @@ module _ (t : Table) (o : IsOrderly t) (place : ℕ) (one : place < 8) where
 
   -- the turn was handed to it
   module _ (handed : t.turn ≡ Handed (Task place)) where
-    own-out : (q p : ℕ) → in_queue (slice_set t.queues place None) q ≡ Some p → (in_queue t.queues q ≡ Some p) × (q ≢ place)
-    own-out q p is = elim (eqb_tells q place) as (λ _. (in_queue t.queues q ≡ Some p) × (q ≢ place)) [
+    own-out : (q p : ℕ) → sleeper_at (slice_set t.queues place None) q ≡ Some p → (sleeper_at t.queues q ≡ Some p) × (q ≢ place)
+    own-out q p is = elim (eqb_tells q place) as (λ _. (sleeper_at t.queues q ≡ Some p) × (q ≢ place)) [
       | inl same ↦ absurd (let is_place = same.1 in
         let held = set-in t.queues place None (rw o.queues one) in
-        let there = subst (λ r. in_queue (slice_set t.queues place None) r ≡ Some p) is_place is in cc)
+        let there = subst (λ r. sleeper_at (slice_set t.queues place None) r ≡ Some p) is_place is in cc)
       | inr other ↦ (sym (set-out t.queues place q None other.1) ∙ is, other.1)
     ]
 
-    gone-out : (q : ℕ) → has_left t q ≡ true → (in_queue (slice_set t.queues place None) q ≡ None) × (t.closed ≡ true)
+    gone-out : (q : ℕ) → has_left t q ≡ true → (sleeper_at (slice_set t.queues place None) q ≡ None) × (t.closed ≡ true)
     gone-out q is =
         let gone = o.gone q is in
-        (elim (eqb_tells q place) as (λ _. in_queue (slice_set t.queues place None) q ≡ None) [
+        (elim (eqb_tells q place) as (λ _. sleeper_at (slice_set t.queues place None) q ≡ None) [
           | inl same ↦ (let is_place = same.1 in rw is_place (set-in t.queues place None (rw o.queues one)))
           | inr other ↦ set-out t.queues place q None other.1 ∙ gone.0
         ], gone.1)

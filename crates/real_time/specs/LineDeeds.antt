@@ -7,49 +7,49 @@ use Rattle.std.proofs.lemmas.Bool.Decides.{eqb_tells}
 use Rattle.real_time.specs.Typed.{Typed, Blank, Names, Plans, Stops, Passes, Bad}
 use Rattle.real_time.specs.Starts.{Script, Change, answer, is_due, lines_of_seconds, next_second, plan_of, second_lines, start_line, starters, within_clock}
 use Rattle.real_time.specs.Deeds.{Deed, Enters, Shows, Wakes, Returns, deeds_of, deeds_of_seconds, shows_start, starts_in_second, starts_named, starts_of_line, starts_of_seconds, wakes_of}
-use Rattle.real_time.specs.Owed.{lines_by, starts_by}
+use Rattle.real_time.specs.Owed.{lines_shown, starts_by}
 
 -- ---- lines
-lines-append : (some more : List Deed) → lines_by (some ++ more) ≡ lines_by some ++ lines_by more
+lines-append : (some more : List Deed) → lines_shown (some ++ more) ≡ lines_shown some ++ lines_shown more
 lines-append [] more = refl
 lines-append (Enters line ∷ some) more = lines-append some more
 lines-append (Shows text ∷ some) more = ap (λ lines. text ∷ lines) (lines-append some more)
 lines-append (Wakes place second due ∷ some) more = lines-append some more
 lines-append (Returns ∷ some) more = lines-append some more
 
-lines-shows : (texts : List (List ℕ)) → lines_by (map Shows texts) ≡ texts
+lines-shows : (texts : List (List ℕ)) → lines_shown (map Shows texts) ≡ texts
 lines-shows [] = refl
 lines-shows (text ∷ texts) = ap (λ lines. text ∷ lines) (lines-shows texts)
 
 lines-wakes : (accepted : List Change) (second place : ℕ) (names : List (List ℕ))
-    → lines_by (wakes_of accepted second place names) ≡ map (start_line second) (filter (λ name. is_due (plan_of name accepted) second) names)
+    → lines_shown (wakes_of accepted second place names) ≡ map (start_line second) (filter (λ name. is_due (plan_of name accepted) second) names)
 lines-wakes accepted second place [] = refl
 lines-wakes accepted second place (name ∷ names) =
     by (is_due (plan_of name accepted) second) refl (lines-wakes accepted second (suc place) names)
   where
     by : (due : Bool) → is_due (plan_of name accepted) second ≡ due
-        → lines_by (wakes_of accepted second (suc place) names)
+        → lines_shown (wakes_of accepted second (suc place) names)
           ≡ map (start_line second) (filter (λ name. is_due (plan_of name accepted) second) names)
-        → lines_by (wakes_of accepted second place (name ∷ names))
+        → lines_shown (wakes_of accepted second place (name ∷ names))
           ≡ map (start_line second) (filter (λ name. is_due (plan_of name accepted) second) (name ∷ names))
     by true e rest = rw e (ap (λ lines. start_line second name ∷ lines) rest)
     by false e rest = rw e rest
 
-lines-seconds : (seconds : ℕ) (s : Script) → lines_by (deeds_of_seconds seconds s) ≡ lines_of_seconds seconds s
+lines-seconds : (seconds : ℕ) (s : Script) → lines_shown (deeds_of_seconds seconds s) ≡ lines_of_seconds seconds s
 lines-seconds zero s = refl
 lines-seconds (suc seconds) s =
     lines-append (wakes_of s.accepted (s.now + 1) 0 s.tasks) (deeds_of_seconds seconds (next_second s))
-    ∙ ap (λ lines. lines ++ lines_by (deeds_of_seconds seconds (next_second s))) (lines-wakes s.accepted (s.now + 1) 0 s.tasks)
+    ∙ ap (λ lines. lines ++ lines_shown (deeds_of_seconds seconds (next_second s))) (lines-wakes s.accepted (s.now + 1) 0 s.tasks)
     ∙ ap (λ lines. second_lines s ++ lines) (lines-seconds seconds (next_second s))
 
-pub line-shows : (s : Script) (line : Typed) → lines_by (deeds_of s line) ≡ answer s line
+pub line-shows : (s : Script) (line : Typed) → lines_shown (deeds_of s line) ≡ answer s line
 line-shows s Blank = refl
 line-shows s (Names name) = lines-shows (answer s (Names name))
 line-shows s (Plans name time period) = lines-shows (answer s (Plans name time period))
 line-shows s (Stops name) = lines-shows (answer s (Stops name))
 line-shows s (Passes seconds) = by (within_clock s seconds) refl
   where
-    by : (within : Bool) → within_clock s seconds ≡ within → lines_by (deeds_of s (Passes seconds)) ≡ answer s (Passes seconds)
+    by : (within : Bool) → within_clock s seconds ≡ within → lines_shown (deeds_of s (Passes seconds)) ≡ answer s (Passes seconds)
     by true e =
         rw e (lines-append (deeds_of_seconds seconds s) (Shows (codes "TIME " ++ decimal (s.now + seconds)) ∷ [])
         ∙ ap (λ lines. lines ++ (codes "TIME " ++ decimal (s.now + seconds)) ∷ []) (lines-seconds seconds s))
@@ -120,7 +120,8 @@ starts-seconds : (place seconds : ℕ) (s : Script) → starts_by place (deeds_o
 starts-seconds place zero s = refl
 starts-seconds place (suc seconds) s =
     starts-append place (wakes_of s.accepted (s.now + 1) 0 s.tasks) (deeds_of_seconds seconds (next_second s))
-    ∙ ap (λ starts. starts ++ starts_by place (deeds_of_seconds seconds (next_second s))) (ap (λ q. starts_by q (wakes_of s.accepted (s.now + 1) 0 s.tasks)) (zero-plus place) ∙ starts-wakes s.accepted (s.now + 1) 0 place s.tasks)
+    ∙ ap (λ starts. starts ++ starts_by place (deeds_of_seconds seconds (next_second s))) (ap (λ q. starts_by q (wakes_of s.accepted (s.now + 1) 0 s.tasks))
+        (zero-plus place) ∙ starts-wakes s.accepted (s.now + 1) 0 place s.tasks)
     ∙ ap (λ starts. starts_in_second place s (s.now + 1) ++ starts) (starts-seconds place seconds (next_second s))
 
 pub line-starts : (place : ℕ) (s : Script) (line : Typed) → starts_by place (deeds_of s line) ≡ starts_of_line place s line

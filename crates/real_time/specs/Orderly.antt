@@ -2,12 +2,12 @@
 use Rattle.std.specs.Prelude.{◌≡◌, ◌<◌, ◌+◌, ◌⊎◌, ℕ, Bool, true, false, Option, None, Some, length}
 use Rattle.queue_var.specs.declared.turn.Turn.TheVariants.{Free, Handed}
 use Rattle.real_time.specs.declared.table.Seat.TheVariants.{Operator, Task}
-use Rattle.real_time.specs.Table.{Table, all_left, has_left, in_queue}
+use Rattle.real_time.specs.Table.{Table, all_left, has_left, sleeper_at}
 
 -- The operator waits for a task that is in no queue and has not left.
 pub record IsAwaited (t : Table) (place : ℕ) : Type 0 where
   pub one : place < 8
-  pub awake : in_queue t.queues place ≡ None
+  pub awake : sleeper_at t.queues place ≡ None
   pub here : has_left t place ≡ false
   pub open_yet : t.closed ≡ false
   pub operator : t.operator ≡ Some 1
@@ -18,14 +18,14 @@ pub record IsAwaited (t : Table) (place : ℕ) : Type 0 where
 pub record IsOrderly (t : Table) : Type 0 where
   pub queues : length t.queues ≡ 8
   pub places : length t.left ≡ 8
-  pub own : (place p : ℕ) → in_queue t.queues place ≡ Some p → p ≡ place + 2
+  pub own : (place p : ℕ) → sleeper_at t.queues place ≡ Some p → p ≡ place + 2
   pub operator : (p : ℕ) → t.operator ≡ Some p → p ≡ 1
-  pub handed : (place : ℕ) → t.turn ≡ Handed (Task place) → in_queue t.queues place ≡ Some (place + 2)
+  pub handed : (place : ℕ) → t.turn ≡ Handed (Task place) → sleeper_at t.queues place ≡ Some (place + 2)
   pub handed_operator : t.turn ≡ Handed Operator → t.operator ≡ Some 1
   pub outside : (place : ℕ) → t.turn ≡ Handed (Task place) → t.closed ≡ false → t.operator ≡ None
   pub awaits : (place : ℕ) → t.awaited ≡ Some place → IsAwaited t place
   pub waits : t.operator ≡ Some 1 → t.turn ≡ Free
       → ((place : ℕ) × (t.awaited ≡ Some place)) ⊎ ((t.closed ≡ true) × (all_left t ≡ false))
-  pub gone : (place : ℕ) → has_left t place ≡ true → (in_queue t.queues place ≡ None) × (t.closed ≡ true)
-  pub all_go : t.closed ≡ true → (place p : ℕ) → in_queue t.queues place ≡ Some p
+  pub gone : (place : ℕ) → has_left t place ≡ true → (sleeper_at t.queues place ≡ None) × (t.closed ≡ true)
+  pub all_go : t.closed ≡ true → (place p : ℕ) → sleeper_at t.queues place ≡ Some p
       → (next : ℕ) × (t.turn ≡ Handed (Task next))

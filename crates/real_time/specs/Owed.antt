@@ -8,16 +8,16 @@ use Rattle.real_time.specs.declared.table.Seat.{Seat}
 use Rattle.real_time.specs.declared.table.Seat.TheVariants.{Operator, Task}
 use Rattle.real_time.specs.Starts.{Script, runs_line, times, times_from}
 use Rattle.real_time.specs.Deeds.{Deed, Enters, Shows, Wakes, Returns, starts, starts_from}
-use Rattle.real_time.specs.States.{Stage, Works, Closes, Joins, Tells, Ended, State, seen_at}
+use Rattle.real_time.specs.States.{Stage, Works, Closes, Joins, Tells, Ended, TimeState, seen_at}
 use Rattle.solo_base.specs.declared.outcome.Cause.{Cause}
 
 -- the lines that deeds display
-abbrev pub lines_by : List Deed → List (List ℕ)
-lines_by [] = []
-lines_by (Enters line ∷ deeds) = lines_by deeds
-lines_by (Shows text ∷ deeds) = text ∷ lines_by deeds
-lines_by (Wakes place second due ∷ deeds) = lines_by deeds
-lines_by (Returns ∷ deeds) = lines_by deeds
+abbrev pub lines_shown : List Deed → List (List ℕ)
+lines_shown [] = []
+lines_shown (Enters line ∷ deeds) = lines_shown deeds
+lines_shown (Shows text ∷ deeds) = text ∷ lines_shown deeds
+lines_shown (Wakes place second due ∷ deeds) = lines_shown deeds
+lines_shown (Returns ∷ deeds) = lines_shown deeds
 
 -- the seconds in which they start the task at a place
 abbrev pub starts_by : ℕ → List Deed → List ℕ
@@ -30,7 +30,7 @@ starts_by place (Returns ∷ deeds) = starts_by place deeds
 
 -- where these lines are still to be typed
 abbrev pub lines_owed : Stage → Script → List Item → List (List ℕ)
-lines_owed (Works deeds) script rest = lines_by deeds ++ times_from script rest
+lines_owed (Works deeds) script rest = lines_shown deeds ++ times_from script rest
 lines_owed Closes script rest = map (runs_line script) script.tasks
 lines_owed Joins script rest = map (runs_line script) script.tasks
 lines_owed (Tells place names) script rest = map (runs_line script) names
@@ -50,17 +50,17 @@ pending (Handed (Task q)) true second place = []
 pending (Handed Operator) closed second place = []
 pending Free closed second place = []
 
-abbrev pub pending_of : State → ℕ → List ℕ
+abbrev pub pending_of : TimeState → ℕ → List ℕ
 pending_of s place = pending s.table.turn s.table.closed s.table.second place
 
 -- the lines are these, and more
-pub record LinesAdd (s : State) (rest : List Item) (all : List (List ℕ)) : Type 0 where
+pub record LinesAdd (s : TimeState) (rest : List Item) (all : List (List ℕ)) : Type 0 where
   pub more : List (List ℕ)
   pub all_are : s.shown ++ more ≡ all
   pub are : s.fault ≡ None → more ≡ lines_owed s.stage s.script rest
 
 -- the task has seen these starts, and then come more
-pub record StartsAdd (s : State) (rest : List Item) (place : ℕ) (all : List ℕ) : Type 0 where
+pub record StartsAdd (s : TimeState) (rest : List Item) (place : ℕ) (all : List ℕ) : Type 0 where
   pub more : List ℕ
   pub all_are : seen_at s place ++ (pending_of s place ++ more) ≡ all
   pub are : s.fault ≡ None → more ≡ starts_owed place s.stage s.script rest

@@ -16,13 +16,13 @@ use Rattle.real_time.specs.declared.table.Seat.TheVariants.{Operator, Task}
 use Rattle.real_time.specs.declared.table.Woken.TheVariants as woken
 use Rattle.real_time.specs.declared.table.Waited.{Waited}
 use Rattle.real_time.specs.declared.table.Waited.TheVariants as waited
-use Rattle.real_time.specs.Table.{Table, MayEnter, after_close, after_wait, after_wake, all_left, behind_leave, empty_table, has_left, in_queue, is_awaited, operator_resumed, out_of_queue, waited_by, woken_by}
+use Rattle.real_time.specs.Table.{Table, MayComeIn, after_close, behind_wait, after_wake, all_left, behind_leave, empty_table, has_left, sleeper_at, is_awaited, operator_resumed, out_of_queue, waited_by, woken_by}
 use Rattle.real_time.specs.Orderly.{IsOrderly}
 use Rattle.real_time.specs.Entries.{opens, continues, awaits, closes, joins, operator-resumes, leaves, starts, sleeps, resumes, resumes-leaving}
 use Rattle.real_time.specs.Typed.{Typed, Blank, Names, Plans, Stops, Passes, Bad, typed}
 use Rattle.real_time.specs.Starts.{Script, Change, answer, behind_line, behind_seconds, is_due, is_task, may_name, may_plan, next_second, plan_of, within_clock}
 use Rattle.real_time.specs.Deeds.{Deed, Enters, Shows, Wakes, Returns, deeds_of, deeds_of_seconds, shows_start, wakes_of}
-use Rattle.real_time.specs.States.{Stage, Works, Closes, Joins, Tells, Ended, State, Opening, opened, ended_at, Reads, Prints, next_of, Event, Accepts, Displays, Moves, keys_behind, after_item, accepted, after_accept, behind_display, behind_fault, after_display, after_woken, names_told, joined_by, joined, operator_move, with_start, stage_told, waits, task_move, happens, OperatorMay, TaskMay, IsMove, IsEnabled}
+use Rattle.real_time.specs.States.{Stage, Works, Closes, Joins, Tells, Ended, TimeState, Opening, opened, ended_at, Reads, Prints, action_at, TimeEvent, Accepts, Displays, Moves, keys_behind, after_item, after_answer, after_accept, behind_display, behind_fault, after_display, after_woken, names_told, joined_by, join_move, operator_move, with_start, stage_told, waits, task_move, occurs, OperatorMay, TaskMay, IsMove, MayHappen}
 use Rattle.real_time.specs.TimesLaw.{timing}
 use Rattle.std.specs.Fmt.{decimal}
 use Rattle.solo_base.specs.declared.item.Item.{Item}
@@ -52,7 +52,7 @@ Fits Joins t = t.closed ≡ true
 Fits (Tells place names) t = (t.closed ≡ true) × (t.operator ≡ None) × (all_left t ≡ true)
 Fits Ended t = (t.closed ≡ true) × (t.operator ≡ None) × (all_left t ≡ true)
 
-pub record Holds (s : State) : Type 0 where
+pub record Holds (s : TimeState) : Type 0 where
   pub table : IsOrderly s.table
   pub fits : Fits s.stage s.table
   pub tasks : length s.script.tasks ≤ 8
@@ -135,7 +135,7 @@ fits-later (Shows text ∷ deeds) t not_closed none all = (not_closed, none, all
 fits-later (Wakes place second due ∷ deeds) t not_closed none all = (not_closed, (all.0, inl none), all.1)
 fits-later (Returns ∷ deeds) t not_closed none all = absurd all.0
 
-pub reads-at : (stage : Stage) (seen : List (List ℕ)) → next_of stage seen ≡ Reads → stage ≡ Works []
+pub reads-at : (stage : Stage) (seen : List (List ℕ)) → action_at stage seen ≡ Reads → stage ≡ Works []
 reads-at (Works []) seen e = refl
 reads-at (Works (Enters line ∷ deeds)) seen e = absurd cc
 reads-at (Works (Shows text ∷ deeds)) seen e = absurd cc
@@ -147,7 +147,7 @@ reads-at (Tells place []) seen e = absurd cc
 reads-at (Tells place (name ∷ names)) seen e = absurd cc
 reads-at Ended seen e = absurd cc
 
-fits-display : (stage : Stage) (seen : List (List ℕ)) (text : List ℕ) (t : Table) → next_of stage seen ≡ Prints text → Fits stage t
+fits-display : (stage : Stage) (seen : List (List ℕ)) (text : List ℕ) (t : Table) → action_at stage seen ≡ Prints text → Fits stage t
     → Fits (behind_display stage) t × Fits (behind_fault stage) t
 fits-display (Works []) seen text t e fits = absurd cc
 fits-display (Works (Enters line ∷ deeds)) seen text t e fits = absurd cc
@@ -162,7 +162,7 @@ fits-display Ended seen text t e fits = absurd cc
 
 -- ---- the operator moves
 -- With the same tasks, and a table where those that have ended have left.
-changed : (s : State) (stage : Stage) (table : Table) → Holds s → IsOrderly table → Fits stage table
+changed : (s : TimeState) (stage : Stage) (table : Table) → Holds s → IsOrderly table → Fits stage table
     → ((place : ℕ) → has_left s.table place ≡ true → has_left table place ≡ true) → Holds (record s { stage = stage; table = table })
 changed s stage table h orderly fits stay = record {
   table = orderly;
@@ -172,14 +172,14 @@ changed s stage table h orderly fits stay = record {
   ends = λ place one is. stay place (h.ends place one is);
 }
 
-joined-by : (s : State) (t : Table) (how : Stepped) (all : Bool) → Holds s → all_left t ≡ all → IsOrderly t → t.turn ≡ Free → t.operator ≡ None
+joined-by : (s : TimeState) (t : Table) (how : Stepped) (all : Bool) → Holds s → all_left t ≡ all → IsOrderly t → t.turn ≡ Free → t.operator ≡ None
     → t.closed ≡ true → ((place : ℕ) → has_left s.table place ≡ true → has_left t place ≡ true) → Holds (joined_by all how s t).to
 joined-by s t how true h all o free inside closed stay = changed s (Tells 0 (names_told s)) t h o (closed, inside, all) stay
 joined-by s t how false h some o free inside closed stay =
     changed s Joins (record t { operator = Some 1 }) h (joins t o free inside closed some) closed stay
 
-joined-holds : (s : State) (operator : Option ℕ) → Holds s → s.table.operator ≡ operator → s.table.closed ≡ true → MayEnter s.table Operator
-    → Holds (joined operator s).to
+joined-holds : (s : TimeState) (operator : Option ℕ) → Holds s → s.table.operator ≡ operator → s.table.closed ≡ true → MayComeIn s.table Operator
+    → Holds (join_move operator s).to
 joined-holds s None h is closed (inl free) =
     joined-by s s.table stepped.Acted (all_left s.table) h refl h.table free.1 free.0 closed (λ place left. left)
 joined-holds s None h is closed (inr handed) = absurd (let waits = h.table.handed_operator handed in cc)
@@ -189,21 +189,21 @@ joined-holds s (Some p) h is closed (inr handed) =
     (λ place left. left)
 
 -- the operator is outside, and the turn is free
-pub outside : (s : State) → Holds s → s.table.operator ≡ None → MayEnter s.table Operator → s.table.turn ≡ Free
-outside s h none (inl free) = free.1
-outside s h none (inr handed) = absurd (let waits = h.table.handed_operator handed in cc)
+pub is-outside : (s : TimeState) → Holds s → s.table.operator ≡ None → MayComeIn s.table Operator → s.table.turn ≡ Free
+is-outside s h none (inl free) = free.1
+is-outside s h none (inr handed) = absurd (let waits = h.table.handed_operator handed in cc)
 
-pub not-awaiting : (s : State) (place second : ℕ) (due : Bool) → Holds s → MayEnter s.table Operator
+pub not-awaiting : (s : TimeState) (place second : ℕ) (due : Bool) → Holds s → MayComeIn s.table Operator
     → ((s.table.operator ≡ None) ⊎ ((s.table.awaited ≡ Some place) × (due ≡ true) × (s.table.second ≡ second))) → s.table.operator ≡ None
 not-awaiting s place second due h may (inl none) = none
 not-awaiting s place second due h (inl free) (inr waits) = free.0
 not-awaiting s place second due h (inr handed) (inr waits) = absurd (let free = (h.table.awaits place waits.0).free in cc)
 
-pub here : (s : State) (place : ℕ) → Holds s → s.table.closed ≡ false → (left : Bool) → has_left s.table place ≡ left → left ≡ false
+pub here : (s : TimeState) (place : ℕ) → Holds s → s.table.closed ≡ false → (left : Bool) → has_left s.table place ≡ left → left ≡ false
 here s place h not_closed false is = refl
 here s place h not_closed true is = absurd (let closed = (h.table.gone place is).1 in cc)
 
-wakes-holds : (s : State) (place second : ℕ) (due : Bool) (deeds : List Deed) (held : Option ℕ) → Holds s → in_queue s.table.queues place ≡ held
+wakes-holds : (s : TimeState) (place second : ℕ) (due : Bool) (deeds : List Deed) (held : Option ℕ) → Holds s → sleeper_at s.table.queues place ≡ held
     → s.table.closed ≡ false → place < 8 → s.table.operator ≡ None → s.table.turn ≡ Free → AllByRecursion IsLater deeds
     → Holds (after_woken (woken_by due held) s place second deeds).to
 wakes-holds s place second false deeds held h is not_closed one none free all =
@@ -216,20 +216,20 @@ wakes-holds s place second true deeds None h is not_closed one none free all =
     (awaits s.table h.table free none place second one is (here s place h not_closed (has_left s.table place) refl) not_closed)
     (not_closed, (one, inr (refl, refl, refl)), all) (λ q left. left)
 
-operator-holds : (s : State) (stage : Stage) → Holds s → Fits stage s.table → OperatorMay (next_of stage s.seen) s.table
-    → IsMove (next_of stage s.seen) → Holds (operator_move stage s).to
+operator-holds : (s : TimeState) (stage : Stage) → Holds s → Fits stage s.table → OperatorMay (action_at stage s.seen) s.table
+    → IsMove (action_at stage s.seen) → Holds (operator_move stage s).to
 operator-holds s (Works []) h fits may move = absurd move
 operator-holds s (Works (Enters line ∷ deeds)) h fits may move =
     changed s (Works deeds) s.table h h.table (fits-later deeds s.table fits.0 fits.1 fits.2) (λ q left. left)
 operator-holds s (Works (Shows text ∷ deeds)) h fits may move = absurd move
 operator-holds s (Works (Wakes place second due ∷ deeds)) h fits may move =
     let none = not-awaiting s place second due h may fits.1.1 in
-    wakes-holds s place second due deeds (in_queue s.table.queues place) h refl fits.0 fits.1.0 none (outside s h none may) fits.2
+    wakes-holds s place second due deeds (sleeper_at s.table.queues place) h refl fits.0 fits.1.0 none (is-outside s h none may) fits.2
 operator-holds s (Works (Returns ∷ deeds)) h fits may move =
     changed s (Works deeds) (operator_resumed s.table) h (operator-resumes s.table h.table fits.1)
     (fits-later deeds (operator_resumed s.table) fits.0 refl fits.2) (λ q left. left)
 operator-holds s Closes h fits may move =
-    changed s Joins (after_close s.table) h (closes s.table h.table (outside s h fits.1 may) fits.1) refl (λ q left. left)
+    changed s Joins (after_close s.table) h (closes s.table h.table (is-outside s h fits.1 may) fits.1) refl (λ q left. left)
 operator-holds s Joins h fits may move = joined-holds s s.table.operator h refl fits may
 operator-holds s (Tells place []) h fits may move = changed s Ended s.table h h.table fits (λ q left. left)
 operator-holds s (Tells place (name ∷ names)) h fits may move = absurd move
@@ -287,7 +287,7 @@ many-seen seen place (waited.Starts second) = length-set seen place _
 many-seen seen place waited.Leaves = refl
 many-seen seen place waited.Delayed = refl
 
-told : (s : State) (stage : Stage) (table : Table) (place : ℕ) (answer : Waited) → Holds s → IsOrderly table → Fits stage table
+told : (s : TimeState) (stage : Stage) (table : Table) (place : ℕ) (answer : Waited) → Holds s → IsOrderly table → Fits stage table
     → ((q : ℕ) → has_left s.table q ≡ true → has_left table q ≡ true)
     → Holds (record s { table = table; seen = with_start s.seen place answer; stage = stage })
 told s stage table place answer h orderly fits stay = record {
@@ -303,27 +303,27 @@ awaited-is None place e = absurd cc
 awaited-is (Some q) place e =
     elim (eqb_tells q place) as (λ _. Some q ≡ Some place) [ inl same ↦ ap Some same.1 | inr other ↦ absurd (let no = other.0 in cc) ]
 
-waits-holds : (s : State) (place : ℕ) (closed awaited : Bool) → Holds s → place < 8 → s.table.turn ≡ Free → in_queue s.table.queues place ≡ None
+waits-holds : (s : TimeState) (place : ℕ) (closed awaited : Bool) → Holds s → place < 8 → s.table.turn ≡ Free → sleeper_at s.table.queues place ≡ None
     → s.table.closed ≡ closed → is_awaited s.table.awaited place ≡ awaited
     → Holds (waits (if closed then waited.Leaves else (if awaited then waited.Starts s.table.second else waited.Delayed)) s place).to
 waits-holds s place true awaited h one free awake c a =
-    told s s.stage (after_wait s.table place waited.Leaves) place waited.Leaves h (leaves s.table h.table place one free awake c)
-    (fits-same s.stage s.table (after_wait s.table place waited.Leaves) refl refl refl refl (λ handed. absurd cc) (all-still s.table.left place) h.fits)
+    told s s.stage (behind_wait s.table place waited.Leaves) place waited.Leaves h (leaves s.table h.table place one free awake c)
+    (fits-same s.stage s.table (behind_wait s.table place waited.Leaves) refl refl refl refl (λ handed. absurd cc) (all-still s.table.left place) h.fits)
     (λ q left. left-still s.table.left place q left)
 waits-holds s place false true h one free awake c a =
     let is = awaited-is s.table.awaited place a in
-    told s (stage_told (waited.Starts s.table.second) s.stage) (after_wait s.table place (waited.Starts s.table.second)) place (waited.Starts s.table.second) h
+    told s (stage_told (waited.Starts s.table.second) s.stage) (behind_wait s.table place (waited.Starts s.table.second)) place (waited.Starts s.table.second) h
     (starts s.table h.table place one free awake s.table.second is)
-    (fits-told s.stage s.table (after_wait s.table place (waited.Starts s.table.second)) place s.table.second h.table is refl refl h.fits) (λ q left. left)
+    (fits-told s.stage s.table (behind_wait s.table place (waited.Starts s.table.second)) place s.table.second h.table is refl refl h.fits) (λ q left. left)
 waits-holds s place false false h one free awake c a =
-    told s s.stage (after_wait s.table place waited.Delayed) place waited.Delayed h
+    told s s.stage (behind_wait s.table place waited.Delayed) place waited.Delayed h
     (sleeps s.table h.table place one free awake c (λ is. (let same = awaited-self s.table.awaited is in cc)))
-    (fits-same s.stage s.table (after_wait s.table place waited.Delayed) refl refl refl refl (λ handed. handed) (λ all. all) h.fits) (λ q left. left)
+    (fits-same s.stage s.table (behind_wait s.table place waited.Delayed) refl refl refl refl (λ handed. handed) (λ all. all) h.fits) (λ q left. left)
   where
     awaited-self : (awaited : Option ℕ) → awaited ≡ Some place → is_awaited awaited place ≡ true
     awaited-self awaited is = rw is (eq-eqb place place refl)
 
-resumes-holds : (s : State) (place : ℕ) (closed : Bool) → Holds s → place < 8 → s.table.turn ≡ Handed (Task place) → s.table.closed ≡ closed
+resumes-holds : (s : TimeState) (place : ℕ) (closed : Bool) → Holds s → place < 8 → s.table.turn ≡ Handed (Task place) → s.table.closed ≡ closed
     → Holds (record s {
       table = if closed then behind_leave (out_of_queue s.table place) place else out_of_queue s.table place;
       seen = with_start s.seen place (if closed then waited.Leaves else waited.Starts s.table.second);
@@ -336,8 +336,8 @@ resumes-holds s place false h one handed c =
     told s s.stage (out_of_queue s.table place) place (waited.Starts s.table.second) h (resumes s.table h.table place one handed c)
     (fits-same s.stage s.table (out_of_queue s.table place) refl refl refl refl (λ other. absurd cc) (λ all. all) h.fits) (λ q left. left)
 
-task-holds : (s : State) (place : ℕ) (left : Bool) (held : Option ℕ) → Holds s → place < 8 → has_left s.table place ≡ left
-    → in_queue s.table.queues place ≡ held → TaskMay left s.table place → Holds (task_move left held s place).to
+task-holds : (s : TimeState) (place : ℕ) (left : Bool) (held : Option ℕ) → Holds s → place < 8 → has_left s.table place ≡ left
+    → sleeper_at s.table.queues place ≡ held → TaskMay left s.table place → Holds (task_move left held s place).to
 task-holds s place true held h one gone is may = record {
   table = h.table;
   fits = h.fits;
@@ -358,7 +358,7 @@ task-holds s place false None h one gone is (inl free) =
 task-holds s place false None h one gone is (inr handed) = absurd (let there = h.table.handed place handed in cc)
 
 -- ---- each event keeps it
-after-item : (s : State) (line : Item) (keys : Option (List Item)) → Holds s
+after-item : (s : TimeState) (line : Item) (keys : Option (List Item)) → Holds s
     → Fits (Works []) s.table → Holds (record (after_item s line) { keys = keys })
 after-item s line keys h fits = record {
   table = h.table;
@@ -368,22 +368,22 @@ after-item s line keys h fits = record {
   ends = h.ends;
 }
 
-after-stage : (s : State) (stage : Stage) (h : Holds s) → Fits stage s.table → Holds (record s { stage = stage })
+after-stage : (s : TimeState) (stage : Stage) (h : Holds s) → Fits stage s.table → Holds (record s { stage = stage })
 after-stage s stage h fits = changed s stage s.table h h.table fits (λ place left. left)
 
-keeps-accept : (s : State) (answer : CardRead) → Holds s → Fits (Works []) s.table → Holds (after_accept s answer)
+keeps-accept : (s : TimeState) (answer : CardRead) → Holds s → Fits (Works []) s.table → Holds (after_accept s answer)
 keeps-accept s (read.Card line) h fits = after-item s (item.Line line) (keys_behind s.keys (read.Card line)) h fits
 keeps-accept s read.Spoiled h fits = after-item s item.Spoiled (keys_behind s.keys read.Spoiled) h fits
 keeps-accept s read.End h fits = record { table = h.table; fits = fits; tasks = h.tasks; lists = h.lists; ends = h.ends }
 keeps-accept s read.Failed h fits = record { table = h.table; fits = fits; tasks = h.tasks; lists = h.lists; ends = h.ends }
 keeps-accept s read.Limit h fits = record { table = h.table; fits = fits; tasks = h.tasks; lists = h.lists; ends = h.ends }
 
-keeps-display : (s : State) (fault : Option PrintFault) (now : Option (List ℕ)) → Holds s → Fits (behind_display s.stage) s.table
+keeps-display : (s : TimeState) (fault : Option PrintFault) (now : Option (List ℕ)) → Holds s → Fits (behind_display s.stage) s.table
     → Fits (behind_fault s.stage) s.table → Holds (after_display s fault now)
 keeps-display s None now h fits failed = record { table = h.table; fits = fits; tasks = h.tasks; lists = h.lists; ends = h.ends }
 keeps-display s (Some fault) now h fits failed = record { table = h.table; fits = failed; tasks = h.tasks; lists = h.lists; ends = h.ends }
 
-pub keeps : (s : State) (event : Event) → Holds s → IsEnabled s event → Holds (happens s event)
+pub keeps : (s : TimeState) (event : TimeEvent) → Holds s → MayHappen s event → Holds (occurs s event)
 keeps s (Accepts answer) h is = keeps-accept s answer h (subst (λ stage. Fits stage s.table) (reads-at s.stage s.seen is.0) h.fits)
 keeps s (Displays fault now) h is =
     let fits = fits-display s.stage s.seen is.0 s.table is.1 h.fits in
@@ -391,7 +391,7 @@ keeps s (Displays fault now) h is =
 keeps s (Moves zero how) h is = absurd is.0
 keeps s (Moves (suc zero) how) h is = operator-holds s s.stage h h.fits is.0 is.1
 keeps s (Moves (suc (suc place)) how) h is =
-    task-holds s place (has_left s.table place) (in_queue s.table.queues place) h is.0.0 refl refl is.0.2
+    task-holds s place (has_left s.table place) (sleeper_at s.table.queues place) h is.0.0 refl refl is.0.2
 
 pub at-opening : (o : Opening) → Holds (opened o)
 at-opening o = record {
@@ -413,9 +413,9 @@ at-opening o = record {
     none-ended (suc (suc (suc (suc (suc (suc (suc zero))))))) one = refl
     none-ended (suc (suc (suc (suc (suc (suc (suc (suc place)))))))) one = absurd (omega (arith, one))
 
-along : (s : State) (events : List Event) → Holds s → AreEnabled timing s events → Holds (run timing s events)
+along : (s : TimeState) (events : List TimeEvent) → Holds s → AreEnabled timing s events → Holds (run timing s events)
 along s [] h all = h
-along s (event ∷ events) h all = along (happens s event) events (keeps s event h all.0) all.1
+along s (event ∷ events) h all = along (occurs s event) events (keeps s event h all.0) all.1
 
-pub holds : (o : Opening) (s : State) → IsReached timing (opened o) s → Holds s
+pub holds : (o : Opening) (s : TimeState) → IsReached timing (opened o) s → Holds s
 holds o s r = subst Holds r.leads (along (opened o) r.events (at-opening o) r.enabled)

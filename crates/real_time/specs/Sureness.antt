@@ -22,12 +22,12 @@ use Rattle.network_run.specs.declared.stepped.Stepped.TheVariants as stepped
 use Rattle.real_time.specs.declared.table.Woken.{Woken}
 use Rattle.real_time.specs.declared.table.Woken.TheVariants as woken
 use Rattle.real_time.specs.Deeds.{Deed, Enters, Shows, Wakes, Returns}
-use Rattle.real_time.specs.Table.{Table, MayEnter, all_left, has_left, in_queue, operator_resumed, queue, woken_by}
-use Rattle.real_time.specs.States.{Stage, Works, Closes, Joins, Tells, Ended, State, Opening, opened, ended_at, Next, Reads, Prints, Calls, Ends, Nothing, next_of, Event, Accepts, Displays, Moves, process, keys_behind, after_woken, joined_by, joined, operator_move, task_move, move_of, happens, OperatorMay, TaskMay, MayGo, IsMove, IsEnabled}
-use Rattle.real_time.specs.TimesLaw.{timing, IsRead, IsSmooth, longest_of}
+use Rattle.real_time.specs.Table.{Table, MayComeIn, all_left, has_left, sleeper_at, operator_resumed, seat_queue, woken_by}
+use Rattle.real_time.specs.States.{Stage, Works, Closes, Joins, Tells, Ended, TimeState, Opening, opened, ended_at, Action, Reads, Prints, Calls, Ends, Nothing, action_at, TimeEvent, Accepts, Displays, Moves, process_of, keys_behind, after_woken, joined_by, join_move, operator_move, task_move, move_of, occurs, OperatorMay, TaskMay, MayMove, IsMove, MayHappen}
+use Rattle.real_time.specs.TimesLaw.{timing, IsTypedAnswer, IsUntroubled, longest_of}
 use Rattle.real_time.specs.Reaching.{Holds, at-opening, keeps, holds}
 use Rattle.real_time.specs.Accounts.{accounts}
-use Rattle.real_time.specs.Weights.{falls, lines_read, weight}
+use Rattle.real_time.specs.Weights.{falls, lines_read, work_left}
 use Rattle.std.proofs.lemmas.List.{append-nil}
 
 -- ---- who may go on can be told
@@ -50,18 +50,18 @@ tells-turn (Handed handed) seat = elim (tells-seat handed seat) as (λ _. no-or 
   | inr other ↦ inr (λ e. other cc)
 ]
 
-tells-enter : (t : Table) (seat : Seat) → no-or (MayEnter t seat)
-tells-enter t seat = by (queue t seat) refl t.turn refl
+tells-enter : (t : Table) (seat : Seat) → no-or (MayComeIn t seat)
+tells-enter t seat = by (seat_queue t seat) refl t.turn refl
   where
-    by : (held : Option ℕ) → queue t seat ≡ held → (turn : Turn Seat) → t.turn ≡ turn → no-or (MayEnter t seat)
+    by : (held : Option ℕ) → seat_queue t seat ≡ held → (turn : Turn Seat) → t.turn ≡ turn → no-or (MayComeIn t seat)
     by None e Free f = inl (inl (e, f))
     by (Some p) e Free f = inr (λ may. elim may as (λ _. ⊥) [ inl free ↦ (let none = free.0 in absurd cc) | inr handed ↦ absurd cc ])
-    by held e (Handed other) f = elim (tells-turn t.turn seat) as (λ _. no-or (MayEnter t seat)) [
+    by held e (Handed other) f = elim (tells-turn t.turn seat) as (λ _. no-or (MayComeIn t seat)) [
       | inl handed ↦ inl (inr handed)
       | inr differ ↦ inr (λ may. elim may as (λ _. ⊥) [ inl free ↦ (let none = free.1 in absurd cc) | inr handed ↦ differ handed ])
     ]
 
-tells-operator : (next : Next) (t : Table) → no-or (OperatorMay next t)
+tells-operator : (next : Action) (t : Table) → no-or (OperatorMay next t)
 tells-operator Reads t = inl tt
 tells-operator (Prints text) t = inl tt
 tells-operator Calls t = tells-enter t Operator
@@ -89,16 +89,16 @@ all-of X Y Z (inr never) y z = inr (λ all. never all.0)
 all-of X Y Z (inl x) (inr never) z = inr (λ all. never all.1)
 all-of X Y Z (inl x) (inl y) (inr never) = inr (λ all. never all.2)
 
-may-tell : (s : State) (p : ℕ) → MayGo s p ⊎ (MayGo s p → ⊥)
+may-tell : (s : TimeState) (p : ℕ) → MayMove s p ⊎ (MayMove s p → ⊥)
 may-tell s zero = inr (λ may. may)
-may-tell s (suc zero) = tells-operator (next_of s.stage s.seen) s.table
+may-tell s (suc zero) = tells-operator (action_at s.stage s.seen) s.table
 may-tell s (suc (suc place)) =
     all-of (place < 8) (ended_at s place ≡ false) (TaskMay (has_left s.table place) s.table place) (tells-below place 8)
     (tells-false (ended_at s place)) (tells-left (has_left s.table place) s.table place)
 
 -- ---- one answer of the keys
 one-answer : (rest : List Item) (answer other : CardRead) (now now_other : Option (List Item)) → TakesItem rest now answer → TakesItem rest now_other other
-    → IsRead answer → IsRead other → other ≡ answer
+    → IsTypedAnswer answer → IsTypedAnswer other → other ≡ answer
 one-answer rest (read.Card line) (read.Card typed) now now_other takes takes_other is is_other =
     let same = takes.items_are in let too = takes_other.items_are in ap read.Card (let e : typed ≡ line = cc in e)
 one-answer rest (read.Card line) read.Spoiled now now_other takes takes_other is is_other =
@@ -135,27 +135,28 @@ one-content : (before now other : Option (List ℕ)) (line : List ℕ) (all too 
     → other ≡ now
 one-content before now other line all too is is_too gains gains_too = gained before other line too is_too gains_too ∙ sym (gained before now line all is gains)
 
-no-move : (next : Next) → next ≡ Reads → IsMove next → ⊥
+no-move : (next : Action) → next ≡ Reads → IsMove next → ⊥
 no-move Reads is move = move
 no-move (Prints text) is move = move
 no-move Calls is move = absurd cc
 no-move Ends is move = absurd cc
 no-move Nothing is move = move
 
-no-print : (next : Next) (text : List ℕ) → next ≡ Prints text → IsMove next → ⊥
+no-print : (next : Action) (text : List ℕ) → next ≡ Prints text → IsMove next → ⊥
 no-print Reads text is move = move
 no-print (Prints line) text is move = move
 no-print Calls text is move = absurd cc
 no-print Ends text is move = absurd cc
 no-print Nothing text is move = move
 
-one-of : (s : State) (rest : List Item) → s.keys ≡ Some rest → (event other : Event) → IsEnabled s event → IsEnabled s other → IsSmooth event → IsSmooth other
-    → process other ≡ process event → other ≡ event
+one-of : (s : TimeState) (rest : List Item) → s.keys ≡ Some rest → (event other : TimeEvent) → MayHappen s event → MayHappen s other → IsUntroubled event
+    → IsUntroubled other
+    → process_of other ≡ process_of event → other ≡ event
 one-of s rest keys (Accepts answer) (Accepts other) is too smooth smooth_too same =
     ap Accepts (one-answer rest answer other _ _ (is.1.told rest keys) (too.1.told rest keys) smooth smooth_too)
 one-of s rest keys (Accepts answer) (Displays fault now) is too smooth smooth_too same = absurd (let reads = is.0 in let prints = too.1 in cc)
 one-of s rest keys (Accepts answer) (Moves zero how) is too smooth smooth_too same = absurd too.0
-one-of s rest keys (Accepts answer) (Moves (suc zero) how) is too smooth smooth_too same = absurd (no-move (next_of s.stage s.seen) is.0 too.1)
+one-of s rest keys (Accepts answer) (Moves (suc zero) how) is too smooth smooth_too same = absurd (no-move (action_at s.stage s.seen) is.0 too.1)
 one-of s rest keys (Accepts answer) (Moves (suc (suc place)) how) is too smooth smooth_too same = absurd (omega (arith, same))
 one-of s rest keys (Displays fault now) (Accepts answer) is too smooth smooth_too same = absurd (let reads = too.0 in let prints = is.1 in cc)
 one-of s rest keys (Displays fault now) (Displays other content) is too smooth smooth_too same =
@@ -165,12 +166,12 @@ one-of s rest keys (Displays fault now) (Displays other content) is too smooth s
     ap (λ fault. Displays fault content) (smooth_too ∙ sym smooth) ∙ ap (Displays fault) contents
 one-of s rest keys (Displays fault now) (Moves zero how) is too smooth smooth_too same = absurd too.0
 one-of s rest keys (Displays fault now) (Moves (suc zero) how) is too smooth smooth_too same =
-    absurd (no-print (next_of s.stage s.seen) is.0 is.1 too.1)
+    absurd (no-print (action_at s.stage s.seen) is.0 is.1 too.1)
 one-of s rest keys (Displays fault now) (Moves (suc (suc place)) how) is too smooth smooth_too same = absurd (omega (arith, same))
 one-of s rest keys (Moves zero how) other is too smooth smooth_too same = absurd is.0
-one-of s rest keys (Moves (suc zero) how) (Accepts answer) is too smooth smooth_too same = absurd (no-move (next_of s.stage s.seen) too.0 is.1)
+one-of s rest keys (Moves (suc zero) how) (Accepts answer) is too smooth smooth_too same = absurd (no-move (action_at s.stage s.seen) too.0 is.1)
 one-of s rest keys (Moves (suc zero) how) (Displays fault now) is too smooth smooth_too same =
-    absurd (no-print (next_of s.stage s.seen) too.0 too.1 is.1)
+    absurd (no-print (action_at s.stage s.seen) too.0 too.1 is.1)
 one-of s rest keys (Moves (suc (suc place)) how) (Accepts answer) is too smooth smooth_too same = absurd (omega (arith, same))
 one-of s rest keys (Moves (suc (suc place)) how) (Displays fault now) is too smooth smooth_too same = absurd (omega (arith, same))
 one-of s rest keys (Moves (suc p) how) (Moves q other) is too smooth smooth_too same =
@@ -178,14 +179,18 @@ one-of s rest keys (Moves (suc p) how) (Moves q other) is too smooth smooth_too 
     ap (λ q. Moves q other) same ∙ ap (Moves (suc p)) moves
 
 -- ---- some event
-next-answer : (rest : List Item) → (answer : CardRead) × IsRead answer × ((items : List Item) → Some rest ≡ Some items → TakesItem items (keys_behind (Some rest) answer) answer)
+next-answer : (rest : List Item) → (answer : CardRead) × IsTypedAnswer answer × ((items : List Item) → Some rest ≡ Some items
+    → TakesItem items (keys_behind (Some rest) answer) answer)
 next-answer [] = (read.End, tt, λ items same. (let is : items ≡ [] = cc in record { rest = []; now_are = refl; items_are = is; end = λ e. is }))
 next-answer (item.Line line ∷ rest) =
-    (read.Card line, tt, λ items same. (let is : items ≡ item.Line line ∷ rest = cc in record { rest = rest; now_are = refl; items_are = is; end = λ e. absurd cc }))
+    (read.Card line, tt, λ items same. (let is : items ≡ item.Line line ∷ rest = cc in
+    record { rest = rest; now_are = refl; items_are = is; end = λ e. absurd cc }))
 next-answer (item.Spoiled ∷ rest) =
-    (read.Spoiled, tt, λ items same. (let is : items ≡ item.Spoiled ∷ rest = cc in record { rest = rest; now_are = refl; items_are = is; end = λ e. absurd cc }))
+    (read.Spoiled, tt, λ items same. (let is : items ≡ item.Spoiled ∷ rest = cc in
+    record { rest = rest; now_are = refl; items_are = is; end = λ e. absurd cc }))
 
-gives-next : (keys : Option (List Item)) (rest : List Item) → keys ≡ Some rest → (answer : CardRead) × IsRead answer × GivesNext keys (keys_behind keys answer) answer
+gives-next : (keys : Option (List Item)) (rest : List Item) → keys ≡ Some rest
+    → (answer : CardRead) × IsTypedAnswer answer × GivesNext keys (keys_behind keys answer) answer
 gives-next keys rest is =
     let (answer, smooth, takes) = next-answer rest in
     (answer, smooth, record {
@@ -205,13 +210,14 @@ gains-line (Some given) line all = record {
   untold = λ none. absurd cc;
 }
 
-pub record SomeEvent (s : State) (p : ℕ) : Type 0 where
-  pub event : Event
-  pub is : IsEnabled s event
-  pub process_is : process event ≡ p
-  pub smooth : IsSmooth event
+pub record SomeEvent (s : TimeState) (p : ℕ) : Type 0 where
+  pub event : TimeEvent
+  pub is : MayHappen s event
+  pub process_is : process_of event ≡ p
+  pub smooth : IsUntroubled event
 
-some-operator : (s : State) (rest : List Item) (next : Next) → s.keys ≡ Some rest → next_of s.stage s.seen ≡ next → OperatorMay next s.table → SomeEvent s 1
+some-operator : (s : TimeState) (rest : List Item) (next : Action) → s.keys ≡ Some rest → action_at s.stage s.seen ≡ next → OperatorMay next s.table
+    → SomeEvent s 1
 some-operator s rest Reads keys is may =
     let (answer, smooth, gives) = gives-next s.keys rest keys in
     record { event = Accepts answer; is = (is, gives); process_is = refl; smooth = smooth }
@@ -235,9 +241,9 @@ some-operator s rest Ends keys is may = record {
 }
 some-operator s rest Nothing keys is may = absurd may
 
-some-of : (s : State) (rest : List Item) (p : ℕ) → s.keys ≡ Some rest → MayGo s p → SomeEvent s p
+some-of : (s : TimeState) (rest : List Item) (p : ℕ) → s.keys ≡ Some rest → MayMove s p → SomeEvent s p
 some-of s rest zero keys may = absurd may
-some-of s rest (suc zero) keys may = some-operator s rest (next_of s.stage s.seen) keys refl may
+some-of s rest (suc zero) keys may = some-operator s rest (action_at s.stage s.seen) keys refl may
 some-of s rest (suc (suc place)) keys may = record {
   event = Moves (suc (suc place)) (move_of s (suc (suc place))).how;
   is = (may, tt, refl);
@@ -246,24 +252,24 @@ some-of s rest (suc (suc place)) keys may = record {
 }
 
 -- ---- no run is longer
-kept-woken : (s : State) (w : Woken) (place second : ℕ) (deeds : List Deed) → (after_woken w s place second deeds).to.keys ≡ s.keys
+kept-woken : (s : TimeState) (w : Woken) (place second : ℕ) (deeds : List Deed) → (after_woken w s place second deeds).to.keys ≡ s.keys
 kept-woken s woken.NotDue place second deeds = refl
 kept-woken s woken.Continued place second deeds = refl
 kept-woken s woken.Delayed place second deeds = refl
 
-kept-joined : (all : Bool) (how : Stepped) (s : State) (t : Table) → (joined_by all how s t).to.keys ≡ s.keys
+kept-joined : (all : Bool) (how : Stepped) (s : TimeState) (t : Table) → (joined_by all how s t).to.keys ≡ s.keys
 kept-joined true how s t = refl
 kept-joined false how s t = refl
 
-kept-joins : (operator : Option ℕ) (s : State) → (joined operator s).to.keys ≡ s.keys
+kept-joins : (operator : Option ℕ) (s : TimeState) → (join_move operator s).to.keys ≡ s.keys
 kept-joins None s = kept-joined (all_left s.table) stepped.Acted s s.table
 kept-joins (Some p) s = kept-joined (all_left s.table) stepped.Resumed s (operator_resumed s.table)
 
-kept-operator : (s : State) (stage : Stage) → (operator_move stage s).to.keys ≡ s.keys
+kept-operator : (s : TimeState) (stage : Stage) → (operator_move stage s).to.keys ≡ s.keys
 kept-operator s (Works []) = refl
 kept-operator s (Works (Enters line ∷ deeds)) = refl
 kept-operator s (Works (Shows text ∷ deeds)) = refl
-kept-operator s (Works (Wakes place second due ∷ deeds)) = kept-woken s (woken_by due (in_queue s.table.queues place)) place second deeds
+kept-operator s (Works (Wakes place second due ∷ deeds)) = kept-woken s (woken_by due (sleeper_at s.table.queues place)) place second deeds
 kept-operator s (Works (Returns ∷ deeds)) = refl
 kept-operator s Closes = refl
 kept-operator s Joins = kept-joins s.table.operator s
@@ -271,13 +277,13 @@ kept-operator s (Tells place []) = refl
 kept-operator s (Tells place (name ∷ names)) = refl
 kept-operator s Ended = refl
 
-kept-task : (s : State) (place : ℕ) (left : Bool) (held : Option ℕ) → (task_move left held s place).to.keys ≡ s.keys
+kept-task : (s : TimeState) (place : ℕ) (left : Bool) (held : Option ℕ) → (task_move left held s place).to.keys ≡ s.keys
 kept-task s place true held = refl
 kept-task s place false (Some p) = refl
 kept-task s place false None = refl
 
-pub keys-fall : (s : State) (event : Event) (rest : List Item) → s.keys ≡ Some rest → IsEnabled s event
-    → (later : List Item) × ((happens s event).keys ≡ Some later) × (length later + lines_read event ≡ length rest)
+pub keys-fall : (s : TimeState) (event : TimeEvent) (rest : List Item) → s.keys ≡ Some rest → MayHappen s event
+    → (later : List Item) × ((occurs s event).keys ≡ Some later) × (length later + lines_read event ≡ length rest)
 keys-fall s (Accepts answer) rest keys is =
     let takes = is.1.told rest keys in
     let same = ap length takes.items_are in
@@ -288,22 +294,22 @@ keys-fall s (Displays (Some fault) now) rest keys is = (rest, keys, omega arith)
 keys-fall s (Moves zero how) rest keys is = absurd is.0
 keys-fall s (Moves (suc zero) how) rest keys is = (rest, kept-operator s s.stage ∙ keys, omega arith)
 keys-fall s (Moves (suc (suc place)) how) rest keys is =
-    (rest, kept-task s place (has_left s.table place) (in_queue s.table.queues place) ∙ keys, omega arith)
+    (rest, kept-task s place (has_left s.table place) (sleeper_at s.table.queues place) ∙ keys, omega arith)
 
-no-longer : (s : State) (events : List Event) (rest : List Item) → Holds s → s.keys ≡ Some rest → AreEnabled timing s events
-    → length events ≤ 90000000 * length rest + weight s
+no-longer : (s : TimeState) (events : List TimeEvent) (rest : List Item) → Holds s → s.keys ≡ Some rest → AreEnabled timing s events
+    → length events ≤ 90000000 * length rest + work_left s
 no-longer s [] rest h keys all = omega arith
 no-longer s (event ∷ events) rest h keys all =
     let less = falls s event h all.0 in
     let (later, is, sum) = keys-fall s event rest keys all.0 in
-    let more = no-longer (happens s event) events later (keeps s event h all.0) is all.1 in
+    let more = no-longer (occurs s event) events later (keeps s event h all.0) is all.1 in
     omega (arith, less, sum, more)
 
-few-events : (o : Opening) (events : List Event) → (items : List Item) → o.keys ≡ Some items → AreEnabled timing (opened o) events
+few-events : (o : Opening) (events : List TimeEvent) → (items : List Item) → o.keys ≡ Some items → AreEnabled timing (opened o) events
     → length events ≤ longest_of o.keys
 few-events o events items told all =
     let few = no-longer (opened o) events items (at-opening o) told all in
-    let start : weight (opened o) ≡ 87 = refl in
+    let start : work_left (opened o) ≡ 87 = refl in
     rw told (omega (arith, few, start))
 
 pub sure : IsSureLaw timing

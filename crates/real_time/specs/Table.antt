@@ -32,20 +32,20 @@ empty_table = record {
   second = 0;
 }
 
-abbrev pub in_queue : List (Option ℕ) → ℕ → Option ℕ
-in_queue queues place = slice_index_or queues place None
+abbrev pub sleeper_at : List (Option ℕ) → ℕ → Option ℕ
+sleeper_at queues place = slice_index_or queues place None
 
 -- the process in the queue of a seat
-abbrev pub queue : Table → Seat → Option ℕ
-queue table Operator = table.operator
-queue table (Task place) = in_queue table.queues place
+abbrev pub seat_queue : Table → Seat → Option ℕ
+seat_queue table Operator = table.operator
+seat_queue table (Task place) = sleeper_at table.queues place
 
 abbrev pub has_left : Table → ℕ → Bool
 has_left table place = slice_index_or table.left place false
 
 -- A process that waits goes on where the turn is handed to it, and another one where the turn is free.
-abbrev pub MayEnter : Table → Seat → Type 0
-MayEnter table seat = ((queue table seat ≡ None) × (table.turn ≡ Free)) ⊎ (table.turn ≡ Handed seat)
+abbrev pub MayComeIn : Table → Seat → Type 0
+MayComeIn table seat = ((seat_queue table seat ≡ None) × (table.turn ≡ Free)) ⊎ (table.turn ≡ Handed seat)
 
 -- ---- who goes next
 -- the least place at which a task sleeps, of queues of which the first has this place
@@ -54,14 +54,14 @@ first_asleep place [] = None
 first_asleep place (None ∷ queues) = first_asleep (suc place) queues
 first_asleep place (Some p ∷ queues) = Some place
 
-abbrev pub turn_to : Option ℕ → Option ℕ → Turn Seat
-turn_to (Some place) operator = Handed (Task place)
-turn_to None (Some p) = Handed Operator
-turn_to None None = Free
+abbrev pub next_turn : Option ℕ → Option ℕ → Turn Seat
+next_turn (Some place) operator = Handed (Task place)
+next_turn None (Some p) = Handed Operator
+next_turn None None = Free
 
 -- the task that sleeps at the least place goes on, or else the operator where it waits
 abbrev pub handed_on : Table → Table
-handed_on table = record table { turn = turn_to (first_asleep 0 table.queues) table.operator }
+handed_on table = record table { turn = next_turn (first_asleep 0 table.queues) table.operator }
 
 -- ---- the operator wakes a task
 abbrev pub woken_by : Bool → Option ℕ → Woken
@@ -89,10 +89,10 @@ waited_by table place =
 abbrev pub behind_leave : Table → ℕ → Table
 behind_leave table place = handed_on (record table { left = slice_set table.left place true })
 
-abbrev pub after_wait : Table → ℕ → Waited → Table
-after_wait table place waited.Leaves = behind_leave table place
-after_wait table place (waited.Starts second) = record table { awaited = None; turn = Handed Operator }
-after_wait table place waited.Delayed =
+abbrev pub behind_wait : Table → ℕ → Waited → Table
+behind_wait table place waited.Leaves = behind_leave table place
+behind_wait table place (waited.Starts second) = record table { awaited = None; turn = Handed Operator }
+behind_wait table place waited.Delayed =
     record table { queues = slice_set table.queues place (Some (place + 2)) }
 
 -- it goes on
@@ -113,8 +113,8 @@ after_close table = handed_on (record table { closed = true })
 abbrev pub all_left : Table → Bool
 all_left table = list_all (λ left. left) table.left
 
-abbrev pub after_join : Table → Table
-after_join table = if all_left table then table else record table { operator = Some 1 }
+abbrev pub behind_join : Table → Table
+behind_join table = if all_left table then table else record table { operator = Some 1 }
 
 abbrev pub operator_resumed : Table → Table
 operator_resumed table = record table { operator = None; turn = Free }

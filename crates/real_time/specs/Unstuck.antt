@@ -8,15 +8,15 @@ use Rattle.queue_var.specs.declared.turn.Turn.{Turn}
 use Rattle.queue_var.specs.declared.turn.Turn.TheVariants.{Free, Handed}
 use Rattle.real_time.specs.declared.table.Seat.{Seat}
 use Rattle.real_time.specs.declared.table.Seat.TheVariants.{Operator, Task}
-use Rattle.real_time.specs.Table.{Table, MayEnter, all_left, has_left, in_queue}
+use Rattle.real_time.specs.Table.{Table, MayComeIn, all_left, has_left, sleeper_at}
 use Rattle.real_time.specs.Orderly.{IsOrderly}
 use Rattle.real_time.specs.Deeds.{Deed, Enters, Shows, Wakes, Returns}
-use Rattle.real_time.specs.States.{Stage, Works, Closes, Joins, Tells, Ended, State, Opening, opened, ended_at, next_of, Event, Accepts, Displays, Moves, process, OperatorMay, TaskMay, MayGo, HasEnded, IsEnabled}
+use Rattle.real_time.specs.States.{Stage, Works, Closes, Joins, Tells, Ended, TimeState, Opening, opened, ended_at, action_at, TimeEvent, Accepts, Displays, Moves, process_of, OperatorMay, TaskMay, MayMove, HasEnded, MayHappen}
 use Rattle.real_time.specs.TimesLaw.{timing}
 use Rattle.real_time.specs.Reaching.{Holds, Fits, holds}
 
 -- a place at which something is lies in the list
-in-list : (queues : List (Option ℕ)) (place p : ℕ) → in_queue queues place ≡ Some p → place < length queues
+in-list : (queues : List (Option ℕ)) (place p : ℕ) → sleeper_at queues place ≡ Some p → place < length queues
 in-list [] place p is = absurd cc
 in-list (held ∷ queues) zero p is = omega arith
 in-list (held ∷ queues) (suc place) p is = (let below = in-list queues place p is in omega (arith, below))
@@ -33,7 +33,7 @@ all-at (true ∷ left) zero all below = refl
 all-at (true ∷ left) (suc place) all below = all-at left place all (omega (arith, below))
 all-at (false ∷ left) place all below = absurd cc
 
-module _ (s : State) (h : Holds s) (none : NoneGoes timing s) where
+module _ (s : TimeState) (h : Holds s) (none : NoneGoes timing s) where
   one-task : (place : ℕ) → place < 8 → IsOne timing (suc (suc place))
   one-task place below = (omega arith, omega (arith, below))
 
@@ -43,12 +43,12 @@ module _ (s : State) (h : Holds s) (none : NoneGoes timing s) where
   not-ended place below is true e = absurd (let left = h.ends place below e in cc)
 
   -- a task that has not left may not enter
-  no-task : (place : ℕ) → place < 8 → has_left s.table place ≡ false → MayEnter s.table (Task place) → ⊥
+  no-task : (place : ℕ) → place < 8 → has_left s.table place ≡ false → MayComeIn s.table (Task place) → ⊥
   no-task place below is may =
       none (suc (suc place)) (one-task place below)
       (below, not-ended place below is (ended_at s place) refl, subst (λ left. TaskMay left s.table place) (sym is) may)
 
-  no-operator : OperatorMay (next_of s.stage s.seen) s.table → ⊥
+  no-operator : OperatorMay (action_at s.stage s.seen) s.table → ⊥
   no-operator may = none 1 (omega arith, omega arith) may
 
   handed-task : (place : ℕ) → s.table.turn ≡ Handed (Task place) → ⊥
@@ -58,15 +58,15 @@ module _ (s : State) (h : Holds s) (none : NoneGoes timing s) where
       let below : place < 8 = (let eight = h.table.queues in omega (arith, within, eight)) in
       no-task place below (here (has_left s.table place) refl there) (inr is)
     where
-      here : (left : Bool) → has_left s.table place ≡ left → in_queue s.table.queues place ≡ Some (place + 2) → left ≡ false
+      here : (left : Bool) → has_left s.table place ≡ left → sleeper_at s.table.queues place ≡ Some (place + 2) → left ≡ false
       here false e there = refl
       here true e there = absurd (let out = (h.table.gone place e).0 in cc)
 
   -- one that is awake may enter where the turn is free
-  awake-task : (place : ℕ) → place < 8 → has_left s.table place ≡ false → in_queue s.table.queues place ≡ None → s.table.turn ≡ Free → ⊥
+  awake-task : (place : ℕ) → place < 8 → has_left s.table place ≡ false → sleeper_at s.table.queues place ≡ None → s.table.turn ≡ Free → ⊥
   awake-task place below here awake free = no-task place below here (inl (awake, free))
 
-  handed-operator : (stage : Stage) → Fits stage s.table → s.table.turn ≡ Handed Operator → (OperatorMay (next_of stage s.seen) s.table → ⊥) → ⊥
+  handed-operator : (stage : Stage) → Fits stage s.table → s.table.turn ≡ Handed Operator → (OperatorMay (action_at stage s.seen) s.table → ⊥) → ⊥
   handed-operator (Works []) fits is never = never tt
   handed-operator (Works (Enters line ∷ deeds)) fits is never = never (inr is)
   handed-operator (Works (Shows text ∷ deeds)) fits is never = never tt
@@ -79,7 +79,7 @@ module _ (s : State) (h : Holds s) (none : NoneGoes timing s) where
   handed-operator Ended fits is never = (let outside = fits.1 in let waits = h.table.handed_operator is in cc)
 
   -- in a join
-  free-join : (operator : Option ℕ) → s.table.operator ≡ operator → s.table.closed ≡ true → s.table.turn ≡ Free → (MayEnter s.table Operator → ⊥) → ⊥
+  free-join : (operator : Option ℕ) → s.table.operator ≡ operator → s.table.closed ≡ true → s.table.turn ≡ Free → (MayComeIn s.table Operator → ⊥) → ⊥
   free-join None is closed free never = never (inl (is, free))
   free-join (Some p) is closed free never =
       let first : s.table.operator ≡ Some 1 = is ∙ ap Some (h.table.operator p is) in
@@ -88,14 +88,14 @@ module _ (s : State) (h : Holds s) (none : NoneGoes timing s) where
         | inr joins ↦
             (let (place, within, here) = not-all s.table.left joins.1 in
             let below : place < 8 = (let eight = h.table.places in omega (arith, within, eight)) in
-            awake-task place below here (asleep place closed (in_queue s.table.queues place) refl) free)
+            awake-task place below here (asleep place closed (sleeper_at s.table.queues place) refl) free)
       ]
     where
-      asleep : (place : ℕ) → s.table.closed ≡ true → (held : Option ℕ) → in_queue s.table.queues place ≡ held → held ≡ None
+      asleep : (place : ℕ) → s.table.closed ≡ true → (held : Option ℕ) → sleeper_at s.table.queues place ≡ held → held ≡ None
       asleep place closed None e = refl
       asleep place closed (Some p) e = absurd (let handed = (h.table.all_go closed place p e).1 in cc)
 
-  free-operator : (stage : Stage) → Fits stage s.table → s.table.turn ≡ Free → (OperatorMay (next_of stage s.seen) s.table → ⊥) → stage ≡ Ended
+  free-operator : (stage : Stage) → Fits stage s.table → s.table.turn ≡ Free → (OperatorMay (action_at stage s.seen) s.table → ⊥) → stage ≡ Ended
   free-operator (Works []) fits free never = absurd (never tt)
   free-operator (Works (Enters line ∷ deeds)) fits free never = absurd (never (inl (fits.1, free)))
   free-operator (Works (Shows text ∷ deeds)) fits free never = absurd (never tt)
@@ -131,21 +131,21 @@ module _ (s : State) (h : Holds s) (none : NoneGoes timing s) where
   none-stuck (Handed Operator) is = absurd (handed-operator s.stage h.fits is no-operator)
   none-stuck (Handed (Task place)) is = absurd (handed-task place is)
 
-pub never-stuck : (o : Opening) (s : State) → IsReached timing (opened o) s → NoneGoes timing s → AllEnded timing s
+pub never-stuck : (o : Opening) (s : TimeState) → IsReached timing (opened o) s → NoneGoes timing s → AllEnded timing s
 never-stuck o s reached none = none-stuck s (holds o s reached) none s.table.turn refl
 
 -- ---- who goes on
-not-ended-goes : (stage : Stage) (seen : List (List ℕ)) (table : Table) → OperatorMay (next_of stage seen) table → stage ≡ Ended → ⊥
-not-ended-goes stage seen table may is = subst (λ stage. OperatorMay (next_of stage seen) table) is may
+not-ended-goes : (stage : Stage) (seen : List (List ℕ)) (table : Table) → OperatorMay (action_at stage seen) table → stage ≡ Ended → ⊥
+not-ended-goes stage seen table may is = subst (λ stage. OperatorMay (action_at stage seen) table) is may
 
-goers-are : (s : State) (p : ℕ) → MayGo s p → IsOne timing p × (HasEnded s p → ⊥)
+goers-are : (s : TimeState) (p : ℕ) → MayMove s p → IsOne timing p × (HasEnded s p → ⊥)
 goers-are s zero may = absurd may
 goers-are s (suc zero) may = ((omega arith, omega arith), not-ended-goes s.stage s.seen s.table may)
 goers-are s (suc (suc place)) may =
     let below = may.0 in
     ((omega arith, omega (arith, below)), λ ended. (let not_ended = may.1 in cc))
 
-enabled-go : (s : State) (event : Event) → IsEnabled s event → MayGo s (process event)
+enabled-go : (s : TimeState) (event : TimeEvent) → MayHappen s event → MayMove s (process_of event)
 enabled-go s (Accepts answer) is = subst (λ next. OperatorMay next s.table) (sym is.0) tt
 enabled-go s (Displays fault now) is = subst (λ next. OperatorMay next s.table) (sym is.1) tt
 enabled-go s (Moves p how) is = is.0

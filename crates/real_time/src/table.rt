@@ -2,7 +2,7 @@ ghost use Rattle.std.specs.Prelude.{◌≡◌, ◌<◌, ◌+◌, ◌↔◌, leng
 ghost use Rattle.std.specs.List.{list_all};
 ghost use Rattle.queue_var.specs.declared.turn.Turn.TheVariants.{Free, Handed};
 ghost use Rattle.real_time.specs.declared.table.Seat.TheVariants.{Operator, Task};
-ghost use Rattle.real_time.specs.Table.{MayEnter, after_close, after_join, after_resume, after_wait, after_wake, all_left, behind_leave, empty_table, first_asleep, handed_on, in_queue, is_awaited, operator_resumed, queue, resumed_by, turn_to, waited_by, woken_by};
+ghost use Rattle.real_time.specs.Table.{MayComeIn, after_close, behind_join, after_resume, behind_wait, after_wake, all_left, behind_leave, empty_table, first_asleep, handed_on, sleeper_at, is_awaited, operator_resumed, seat_queue, resumed_by, next_turn, waited_by, woken_by};
 
 use crate::MOST_TASKS;
 use queue_var::{QueueVar, Turn};
@@ -60,7 +60,8 @@ impl Model for TimeTable {
 
     ghost Value = { Table };
 
-    ghost view = { λ t. record { queues = t.queues; operator = t.operator; awaited = t.awaited; left = t.left; closed = t.closed; turn = t.turn; second = t.second } };
+    ghost view = { λ t. record { queues = t.queues; operator = t.operator; awaited = t.awaited;
+        left = t.left; closed = t.closed; turn = t.turn; second = t.second } };
 }
 
 impl TimeTable {
@@ -82,7 +83,7 @@ impl TimeTable {
     /// Whether a process may make its call: it waits and the turn is handed to it, or it doesn't wait and the
     /// turn is free.
     pub fn may_enter(&self, seat: Seat) -> bool
-        ensures { IsTrue result ↔ MayEnter self.now seat }
+        ensures { IsTrue result ↔ MayComeIn self.now seat }
     {
         match self.turn {
             Turn::Free => self.is_outside(seat),
@@ -92,7 +93,7 @@ impl TimeTable {
 
     // Whether nobody is in the queue of a seat.
     fn is_outside(&self, seat: Seat) -> bool
-        ensures { IsTrue result ↔ (queue self.now seat ≡ None) }
+        ensures { IsTrue result ↔ (seat_queue self.now seat ≡ None) }
     {
         match seat {
             Seat::Operator => self.operator.empty(),
@@ -105,7 +106,7 @@ impl TimeTable {
         requires free { self.old.turn ≡ Free }
         requires inside { self.old.operator ≡ None }
         requires place { place < length self.old.queues }
-        ensures answer { result ≡ woken_by due (queue self.old (Task place)) }
+        ensures answer { result ≡ woken_by due (seat_queue self.old (Task place)) }
         ensures after { self.new ≡ after_wake self.old place second result }
     {
         if !due {
@@ -124,12 +125,12 @@ impl TimeTable {
     /// A task's entry: it waits for its next start.
     pub fn wait(&mut self, place: usize) -> Waited
         requires free { self.old.turn ≡ Free }
-        requires inside { queue self.old (Task place) ≡ None }
+        requires inside { seat_queue self.old (Task place) ≡ None }
         requires place { place < length self.old.queues }
         requires seat { place < length self.old.left }
         requires number { place + 2 < 256 }
         ensures answer { result ≡ waited_by self.old place }
-        ensures after { self.new ≡ after_wait self.old place result }
+        ensures after { self.new ≡ behind_wait self.old place result }
     {
         if self.closed {
             self.leave(place);
@@ -147,7 +148,7 @@ impl TimeTable {
     /// A task goes on in its entry, since the turn was handed to it.
     pub fn resume(&mut self, place: usize) -> Waited
         requires handed { self.old.turn ≡ Handed (Task place) }
-        requires waits { IsSome (queue self.old (Task place)) }
+        requires waits { IsSome (seat_queue self.old (Task place)) }
         requires place { place < length self.old.queues }
         requires seat { place < length self.old.left }
         ensures answer { result ≡ resumed_by self.old }
@@ -174,7 +175,7 @@ impl TimeTable {
     pub fn join(&mut self) -> bool
         requires inside { self.old.operator ≡ None }
         ensures answer { result ≡ all_left self.old }
-        ensures after { self.new ≡ after_join self.old }
+        ensures after { self.new ≡ behind_join self.old }
     {
         if all_true(&self.left) {
             return true;
@@ -232,7 +233,7 @@ fn is_awaited(awaited: Option<usize>, place: usize) -> bool
 
 // Whose turn it is, by the first task that sleeps, and by whether the operator waits.
 fn turn_to(sleeper: Option<usize>, operator: Option<ProcNo>) -> Turn<Seat>
-    ensures { result ≡ turn_to sleeper operator }
+    ensures { result ≡ next_turn sleeper operator }
 {
     match (sleeper, operator) {
         (Some(place), _) => Turn::Handed(Seat::Task(place)),
@@ -266,7 +267,7 @@ fn all_true(flags: &[bool]) -> bool
 
 // Whether nobody is in the queue at a place.
 fn is_free(queues: &[QueueVar], place: usize) -> bool
-    ensures { IsTrue result ↔ (in_queue queues.now place ≡ None) }
+    ensures { IsTrue result ↔ (sleeper_at queues.now place ≡ None) }
 {
     place >= queues.len() || queues[place].empty()
 }
@@ -274,7 +275,7 @@ fn is_free(queues: &[QueueVar], place: usize) -> bool
 // Puts a process into the queue at a place.
 fn delay_in(queues: &mut [QueueVar], place: usize, p: ProcNo)
     requires inside { place < length queues.old }
-    requires empty { in_queue queues.old place ≡ None }
+    requires empty { sleeper_at queues.old place ≡ None }
     ensures { queues.new ≡ slice_set queues.old place (Some p) }
 {
     let queue = &mut queues[place];
@@ -284,7 +285,7 @@ fn delay_in(queues: &mut [QueueVar], place: usize, p: ProcNo)
 // Takes the process out of the queue at a place.
 fn resume_in(queues: &mut [QueueVar], place: usize)
     requires inside { place < length queues.old }
-    requires waits { IsSome (in_queue queues.old place) }
+    requires waits { IsSome (sleeper_at queues.old place) }
     ensures { queues.new ≡ slice_set queues.old place None }
 {
     let queue = &mut queues[place];

@@ -6,7 +6,8 @@ ghost use Rattle.real_time.specs.Typed.{naming, of_four, of_two, passing, stoppi
 use deck_format::number_within;
 use solo_base::{Ident, Item, spells, split_word};
 
-/// What a typed line says to the operator. A time is a number of seconds, and so is a period, where 0 is none.
+/// What a typed line says to the operator. A time is a number of seconds, and so is a period, where 0 is
+/// none.
 #[derive(Clone, Copy, Debug)]
 pub enum Typed {
     /// Nothing: it is blank.

@@ -22,4 +22,5 @@ returns c = λ s st.
     let none : list_any (has_name c.args.name) c.args.tasks.now.items ≡ false = search rules in
     let room : length c.args.tasks.now.items < 8 = search rules in
     rw (c.push.ensures.items, c.new.ensures.row)
-    (name-new s c.args.name c.args.tasks.now.items st none (is-ahead (length c.args.tasks.now.items) 8 room) (rw (← c.new.ensures.row) (c.new.ensures.plan s.now)))
+    (name-new s c.args.name c.args.tasks.now.items st none (is-ahead (length c.args.tasks.now.items) 8 room) (rw (← c.new.ensures.row)
+        (c.new.ensures.plan s.now)))
