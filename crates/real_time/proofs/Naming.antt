@@ -1,16 +1,15 @@
 -- What TASK answers.
-use Rattle.std.proofs.Common.{◌≡◌, ℕ, ◌+◌, ◌<◌, Bool, true, false, List, [], ◌∷◌, ◌++◌, length, map, refl, sym, ◌∙◌, ap, subst, arith}
+use Rattle.std.proofs.Common.{◌≡◌, ℕ, Bool, true, false, List, [], ◌∷◌, ◌++◌, length, map, refl, sym, ◌∙◌, ap, subst, arith}
 use Rattle.std.specs.Prelude.{nat_lt}
 use Rattle.std.specs.List.{list_any}
 use Rattle.std.specs.Str.{bytes_eq}
-use Rattle.std.proofs.lemmas.Bool.{lt-ltb, ltb-true}
 use Rattle.std.proofs.lemmas.List.{map-append}
 use Rattle.std.proofs.lemmas.Slice.Eq.{bytes_eq-Decides}
 use Rattle.real_time.specs.declared.plan.Plan.TheVariants.{Never}
 use Rattle.real_time.specs.declared.plan.Named.TheVariants.{TaskExists, TableFull, Done}
 use Rattle.real_time.specs.Typed.{Names}
-use Rattle.real_time.specs.Starts.{Script, Change, is_task, plan_of}
-use Rattle.real_time.specs.Awaiting.{Row, Awaits, AllAwait, has_name, unplanned}
+use Rattle.real_time.specs.Starts.{Script, Change, plan_of}
+use Rattle.real_time.specs.Awaiting.{Row, Awaits, has_name, unplanned}
 use Rattle.real_time.specs.Answers.{StandsForScript, AllNamed, AnswersLine, name_text}
 use Rattle.real_time.specs.Counted.{any-more}
 use Rattle.real_time.proofs.Changing.{name_of, all-append}

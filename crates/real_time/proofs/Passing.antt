@@ -1,7 +1,7 @@
 -- A second passes for the rows of a table, one after the other.
-use Rattle.std.proofs.Common.{◌≡◌, ℕ, zero, suc, ◌+◌, ◌<◌, Bool, List, [], ◌∷◌, length, take, drop, map, get_or, slice_set, refl, sym, ◌∙◌, ap, subst, arith}
+use Rattle.std.proofs.Common.{◌≡◌, ℕ, zero, suc, ◌+◌, ◌<◌, Bool, List, [], ◌∷◌, length, take, map, get_or, slice_set, refl, sym, ◌∙◌, ap, subst, arith}
 use Rattle.std.proofs.lemmas.List.{take_more_set, take_all, drop-set-lt, drop_more}
-use Rattle.real_time.specs.Starts.{Script, Change, next_second, plan_of}
+use Rattle.real_time.specs.Starts.{Script, next_second, plan_of}
 use Rattle.real_time.specs.Awaiting.{Row, Awaits, AllAwait, Passed}
 use Rattle.real_time.specs.Answers.{StandsForScript, StandsWithin, starts_at}
 use Rattle.real_time.proofs.Changing.{name_of, same-names, all-append}
@@ -30,9 +30,9 @@ module _ (s : Script) (rows : List Row) (place second : ℕ) (is d : Row) (start
     names = same-names rows place is d below same ∙ st.names;
     front =
         (let there = subst (λ name. Awaits (plan_of name s.accepted) (s.now + 1) is) (sym same)
-            (subst (λ second. Awaits (plan_of (get_or rows place d).name s.accepted) second is) second_is passed.awaits) in
+        (subst (λ second. Awaits (plan_of (get_or rows place d).name s.accepted) second is) second_is passed.awaits) in
         subst (AllAwait s.accepted (s.now + 1)) (sym (take_more_set rows place is below)) (all-append s.accepted (s.now + 1)
-            (take place rows) is st.front there));
+        (take place rows) is st.front there));
     back = subst (AllAwait s.accepted s.now) (sym (drop-set-lt (place + 1) rows place is (omega arith)))
         (subst (AllAwait s.accepted s.now) (drop_more rows place d below) st.back).1;
     known = st.known;

@@ -1,6 +1,6 @@
 -- In each reached state the lines that were displayed and those still owed are the script's, and so are the
 -- starts of each task.
-use Rattle.std.proofs.Common.{◌≡◌, ◌≢◌, ◌⊎◌, inl, inr, ℕ, zero, suc, ◌+◌, ◌<◌, ◌≤◌, Bool, true, false, Option, None, Some, List, [], ◌∷◌, ◌++◌, length, append_assoc, slice_set, get_or-set_other, get_or-set_same, refl, sym, ◌∙◌, ap, subst, arith, eq-eqb}
+use Rattle.std.proofs.Common.{◌≡◌, ◌≢◌, ◌⊎◌, inl, inr, ℕ, zero, suc, ◌+◌, ◌<◌, Bool, true, false, Option, None, Some, List, [], ◌∷◌, ◌++◌, length, append_assoc, slice_set, get_or-set_other, get_or-set_same, refl, sym, ◌∙◌, ap, subst, arith, eq-eqb}
 use Rattle.std.specs.Prelude.{◌==◌, ◌&&◌, if◌then◌else◌, map, slice_get, slice_index_or, codes}
 use Rattle.std.specs.Fmt.{decimal}
 use Rattle.std.proofs.lemmas.List.{append-nil}
@@ -13,7 +13,7 @@ use Rattle.solo_base.specs.declared.outcome.Cause.TheVariants as cause
 use Rattle.solo_devices.specs.declared.card_read.CardRead.{CardRead}
 use Rattle.solo_devices.specs.declared.card_read.CardRead.TheVariants as read
 use Rattle.solo_devices.specs.declared.printer_unit.PrintFault.{PrintFault}
-use Rattle.solo_devices.specs.CardUnit.{TakesItem, item_of}
+use Rattle.solo_devices.specs.CardUnit.{TakesItem}
 use Rattle.network_run.specs.declared.stepped.Stepped.{Stepped}
 use Rattle.network_run.specs.declared.stepped.Stepped.TheVariants as stepped
 use Rattle.network_run.specs.Law.{IsReached, AreEnabled, run}
@@ -22,14 +22,12 @@ use Rattle.queue_var.specs.declared.turn.Turn.TheVariants.{Free, Handed}
 use Rattle.real_time.specs.declared.table.Seat.{Seat}
 use Rattle.real_time.specs.declared.table.Seat.TheVariants.{Operator, Task}
 use Rattle.real_time.specs.declared.table.Woken.TheVariants as woken
-use Rattle.real_time.specs.declared.table.Waited.{Waited}
 use Rattle.real_time.specs.declared.table.Waited.TheVariants as waited
-use Rattle.real_time.specs.Table.{Table, MayComeIn, after_close, behind_wait, after_wake, all_left, behind_leave, has_left, sleeper_at, is_awaited, operator_resumed, out_of_queue, waited_by, woken_by}
-use Rattle.real_time.specs.Orderly.{IsOrderly}
+use Rattle.real_time.specs.Table.{Table, after_close, behind_wait, after_wake, all_left, behind_leave, has_left, sleeper_at, is_awaited, operator_resumed, out_of_queue, woken_by}
 use Rattle.real_time.specs.Typed.{typed}
 use Rattle.real_time.specs.Starts.{Script, behind_line, opening, runs_line, times, times_from, times_started}
-use Rattle.real_time.specs.Deeds.{Deed, Enters, Shows, Wakes, Returns, deeds_of, starts, starts_from}
-use Rattle.real_time.specs.States.{Stage, Works, Closes, Joins, Tells, Ended, TimeState, Opening, opened, seen_at, Prints, told_line, action_at, TimeEvent, Accepts, Displays, Moves, keys_behind, after_item, after_accept, behind_display, behind_fault, display_cause, lines_printed, displayed, after_display, after_woken, names_by, names_told, joined_by, join_move, operator_move, with_start, stage_told, waits, task_move, occurs, OperatorMay, TaskMay, IsMove, MayHappen}
+use Rattle.real_time.specs.Deeds.{Deed, Enters, Shows, Wakes, Returns, starts, starts_from}
+use Rattle.real_time.specs.States.{Stage, Works, Closes, Joins, Tells, Ended, TimeState, Opening, opened, seen_at, Prints, told_line, action_at, TimeEvent, Accepts, Displays, Moves, keys_behind, after_item, after_accept, behind_display, behind_fault, display_cause, lines_printed, after_display, after_woken, names_by, names_told, joined_by, join_move, operator_move, with_start, stage_told, waits, task_move, occurs, OperatorMay, TaskMay, IsMove, MayHappen}
 use Rattle.real_time.specs.TimesLaw.{timing}
 use Rattle.real_time.specs.Owed.{lines_shown, starts_by, lines_owed, starts_owed, pending, pending_of, LinesAdd, StartsAdd, IsBehind}
 use Rattle.real_time.specs.LineDeeds.{line-shows, line-starts}
@@ -214,9 +212,9 @@ told-runs items s h a place name names stage_is none =
     let closed : s.table.closed ≡ true = (subst (λ stage. Fits stage s.table) stage_is h.fits).0 in
     let more : (a.starts place).more ≡ [] = (a.starts place).are none ∙ ap (λ stage. starts_owed place stage s.script a.rest) stage_is in
     let seen : seen_at s place ≡ starts place items =
-        sym (append-nil (seen_at s place))
-            ∙ ap (λ more. seen_at s place ++ more) (sym (ap (λ p. p ++ (a.starts place).more) (closed-pending s.table place closed) ∙ more))
-        ∙ (a.starts place).all_are in
+    sym (append-nil (seen_at s place))
+    ∙ ap (λ more. seen_at s place ++ more) (sym (ap (λ p. p ++ (a.starts place).more) (closed-pending s.table place closed) ∙ more))
+    ∙ (a.starts place).all_are in
     let count = ap length seen ∙ sym runs ∙ ap (λ script. times_started name script) (sym script) in
     ap (λ n. trimmed name ++ codes ": " ++ decimal n ++ codes " RUNS") count
   where
@@ -314,10 +312,14 @@ same-owed items s a stage table lines owed same behind telling = record {
   script = a.script;
   behind = behind;
   telling = telling;
-  lines = record { more = a.lines.more; all_are = a.lines.all_are; are = λ none. elim lines as (λ _. a.lines.more ≡ lines_owed stage s.script a.rest) [
-    | inl is ↦ a.lines.are none ∙ is
-    | inr faulty ↦ absurd (faulty none)
-  ] };
+  lines = record {
+    more = a.lines.more;
+    all_are = a.lines.all_are;
+    are = λ none. elim lines as (λ _. a.lines.more ≡ lines_owed stage s.script a.rest) [
+      | inl is ↦ a.lines.are none ∙ is
+      | inr faulty ↦ absurd (faulty none)
+    ];
+  };
   starts = λ place. record {
     more = (a.starts place).more;
     all_are = ap (λ p. seen_at s place ++ (p ++ (a.starts place).more)) (same place) ∙ (a.starts place).all_are;
@@ -400,7 +402,7 @@ operator-account items s h a Closes stage_is fits may move =
 operator-account items s h a Joins stage_is fits may move = joins-account items s a s.table.operator stage_is fits
 operator-account items s h a (Tells place []) stage_is fits may move =
     same-owed items s a Ended s.table (inl (rw stage_is refl)) (λ q. rw stage_is refl) (λ q. refl) (subst
-        (λ stage. IsBehind stage s.fault a.rest) stage_is a.behind) tt
+    (λ stage. IsBehind stage s.fault a.rest) stage_is a.behind) tt
 operator-account items s h a (Tells place (name ∷ names)) stage_is fits may move = absurd move
 operator-account items s h a Ended stage_is fits may move = absurd move
 
@@ -458,20 +460,20 @@ resumes-account items s h a place false one handed c =
     all : (q : ℕ) → slice_index_or (with_start s.seen place (waited.Starts s.table.second)) q [] ++ ([] ++ (a.starts q).more) ≡ starts q items
     all q = elim (eqb_tells q place) as
         (λ _. slice_index_or (with_start s.seen place (waited.Starts s.table.second)) q [] ++ ([] ++ (a.starts q).more) ≡ starts q items) [
-      | inl same ↦
-          (let is = same.1 in
-          let long : place < length s.seen = (let eight = h.lists.0 in omega (arith, one, eight)) in
-          let own = eq-eqb place place refl in
-          subst (λ q. slice_index_or (with_start s.seen place (waited.Starts s.table.second)) q [] ++ ([] ++ (a.starts q).more) ≡ starts q items) (sym is)
-          (ap (λ seen. seen ++ (a.starts place).more) (seen-own s.seen place (seen_at s place ++ s.table.second ∷ []) long)
-          ∙ append_assoc (seen_at s place) (s.table.second ∷ []) (a.starts place).more
-          ∙ ap (λ p. seen_at s place ++ (p ++ (a.starts place).more)) (sym (was place ∙ ap (λ t. if t then s.table.second ∷ [] else []) own))
-          ∙ (a.starts place).all_are))
-      | inr other ↦
-          (ap (λ seen. seen ++ (a.starts q).more) (seen-other s.seen place q (seen_at s place ++ s.table.second ∷ []) other.1)
-          ∙ ap (λ p. seen_at s q ++ (p ++ (a.starts q).more)) (sym (was q ∙ apart q other.1))
-          ∙ (a.starts q).all_are)
-    ]
+          | inl same ↦
+              (let is = same.1 in
+              let long : place < length s.seen = (let eight = h.lists.0 in omega (arith, one, eight)) in
+              let own = eq-eqb place place refl in
+              subst (λ q. slice_index_or (with_start s.seen place (waited.Starts s.table.second)) q [] ++ ([] ++ (a.starts q).more) ≡ starts q items) (sym is)
+              (ap (λ seen. seen ++ (a.starts place).more) (seen-own s.seen place (seen_at s place ++ s.table.second ∷ []) long)
+              ∙ append_assoc (seen_at s place) (s.table.second ∷ []) (a.starts place).more
+              ∙ ap (λ p. seen_at s place ++ (p ++ (a.starts place).more)) (sym (was place ∙ ap (λ t. if t then s.table.second ∷ [] else []) own))
+              ∙ (a.starts place).all_are))
+          | inr other ↦
+              (ap (λ seen. seen ++ (a.starts q).more) (seen-other s.seen place q (seen_at s place ++ s.table.second ∷ []) other.1)
+              ∙ ap (λ p. seen_at s q ++ (p ++ (a.starts q).more)) (sym (was q ∙ apart q other.1))
+              ∙ (a.starts q).all_are)
+        ]
       where
         apart : (q : ℕ) → q ≢ place → (if place == q then s.table.second ∷ [] else []) ≡ []
         apart q other = elim (eqb_tells place q) as (λ _. (if place == q then s.table.second ∷ [] else []) ≡ []) [
@@ -497,7 +499,7 @@ told-account items s h a place (Works (Wakes q second due ∷ deeds)) one stage_
     let wakes = waking fits.1.1 in
     task-account items s a (Works (Returns ∷ deeds)) (behind_wait s.table place (waited.Starts s.table.second))
     (with_start s.seen place (waited.Starts s.table.second)) (λ script rest. rw stage_is refl) (λ behind. subst
-        (λ stage. IsBehind stage s.fault a.rest) stage_is behind)
+    (λ stage. IsBehind stage s.fault a.rest) stage_is behind)
     (λ telling. tt)
     (λ r. (starts_by r deeds ++ starts_from r s.script a.rest, all wakes r, λ none. refl))
   where
@@ -531,27 +533,27 @@ told-account items s h a place (Works (Wakes q second due ∷ deeds)) one stage_
 
     all : (q ≡ place) × (due ≡ true) × (s.table.second ≡ second) → (r : ℕ)
         → slice_index_or (with_start s.seen place (waited.Starts s.table.second)) r [] ++ ([] ++ (starts_by r deeds ++ starts_from r s.script a.rest))
-            ≡ starts r items
+        ≡ starts r items
     all wakes r = elim (eqb_tells r place) as
         (λ _. slice_index_or (with_start s.seen place (waited.Starts s.table.second)) r [] ++ (starts_by r deeds ++ starts_from r s.script a.rest)
-            ≡ starts r items) [
-      | inl same ↦
-          (let is = same.1 in
-          let long : place < length s.seen = (let eight = h.lists.0 in omega (arith, one, eight)) in
-          let own = eq-eqb place place refl in
-          subst (λ r. slice_index_or (with_start s.seen place (waited.Starts s.table.second)) r [] ++ (starts_by r deeds ++ starts_from r s.script a.rest)
+        ≡ starts r items) [
+          | inl same ↦
+              (let is = same.1 in
+              let long : place < length s.seen = (let eight = h.lists.0 in omega (arith, one, eight)) in
+              let own = eq-eqb place place refl in
+              subst (λ r. slice_index_or (with_start s.seen place (waited.Starts s.table.second)) r [] ++ (starts_by r deeds ++ starts_from r s.script a.rest)
               ≡ starts r items) (sym is)
-          (ap (λ seen. seen ++ (starts_by place deeds ++ starts_from place s.script a.rest)) (seen-own s.seen place
+              (ap (λ seen. seen ++ (starts_by place deeds ++ starts_from place s.script a.rest)) (seen-own s.seen place
               (seen_at s place ++ s.table.second ∷ []) long)
-          ∙ append_assoc (seen_at s place) (s.table.second ∷ []) (starts_by place deeds ++ starts_from place s.script a.rest)
-          ∙ ap (λ t. seen_at s place ++ ((if t then s.table.second ∷ [] else []) ++ (starts_by place deeds ++ starts_from place s.script a.rest))) (sym own)
-          ∙ owed wakes place))
-      | inr other ↦
-          (ap (λ seen. seen ++ (starts_by r deeds ++ starts_from r s.script a.rest)) (seen-other s.seen place r
+              ∙ append_assoc (seen_at s place) (s.table.second ∷ []) (starts_by place deeds ++ starts_from place s.script a.rest)
+              ∙ ap (λ t. seen_at s place ++ ((if t then s.table.second ∷ [] else []) ++ (starts_by place deeds ++ starts_from place s.script a.rest))) (sym own)
+              ∙ owed wakes place))
+          | inr other ↦
+              (ap (λ seen. seen ++ (starts_by r deeds ++ starts_from r s.script a.rest)) (seen-other s.seen place r
               (seen_at s place ++ s.table.second ∷ []) other.1)
-          ∙ ap (λ l. seen_at s r ++ (l ++ (starts_by r deeds ++ starts_from r s.script a.rest))) (sym (apart other.1))
-          ∙ owed wakes r)
-    ]
+              ∙ ap (λ l. seen_at s r ++ (l ++ (starts_by r deeds ++ starts_from r s.script a.rest))) (sym (apart other.1))
+              ∙ owed wakes r)
+        ]
       where
         apart : r ≢ place → (if place == r then s.table.second ∷ [] else []) ≡ []
         apart other = elim (eqb_tells place r) as (λ _. (if place == r then s.table.second ∷ [] else []) ≡ []) [

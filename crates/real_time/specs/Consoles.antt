@@ -3,17 +3,16 @@ use Rattle.std.proofs.Common.{◌≡◌, ℕ, zero, suc, Option, None, Some, Lis
 use Rattle.std.proofs.lemmas.List.{append-nil}
 use Rattle.solo_base.specs.Text.{line_text, text}
 use Rattle.solo_base.specs.declared.item.Item.{Item}
-use Rattle.solo_base.specs.declared.outcome.Cause.{Cause}
 use Rattle.solo_devices.specs.declared.card_read.CardRead.{CardRead}
 use Rattle.solo_devices.specs.declared.card_read.CardRead.TheVariants as read
 use Rattle.solo_devices.specs.declared.printer_unit.PrintFault.{PrintFault}
-use Rattle.solo_devices.specs.PrinterUnit.{Gains, GainsOf}
+use Rattle.solo_devices.specs.PrinterUnit.{Gains}
 use Rattle.network_run.specs.Law.{IsReached, AreEnabled, run}
 use Rattle.real_time.specs.declared.table.Woken.TheVariants as woken
 use Rattle.real_time.specs.Table.{all_left, has_left, sleeper_at, operator_resumed, woken_by, Table}
 use Rattle.real_time.specs.Starts.{times}
-use Rattle.real_time.specs.Deeds.{Deed, Enters, Shows, Wakes, Returns, starts}
-use Rattle.real_time.specs.States.{Stage, Works, Closes, Joins, Tells, Ended, TimeState, Opening, opened, seen_at, Prints, action_at, TimeEvent, Accepts, Displays, Moves, after_accept, behind_display, lines_printed, displayed, after_display, after_woken, joined_by, join_move, operator_move, task_move, occurs, MayHappen}
+use Rattle.real_time.specs.Deeds.{Deed, Enters, Shows, Wakes, Returns}
+use Rattle.real_time.specs.States.{Stage, Works, Closes, Joins, Tells, Ended, TimeState, Opening, opened, seen_at, Prints, action_at, TimeEvent, Accepts, Displays, Moves, after_accept, behind_display, lines_printed, after_display, after_woken, joined_by, join_move, operator_move, task_move, occurs, MayHappen}
 use Rattle.real_time.specs.TimesLaw.{timing}
 use Rattle.real_time.specs.Owed.{lines_owed, starts_owed, pending_of, IsBehind}
 use Rattle.real_time.specs.Reaching.{Holds, at-opening, keeps, holds, Fits}
@@ -104,7 +103,7 @@ printed-tells given items s now line all holds t next none gains a =
     let gained = gains.told _ t.console in
     let whole = gained.all_is holds in
     let shown : text (s.shown ++ line ∷ []) ≡ text s.shown ++ line_text line = text-append s.shown (line ∷ [])
-        ∙ ap (λ l. text s.shown ++ l) (append-nil (line_text line)) in
+    ∙ ap (λ l. text s.shown ++ l) (append-nil (line_text line)) in
     record {
       part = [];
       console = gained.now_is
@@ -129,7 +128,7 @@ failed-tells given items s fault now line t a d gains =
     let more = a.lines.are d.fault ∙ d.lines in
     let later = lines_owed (behind_display s.stage) s.script a.rest in
     let lines : text s.shown ++ (line_text line ++ text later) ≡ text (times items) =
-        sym (text-append s.shown (line ∷ later)) ∙ ap (λ more. text (s.shown ++ more)) (sym more) ∙ ap text a.lines.all_are in
+    sym (text-append s.shown (line ∷ later)) ∙ ap (λ more. text (s.shown ++ more)) (sym more) ∙ ap text a.lines.all_are in
     record {
       part = gained.part;
       console = gained.now_is

@@ -1,5 +1,5 @@
 -- Each entry of the time table keeps it in order.
-use Rattle.std.proofs.Common.{◌≡◌, ◌≢◌, ◌⊎◌, inl, inr, ℕ, zero, suc, ◌+◌, ◌<◌, Bool, true, false, Option, None, Some, List, [], ◌∷◌, length, slice_set, get_or-set_other, get_or-set_same, refl, sym, ◌∙◌, ap, subst, arith}
+use Rattle.std.proofs.Common.{◌≡◌, ◌≢◌, inl, inr, ℕ, zero, suc, ◌+◌, ◌<◌, Bool, true, false, Option, None, Some, List, [], ◌∷◌, length, slice_set, get_or-set_other, get_or-set_same, refl, sym, ◌∙◌, ap, subst, arith}
 use Rattle.std.specs.List.{AllByRecursion}
 use Rattle.std.proofs.lemmas.List.{length-set}
 use Rattle.std.proofs.lemmas.Bool.Decides.{eqb_tells}
@@ -101,7 +101,7 @@ opens = record {
   awaits = λ place is. absurd cc;
   waits = λ is free. absurd cc;
   gone = λ place is. absurd (let no = none-left empty_table.left (refl, (refl, (refl, (refl, (refl, (refl, (refl, (refl, tt)))))))) empty_table refl place in
-  cc);
+      cc);
   all_go = λ closed place p is. absurd cc;
 }
   where
@@ -255,9 +255,9 @@ module _ (t : Table) (o : IsOrderly t) (place : ℕ) (one : place < 8) where
       places = o.places;
       own = λ q p is. elim (eqb_tells q place) as (λ _. p ≡ q + 2) [
         | inl same ↦ (let is_place = same.1 in
-          let held = set-in t.queues place (Some (place + 2)) (rw o.queues one) in
-          let there = subst (λ r. sleeper_at (slice_set t.queues place (Some (place + 2))) r ≡ Some p) is_place is in
-          let e : place + 2 ≡ p = cc in rw is_place (sym e))
+            let held = set-in t.queues place (Some (place + 2)) (rw o.queues one) in
+            let there = subst (λ r. sleeper_at (slice_set t.queues place (Some (place + 2))) r ≡ Some p) is_place is in
+            let e : place + 2 ≡ p = cc in rw is_place (sym e))
         | inr other ↦ o.own q p (sym (set-out t.queues place q (Some (place + 2)) other.1) ∙ is)
       ];
       operator = o.operator;
@@ -285,18 +285,20 @@ module _ (t : Table) (o : IsOrderly t) (place : ℕ) (one : place < 8) where
     own-out : (q p : ℕ) → sleeper_at (slice_set t.queues place None) q ≡ Some p → (sleeper_at t.queues q ≡ Some p) × (q ≢ place)
     own-out q p is = elim (eqb_tells q place) as (λ _. (sleeper_at t.queues q ≡ Some p) × (q ≢ place)) [
       | inl same ↦ absurd (let is_place = same.1 in
-        let held = set-in t.queues place None (rw o.queues one) in
-        let there = subst (λ r. sleeper_at (slice_set t.queues place None) r ≡ Some p) is_place is in cc)
+          let held = set-in t.queues place None (rw o.queues one) in
+          let there = subst (λ r. sleeper_at (slice_set t.queues place None) r ≡ Some p) is_place is in cc)
       | inr other ↦ (sym (set-out t.queues place q None other.1) ∙ is, other.1)
     ]
 
     gone-out : (q : ℕ) → has_left t q ≡ true → (sleeper_at (slice_set t.queues place None) q ≡ None) × (t.closed ≡ true)
     gone-out q is =
-        let gone = o.gone q is in
-        (elim (eqb_tells q place) as (λ _. sleeper_at (slice_set t.queues place None) q ≡ None) [
-          | inl same ↦ (let is_place = same.1 in rw is_place (set-in t.queues place None (rw o.queues one)))
-          | inr other ↦ set-out t.queues place q None other.1 ∙ gone.0
-        ], gone.1)
+        let gone = o.gone q is in (
+          elim (eqb_tells q place) as (λ _. sleeper_at (slice_set t.queues place None) q ≡ None) [
+            | inl same ↦ (let is_place = same.1 in rw is_place (set-in t.queues place None (rw o.queues one)))
+            | inr other ↦ set-out t.queues place q None other.1 ∙ gone.0
+          ],
+          gone.1,
+        )
 
     unawaited-out : (awaited : Option ℕ) → t.awaited ≡ awaited → awaited ≡ None
     unawaited-out None is = refl

@@ -1,11 +1,11 @@
 -- The deeds of a line display its answer, and start each task in its seconds.
-use Rattle.std.proofs.Common.{◌≡◌, ◌≢◌, ◌⊎◌, inl, inr, ℕ, zero, suc, ◌+◌, ◌<◌, ◌≤◌, Bool, true, false, Option, None, Some, List, [], ◌∷◌, ◌++◌, length, append_assoc, refl, sym, ◌∙◌, ap, subst, arith}
+use Rattle.std.proofs.Common.{◌≡◌, ◌≢◌, inl, inr, ℕ, zero, suc, ◌+◌, ◌<◌, Bool, true, false, List, [], ◌∷◌, ◌++◌, append_assoc, refl, sym, ◌∙◌, ap, arith}
 use Rattle.std.specs.Prelude.{◌==◌, ◌&&◌, filter, map, codes, if◌then◌else◌, slice_get}
 use Rattle.std.specs.Fmt.{decimal}
-use Rattle.std.proofs.lemmas.List.{map-append, append-nil}
+use Rattle.std.proofs.lemmas.List.{append-nil}
 use Rattle.std.proofs.lemmas.Bool.Decides.{eqb_tells}
 use Rattle.real_time.specs.Typed.{Typed, Blank, Names, Plans, Stops, Passes, Bad}
-use Rattle.real_time.specs.Starts.{Script, Change, answer, is_due, lines_of_seconds, next_second, plan_of, second_lines, start_line, starters, within_clock}
+use Rattle.real_time.specs.Starts.{Script, Change, answer, is_due, lines_of_seconds, next_second, plan_of, second_lines, start_line, within_clock}
 use Rattle.real_time.specs.Deeds.{Deed, Enters, Shows, Wakes, Returns, deeds_of, deeds_of_seconds, shows_start, starts_in_second, starts_named, starts_of_line, starts_of_seconds, wakes_of}
 use Rattle.real_time.specs.Owed.{lines_shown, starts_by}
 
@@ -29,9 +29,9 @@ lines-wakes accepted second place (name ∷ names) =
   where
     by : (due : Bool) → is_due (plan_of name accepted) second ≡ due
         → lines_shown (wakes_of accepted second (suc place) names)
-          ≡ map (start_line second) (filter (λ name. is_due (plan_of name accepted) second) names)
+        ≡ map (start_line second) (filter (λ name. is_due (plan_of name accepted) second) names)
         → lines_shown (wakes_of accepted second place (name ∷ names))
-          ≡ map (start_line second) (filter (λ name. is_due (plan_of name accepted) second) (name ∷ names))
+        ≡ map (start_line second) (filter (λ name. is_due (plan_of name accepted) second) (name ∷ names))
     by true e rest = rw e (ap (λ lines. start_line second name ∷ lines) rest)
     by false e rest = rw e rest
 
@@ -94,7 +94,7 @@ starts-wakes : (accepted : List Change) (second place i : ℕ) (names : List (Li
 starts-wakes accepted second place i [] = refl
 starts-wakes accepted second place zero (name ∷ names) =
     let rest = starts-start (place + 0) second name (is_due (plan_of name accepted) second) (wakes_of accepted second (suc place) names)
-        ∙ starts-before accepted second (suc place) (place + 0) names (omega arith) in
+    ∙ starts-before accepted second (suc place) (place + 0) names (omega arith) in
     ap (λ starts. (if (place == (place + 0)) && is_due (plan_of name accepted) second then second ∷ [] else []) ++ starts) rest
     ∙ append-nil _
     ∙ own (is_due (plan_of name accepted) second)
@@ -121,7 +121,7 @@ starts-seconds place zero s = refl
 starts-seconds place (suc seconds) s =
     starts-append place (wakes_of s.accepted (s.now + 1) 0 s.tasks) (deeds_of_seconds seconds (next_second s))
     ∙ ap (λ starts. starts ++ starts_by place (deeds_of_seconds seconds (next_second s))) (ap (λ q. starts_by q (wakes_of s.accepted (s.now + 1) 0 s.tasks))
-        (zero-plus place) ∙ starts-wakes s.accepted (s.now + 1) 0 place s.tasks)
+    (zero-plus place) ∙ starts-wakes s.accepted (s.now + 1) 0 place s.tasks)
     ∙ ap (λ starts. starts_in_second place s (s.now + 1) ++ starts) (starts-seconds place seconds (next_second s))
 
 pub line-starts : (place : ℕ) (s : Script) (line : Typed) → starts_by place (deeds_of s line) ≡ starts_of_line place s line

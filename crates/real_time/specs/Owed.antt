@@ -1,13 +1,13 @@
 -- What is still owed of a script: lines to the console, and starts to each task.
-use Rattle.std.specs.Prelude.{◌≡◌, ℕ, ◌==◌, ◌&&◌, Bool, true, false, List, [], ◌∷◌, ◌++◌, map, Option, None, Some, if◌then◌else◌}
+use Rattle.std.specs.Prelude.{◌≡◌, ℕ, ◌==◌, ◌&&◌, Bool, true, false, List, [], ◌∷◌, ◌++◌, map, Option, None, if◌then◌else◌}
 use Rattle.solo_base.specs.declared.item.Item.{Item}
 use Rattle.solo_base.specs.Text.{text}
 use Rattle.queue_var.specs.declared.turn.Turn.{Turn}
 use Rattle.queue_var.specs.declared.turn.Turn.TheVariants.{Free, Handed}
 use Rattle.real_time.specs.declared.table.Seat.{Seat}
 use Rattle.real_time.specs.declared.table.Seat.TheVariants.{Operator, Task}
-use Rattle.real_time.specs.Starts.{Script, runs_line, times, times_from}
-use Rattle.real_time.specs.Deeds.{Deed, Enters, Shows, Wakes, Returns, starts, starts_from}
+use Rattle.real_time.specs.Starts.{Script, runs_line, times_from}
+use Rattle.real_time.specs.Deeds.{Deed, Enters, Shows, Wakes, Returns, starts_from}
 use Rattle.real_time.specs.States.{Stage, Works, Closes, Joins, Tells, Ended, TimeState, seen_at}
 use Rattle.solo_base.specs.declared.outcome.Cause.{Cause}
 

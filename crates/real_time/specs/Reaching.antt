@@ -1,5 +1,5 @@
 -- What holds in each reached state: the table is in order, and the operator waits only in a wake or a join.
-use Rattle.std.proofs.Common.{◌≡◌, ◌≢◌, ◌⊎◌, inl, inr, ℕ, zero, suc, ◌+◌, ◌<◌, ◌≤◌, Bool, true, false, Option, None, Some, List, [], ◌∷◌, ◌++◌, length, length-append, slice_set, get_or-set_other, get_or-set_same, refl, sym, ◌∙◌, ap, subst, arith, eq-eqb}
+use Rattle.std.proofs.Common.{◌≡◌, ◌≢◌, ◌⊎◌, inl, inr, ℕ, zero, suc, ◌+◌, ◌<◌, ◌≤◌, Bool, true, false, Option, None, Some, List, [], ◌∷◌, ◌++◌, length, length-append, slice_set, get_or-set_other, refl, sym, ◌∙◌, ap, subst, arith, eq-eqb}
 use Rattle.std.specs.Prelude.{slice_index_or, nat_lt, if◌then◌else◌, map, not, ◌&&◌, codes}
 use Rattle.std.specs.List.{AllByRecursion, list_all}
 use Rattle.std.proofs.lemmas.List.{length-set}
@@ -16,13 +16,13 @@ use Rattle.real_time.specs.declared.table.Seat.TheVariants.{Operator, Task}
 use Rattle.real_time.specs.declared.table.Woken.TheVariants as woken
 use Rattle.real_time.specs.declared.table.Waited.{Waited}
 use Rattle.real_time.specs.declared.table.Waited.TheVariants as waited
-use Rattle.real_time.specs.Table.{Table, MayComeIn, after_close, behind_wait, after_wake, all_left, behind_leave, empty_table, has_left, sleeper_at, is_awaited, operator_resumed, out_of_queue, waited_by, woken_by}
+use Rattle.real_time.specs.Table.{Table, MayComeIn, after_close, behind_wait, after_wake, all_left, behind_leave, has_left, sleeper_at, is_awaited, operator_resumed, out_of_queue, woken_by}
 use Rattle.real_time.specs.Orderly.{IsOrderly}
 use Rattle.real_time.specs.Entries.{opens, continues, awaits, closes, joins, operator-resumes, leaves, starts, sleeps, resumes, resumes-leaving}
 use Rattle.real_time.specs.Typed.{Typed, Blank, Names, Plans, Stops, Passes, Bad, typed}
-use Rattle.real_time.specs.Starts.{Script, Change, answer, behind_line, behind_seconds, is_due, is_task, may_name, may_plan, next_second, plan_of, within_clock}
+use Rattle.real_time.specs.Starts.{Script, Change, answer, behind_line, behind_seconds, is_due, is_task, may_plan, next_second, plan_of, within_clock}
 use Rattle.real_time.specs.Deeds.{Deed, Enters, Shows, Wakes, Returns, deeds_of, deeds_of_seconds, shows_start, wakes_of}
-use Rattle.real_time.specs.States.{Stage, Works, Closes, Joins, Tells, Ended, TimeState, Opening, opened, ended_at, Reads, Prints, action_at, TimeEvent, Accepts, Displays, Moves, keys_behind, after_item, after_answer, after_accept, behind_display, behind_fault, after_display, after_woken, names_told, joined_by, join_move, operator_move, with_start, stage_told, waits, task_move, occurs, OperatorMay, TaskMay, IsMove, MayHappen}
+use Rattle.real_time.specs.States.{Stage, Works, Closes, Joins, Tells, Ended, TimeState, Opening, opened, ended_at, Reads, Prints, action_at, TimeEvent, Accepts, Displays, Moves, keys_behind, after_item, after_accept, behind_display, behind_fault, after_display, after_woken, names_told, joined_by, join_move, operator_move, with_start, stage_told, waits, task_move, occurs, OperatorMay, TaskMay, IsMove, MayHappen}
 use Rattle.real_time.specs.TimesLaw.{timing}
 use Rattle.std.specs.Fmt.{decimal}
 use Rattle.solo_base.specs.declared.item.Item.{Item}
@@ -67,9 +67,11 @@ all-more (deed ∷ some) more all too = (all.0, all-more some more all.1 too)
 later-wakes : (accepted : List Change) (second place : ℕ) (names : List (List ℕ)) → place + length names ≤ 8
     → AllByRecursion IsLater (wakes_of accepted second place names)
 later-wakes accepted second place [] few = tt
-later-wakes accepted second place (name ∷ names) few =
-    (omega (arith, few), all-more (shows_start (is_due (plan_of name accepted) second) second name) (wakes_of accepted second (suc place) names)
-    (by (is_due (plan_of name accepted) second)) (later-wakes accepted second (suc place) names (omega (arith, few))))
+later-wakes accepted second place (name ∷ names) few = (
+  omega (arith, few),
+  all-more (shows_start (is_due (plan_of name accepted) second) second name) (wakes_of accepted second (suc place) names)
+      (by (is_due (plan_of name accepted) second)) (later-wakes accepted second (suc place) names (omega (arith, few))),
+)
   where
     by : (due : Bool) → AllByRecursion IsLater (shows_start due second name)
     by true = (tt, tt)

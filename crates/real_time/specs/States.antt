@@ -1,5 +1,5 @@
 -- The operator, the eight tasks and their time table: the states, and what happens in an event.
-use Rattle.std.specs.Prelude.{◌≡◌, ◌<◌, ◌⊎◌, ℕ, zero, suc, ◌+◌, Bool, true, false, List, [], ◌∷◌, ◌++◌, length, drop, codes, Option, None, Some, if◌then◌else◌, slice_index_or, slice_set}
+use Rattle.std.specs.Prelude.{◌≡◌, ◌<◌, ℕ, zero, suc, Bool, true, false, List, [], ◌∷◌, ◌++◌, length, drop, codes, Option, None, Some, slice_index_or, slice_set}
 use Rattle.std.specs.Option.{option_map}
 use Rattle.std.specs.Fmt.{decimal}
 use Rattle.solo_base.specs.Blanks.{trimmed}
@@ -21,8 +21,8 @@ use Rattle.real_time.specs.declared.table.Woken.{Woken}
 use Rattle.real_time.specs.declared.table.Woken.TheVariants as woken
 use Rattle.real_time.specs.declared.table.Waited.{Waited}
 use Rattle.real_time.specs.declared.table.Waited.TheVariants as waited
-use Rattle.real_time.specs.Table.{Table, MayComeIn, after_close, behind_join, after_resume, behind_wait, after_wake, all_left, empty_table, has_left, sleeper_at, operator_resumed, resumed_by, waited_by, woken_by}
-use Rattle.real_time.specs.Typed.{Typed, typed}
+use Rattle.real_time.specs.Table.{Table, MayComeIn, after_close, after_resume, behind_wait, after_wake, all_left, empty_table, has_left, sleeper_at, operator_resumed, resumed_by, waited_by, woken_by}
+use Rattle.real_time.specs.Typed.{typed}
 use Rattle.real_time.specs.Starts.{Script, behind_line, opening}
 use Rattle.real_time.specs.Deeds.{Deed, Enters, Shows, Wakes, Returns, deeds_of}
 

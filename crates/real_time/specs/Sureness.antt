@@ -1,6 +1,6 @@
 -- Where the keys are told, nothing is open but who goes next.
-use Rattle.std.proofs.Common.{◌≡◌, ◌≢◌, ◌⊎◌, inl, inr, ℕ, zero, suc, ◌+◌, ◌*◌, ◌<◌, ◌≤◌, Bool, true, false, Option, None, Some, List, [], ◌∷◌, ◌++◌, length, drop, refl, sym, ◌∙◌, ap, subst, arith, length-append}
-use Rattle.std.specs.Prelude.{slice_index_or, nat_lt}
+use Rattle.std.proofs.Common.{◌≡◌, ◌⊎◌, inl, inr, ℕ, zero, suc, ◌+◌, ◌*◌, ◌<◌, ◌≤◌, Bool, true, false, Option, None, Some, List, [], ◌∷◌, ◌++◌, length, refl, sym, ◌∙◌, ap, subst, arith, length-append}
+use Rattle.std.specs.Prelude.{nat_lt}
 use Rattle.std.specs.Option.{option_map}
 use Rattle.std.proofs.lemmas.Bool.{ltb-true, lt-ltb}
 use Rattle.std.proofs.lemmas.Bool.Decides.{eqb_tells}
@@ -10,8 +10,8 @@ use Rattle.solo_base.specs.declared.item.Item.TheVariants as item
 use Rattle.solo_devices.specs.declared.card_read.CardRead.{CardRead}
 use Rattle.solo_devices.specs.declared.card_read.CardRead.TheVariants as read
 use Rattle.solo_devices.specs.CardUnit.{GivesNext, TakesItem, item_of}
-use Rattle.solo_devices.specs.PrinterUnit.{Gains, GainsOf}
-use Rattle.network_run.specs.Law.{IsReached, AreEnabled, run}
+use Rattle.solo_devices.specs.PrinterUnit.{Gains}
+use Rattle.network_run.specs.Law.{AreEnabled}
 use Rattle.network_run.specs.Sound.{IsSureLaw}
 use Rattle.queue_var.specs.declared.turn.Turn.{Turn}
 use Rattle.queue_var.specs.declared.turn.Turn.TheVariants.{Free, Handed}
@@ -25,7 +25,7 @@ use Rattle.real_time.specs.Deeds.{Deed, Enters, Shows, Wakes, Returns}
 use Rattle.real_time.specs.Table.{Table, MayComeIn, all_left, has_left, sleeper_at, operator_resumed, seat_queue, woken_by}
 use Rattle.real_time.specs.States.{Stage, Works, Closes, Joins, Tells, Ended, TimeState, Opening, opened, ended_at, Action, Reads, Prints, Calls, Ends, Nothing, action_at, TimeEvent, Accepts, Displays, Moves, process_of, keys_behind, after_woken, joined_by, join_move, operator_move, task_move, move_of, occurs, OperatorMay, TaskMay, MayMove, IsMove, MayHappen}
 use Rattle.real_time.specs.TimesLaw.{timing, IsTypedAnswer, IsUntroubled, longest_of}
-use Rattle.real_time.specs.Reaching.{Holds, at-opening, keeps, holds}
+use Rattle.real_time.specs.Reaching.{Holds, at-opening, keeps}
 use Rattle.real_time.specs.Accounts.{accounts}
 use Rattle.real_time.specs.Weights.{falls, lines_read, work_left}
 use Rattle.std.proofs.lemmas.List.{append-nil}
@@ -182,21 +182,30 @@ one-of s rest keys (Moves (suc p) how) (Moves q other) is too smooth smooth_too 
 next-answer : (rest : List Item) → (answer : CardRead) × IsTypedAnswer answer × ((items : List Item) → Some rest ≡ Some items
     → TakesItem items (keys_behind (Some rest) answer) answer)
 next-answer [] = (read.End, tt, λ items same. (let is : items ≡ [] = cc in record { rest = []; now_are = refl; items_are = is; end = λ e. is }))
-next-answer (item.Line line ∷ rest) =
-    (read.Card line, tt, λ items same. (let is : items ≡ item.Line line ∷ rest = cc in
-    record { rest = rest; now_are = refl; items_are = is; end = λ e. absurd cc }))
-next-answer (item.Spoiled ∷ rest) =
-    (read.Spoiled, tt, λ items same. (let is : items ≡ item.Spoiled ∷ rest = cc in
-    record { rest = rest; now_are = refl; items_are = is; end = λ e. absurd cc }))
+next-answer (item.Line line ∷ rest) = (
+  read.Card line,
+  tt,
+  λ items same. (let is : items ≡ item.Line line ∷ rest = cc in
+      record { rest = rest; now_are = refl; items_are = is; end = λ e. absurd cc }),
+)
+next-answer (item.Spoiled ∷ rest) = (
+  read.Spoiled,
+  tt,
+  λ items same. (let is : items ≡ item.Spoiled ∷ rest = cc in
+      record { rest = rest; now_are = refl; items_are = is; end = λ e. absurd cc }),
+)
 
 gives-next : (keys : Option (List Item)) (rest : List Item) → keys ≡ Some rest
     → (answer : CardRead) × IsTypedAnswer answer × GivesNext keys (keys_behind keys answer) answer
 gives-next keys rest is =
-    let (answer, smooth, takes) = next-answer rest in
-    (answer, smooth, record {
-      told = λ items are. subst (λ keys. TakesItem items (keys_behind keys answer) answer) (sym is) (takes items (sym is ∙ are));
-      untold = λ none. absurd cc;
-    })
+    let (answer, smooth, takes) = next-answer rest in (
+      answer,
+      smooth,
+      record {
+        told = λ items are. subst (λ keys. TakesItem items (keys_behind keys answer) answer) (sym is) (takes items (sym is ∙ are));
+        untold = λ none. absurd cc;
+      },
+    )
 
 gains-line : (before : Option (List ℕ)) (line : List ℕ) (all : Type 0) → Gains before (option_map (λ given. given ++ line) before) line all
 gains-line None line all = record { told = λ given is. absurd cc; untold = λ none. refl }

@@ -1,5 +1,5 @@
 -- What holds of a timetable in each reached state, where its keys tell what was typed.
-use Rattle.std.specs.Prelude.{◌≡◌, ℕ, List, [], ◌++◌, Option, None, Some}
+use Rattle.std.specs.Prelude.{◌≡◌, ℕ, List, [], None, Some}
 use Rattle.solo_base.specs.Prefixes.{IsPrefixOf}
 use Rattle.solo_base.specs.Text.{text}
 use Rattle.solo_base.specs.declared.item.Item.{Item}

@@ -1,16 +1,15 @@
 -- No reached state is stuck, and what else the law is before its network is run.
-use Rattle.std.proofs.Common.{◌≡◌, ◌≢◌, ◌⊎◌, inl, inr, ℕ, zero, suc, ◌+◌, ◌<◌, ◌≤◌, Bool, true, false, Option, None, Some, List, [], ◌∷◌, length, refl, sym, ◌∙◌, ap, subst, arith}
+use Rattle.std.proofs.Common.{◌≡◌, ◌⊎◌, inl, inr, ℕ, zero, suc, ◌+◌, ◌<◌, Bool, true, false, Option, None, Some, List, [], ◌∷◌, length, refl, sym, ◌∙◌, ap, subst, arith}
 use Rattle.std.specs.Prelude.{slice_index_or}
-use Rattle.std.specs.List.{AllByRecursion, list_all}
+use Rattle.std.specs.List.{list_all}
 use Rattle.network_run.specs.Law.{IsOne, IsReached, NoneGoes, AllEnded}
 use Rattle.network_run.specs.Sound.{IsSoundLaw}
 use Rattle.queue_var.specs.declared.turn.Turn.{Turn}
 use Rattle.queue_var.specs.declared.turn.Turn.TheVariants.{Free, Handed}
 use Rattle.real_time.specs.declared.table.Seat.{Seat}
 use Rattle.real_time.specs.declared.table.Seat.TheVariants.{Operator, Task}
-use Rattle.real_time.specs.Table.{Table, MayComeIn, all_left, has_left, sleeper_at}
-use Rattle.real_time.specs.Orderly.{IsOrderly}
-use Rattle.real_time.specs.Deeds.{Deed, Enters, Shows, Wakes, Returns}
+use Rattle.real_time.specs.Table.{Table, MayComeIn, has_left, sleeper_at}
+use Rattle.real_time.specs.Deeds.{Enters, Shows, Wakes, Returns}
 use Rattle.real_time.specs.States.{Stage, Works, Closes, Joins, Tells, Ended, TimeState, Opening, opened, ended_at, action_at, TimeEvent, Accepts, Displays, Moves, process_of, OperatorMay, TaskMay, MayMove, HasEnded, MayHappen}
 use Rattle.real_time.specs.TimesLaw.{timing}
 use Rattle.real_time.specs.Reaching.{Holds, Fits, holds}

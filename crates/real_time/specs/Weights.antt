@@ -1,5 +1,5 @@
 -- How many events may still happen: each event leaves less to do, but for what a typed line adds.
-use Rattle.std.proofs.Common.{◌≡◌, ◌≢◌, ◌⊎◌, inl, inr, ℕ, zero, suc, ◌+◌, ◌*◌, ◌<◌, ◌≤◌, Bool, true, false, Option, None, Some, List, [], ◌∷◌, ◌++◌, length, slice_set, get_or-set_other, get_or-set_same, refl, sym, ◌∙◌, ap, subst, arith}
+use Rattle.std.proofs.Common.{◌≡◌, ◌≢◌, ◌⊎◌, inl, inr, ℕ, zero, suc, ◌+◌, ◌*◌, ◌<◌, ◌≤◌, Bool, true, false, Option, None, Some, List, [], ◌∷◌, ◌++◌, length, slice_set, get_or-set_other, get_or-set_same, refl, ap, arith}
 use Rattle.std.specs.Prelude.{if◌then◌else◌, map, nat_le, slice_index_or, codes}
 use Rattle.std.specs.Fmt.{decimal}
 use Rattle.std.proofs.lemmas.Bool.Decides.{eqb_tells, leb_tells}
@@ -17,11 +17,11 @@ use Rattle.real_time.specs.declared.table.Seat.{Seat}
 use Rattle.real_time.specs.declared.table.Seat.TheVariants.{Operator, Task}
 use Rattle.real_time.specs.declared.table.Woken.TheVariants as woken
 use Rattle.real_time.specs.declared.table.Waited.TheVariants as waited
-use Rattle.real_time.specs.Table.{Table, MayComeIn, after_close, behind_wait, after_wake, all_left, behind_leave, handed_on, has_left, sleeper_at, is_awaited, operator_resumed, out_of_queue, woken_by}
+use Rattle.real_time.specs.Table.{Table, MayComeIn, after_close, behind_wait, after_wake, all_left, behind_leave, has_left, sleeper_at, is_awaited, operator_resumed, out_of_queue, woken_by}
 use Rattle.real_time.specs.Typed.{Typed, Blank, Names, Plans, Stops, Passes, Bad, typed}
 use Rattle.real_time.specs.Starts.{Script, Change, answer, is_due, next_second, plan_of, within_clock}
 use Rattle.real_time.specs.Deeds.{Deed, Enters, Shows, Wakes, Returns, deeds_of, deeds_of_seconds, shows_start, wakes_of}
-use Rattle.real_time.specs.States.{Stage, Works, Closes, Joins, Tells, Ended, TimeState, ended_at, names_by, Prints, action_at, TimeEvent, Accepts, Displays, Moves, keys_behind, after_item, after_answer, after_accept, behind_display, behind_fault, after_display, after_woken, joined_by, join_move, operator_move, stage_told, waits, task_move, occurs, OperatorMay, TaskMay, IsMove, MayHappen}
+use Rattle.real_time.specs.States.{Stage, Works, Closes, Joins, Tells, Ended, TimeState, ended_at, names_by, Prints, action_at, TimeEvent, Accepts, Displays, Moves, keys_behind, after_item, after_accept, behind_display, behind_fault, after_display, after_woken, joined_by, join_move, operator_move, stage_told, waits, task_move, occurs, OperatorMay, TaskMay, IsMove, MayHappen}
 use Rattle.real_time.specs.Reaching.{Fits, Holds, reads-at, not-awaiting, is-outside, awaited-is}
 use Rattle.solo_base.specs.declared.outcome.Cause.{Cause}
 
@@ -148,18 +148,18 @@ one-task : (n place : ℕ) (ended : List Bool) (t : Table) (new_ended : List Boo
 one-task zero place ended t new_ended new below others = absurd (omega (arith, below))
 one-task (suc n) place ended t new_ended new below others = elim (eqb_tells n place) as
     (λ _. tasks_weight (suc n) new_ended new + task_work_at ended t place ≡ tasks_weight (suc n) ended t + task_work_at new_ended new place) [
-  | inl same ↦
-      (let is = same.1 in
-      let front = front-tasks n place ended t new_ended new (omega (arith, is)) others in
-      let here = ap (task_work_at new_ended new) is in
-      let was = ap (task_work_at ended t) is in
-      omega (arith, front, here, was))
-  | inr other ↦
-      (let differ = other.1 in
-      let rest = one-task n place ended t new_ended new (omega (arith, below, differ)) others in
-      let here = others n differ in
-      omega (arith, rest, here))
-]
+      | inl same ↦
+          (let is = same.1 in
+          let front = front-tasks n place ended t new_ended new (omega (arith, is)) others in
+          let here = ap (task_work_at new_ended new) is in
+          let was = ap (task_work_at ended t) is in
+          omega (arith, front, here, was))
+      | inr other ↦
+          (let differ = other.1 in
+          let rest = one-task n place ended t new_ended new (omega (arith, below, differ)) others in
+          let here = others n differ in
+          omega (arith, rest, here))
+    ]
 
 -- a table whose queues and marks are the same
 same-table : (s : TimeState) (new : Table) → new.queues ≡ s.table.queues → new.left ≡ s.table.left → tasks_weight 8 s.ended new ≡ tasks_weight 8 s.ended s.table

@@ -60,8 +60,15 @@ impl Model for TimeTable {
 
     ghost Value = { Table };
 
-    ghost view = { λ t. record { queues = t.queues; operator = t.operator; awaited = t.awaited;
-        left = t.left; closed = t.closed; turn = t.turn; second = t.second } };
+    ghost view = { λ t. record {
+      queues = t.queues;
+      operator = t.operator;
+      awaited = t.awaited;
+      left = t.left;
+      closed = t.closed;
+      turn = t.turn;
+      second = t.second;
+    } };
 }
 
 impl TimeTable {

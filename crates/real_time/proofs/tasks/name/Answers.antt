@@ -1,5 +1,4 @@
-use Rattle.std.proofs.Common.{◌≡◌, ◌≤◌, ◌<◌, true, false, length, arith, rules}
-use Rattle.std.specs.Prelude.{nat_lt}
+use Rattle.std.proofs.Common.{◌≡◌, ◌≤◌, ◌<◌, true, false, length, rules}
 use Rattle.std.specs.List.{list_any}
 use Rattle.real_time.specs.Awaiting.{has_name}
 use Rattle.real_time.proofs.Naming.{name-exists, name-full, name-new}
@@ -23,4 +22,4 @@ returns c = λ s st.
     let room : length c.args.tasks.now.items < 8 = search rules in
     rw (c.push.ensures.items, c.new.ensures.row)
     (name-new s c.args.name c.args.tasks.now.items st none (is-ahead (length c.args.tasks.now.items) 8 room) (rw (← c.new.ensures.row)
-        (c.new.ensures.plan s.now)))
+    (c.new.ensures.plan s.now)))
