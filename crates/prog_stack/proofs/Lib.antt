@@ -1,0 +1,4 @@
+pub mod Steps
+pub mod FileRows
+pub mod OwnRows
+pub mod StackRows

@@ -1,0 +1,10 @@
+pub mod OwnShown
+pub mod Programs
+pub mod Callers
+pub mod Answers
+pub mod FileCalls
+pub mod Serves
+pub mod Shown
+pub mod Lending
+pub mod Rest
+pub mod Laws

@@ -1,0 +1,13 @@
+// The law of stacks of programs.
+
+ghost use Rattle.prog_stack.specs.Laws.{Begins, RunsItself, Asked, ServedSo, PoppedSo};
+
+/// A stack of programs does what the task of its command does. Nothing is done here: the contract is the law,
+/// of what the calls of a stack and of its machines say.
+pub fn stacks_do_their_tasks()
+    ensures begins { Begins }
+    ensures runs { RunsItself }
+    ensures asked { Asked }
+    ensures served { ServedSo }
+    ensures popped { PoppedSo }
+{}
