@@ -87,7 +87,8 @@ command_with word (a ∷ b ∷ c ∷ others) = program_with word (a ∷ b ∷ c 
 -- parentheses close, and nothing but blanks stands behind them
 abbrev pub if_closed : List ℕ → Option (List ℕ × List ℕ) → Option Command
 if_closed word None = None
-if_closed word (Some (inside, behind)) = if is_blank behind then command_with word (comma_words inside) else None
+if_closed word (Some (inside, behind)) =
+    if is_blank behind then command_with word (comma_words inside) else None
 
 -- a word, or a word and words in parentheses
 abbrev pub parted : List ℕ → Option (List ℕ × List ℕ) → Option Command

@@ -17,7 +17,8 @@ of_two-requires c =
 
 pub returns-in-Some-cut : goal.returns-in-Some-cut
 returns-in-Some-cut c =
-    c.program.ensures ∙ many_words c.args.word.now c.args.text.now c.in-Some.first.now c.in-Some.rest.now _ _ c.in-Some.ensures.parts c.in-Some-cut.ensures.parts
+    c.program.ensures
+    ∙ many_words c.args.word.now c.args.text.now c.in-Some.first.now c.in-Some.rest.now _ _ c.in-Some.ensures.parts c.in-Some-cut.ensures.parts
 
 pub returns-in-None : goal.returns-in-None
 returns-in-None c =

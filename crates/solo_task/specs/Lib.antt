@@ -1,0 +1,10 @@
+pub use Rattle.disk_system.specs.Calls
+pub use Rattle.program_lines.specs.Texts
+pub mod Answers
+pub mod Copying
+pub mod Compiles
+pub mod Doing
+pub mod Session
+pub mod Needs
+pub mod Laws
+pub mod Rows
