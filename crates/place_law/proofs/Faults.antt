@@ -11,9 +11,11 @@ use Rattle.solo_base.specs.declared.outcome.Cause.TheVariants as cause
 use Rattle.queue_var.specs.declared.stops.Stops.{Stops as Marks}
 use Rattle.queue_var.specs.declared.stops.Stops.TheVariants.{Neither, One, Both}
 use Rattle.queue_var.specs.Sides.{first_of, is_among, other}
+use Rattle.network_run.specs.Law.{AreEnabled, IsReached, run}
 use Rattle.network_law.specs.Acts.{Call, Alone, At, Asks, Gives, Awaits, Passes, Moves, Stops, Went, Told}
 use Rattle.network_law.specs.Buffer.{Buffer, Found, Ready, Lacking, Closed, found, awaited, PassFits}
-use Rattle.network_law.specs.Network.{State, Event, IsOne, IsEnabled, AreEnabled, run, happens, set, acts}
+use Rattle.network_law.specs.Network.{State, Event, IsOne, IsEnabled, happens, set, acts}
+use Rattle.network_law.specs.Stepping.{Openings, law_of}
 use Rattle.network_law.specs.Network as law
 use Rattle.network_law.specs.Kept.{Stands}
 use Rattle.network_law.proofs.Numbers.{set-same, set-other}
@@ -163,15 +165,16 @@ module _ {Devices Action Reply Parcel : Type 0} (t : Table Devices Action Reply 
         (λ why e. new-fault free event.entry why enabled.suits enabled.fits e)
     event-causes (inr fault) = inr (fault-stays fault)
 
-  run-causes : (start s : State Devices (Entry Action Reply) Parcel) (events : List (Event (Entry Action Reply))) → AreEnabled (network_of t) s events
-      → Stands (network_of t) start s → Causes s → Causes (run (network_of t) s events)
-  run-causes start s [] are st causes = causes
-  run-causes start s (event ∷ events) are st causes =
-      run-causes start (happens (network_of t) s event) events are.1 (stands-event (lawful t is) start s event st are.0)
+  run-causes : (openings : Openings Devices (Entry Action Reply)) (start s : State Devices (Entry Action Reply) Parcel)
+      (events : List (Event (Entry Action Reply))) → AreEnabled (law_of (network_of t) openings) s events
+      → Stands (network_of t) start s → Causes s → Causes (run (law_of (network_of t) openings) s events)
+  run-causes openings start s [] are st causes = causes
+  run-causes openings start s (event ∷ events) are st causes =
+      run-causes openings start (happens (network_of t) s event) events are.1 (stands-event (lawful t is) start s event st are.0)
       (event-causes start s event st are.0 causes)
 
   -- From where nobody has a cause, nobody has one or some process has a fault for its cause.
-  pub causes-reached : (start s : State Devices (Entry Action Reply) Parcel) → Stands (network_of t) start start → AllFree start
-      → law.IsReached (network_of t) start s → Causes s
-  causes-reached start s st free reached =
-      subst Causes reached.leads (run-causes start start reached.events reached.enabled st (inl free))
+  pub causes-reached : (openings : Openings Devices (Entry Action Reply)) (start s : State Devices (Entry Action Reply) Parcel)
+      → Stands (network_of t) start start → AllFree start → IsReached (law_of (network_of t) openings) start s → Causes s
+  causes-reached openings start s st free reached =
+      subst Causes reached.leads (run-causes openings start start reached.events reached.enabled st (inl free))

@@ -1,7 +1,9 @@
 -- What one process and the devices hold together, by events: the others have to leave it.
 use Rattle.std.proofs.Common.{◌≡◌, inl, inr, ℕ, List, [], ◌∷◌, Some, sym, subst}
 use Rattle.std.proofs.lemmas.Bool.Decides.{eqb_tells}
-use Rattle.network_law.specs.Network.{Network, State, Event, IsOne, IsEnabled, AreEnabled, IsReached, Follows, run, happens, set}
+use Rattle.network_run.specs.Law.{AreEnabled, IsReached, run}
+use Rattle.network_law.specs.Network.{Network, State, Event, IsOne, IsEnabled, Follows, happens, set}
+use Rattle.network_law.specs.Stepping.{Openings, law_of}
 use Rattle.network_law.proofs.Numbers.{set-same, set-other}
 
 module _ {Devices Action Entry Parcel : Type 0} (network : Network Devices Action Entry Parcel) (p : ℕ) (Holds : List Entry → Devices → Type 0)
@@ -42,16 +44,17 @@ module _ {Devices Action Entry Parcel : Type 0} (network : Network Devices Actio
             }
       ]
 
-  run-now : (s : State Devices Entry Parcel) (events : List (Event Entry)) → AreEnabled network s events → Now (s.histories p) s.devices
-      → Now ((run network s events).histories p) (run network s events).devices
-  run-now s [] are is = is
-  run-now s (event ∷ events) are is = run-now (happens network s event) events are.1 (event-now s event are.0 is)
+  run-now : (openings : Openings Devices Entry) (s : State Devices Entry Parcel) (events : List (Event Entry))
+      → AreEnabled (law_of network openings) s events → Now (s.histories p) s.devices
+      → Now ((run (law_of network openings) s events).histories p) (run (law_of network openings) s events).devices
+  run-now openings s [] are is = is
+  run-now openings s (event ∷ events) are is = run-now openings (happens network s event) events are.1 (event-now s event are.0 is)
 
   -- So it holds in each reached state, where it holds at the beginning.
-  pub holds-reached : (start s : State Devices Entry Parcel) → start.histories p ≡ [] → Holds [] start.devices → IsReached network start s
-      → Holds (s.histories p) s.devices
-  holds-reached start s empty first reached =
+  pub holds-reached : (openings : Openings Devices Entry) (start s : State Devices Entry Parcel) → start.histories p ≡ []
+      → Holds [] start.devices → IsReached (law_of network openings) start s → Holds (s.histories p) s.devices
+  holds-reached openings start s empty first reached =
       let opening : Now (start.histories p) start.devices =
       subst (λ h. Now h start.devices) (sym empty) record { follows = tt; holds = first } in
       (subst (λ (s : State Devices Entry Parcel). Now (s.histories p) s.devices) reached.leads
-      (run-now start reached.events reached.enabled opening)).holds
+      (run-now openings start reached.events reached.enabled opening)).holds

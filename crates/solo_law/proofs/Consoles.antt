@@ -4,7 +4,8 @@ use Rattle.std.proofs.lemmas.List.{append-nil}
 use Rattle.solo_base.specs.Text.{text}
 use Rattle.solo_base.specs.declared.outcome.Outcome.TheVariants as outcome
 use Rattle.solo_devices.specs.PrinterUnit.{Gains}
-use Rattle.network_law.specs.Network.{run, happens}
+use Rattle.network_run.specs.Law.{run}
+use Rattle.network_law.specs.Network.{happens}
 use Rattle.network_law.proofs.Reached.{reached-stands}
 use Rattle.place_law.specs.Process.{Does, place}
 use Rattle.place_law.specs.Ending.{HasEndedSo}
@@ -16,7 +17,7 @@ use Rattle.solo_law.specs.JobPlaces.{JobPlace, job_does, job}
 use Rattle.solo_law.specs.JobPlaces as at
 use Rattle.solo_law.specs.Devices.{Devices, gains}
 use Rattle.solo_law.specs.Devices as devices
-use Rattle.solo_law.specs.Solo.{table, solo, opened, SoloState, SoloEntry, SoloEvent, IsReached}
+use Rattle.solo_law.specs.Solo.{table, solo, opened, SoloState, SoloEntry, SoloEvent, IsReached, openings, the_law}
 use Rattle.solo_law.specs.Told.{written, displays}
 use Rattle.solo_law.proofs.Placed.{is-2, seats, placed, solo-lawful}
 use Rattle.solo_law.proofs.Sinks.{as-prefix}
@@ -34,7 +35,7 @@ entry-untold d (Does (act.Print line) reply) gained e = e
 entry-untold d (Does (act.Display line) reply) gained e = gains-none gained d.console e
 entry-untold d entry gained e = e
 
-run-untold : (s : SoloState) (events : List SoloEvent) → s.devices.console ≡ None → (run solo s events).devices.console ≡ None
+run-untold : (s : SoloState) (events : List SoloEvent) → s.devices.console ≡ None → (run the_law s events).devices.console ≡ None
 run-untold s [] e = e
 run-untold s (event ∷ events) e = run-untold (happens solo s event) events (entry-untold s.devices event.entry event.gained e)
 
@@ -46,7 +47,7 @@ left-shows other e = absurd cc
 pub console-gains : (d : Devices) (s : SoloState) → IsReached d s
     → Gains d.console s.devices.console (text (shown (s.histories 2))) (HasEndedSo table s 2 outcome.Done)
 console-gains d s reached =
-    let st = reached-stands solo-lawful d (λ b. 1) (λ b. true) s reached.reached in
+    let st = reached-stands solo-lawful openings d s reached.reached in
     record {
       told = λ before e.
           let is = console-tells before d s e reached in

@@ -34,7 +34,7 @@ use Rattle.solo_law.specs.OutputPlaces as output_at
 use Rattle.solo_law.specs.JobPlaces.{JobPlace, job_does, job}
 use Rattle.solo_law.specs.JobPlaces as at
 use Rattle.solo_law.specs.Devices.{Devices, AreSound}
-use Rattle.solo_law.specs.Solo.{process, table, solo, opened, SoloState, SoloEntry, SoloEvent, IsReached, IsStuck, IsSmooth, IsProcess}
+use Rattle.solo_law.specs.Solo.{process, table, solo, opened, SoloState, SoloEntry, SoloEvent, IsReached, IsStuck, IsSmooth, IsProcess, openings}
 use Rattle.solo_law.proofs.Placed.{each-process, is-1, is-2, is-3, seats, are-stops, placed, solo-lawful}
 use Rattle.solo_law.proofs.Sound.{reached-sound}
 use Rattle.solo_law.proofs.Coming.{smooth-event}
@@ -280,5 +280,5 @@ module _ (opening s : SoloState) (st : Stands solo opening s) (told : (b : ℕ) 
 
 pub never-stuck : (devices : Devices) (s : SoloState) → IsReached devices s → IsStuck s → ⊥
 never-stuck devices s reached stuck =
-    let st = reached-stands solo-lawful devices (λ b. 1) (λ b. true) s reached.reached in
+    let st = reached-stands solo-lawful openings devices s reached.reached in
     stuck.not_ended (ended-all (opened devices) s st (λ b. ([], refl)) (λ b. refl) (reached-sound devices s reached) stuck.none_enabled)

@@ -8,7 +8,8 @@ use Rattle.solo_base.specs.declared.outcome.Side.TheVariants.{Sender, Receiver}
 use Rattle.solo_base.specs.declared.outcome.Outcome.TheVariants as outcome
 use Rattle.solo_devices.specs.PrinterUnit.{Gains}
 use Rattle.network_law.specs.Acts.{moved}
-use Rattle.network_law.specs.Network.{run, happens, acts}
+use Rattle.network_run.specs.Law.{run}
+use Rattle.network_law.specs.Network.{happens, acts}
 use Rattle.network_law.specs.Kept.{Stands, passed}
 use Rattle.network_law.proofs.Reached.{reached-stands}
 use Rattle.exchange_law.specs.Pages.{is_last}
@@ -30,7 +31,7 @@ use Rattle.solo_law.specs.JobPlaces.{JobPlace, job_does, job}
 use Rattle.solo_law.specs.JobPlaces as at
 use Rattle.solo_law.specs.Devices.{Devices, gains}
 use Rattle.solo_law.specs.Devices as devices
-use Rattle.solo_law.specs.Solo.{table, solo, opened, SoloState, SoloEntry, SoloEvent, IsReached}
+use Rattle.solo_law.specs.Solo.{table, solo, opened, SoloState, SoloEntry, SoloEvent, IsReached, openings, the_law}
 use Rattle.solo_law.specs.Told.{prints_line, written}
 use Rattle.solo_law.proofs.Placed.{is-2, is-3, seats, placed, solo-lawful}
 use Rattle.solo_law.proofs.Sound.{reached-sound}
@@ -50,14 +51,14 @@ entry-untold d (Does (act.Display line) reply) gained e = e
 entry-untold d (Does (act.Print line) reply) gained e = ap (gains gained) e
 entry-untold d entry gained e = e
 
-run-untold : (s : SoloState) (events : List SoloEvent) → s.devices.paper ≡ None → (run solo s events).devices.paper ≡ None
+run-untold : (s : SoloState) (events : List SoloEvent) → s.devices.paper ≡ None → (run the_law s events).devices.paper ≡ None
 run-untold s [] e = e
 run-untold s (event ∷ events) e = run-untold (happens solo s event) events (entry-untold s.devices event.entry event.gained e)
 
 -- the lines of the pages that output took are the first of those that the needs print
 taken-first : (d : Devices) (s : SoloState) → IsReached d s → (later : List (List ℕ)) × (printed (s.histories 2) ≡ taken_lines (s.histories 3) ++ later)
 taken-first d s reached =
-    let st = reached-stands solo-lawful d (λ b. 1) (λ b. true) s reached.reached in
+    let st = reached-stands solo-lawful openings d s reached.reached in
     let (inside, e) = st.told 5 ([], refl) in
     let over = (st.buffers.hand_over 5).parcels inside e in
     let put = put-first (s.histories 2) (st.follows 2) in
@@ -97,7 +98,7 @@ output-left other e = absurd cc
 module _ (d : Devices) (s : SoloState) (reached : IsReached d s) (job_done : HasEndedSo table s 2 outcome.Done)
     (output_done : HasEndedSo table s 3 outcome.Done) where
   st : Stands solo (opened d) s
-  st = reached-stands solo-lawful d (λ b. 1) (λ b. true) s reached.reached
+  st = reached-stands solo-lawful openings d s reached.reached
 
   abbrev marks_of : ℕ → ℕ → Side → List Bool
   marks_of p b side = marks_at mark b side (acts solo p (s.histories p))

@@ -5,7 +5,7 @@ use Rattle.place_law.proofs.Ended.{ends-rightly}
 use Rattle.place_law.proofs.Faults.{causes-reached}
 use Rattle.place_law.proofs.Together.{reasons, together}
 use Rattle.solo_law.specs.Devices.{Devices}
-use Rattle.solo_law.specs.Solo.{table, solo, opened, SoloState, IsReached}
+use Rattle.solo_law.specs.Solo.{table, solo, opened, SoloState, IsReached, openings}
 use Rattle.solo_law.specs.Holds.{Holds}
 use Rattle.solo_law.proofs.Placed.{seats, placed, solo-lawful}
 use Rattle.solo_law.proofs.Causes.{have-causes}
@@ -15,8 +15,8 @@ use Rattle.solo_law.proofs.Papers.{paper-gains}
 
 pub reached-holds : (devices : Devices) (s : SoloState) → IsReached devices s → Holds devices s
 reached-holds devices s reached =
-    let st = reached-stands solo-lawful devices (λ b. 1) (λ b. true) s reached.reached in
-    let causes = causes-reached table placed seats (opened devices) s (opening-stands solo devices (λ b. 1) (λ b. true)) (λ p one. refl) reached.reached in
+    let st = reached-stands solo-lawful openings devices s reached.reached in
+    let causes = causes-reached table placed seats openings (opened devices) s (opening-stands solo devices (λ b. 1) (λ b. true)) (λ p one. refl) reached.reached in
     record {
       hands_over = λ b is. st.buffers.hand_over b;
       one_slot = st.capacity;

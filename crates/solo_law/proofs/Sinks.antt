@@ -15,7 +15,7 @@ use Rattle.solo_law.specs.Actions as act
 use Rattle.solo_law.specs.Replies.{view}
 use Rattle.solo_law.specs.Devices.{Devices, Allows, gains}
 use Rattle.solo_law.specs.Devices as devices
-use Rattle.solo_law.specs.Solo.{process, solo, opened, SoloState, SoloEntry, IsReached, IsProcess}
+use Rattle.solo_law.specs.Solo.{process, solo, opened, SoloState, SoloEntry, IsReached, IsProcess, openings}
 use Rattle.solo_law.specs.Told.{written_by, written}
 
 pub text-append : (some more : List (List ℕ)) → text (some ++ more) ≡ text some ++ text more
@@ -135,7 +135,7 @@ module _ (p : ℕ) (writes : Action → Option (List ℕ)) (sink : Devices → O
   pub sink-tells : (d : Devices) (s : SoloState) → whole [] ≡ [] → sink d ≡ Some before → IsReached d s → Tells (s.histories p) s.devices
   sink-tells d s none told reached =
       holds-reached solo p Tells own (λ q h g d entry gained one differ next suits allowed is. other q h g d entry gained one differ next is)
-      (opened d) s refl record {
+      openings (opened d) s refl record {
         follows = tt;
         part = [];
         now = told ∙ ap Some (sym (append-nil before));

@@ -5,14 +5,15 @@ use Rattle.solo_base.specs.declared.item.Item.{Item}
 use Rattle.solo_devices.specs.declared.card_read.CardRead.{CardRead}
 use Rattle.solo_devices.specs.CardUnit.{item_of}
 use Rattle.page_codec.specs.Items.{AreItems}
-use Rattle.network_law.specs.Network.{run, happens}
+use Rattle.network_run.specs.Law.{run}
+use Rattle.network_law.specs.Network.{happens}
 use Rattle.place_law.specs.Process.{Does}
 use Rattle.solo_law.specs.Work.{Given, Plan, PlanFits}
 use Rattle.solo_law.specs.Actions.{Action, Reply}
 use Rattle.solo_law.specs.Actions as act
 use Rattle.solo_law.specs.Devices.{Devices, AreSound, read_off, plan_behind}
 use Rattle.solo_law.specs.Devices as devices
-use Rattle.solo_law.specs.Solo.{solo, opened, SoloState, SoloEntry, SoloEvent, IsReached}
+use Rattle.solo_law.specs.Solo.{solo, opened, SoloState, SoloEntry, SoloEvent, IsReached, the_law}
 
 drop-items : (n : ℕ) (items : List Item) → AreItems items → AreItems (drop n items)
 drop-items zero items are = are
@@ -46,7 +47,7 @@ given-sound d (Does (act.Print line) reply) gained are = record { cards = are.ca
 given-sound d (Does (act.Display line) reply) gained are = record { cards = are.cards; keys = are.keys; work = are.work }
 given-sound d entry gained are = are
 
-run-sound : (s : SoloState) (events : List SoloEvent) → AreSound s.devices → AreSound (run solo s events).devices
+run-sound : (s : SoloState) (events : List SoloEvent) → AreSound s.devices → AreSound (run the_law s events).devices
 run-sound s [] are = are
 run-sound s (event ∷ events) are = run-sound (happens solo s event) events (given-sound s.devices event.entry event.gained are)
 

@@ -16,7 +16,7 @@ use Rattle.solo_law.specs.OutputPlaces.{OutputPlace, output_does}
 use Rattle.solo_law.specs.OutputPlaces as output_at
 use Rattle.solo_law.specs.Devices.{Devices, Allows, plan_behind}
 use Rattle.solo_law.specs.Devices as devices
-use Rattle.solo_law.specs.Solo.{process, table, solo, opened, SoloState, SoloEntry, IsReached, IsProcess}
+use Rattle.solo_law.specs.Solo.{process, table, solo, opened, SoloState, SoloEntry, IsReached, IsProcess, openings}
 use Rattle.solo_law.specs.Told.{needs, begun, needs_of}
 use Rattle.solo_law.proofs.Placed.{each-process, placed}
 
@@ -100,4 +100,4 @@ module _ (plan : Plan) where
       (holds-reached solo 2 WorksSo own
       (λ q h g d entry gained one differ next suits allowed is.
       record { now = same-work d entry gained (others-idle q g (action_of entry) one differ next) ∙ is.now; so = is.so })
-      (opened d) s refl record { now = told; so = refl } reached.reached).so
+      openings (opened d) s refl record { now = told; so = refl } reached.reached).so

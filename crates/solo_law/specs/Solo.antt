@@ -5,6 +5,9 @@ use Rattle.solo_devices.specs.declared.card_read.CardRead.TheVariants as read
 use Rattle.network_law.specs.Network.{Network, State, Event, IsEnabled, opening}
 use Rattle.network_law.specs.Acts.{Alone}
 use Rattle.network_law.specs.Network as law
+use Rattle.network_law.specs.Stepping.{Openings, law_of}
+use Rattle.network_run.specs.Law.{Law}
+use Rattle.network_run.specs.Law as run
 use Rattle.exchange_law.specs.Parcels.{Parcel, mark}
 use Rattle.place_law.specs.Process.{Entry, Does, LacksMemory, Process}
 use Rattle.place_law.specs.Table.{Table, network_of}
@@ -69,11 +72,6 @@ SoloEvent = Event SoloEntry
 abbrev pub opened : Devices → SoloState
 opened devices = opening devices (λ b. 1) (λ b. true)
 
--- Some list of enabled events leads to it, from devices of which what is told is sound.
-pub record IsReached (devices : Devices) (s : SoloState) : Type 0 where
-  pub sound : AreSound devices
-  pub reached : law.IsReached solo (opened devices) s
-
 -- ---- never stuck
 -- an entry in which no device failed and no memory was refused
 abbrev pub IsSmooth : SoloEntry → Type 0
@@ -83,6 +81,28 @@ IsSmooth (Does action (act.OfCard read.Failed)) = ⊥
 IsSmooth (Does action (act.OfCard read.Limit)) = ⊥
 IsSmooth (LacksMemory action reply) = ⊥
 IsSmooth entry = Unit {0}
+
+-- ---- the law, as the driver of networks asks for it
+-- Solo opens with its devices. A program may ask for typed lines as long as there are any, so of no opening it
+-- is said how long a run is.
+abbrev pub openings : Openings Devices SoloEntry
+openings = record {
+  Opening = Devices;
+  devices = λ devices. devices;
+  sizes = λ devices b. 1;
+  told = λ devices b. true;
+  IsTold = λ devices. ⊥;
+  longest = λ devices. 0;
+  IsSmooth = IsSmooth;
+}
+
+abbrev pub the_law : Law
+the_law = law_of solo openings
+
+-- Some list of enabled events leads to it, from devices of which what is told is sound.
+pub record IsReached (devices : Devices) (s : SoloState) : Type 0 where
+  pub sound : AreSound devices
+  pub reached : run.IsReached the_law (opened devices) s
 
 abbrev pub IsProcess : ℕ → Type 0
 IsProcess p = law.IsOne solo p
