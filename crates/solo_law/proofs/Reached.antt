@@ -16,7 +16,8 @@ use Rattle.solo_law.proofs.Papers.{paper-gains}
 pub reached-holds : (devices : Devices) (s : SoloState) → IsReached devices s → Holds devices s
 reached-holds devices s reached =
     let st = reached-stands solo-lawful openings devices s reached.reached in
-    let causes = causes-reached table placed seats openings (opened devices) s (opening-stands solo devices (λ b. 1) (λ b. true)) (λ p one. refl) reached.reached in
+    let causes = causes-reached table placed seats openings (opened devices) s (opening-stands solo devices (λ b. 1) (λ b. true))
+    (λ p one. refl) reached.reached in
     record {
       hands_over = λ b is. st.buffers.hand_over b;
       one_slot = st.capacity;

@@ -83,8 +83,8 @@ IsSmooth (LacksMemory action reply) = ⊥
 IsSmooth entry = Unit {0}
 
 -- ---- the law, as the driver of networks asks for it
--- Solo opens with its devices. A program may ask for typed lines as long as there are any, so of no opening it
--- is said how long a run is.
+-- Solo opens with its devices. A program may ask for typed lines as long as there are any, so of no opening
+-- it is said how long a run is.
 abbrev pub openings : Openings Devices SoloEntry
 openings = record {
   Opening = Devices;
