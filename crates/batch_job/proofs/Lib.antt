@@ -7,3 +7,10 @@ pub mod PushingLines
 mod Adding
 mod RunLines
 mod Making
+pub mod NamedFiles
+pub mod GoodFiles
+mod PrintedTexts
+mod NamedOpeners
+mod NoteLines
+mod ProgramLines
+pub mod ReportLines

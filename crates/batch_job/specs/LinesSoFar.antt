@@ -1,7 +1,9 @@
 -- The lines that the items of a deck give while it goes on.
 use Rattle.std.specs.Prelude.{◌≡◌, ℕ, ◌+◌, ◌*◌, ◌≤◌, Bool, true, false, ◌||◌, List, [], ◌∷◌, ◌++◌, length, flat_map, Option, Some, None, if◌then◌else◌}
+use Rattle.std.specs.List.{AllByRecursion}
 use Rattle.solo_base.specs.declared.item.Item.{Item}
 use Rattle.solo_base.specs.Card.{cards}
+use Rattle.solo_base.specs.Line.{IsLine}
 use Rattle.solo_base.specs.Prefixes.{IsPrefixOf}
 use Rattle.page_codec.specs.Items.{AreItems}
 use Rattle.deck_format.specs.declared.control.Opener.{Opener}
@@ -13,7 +15,7 @@ use Rattle.program_lines.specs.Task.{Source, source_of, source_lines}
 use Rattle.disk_system.specs.declared.loading.Loaded.{Loaded}
 use Rattle.batch_job.specs.Report.{Loads, no_files, report, heading, fault_line, file_limit, source_loaded}
 use Rattle.batch_job.specs.OneThread.{one_thread_output}
-use Rattle.batch_job.specs.Loads.{loads_of, AreLoaded, Begun, begun}
+use Rattle.batch_job.specs.Loads.{files_named, loads_of, AreLoaded, Begun, begun}
 
 -- whether a group is closed by its end
 abbrev pub is_closed : List Item → Bool
@@ -116,6 +118,18 @@ EndGivesOutput =
     (files : Loads) (deck : List ℕ)
     → (lines_so_far (cards deck) (loads_of files (cards deck)) true ≡ one_thread_output files deck)
     × (is_whole (cards deck) (loads_of files (cards deck)) true ≡ true)
+
+-- All are there once the items have ended, where as many files are loaded as these name.
+abbrev pub AllOnceLoaded : Type 0
+AllOnceLoaded =
+    (items : List Item) (loads : List Loaded) (ended : Bool) → length (files_named items) ≤ length loads
+    → is_whole items loads ended ≡ ended
+
+-- They are lines, whatever the files are loaded as.
+abbrev pub ArePrintable : Type 0
+ArePrintable =
+    (items : List Item) (loads : List Loaded) (ended : Bool) → AreItems items
+    → AllByRecursion IsLine (lines_so_far items loads ended)
 
 -- An item completes at most one program, whose limit is 1,000,000 ticks at most.
 abbrev pub lines_of_an_item : ℕ

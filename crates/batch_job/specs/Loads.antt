@@ -1,5 +1,5 @@
 -- The files that the jobs of a deck name, and what these are loaded as, one after the other.
-use Rattle.std.specs.Prelude.{◌≡◌, ℕ, Bool, false, List, [], ◌∷◌, ◌++◌, length, map, Option, Some, None}
+use Rattle.std.specs.Prelude.{◌≡◌, ◌≤◌, ℕ, Bool, false, List, [], ◌∷◌, ◌++◌, length, map, Option, Some, None}
 use Rattle.std.specs.List.{AllByRecursion}
 use Rattle.solo_base.specs.declared.item.Item.{Item}
 use Rattle.deck_format.specs.declared.control.Opener.{Opener}
@@ -7,6 +7,8 @@ use Rattle.deck_format.specs.declared.control.Opener.TheVariants as opener
 use Rattle.deck_format.specs.Jobs.{opener_of}
 use Rattle.stack_code.specs.CodeLists.{IsCode}
 use Rattle.stack_code.specs.Rules.{IsGood}
+use Rattle.disk_layout.specs.Files.{Files}
+use Rattle.disk_system.specs.Loading.{program_of}
 use Rattle.disk_system.specs.declared.loading.Loaded.{Loaded}
 use Rattle.disk_system.specs.declared.loading.Loaded.TheVariants.{Code, NoFile, NotCode, BadCode}
 use Rattle.batch_job.specs.Report.{Loads}
@@ -29,6 +31,14 @@ files_named (item ∷ rest) = file_named (opener_of item) ++ files_named rest
 abbrev pub loads_of : Loads → List Item → List Loaded
 loads_of files items = map files (files_named items)
 
+-- More items name more files.
+abbrev pub FilesGoOn : Type 0
+FilesGoOn = (items more : List Item) → files_named (items ++ more) ≡ files_named items ++ files_named more
+
+-- An item names one file at most.
+abbrev pub FewFiles : Type 0
+FewFiles = (items : List Item) → length (files_named items) ≤ length items
+
 -- the file that is wanted first
 abbrev pub first_of : List (List ℕ) → Option (List ℕ)
 first_of [] = None
@@ -50,6 +60,10 @@ IsLoaded (BadCode at) = Unit {0}
 
 abbrev pub AreLoaded : List Loaded → Type 0
 AreLoaded loads = AllByRecursion IsLoaded loads
+
+-- What stands in files is loaded so, whatever they are.
+abbrev pub FilesAreGood : Type 0
+FilesAreGood = (all : Files) (file : List ℕ) → IsLoaded (program_of all file)
 
 -- ---- The groups that have begun
 

@@ -11,7 +11,9 @@ mod report;
 mod taking;
 
 pub use job_stream::JobStream;
-pub use lines::{items_give_few_lines, lines_go_on};
+pub use lines::{
+    code_in_files_is_good, items_give_few_lines, items_name_few_files, lines_are_printable, lines_go_on,
+};
 pub use lines_ahead::End;
 pub use page_loads::PageLoads;
 pub use part::Part;

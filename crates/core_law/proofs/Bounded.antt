@@ -9,15 +9,13 @@ use Rattle.solo_base.specs.declared.item.Feed.TheVariants as feed
 use Rattle.solo_base.specs.declared.page.Page.{Page}
 use Rattle.page_codec.specs.Items.{AreItems}
 use Rattle.page_codec.specs.Packing.{PageInHand, first_page, page_given, hand_after}
-use Rattle.deck_format.specs.declared.control.Opener.{Opener}
-use Rattle.deck_format.specs.declared.control.Opener.TheVariants as opener
-use Rattle.deck_format.specs.Jobs.{opener_of}
 use Rattle.disk_system.specs.declared.loading.Loaded.{Loaded}
 use Rattle.batch_job.specs.Report.{Loads}
-use Rattle.batch_job.specs.Loads.{file_named, files_named, loads_of}
 use Rattle.solo_base.specs.Prefixes.{IsPrefixOf}
+use Rattle.batch_job.specs.Loads.{files_named, loads_of}
 use Rattle.batch_job.specs.LinesSoFar.{lines_so_far}
 use Rattle.batch_job.proofs.LinesSoFar.{whole_lines}
+use Rattle.batch_job.proofs.NamedFiles.{few_files}
 use Rattle.batch_procs.specs.declared.actions.Action.{Action}
 use Rattle.batch_procs.specs.declared.actions.Action.TheVariants as act
 use Rattle.batch_procs.specs.declared.actions.Reply.{Reply}
@@ -224,21 +222,6 @@ whole-length : (items : List Item) → length (whole items) ≡ length items + 1
 whole-length [] = refl
 whole-length (item ∷ rest) = (let more = whole-length rest in omega (arith, more))
 
--- an item names one file at most
-named-one : (o : Option Opener) → length (file_named o) ≤ 1
-named-one None = omega arith
-named-one (Some (opener.List name)) = omega arith
-named-one (Some (opener.Job name limit)) = omega arith
-named-one (Some (opener.Run name file)) = omega arith
-
-named-few : (items : List Item) → length (files_named items) ≤ length items
-named-few [] = omega arith
-named-few (item ∷ rest) =
-    let one = named-one (opener_of item) in
-    let few = named-few rest in
-    let both = length-append (file_named (opener_of item)) (files_named rest) in
-    omega (arith, one, few, both)
-
 -- ---- a reached state over told devices
 all-in-all : (c l t1 n1 p1 t2 n2 p2 t3 n3 p3 t4 n4 p4 t5 n5 p5 m1 m2 m3 m4 m5 : ℕ) → m1 ≤ 2 + (1 * t1 + 5 * n1 + p1) + 2
     → m2 ≤ 2 + (2 * t2 + 5 * n2 + p2) + 8 → m3 ≤ 2 + (7 * t3 + 5 * n3 + p3) + 8 → m4 ≤ 2 + (6 * t4 + 5 * n4 + p4) + 8
@@ -300,7 +283,7 @@ module _ (opening s : CoreState) (st : Stands (core process) opening s) (d : Dev
   made-few =
       let c = length items in
       let few : length (loads (taken (s.histories 3))) ≤ c =
-      (let a = part-length _ _ loaded in let b = length-map (files_named items) found in let d = named-few items in omega (arith, a, b, d)) in
+      (let a = part-length _ _ loaded in let b = length-map (files_named items) found in let d = few_files items in omega (arith, a, b, d)) in
       let n1 = deck-length items in
       let n2 : length (card_sends (deck_parcels items)) ≡ c + 1 = ap length (card-gives items are) ∙ parcels-length (whole items) ∙ whole-length items in
       let n3 = packed-length first_page (whole items) in

@@ -16,11 +16,6 @@ pub mod Coming
 pub mod Answers
 pub mod Handed
 pub mod NeverStuck
-pub mod PrintedTexts
-pub mod NamedOpeners
-pub mod NoteLines
-pub mod ProgramLines
-pub mod ReportLines
 pub mod RoundTrip
 pub mod Passing
 pub mod Stopping

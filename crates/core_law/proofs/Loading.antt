@@ -4,11 +4,11 @@ use Rattle.std.proofs.lemmas.List.{append-nil}
 use Rattle.solo_base.specs.declared.item.Item.{Item}
 use Rattle.solo_base.specs.declared.outcome.Outcome.TheVariants as outcome
 use Rattle.solo_devices.specs.declared.card_read.CardRead.TheVariants as read
-use Rattle.deck_format.specs.Jobs.{opener_of}
 use Rattle.disk_system.specs.declared.loading.Loaded.{Loaded}
 use Rattle.batch_job.specs.Report.{Loads}
-use Rattle.batch_job.specs.Loads.{file_named, files_named}
+use Rattle.batch_job.specs.Loads.{files_named}
 use Rattle.solo_base.specs.Prefixes.{IsPrefixOf}
+use Rattle.batch_job.proofs.NamedFiles.{files_go_on}
 use Rattle.batch_procs.specs.declared.actions.Action.{Action}
 use Rattle.batch_procs.specs.declared.actions.Action.TheVariants as act
 use Rattle.batch_procs.specs.declared.actions.Reply.{Reply}
@@ -144,14 +144,8 @@ items-monotone [] more = (items more, refl)
 items-monotone (Rattle.solo_base.specs.declared.item.Feed.TheVariants.Item item ∷ some) more = part-cons item _ _ (items-monotone some more)
 items-monotone (Rattle.solo_base.specs.declared.item.Feed.TheVariants.End ∷ some) more = ([], refl)
 
-pub files-append : (some more : List Item) → files_named (some ++ more) ≡ files_named some ++ files_named more
-files-append [] more = refl
-files-append (item ∷ some) more =
-    ap (λ fs. file_named (opener_of item) ++ fs) (files-append some more)
-    ∙ sym (append_assoc (file_named (opener_of item)) (files_named some) (files_named more))
-
 pub files-monotone : IsMonotone files_named
-files-monotone some more = (files_named more, sym (files-append some more))
+files-monotone some more = (files_named more, sym (files_go_on some more))
 
 pub names-monotone : IsMonotone names_in
 names-monotone = behind-both (unpacked 0) (λ fs. files_named (items fs)) (unpacked-monotone 0) (behind-both items files_named items-monotone files-monotone)

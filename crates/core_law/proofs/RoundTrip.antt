@@ -29,7 +29,7 @@ use Rattle.batch_procs.specs.Parcels.{Parcel, OfPage}
 use Rattle.batch_procs.specs.Sends.{feeds, as_parcels, marked, packed, items_then, unpacked_by, unpacked, items, has_end, stream, lines_of, lines_stream, job_lines, output_lines, as_lines, card_sends, input_sends, output_sends, printer_sends}
 use Rattle.core_law.proofs.HandedLists.{job_puts}
 use Rattle.core_law.proofs.Streams.{deck_parcels, text_of, output_of}
-use Rattle.core_law.proofs.ReportLines.{deck-lines}
+use Rattle.batch_job.proofs.ReportLines.{printable-lines}
 
 abbrev pub good : List Item → Bool → Result PageContent BadPage
 good all last = Ok (record { items = all; last = last })
@@ -166,7 +166,7 @@ module _ (deck : List Item) (are : AreItems deck) where
     lines = lines_so_far deck loads true
 
     pub are-lines : AllByRecursion IsLine (lines_so_far deck loads true)
-    are-lines = deck-lines deck loads are (all_loaded deck loads true enough)
+    are-lines = printable-lines deck loads true are
 
     pub job-gives : job_puts loads (input_sends (card_sends (deck_parcels deck))) ≡ packed first_page (whole (map Line (lines_so_far deck loads true)))
     job-gives =

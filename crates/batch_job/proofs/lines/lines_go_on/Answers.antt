@@ -10,3 +10,6 @@ returns-clause-loads c = lines.loads_go_on
 
 pub returns-clause-whole : goal.returns-clause-whole
 returns-clause-whole c = λ files deck. lines.whole_lines files (cards deck)
+
+pub returns-clause-all : goal.returns-clause-all
+returns-clause-all c = lines.all_loaded

@@ -7,7 +7,7 @@ use Rattle.batch_job.specs.OneThread.{one_thread_output}
 use Rattle.network_run.specs.declared.rules.Rule.TheVariants.{Numbered}
 use Rattle.core_net.specs.Openings.{spools_over, files_found}
 use Rattle.core_net.proofs.GoodFiles.{are-good}
-use Rattle.core_law.proofs.ReportLines.{report-lines}
+use Rattle.batch_job.proofs.ReportLines.{report-lines}
 use Rattle.solo_cli.specs.DeckNumbers.{deck_lines}
 use Rattle.solo_cli.proofs.CardItems.{card-items}
 use Rattle.solo_cli.proofs.UnprintedNumbers.{no_numbers}

@@ -12,7 +12,7 @@ use Rattle.deck_format.specs.declared.control.Control.TheVariants.{Opens, Data, 
 use Rattle.solo_base.specs.Words.{spells, words}
 use Rattle.deck_format.specs.Control.{limit_of, default_limit, lone, with_limit, with_file, form, behind_mark, control_of}
 use Rattle.deck_format.specs.Jobs.{opener_in, opener_of}
-use Rattle.core_law.proofs.PrintedTexts.{IsNamed, identifier-named}
+use Rattle.batch_job.proofs.PrintedTexts.{IsNamed, identifier-named}
 
 -- ---- the openers of control cards
 abbrev pub name_of : Opener → List ℕ

@@ -18,8 +18,8 @@ use Rattle.disk_system.specs.declared.loading.Loaded.TheVariants.{Code, NoFile, 
 use Rattle.batch_job.specs.Report.{source_loaded}
 use Rattle.program_lines.specs.Texts.{result_line}
 use Rattle.program_lines.specs.Task.{Source, Runs, RunsCode, Says, source_of, end_lines, outcome_lines, ending_lines, program_lines}
-use Rattle.core_law.proofs.PrintedTexts.{AreLinesOf, append-lines, IsNamed}
-use Rattle.core_law.proofs.NoteLines.{result-line, bad-word-line, syntax-line, semantic-line, code-limit-line, no-file-line, not-code-line, bad-code-line}
+use Rattle.batch_job.proofs.PrintedTexts.{AreLinesOf, append-lines, IsNamed}
+use Rattle.batch_job.proofs.NoteLines.{result-line, bad-word-line, syntax-line, semantic-line, code-limit-line, no-file-line, not-code-line, bad-code-line}
 
 -- ---- what a program prints
 record AreInLines (p : Printed) : Type 0 where

@@ -1,7 +1,8 @@
 -- The lines that the jobs of a deck report are lines of the line length, where its cards are.
-use Rattle.std.proofs.Common.{◌≡◌, ℕ, ◌+◌, ◌^◌, ◌<◌, ◌==◌, Bool, true, false, if◌then◌else◌, List, [], ◌∷◌, ◌++◌, length, Option, None, Some, refl, subst, arith}
+use Rattle.std.proofs.Common.{◌≡◌, ℕ, ◌+◌, ◌^◌, ◌<◌, ◌==◌, Bool, true, false, if◌then◌else◌, List, [], ◌∷◌, ◌++◌, length, length-append, map, Option, None, Some, refl, sym, subst, arith}
 use Rattle.std.specs.Prelude.{flat_map, count_by}
 use Rattle.std.specs.List.{AllByRecursion}
+use Rattle.std.proofs.lemmas.List.{append-nil, length-map}
 use Rattle.solo_base.specs.declared.item.Item.{Item}
 use Rattle.solo_base.specs.declared.item.Item.TheVariants.{Line, Spoiled}
 use Rattle.solo_base.specs.Line.{IsLine}
@@ -9,6 +10,7 @@ use Rattle.page_codec.specs.Items.{IsItem, AreItems}
 use Rattle.deck_format.specs.declared.control.Opener.{Opener}
 use Rattle.deck_format.specs.declared.control.Opener.TheVariants as opener
 use Rattle.disk_system.specs.declared.loading.Loaded.{Loaded}
+use Rattle.disk_system.specs.declared.loading.Loaded.TheVariants.{NoFile}
 use Rattle.deck_format.specs.declared.job.Job.TheVariants as job
 use Rattle.deck_format.specs.declared.job.CardFault.{CardFault}
 use Rattle.deck_format.specs.Control.{control_of}
@@ -17,13 +19,14 @@ use Rattle.pascal_compile.specs.Compiling.{compiling}
 use Rattle.program_lines.specs.Task.{Source, source_of, program_lines}
 use Rattle.batch_job.specs.Report.{Loads, no_files, fault_line, listing_end, run_lines, file_limit, source_loaded, report}
 use Rattle.batch_job.specs.OneThread.{one_thread_lines}
-use Rattle.batch_job.specs.Loads.{loads_of, Begun, Deck, load_for, begin_by, begun}
+use Rattle.batch_job.specs.Loads.{files_named, loads_of, Begun, Deck, load_for, begin_by, begun}
+use Rattle.solo_base.specs.Prefixes.{IsPrefixOf}
 use Rattle.batch_job.specs.LinesSoFar.{stretch_lines, closed_group, group_lines, lines_by, lines_so_far, is_whole}
-use Rattle.batch_job.proofs.LinesSoFar.{whole_lines}
-use Rattle.core_law.proofs.PrintedTexts.{AreLinesOf, append-lines, IsNamed}
-use Rattle.core_law.proofs.NamedOpeners.{name_of, opener-named}
-use Rattle.core_law.proofs.NoteLines.{count-small, heading-line, fault-line, IsSmallFault, end-line, skipped-line}
-use Rattle.core_law.proofs.ProgramLines.{SaysLine, source-says, loaded-says, lines-of-program}
+use Rattle.batch_job.proofs.LinesSoFar.{lines_go_on, loads_go_on, whole_lines, all_loaded}
+use Rattle.batch_job.proofs.PrintedTexts.{AreLinesOf, append-lines, IsNamed}
+use Rattle.batch_job.proofs.NamedOpeners.{name_of, opener-named}
+use Rattle.batch_job.proofs.NoteLines.{count-small, heading-line, fault-line, IsSmallFault, end-line, skipped-line}
+use Rattle.batch_job.proofs.ProgramLines.{SaysLine, source-says, loaded-says, lines-of-program}
 
 -- ---- the lines of a job
 fault-small : (in_input : Bool) (number : ℕ) (items : List Item) → number < 2 ^ 32 → IsSmallFault (first_fault in_input number items)
@@ -146,14 +149,42 @@ all-lines front [] false e are = absurd cc
 all-lines front (g ∷ rest) true e are = append-lines (stretch_lines front) (group_lines (g ∷ rest) true) (stretch-lines front) (group-lines (g ∷ rest) are)
 all-lines front (g ∷ rest) false e are = absurd cc
 
--- The lines of a deck are lines, where its cards are, whatever its files are loaded as.
-pub deck-lines : (items : List Item) (loads : List Loaded) → AreItems items → is_whole items loads true ≡ true
-    → AllByRecursion IsLine (lines_so_far items loads true)
-deck-lines items loads are whole =
+-- Those of a whole deck are lines, where its cards are.
+whole-lines : (items : List Item) (loads : List Loaded) → AreItems items → is_whole items loads true ≡ true → AreLinesOf (lines_so_far items loads true)
+whole-lines items loads are whole =
     all-lines (cut items).front (begun (cut items).groups loads true).groups (begun (cut items).groups loads true).ended whole
     (groups-begun (cut items).groups loads true (cut-rightly items are).groups)
 
+-- ---- a deck that goes on: its lines are the first of those with all files loaded
+part-lines : (part rest : List (List ℕ)) → AreLinesOf (part ++ rest) → AreLinesOf part
+part-lines [] rest are = tt
+part-lines (line ∷ part) rest are = (are.0, part-lines part rest are.1)
+
+first-lines : (part whole : List (List ℕ)) → IsPrefixOf part whole → AreLinesOf whole → AreLinesOf part
+first-lines part whole (rest, e) are = part-lines part rest (subst AreLinesOf (sym e) are)
+
+-- loads of files that aren't there, as many as are named
+abbrev missing : List Item → List Loaded
+missing items = map (λ file. NoFile) (files_named items)
+
+with-missing : (items : List Item) (loads : List Loaded) → AreItems items → AreLinesOf (lines_so_far items (loads ++ missing items) true)
+with-missing items loads are =
+    let sum = length-append loads (missing items) in
+    let many = length-map (files_named items) (λ file. NoFile) in
+    whole-lines items (loads ++ missing items) are (all_loaded items (loads ++ missing items) true (omega (arith, sum, many)))
+
+by-end : (items : List Item) (loads : List Loaded) (ended whole : Bool) → is_whole items loads ended ≡ whole → AreItems items
+    → AreLinesOf (lines_so_far items loads ended)
+by-end items loads true true e are = whole-lines items loads are e
+by-end items loads true false e are = first-lines _ _ ((loads_go_on items loads (missing items)).0 e) (with-missing items loads are)
+by-end items loads false whole e are =
+    first-lines _ _ (lines_go_on items [] loads (missing items) true)
+    (subst (λ all. AreLinesOf (lines_so_far all (loads ++ missing items) true)) (sym (append-nil items)) (with-missing items loads are))
+
+-- The lines of a deck are lines, where its cards are, whatever its files are loaded as.
+pub printable-lines : (items : List Item) (loads : List Loaded) (ended : Bool) → AreItems items → AllByRecursion IsLine (lines_so_far items loads ended)
+printable-lines items loads ended are = by-end items loads ended (is_whole items loads ended) refl are
+
 pub report-lines : (found : Loads) (items : List Item) → AreItems items → AllByRecursion IsLine (one_thread_lines found items)
 report-lines found items are =
-    let all = whole_lines found items in
-    subst (λ ls. AllByRecursion IsLine ls) all.0 (deck-lines items (loads_of found items) are all.1)
+    subst (λ ls. AllByRecursion IsLine ls) (whole_lines found items).0 (printable-lines items (loads_of found items) true are)
