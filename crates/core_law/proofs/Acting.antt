@@ -9,6 +9,7 @@ use Rattle.batch_procs.specs.declared.actions.Action.{Action}
 use Rattle.batch_procs.specs.declared.actions.Action.TheVariants as act
 use Rattle.batch_procs.specs.declared.actions.Reply.{Reply}
 use Rattle.batch_procs.specs.declared.actions.Reply.TheVariants as reply
+use Rattle.batch_procs.specs.Parcels.{Parcel}
 use Rattle.batch_procs.specs.History.{Entry, Does, LacksMemory, Delays, holds, holds_after, has_stopped, stops_at}
 use Rattle.batch_procs.specs.Fits.{Fits, MayLack, MayWait}
 use Rattle.batch_procs.specs.Causes.{caused, given_cause}
@@ -17,7 +18,7 @@ use Rattle.batch_procs.specs.Laws.{AwaitedRoom, AwaitedItem}
 use Rattle.batch_procs.proofs.Closing.{or-none}
 use Rattle.batch_procs.proofs.Holding.{some-not_none}
 use Rattle.network_law.specs.Acts as acts
-use Rattle.network_law.specs.Acts.{Delayed, is_same, made_stop, found_by, found_ready, holds_by}
+use Rattle.network_law.specs.Acts.{Went, Delayed, is_delayed, is_same, made_stop, found_by, found_ready, holds_by}
 use Rattle.network_law.specs.Network as law
 use Rattle.network_law.proofs.Numbers.{same-number, other-number}
 use Rattle.core_law.specs.Core.{upstream, seat, side_at, call, went_by, went, core}
@@ -193,3 +194,10 @@ pub delays-of : (entry : Entry) → went entry ≡ Delayed → (a : Action) × (
 delays-of (Does a r) e = absurd (went-not a r e)
 delays-of (LacksMemory a r) e = absurd (went-not a r e)
 delays-of (Delays a) e = (a, refl)
+
+not-delayed : (w : Went Parcel) → (w ≡ Delayed → ⊥) → is_delayed w ≡ false
+not-delayed Delayed not = absurd (not refl)
+not-delayed w not = refl
+
+pub answered : (entry : Entry) → ((a : Action) → entry ≡ Delays a → ⊥) → is_delayed (went entry) ≡ false
+answered entry not = not-delayed (went entry) (λ e. (let (a, is) = delays-of entry e in not a is))

@@ -44,7 +44,7 @@ use Rattle.core_law.specs.Holds.{AreTold, AreFound}
 use Rattle.core_law.specs.Opening.{Opening, first_state}
 use Rattle.core_law.specs.TheLaw.{the_law, IsReached}
 use Rattle.core_law.specs.Work.{sleepers}
-use Rattle.core_law.proofs.Acting.{follows-of}
+use Rattle.core_law.proofs.Acting.{follows-of, answered}
 use Rattle.core_law.proofs.CallsCaused.{HasSlack, made-most}
 use Rattle.core_law.proofs.CallsMade.{counts, counts_by, made, put_sum, sum-append, free-left}
 use Rattle.core_law.proofs.Ends.{the-five}
@@ -58,7 +58,7 @@ use Rattle.core_law.proofs.Row.{each-process}
 use Rattle.core_law.proofs.RoundTrip.{whole, card-gives, input-gives, job-gives, output-gives, output-is, as-named}
 use Rattle.core_law.proofs.Sleeping.{Slept, wakes}
 use Rattle.core_law.proofs.Streams.{deck_parcels, output_of, ReadsOf, DevicesStand}
-use Rattle.core_law.proofs.WorkFalls.{slept, answered}
+use Rattle.core_law.proofs.WorkFalls.{slept}
 
 -- ---- an event counts itself and what it wakes
 wakes-does : (p : ℕ) (a : Action) (r : Reply) → Fits a r → 1 + wakes (call p a) (went (Does a r)) ≤ counts_by a r

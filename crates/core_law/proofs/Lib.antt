@@ -5,6 +5,7 @@ pub mod Taking
 pub mod Ends
 pub mod Acting
 pub mod Lawful
+pub mod Queues
 pub mod Passed
 pub mod Streams
 pub mod KeepsDevices

@@ -33,6 +33,7 @@ use Rattle.core_law.proofs.KeepsPaper.{keeps-devices}
 use Rattle.core_law.proofs.NeverStuck.{ended-all}
 use Rattle.core_law.proofs.Passing.{HandOver, AreFoundBy, loaded-part, loaded-all, gains-of, reads-all}
 use Rattle.core_law.proofs.Handed.{stands-between}
+use Rattle.core_law.proofs.Queues.{queues-hold}
 use Rattle.core_law.proofs.Together.{ends-together}
 
 -- all that every event keeps
@@ -159,6 +160,7 @@ module _ (o : Opening) (s : CoreState) (r : IsReached o s) where
     stops = λ b side. c.stands.buffers.stops b side ∙ stops-are process (seat b side) b side (s.histories (seat b side)) refl
         (follows-of process (seat b side) (s.histories (seat b side)) (c.stands.follows (seat b side)));
     told = c.stands.buffers.told;
+    queues = queues-hold opening s c.stands;
     one_holder = c.stands.desk.one_holder;
     holder = goes-on;
     ends = ends-together the-five opening s c.stands;

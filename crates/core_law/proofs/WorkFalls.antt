@@ -4,14 +4,14 @@ use Rattle.batch_procs.specs.declared.actions.Action.{Action}
 use Rattle.batch_procs.specs.Parcels.{Parcel}
 use Rattle.batch_procs.specs.History.{Entry, Does, LacksMemory, Delays}
 use Rattle.batch_procs.specs.Table.{process}
-use Rattle.network_law.specs.Acts.{Went, Delayed, is_delayed}
+use Rattle.network_law.specs.Acts.{is_delayed}
 use Rattle.network_law.specs.Network.{IsEnabled, happens}
 use Rattle.network_law.specs.Kept.{Stands}
 use Rattle.core_law.specs.Core.{call, core, went, CoreState, CoreEvent}
 use Rattle.core_law.specs.Opening.{Opening, first_state}
 use Rattle.core_law.specs.TheLaw.{IsReached}
 use Rattle.core_law.specs.Work.{calls_left, sleepers, events_left, LeavesFewer}
-use Rattle.core_law.proofs.Acting.{follows-of, delays-of}
+use Rattle.core_law.proofs.Acting.{follows-of, answered}
 use Rattle.core_law.proofs.CallsFall.{cost, st-next, calls-fall}
 use Rattle.core_law.proofs.DeskRoom.{desk-room}
 use Rattle.core_law.proofs.Ends.{the-five}
@@ -33,13 +33,6 @@ module _ (opening s : CoreState) (event : CoreEvent) (st : Stands (core process)
   few = few-sleep (happens (core process) s event) (desk-room opening (happens (core process) s event) (st-next opening s event st enabled))
 
 -- ---- all that is left
-not-delayed : (w : Went Parcel) → (w ≡ Delayed → ⊥) → is_delayed w ≡ false
-not-delayed Delayed not = absurd (not refl)
-not-delayed w not = refl
-
-pub answered : (entry : Entry) → ((a : Action) → entry ≡ Delays a → ⊥) → is_delayed (went entry) ≡ false
-answered entry not = not-delayed (went entry) (λ e. (let (a, is) = delays-of entry e in not a is))
-
 lower : (c left s now n : ℕ) → left + 1 ≤ c → s ≤ now + n → n ≤ 1 → 2 * left + (12 - now) < 2 * c + (12 - s)
 lower c left s now n less slept one = omega (arith, less, slept, one)
 

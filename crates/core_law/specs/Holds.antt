@@ -26,6 +26,7 @@ use Rattle.network_law.specs.Kept.{StandsFor, WasToldRightly}
 use Rattle.core_law.specs.Core.{core, CoreState, CoreEvent, IsBuffer, seat}
 use Rattle.core_law.specs.FilesLoaded.{files_loaded, AreLoadedSo}
 use Rattle.core_law.specs.Opening.{Spools, Opening}
+use Rattle.core_law.specs.Queues.{QueuesHold}
 use Rattle.core_law.specs.Ends.{IsProcess, HasEnded, HasEndedSo, AllDone, EndsTogether, HaveCauses, IsSmooth}
 
 -- both spools tell their pages
@@ -69,6 +70,8 @@ pub record Holds (opening : Opening) (s : CoreState) : Type 0 where
   pub told : (b : ℕ) (side : Side) → was_told b side
       (acts (core process) (seat b side) (s.histories (seat b side))) ≡ true
       → WasToldRightly (s.buffers b) side
+  -- Who waits stands in one queue, and calls there next; what was found ready is still there.
+  pub queues : QueuesHold s
   -- One process has the disk, in order of arrival, and it goes on.
   pub one_holder : HasOneHolder s.desk.requested s.desk.granted s.desk.released s.desk.claims
   pub holder : (p : ℕ) → s.desk.claims.holder ≡ Some p → GoesOn s p

@@ -2,6 +2,7 @@ pub mod Core
 pub mod FilesLoaded
 pub mod Opening
 pub mod Ends
+pub mod Queues
 pub mod Holds
 pub mod Work
 pub mod Bound

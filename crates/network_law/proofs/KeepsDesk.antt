@@ -10,9 +10,9 @@ use Rattle.network_law.specs.Acts.{Call, Alone, At, Asks, Gives, Went, Delayed, 
 use Rattle.network_law.specs.Desk.{Desk, asked, after_grant, after_asking, after_giving, MayAsk}
 use Rattle.network_law.specs.Network.{Network, State, Event, IsEnabled, Follows, MayCall, Fits, call_of, desk_after, happens, acts}
 use Rattle.network_law.specs.Processes.{CallsNext, IsLawful}
-use Rattle.network_law.specs.Kept.{StandsAtDesk, DeskStands, QueuesStand}
+use Rattle.network_law.specs.Kept.{IsAmong, StandsAtDesk, DeskStands, QueuesStand}
 use Rattle.network_law.proofs.Seats.{calls, acts-own, acts-other}
-use Rattle.network_law.proofs.KeepsQueues.{some-same, same-call, calls-other, calls-again, waits-own}
+use Rattle.network_law.proofs.KeepsQueues.{some-same, same-call, calls-other, calls-before, calls-again, calls-same, waits-own, own-delayed}
 
 -- ---- lists of processes
 both-all : {P Q R : ℕ → Type 0} → ((q : ℕ) → P q → Q q → R q) → (qs : List ℕ) → AllByRecursion P qs → AllByRecursion Q qs → AllByRecursion R qs
@@ -42,6 +42,22 @@ holder-once (Some q) waiting p e once = subst (IsNoneOf waiting) (some-same q p 
 none-of : (holder : Option ℕ) (waiting : List ℕ) (p : ℕ) → (holder ≡ Some p → ⊥) → IsNoneOf waiting p → IsNoneOf (option_to_list holder ++ waiting) p
 none-of None waiting p not none = none
 none-of (Some q) waiting p not none = ((λ e. not (ap Some e)), none)
+
+-- the last of a longer list
+among-last : (qs : List ℕ) (q : ℕ) → IsAmong (qs ++ q ∷ []) q
+among-last [] q = inl refl
+among-last (first ∷ later) q = inr (among-last later q)
+
+among-more : (qs : List ℕ) (p q : ℕ) → IsAmong qs q → IsAmong (qs ++ p ∷ []) q
+among-more [] p q is = absurd is
+among-more (first ∷ later) p q (inl e) = inl e
+among-more (first ∷ later) p q (inr is) = inr (among-more later p q is)
+
+-- the first of them, or a later one
+first-or-later : (qs : List ℕ) (q : ℕ) → IsAmong qs q → IsAmong (later_of qs) q ⊎ (first_of qs ≡ Some q)
+first-or-later [] q is = absurd is
+first-or-later (first ∷ later) q (inl e) = inr (ap Some e)
+first-or-later (first ∷ later) q (inr is) = inl is
 
 module _ {Devices Action Entry Parcel : Type 0} {network : Network Devices Action Entry Parcel} (laws : IsLawful network) (s : State Devices Entry Parcel)
     (event : Event Entry)
@@ -87,6 +103,37 @@ module _ {Devices Action Entry Parcel : Type 0} {network : Network Devices Actio
         | inr differ ↦ holds-other q differ.1
       ]
 
+  -- ---- who is delayed
+  abbrev Waits : State Devices Entry Parcel → ℕ → Type 0
+  Waits s q = (waits (acts network q (s.histories q)) ≡ true) × CallsNext network q (s.histories q) Asks
+
+  abbrev Stands : State Devices Entry Parcel → ℕ → Type 0
+  Stands s q = IsAmong s.desk.claims.waiting q ⊎ (s.desk.claims.handed ≡ Some q)
+
+  waits-before : (q : ℕ) → (q ≡ p → ⊥) → Waits new q → Stands s q
+  waits-before q differ (waits_now, is) =
+      stand.delayed q (sym (ap waits (acts-other laws s event follows enabled q differ)) ∙ waits_now)
+      (calls-before laws s event follows queues enabled q differ Asks is)
+
+  -- one that wasn't delayed at the desk doesn't wait there
+  waits-not : (w ≡ Delayed → c ≡ Asks → ⊥) → Waits new p → ⊥
+  waits-not not (waits_now, is) =
+      let delayed = own-delayed laws s event follows queues enabled waits_now in
+      not delayed (calls-same laws s event follows queues enabled delayed Asks is)
+
+  delayed-by : (Waits new p → Stands new p) → ((q : ℕ) → (q ≡ p → ⊥) → Stands s q → Stands new q) → (q : ℕ)
+      → waits (acts network q (new.histories q)) ≡ true → CallsNext network q (new.histories q) Asks → Stands new q
+  delayed-by own others q waits_now is =
+      elim (eqb_tells q p) as (λ _. Stands new q) [
+        | inl same ↦ subst (λ q. Waits new q → Stands new q) (sym same.1) own (waits_now, is)
+        | inr differ ↦ others q differ.1 (waits-before q differ.1 (waits_now, is))
+      ]
+
+  -- where it wasn't delayed there
+  delayed-others : (w ≡ Delayed → c ≡ Asks → ⊥) → ((q : ℕ) → (q ≡ p → ⊥) → Stands s q → Stands new q) → (q : ℕ)
+      → waits (acts network q (new.histories q)) ≡ true → CallsNext network q (new.histories q) Asks → Stands new q
+  delayed-others not others = delayed-by (λ is. absurd (waits-not not is)) others
+
   -- ---- an event that doesn't touch the disk
   still : (c ≡ Asks → ⊥) → holds_by (holds (acts network p (s.histories p))) c w ≡ holds (acts network p (s.histories p)) → new.desk ≡ s.desk
       → DeskStands network new
@@ -97,6 +144,8 @@ module _ {Devices Action Entry Parcel : Type 0} {network : Network Devices Actio
         waiting = subst (λ (claims : Claims). AllByRecursion (StandsAtDesk network new) claims.waiting) (sym claims_is)
             (both-all at_desk-still s.desk.claims.waiting stand.waiting (each-all (not-at differ) s.desk.claims.waiting stand.waiting));
         handed = λ q at. (let is = stand.handed q (sym (ap (λ (claims : Claims). claims.handed) claims_is) ∙ at) in at_desk-still q is (not-at differ q is));
+        delayed = delayed-others (λ delayed. differ)
+            (λ q other is. subst (λ (claims : Claims). IsAmong claims.waiting q ⊎ (claims.handed ≡ Some q)) (sym claims_is) is);
         holder = λ q at. elim (stand.holder q (sym (ap (λ (claims : Claims). claims.holder) claims_is) ∙ at)) as
             (λ _. (new.desk.claims.handed ≡ Some q) ⊎ (holds (acts network q (new.histories q)) ≡ true)) [
               | inl handed ↦ inl (ap (λ (claims : Claims). claims.handed) claims_is ∙ handed)
@@ -137,6 +186,13 @@ module _ {Devices Action Entry Parcel : Type 0} {network : Network Devices Actio
               holds_not = holds-own ∙ same ∙ asks-not e;
             });
         handed = λ q at. (let turn = sym (ap (λ (claims : Claims). claims.handed) claims_is) ∙ at in absurd cc);
+        delayed = delayed-by
+            (λ is. inl (subst (λ (claims : Claims). IsAmong claims.waiting p) (sym claims_is) (among-last s.desk.claims.waiting p)))
+            (λ q other is. elim is as (λ _. Stands new q) [
+              | inl waiting ↦ inl (subst (λ (claims : Claims). IsAmong claims.waiting q) (sym claims_is)
+                  (among-more s.desk.claims.waiting p q waiting))
+              | inr turn ↦ absurd cc
+            ]);
         holder = λ q at. elim (stand.holder q (sym (ap (λ (claims : Claims). claims.holder) claims_is) ∙ at)) as
             (λ _. (new.desk.claims.handed ≡ Some q) ⊎ (holds (acts network q (new.histories q)) ≡ true)) [
               | inl handed ↦ absurd cc
@@ -170,6 +226,10 @@ module _ {Devices Action Entry Parcel : Type 0} {network : Network Devices Actio
         waiting = subst (AllByRecursion (StandsAtDesk network new)) (sym (ap (λ (claims : Claims). claims.waiting) claims_is
             ∙ stand.one_holder.idle nobody)) tt;
         handed = λ q at. (let turn = sym (ap (λ (claims : Claims). claims.handed) claims_is) ∙ at in absurd cc);
+        delayed = delayed-others (λ delayed asks. cc) (λ q other is. elim is as (λ _. Stands new q) [
+          | inl waiting ↦ absurd (subst (λ qs. IsAmong qs q) (stand.one_holder.idle nobody) waiting)
+          | inr turn ↦ absurd cc
+        ]);
         holder = λ q at. inr (subst (λ q. holds (acts network q (new.histories q)) ≡ true)
             (some-same p q (sym (ap (λ (claims : Claims). claims.holder) claims_is) ∙ at)) (now-holds e done));
         holds_alone = λ q on. ap (λ (claims : Claims). claims.holder) claims_is ∙ elim (eqb_tells q p) as (λ _. Some p ≡ Some q) [
@@ -194,6 +254,10 @@ module _ {Devices Action Entry Parcel : Type 0} {network : Network Devices Actio
             (both-all at_desk-still s.desk.claims.waiting stand.waiting
             (holder-once s.desk.claims.holder s.desk.claims.waiting p held stand.one_holder.each_once));
         handed = λ q at. (let turn = sym (ap (λ (claims : Claims). claims.handed) claims_is) ∙ at in absurd cc);
+        delayed = delayed-others (λ delayed asks. cc) (λ q other is. elim is as (λ _. Stands new q) [
+          | inl waiting ↦ inl (subst (λ (claims : Claims). IsAmong claims.waiting q) (sym claims_is) waiting)
+          | inr turn ↦ absurd (other (sym (some-same p q (sym own ∙ turn))))
+        ]);
         holder = λ q at. inr (subst (λ q. holds (acts network q (new.histories q)) ≡ true)
             (some-same p q (sym held ∙ sym (ap (λ (claims : Claims). claims.holder) claims_is) ∙ at)) (now-holds e done));
         holds_alone = λ q on. ap (λ (claims : Claims). claims.holder) claims_is ∙ elim (eqb_tells q p) as (λ _. s.desk.claims.holder ≡ Some q) [
@@ -219,6 +283,11 @@ module _ {Devices Action Entry Parcel : Type 0} {network : Network Devices Actio
         waiting = subst (λ (claims : Claims). AllByRecursion (StandsAtDesk network new) claims.waiting) (sym claims_is)
             (later-all (StandsAtDesk network new) s.desk.claims.waiting waits_on);
         handed = λ q at. first-all (StandsAtDesk network new) s.desk.claims.waiting q waits_on (sym (ap (λ (claims : Claims). claims.handed) claims_is) ∙ at);
+        delayed = delayed-others (λ delayed asks. (let no = sym e ∙ asks in cc)) (λ q other is. elim is as (λ _. Stands new q) [
+          | inl waiting ↦ subst (λ (claims : Claims). IsAmong claims.waiting q ⊎ (claims.handed ≡ Some q)) (sym claims_is)
+              (first-or-later s.desk.claims.waiting q waiting)
+          | inr turn ↦ absurd (other (sym (some-same p q (sym held ∙ stand.one_holder.handed_to_holder q turn))))
+        ]);
         holder = λ q at. inl (ap (λ (claims : Claims). claims.handed) claims_is ∙ sym (ap (λ (claims : Claims). claims.holder) claims_is) ∙ at);
         holds_alone = λ q on. elim (eqb_tells q p) as (λ _. new.desk.claims.holder ≡ Some q) [
           | inl own ↦ absurd (let no = subst (λ q. holds (acts network q (new.histories q)) ≡ true) own.1 on in cc)

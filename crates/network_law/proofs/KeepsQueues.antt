@@ -145,7 +145,7 @@ module _ {Devices Action Entry Parcel : Type 0} {network : Network Devices Actio
   pub calls-other : (q : ℕ) → (q ≡ p → ⊥) → (k : Call) → CallsNext network q (s.histories q) k → CallsNext network q (new.histories q) k
   calls-other q differ k is = subst (λ h. CallsNext network q h k) (sym (set-other s.histories p (event.entry ∷ s.histories p) q differ)) is
 
-  calls-before : (q : ℕ) → (q ≡ p → ⊥) → (k : Call) → CallsNext network q (new.histories q) k → CallsNext network q (s.histories q) k
+  pub calls-before : (q : ℕ) → (q ≡ p → ⊥) → (k : Call) → CallsNext network q (new.histories q) k → CallsNext network q (s.histories q) k
   calls-before q differ k is = subst (λ h. CallsNext network q h k) (set-other s.histories p (event.entry ∷ s.histories p) q differ) is
 
   -- a call that waits is made again

@@ -125,6 +125,7 @@ opening-stands network devices sizes told = record {
     one_holder = record { in_order = refl; one_holder = refl; idle = λ e. refl; each_once = tt; handed_to_holder = λ p e. absurd cc };
     waiting = tt;
     handed = λ q e. absurd cc;
+    delayed = λ q e is. absurd cc;
     holder = λ q e. absurd cc;
     holds_alone = λ q e. absurd cc;
   };

@@ -1,5 +1,5 @@
 -- What holds of the buffers, of their queues and of the desk in every reached state of a network.
-use Rattle.std.specs.Prelude.{◌≡◌, ◌⊎◌, ℕ, ◌<◌, Bool, true, false, List, [], ◌++◌, map, length, Some}
+use Rattle.std.specs.Prelude.{◌≡◌, ◌⊎◌, ℕ, ◌<◌, Bool, true, false, List, [], ◌∷◌, ◌++◌, map, length, Some}
 use Rattle.std.specs.List.{AllByRecursion}
 use Rattle.solo_base.specs.declared.outcome.Side.{Side}
 use Rattle.solo_base.specs.declared.outcome.Side.TheVariants.{Sender, Receiver}
@@ -83,11 +83,20 @@ pub record StandsAtDesk {Devices Action Entry Parcel : Type 0} (network : Networ
   pub calls : CallsNext network q (s.histories q) Asks
   pub holds_not : holds (acts network q (s.histories q)) ≡ false
 
+-- it is one of these
+abbrev pub IsAmong : List ℕ → ℕ → Type 0
+IsAmong [] q = ⊥
+IsAmong (p ∷ later) q = (p ≡ q) ⊎ IsAmong later q
+
+-- Each that waits for the disk stands in its queue, or the turn is handed to it, and nobody else does.
 pub record DeskStands {Devices Action Entry Parcel : Type 0} (network : Network Devices Action Entry Parcel)
     (s : State Devices Entry Parcel) : Type 0 where
   pub one_holder : HasOneHolder s.desk.requested s.desk.granted s.desk.released s.desk.claims
   pub waiting : AllByRecursion (StandsAtDesk network s) s.desk.claims.waiting
   pub handed : (q : ℕ) → s.desk.claims.handed ≡ Some q → StandsAtDesk network s q
+  pub delayed : (q : ℕ) → waits (acts network q (s.histories q)) ≡ true
+      → CallsNext network q (s.histories q) Asks
+      → IsAmong s.desk.claims.waiting q ⊎ (s.desk.claims.handed ≡ Some q)
   -- the holder was granted the disk, or the turn is handed to it
   pub holder : (q : ℕ) → s.desk.claims.holder ≡ Some q
       → (s.desk.claims.handed ≡ Some q) ⊎ (holds (acts network q (s.histories q)) ≡ true)
