@@ -3,8 +3,7 @@ use Rattle.std.proofs.Common.{◌≡◌, ℕ, ◌+◌, ◌*◌, ◌<◌, ◌≤�
 use Rattle.std.specs.FinMap as fin
 use Rattle.std.proofs.lemmas.Bool.{eqb-true, leb-true, or_cases, and_parts}
 use Rattle.solo_base.specs.PageBytes.{number_at}
-use Rattle.stack_code.specs.Table.{row}
-use Rattle.stack_code.specs.CodeLists.{CodeLists, IsCode, instr_at}
+use Rattle.stack_code.specs.CodeLists.{CodeLists, IsCode}
 use Rattle.stack_code.specs.CodeFile.{routines_end, uses_a, uses_b, wrong_byte}
 use Rattle.stack_code.specs.Rules.{broken_record}
 use Rattle.stack_code.proofs.Good.{good_from}

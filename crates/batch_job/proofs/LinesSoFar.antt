@@ -17,7 +17,7 @@ use Rattle.disk_system.specs.declared.loading.Loaded.{Loaded}
 use Rattle.disk_system.specs.declared.loading.Loaded.TheVariants.{NoFile}
 use Rattle.batch_job.specs.Report.{Loads, no_files, report, heading, listed_line, listing_end}
 use Rattle.batch_job.specs.OneThread.{one_thread_lines}
-use Rattle.batch_job.specs.Loads.{file_named, files_named, loads_of, Begun, load_for, Deck, with_group, begin_by, begun}
+use Rattle.batch_job.specs.Loads.{file_named, files_named, loads_of, Begun, load_for, with_group, begin_by, begun}
 use Rattle.solo_base.specs.Prefixes.{IsPrefixOf}
 use Rattle.batch_job.specs.LinesSoFar.{is_closed, fault_so_far, open_lines, stretch_lines, closed_group, last_lines, group_lines, lines_by, lines_so_far, is_whole, LoadsGoOn}
 use Rattle.deck_format.specs.declared.group.Group.{Group}

@@ -12,7 +12,8 @@ mod taking;
 
 pub use job_stream::JobStream;
 pub use lines::{
-    code_in_files_is_good, items_give_few_lines, items_name_few_files, lines_are_printable, lines_go_on,
+    code_in_files_is_good, items_give_few_lines, items_name_few_files, lines_are_printable,
+    lines_go_on,
 };
 pub use lines_ahead::End;
 pub use page_loads::PageLoads;

@@ -91,7 +91,7 @@ copies_cards-lines all to =
 copies-lines : (all : Files) (from to : List ℕ) → InLines (copies all from to)
 copies-lines all from to =
     either-lines (is_cards from) (copies_cards all to) (copies_file (fin.get all from) all to) (copies_cards-lines all to)
-        (copies_file-lines (fin.get all from) all to)
+    (copies_file-lines (fin.get all from) all to)
 
 -- ---- compile
 
@@ -167,7 +167,7 @@ one-paper : (doing : Option Doing) (w : SoloWorld) (n : ℕ) → InLines (or_idl
 one-paper None w n is later = later w
 one-paper (Some doing) w n is later =
     are-both ((tells doing w).paper ++ []) (lines_told n (world_after doing w)).paper (are-both (tells doing w).paper [] (paper-lines Any doing w is) tt)
-        (later (world_after doing w))
+    (later (world_after doing w))
 
 next-paper : (keys : List Item) (w : SoloWorld) (n : ℕ) → ((v : SoloWorld) → AreLines (lines_told n v).paper)
     → AreLines (next_tells keys w (lines_told n)).paper

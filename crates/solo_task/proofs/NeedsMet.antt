@@ -14,7 +14,7 @@ use Rattle.solo_task.specs.Laws.{NeedsPrint, NeedsDisplay, ComesToEachNeed, Chan
 room-prints : (room : Bool) (hand : List (List ℕ)) (line : List ℕ) (later : Doing) (w : SoloWorld)
     → ((other : List (List ℕ)) → paper_of (needs_of other later w) ≡ other ++ (tells later w).paper)
     → paper_of ((if room then [] else PageNeeded hand ∷ []) ++ needs_of (if room then hand ++ line ∷ [] else line ∷ []) later w) ≡ hand ++ line ∷
-        (tells later w).paper
+    (tells later w).paper
 room-prints true hand line later w rest = rest (hand ++ line ∷ []) ∙ append_assoc hand (line ∷ []) (tells later w).paper
 room-prints false hand line later w rest = ap (λ lines. hand ++ lines) (rest (line ∷ []))
 
@@ -31,8 +31,8 @@ needs-print hand (Changes files later) w = needs-print hand later (with_files fi
 room-displays : (room : Bool) (hand : List (List ℕ)) (line : List ℕ) (later : Doing) (w : SoloWorld)
     → ((other : List (List ℕ)) → console_of (needs_of other later w) ≡ (tells later w).console ++ given_by later w)
     → console_of ((if room then [] else PageNeeded hand ∷ []) ++ needs_of (if room then hand ++ line ∷ [] else line ∷ []) later w) ≡ (tells later w).console
-        ++
-        given_by later w
+    ++
+    given_by later w
 room-displays true hand line later w rest = rest (hand ++ line ∷ [])
 room-displays false hand line later w rest = rest (line ∷ [])
 
@@ -48,10 +48,10 @@ needs-display hand (Changes files later) w = needs-display hand later (with_file
 
 room-comes : (room : Bool) (hand : List (List ℕ)) (line : List ℕ) (later : Doing) (w : SoloWorld)
     → (needs_of (hand ++ line ∷ []) later w ≡ (comes_to (hand ++ line ∷ []) w.files later).need ∷ needs_behind
-        (comes_to (hand ++ line ∷ []) w.files later).pause (with_files (comes_to (hand ++ line ∷ []) w.files later).files w))
+    (comes_to (hand ++ line ∷ []) w.files later).pause (with_files (comes_to (hand ++ line ∷ []) w.files later).files w))
     → let c = either room (comes_to (hand ++ line ∷ []) w.files later) (needs (PageNeeded hand) w.files (GoesOn (line ∷ []) later)) in
     (if room then [] else PageNeeded hand ∷ []) ++ needs_of (if room then hand ++ line ∷ [] else line ∷ []) later w ≡ c.need ∷ needs_behind c.pause
-        (with_files c.files w)
+    (with_files c.files w)
 room-comes true hand line later w rest = rest
 room-comes false hand line later w rest = refl
 
@@ -67,7 +67,7 @@ comes-each hand (Changes now later) w = comes-each hand later (with_files now w)
 
 room-changes : (room : Bool) (hand : List (List ℕ)) (line : List ℕ) (later : Doing) (w : SoloWorld)
     → ((tells later w).maps ≡ (comes_to (hand ++ line ∷ []) w.files later).maps ++ maps_behind (comes_to (hand ++ line ∷ []) w.files later).pause
-        (with_files (comes_to (hand ++ line ∷ []) w.files later).files w))
+    (with_files (comes_to (hand ++ line ∷ []) w.files later).files w))
     → let c = either room (comes_to (hand ++ line ∷ []) w.files later) (needs (PageNeeded hand) w.files (GoesOn (line ∷ []) later)) in
     (tells later w).maps ≡ c.maps ++ maps_behind c.pause (with_files c.files w)
 room-changes true hand line later w rest = rest
@@ -93,5 +93,5 @@ leaves-last hand (Accepts more) all = refl
 leaves-last hand (Displays line later) all = refl
 leaves-last hand (Prints line later) all =
     room-last (fits_behind hand line) (comes_to (hand ++ line ∷ []) all later) (needs (PageNeeded hand) all (GoesOn (line ∷ []) later)) all
-        (leaves-last (hand ++ line ∷ []) later all) refl
+    (leaves-last (hand ++ line ∷ []) later all) refl
 leaves-last hand (Changes now later) all = leaves-last hand later now

@@ -189,14 +189,14 @@ argument-lines : (written : Option Arg) (own : Own) (w : Shared) → Hands w →
 argument-lines None own w is = is
 argument-lines (Some a) own w is =
     elim (nat_lt (length own.outgoing) ARG_LIMIT) as
-        (λ t. MakesLines InHands (if t then simply replies.Done (record own { outgoing = own.outgoing ++ a ∷ [] }) w
+    (λ t. MakesLines InHands (if t then simply replies.Done (record own { outgoing = own.outgoing ++ a ∷ [] }) w
     else refuses own w)) [ true ↦ is | false ↦ is ]
 
 runs-lines : (deeper : Option Runner) (left : ℕ) (load : Loaded) (own : Own) (w : Shared) → RunsInLines deeper → Hands w
     → MakesLines InHands (runs deeper left load own w)
 runs-lines (Some run) left (Code code) own w all is =
     lines-then LeavesHands InHands (run code left (begins_with own.outgoing) w) (λ e. Gives (returned own e)) (all code left (begins_with own.outgoing) w is)
-        (λ e is. is)
+    (λ e is. is)
 runs-lines deeper left load own w all is = is
 
 answer-lines : (deeper : Option Runner) (call : SysCall) (own : Own) (w : Shared) → RunsInLines deeper → Hands w
@@ -229,7 +229,7 @@ step-lines : (deeper : Option Runner) (c : CodeLists) (own : Own) (w : Shared) (
 step-lines deeper c own w (Goes t) later all on is = on t own w is
 step-lines deeper c own w (Asks call asked) later all on is =
     lines-then InHands LeavesHands (answer deeper call own w) _ (answer-lines deeper call own w all is)
-        (λ a is. on (answered c asked a.reply) a.own a.shared is)
+    (λ a is. on (answered c asked a.reply) a.own a.shared is)
 step-lines deeper c own w (Stops r line ticks) later all on is = is
 step-lines deeper c own w Lacks later all on is = is
 

@@ -101,7 +101,7 @@ prints_cards-ends : (w : SoloWorld) → Ends copier (ReadsCards (with_cards (λ 
 prints_cards-ends w =
     let use_cards : List (List ℕ) → Doing = λ cards. prints_text (text cards) in
     read-ends (with_cards use_cards) w
-        (with_cards-ends use_cards (first_file w.cards) (after_cards w) (text-ends (text (first_file w.cards).cards) (after_cards w)))
+    (with_cards-ends use_cards (first_file w.cards) (after_cards w) (text-ends (text (first_file w.cards).cards) (after_cards w)))
 
 copies_cards-ends : (all : Files) (to : List ℕ) (w : SoloWorld) → Ends copier (copies_cards all to) w
 copies_cards-ends all to w =
@@ -111,7 +111,7 @@ copies_cards-ends all to w =
 copies-ends : (all : Files) (from to : List ℕ) (w : SoloWorld) → Ends copier (copies all from to) w
 copies-ends all from to w =
     either-ends (is_cards from) copier (copies_cards all to) (copies_file (fin.get all from) all to) w (copies_cards-ends all to w)
-        (copies_file-ends (fin.get all from) all to w)
+    (copies_file-ends (fin.get all from) all to w)
 
 stores_program-ends : (all : Files) (to : List ℕ) (c : Compiling) (w : SoloWorld) → Ends compiler (stores_program all to c) w
 stores_program-ends all to (compiled program) w = stores-ends compiler all to (code_file (code_of program)) w
@@ -139,7 +139,7 @@ refused-nothing (command.Copy from to) word w e = subst (λ word. Ends word (cop
     (copies-ends w.files from to w)
 refused-nothing (command.Compile from to) word w e =
     subst (λ word. Ends word (compiles_from (fin.get w.files from) w.files to) w) (same-word compiler word e)
-        (compiles-ends (fin.get w.files from) w.files to w)
+    (compiles-ends (fin.get w.files from) w.files to w)
 refused-nothing command.List word w e = inr (quiet _ w)
 refused-nothing (command.Delete name) word w e =
     subst (λ word. Ends word (does (command.Delete name) w.files) w) (same-word (codes "DELETE") word e)
@@ -208,7 +208,7 @@ room-differs false false false now w e = omega (arith, e)
 stores-differ : (all : Files) (name : List ℕ) (file : File) (w : SoloWorld) → Differs (stores copier all name file) w
 stores-differ all name file w =
     room-differs (nat_le 240 (fin.len all)) (nat_lt 4000 (length file.pages)) (nat_lt (pages_free all) (pages_held (length file.pages)))
-        (fin.insert all name file) w
+    (fin.insert all name file) w
 
 text-differs : (characters : List ℕ) (w : SoloWorld) → Differs (prints_text characters) w
 text-differs characters w e =
@@ -232,7 +232,7 @@ copies_cards-reads : (all : Files) (to : List ℕ) (w : SoloWorld) → Reads 17 
 copies_cards-reads all to w =
     either-reads (is_printer to) 17 (ReadsCards (with_cards (λ cards. prints_text (text cards)))) (stores_cards all to (fin.get all to)) w
     (λ e. absurd (with_cards-differs (λ cards. prints_text (text cards)) (first_file w.cards) (after_cards w)
-        (text-differs (text (first_file w.cards).cards) (after_cards w)) e))
+    (text-differs (text (first_file w.cards).cards) (after_cards w)) e))
     (stores_cards-reads all to (fin.get all to) w)
 
 file-reads : (kind : FileKind) (bytes : List ℕ) (w : SoloWorld) → Reads 17 (prints_file kind bytes) w
@@ -255,7 +255,7 @@ copies_file-reads (Some file) all to w =
 copies-reads : (all : Files) (from to : List ℕ) (w : SoloWorld) → Reads 17 (copies all from to) w
 copies-reads all from to w =
     either-reads (is_cards from) 17 (copies_cards all to) (copies_file (fin.get all from) all to) w (copies_cards-reads all to w)
-        (copies_file-reads (fin.get all from) all to w)
+    (copies_file-reads (fin.get all from) all to w)
 
 stores_program-reads : (all : Files) (to : List ℕ) (c : Compiling) (w : SoloWorld) → Reads 20 (stores_program all to c) w
 stores_program-reads all to (compiled program) w =
@@ -295,7 +295,7 @@ exists-reads (command.Delete name) word w e f =
     (ap first_length f ∙ long (codes "DELETE") word 19 (same-word (codes "DELETE") word e) refl)
 exists-reads (command.Rename old new) word w e f =
     becomes-reads (codes "RENAME") 19 (rename_answer (fin.get w.files old) (fin.get w.files new)) (renamed w.files old new (fin.get w.files old)) w
-        (λ d. omega (arith, d))
+    (λ d. omega (arith, d))
     (ap first_length f ∙ long (codes "RENAME") word 19 (same-word (codes "RENAME") word e) refl)
 exists-reads (command.Protect name on) word w e f =
     becomes-reads (codes "PROTECT") 20 (protect_answer (fin.get w.files name)) (protected w.files name on (fin.get w.files name)) w (λ d. omega (arith, d))

@@ -30,14 +30,14 @@ exists : (all : Files) (file : File) → fin.get all text_name ≡ Some file
 exists all file e =
     let w : SoloWorld = opening (lines_of (prints_cards_line ∷ [])) (lines_of (codes "A" ∷ [])) all in
     let P : Option File → Type 0 = λ found. with_first 1 all (stores_cards all text_name found) w
-        ≡ told_over all (codes "COPY: FILE EXISTS" ∷ codes "COPY: OK" ∷ []) (codes "A" ∷ []) in
+    ≡ told_over all (codes "COPY: FILE EXISTS" ∷ codes "COPY: OK" ∷ []) (codes "A" ∷ []) in
     subst P (sym e) refl
 
 no-text : (all : Files) → fin.get all text_name ≡ None
     → session (lines_of (codes "Copy ( Text , Printer )" ∷ [])) [] all ≡ told_over all (codes "COPY: NO FILE" ∷ []) []
 no-text all e =
     let P : Option File → Type 0 = λ found. with_first 0 all (copies_file found all (codes "PRINTER     ")) (opening [] [] all)
-        ≡ told_over all (codes "COPY: NO FILE" ∷ []) [] in
+    ≡ told_over all (codes "COPY: NO FILE" ∷ []) [] in
     subst P (sym e) refl
 
 pub card-rows : CardRows
@@ -53,7 +53,7 @@ hi : (cards : List Item) (all : Files) → program_of all hi_name ≡ Code hi_co
 unfolding effect next answered
 hi cards all e =
     let P : Loaded → Type 0 = λ load. program_told 0 all hi_name [] (opening [] cards all) load ≡ told_over all (codes "HI: TERMINATED" ∷ [])
-        (codes "HI" ∷ []) in
+    (codes "HI" ∷ []) in
     subst P (sym e) refl
 
 echo : (cards : List Item) (all : Files) → program_of all echo_name ≡ Code echo_code
@@ -63,7 +63,7 @@ unfolding effect next answered
 echo cards all e =
     let w : SoloWorld = opening (lines_of (codes "AB" ∷ codes "" ∷ codes "list" ∷ [])) cards all in
     let P : Loaded → Type 0 = λ load. program_told 3 all echo_name [] w load
-        ≡ told_over all (codes "AB" ∷ codes "" ∷ codes "list" ∷ codes "?" ∷ codes "ECHO: TERMINATED" ∷ []) [] in
+    ≡ told_over all (codes "AB" ∷ codes "" ∷ codes "list" ∷ codes "?" ∷ codes "ECHO: TERMINATED" ∷ []) [] in
     subst P (sym e) refl
 
 argument : (cards : List Item) (all : Files) → program_of all hi_name ≡ Code argument_code
@@ -71,7 +71,7 @@ argument : (cards : List Item) (all : Files) → program_of all hi_name ≡ Code
 unfolding effect next answered
 argument cards all e =
     let P : Loaded → Type 0 = λ load. program_told 0 all hi_name (arg.Int (pos 66) ∷ arg.Nil ∷ []) (opening [] cards all) load
-        ≡ told_over all (codes "HI: TERMINATED" ∷ []) (codes "B2" ∷ []) in
+    ≡ told_over all (codes "HI: TERMINATED" ∷ []) (codes "B2" ∷ []) in
     subst P (sym e) refl
 
 -- a program that is loaded so, in a world, and what is told behind it
@@ -88,8 +88,8 @@ no-argument cards all e =
     let behind : SoloWorld = opening [] cards all in
     let expected : Transcript = told_over all (codes "HI: TERMINATED" ∷ codes "HI: TERMINATED" ∷ []) (codes "?3" ∷ codes "?0" ∷ []) in
     let Second : Loaded → Type 0 = λ load.
-        changed all (and_told (command_told (runs_hi all cards_name (Code argument_code)) w)
-        (and_told (command_told (runs_hi all [] load) behind) (lines_told 0 (world_after (runs_hi all [] load) behind)))) ≡ expected in
+    changed all (and_told (command_told (runs_hi all cards_name (Code argument_code)) w)
+    (and_told (command_told (runs_hi all [] load) behind) (lines_told 0 (world_after (runs_hi all [] load) behind)))) ≡ expected in
     let First : Loaded → Type 0 = λ load. with_first 1 all (runs_hi all cards_name load) w ≡ expected in
     subst First (sym e) (subst Second (sym e) refl)
 
@@ -105,14 +105,14 @@ reads all e =
     let third : SoloWorld = opening [] [] all in
     let loaded : Doing = runs_hi all [] (Code read_code) in
     let expected : Transcript = told_over all
-        (codes "HI: TERMINATED" ∷ codes "HI: SPOILED CARD" ∷ codes "HI: TERMINATED" ∷ codes "HI: TERMINATED" ∷ [])
-        ([] ∷ codes "A" ∷ [] ∷ codes "C" ∷ codes "??" ∷ []) in
+    (codes "HI: TERMINATED" ∷ codes "HI: SPOILED CARD" ∷ codes "HI: TERMINATED" ∷ codes "HI: TERMINATED" ∷ [])
+    ([] ∷ codes "A" ∷ [] ∷ codes "C" ∷ codes "??" ∷ []) in
     let Third : Loaded → Type 0 = λ load.
-        changed all (and_told (command_told loaded first) (and_told (command_told loaded second)
-        (and_told (command_told (runs_hi all [] load) third) (lines_told 0 (world_after (runs_hi all [] load) third))))) ≡ expected in
+    changed all (and_told (command_told loaded first) (and_told (command_told loaded second)
+    (and_told (command_told (runs_hi all [] load) third) (lines_told 0 (world_after (runs_hi all [] load) third))))) ≡ expected in
     let Second : Loaded → Type 0 = λ load.
-        changed all (and_told (command_told loaded first)
-        (and_told (command_told (runs_hi all [] load) second) (lines_told 1 (world_after (runs_hi all [] load) second)))) ≡ expected in
+    changed all (and_told (command_told loaded first)
+    (and_told (command_told (runs_hi all [] load) second) (lines_told 1 (world_after (runs_hi all [] load) second)))) ≡ expected in
     let First : Loaded → Type 0 = λ load. with_first 2 all (runs_hi all [] load) first ≡ expected in
     subst First (sym e) (subst Second (sym e) (subst Third (sym e) refl))
 

@@ -119,7 +119,7 @@ one-keys (Some doing) more w n m has later =
     let same = does-same doing more w has.0 in
     rw (same.told, same.given, same.world)
     (goes-behind (command_told doing w) (lines_told n (world_after doing w)) (lines_told m (longer more (world_after doing w)))
-        (later (world_after doing w) has.1))
+    (later (world_after doing w) has.1))
 
 next-keys : (keys more : List Item) (w : SoloWorld) (n m : ℕ) → NextHasKeys keys w (LinesHaveKeys n)
     → ((v : SoloWorld) → LinesHaveKeys n v → GoesOnWith (lines_told n v) (lines_told m (longer more v)))

@@ -36,7 +36,7 @@ abbrev pub copies_file : Option File → Files → List ℕ → Doing
 copies_file None all to = no_file copier
 copies_file (Some file) all to =
     if is_printer to then prints_file file.kind (file_bytes file) else stores_file file all to
-        (fin.get all to)
+    (fin.get all to)
 
 -- ---- From the cards
 

@@ -117,7 +117,7 @@ LeavesTheLastMap =
 abbrev pub LastMapIsTheLast : Type 0
 LastMapIsTheLast =
     (keys cards : List Item) (all : Files)
-        → last_map keys cards all ≡ last_of all (session keys cards all).maps
+    → last_map keys cards all ≡ last_of all (session keys cards all).maps
 
 -- all that is told goes on with more
 pub record GoesOnWith (first all : Transcript) : Type 0 where
