@@ -5,7 +5,7 @@ use std::alloc::Global;
 /// Typed lines, and what each asks for: nothing of a blank line, and `?` of one that is no command. Behind
 /// the word of a command stand its names, and behind `=` and a program's name its arguments: `nil`, `t` and
 /// `f`, numbers and names.
-const LINES: [(&str, &str); 118] = [
+const COPIES: [(&str, &str); 31] = [
     ("", ""),
     (" ", ""),
     ("        ", ""),
@@ -37,6 +37,9 @@ const LINES: [(&str, &str); 118] = [
     ("copy(a, 12)", "?"),
     ("copy(abcdefghijkl, x)", "copy ABCDEFGHIJKL X"),
     ("copy(abcdefghijklm, x)", "?"),
+];
+
+const COMMANDS_OF_FILES: [(&str, &str); 37] = [
     ("compile(text, prog)", "compile TEXT PROG"),
     ("COMPILE ( TEXT , PROG )", "compile TEXT PROG"),
     ("compile(cards, prog)", "?"),
@@ -74,6 +77,9 @@ const LINES: [(&str, &str); 118] = [
     ("protect(cards, on)", "?"),
     ("protect(on, off)", "protect ON off"),
     ("protect", "?"),
+];
+
+const PROGRAMS: [(&str, &str); 19] = [
     ("prog", "= PROG"),
     ("  prog  ", "= PROG"),
     ("Prog9", "= PROG9"),
@@ -93,6 +99,9 @@ const LINES: [(&str, &str); 118] = [
     ("prog(-32769)", "?"),
     ("prog(99999)", "?"),
     ("prog(100000)", "?"),
+];
+
+const PROGRAMS_AND_OTHERS: [(&str, &str); 31] = [
     ("prog(-)", "?"),
     ("prog(- 1)", "?"),
     ("prog(--1)", "?"),
@@ -221,8 +230,29 @@ fn asks_for(alloc: Global, line: &str, wanted: &str) -> bool {
 }
 
 #[test]
-fn lines_ask_for_what_the_table_says(rt: HostRuntime) {
-    for (line, wanted) in LINES {
+fn copies_ask_for_what_the_table_says(rt: HostRuntime) {
+    for (line, wanted) in COPIES {
+        assert!(rt; asks_for(rt.alloc(), line, wanted), "{line}");
+    }
+}
+
+#[test]
+fn commands_of_files_ask_for_what_the_table_says(rt: HostRuntime) {
+    for (line, wanted) in COMMANDS_OF_FILES {
+        assert!(rt; asks_for(rt.alloc(), line, wanted), "{line}");
+    }
+}
+
+#[test]
+fn programs_ask_for_what_the_table_says(rt: HostRuntime) {
+    for (line, wanted) in PROGRAMS {
+        assert!(rt; asks_for(rt.alloc(), line, wanted), "{line}");
+    }
+}
+
+#[test]
+fn other_lines_ask_for_what_the_table_says(rt: HostRuntime) {
+    for (line, wanted) in PROGRAMS_AND_OTHERS {
         assert!(rt; asks_for(rt.alloc(), line, wanted), "{line}");
     }
 }
