@@ -12,7 +12,7 @@ use Rattle.network_run.specs.declared.stepped.Stepped.TheVariants.{Delayed}
 use Rattle.network_law.specs.Acts.{is_delayed}
 use Rattle.network_law.specs.Stepping.{is_again, stepped_so}
 use Rattle.core_law.specs.Core.{call, went, CoreState}
-use Rattle.core_law.proofs.WorkFalls.{answered}
+use Rattle.core_law.proofs.Acting.{answered}
 use Rattle.core_net.specs.declared.shared.Shared.{Shared}
 use Rattle.core_law.specs.Replies.{entry_of}
 use Rattle.core_net.specs.Causes.{Counts, HasCauses}
