@@ -204,6 +204,8 @@ impl<A: Area> FileArea<A> {
             ⊎ (fault ≡ DiskFault)) }
         ensures refused { IfErr result (λ fault. (fault ≡ DiskFault)
             ⊎ (A.pages self.new.area ≡ A.pages self.old.area)) }
+        ensures kept { IfErr result (λ fault. (fault ≡ DiskFault) ⊎ KeepsTable self.old self.new) }
+        ensures taken { self.new.taken ≡ self.old.taken }
         ensures sound { self.new.sound ≡ stays_sound result }
         ensures cause { FaultsOnly (A.faults self.old.area) (A.faults self.new.area) result }
     {

@@ -9,7 +9,7 @@ use Rattle.pascal_mean.specs.Predeclared.{Item, predeclared}
 use Rattle.pascal_mean.specs.Scope.{Scope, found, first_of_three, scope_of, number_named, constant_number}
 use Rattle.pascal_mean.specs.Calls.{passing_named}
 use Rattle.pascal_code.specs.Frames.{Frame, place_behind, plain_frame}
-use Rattle.pascal_code.specs.Senses.{Sense, sense, sense_among, sense_in, first_sense, names_in, number_of, constant_value}
+use Rattle.pascal_code.specs.Senses.{Sense, AreSenses, sense, sense_among, sense_in, first_sense, names_in, number_of, constant_value}
 use Rattle.pascal_code.specs.Calls.{passing_of}
 
 -- the same declaration was found, or none
@@ -43,10 +43,6 @@ first_alike None None None None (Some m) (Some s) h i j = j
 first_alike None None None None (Some m) None h i j = absurd j
 first_alike None None None None None (Some s) h i j = absurd j
 first_alike None None None None None None h i j = (0, refl)
-
--- a place of names for each scope
-abbrev pub AreSenses : Scope → (List ℕ → Sense) → Type 0
-AreSenses scope names = (x : List ℕ) → (a : ℕ) × (names x ≡ sense (scope x) a)
 
 pub names_are_senses : (own program : Frame) → AreSenses (scope_of own.items program.items) (names_in own program)
 names_are_senses own program x =

@@ -1,5 +1,5 @@
 -- How many instructions expressions have.
-use Rattle.std.proofs.Common.{◌≡◌, ℕ, ◌+◌, List, [], ◌∷◌, ◌++◌, length, arith, refl, ap, sym, ◌∙◌, length-append, Option, Some, None}
+use Rattle.std.proofs.Common.{◌≡◌, ℕ, ◌+◌, List, [], ◌∷◌, ◌++◌, length, arith, refl, ap, ◌∙◌, length-append, Option, Some, None}
 use Rattle.stack_code.specs.declared.table.Op.TheVariants as op
 use Rattle.pascal_tree.specs.declared.expression.Sign.{Sign}
 use Rattle.pascal_tree.specs.declared.expression.Sign.TheVariants as sign
@@ -9,12 +9,12 @@ use Rattle.pascal_mean.specs.Calls.{Passing, passing_named}
 use Rattle.pascal_mean.specs.Expressions.{name_in}
 use Rattle.pascal_code.specs.Instructions.{bare}
 use Rattle.pascal_mean.specs.Scope.{Scope}
-use Rattle.pascal_code.specs.Senses.{Sense, sense, Site}
+use Rattle.pascal_code.specs.Senses.{Sense, AreSenses, sense, Site}
 use Rattle.pascal_code.specs.Names.{name_code, test_code, element_code}
 use Rattle.pascal_code.specs.Calls.{passing_of, passed_code, given_arguments, call_code}
 use Rattle.pascal_code.specs.Expressions.{relation_op, adding_op, multiplying_op, sign_code, expr_code, simple_code, addends_code, term_code, multipliers_code, factor_code, index_code, arguments_code, exprs_code}
-use Rattle.pascal_code.specs.Size.{array_size, passed_size, set_size, call_size, exprs_of, sign_size, expr_size, simple_size, addends_size, term_size, multipliers_size, factor_size, index_size, arguments_size, exprs_size}
-use Rattle.pascal_code.proofs.SensesAgree.{AreSenses, passing_alike}
+use Rattle.pascal_code.specs.Size.{passed_size, sign_size, expr_size, simple_size, addends_size, term_size, multipliers_size, factor_size, index_size, arguments_size, exprs_size}
+use Rattle.pascal_code.proofs.SensesAgree.{passing_alike}
 use Rattle.pascal_code.proofs.SizesOfNames.{name_sized, test_sized, element_sized, passed_sized, call_sized}
 
 sign_sized : (s : Option (Sign × ℕ)) → length (sign_code s) ≡ sign_size s

@@ -1,5 +1,5 @@
 -- How many instructions names and calls have.
-use Rattle.std.proofs.Common.{◌≡◌, ℕ, ◌+◌, List, [], ◌∷◌, ◌++◌, length, arith, refl, ap, sym, ◌∙◌, length-append}
+use Rattle.std.proofs.Common.{◌≡◌, ℕ, List, [], ◌∷◌, length, arith, refl, ap, ◌∙◌, length-append}
 use Rattle.stack_code.specs.declared.instr.Instr.{Instr}
 use Rattle.pascal_tree.specs.Expression.{Arguments, arguments, Exprs, no_expr, next_expr}
 use Rattle.pascal_mean.specs.Means.{Means, Standard, Abs, Succ, Pred, Ord, Chr}
@@ -7,11 +7,10 @@ use Rattle.pascal_mean.specs.Means as meant
 use Rattle.pascal_mean.specs.Calls.{Passing, ByValue, ByVariable, ByArray, row_passing, passing_named}
 use Rattle.pascal_mean.specs.Expressions.{name_in}
 use Rattle.pascal_mean.specs.Scope.{Scope}
-use Rattle.pascal_code.specs.Senses.{Sense, sense, Site}
+use Rattle.pascal_code.specs.Senses.{AreSenses, sense, Site}
 use Rattle.pascal_code.specs.Names.{name_code, store_code, reference_code, test_code, element_code, store_element_code}
-use Rattle.pascal_code.specs.Calls.{standard_code, passing_of, variable_code, passed_code, given_exprs, given_arguments, variables_among, arrays_among, stores_code, call_code}
+use Rattle.pascal_code.specs.Calls.{standard_code, variable_code, passed_code, given_exprs, given_arguments, variables_among, stores_code, call_code}
 use Rattle.pascal_code.specs.Size.{name_size, store_size, reference_size, array_size, variable_size, passed_size, set_size, standard_size, call_size, exprs_of}
-use Rattle.pascal_code.proofs.SensesAgree.{AreSenses}
 
 pub name_sized : (m : Means) (a : ℕ) → length (name_code (sense m a)) ≡ name_size m
 name_sized (meant.Constant t v) a = refl

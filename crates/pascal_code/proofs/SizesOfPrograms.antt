@@ -1,14 +1,14 @@
 -- The size of a program is the number of its instructions.
-use Rattle.std.proofs.Common.{◌≡◌, ℕ, ◌+◌, List, [], ◌∷◌, ◌++◌, length, arith, refl, sym, length-append}
+use Rattle.std.proofs.Common.{◌≡◌, ℕ, ◌+◌, List, [], ◌∷◌, length, arith, refl, sym, length-append}
 use Rattle.pascal_tree.specs.Program.{Routine, Program}
 use Rattle.pascal_mean.specs.Predeclared.{Item}
 use Rattle.pascal_mean.specs.Declarations.{all_declared, routines_after, block_of, signature_of, heading_item, declared_headings, global_items}
 use Rattle.pascal_code.specs.Frames.{declared_words, plain_frame, routine_frame}
-use Rattle.pascal_code.specs.Senses.{Framed, framed_program, framed_routine, framed_after, all_framed, site_of}
+use Rattle.pascal_code.specs.Senses.{AreSenses, Framed, framed_program, framed_routine, framed_after, all_framed, site_of}
 use Rattle.pascal_code.specs.Statements.{body_code}
 use Rattle.pascal_code.specs.Code.{ending, routine_code, instrs_from, code_of}
 use Rattle.pascal_code.specs.Size.{body_size, routines_size, size}
-use Rattle.pascal_code.proofs.SensesAgree.{AreSenses, names_are_senses}
+use Rattle.pascal_code.proofs.SensesAgree.{names_are_senses}
 use Rattle.pascal_code.proofs.SizesOfStatements.{body_sized}
 
 routine_sized : (r : Framed) → AreSenses (r.declared).scope r.names → (start : ℕ)

@@ -1,5 +1,5 @@
 -- How many instructions statements and programs have.
-use Rattle.std.proofs.Common.{◌≡◌, ℕ, ◌+◌, ◌*◌, List, [], ◌∷◌, ◌++◌, length, arith, refl, ap, sym, ◌∙◌, length-append, Option, Some, None}
+use Rattle.std.proofs.Common.{◌≡◌, ℕ, ◌+◌, ◌*◌, List, [], ◌∷◌, ◌++◌, length, arith, refl, ap, ◌∙◌, length-append, Option, Some, None}
 use Rattle.stack_code.specs.declared.table.Op.TheVariants as op
 use Rattle.stack_code.specs.declared.instr.Instr.{Instr}
 use Rattle.pascal_tree.specs.declared.constant.Constant.{Constant}
@@ -9,13 +9,13 @@ use Rattle.pascal_tree.specs.Statement.{Labels, Statement, empty, assign, call, 
 use Rattle.pascal_mean.specs.Calls.{passing_named}
 use Rattle.pascal_code.specs.Instructions.{bare, tick}
 use Rattle.pascal_mean.specs.Scope.{Scope}
-use Rattle.pascal_code.specs.Senses.{sense, Site}
+use Rattle.pascal_code.specs.Senses.{AreSenses, sense, Site}
 use Rattle.pascal_code.specs.Names.{store_code, store_element_code}
 use Rattle.pascal_code.specs.Calls.{passing_of, given_arguments, call_code}
 use Rattle.pascal_code.specs.Expressions.{expr_code, index_code, arguments_code}
-use Rattle.pascal_code.specs.Statements.{load_own, store_own, jump, jump_if_false, call_statement_code, reach_op, before_op, counter_test, counter_step, label_test, more_label_tests, label_tests, label_tests_size, statement_code, body_code, sequence_code, statements_code, branch_code, branches_code}
-use Rattle.pascal_code.specs.Size.{store_size, array_size, call_statement_size, labels_size, expr_size, index_size, statement_size, body_size, sequence_size, statements_size, branch_size, branches_size}
-use Rattle.pascal_code.proofs.SensesAgree.{AreSenses, passing_alike}
+use Rattle.pascal_code.specs.Statements.{load_own, store_own, jump, jump_if_false, call_statement_code, reach_op, before_op, counter_test, counter_step, more_label_tests, label_tests, label_tests_size, statement_code, body_code, sequence_code, statements_code, branch_code, branches_code}
+use Rattle.pascal_code.specs.Size.{store_size, array_size, call_statement_size, labels_size, statement_size, body_size, sequence_size, statements_size, branch_size, branches_size}
+use Rattle.pascal_code.proofs.SensesAgree.{passing_alike}
 use Rattle.pascal_code.proofs.SizesOfNames.{store_sized, store_element_sized, call_sized, bare_call_sized}
 use Rattle.pascal_code.proofs.SizesOfExpressions.{two, expr_sized, index_sized, arguments_sized}
 

@@ -1,5 +1,5 @@
 -- The code of some whole programs, worked out by hand from the schemes, by computing alone.
-use Rattle.std.proofs.Common.{◌≡◌, ℕ, List, [], ◌∷◌, Bool, true, false, refl}
+use Rattle.std.proofs.Common.{◌≡◌, ℕ, [], ◌∷◌, Bool, true, false, refl}
 use Rattle.std.specs.Prelude.{codes}
 use Rattle.pascal_tree.specs.declared.expression.Adding.TheVariants as adding
 use Rattle.pascal_tree.specs.declared.statement.Direction.TheVariants as direction

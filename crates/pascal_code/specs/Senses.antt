@@ -1,5 +1,5 @@
 -- What names are to the code.
-use Rattle.std.specs.Prelude.{ℕ, ◌+◌, List, [], ◌∷◌, Option, Some, None, ℤ, pos, neg_ℤ, bytes_eq, if◌then◌else◌}
+use Rattle.std.specs.Prelude.{◌≡◌, ℕ, ◌+◌, List, [], ◌∷◌, Option, Some, None, ℤ, pos, neg_ℤ, bytes_eq, if◌then◌else◌}
 use Rattle.solo_base.specs.declared.interface.Procedure.{Procedure}
 use Rattle.pascal_tree.specs.declared.constant.Constant as constants
 use Rattle.pascal_tree.specs.declared.constant.Constant.TheVariants as constant
@@ -8,6 +8,7 @@ use Rattle.pascal_tree.specs.Program as tree
 use Rattle.pascal_mean.specs.Means.{Means, Owner, OfProgram, OfRoutine, Bounds, Signature, Standard}
 use Rattle.pascal_mean.specs.Means as meant
 use Rattle.pascal_mean.specs.Predeclared.{Item, predeclared}
+use Rattle.pascal_mean.specs.Scope.{Scope}
 use Rattle.pascal_mean.specs.Calls.{Passing, passing_named}
 use Rattle.pascal_mean.specs.Declarations.{Declared, declared_routine, block_of, signature_of, heading_item, declared_headings, global_items, program_itself}
 use Rattle.pascal_code.specs.Frames.{Frame, place_behind, plain_frame, routine_frame}
@@ -36,6 +37,10 @@ sense (meant.Function f) place = Function f
 sense (meant.Interface p) place = Interface p
 sense (meant.TypeName t) place = Nothing
 sense meant.Nothing place = Nothing
+
+-- each name is, to the code, what it means in a scope, with some first word
+abbrev pub AreSenses : Scope → (List ℕ → Sense) → Type 0
+AreSenses scope names = (x : List ℕ) → (a : ℕ) × (names x ≡ sense (scope x) a)
 
 -- a name by its latest declaration among some of a frame
 abbrev pub sense_among : Frame → List Item → List ℕ → Option Sense

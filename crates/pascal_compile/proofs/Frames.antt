@@ -13,9 +13,9 @@ use Rattle.pascal_mean.specs.Predeclared.{Item, predeclared}
 use Rattle.pascal_mean.specs.Scope.{Scope, scope_of, constant_number}
 use Rattle.pascal_mean.specs.Declarations.{name_list, declared_names, constant_item, variable_of, parameter_of, parameter_means, group_parameters, declared_parameters, parameters_after}
 use Rattle.pascal_code.specs.Frames.{Frame, words_of, words_in, behind_result, declared_words, plain_frame}
-use Rattle.pascal_code.specs.Senses.{Sense, sense, sense_among, sense_in, first_sense, number_of, constant_value}
+use Rattle.pascal_code.specs.Senses.{Sense, AreSenses, sense, sense_among, sense_in, first_sense, number_of, constant_value}
 use Rattle.pascal_code.specs.Senses as to_code
-use Rattle.pascal_code.proofs.SensesAgree.{AreSenses, constants_alike}
+use Rattle.pascal_code.proofs.SensesAgree.{constants_alike}
 use Rattle.pascal_compile.specs.declared.names.Names as names_type
 use Rattle.pascal_compile.specs.declared.frame.Frame as frame_type
 use Rattle.pascal_compile.specs.declared.frame.Held as held_type

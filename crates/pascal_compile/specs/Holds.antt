@@ -7,8 +7,7 @@ use Rattle.pascal_mean.specs.Scope.{Scope}
 use Rattle.pascal_mean.specs.Variables.{size_of}
 use Rattle.pascal_mean.specs.Declarations.{declared_names, declared_parameters, parameters_after, declared_headings, global_items}
 use Rattle.pascal_code.specs.Frames.{Frame, words_of, words_in, declared_words, plain_frame}
-use Rattle.pascal_code.specs.Senses.{Sense, Variable, Array, Reference, sense, sense_in, first_sense}
-use Rattle.pascal_code.proofs.SensesAgree.{AreSenses}
+use Rattle.pascal_code.specs.Senses.{Sense, AreSenses, Variable, Array, Reference, sense, sense_in, first_sense}
 use Rattle.pascal_compile.specs.declared.names.Names as names_type
 use Rattle.pascal_compile.specs.declared.frame.Frame as frame_type
 use Rattle.pascal_compile.specs.declared.frame.Held as held_type

@@ -15,7 +15,7 @@ ghost use Rattle.pascal_reading.specs.Reading.{reading, tree};
 ghost use Rattle.pascal_compile.specs.Compiling.{compiling, compiled, by_reading, by_rule, IsCodeOf, IsCodeFor, Explains};
 
 use crate::compile_fault::CompileFault;
-use crate::fault::CodeFault;
+use crate::fault::EmitFault;
 use crate::program::code_of;
 use pascal_check::{CheckFault, check};
 use pascal_read::{ParseFault, ScanFault, parse, scan};
@@ -88,8 +88,8 @@ fn compile_tree(tree: Tree) -> Result<Verified, CompileFault>
     };
     match code_of(&checked) {
         Ok(code) => Ok(verified(code)),
-        Err(CodeFault::CodeLimit) => Err(CompileFault::CodeLimit),
-        Err(CodeFault::NoMemory) => Err(CompileFault::NoMemory),
+        Err(EmitFault::CodeLimit) => Err(CompileFault::CodeLimit),
+        Err(EmitFault::NoMemory) => Err(CompileFault::NoMemory),
     }
 }
 

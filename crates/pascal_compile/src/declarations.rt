@@ -7,7 +7,7 @@ ghost use Rattle.pascal_mean.specs.Predeclared.{Item};
 ghost use Rattle.pascal_mean.specs.Scope.{Scope};
 ghost use Rattle.pascal_mean.specs.Declarations.{name_list, constant_item, declared_definitions, declared_constants, variable_of, declared_names, declared_groups, declared_variables, parameter_of, group_parameters, parameter_means, declared_parameters, parameters_after, parameter_list};
 ghost use Rattle.pascal_code.specs.Frames.{Frame as frame_meant, plain_frame};
-ghost use Rattle.pascal_code.proofs.SensesAgree.{AreSenses};
+ghost use Rattle.pascal_code.specs.Senses.{AreSenses};
 ghost use Rattle.pascal_compile.specs.Seen.{seen_owner, seen_scope};
 ghost use Rattle.pascal_compile.specs.Holds.{HoldsFrame, with_items, HeldAs, NamesLaidOut, LaidOut, ParametersLaidOut};
 

@@ -25,5 +25,5 @@ mod using_names;
 
 pub use compile_fault::CompileFault;
 pub use compiler::compile;
-pub use fault::CodeFault;
+pub use fault::EmitFault;
 pub use program::code_of;

@@ -21,7 +21,7 @@ ghost use Rattle.pascal_compile.specs.WithHeights.{AreEmitted};
 
 use crate::declarations::{declare_constants, declare_parameters, declare_variables};
 use crate::drafts::Drafts;
-use crate::fault::CodeFault;
+use crate::fault::EmitFault;
 use crate::frame::Frame;
 use crate::heights::with_heights;
 use crate::instructions::bare;
@@ -44,12 +44,12 @@ use std::alloc::Global;
 const MOST_INSTRS: usize = 8192;
 
 /// The code of a program by the schemes, or `CodeLimit` where they give more than 8,192 instructions.
-pub fn code_of(checked: &Checked) -> Result<Code, CodeFault>
+pub fn code_of(checked: &Checked) -> Result<Code, EmitFault>
     requires tree { IsTree (seen_program checked.now) }
     requires unbroken { broken (seen_program checked.now) ≡ None }
     ensures code { IfOk result (λ code. code ≡ code_of (seen_program checked.now)) }
     ensures fits { IfOk result (λ _. size (seen_program checked.now) ≤ 8192) }
-    ensures limit { result ≡ Err CodeFault.CodeLimit → 8192 < size (seen_program checked.now) }
+    ensures limit { result ≡ Err EmitFault.CodeLimit → 8192 < size (seen_program checked.now) }
 {
     let program = &checked.tree().program;
     let alloc = *program.routines.allocator();
@@ -64,17 +64,17 @@ pub fn code_of(checked: &Checked) -> Result<Code, CodeFault>
 }
 
 /// The code of a program, of which all was emitted, or `CodeLimit` where that is too much.
-fn limited(alloc: Global, drafts: &Drafts, infos: &[RoutineInfo]) -> Result<Code, CodeFault>
+fn limited(alloc: Global, drafts: &Drafts, infos: &[RoutineInfo]) -> Result<Code, EmitFault>
     requires { (p : seen.Program) × IsTree p × (broken p ≡ None) × AreEmitted p drafts.now infos.now }
     ensures code { (p : seen.Program) → IsTree p → broken p ≡ None → AreEmitted p drafts.now infos.now
         → IfOk result (λ code. code ≡ code_of p) }
     ensures fits { (p : seen.Program) → AreEmitted p drafts.now infos.now
         → IfOk result (λ _. size p ≤ 8192) }
     ensures limit { (p : seen.Program) → AreEmitted p drafts.now infos.now
-        → result ≡ Err CodeFault.CodeLimit → 8192 < size p }
+        → result ≡ Err EmitFault.CodeLimit → 8192 < size p }
 {
     if drafts.place() > MOST_INSTRS {
-        return Err(CodeFault::CodeLimit);
+        return Err(EmitFault::CodeLimit);
     }
     Ok(assembled(alloc, drafts, infos)?)
 }
@@ -198,7 +198,7 @@ fn add_routines(
     infos: &mut Vec<RoutineInfo>,
     program: &Program,
     passings: &[Vec<Passing>],
-) -> Result<(), CodeFault>
+) -> Result<(), EmitFault>
     requires tree { IsTree (seen_program program.now) }
     requires unbroken { broken (seen_program program.now) ≡ None }
     requires passings { ArePassed passings.now (seen_program program.now).routines }
@@ -209,13 +209,13 @@ fn add_routines(
         OnOk result (infos.new.items ≡ infos.old.items ++ without_heights (infos_from
         (calling_infos (all_framed p)) (framed_after 1 (global_items p) p.routines) (length drafts.old))) }
     ensures limit { let p = seen_program program.now in
-        result ≡ Err CodeFault.CodeLimit → 8192 < length
+        result ≡ Err EmitFault.CodeLimit → 8192 < length
         (drafts.old ++ instrs_from (framed_after 1 (global_items p) p.routines) (length drafts.old)) }
 {
     let mut known = global_frame(*infos.allocator(), program)?;
     for place in 0..passings.len() {
         if drafts.place() > MOST_INSTRS {
-            return Err(CodeFault::CodeLimit);
+            return Err(EmitFault::CodeLimit);
         }
         let number = place as u16 + 1;
         declare_heading(

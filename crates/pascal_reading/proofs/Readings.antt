@@ -1,5 +1,5 @@
 -- Cards are read as a tree exactly where their words are its spelling, and as an error exactly at its place.
-use Rattle.std.proofs.Common.{◌≡◌, ℕ, List, Ok, Err, refl, sym, ap, subst, ◌∙◌}
+use Rattle.std.proofs.Common.{◌≡◌, ℕ, List, Result, Ok, Err, refl, sym, ap, subst, ◌∙◌}
 use Rattle.solo_base.specs.LineList.{AreLines}
 use Rattle.pascal_tree.specs.Word.{Spot, AreWords}
 use Rattle.pascal_tree.specs.Program.{Program}
@@ -8,11 +8,12 @@ use Rattle.pascal_tree.specs.SpellProgram.{spelled}
 use Rattle.pascal_tree.proofs.UniqueProgram.{unique_program}
 use Rattle.pascal_read.specs.ErrorPlace.{ErrorPlace, EndAtTheEnd}
 use Rattle.pascal_read.specs.ParseFirst.{first_line}
-use Rattle.pascal_read.specs.ParseWants.{Outcome, done, stuck, run, report, stuck_line, program_wants}
+use Rattle.pascal_read.specs.ParseWants.{Outcome, run, report, stuck_line, program_wants}
 use Rattle.pascal_read.specs.Scan.{Words, words}
-use Rattle.pascal_reading.specs.Reading.{Reading, tree, bad_word, syntax_error, read_as, reading_of, reading}
-use Rattle.pascal_read.proofs.ParseSpellsBack.{read_whole}
-use Rattle.pascal_read.proofs.ParsePlace.{program_sound, tree_spells, tree_keeps, stuck_is_error_place}
+use Rattle.pascal_reading.specs.Parts.{PartsOf}
+use Rattle.pascal_reading.specs.Reading.{Reading, tree, bad_word, syntax_error, parts_of, read_as, reading_of, reading}
+use Rattle.pascal_reading.proofs.PartsMade.{IsToldBy, parts_tell, program_levels, program_spells, program_keeps}
+use Rattle.pascal_read.proofs.ParsePlace.{stuck_is_error_place}
 use Rattle.pascal_read.proofs.ParseOnePlace.{no_tree, one_place}
 use Rattle.pascal_read.proofs.WordsKeep.{AreKept, words_are_kept}
 
@@ -22,19 +23,19 @@ Tells tokens (tree t) = (spelled t ≡ tokens) × IsTree t
 Tells tokens (bad_word line) = ⊥
 Tells tokens (syntax_error line) = ErrorPlace tokens line
 
-tells_by : (tokens : List Spot) → AreWords tokens → EndAtTheEnd tokens → (o : Outcome) (r : run tokens program_wants ≡ o) → Tells tokens (read_as tokens o r)
+tells_by : (tokens : List Spot) → AreWords tokens → EndAtTheEnd tokens → (o : Outcome) (found : Result (PartsOf program_wants) (List Spot))
+    → run tokens program_wants ≡ o → IsToldBy program_wants tokens o found → Tells tokens (read_as found)
 unfolding report
-tells_by tokens w e done r =
-    let parts = read_whole tokens program_wants program_sound r in
-    (tree_spells tokens parts, tree_keeps tokens parts w)
-tells_by tokens w e (stuck left) r = stuck_is_error_place tokens (first_line left) w e (ap stuck_line r)
+tells_by tokens w e o (Ok p) r told = (program_spells p tokens told, program_keeps p tokens told w)
+tells_by tokens w e o (Err left) r told = stuck_is_error_place tokens (first_line left) w e (ap stuck_line (r ∙ told))
 
 tells : (tokens : List Spot) → AreWords tokens → EndAtTheEnd tokens → Tells tokens (reading_of (Ok tokens))
-tells tokens w e = tells_by tokens w e (run tokens program_wants) refl
+tells tokens w e =
+    tells_by tokens w e (run tokens program_wants) (parts_of tokens program_wants) refl (parts_tell tokens program_wants program_levels)
 
-not_bad : (tokens : List Spot) (line : ℕ) (o : Outcome) (r : run tokens program_wants ≡ o) → read_as tokens o r ≡ bad_word line → ⊥
-not_bad tokens line done r e = cc
-not_bad tokens line (stuck left) r e = cc
+not_bad : (line : ℕ) (found : Result (PartsOf program_wants) (List Spot)) → read_as found ≡ bad_word line → ⊥
+not_bad line (Ok p) e = cc
+not_bad line (Err left) e = cc
 
 tree_told : (w : Words) (t : Program) → AreKept w → reading_of w ≡ tree t → (w ≡ Ok (spelled t)) × IsTree t
 tree_told (Ok tokens) t k e =
@@ -59,7 +60,7 @@ same_place tokens (bad_word other) line f p = absurd f
 same_place tokens (syntax_error other) line f p = ap syntax_error (one_place tokens other line f p)
 
 bad_told : (w : Words) (line : ℕ) → reading_of w ≡ bad_word line → w ≡ Err line
-bad_told (Ok tokens) line e = absurd (not_bad tokens line (run tokens program_wants) refl e)
+bad_told (Ok tokens) line e = absurd (not_bad line (parts_of tokens program_wants) e)
 bad_told (Err other) line e = let same : other ≡ line = cc in ap Err same
 
 pub read_tree : (cards : List (List ℕ)) (t : Program) → AreLines cards → reading cards ≡ tree t → (words cards ≡ Ok (spelled t)) × IsTree t

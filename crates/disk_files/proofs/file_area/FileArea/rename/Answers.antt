@@ -93,3 +93,6 @@ returns-clause-place g c = λ pages told.
       subst (IsRenamed c.self.inside.entries c.rename_file-answer.new.entries c.in-Some.place) c.bytes-3.ensures.bytes renamed,
     ))
     (c.rename_file-answer.ensures.renamed pages c.self.inside.map told_inside laid)
+
+pub returns-clause-kept : goal.returns-clause-kept
+returns-clause-kept g c = if_err c.rename_file-answer.result _ _ (λ fault. inl) c.rename_file-answer.ensures.fault
