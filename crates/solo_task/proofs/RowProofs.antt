@@ -1,5 +1,5 @@
 -- The sessions that were worked by hand: what is known of the files is put in, and the rest computes.
-use Rattle.std.proofs.Common.{◌≡◌, ℕ, List, [], ◌∷◌, length, Option, None, Some, refl, sym, subst}
+use Rattle.std.proofs.Common.{◌≡◌, ℕ, List, [], ◌∷◌, Option, None, Some, refl, sym, subst}
 use Rattle.std.specs.Prelude.{codes, pos}
 use Rattle.std.specs.FinMap as fin
 use Rattle.solo_base.specs.declared.item.Item.{Item}
