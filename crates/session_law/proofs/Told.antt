@@ -2,8 +2,10 @@
 use Rattle.std.proofs.Common.{◌≡◌, ℕ, ◌≤◌, List, [], ◌∷◌, ◌++◌, length, Option, Some, refl, sym, ◌∙◌, ap, subst, arith, append_assoc}
 use Rattle.std.proofs.lemmas.List.{append-nil}
 use Rattle.solo_base.specs.Text.{text}
+use Rattle.solo_base.specs.declared.item.Item.{Item}
 use Rattle.solo_base.specs.declared.outcome.Outcome.TheVariants as outcome
 use Rattle.solo_devices.specs.PrinterUnit.{Gains}
+use Rattle.page_codec.specs.Items.{AreItems}
 use Rattle.disk_layout.specs.Files.{Files}
 use Rattle.place_law.specs.Ending.{HasEndedSo}
 use Rattle.solo_needs.specs.Needs.{Given, OfLine, OfCards, OfTyped, OfNothing, Need}
@@ -16,13 +18,15 @@ use Rattle.solo_task.specs.WholeRows.{no_files, stored_lines, stored_cards, stor
 use Rattle.solo_task.proofs.NeedsMet.{leaves-last}
 use Rattle.solo_task.proofs.Sessions.{last-append, last-is-last}
 use Rattle.solo_task.proofs.StoredRow.{stored-rows}
+use Rattle.solo_law.specs.Work.{Plan, PlanFits}
 use Rattle.solo_law.specs.Solo.{table}
 use Rattle.solo_law.specs.Told.{needs, on_console, on_paper, lines_of_all, begun}
 use Rattle.solo_law.proofs.Reached.{reached-holds}
 use Rattle.solo_law.proofs.Shown.{lines-append}
 use Rattle.solo_law.proofs.Sinks.{text-append}
 use Rattle.session_law.specs.Plans.{FilesAndPause, at_rest, piece, behind, behind_pieces, session_plan, maps_passed, all_needs, NeedsAreTheSession}
-use Rattle.session_law.specs.Tells.{EveryInterleavingTells, StoredSessionRuns}
+use Rattle.session_law.specs.Tells.{EveryInterleavingTells, OpeningsAreSound, StoredSessionRuns}
+use Rattle.session_law.proofs.Fitting.{plans-fit}
 use Rattle.session_law.proofs.Lines.{lines-show, lines-print}
 use Rattle.session_law.proofs.Pieces.{world, needs_ahead, maps_ahead, one-step, along, nothing-ahead}
 
@@ -130,6 +134,20 @@ tells-so cards keys files devices s reached cards_told keys_told work_told =
           ∙ append-nil (maps_passed givens (at_rest files))))
           ∙ sym (last-is-last keys cards files);
     }
+
+-- ---- the premise
+same-items : (a b : List Item) → Some a ≡ Some b → a ≡ b
+same-items a b e = cc
+
+same-plan : (a b : Plan) → Some a ≡ Some b → a ≡ b
+same-plan a b e = cc
+
+pub openings-sound : OpeningsAreSound
+openings-sound cards keys files paper console cards_are keys_are = record {
+  cards = λ items e. subst AreItems (same-items cards items e) cards_are;
+  keys = λ items e. subst AreItems (same-items keys items e) keys_are;
+  work = λ plan e. subst PlanFits (same-plan (session_plan files) plan e) (plans-fit files);
+}
 
 -- ---- a session that was worked by hand
 gained-all : (now : Option (List ℕ)) (lines other : List (List ℕ)) (all : Type 0) → Gains (Some []) now (text lines) all → lines ≡ other → all

@@ -1,9 +1,10 @@
 -- What a state of Solo tells of the session.
-use Rattle.std.specs.Prelude.{◌≡◌, List, [], ◌∷◌, ◌++◌, None, Some}
+use Rattle.std.specs.Prelude.{◌≡◌, Option, ℕ, List, [], ◌∷◌, ◌++◌, None, Some}
 use Rattle.solo_base.specs.Text.{text}
 use Rattle.solo_base.specs.declared.item.Item.{Item}
 use Rattle.solo_base.specs.declared.outcome.Outcome.TheVariants as outcome
 use Rattle.solo_devices.specs.PrinterUnit.{Gains}
+use Rattle.page_codec.specs.Items.{AreItems}
 use Rattle.disk_layout.specs.Files.{Files}
 use Rattle.place_law.specs.Process.{place, caused}
 use Rattle.place_law.specs.Ending.{HasEndedSo}
@@ -14,7 +15,7 @@ use Rattle.solo_task.specs.WholeRows.{no_files, stored_lines, stored_cards, stor
 use Rattle.solo_law.specs.Work.{Work}
 use Rattle.solo_law.specs.Replies.{view}
 use Rattle.solo_law.specs.JobPlaces.{job, Toils}
-use Rattle.solo_law.specs.Devices.{Devices}
+use Rattle.solo_law.specs.Devices.{Devices, AreSound}
 use Rattle.solo_law.specs.Told.{begun}
 use Rattle.solo_law.specs.Solo.{table, SoloState, IsReached}
 use Rattle.session_law.specs.Plans.{at_rest, behind_pieces, session_plan, maps_passed}
@@ -51,6 +52,21 @@ EveryInterleavingTells =
     (cards keys : List Item) (files : Files) (devices : Devices) (s : SoloState) → IsReached devices s
     → devices.cards ≡ Some cards → devices.keys ≡ Some keys → devices.work ≡ Some (session_plan files)
     → Tells cards keys files devices s
+
+-- ---- The premise
+
+-- Cards and typed lines that are items, and the plan of a session over any files, are sound.
+abbrev pub OpeningsAreSound : Type 0
+OpeningsAreSound =
+    (cards keys : List Item) (files : Files) (paper console : Option (List ℕ))
+    → AreItems cards → AreItems keys
+    → AreSound (record {
+      cards = Some cards;
+      keys = Some keys;
+      paper = paper;
+      console = console;
+      work = Some (session_plan files);
+    })
 
 -- ---- A session that was worked by hand
 

@@ -1,7 +1,7 @@
 // The laws of Solo over a session. Nothing is done here: the contracts are the laws.
 
 ghost use Rattle.session_law.specs.Plans.{PlansFit, NeedsAreTheSession};
-ghost use Rattle.session_law.specs.Tells.{EveryInterleavingTells, StoredSessionRuns};
+ghost use Rattle.session_law.specs.Tells.{EveryInterleavingTells, OpeningsAreSound, StoredSessionRuns};
 
 /// What told files make of the work is a plan whose needs fit on pages, whatever the work begins with; and
 /// where it begins with what cards and typed lines hand on, its needs are the first of the session's.
@@ -17,5 +17,6 @@ pub fn the_session_is_a_plan()
 /// the session.
 pub fn every_interleaving_tells_the_session()
     ensures session { EveryInterleavingTells }
+    ensures premise { OpeningsAreSound }
     ensures stored { StoredSessionRuns }
 {}

@@ -9,15 +9,18 @@ use Rattle.disk_files.specs.Answers.{delete_answer, rename_answer, protect_answe
 use Rattle.disk_files.specs.declared.fault.FileFault.{FileFault}
 use Rattle.disk_files.specs.declared.fault.FileFault.TheVariants.{DiskFull}
 use Rattle.disk_system.specs.Calls.{room_answer}
+use Rattle.disk_system.specs.Contents.{text_file, cut}
+use Rattle.solo_base.specs.Text.{text}
+use Rattle.pascal_compile.specs.Compiling.{Compiling, syntax_error, semantic_error, code_limit}
 use Rattle.program_task.specs.OpenFiles.{pages_free}
 use Rattle.solo_task.specs.Answers.{Doing, becomes}
-use Rattle.solo_task.specs.Copying.{copier, copies_file, stores_file}
-use Rattle.solo_task.specs.Compiles.{compiles_from, compiles_to}
+use Rattle.solo_task.specs.Copying.{copier, stores_cards, copies_file, stores_file}
+use Rattle.solo_task.specs.Compiles.{stores_program, compiles_from, compiles_to}
 use Rattle.solo_task.specs.Doing.{renamed, protected}
-use Rattle.solo_task.specs.Session.{Transcript, and_told, changed, command_told, world_after, lines_told, opening}
-use Rattle.solo_task.specs.Rows.{told_over, text_name}
+use Rattle.solo_task.specs.Session.{SoloWorld, Transcript, and_told, changed, command_told, world_after, lines_told, opening, session}
+use Rattle.solo_task.specs.Rows.{told_over, text_name, lines_of}
 use Rattle.solo_task.specs.WholeRows.{prog_file}
-use Rattle.solo_task.specs.CatalogueRows.{file_with, TextIs, ProgIs, BadWordIn, CatalogueRows, FileCopyRows}
+use Rattle.solo_task.specs.CatalogueRows.{file_with, TextIs, ProgIs, DiskIsFull, BadWordIn, CompilesSo, CatalogueRows, FileCopyRows}
 
 -- what a command alone tells over files
 abbrev tells : Files → Doing → Transcript
@@ -96,6 +99,28 @@ module _ (all : Files) where
   in-room file answer expected e is =
       subst (λ answer. tells all (becomes copier answer (fin.insert all prog_file (with_protection file false))) ≡ expected) (sym e) is
 
+-- a text is compiled to what it comes to
+comes-so : (comes : Compiling) (answer : List ℕ) → ((all : Files) → tells all (stores_program all prog_file comes) ≡ refused all (codes "COMPILE: " ++ answer))
+    → CompilesSo comes answer
+comes-so comes answer is all protected pages e f c =
+    compiled_to all (file_with Ascii protected pages) None (refused all (codes "COMPILE: " ++ answer)) e f
+    (subst (λ comes. tells all (stores_program all prog_file comes) ≡ refused all (codes "COMPILE: " ++ answer)) (sym c) (is all))
+
+cards-taken : (all : Files) → TextIs all None → DiskIsFull all 1
+    → session (lines_of (codes "copy(cards, text)" ∷ codes "copy(cards, printer)" ∷ [])) (lines_of (codes "A" ∷ codes "#END" ∷ codes "B" ∷ [])) all
+    ≡ told_over all (codes "COPY: DISK FULL" ∷ codes "COPY: OK" ∷ []) (codes "B" ∷ [])
+unfolding cut
+cards-taken all e full =
+    let expected = told_over all (codes "COPY: DISK FULL" ∷ codes "COPY: OK" ∷ []) (codes "B" ∷ []) in
+    let next = lines_of (codes "copy(cards, printer)" ∷ []) in
+    let from : Doing → SoloWorld → Transcript = λ doing w. changed all (and_told (command_told doing w) (lines_told 1 (world_after doing w))) in
+    let file : File = text_file (text (codes "A" ∷ [])) in
+    let P : Option File → Type 0 = λ found.
+    from (stores_cards all text_name found) (opening next (lines_of (codes "A" ∷ codes "#END" ∷ codes "B" ∷ [])) all) ≡ expected in
+    let Q : Result (Unit {0}) FileFault → Type 0 = λ answer.
+    from (becomes copier answer (fin.insert all text_name file)) (opening next (lines_of (codes "B" ∷ [])) all) ≡ expected in
+    subst P (sym e) (subst Q (sym full) refl)
+
 -- a text is compiled to the line of a bad word
 bad-word : (line : ℕ) (characters : List ℕ) → ((all : Files) (protected : Bool)
     → tells all (compiles_to (file_with Ascii protected ((characters ++ 25 ∷ 0 ∷ []) ∷ [])) all prog_file None)
@@ -119,6 +144,12 @@ copy-rows = record {
       compiled_to all (file_with SeqCode protected pages) (Some other) (refused all (codes "COMPILE: FILE EXISTS")) e f refl;
   compile_no_text = λ all protected pages e f.
       compiled_to all (file_with SeqCode protected pages) None (refused all (codes "COMPILE: NOT TEXT")) e f refl;
+  syntax = comes-so (syntax_error 3) (codes "SYNTAX ERROR IN LINE " ++ decimal 3) (λ all. refl);
+  semantic = comes-so (semantic_error 4 2) (codes "SEMANTIC ERROR " ++ decimal 2 ++ codes " IN LINE " ++ decimal 4) (λ all. refl);
+  code_limit = comes-so code_limit (codes "CODE LIMIT") (λ all. refl);
+  printed = λ all protected e. one-file all (λ found. copies_file found all printer_name)
+      (Some (file_with Ascii protected ((65 ∷ 7 ∷ 10 ∷ 66 ∷ 25 ∷ 0 ∷ []) ∷ []))) (told_over all (codes "COPY: OK" ∷ []) (codes "A?" ∷ codes "B" ∷ [])) e refl;
+  cards_taken = cards-taken;
   bad_line = bad-word 2 (32 ∷ 10 ∷ 7 ∷ []) (λ all protected. refl);
   bad_word_before = bad-word 1 (63 ∷ 10 ∷ 7 ∷ []) (λ all protected. refl);
   in_comment = bad-word 2 (34 ∷ 10 ∷ 7 ∷ 34 ∷ []) (λ all protected. refl);

@@ -7,8 +7,10 @@ use Rattle.disk_layout.specs.declared.kind.FileKind.TheVariants.{Ascii, SeqCode}
 use Rattle.disk_layout.specs.Files.{File, Files}
 use Rattle.disk_files.specs.declared.fault.FileFault.TheVariants.{DiskFull}
 use Rattle.disk_system.specs.Calls.{room_answer}
+use Rattle.disk_system.specs.Contents.{file_bytes, text_in}
+use Rattle.pascal_compile.specs.Compiling.{Compiling, syntax_error, semantic_error, code_limit}
 use Rattle.program_task.specs.OpenFiles.{pages_free}
-use Rattle.solo_task.specs.Compiles.{bad_line_from}
+use Rattle.solo_task.specs.Compiles.{bad_line_from, compiling_text}
 use Rattle.solo_task.specs.Session.{session}
 use Rattle.solo_task.specs.Rows.{lines_of, told_over, text_name}
 use Rattle.solo_task.specs.WholeRows.{prog_file}
@@ -77,6 +79,14 @@ BadWordIn line characters =
     → TextIs all (Some (file_with Ascii protected ((characters ++ 25 ∷ 0 ∷ []) ∷ []))) → ProgIs all None
     → Refuses (codes "compile(text, prog)") all (codes "COMPILE: BAD WORD IN LINE " ++ decimal line)
 
+-- a text that comes to this is compiled to this answer
+abbrev pub CompilesSo : Compiling → List ℕ → Type 0
+CompilesSo comes answer =
+    (all : Files) (protected : Bool) (pages : List (List ℕ))
+    → TextIs all (Some (file_with Ascii protected pages)) → ProgIs all None
+    → compiling_text (text_in (file_bytes (file_with Ascii protected pages))) ≡ comes
+    → Refuses (codes "compile(text, prog)") all (codes "COMPILE: " ++ answer)
+
 pub record FileCopyRows : Type 0 where
   -- the kind is copied, and protection isn't
   pub copies : (all : Files) (kind : FileKind) (protected : Bool) (pages : List (List ℕ))
@@ -101,6 +111,20 @@ pub record FileCopyRows : Type 0 where
   pub compile_no_text : (all : Files) (protected : Bool) (pages : List (List ℕ))
       → TextIs all (Some (file_with SeqCode protected pages)) → ProgIs all None
       → Refuses (codes "compile(text, prog)") all (codes "COMPILE: NOT TEXT")
+  pub syntax : CompilesSo (syntax_error 3) (codes "SYNTAX ERROR IN LINE " ++ decimal 3)
+  pub semantic : CompilesSo (semantic_error 4 2)
+      (codes "SEMANTIC ERROR " ++ decimal 2 ++ codes " IN LINE " ++ decimal 4)
+  pub code_limit : CompilesSo code_limit (codes "CODE LIMIT")
+  -- a text on the printer: what doesn't print is `?`, and what its last line feed doesn't end is a line too
+  pub printed : (all : Files) (protected : Bool)
+      → TextIs all (Some (file_with Ascii protected ((65 ∷ 7 ∷ 10 ∷ 66 ∷ 25 ∷ 0 ∷ []) ∷ [])))
+      → session (lines_of (codes "copy(text, printer)" ∷ [])) [] all
+      ≡ told_over all (codes "COPY: OK" ∷ []) (codes "A?" ∷ codes "B" ∷ [])
+  -- where there is no room for the text of a card file, the next copy has the next one
+  pub cards_taken : (all : Files) → TextIs all None → DiskIsFull all 1
+      → session (lines_of (codes "copy(cards, text)" ∷ codes "copy(cards, printer)" ∷ []))
+      (lines_of (codes "A" ∷ codes "#END" ∷ codes "B" ∷ [])) all
+      ≡ told_over all (codes "COPY: DISK FULL" ∷ codes "COPY: OK" ∷ []) (codes "B" ∷ [])
   -- a character that doesn't print, in the second line; the same behind a bad word, and in a comment
   pub bad_line : BadWordIn 2 (32 ∷ 10 ∷ 7 ∷ [])
   pub bad_word_before : BadWordIn 1 (63 ∷ 10 ∷ 7 ∷ [])
