@@ -1,5 +1,5 @@
 -- The lines that a job prints.
-use Rattle.std.specs.Prelude.{ℕ, List, [], ◌∷◌, ◌++◌, length, Option, Some, None, codes, if◌then◌else◌}
+use Rattle.std.specs.Prelude.{ℕ, Bool, true, false, List, [], ◌∷◌, ◌++◌, length, Option, Some, None, codes, if◌then◌else◌}
 use Rattle.std.specs.Fmt.{decimal}
 use Rattle.solo_base.specs.Blanks.{trimmed}
 use Rattle.deck_format.specs.Jobs.{card_count}
@@ -59,6 +59,13 @@ source_loaded name (Code code) = RunsCode code
 source_loaded name NoFile = Says (no_file_line name)
 source_loaded name NotCode = Says (not_code_line name)
 source_loaded name (BadCode at) = Says (bad_code_line name at)
+
+-- whether a job runs the code of a file
+abbrev pub is_of_file : Job → Bool
+is_of_file (Listing name cards fault) = false
+is_of_file (Pascal name limit program input fault) = false
+is_of_file (Run name file input fault) = true
+is_of_file (Skipped count) = false
 
 -- what the file of each name is loaded as
 abbrev pub Loads : Type 0

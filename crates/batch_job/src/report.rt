@@ -1,8 +1,9 @@
-ghost use Rattle.std.specs.Prelude.{◌≡◌, ◌+◌, ◌≤◌, ◌++◌, ◌∷◌, ℕ, List, [], length, true, false, IfOk, OnOk};
+ghost use Rattle.std.specs.Prelude.{◌≡◌, ◌+◌, ◌≤◌, ◌++◌, ◌∷◌, ℕ, List, [], length, true, false, is_some, unwrap_or, IfOk, OnOk};
 ghost use Rattle.pascal_compile.specs.Compiling.{compiling};
 ghost use Rattle.program_lines.specs.Task.{Task, source_of, new_task, task_lines, with_more};
 ghost use Rattle.program_lines.specs.Standing.{StandsFor, IsSpent};
-ghost use Rattle.batch_job.specs.Report.{report, heading, listed_line, fault_line, listing_end, skipped_line, kind_text, run_lines, file_limit, source_loaded};
+ghost use Rattle.disk_system.specs.declared.loading.Loaded.TheVariants.{NoFile};
+ghost use Rattle.batch_job.specs.Report.{report, is_of_file, heading, listed_line, fault_line, listing_end, skipped_line, kind_text, run_lines, file_limit, source_loaded};
 ghost use Rattle.batch_job.specs.LinesSoFar.{fault_so_far};
 ghost use Rattle.batch_job.specs.Places.{Made, is_run};
 ghost use Rattle.solo_base.specs.Blanks.{trimmed};
@@ -16,9 +17,10 @@ use std::alloc::Global;
 /// A program of a file may take so many ticks.
 const FILE_LIMIT: u32 = 10_000;
 
-/// The lines that the job prints, whose file was loaded so if it is a job of a file.
-pub fn run_job(alloc: Global, job: Job, load: Loaded) -> Result<LineList, NoMemory>
-    ensures { IfOk result (λ lines. lines ≡ report (λ file. load) job) }
+/// The lines that the job prints. What its file was loaded as is there exactly for a job of a file.
+pub fn run_job(alloc: Global, job: Job, load: Option<Loaded>) -> Result<LineList, NoMemory>
+    requires { is_some load ≡ is_of_file job }
+    ensures { IfOk result (λ lines. lines ≡ report (λ file. unwrap_or load NoFile) job) }
 {
     let mut lines = LineList::new(alloc);
     match &job {
@@ -40,7 +42,7 @@ pub fn run_job(alloc: Global, job: Job, load: Loaded) -> Result<LineList, NoMemo
             fault,
         } => {
             lines.push(&heading(name))?;
-            push_loaded(&mut lines, alloc, name, load, input, *fault)?;
+            push_loaded(&mut lines, alloc, name, load.unwrap(), input, *fault)?;
         }
         Job::Skipped { count } => lines.push(&skipped_line(*count))?,
     }

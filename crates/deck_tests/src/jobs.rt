@@ -1,4 +1,5 @@
-ghost use Rattle.std.specs.Prelude.{◌≡◌, false, OnOk};
+ghost use Rattle.std.specs.Prelude.{◌≡◌, false, is_some, IfOk, OnOk};
+ghost use Rattle.batch_job.specs.Report.{is_of_file};
 
 use batch_job::{JobStream, run_job};
 use deck_format::{CardFault, CardFaultKind, Job};
@@ -10,13 +11,17 @@ use std::alloc::Global;
 use std::process::Abort;
 use std::test::Fail;
 
-/// The lines that the job prints, each with a bar behind it.
-fn printed(alloc: Global, job: Job) -> Result<Vec<u8>, Fail> {
-    printed_with(alloc, job, Loaded::NoFile)
+/// The lines that the job prints, which runs no file, each with a bar behind it.
+fn printed(alloc: Global, job: Job) -> Result<Vec<u8>, Fail>
+    requires { is_of_file job ≡ false }
+{
+    printed_with(alloc, job, None)
 }
 
-/// The same of a job whose file was loaded so.
-fn printed_with(alloc: Global, job: Job, load: Loaded) -> Result<Vec<u8>, Fail> {
+/// The same of a job whose file was loaded so, if it is one of a file.
+fn printed_with(alloc: Global, job: Job, load: Option<Loaded>) -> Result<Vec<u8>, Fail>
+    requires { is_some load ≡ is_of_file job }
+{
     let lines = run_job(alloc, job, load)?;
     let mut text = Vec::new(alloc);
     for place in 0..lines.len() {
@@ -27,7 +32,9 @@ fn printed_with(alloc: Global, job: Job, load: Loaded) -> Result<Vec<u8>, Fail> 
 }
 
 /// A list of two cards, the second one blank.
-fn listing(alloc: Global, fault: Option<CardFault>) -> Result<Job, Fail> {
+fn listing(alloc: Global, fault: Option<CardFault>) -> Result<Job, Fail>
+    ensures { IfOk result (λ job. is_of_file job ≡ false) }
+{
     let mut cards = LineList::new(alloc);
     cards.push(&Line::of(b"  HELLO").ok_or("a line")?)?;
     cards.push(&Line::new())?;
@@ -87,7 +94,7 @@ fn other_jobs_are_printed(rt: HostRuntime) -> Result<(), Fail> {
             in_input: true,
         }),
     };
-    let no_file = printed(alloc, run)?;
+    let no_file = printed_with(alloc, run, Some(Loaded::NoFile))?;
     assert_eq!(rt;
         no_file.as_slice(),
         b"JOB ABCDEFGHIJKL|ABCDEFGHIJKL: NO FILE|ABCDEFGHIJKL: SPOILED CARD 7|".as_slice()
@@ -98,7 +105,7 @@ fn other_jobs_are_printed(rt: HostRuntime) -> Result<(), Fail> {
         input: LineList::new(alloc),
         fault: None,
     };
-    let not_code = printed_with(alloc, run, Loaded::NotCode)?;
+    let not_code = printed_with(alloc, run, Some(Loaded::NotCode))?;
     assert_eq!(rt;
         not_code.as_slice(),
         b"JOB ABCDEFGHIJKL|ABCDEFGHIJKL: NOT CODE|".as_slice()
