@@ -1,6 +1,6 @@
 -- What the calls of the file area make of the rows of files.
-use Rattle.std.proofs.Common.{◌≡◌, ℕ, zero, suc, ◌+◌, ◌-◌, ◌<◌, ◌≤◌, ◌⊎◌, inl, inr, ℤ, pos, negsuc, Bool, true, false, ◌&&◌, ◌||◌, List, [], ◌∷◌, length, Option, Some, None, Result, Ok, Err, refl, sym, ◌∙◌, ap, subst, arith}
-use Rattle.std.specs.Prelude.{nat_le, nat_lt, slice_index_or, slice_get, ◌==◌, not, OnOk, IfOk, IfErr, if◌then◌else◌}
+use Rattle.std.proofs.Common.{◌≡◌, ℕ, zero, suc, ◌+◌, ◌-◌, ◌⊎◌, inl, inr, ℤ, pos, negsuc, Bool, true, false, ◌&&◌, ◌||◌, List, [], length, Option, Some, None, Result, Ok, Err, refl, sym, ◌∙◌, ap, subst, arith}
+use Rattle.std.specs.Prelude.{nat_le, nat_lt, slice_index_or, ◌==◌, not, OnOk, IfOk, IfErr, if◌then◌else◌}
 use Rattle.std.specs.Option.{option_map}
 use Rattle.std.specs.FinMap as fin
 use Rattle.std.proofs.lemmas.Bool.{cases_lt, lt-ltb, le-leb, le-ltb, lt-leb, eq-eqb, ne_eqb}
@@ -13,8 +13,7 @@ use Rattle.disk_files.specs.declared.fault.FileFault.{FileFault}
 use Rattle.disk_files.specs.declared.fault.FileFault.TheVariants.{NotSolo, NoFile, Exists, Protected, CatalogFull, DiskFull, FileFull, PageRange, DiskFault, NoMemory}
 use Rattle.disk_files.specs.declared.fault.FileInfo.{FileInfo}
 use Rattle.disk_files.specs.Answers.{Holds, info_of, read_answer, read_answer_of, replace_answer, append_answer, pages_needed}
-use Rattle.program_task.specs.Task.{Task}
-use Rattle.program_task.specs.Program.{Own, Shared, Answer, simply, refuses}
+use Rattle.program_task.specs.Program.{Own, Shared, simply, refuses}
 use Rattle.program_task.specs.OpenFiles.{page_numbered, gets_page, of_found, gets, can_grow, file_if, put_in, changes, puts, pages_free}
 use Rattle.prog_stack.specs.Answers.{Hand, sharing, Answered, ComesTo, Simply, Changing, refused_by}
 use Rattle.prog_stack.specs.FileCalls.{OfFile, PutsSo, PutInto, page_number}

@@ -1,10 +1,11 @@
 -- What the rows of arguments and of open files come to.
-use Rattle.std.proofs.Common.{◌≡◌, ℕ, ◌+◌, ◌<◌, ◌≤◌, ℤ, Bool, true, false, List, [], ◌∷◌, length, drop, Option, Some, None, Result, Ok, Err, refl, sym, ◌∙◌, ap, subst, arith}
+use Rattle.std.proofs.Common.{◌≡◌, ℕ, ◌+◌, ◌≤◌, ℤ, true, false, List, [], ◌∷◌, length, drop, Option, Some, None, Result, Ok, Err, refl, sym, ◌∙◌, ap, subst}
 use Rattle.std.specs.Prelude.{IfOk}
 use Rattle.std.specs.List.{slice_get}
 use Rattle.std.specs.FinMap as fin
 use Rattle.std.proofs.lemmas.List.{drop_all, drop_more}
 use Rattle.std.proofs.lemmas.Option.{slice_get_within, get_or_from_slice_get}
+use Rattle.solo_base.specs.Arguments.{word_name}
 use Rattle.solo_base.specs.declared.system_call.Arg.{Arg}
 use Rattle.solo_base.specs.declared.system_call.SysCall.{SysCall}
 use Rattle.solo_base.specs.declared.system_call.SysCall.TheVariants as calls
@@ -20,7 +21,7 @@ use Rattle.program_task.specs.Task.{Task}
 use Rattle.program_task.specs.Program.{Own, Shared, Answer, Runner, simply, refuses}
 use Rattle.program_task.specs.Arguments.{argument, next_argument, later_arguments, reads_argument}
 use Rattle.program_task.specs.OpenFiles.{found_file, open_as, with_open, opens_found, opens, closes, of_found, of_open, puts}
-use Rattle.prog_stack.specs.Answers.{Hand, sharing, AnswersAlone, AnswersBy, AnswersCall, ComesTo, Simply, is_device, IsOwn, is_free, opened_name}
+use Rattle.prog_stack.specs.Answers.{Hand, sharing, AnswersAlone, AnswersAnywhere, AnswersBy, AnswersCall, ComesAnywhere, ComesTo, OpensSo, Simply, is_device, IsOwn, is_free, opened_name, uses_area}
 use Rattle.prog_stack.specs.FileCalls.{OfFile, PutsSo}
 
 -- ---- Numbers of open files
@@ -103,6 +104,23 @@ own_no_device (calls.Lookup name) own = refl
 own_no_device calls.ReadArg own = refl
 own_no_device (calls.WriteArg tag number name) own = refl
 own_no_device (calls.Run name left) own = absurd own
+
+-- ---- Over every area
+
+-- a call that uses the area, and leaves what the program has whatever its reply is
+pub by_area : (call : SysCall) (own : Own) (result : Result SysReply FileFault) → uses_area call ≡ true
+    → ((reply : SysReply) → AnswersAnywhere call own reply own) → ComesAnywhere call own result own
+by_area call own (Ok reply) uses answers = answers reply
+by_area call own (Err fault) uses answers = uses
+
+pub opened_so : (f : ℤ) (name : Option (List ℕ)) (found : List ℕ) (own own_now : Own) → name ≡ Some found → is_free (open_as own f) ≡ true
+    → own_now ≡ with_open own f (Some found) → OpensSo f name own (replies.Opened true) own_now
+opened_so f name found own own_now is free opened = (found, is, free, opened)
+
+pub opens_anywhere : (f : ℤ) (name : List ℤ) (own own_now : Own) (result : Result SysReply FileFault)
+    → IfOk result (λ reply. OpensSo f (word_name name) own reply own_now) → ComesAnywhere (calls.Open f name) own result own_now
+opens_anywhere f name own own_now (Ok reply) opens = opens
+opens_anywhere f name own own_now (Err fault) opens = refl
 
 -- no fault of the area, whatever was answered
 pub only_ok : {T : Type 0} (before now : ℕ) (x : T) → FaultsOnly before now (Ok x) → FaultsOnly {T = Unit {0}} before now (Ok tt)

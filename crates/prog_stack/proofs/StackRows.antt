@@ -1,5 +1,5 @@
 -- What RUN comes to, and what holds of the stack behind a call.
-use Rattle.std.proofs.Common.{◌≡◌, ℕ, zero, suc, ◌+◌, ◌<◌, ◌≤◌, ℤ, pos, Bool, true, false, List, [], ◌∷◌, ◌++◌, length, reverse, Option, Some, None, refl, sym, ◌∙◌, ap, subst, inl, inr, arith}
+use Rattle.std.proofs.Common.{◌≡◌, ℕ, zero, suc, ◌+◌, ◌<◌, ◌≤◌, ℤ, Bool, true, false, List, [], ◌∷◌, ◌++◌, length, reverse, Option, Some, None, refl, sym, ◌∙◌, ap, subst, inl, inr, arith}
 use Rattle.std.specs.Prelude.{nat_le}
 use Rattle.std.proofs.lemmas.List.{reverse-append}
 use Rattle.std.proofs.lemmas.Bool.{cases_lt, lt-leb, le-leb}
@@ -21,11 +21,11 @@ use Rattle.program_task.specs.Table.{answer, runs, runs_nothing, loaded_as}
 use Rattle.program_task.specs.Run.{runner}
 use Rattle.prog_stack.specs.declared.frame.Frame.{Frame}
 use Rattle.prog_stack.specs.declared.served.Served.TheVariants as served
-use Rattle.prog_stack.specs.Answers.{Hand, sharing, Answered, ComesTo, Simply}
-use Rattle.prog_stack.specs.Programs.{begun, calling, nothing_ran}
+use Rattle.prog_stack.specs.Answers.{sharing, ComesTo, IsOwn, Simply}
+use Rattle.prog_stack.specs.Programs.{nothing_ran}
 use Rattle.prog_stack.specs.declared.served.Served.{Served}
 use Rattle.prog_stack.specs.Callers.{AreCallers, IsStack, TakesAtMost, MayPop}
-use Rattle.prog_stack.specs.Serves.{Serves, RunsCode, HasCode, Pops, PopsSo, PopsTop}
+use Rattle.prog_stack.specs.Serves.{Serves, IsNotRun, RunsCode, HasCode, Pops, PopsSo, PopsTop}
 
 -- ---- A RUN that runs nothing
 
@@ -37,12 +37,15 @@ RefusesRun size name left top below before =
 
 pub run_refused : (size : ℕ) (name : List ℤ) (left : ℕ) (top : Frame) (below : List Frame) (before after : Option (List (List ℕ))) (reply : SysReply)
     → reply ≡ nothing_ran → Fits (calls.Run name left) reply → after ≡ before → RefusesRun size name left top below before
+    → IsNotRun (calls.Run name left) size top below before
     → Serves size (calls.Run name left) top below before (served.Reply reply) (top ∷ below) after
-run_refused size name left top below before after reply is fits same refuses = (
+run_refused size name left top below before after reply is fits same refuses not_run = (
   top.own,
   refl,
   fits,
   refl,
+  (is, refl),
+  not_run,
   λ pages room told places. record {
     pages = pages;
     told = same ∙ told;
@@ -97,6 +100,55 @@ refused_code size name left ident code top below before is none found pages room
       no_code NotCode e = NotOne refl
       no_code (BadCode at) e = Broken at refl
 
+-- ---- Where a RUN is answered at once
+
+pub not_run_full : (size : ℕ) (name : List ℤ) (left : ℕ) (top : Frame) (below : List Frame) (before : Option (List (List ℕ)))
+    → nat_le size (length (top ∷ below)) ≡ true → IsNotRun (calls.Run name left) size top below before
+not_run_full size name left top below before full = λ pages code told is. elim (cases_lt (length (top ∷ below)) size) [
+  | inl few ↦ absurd (both (sym full ∙ lt-leb size (length (top ∷ below)) few))
+  | inr past ↦ past
+] where
+  both : true ≡ false → ⊥
+  both e = cc
+
+no_file : (code : CodeLists) → NoFile ≡ Code code → ⊥
+no_file code e = cc
+
+pub not_run_name : (size : ℕ) (name : List ℤ) (left : ℕ) (top : Frame) (below : List Frame) (before : Option (List (List ℕ))) → word_name name ≡ None
+    → IsNotRun (calls.Run name left) size top below before
+not_run_name size name left top below before none = λ pages code told is. absurd (no_file code (sym (ap (loaded_as (files pages)) none) ∙ is))
+
+pub not_run_code : (size : ℕ) (name : List ℤ) (left : ℕ) (ident : List ℕ) (found : Option CodeLists) (top : Frame) (below : List Frame)
+    (before : Option (List (List ℕ)))
+    → word_name name ≡ Some ident → found ≡ None → ((pages : List (List ℕ)) → before ≡ Some pages → HasCode (program_of (files pages) ident) found)
+    → IsNotRun (calls.Run name left) size top below before
+not_run_code size name left ident found top below before is none has = λ pages code told loaded.
+    absurd (no_code code (program_of (files pages) ident) (sym (ap (loaded_as (files pages)) is) ∙ loaded)
+    (subst (HasCode (program_of (files pages) ident)) none (has pages told))) where
+      no_code : (code : CodeLists) (l : Loaded) → l ≡ Code code → HasCode l None → ⊥
+      no_code code (Code c) e h = cc
+      no_code code NoFile e h = cc
+      no_code code NotCode e h = cc
+      no_code code (BadCode at) e h = cc
+
+-- no other call is a RUN
+pub own_not_run : (call : SysCall) (size : ℕ) (top : Frame) (below : List Frame) (before : Option (List (List ℕ))) → IsOwn call
+    → IsNotRun call size top below before
+own_not_run calls.Read size top below before own = absurd own
+own_not_run (calls.Write code) size top below before own = absurd own
+own_not_run (calls.WriteInt number) size top below before own = absurd own
+own_not_run calls.Accept size top below before own = absurd own
+own_not_run (calls.Display code) size top below before own = absurd own
+own_not_run (calls.Open f name) size top below before own = tt
+own_not_run (calls.Close f) size top below before own = tt
+own_not_run (calls.Get f p) size top below before own = tt
+own_not_run (calls.Put f p page) size top below before own = tt
+own_not_run (calls.Length f) size top below before own = tt
+own_not_run (calls.Lookup name) size top below before own = tt
+own_not_run calls.ReadArg size top below before own = tt
+own_not_run (calls.WriteArg tag number name) size top below before own = tt
+own_not_run (calls.Run name left) size top below before own = absurd own
+
 -- ---- A RUN of code
 
 has_code : (l : Loaded) (c : CodeLists) → HasCode l (Some c) → l ≡ Code c
@@ -127,7 +179,14 @@ code_served size name left ident code top below before after served.Pushed now f
   same,
 )
 code_served size name left ident code top below before after served.DiskFault now few is same found runs = absurd runs
-code_served size name left ident code top below before after served.NoMemory now few is same found runs = same
+code_served size name left ident code top below before after served.NoMemory now few is same found runs = (
+  record { name = name; left = left; run = refl; few = few },
+  same,
+)
+
+pub memory_lacks : (size : ℕ) (name : List ℤ) (left : ℕ) (top : Frame) (below : List Frame) (before after : Option (List (List ℕ))) (now : List Frame)
+    → length (top ∷ below) < size → after ≡ before → Serves size (calls.Run name left) top below before served.NoMemory now after
+memory_lacks size name left top below before after now few same = (record { name = name; left = left; run = refl; few = few }, same)
 
 -- a stack that isn't full has room
 pub has_room_left : (size count : ℕ) (full : Bool) → count ≤ size → full ≡ false → full ≡ nat_le size count → count < size

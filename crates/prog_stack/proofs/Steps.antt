@@ -1,42 +1,36 @@
 -- From pause to pause: what is left, by the programs on the stack.
 use Rattle.std.proofs.Common.{◌≡◌, ℕ, zero, suc, ◌+◌, ◌<◌, ◌≤◌, List, [], ◌∷◌, map, length, Option, Some, None, ℤ, refl, sym, ◌∙◌, ap, subst, arith}
-use Rattle.solo_base.specs.declared.outcome.ProgResult.{ProgResult}
-use Rattle.solo_base.specs.declared.system_call.Arg.{Arg}
 use Rattle.solo_base.specs.declared.system_call.SysCall.{SysCall}
 use Rattle.solo_base.specs.declared.system_call.SysCall.TheVariants as calls
 use Rattle.solo_base.specs.declared.system_call.SysReply.{SysReply}
 use Rattle.solo_base.specs.Arguments.{word_name}
 use Rattle.disk_layout.specs.Files.{files}
-use Rattle.disk_system.specs.declared.loading.Loaded.{Loaded}
 use Rattle.disk_system.specs.declared.loading.Loaded.TheVariants.{Code}
 use Rattle.stack_code.specs.CodeLists.{CodeLists}
 use Rattle.stack_code.specs.Rules.{IsGood}
-use Rattle.stack_machine.specs.declared.running.Pause.{Pause}
 use Rattle.stack_machine.specs.declared.running.Pause.TheVariants as pause
 use Rattle.stack_machine.specs.declared.state.Finish.{Finish}
 use Rattle.stack_machine.specs.declared.state.State.{State}
-use Rattle.stack_machine.specs.State.{Next, Goes, Asks, Stops, Lacks}
-use Rattle.stack_machine.specs.Machine.{next, next_of, start_state, answered}
-use Rattle.stack_machine.specs.Run.{Moves, LeadsToCall, LeadsToEnd, Pauses}
+use Rattle.stack_machine.specs.State.{Goes, Asks, Stops}
+use Rattle.stack_machine.specs.Machine.{next, next_of, start_state}
+use Rattle.stack_machine.specs.Run.{Moves}
 use Rattle.stack_machine.specs.Left.{left_until_end, left_to_run, left_by}
 use Rattle.stack_machine.specs.Standing.{Standing, StandsWell}
 use Rattle.stack_machine.proofs.Measure.{goes_less}
 use Rattle.stack_machine.proofs.Reply.{goes_running}
 use Rattle.stack_machine.proofs.Rounds.{round_less}
-use Rattle.program_task.specs.Task.{Task, Gives, Changes, and_then}
+use Rattle.program_task.specs.Task.{Task, Gives, and_then}
 use Rattle.program_task.specs.Program.{Own, Shared, Answer, Ended, Runner, begins_with}
 use Rattle.program_task.specs.Table.{answer, runs, returned, loaded_as}
 use Rattle.program_task.specs.Run.{runner, run_for, step_by}
 use Rattle.program_task.proofs.Tasks.{one_after_another}
 use Rattle.prog_stack.specs.declared.frame.Frame.{Frame}
-use Rattle.prog_stack.specs.declared.served.Served.{Served}
 use Rattle.prog_stack.specs.declared.served.Served.TheVariants as served
-use Rattle.prog_stack.specs.Answers.{Hand, sharing, Answered, ComesTo, Simply, Changing}
+use Rattle.prog_stack.specs.Answers.{sharing, ComesTo, Simply, Changing}
 use Rattle.prog_stack.specs.Callers.{TopWell}
 use Rattle.prog_stack.specs.Programs.{AsksFor, in_state, begun, behind_reply, calling, called_back, ran}
-use Rattle.prog_stack.specs.Rest.{left_of, does, goes_on, goes_back, Caller, under, Waits, AllWait, IsLeft, IsAt}
-use Rattle.prog_stack.specs.Serves.{Serves, Pushes, Pops, AnswersHere}
-use Rattle.prog_stack.specs.Laws.{Begins, RunsItself, IsAsked, Asked, Comes, Now, Behind, ComesBack, IsServed, ServedSo, end_of, ComesAfter, PoppedSo}
+use Rattle.prog_stack.specs.Rest.{left_of, does, goes_on, goes_back, Caller, under, AllWait, IsLeft, IsAt}
+use Rattle.prog_stack.specs.Laws.{Begins, RunsItself, IsAsked, Asked, Comes, Now, Behind, ComesBack, ServedSo, end_of, ComesAfter, PoppedSo}
 
 -- ---- What is left to run
 
@@ -202,7 +196,7 @@ reply_comes size call top below w t a x well (Changing is) = Behind (a.later x) 
 pub served_so : ServedSo
 served_so size call top below pages (served.Device same) now after h t at asks (is, device, now_is, left) =
     subst (λ l. IsAt size l (sharing (files pages) h) t) (sym now_is) at
-served_so size call top below pages (served.Reply reply) now after h t at asks (own, not_device, fits, now_is, answers) =
+served_so size call top below pages (served.Reply reply) now after h t at asks (own, not_device, fits, now_is, anywhere, not_run, answers) =
     let a = asked size call top below (sharing (files pages) h) t at asks in
     let there = answers pages a.room refl a.places in
     subst (λ l. ComesBack size l reply h after t) (sym now_is)

@@ -1,15 +1,18 @@
 -- What the calls of a program come to, by what the area tells.
-use Rattle.std.specs.Prelude.{◌≡◌, ℕ, Bool, true, false, List, Option, Some, None, Result, Ok, Err}
+use Rattle.std.specs.Prelude.{◌≡◌, ℕ, ℤ, Bool, true, false, List, Option, Some, None, Result, Ok, Err}
+use Rattle.solo_base.specs.Arguments.{word_name}
 use Rattle.solo_base.specs.declared.system_call.SysCall.{SysCall}
 use Rattle.solo_base.specs.declared.system_call.SysCall.TheVariants as calls
 use Rattle.solo_base.specs.declared.system_call.SysReply.{SysReply}
 use Rattle.solo_base.specs.declared.system_call.SysReply.TheVariants as replies
-use Rattle.disk_layout.specs.Files.{File, Files, files}
+use Rattle.disk_layout.specs.Files.{Files, files}
 use Rattle.disk_files.specs.declared.fault.FileFault.{FileFault}
 use Rattle.disk_files.specs.declared.fault.FileFault.TheVariants.{DiskFault}
 use Rattle.program_task.specs.Task.{Task, Gives, Changes}
 use Rattle.program_task.specs.Program.{Own, Shared, Answer, Runner, simply}
+use Rattle.program_task.specs.OpenFiles.{open_as, with_open}
 use Rattle.program_task.specs.Table.{answer}
+use Rattle.prog_stack.specs.Programs.{nothing_ran}
 
 -- what programs share, but for the files
 pub record Hand : Type 0 where
@@ -97,3 +100,40 @@ is_free other = false
 abbrev pub opened_name : Option (Option (List ℕ)) → Option (List ℕ)
 opened_name None = None
 opened_name (Some name) = name
+
+-- ---- What is known over every area, also over one that tells nothing
+
+-- the calls that read or write the area: OPEN, GET, PUT, LENGTH, LOOKUP and RUN
+abbrev pub uses_area : SysCall → Bool
+uses_area (calls.Open f name) = true
+uses_area (calls.Get f p) = true
+uses_area (calls.Put f p page) = true
+uses_area (calls.Length f) = true
+uses_area (calls.Lookup name) = true
+uses_area (calls.Run name left) = true
+uses_area other = false
+
+-- OPEN with this name is answered so: a file is open then exactly where the reply says so, as a number that
+-- was free, and it is refused exactly where the number wasn't
+abbrev pub OpensSo : ℤ → Option (List ℕ) → Own → SysReply → Own → Type 0
+OpensSo f name own (replies.Opened true) own_now =
+    (found : List ℕ) × (name ≡ Some found) × (is_free (open_as own f) ≡ true)
+    × (own_now ≡ with_open own f (Some found))
+OpensSo f name own (replies.Opened false) own_now = (is_free (open_as own f) ≡ true) × (own_now ≡ own)
+OpensSo f name own other own_now = (is_free (open_as own f) ≡ false) × (own_now ≡ own)
+
+-- CLOSE and the calls of arguments are answered as the table says; a RUN that is answered at once ran
+-- nothing; every other call leaves what the program has of its own
+abbrev pub AnswersAnywhere : SysCall → Own → SysReply → Own → Type 0
+AnswersAnywhere (calls.Open f name) own reply own_now = OpensSo f (word_name name) own reply own_now
+AnswersAnywhere (calls.Close f) own reply own_now = AnswersAlone (calls.Close f) own reply own_now
+AnswersAnywhere calls.ReadArg own reply own_now = AnswersAlone calls.ReadArg own reply own_now
+AnswersAnywhere (calls.WriteArg tag number name) own reply own_now =
+    AnswersAlone (calls.WriteArg tag number name) own reply own_now
+AnswersAnywhere (calls.Run name left) own reply own_now = (reply ≡ nothing_ran) × (own_now ≡ own)
+AnswersAnywhere other own reply own_now = own_now ≡ own
+
+-- and only a call that uses the area fails with it
+abbrev pub ComesAnywhere : SysCall → Own → Result SysReply FileFault → Own → Type 0
+ComesAnywhere call own (Ok reply) own_now = AnswersAnywhere call own reply own_now
+ComesAnywhere call own (Err fault) own_now = uses_area call ≡ true

@@ -2,14 +2,13 @@
 use Rattle.std.specs.Prelude.{◌≡◌, ◌⊎◌, ℕ, ◌≤◌, List, Option, Some, None, Result, Ok, Err, ℤ, pos}
 use Rattle.std.specs.FinMap as fin
 use Rattle.solo_base.specs.declared.system_call.SysReply.{SysReply}
-use Rattle.solo_base.specs.declared.system_call.SysReply.TheVariants as replies
 use Rattle.disk_layout.specs.Files.{File, Files, files}
 use Rattle.disk_files.specs.declared.fault.FileFault.{FileFault}
 use Rattle.disk_files.specs.declared.fault.FileFault.TheVariants.{DiskFault}
 use Rattle.disk_files.specs.declared.fault.FileInfo.{FileInfo}
 use Rattle.program_task.specs.Task.{Task}
 use Rattle.program_task.specs.Program.{Own, Shared, Answer, simply}
-use Rattle.program_task.specs.OpenFiles.{of_found, gets, puts, measures}
+use Rattle.program_task.specs.OpenFiles.{of_found, puts}
 use Rattle.prog_stack.specs.Answers.{Hand, sharing, Answered}
 
 -- a call of the file of this name is answered so, by these files

@@ -1,5 +1,5 @@
 -- A program on the stack: where its machine stands, and what it has of its own.
-use Rattle.std.specs.Prelude.{◌≡◌, ℕ, List, [], ◌∷◌, pos}
+use Rattle.std.specs.Prelude.{◌≡◌, ℕ, List, [], pos}
 use Rattle.solo_base.specs.Arguments.{line_number, result_number}
 use Rattle.solo_base.specs.declared.system_call.Arg.{Arg}
 use Rattle.solo_base.specs.declared.system_call.SysCall.{SysCall}
@@ -8,7 +8,6 @@ use Rattle.solo_base.specs.declared.system_call.SysReply.TheVariants as replies
 use Rattle.stack_code.specs.CodeLists.{CodeLists}
 use Rattle.stack_machine.specs.declared.state.Finish.{Finish}
 use Rattle.stack_machine.specs.declared.state.State.{State}
-use Rattle.stack_machine.specs.Standing.{Standing}
 use Rattle.stack_machine.specs.State.{Asks}
 use Rattle.stack_machine.specs.Machine.{next, start_state, answered}
 use Rattle.program_task.specs.Program.{Own, begins_with}

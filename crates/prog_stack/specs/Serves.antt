@@ -1,5 +1,5 @@
 -- How a call of the top program is served.
-use Rattle.std.specs.Prelude.{◌≡◌, ℕ, ◌+◌, ◌<◌, List, [], ◌∷◌, length, Option, Some, None, ℤ, Bool, true, false, Result, Ok, Err}
+use Rattle.std.specs.Prelude.{◌≡◌, ℕ, ◌+◌, ◌<◌, ◌≤◌, List, [], ◌∷◌, length, Option, Some, None, ℤ, Bool, true, false, Result, Ok, Err}
 use Rattle.solo_base.specs.Arguments.{word_name}
 use Rattle.solo_base.specs.Fits.{Fits}
 use Rattle.solo_base.specs.declared.system_call.SysCall.{SysCall}
@@ -21,7 +21,7 @@ use Rattle.program_task.specs.Run.{runner}
 use Rattle.prog_stack.specs.declared.frame.Frame.{Frame}
 use Rattle.prog_stack.specs.declared.served.Served.{Served}
 use Rattle.prog_stack.specs.declared.served.Served.TheVariants as served
-use Rattle.prog_stack.specs.Answers.{Answered, sharing, is_device}
+use Rattle.prog_stack.specs.Answers.{Answered, AnswersAnywhere, sharing, is_device, uses_area}
 use Rattle.prog_stack.specs.Programs.{begun, calling, called_back}
 
 -- a call of the top program has this reply, by what the area tells, with the room that is left above it
@@ -44,6 +44,20 @@ pub record Pushes (size : ℕ) (call : SysCall) (top : Frame) (below : List Fram
   pub loaded : (pages : List (List ℕ)) → before ≡ Some pages
       → loaded_as (files pages) (word_name name) ≡ Code code
 
+-- A RUN is answered at once only where there is no room for its program, or its file has no good code.
+abbrev pub IsNotRun : SysCall → ℕ → Frame → List Frame → Option (List (List ℕ)) → Type 0
+IsNotRun (calls.Run name left) size top below before =
+    (pages : List (List ℕ)) (code : CodeLists) → before ≡ Some pages
+    → loaded_as (files pages) (word_name name) ≡ Code code → size ≤ length (top ∷ below)
+IsNotRun other size top below before = Unit {0}
+
+-- Memory lacks for a RUN alone, where there is room for its program.
+pub record LacksMemory (size : ℕ) (call : SysCall) (top : Frame) (below : List Frame) : Type 0 where
+  pub name : List ℤ
+  pub left : ℕ
+  pub run : call ≡ calls.Run name left
+  pub few : length (top ∷ below) < size
+
 -- Of a stack with room for so many programs: what the call of its top program was answered, and what the
 -- stack and the area are then.
 abbrev pub Serves : ℕ → SysCall → Frame → List Frame → Option (List (List ℕ)) → Served → List Frame
@@ -52,11 +66,13 @@ Serves size call top below before (served.Device same) now after =
     (same ≡ call) × (is_device call ≡ true) × (now ≡ top ∷ below) × (after ≡ before)
 Serves size call top below before (served.Reply reply) now after =
     (own : Own) × (is_device call ≡ false) × Fits call reply × (now ≡ record top { own = own } ∷ below)
+    × AnswersAnywhere call top.own reply own × IsNotRun call size top below before
     × AnswersHere size call top below before reply own after
 Serves size call top below before served.Pushed now after =
     Pushes size call top below before now × (after ≡ before)
-Serves size call top below before served.DiskFault now after = Unit {0}
-Serves size call top below before served.NoMemory now after = after ≡ before
+Serves size call top below before served.DiskFault now after = uses_area call ≡ true
+Serves size call top below before served.NoMemory now after =
+    LacksMemory size call top below × (after ≡ before)
 
 abbrev pub ServesTop : ℕ → SysCall → List Frame → Option (List (List ℕ)) → Served → List Frame
     → Option (List (List ℕ)) → Type 0

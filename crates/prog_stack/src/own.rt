@@ -6,7 +6,8 @@ ghost use Rattle.disk_files.specs.declared.fault.FileFault.TheVariants.{DiskFaul
 ghost use Rattle.disk_files.specs.Answers.{FaultsOnly, stays_sound};
 ghost use Rattle.program_task.specs.Program.{begins_with};
 ghost use Rattle.program_task.specs.OpenFiles.{open_as, with_open};
-ghost use Rattle.prog_stack.specs.Answers.{is_device, AnswersAlone, AnswersBy, AnswersCall, IsOwn, is_free, opened_name};
+ghost use Rattle.solo_base.specs.Arguments.{word_name};
+ghost use Rattle.prog_stack.specs.Answers.{AnswersAlone, AnswersBy, AnswersCall, ComesAnywhere, OpensSo, IsOwn, is_free, opened_name};
 
 use crate::arguments::{argument, argument_of};
 use crate::file_calls::{find, get_page, length_of, look_up, put_page};
@@ -75,7 +76,6 @@ impl Own {
     }
 
     /// Serves a call that is no device's, and runs no program.
-    #[tactic(auto, using(crate::proofs::OwnRows::own_no_device))]
     pub fn serve<A: Area>(
         &mut self,
         call: &SysCall,
@@ -86,7 +86,8 @@ impl Own {
         ensures ok { IfOk result (λ reply. AnswersCall call.now self.old (A.pages files.old.area) reply
             self.new (A.pages files.new.area)) }
         ensures fits { IfOk result (λ reply. Fits call.now reply) }
-        ensures device { is_device call.now ≡ false }
+        ensures anywhere { ComesAnywhere call.now self.old result self.new }
+        ensures own { IsOwn call.now }
         ensures refusals { IfErr result (λ fault. fault ≡ DiskFault) }
         ensures sound { files.new.sound ≡ stays_sound result }
         ensures cause { FaultsOnly (A.faults files.old.area) (A.faults files.new.area) result }
@@ -145,6 +146,7 @@ impl Own {
             → IfOk result (λ reply. AnswersBy (file_map pages) (calls.Open f.now name.now) self.old reply
             self.new) }
         ensures fits { IfOk result (λ reply. Fits (calls.Open f.now name.now) reply) }
+        ensures anywhere { IfOk result (λ reply. OpensSo f.now (word_name name.now) self.old reply self.new) }
         ensures left { A.pages files.new.area ≡ A.pages files.old.area }
         ensures refusals { IfErr result (λ fault. fault ≡ DiskFault) }
         ensures sound { files.new.sound ≡ stays_sound result }

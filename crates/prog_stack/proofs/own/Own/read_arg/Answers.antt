@@ -1,4 +1,4 @@
-use Rattle.std.proofs.Common.{◌≡◌, ◌+◌, ◌∷◌, drop, sym, ◌∙◌, ap}
+use Rattle.std.proofs.Common.{◌+◌, drop, sym, ◌∙◌, ap}
 use Rattle.program_task.specs.Arguments.{argument}
 use Rattle.program_task.specs.Program.{simply}
 use Rattle.prog_stack.specs.contracts.own.Own.{the_view}

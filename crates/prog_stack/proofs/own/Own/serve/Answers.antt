@@ -1,5 +1,6 @@
+use Rattle.std.proofs.Common.{refl}
 use Rattle.solo_base.specs.declared.system_call.SysCall.TheVariants as calls
-use Rattle.prog_stack.proofs.OwnRows.{alone_answers, by_files}
+use Rattle.prog_stack.proofs.OwnRows.{alone_answers, by_files, by_area, opens_anywhere}
 use Rattle.prog_stack.proofs.own.Own.serve.Goals as goal
 
 pub returns-in-Open-clause-ok : goal.returns-in-Open-clause-ok
@@ -38,3 +39,26 @@ pub returns-in-WriteArg-clause-ok : goal.returns-in-WriteArg-clause-ok
 returns-in-WriteArg-clause-ok g c = rw c.in-WriteArg.is
     (alone_answers (calls.WriteArg c.in-WriteArg.tag c.in-WriteArg.number c.in-WriteArg.name) c.args.self.now c.write_arg.new.self c.write_arg.result
     (g.A.Area.pages c.args.files.now.area) c.write_arg.ensures.row)
+
+pub returns-in-Open-clause-anywhere : goal.returns-in-Open-clause-anywhere
+returns-in-Open-clause-anywhere g c = rw c.in-Open.is
+    (opens_anywhere c.in-Open.f c.in-Open.name c.args.self.now c.open.new.self c.open.result c.open.ensures.anywhere)
+
+pub returns-in-Get-clause-anywhere : goal.returns-in-Get-clause-anywhere
+returns-in-Get-clause-anywhere g c = rw c.in-Get.is
+    (by_area (calls.Get c.in-Get.f c.in-Get.p) c.args.self.now c.get.result refl (λ reply. refl))
+
+pub returns-in-Put-clause-anywhere : goal.returns-in-Put-clause-anywhere
+returns-in-Put-clause-anywhere g c = rw c.in-Put.is
+    (by_area (calls.Put c.in-Put.f c.in-Put.p c.in-Put.page) c.args.self.now c.put.result refl (λ reply. refl))
+
+pub returns-in-Length-clause-anywhere : goal.returns-in-Length-clause-anywhere
+returns-in-Length-clause-anywhere g c = rw c.in-Length.is
+    (by_area (calls.Length c.in-Length.f) c.args.self.now c.length.result refl (λ reply. refl))
+
+pub returns-in-Lookup-clause-anywhere : goal.returns-in-Lookup-clause-anywhere
+returns-in-Lookup-clause-anywhere g c = rw c.in-Lookup.is
+    (by_area (calls.Lookup c.in-Lookup.name) c.args.self.now c.look_up.result refl (λ reply. refl))
+
+pub returns-in-WriteArg-clause-anywhere : goal.returns-in-WriteArg-clause-anywhere
+returns-in-WriteArg-clause-anywhere g c = rw c.in-WriteArg.is c.write_arg.ensures.row
