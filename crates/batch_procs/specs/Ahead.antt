@@ -20,7 +20,8 @@ AreLoadsGood J all = AllByRecursion J.IsLoad (loads all)
 -- Each parcel that a buffer or the deck hands over gives at most so many parcels, and the end one more; and
 -- it names at most so many files.
 pub record GivesAtMost {L : Type 0} (J : Jobs L) (most : ℕ) (p : Process L) : Type 0 where
-  pub gives : (all : List (Parcel L)) → AreLoadsGood J all → length (p.sends all) ≤ most * length (handed all) + 1
+  pub gives : (all : List (Parcel L)) → AreLoadsGood J all
+      → length (p.sends all) ≤ most * length (handed all) + 1
   pub names : (all : List (Parcel L)) (parcel : Parcel L) → length (p.wants (all ++ parcel ∷ []))
       ≤ length (p.wants all) + most * length (handed (parcel ∷ []))
 

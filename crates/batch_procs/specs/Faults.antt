@@ -36,7 +36,8 @@ IsDamaged other = ⊥
 
 -- every fault of a process is one of these
 abbrev pub FaultsOf : {L : Type 0} → Jobs L → Process L → (Cause → Type 0) → Type 0
-FaultsOf {L} J p Fault = (h : List (Entry L)) (c : Cause) → Follows J p h → caused h ≡ Some (outcome.Fault c) → Fault c
+FaultsOf {L} J p Fault =
+    (h : List (Entry L)) (c : Cause) → Follows J p h → caused h ≡ Some (outcome.Fault c) → Fault c
 
 -- The card process may meet a deck that can't be read or is too long, the printer one a printer that fails or
 -- memory that is refused; those that move pages a disk that fails, those that take pages a damaged one, and

@@ -8,7 +8,7 @@ use Rattle.batch_procs.specs.declared.actions.Action.{Action}
 use Rattle.batch_procs.specs.declared.actions.Action.TheVariants as act
 use Rattle.batch_procs.specs.declared.actions.Reply.{Reply}
 use Rattle.batch_procs.specs.declared.actions.Reply.TheVariants as reply
-use Rattle.batch_procs.specs.Parcels.{Parcel, OfFeed, OfPage, OfLine, OfLoad, is_last, mark}
+use Rattle.batch_procs.specs.Parcels.{Parcel, OfFeed, OfPage, OfLine, OfLoad, is_the_end, mark}
 
 -- An action with its reply; one whose reply came without the memory to use it; or a call that waits.
 pub data Entry (L : Type 0) : Type 0 where
@@ -127,7 +127,7 @@ is_unworked (Does act.Local reply ∷ before) = false
 is_unworked (Does act.ReadCard reply ∷ before) = true
 is_unworked (Does act.TakeFeed reply ∷ before) = true
 is_unworked (Does act.TakePage reply ∷ before) = true
-is_unworked (Does (act.PutFeed f) reply ∷ before) = not (is_last (OfFeed f))
+is_unworked (Does (act.PutFeed f) reply ∷ before) = not (is_the_end f)
 is_unworked (Does (act.PutPage page) reply ∷ before) = not (mark page)
 is_unworked (Does (act.Print line) reply ∷ before) = true
 is_unworked (entry ∷ before) = is_unworked before

@@ -1,6 +1,5 @@
 -- What the work on jobs was told, and what came of it.
-use Rattle.std.specs.Prelude.{◌≡◌, ℕ, Bool, true, false, not, List, [], ◌∷◌, ◌++◌, length, drop, Option, Some, None}
-use Rattle.std.specs.Option.{is_some}
+use Rattle.std.specs.Prelude.{◌≡◌, ℕ, Bool, true, false, List, [], ◌∷◌, ◌++◌, length, drop, Option, Some, None}
 use Rattle.solo_base.specs.declared.item.Item.{Item}
 use Rattle.solo_base.specs.declared.page.Page.{Page}
 use Rattle.page_codec.specs.Packing.{PageInHand}
@@ -8,8 +7,9 @@ use Rattle.page_codec.specs.Pushes.{hand_behind, PushesUpTo}
 use Rattle.page_codec.specs.Reading.{PageContent}
 use Rattle.batch_procs.specs.Jobs.{Jobs}
 
--- the items of the pages that it was fed, and whether the last page was among them; what the first of the files
--- that these name were loaded as; the lines that were pushed; and whether all lines of the items so far were
+-- the items of the pages that it was fed, and whether the last page was among them; what the first of the
+-- files that these name were loaded as; the lines that were pushed; and whether all lines of the items so far
+-- were pushed
 pub record JobTold (L : Type 0) : Type 0 where
   pub items : List Item
   pub ended : Bool
@@ -29,9 +29,14 @@ with_page told content =
 abbrev pub with_found : {L : Type 0} → JobTold L → L → JobTold L
 with_found told load = record told { loads = told.loads ++ load ∷ [] }
 
+-- nothing is left to be pushed where no push gave a page
+abbrev pub rests_behind : Option Page → Bool
+rests_behind None = true
+rests_behind (Some page) = false
+
 -- with lines that were pushed, up to one that gave a page, or all
 abbrev pub with_lines : {L : Type 0} → JobTold L → List (List ℕ) → Option Page → JobTold L
-with_lines told lines page = record told { pushed = told.pushed ++ lines; rests = not (is_some page) }
+with_lines told lines page = record told { pushed = told.pushed ++ lines; rests = rests_behind page }
 
 -- the files of its jobs that aren't loaded yet
 abbrev pub wanted : {L : Type 0} → Jobs L → JobTold L → List (List ℕ)
@@ -42,8 +47,8 @@ abbrev pub first_of : List (List ℕ) → Option (List ℕ)
 first_of [] = None
 first_of (file ∷ later) = Some file
 
--- The next lines are pushed until a push gives a page, which goes out. Where none does, all lines of the items
--- so far are pushed.
+-- The next lines are pushed until a push gives a page, which goes out. Where none does, all lines of the
+-- items so far are pushed.
 pub record Packs {L : Type 0} (J : Jobs L) (now : JobTold L → Type 0) (told : JobTold L)
     (hand : PageInHand) (page : Option Page) (hand_then : PageInHand) : Type 0 where
   pub lines : List (List ℕ)

@@ -1,5 +1,5 @@
--- What the jobs of a deck are to the five processes, over the type of what a job's file is loaded as: the files
--- that the items of a deck name, and the lines that they print.
+-- What the jobs of a deck are to the five processes: the files that its items name, and the lines that they
+-- print. L is the type of what the file of a job is loaded as.
 use Rattle.std.specs.Prelude.{◌≡◌, ◌≤◌, ℕ, ◌+◌, ◌*◌, Bool, true, false, List, [], ◌∷◌, ◌++◌, length, map}
 use Rattle.std.specs.List.{AllByRecursion}
 use Rattle.solo_base.specs.declared.item.Item.{Item}
@@ -33,7 +33,8 @@ pub record AreJobs {L : Type 0} (J : Jobs L) : Type 0 where
   -- More items name more files, each item one at most.
   pub named_add : (items more : List Item) → J.named (items ++ more) ≡ J.named items ++ J.named more
   pub few_named : (items : List Item) → length (J.named items) ≤ length items
-  -- More items, more loads and the end add lines behind those so far.
+  -- Nothing gives no lines, and more items, more loads and the end add lines behind those so far.
+  pub no_lines : J.lines [] [] false ≡ []
   pub items_add : (items more : List Item) (loads later : List L) (ended : Bool)
       → IsPrefixOf (J.lines items loads false) (J.lines (items ++ more) (loads ++ later) ended)
   -- Behind the end more loads add lines, until these are all: then they stay.

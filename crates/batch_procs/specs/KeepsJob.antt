@@ -16,7 +16,8 @@ IsNext None left = left ≡ []
 IsNext {L} (Some page) left = (more : List (Parcel L)) × (left ≡ OfPage page (mark page) ∷ more)
 
 -- Behind these lines the packer holds this page in hand, and these are the pages that it gave.
-pub record HasSent {L : Type 0} (hand : PageInHand) (lines : List (List ℕ)) (sent : List (Parcel L)) : Type 0 where
+pub record HasSent {L : Type 0} (hand : PageInHand) (lines : List (List ℕ)) (sent : List (Parcel L))
+    : Type 0 where
   pub in_hand : hand ≡ hand_behind first_page lines
   pub pages : sent ≡ marked false (pages_given first_page lines)
 

@@ -18,3 +18,4 @@ pub mod Ahead
 pub mod Due
 pub mod Pages
 pub mod KeepsJob
+pub mod Keeping

@@ -4,8 +4,8 @@ use Rattle.batch_procs.specs.declared.actions.Reply.{Reply}
 use Rattle.batch_procs.specs.declared.actions.Reply.TheVariants as reply
 use Rattle.batch_procs.specs.Jobs.{Jobs, FilesAs}
 
--- A load gives what a file may be loaded as: what this file is, where that is told. It may fail, and it may be
--- refused memory.
+-- A load gives what a file may be loaded as: what this file is, where that is told. It may fail, and it may
+-- be refused memory.
 abbrev pub LoadsSo : {L : Type 0} → Jobs L → Option (FilesAs L) → List ℕ → Reply L → Type 0
 LoadsSo {L} J found file (reply.Loaded load) =
     J.IsLoad load × ((files : FilesAs L) → found ≡ Some files → load ≡ files file)

@@ -54,9 +54,9 @@ stops_after n other = n
 
 -- ---- the machine
 -- The history is one of the process, and the machine stands where it does behind it.
-pub record StandsFor {L W : Type 0} (J : Jobs L) (p : Process L)
+pub record StandsFor {L X W : Type 0} (J : Jobs L) (p : Process L)
     (keeps : W → List (Parcel L) → List (Parcel L) → Bool → Type 0)
-    (machine : Machine W) (h : List (Entry L)) : Type 0 where
+    (machine : Machine X W) (h : List (Entry L)) : Type 0 where
   pub follows : Follows J p h
   pub cause : machine.cause ≡ caused h
   pub step : machine.step ≡ step_after (newest h)
@@ -82,8 +82,8 @@ pub record Answers {L W : Type 0} (J : Jobs L) (p : Process L)
     (keeps : W → List (Parcel L) → List (Parcel L) → Bool → Type 0)
     (old : W) (action : Action) (r : Reply L)
     (result : Result (Option Outcome) NoMemory) (new : W) : Type 0 where
-  pub uses : (h : List (Entry L)) → Follows J p h → caused h ≡ None → next_action p h ≡ Some action → Fits J action r
-      → keeps old (taken h) (sent h) (unworked p h)
+  pub uses : (h : List (Entry L)) → Follows J p h → caused h ≡ None
+      → next_action p h ≡ Some action → Fits J action r → keeps old (taken h) (sent h) (unworked p h)
       → IfOk result (λ cause. Uses p (keeps new) action r cause h)
   -- memory is refused only where the process works, and where the action may lack it
   pub lacks : OnErr result ((p.works ≡ true) × (Fits J action r → MayLack action r))

@@ -16,10 +16,14 @@ pub data Parcel (L : Type 0) : Type 0 where
 abbrev pub mark : Page → Bool
 mark page = not (slice_index page.0 2 == 0)
 
+-- whether what a line buffer hands over is the end
+abbrev pub is_the_end : Feed → Bool
+is_the_end (feed.Item item) = false
+is_the_end feed.End = true
+
 -- whether it is the last of its stream
 abbrev pub is_last : {L : Type 0} → Parcel L → Bool
-is_last (OfFeed (feed.Item item)) = false
-is_last (OfFeed feed.End) = true
+is_last (OfFeed f) = is_the_end f
 is_last (OfPage page last) = last
 is_last (OfLine line) = false
 is_last (OfLoad load) = false

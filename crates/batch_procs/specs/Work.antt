@@ -25,14 +25,15 @@ IsTaken (reply.Page page last) = Unit {0}
 IsTaken other = ⊥
 
 -- where all that is due is put, no work is to be done and the last wasn't taken
-pub record MayTake {L : Type 0} (J : Jobs L) (p : Process L) (taken sent : List (Parcel L)) (r : Reply L) : Type 0 where
+pub record MayTake {L : Type 0} (J : Jobs L) (p : Process L) (taken sent : List (Parcel L))
+    (r : Reply L) : Type 0 where
   pub nothing_due : drop (length sent) (p.sends taken) ≡ []
   pub goes_on : is_ended taken ≡ false
   pub fits : Fits J p.takes r
   pub is_taken : IsTaken r
 
 -- a take gives its cause, and without one the work keeps what was taken
-abbrev pub Takes : {L : Type 0} → Process L → (List (Parcel L) → List (Parcel L) → Bool → Type 0) → List (Parcel L) → List (Parcel L) → Reply L
-    → Option Outcome → Type 0
+abbrev pub Takes : {L : Type 0} → Process L → (List (Parcel L) → List (Parcel L) → Bool → Type 0)
+    → List (Parcel L) → List (Parcel L) → Reply L → Option Outcome → Type 0
 Takes p now taken sent r cause =
     (cause ≡ cause_of r taken) × (cause ≡ None → now (taken ++ taken_by r) sent p.works)

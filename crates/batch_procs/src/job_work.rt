@@ -39,8 +39,8 @@ pub trait JobWork: Drop {
     /// Makes and pushes the next lines until a push gives a page. No page says that all lines of the items so
     /// far are pushed. No file is wanted.
     fn pack(&mut self, packer: &mut Packer) -> Result<Option<Page>, NoMemory>
-        ensures { IfOk result (λ page. (told : JobTold Self.Load) → keeps self.old told → wanted jobs told ≡ []
-            → Packs jobs (keeps self.new) told packer.old page packer.new) };
+        ensures { IfOk result (λ page. (told : JobTold Self.Load) → keeps self.old told
+            → wanted jobs told ≡ [] → Packs jobs (keeps self.new) told packer.old page packer.new) };
 
     /// What holds of its jobs.
     ghost are_jobs: { AreJobs jobs };
