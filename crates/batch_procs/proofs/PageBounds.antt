@@ -1,5 +1,5 @@
 -- How many items a page has at most, and what follows for those that take pages.
-use Rattle.std.proofs.Common.{◌≡◌, ◌≤◌, ℕ, zero, suc, ◌+◌, ◌*◌, ◌-◌, ◌%◌, ◌^◌, ◌==◌, Bool, true, false, ◌&&◌, not, if◌then◌else◌, List, [], ◌∷◌, ◌++◌, length, length-append, take, drop, Option, None, Some, Result, Ok, Err, refl, sym, ◌∙◌, ap, subst, arith}
+use Rattle.std.proofs.Common.{◌≡◌, ◌≤◌, ◌<◌, ℕ, zero, suc, ◌+◌, ◌*◌, ◌-◌, ◌%◌, ◌^◌, ◌==◌, Bool, true, false, ◌&&◌, not, if◌then◌else◌, List, [], ◌∷◌, ◌++◌, length, length-append, take, drop, Option, None, Some, Result, Ok, Err, refl, sym, ◌∙◌, ap, subst, arith}
 use Rattle.std.specs.Prelude.{map, nat_le, slice_index}
 use Rattle.std.proofs.lemmas.Bool.Decides.{nat_tests}
 use Rattle.std.proofs.lemmas.List.{length-drop}
@@ -152,7 +152,7 @@ below : (all a e more s : ℕ) → all ≡ (a + e) + more → s ≤ a + 1 + e �
 below all a e more s is most = omega (arith, is, most)
 
 -- what has so many for each item and the end, where items and end are within n
-within-most : (k i e n s : ℕ) → 1 ≤ k → i + e ≤ n → s ≤ k * i + 1 + e → s ≤ k * n + 1
+within-most : (k i e n s : ℕ) → 0 < k → i + e ≤ n → s ≤ k * i + 1 + e → s ≤ k * n + 1
 within-most k i e n s some fits most =
     let k_is : k ≡ (k - 1) + 1 = omega (arith, some) in
     let n_is : n ≡ i + e + (n - (i + e)) = omega (arith, fits) in
@@ -172,7 +172,7 @@ times-some j h = grind arith
 first-part : (a b c : ℕ) → a ≡ b + c → b ≤ a
 first-part a b c is = omega (arith, is)
 
-more-most : (k h : ℕ) → 1 ≤ k → 507 * h ≤ 507 * k * h
+more-most : (k h : ℕ) → 0 < k → 507 * h ≤ 507 * k * h
 more-most k h some =
     let k_is : k ≡ (k - 1) + 1 = omega (arith, some) in
     subst (λ k. 507 * h ≤ 507 * k * h) (sym k_is) (first-part _ _ _ (times-some (k - 1) h))

@@ -1,6 +1,6 @@
 -- What the jobs of a deck are to the five processes: the files that its items name, and the lines that they
 -- print. L is the type of what the file of a job is loaded as.
-use Rattle.std.specs.Prelude.{◌≡◌, ◌≤◌, ℕ, ◌+◌, ◌*◌, Bool, true, false, List, [], ◌∷◌, ◌++◌, length, map}
+use Rattle.std.specs.Prelude.{◌≡◌, ◌≤◌, ◌<◌, ℕ, ◌+◌, ◌*◌, Bool, true, false, List, [], ◌∷◌, ◌++◌, length, map}
 use Rattle.std.specs.List.{AllByRecursion}
 use Rattle.solo_base.specs.declared.item.Item.{Item}
 use Rattle.solo_base.specs.Line.{IsLine}
@@ -54,6 +54,6 @@ pub record AreJobs {L : Type 0} (J : Jobs L) : Type 0 where
   pub few_lines : (items : List Item) (loads : List L) (ended : Bool) → AreItems items
       → AllByRecursion J.IsLoad loads
       → length (J.lines items loads ended) ≤ J.most * length items + 1
-  pub some_lines : 1 ≤ J.most
+  pub some_lines : 0 < J.most
   -- Where there is no file, what is loaded is a load.
   pub missing_loads : J.IsLoad J.missing

@@ -1,4 +1,4 @@
-use Rattle.batch_job.specs.JobStream.{items_left}
+use Rattle.page_codec.specs.Reading.{items_left}
 use Rattle.batch_procs.specs.Pages.{lines_left, KeepsOutput}
 use Rattle.batch_procs.specs.Table.{output}
 use Rattle.batch_run.specs.Pages.{OutputRan}

@@ -1,0 +1,2 @@
+pub mod DeckJobs
+pub mod KeepsDeck
