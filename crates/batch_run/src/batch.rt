@@ -9,7 +9,8 @@ ghost use Rattle.solo_devices.specs.CardUnit.{items_ahead, byte_limit, bytes_tot
 ghost use Rattle.solo_devices.specs.PrinterUnit.{Gains};
 ghost use Rattle.page_codec.specs.Items.{AreItems};
 ghost use Rattle.batch_job.specs.OneThread.{one_thread_lines};
-ghost use Rattle.core_law.specs.Holds.{AreTold, AreFound};
+ghost use Rattle.core_law.specs.Holds.{AreTold};
+ghost use Rattle.deck_work.specs.DeckJobs.{AreFound};
 ghost use Rattle.core_net.specs.Causes.{counting};
 ghost use Rattle.core_net.specs.Ended.{all_done, EndTogether, FaultsAre, NoneDamaged};
 ghost use Rattle.core_net.specs.Faults.{FaultsAreCounted};

@@ -1,5 +1,5 @@
 -- The jobs of a deck, as the network knows them.
-use Rattle.std.proofs.Common.{lit<, ◌≡◌, ℕ, List, Option, None, Some, sym, ap, ◌∙◌, refl, subst}
+use Rattle.std.proofs.Common.{lit<, ◌≡◌, ◌⊎◌, ℕ, List, [], Option, None, Some, sym, ap, ◌∙◌, refl, subst}
 use Rattle.std.specs.Option.{option_map}
 use Rattle.solo_base.specs.declared.item.Item.{Item}
 use Rattle.disk_layout.specs.Files.{files as file_map}
@@ -31,6 +31,10 @@ deck_jobs = record {
 -- what the files on these pages are loaded as, where the area tells them
 abbrev pub files_found : Option (List (List ℕ)) → Option Loads
 files_found pages = option_map (λ all. program_of (file_map all)) pages
+
+-- What the files are loaded as that these items name: the file area tells it, or none is named.
+abbrev pub AreFound : Option Loads → Loads → List Item → Type 0
+AreFound files found items = (files ≡ Some found) ⊎ (files_named items ≡ [])
 
 -- ---- what holds of them
 pub deck_are_jobs : AreJobs deck_jobs

@@ -13,13 +13,13 @@ pub struct DeckWork {
 
 impl JobWork for DeckWork {
     ghost use Rattle.deck_work.specs.DeckJobs.{deck_jobs, deck_are_jobs};
-    ghost use Rattle.deck_work.specs.KeepsDeck.{KeepsDeck};
+    ghost use Rattle.deck_work.specs.DeckKeeps.{deck_keeps};
 
     type Load = Loaded;
 
     ghost jobs = { deck_jobs };
 
-    ghost keeps = { λ work. KeepsDeck work.stream };
+    ghost keeps = { deck_keeps };
 
     ghost are_jobs = { deck_are_jobs };
 

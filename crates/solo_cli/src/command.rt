@@ -9,7 +9,7 @@ ghost use Rattle.disk_system.specs.Formatted.{KeepsFilePages};
 ghost use Rattle.batch_job.specs.Report.{Loads};
 ghost use Rattle.batch_job.specs.OneThread.{one_thread_output};
 ghost use Rattle.made_deck.specs.MadeDeck.{made_deck};
-ghost use Rattle.core_law.specs.Holds.{AreFound};
+ghost use Rattle.deck_work.specs.DeckJobs.{AreFound};
 ghost use Rattle.core_law.specs.Opening.{opened};
 ghost use Rattle.core_net.specs.Openings.{spools_over, files_found};
 ghost use Rattle.access_check.specs.Judgement.{judge};

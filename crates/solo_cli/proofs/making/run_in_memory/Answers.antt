@@ -17,6 +17,7 @@ use Rattle.solo_cli.proofs.Counted.{counted-whole}
 use Rattle.solo_cli.proofs.MadeRuns.{never_rose, within_limit, known_made}
 use Rattle.solo_cli.proofs.Reasons.{undamaged}
 use Rattle.solo_cli.proofs.making.run_in_memory.Goals as goal
+use Rattle.disk_system.specs.declared.loading.Loaded.{Loaded}
 
 pub returns-clause-counted : goal.returns-clause-counted
 returns-clause-counted g c = λ found files input_told output_told none.
@@ -25,7 +26,7 @@ returns-clause-counted g c = λ found files input_told output_told none.
     let counts = c.run_core-ran.result.1 in
     let items = cards c.args.deck.items in
     let spools = spools_over (g.I.Area.size c.args.input) (g.I.Area.pages c.args.input) (g.O.Area.size c.args.output) (g.O.Area.pages c.args.output) in
-    let devices : Devices = record { deck = _; paper = _; files = _ } in
+    let devices : Devices Loaded = record { deck = _; paper = _; files = _ } in
     let told_files = files_found (g.F.Area.pages c.args.files.area) in
     let runs : RunsToEnd (Numbered c.args.number) (opened spools (Some items) (Some []) told_files) counts ran.outcomes ran.stopped_by devices
     = subst (λ paper. RunsToEnd (Numbered c.args.number) (opened spools (Some items) paper told_files) counts ran.outcomes ran.stopped_by devices)

@@ -1,7 +1,7 @@
 use Rattle.std.proofs.Common.{◌≡◌, Some, None, sym, subst, arith}
 use Rattle.solo_base.specs.Card.{cards}
 use Rattle.batch_job.specs.OneThread.{one_thread_output}
-use Rattle.core_law.specs.Holds.{AreFound}
+use Rattle.deck_work.specs.DeckJobs.{AreFound}
 use Rattle.core_law.specs.Opening.{opened}
 use Rattle.core_net.specs.Causes.{counting}
 use Rattle.network_run.specs.declared.rules.Rule.TheVariants.{Numbered}

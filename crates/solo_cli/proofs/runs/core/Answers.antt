@@ -21,6 +21,7 @@ use Rattle.solo_cli.proofs.Adding.{gains-same, both, without}
 use Rattle.solo_cli.proofs.Complete.{told_bytes}
 use Rattle.solo_cli.proofs.Reasons.{known, undamaged, reason, same-reason, printed-on}
 use Rattle.solo_cli.proofs.runs.core.Goals as goal
+use Rattle.disk_system.specs.declared.loading.Loaded.{Loaded}
 
 pub returns-in-None-clause-output : goal.returns-in-None-clause-output
 returns-in-None-clause-output g c = λ bytes found told files input_told output_told.
@@ -29,7 +30,7 @@ returns-in-None-clause-output g c = λ bytes found told files input_told output_
     let counts = c.run_core-ran.result.1 in
     let spools = spools_over (g.I.Area.size c.args.input) (g.I.Area.pages c.args.input) (g.O.Area.size c.args.output) (g.O.Area.pages c.args.output) in
     let told_files = files_found (g.F.Area.pages c.args.files.area) in
-    let devices : Devices
+    let devices : Devices Loaded
     = record {
       deck = items_ahead (g.S.Source.left ran.deck.source) ran.deck.pending;
       paper = g.K.Sink.given ran.paper.sink;
@@ -68,7 +69,7 @@ returns-in-Some-clause-output g c = λ bytes found told files input_told output_
     let counts = c.run_core-ran.result.1 in
     let spools = spools_over (g.I.Area.size c.args.input) (g.I.Area.pages c.args.input) (g.O.Area.size c.args.output) (g.O.Area.pages c.args.output) in
     let told_files = files_found (g.F.Area.pages c.args.files.area) in
-    let devices : Devices
+    let devices : Devices Loaded
     = record {
       deck = items_ahead (g.S.Source.left ran.deck.source) ran.deck.pending;
       paper = g.K.Sink.given ran.paper.sink;
