@@ -12,7 +12,7 @@ use Rattle.disk_system.specs.declared.loading.Loaded.{Loaded}
 abbrev pub line_buffer : Slot Feed → List Side → Buffer (Parcel Loaded)
 line_buffer slot stops = record {
   capacity = 1;
-  marks = map is_last (as_parcels slot.inside);
+  marks = map is_last (as_parcels {L = Loaded} slot.inside);
   inside = Some (as_parcels slot.inside);
   sides = slot.sides;
   stops = stops;
