@@ -2,7 +2,7 @@ ghost use Rattle.std.specs.Prelude.{◌≡◌, ◌≢◌, ◌≤◌, ℕ, List, 
 ghost use Rattle.solo_devices.specs.Count.{Rose};
 ghost use Rattle.batch_procs.specs.declared.actions.Reply.TheVariants as reply;
 ghost use Rattle.batch_procs.specs.Jobs.{FilesAs};
-ghost use Rattle.batch_procs.specs.Loads.{LoadsSo};
+ghost use Rattle.batch_procs.specs.Loads.{AnswersLoad};
 
 use crate::Reply;
 use crate::job_work::JobWork;
@@ -23,7 +23,7 @@ pub trait Loader<J: JobWork> {
     /// Loads the file of this name. It changes no file.
     fn load(&mut self, alloc: Global, file: &Ident) -> Reply<J::Load>
         requires { sound self.old }
-        ensures loads { LoadsSo J.jobs (found self.old) file.now result }
+        ensures loads { AnswersLoad J.jobs (found self.old) file.now result }
         ensures failed { result ≡ reply.Failed → Rose (faults self.old) (faults self.new) }
         ensures counts { faults self.old ≤ faults self.new }
         ensures stays { found self.new ≡ found self.old }

@@ -24,7 +24,8 @@ use Rattle.disk_system.specs.declared.loading.Loaded.{Loaded}
 use Rattle.deck_work.specs.DeckJobs.{deck_jobs, deck_are_jobs}
 
 -- ---- one load
-loaded-as : (found : Loads) (file : List ℕ) (r : Reply Loaded) (h : List (Entry Loaded)) (devices : Devices Loaded) → devices.files ≡ Some found → Fits deck_jobs (act.Load file) r
+loaded-as : (found : Loads) (file : List ℕ) (r : Reply Loaded) (h : List (Entry Loaded)) (devices : Devices Loaded) → devices.files ≡ Some found
+    → Fits deck_jobs (act.Load file) r
     → Allows devices (Does (act.Load file) r) [] → AreLoadedAs found h → AreLoadedAs found (Does (act.Load file) r ∷ h)
 loaded-as found file (reply.Loaded load) h devices told fits allowed before = (allowed.0 found told, before)
 loaded-as found file reply.Failed h devices told fits allowed before = before
@@ -34,7 +35,8 @@ loaded-as found file r h devices told fits allowed before = absurd fits
 none-failed : (file : List ℕ) (h : List (Entry Loaded)) (r : Reply Loaded) → given_cause (act.Load file) r h ≡ None → r ≢ reply.Failed
 none-failed file h r none is = (let e = ap (λ r. given_cause (act.Load file) r h) (sym is) ∙ none in cc)
 
-module _ {F : Type 0} {pages : F → Option (List (List ℕ))} {faults : F → ℕ} (start old new : FileTable F) (h : List (Entry Loaded)) (file : List ℕ) (r : Reply Loaded) where
+module _ {F : Type 0} {pages : F → Option (List (List ℕ))} {faults : F → ℕ} (start old new : FileTable F) (h : List (Entry Loaded)) (file : List ℕ)
+    (r : Reply Loaded) where
   pub file-loaded : FilesRan pages faults start old h → LoadsFile (files_found (pages old.area)) file r
       → (r ≡ reply.Failed → Rose (faults old.area) (faults new.area)) → faults old.area ≤ faults new.area → pages new.area ≡ pages old.area
       → (r ≢ reply.Failed → new.sound ≡ true) → FilesRan pages faults start new (Does (act.Load file) r ∷ h)

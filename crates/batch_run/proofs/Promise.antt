@@ -75,7 +75,8 @@ fault-cause : (found : Option Outcome) (c : Cause) → outcome_by found ≡ outc
 fault-cause None c e = absurd cc
 fault-cause (Some how) c e = ap Some e
 
-caused-so : (p : Process Loaded) (h : List (Entry Loaded)) (how : Outcome) (c : Cause) → IsRelay p → Follows deck_jobs p h → newest h ≡ Some (act.Ended how) → how ≡ outcome.Fault c
+caused-so : (p : Process Loaded) (h : List (Entry Loaded)) (how : Outcome) (c : Cause) → IsRelay p → Follows deck_jobs p h → newest h ≡ Some (act.Ended how)
+    → how ≡ outcome.Fault c
     → caused h ≡ Some (outcome.Fault c)
 caused-so p h how c relay follows ended e = fault-cause (caused h) c (ended-as deck_are_jobs p h how relay follows ended ∙ e)
 
@@ -221,7 +222,8 @@ module _ {S K A B F : Type 0} (left : S → Option (List ℕ)) (taken source_fau
     all-done : met.stopped_by ≡ none_stopped → outcomes ≡ all_done
     all-done e =
         let free = λ (b : ℕ) (at : IsBuffer b). ap (λ all. stopped_at all b) e ∙ none-at b at in
-        let done = λ (p : ℕ) (one : IsProcess p). none-done deck_are_jobs (the-five deck_are_jobs) (histories five) (follows five) first (are-first five) free p (outcome_at outcomes p) one
+        let done = λ (p : ℕ) (one : IsProcess p). none-done deck_are_jobs (the-five deck_are_jobs) (histories five) (follows five) first
+            (are-first five) free p (outcome_at outcomes p) one
         (ended-at p one) in
         all-done-by outcomes.card outcomes.input outcomes.job outcomes.output outcomes.printer (done 1 (lit≤ tt, lit≤ tt)) (done 2 (lit≤ tt, lit≤ tt))
         (done 3 (lit≤ tt, lit≤ tt)) (done 4 (lit≤ tt, lit≤ tt)) (done 5 (lit≤ tt, lit≤ tt))
@@ -246,9 +248,12 @@ module _ {S K A B F : Type 0} (left : S → Option (List ℕ)) (taken source_fau
     -- ---- the faults
     pub faults : FaultsAre outcomes
     faults = record {
-      card = λ c e. (faults_of_the_five deck_jobs deck_are_jobs).card _ c five.card_follows (caused-so card _ _ c (card-relay Loaded) five.card_follows (ended-at 1 (lit≤ tt, lit≤ tt)) e);
-      input = λ c e. (faults_of_the_five deck_jobs deck_are_jobs).input _ c five.input_follows (caused-so input _ _ c (input-relay Loaded) five.input_follows (ended-at 2 (lit≤ tt, lit≤ tt)) e);
-      job = λ c e. (faults_of_the_five deck_jobs deck_are_jobs).job _ c five.job_follows (caused-so (job deck_jobs) _ _ c (job-relay deck_are_jobs) five.job_follows (ended-at 3 (lit≤ tt, lit≤ tt)) e);
+      card = λ c e. (faults_of_the_five deck_jobs deck_are_jobs).card _ c five.card_follows (caused-so card _ _ c (card-relay Loaded) five.card_follows
+          (ended-at 1 (lit≤ tt, lit≤ tt)) e);
+      input = λ c e. (faults_of_the_five deck_jobs deck_are_jobs).input _ c five.input_follows (caused-so input _ _ c (input-relay Loaded) five.input_follows
+          (ended-at 2 (lit≤ tt, lit≤ tt)) e);
+      job = λ c e. (faults_of_the_five deck_jobs deck_are_jobs).job _ c five.job_follows
+          (caused-so (job deck_jobs) _ _ c (job-relay deck_are_jobs) five.job_follows (ended-at 3 (lit≤ tt, lit≤ tt)) e);
       output = λ c e. (faults_of_the_five deck_jobs deck_are_jobs).output _ c five.output_follows
           (caused-so output _ _ c (output-relay Loaded) five.output_follows (ended-at 4 (lit≤ tt, lit≤ tt)) e);
       printer = λ c e. (faults_of_the_five deck_jobs deck_are_jobs).printer _ c five.printer_follows

@@ -29,7 +29,8 @@ known-files files found items valid (inl told) = inl (ap is_some told)
 known-files files found items valid (inr none) = inr (valid, none)
 
 -- what an opening over told devices is
-abbrev pub opening_of : (spools : Spools) (items : List Item) (paper : Option (List ℕ)) (files : Option Loads) → AreGoodFiles deck_jobs files → AreInBounds spools → Opening deck_jobs
+abbrev pub opening_of : (spools : Spools) (items : List Item) (paper : Option (List ℕ)) (files : Option Loads) → AreGoodFiles deck_jobs files
+    → AreInBounds spools → Opening deck_jobs
 opening_of spools items paper files good bounds = record {
   spools = spools;
   deck = Some items;
@@ -59,7 +60,8 @@ pub the-run : (spools : Spools) (items : List Item) (paper : Option (List ℕ)) 
     → TheRun (the_law deck_jobs) rule (opened spools (Some items) paper files)
 the-run spools items paper files found rule good are bounds told valid =
     let o = opening_of spools items paper files good bounds in
-    some-run (the_law deck_jobs) (sound deck_are_jobs) (sure deck_are_jobs) o (tells-all spools items paper files found good bounds valid are told) rule (first_state o) (opening-reached deck_are_jobs o)
+    some-run (the_law deck_jobs) (sound deck_are_jobs) (sure deck_are_jobs) o (tells-all spools items paper files found good bounds valid are told) rule
+        (first_state o) (opening-reached deck_are_jobs o)
 
 pub some-counts : (spools : Spools) (items : List Item) (paper : Option (List ℕ)) (files : Option Loads) (found : Loads) (rule : Rule)
     → AreGoodFiles deck_jobs files → AreFound files found items → AreInBounds spools → AreTold spools → AreItems items
