@@ -1,3 +1,4 @@
+
 mod SpoolVisits
 mod DeviceVisits
 mod Performing

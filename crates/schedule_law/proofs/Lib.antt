@@ -1,3 +1,4 @@
+
 mod AllSmooth
 mod AllDone
 pub mod TheCounts

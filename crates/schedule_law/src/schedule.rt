@@ -1,7 +1,6 @@
 ghost use Rattle.std.specs.Prelude.{◌≡◌, ◌≤◌, ◌<◌, true, List, [], Some};
 ghost use Rattle.solo_base.specs.declared.item.Item.{Item};
 ghost use Rattle.solo_devices.specs.CardUnit.{items_ahead};
-ghost use Rattle.page_codec.specs.Items.{AreItems};
 ghost use Rattle.network_run.specs.declared.rules.Rule.TheVariants as rule;
 ghost use Rattle.network_run.specs.OneRun.{AreItsCounts};
 ghost use Rattle.core_law.specs.FilesKnown.{AreFilesKnown};
@@ -11,8 +10,9 @@ ghost use Rattle.core_law.specs.TheLaw.{the_law};
 ghost use Rattle.core_net.specs.Causes.{counting};
 ghost use Rattle.core_net.specs.Ended.{all_done};
 ghost use Rattle.core_net.specs.Faults.{devices_left};
-ghost use Rattle.core_net.specs.Openings.{spools_over, files_found};
+ghost use Rattle.core_net.specs.Openings.{spools_over};
 ghost use Rattle.schedule_law.specs.NoneCounted.{NoneCounted, NoneLacked};
+ghost use Rattle.deck_work.specs.DeckJobs.{files_found, deck_jobs};
 
 use core_net::{Net, Ran};
 use disk_files::FileArea;
@@ -39,10 +39,10 @@ pub fn run_schedule<S: Source, K: Sink, A: Area, B: Area, F: Area>(
 
     // That none did is seen from the outcomes,
     ensures done { (items : List Item) → items_ahead (S.left source) [] ≡ Some items →
-        AreFilesKnown (files_found (F.pages files.area)) items →
+        AreFilesKnown deck_jobs (files_found (F.pages files.area)) items →
         AreTold (spools_over (A.size input) (A.pages input) (B.size output) (B.pages output)) →
         result.0.outcomes ≡ all_done →
-        AreItsCounts the_law (rule.Numbered number)
+        AreItsCounts (the_law deck_jobs) (rule.Numbered number)
         (opened
         (spools_over (A.size input) (A.pages input) (B.size output) (B.pages output))
         (items_ahead (S.left source) [])
@@ -50,14 +50,14 @@ pub fn run_schedule<S: Source, K: Sink, A: Area, B: Area, F: Area>(
         (files_found (F.pages files.area))) result.1 }
 
     // or from the devices, none of which counted a failure, where no process ended for want of memory.
-    ensures uncounted { (items : List Item) → items_ahead (S.left source) [] ≡ Some items → AreItems items →
-        AreFilesKnown (files_found (F.pages files.area)) items →
+    ensures uncounted { (items : List Item) → items_ahead (S.left source) [] ≡ Some items →
+        AreFilesKnown deck_jobs (files_found (F.pages files.area)) items →
         AreTold (spools_over (A.size input) (A.pages input) (B.size output) (B.pages output)) →
         NoneCounted (counting S.faults S.taken K.faults A.faults B.faults F.faults)
         record { source = source; sink = sink; input = input; output = output; files = files.area }
         (devices_left result.0) →
         NoneLacked result.0.outcomes →
-        AreItsCounts the_law (rule.Numbered number)
+        AreItsCounts (the_law deck_jobs) (rule.Numbered number)
         (opened
         (spools_over (A.size input) (A.pages input) (B.size output) (B.pages output))
         (items_ahead (S.left source) [])

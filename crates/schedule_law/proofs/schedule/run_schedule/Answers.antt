@@ -17,8 +17,8 @@ returns-clause-done g c = λ items is known told.
     (to-end (c.run_numbered-counts.ensures.runs at) c.finish.ensures.ends)
 
 pub returns-clause-uncounted : goal.returns-clause-uncounted
-returns-clause-uncounted g c = λ items is valid known told.
+returns-clause-uncounted g c = λ items is known told.
     let at = first_place c.make-net.ensures.opens in
     where-none_counted at.opening at.state at.reached record { spools = told; items = items; deck = is; files = known }
-    (to-end (c.run_numbered-counts.ensures.runs at) c.finish.ensures.ends) valid
+    (to-end (c.run_numbered-counts.ensures.runs at) c.finish.ensures.ends)
     (c.finish.ensures.counted _ (c.run_numbered-counts.ensures.keeps.counted _ c.make-net.ensures.counted))
