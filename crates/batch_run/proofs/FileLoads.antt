@@ -17,11 +17,10 @@ use Rattle.core_law.specs.Core.{Devices, Allows}
 use Rattle.core_law.specs.FilesLoaded.{file_loaded, AreLoadedSo}
 use Rattle.core_law.proofs.Loading.{card-loads, lack-loads, loaded-more}
 use Rattle.core_net.specs.Devices.{LoadsFile}
-use Rattle.core_net.specs.Openings.{files_found}
 use Rattle.batch_run.specs.Files.{AreLoadedAs, FilesRan}
 use Rattle.batch_run.proofs.Decks.{new-none, rose-later}
 use Rattle.disk_system.specs.declared.loading.Loaded.{Loaded}
-use Rattle.deck_work.specs.DeckJobs.{deck_jobs, deck_are_jobs}
+use Rattle.deck_work.specs.DeckJobs.{files_found, deck_jobs, deck_are_jobs}
 
 -- ---- one load
 loaded-as : (found : Loads) (file : List ℕ) (r : Reply Loaded) (h : List (Entry Loaded)) (devices : Devices Loaded) → devices.files ≡ Some found
