@@ -14,6 +14,9 @@ pub trait Loader<J: JobWork> {
     /// What each file is loaded as, where it tells this.
     ghost found: { Self → Option (FilesAs J.Load) };
 
+    /// The pages that it loads from, where it tells them.
+    ghost pages: { Self → Option (List (List ℕ)) };
+
     /// How often a load failed so far.
     ghost faults: { Self → ℕ };
 
@@ -26,7 +29,8 @@ pub trait Loader<J: JobWork> {
         ensures loads { AnswersLoad J.jobs (found self.old) file.now result }
         ensures failed { result ≡ reply.Failed → Rose (faults self.old) (faults self.new) }
         ensures counts { faults self.old ≤ faults self.new }
-        ensures stays { found self.new ≡ found self.old }
+        ensures found { found self.new ≡ found self.old }
+        ensures left { pages self.new ≡ pages self.old }
         ensures sound { result ≢ reply.Failed → sound self.new };
 
     /// What is found is a load.
