@@ -10,7 +10,7 @@ use solo_base::Ident;
 use std::alloc::Global;
 
 /// What loads the files of jobs.
-pub trait Loader<J: JobWork> {
+pub trait Loader<J: JobWork>: Drop {
     /// What each file is loaded as, where it tells this.
     ghost found: { Self → Option (FilesAs J.Load) };
 
