@@ -296,7 +296,8 @@ module _ {L : Type 0} (J : Jobs L) where
       let tk : most * length (handed (taken h ++ [])) ≡ most * length (handed (taken h)) = ap (λ ps. most * length (handed ps)) (append-nil (taken h)) in
       omega (arith, st, tk, bound)
 
-  works-falls : (weight most : ℕ) (p : Process L) (h : List (Entry L)) (a : Action) (r : Reply L) → IsRelay p → GivesAtMost J most p → Follows J p (Does a r ∷ h)
+  works-falls : (weight most : ℕ) (p : Process L) (h : List (Entry L)) (a : Action) (r : Reply L) → IsRelay p → GivesAtMost J most p
+      → Follows J p (Does a r ∷ h)
       → caused h ≡ None → given_cause a r h ≡ None → Falls weight most p h a r
   works-falls weight most p h act.ReadCard r relay bound follows none given =
       falls-take weight most p h act.ReadCard r bound (counted p most h relay bound follows.2) refl (take-one act.ReadCard r h tt follows.1 given)
@@ -387,7 +388,8 @@ module _ {L : Type 0} (J : Jobs L) where
       omega (arith, same, none)
   release-falls weight d p h other fits = absurd fits
 
-  stop-lowers : (weight d : ℕ) (p : Process L) (how : Outcome) (h : List (Entry L)) (b : ℕ) (r : Reply L) → stops_next p.buffers how h ≡ act.Stop b → Fits J (act.Stop b)
+  stop-lowers : (weight d : ℕ) (p : Process L) (how : Outcome) (h : List (Entry L)) (b : ℕ) (r : Reply L) → stops_next p.buffers how h ≡ act.Stop b
+      → Fits J (act.Stop b)
       r
       → ClosesFalls weight d p false h (act.Stop b) r
   stop-lowers weight d p how h b reply.Done e fits =

@@ -162,7 +162,8 @@ module _ {L : Type 0} (J : Jobs L) where
   load-of (act.Load file) load fits = (file, refl)
   load-of other load fits = absurd fits
 
-  pub answers-load : {W X : Type 0} (p : Process L) (keeps : W → List (Parcel L) → List (Parcel L) → Bool → Type 0) (old new : W) (a : Action) (r : Reply L) (load : L)
+  pub answers-load : {W X : Type 0} (p : Process L) (keeps : W → List (Parcel L) → List (Parcel L) → Bool → Type 0) (old new : W) (a : Action) (r : Reply L)
+      (load : L)
       → IsRelay p → r ≡ reply.Loaded load
       → ((taken sent : List (Parcel L)) (file : List ℕ) (later : List (List ℕ)) → keeps old taken sent true → p.wants taken ≡ file ∷ later
       → keeps new (taken ++ OfLoad load ∷ []) sent true) → Answers J p keeps old a r (Ok None) new

@@ -193,7 +193,8 @@ module _ {L : Type 0} (J : Jobs L) where
   ends-by : (p : Process L) (cause : Option Outcome) (h : List (Entry L)) (how : Outcome) → IsRelay p → Follows J p h → IsNotDone cause
       → next_by p cause h ≡ Some (act.Ended how) → EndsRightly p h how
   ends-by p None h how relay follows not_done next =
-      let is = aimed-end p.takes (p.wants (taken h)) (due p h) (is_ended (taken h)) (unworked p h) how relay.takes (working-end (newest h) (aim p h) how next) in
+      let is = aimed-end p.takes (p.wants (taken h)) (due p h) (is_ended (taken h)) (unworked p h) how relay.takes
+          (working-end (newest h) (aim p h) how next) in
       record {
         done =
             λ e. (
@@ -207,5 +208,6 @@ module _ {L : Type 0} (J : Jobs L) where
       let all = closes-end p.buffers cause how h (closing-next (newest h) (closes p.buffers cause h) (act.Ended how) next) in
       record { done = λ e. absurd (subst (λ o. IsNotDone (Some o)) (sym all.same ∙ e) not_done); otherwise = λ other. all.all }
 
-  pub ends-next : (p : Process L) (h : List (Entry L)) (how : Outcome) → IsRelay p → Follows J p h → next_action p h ≡ Some (act.Ended how) → EndsRightly p h how
+  pub ends-next : (p : Process L) (h : List (Entry L)) (how : Outcome) → IsRelay p → Follows J p h → next_action p h ≡ Some (act.Ended how)
+      → EndsRightly p h how
   ends-next p h how relay follows next = ends-by p (caused h) h how relay follows (caused-not_done h) next

@@ -29,7 +29,8 @@ module _ {L : Type 0} (J : Jobs L) where
   stopped-same [] how r h all = tt
   stopped-same (b ∷ later) how r h all = (all.0, stopped-same later how r h all.1)
 
-  ends-entry : (p : Process L) (how : Outcome) (r : Reply L) (h : List (Entry L)) → r ≡ reply.Done → EndsRightly p h how → EndsRightly p (Does (act.Ended how) r ∷ h) how
+  ends-entry : (p : Process L) (how : Outcome) (r : Reply L) (h : List (Entry L)) → r ≡ reply.Done → EndsRightly p h how
+      → EndsRightly p (Does (act.Ended how) r ∷ h) how
   ends-entry p how r h is e =
       let taken-is : taken h ++ taken_by r ≡ taken h = ap (λ r. taken h ++ taken_by r) is ∙ append-nil (taken h) in
       record {

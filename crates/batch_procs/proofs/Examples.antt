@@ -44,7 +44,8 @@ again = refl
 ends : next_action (card {L = Unit {0}}) (Does (act.PutFeed feed.End) reply.Done ∷ Does act.ReadCard (reply.Card read.End) ∷ []) ≡ Some (act.Ended outcome.Done)
 ends = refl
 
-fails : next_action (card {L = Unit {0}}) (Does (act.Stop 1) reply.Done ∷ Does act.ReadCard (reply.Card read.Failed) ∷ []) ≡ Some (act.Ended (outcome.Fault cause.ReadFault))
+fails : next_action (card {L = Unit {0}}) (Does (act.Stop 1) reply.Done ∷ Does act.ReadCard (reply.Card read.Failed) ∷ []) ≡ Some
+    (act.Ended (outcome.Fault cause.ReadFault))
 fails = refl
 
 -- input: it awaits room, requests, puts, releases; the last page
@@ -113,12 +114,14 @@ job_done : next_action (job small) (Does act.Release reply.Done ∷ Does (act.Pu
 job_done = refl
 
 -- without the memory to unpack, the disk is released first
-lacks : next_action (job small) (LacksMemory act.TakePage (reply.Page (page_of 0 true []) true) ∷ Does act.Request reply.Done ∷ Does act.AwaitItem reply.Done ∷ [])
+lacks : next_action (job small)
+    (LacksMemory act.TakePage (reply.Page (page_of 0 true []) true) ∷ Does act.Request reply.Done ∷ Does act.AwaitItem reply.Done ∷ [])
     ≡ Some act.Release
 lacks = refl
 
 -- a page that isn't the one expected
-damaged : next_action (output {L = Unit {0}}) (Does act.Release reply.Done ∷ Does act.TakePage (reply.Page (page_of 1 true []) true) ∷ Does act.Request reply.Done
+damaged : next_action (output {L = Unit {0}}) (Does act.Release reply.Done ∷ Does act.TakePage
+    (reply.Page (page_of 1 true []) true) ∷ Does act.Request reply.Done
     ∷ Does act.AwaitItem reply.Done ∷ []) ≡ Some (act.Stop 3)
 damaged = refl
 

@@ -117,6 +117,7 @@ module _ {L : Type 0} (J : Jobs L) where
           let rest = unstopped-less later b r h in
           rw (is, eq-eqb c b same) (omega (arith, rest))
 
-  pub unstopped-same : (buffers : List ℕ) (h now : List (Entry L)) → ((b : ℕ) → has_stopped b now ≡ has_stopped b h) → unstopped buffers now ≡ unstopped buffers h
+  pub unstopped-same : (buffers : List ℕ) (h now : List (Entry L)) → ((b : ℕ) → has_stopped b now ≡ has_stopped b h)
+      → unstopped buffers now ≡ unstopped buffers h
   unstopped-same [] h now same = refl
   unstopped-same (b ∷ later) h now same = rw (same b, unstopped-same later h now same) refl

@@ -147,14 +147,16 @@ module _ {L : Type 0} (J : Jobs L) where
     put : IsPut a → IsPutOf Kind a
     load : (file : List ℕ) → a ≡ act.Load file → WantsSome p
 
-  first-kind : (Kind : Parcel L → Type 0) (all : List (Parcel L)) (n : ℕ) (first : Parcel L) (more : List (Parcel L)) → AllByRecursion Kind all → drop n all ≡ first ∷ more
+  first-kind : (Kind : Parcel L → Type 0) (all : List (Parcel L)) (n : ℕ) (first : Parcel L) (more : List (Parcel L)) → AllByRecursion Kind all
+      → drop n all ≡ first ∷ more
       → Kind first
   first-kind Kind [] zero first more kinds e = absurd cc
   first-kind Kind [] (suc n) first more kinds e = absurd cc
   first-kind Kind (x ∷ all) zero first more kinds e = (let same : x ≡ first = cc in subst Kind same kinds.0)
   first-kind Kind (x ∷ all) (suc n) first more kinds e = first-kind Kind all n first more kinds.1 e
 
-  makes : (p : Process L) (Kind : Parcel L → Type 0) (h : List (Entry L)) (a : Action) → IsRelay p → ((all : List (Parcel L)) → AllByRecursion Kind (p.sends all))
+  makes : (p : Process L) (Kind : Parcel L → Type 0) (h : List (Entry L)) (a : Action) → IsRelay p
+      → ((all : List (Parcel L)) → AllByRecursion Kind (p.sends all))
       → Follows J p h → next_action p h ≡ Some a → Makes p Kind a
   makes p Kind h a relay kinds follows next = record {
     take = λ take. (next-take J p h a next take).same;
@@ -170,7 +172,8 @@ module _ {L : Type 0} (J : Jobs L) where
   abbrev FaultBy : Process L → (Parcel L → Type 0) → Cause → Type 0
   FaultBy p Kind c = ((a : Action) × (Makes p Kind a × FaultOf a c)) ⊎ ((p.works ≡ true) × (c ≡ cause.NoMemory))
 
-  fault-here : (p : Process L) (Kind : Parcel L → Type 0) (h : List (Entry L)) (c : Cause) → IsRelay p → ((all : List (Parcel L)) → AllByRecursion Kind (p.sends all))
+  fault-here : (p : Process L) (Kind : Parcel L → Type 0) (h : List (Entry L)) (c : Cause) → IsRelay p
+      → ((all : List (Parcel L)) → AllByRecursion Kind (p.sends all))
       → Follows J p h → caused h ≡ Some (outcome.Fault c) → FaultBy p Kind c
   fault-here p Kind [] c relay kinds follows e = absurd cc
   fault-here p Kind (Does a r ∷ h) c relay kinds follows e =
@@ -194,7 +197,8 @@ module _ {L : Type 0} (J : Jobs L) where
   lines-kind [] = tt
   lines-kind (line ∷ rest) = (tt, lines-kind rest)
 
-  given-kind : (given : Option Page) (rest : List (Parcel L)) → AllByRecursion IsAPage rest → AllByRecursion IsAPage (marked false (option_to_list given) ++ rest)
+  given-kind : (given : Option Page) (rest : List (Parcel L)) → AllByRecursion IsAPage rest → AllByRecursion IsAPage
+      (marked false (option_to_list given) ++ rest)
   given-kind None rest is = is
   given-kind (Some page) rest is = (tt, is)
 
@@ -284,12 +288,14 @@ module _ {L : Type 0} (J : Jobs L) where
           | inl made ↦ card-by made.0 c made.1.0 made.1.1
           | inr lacks ↦ absurd (idle (card {L = L}).works refl lacks.0)
         ];
-    input = λ h c follows e. elim (fault-here input IsAPage h c (input-relay L) (λ all. pages-kind first_page (feeds all)) follows e) as (λ _. c ≡ cause.DiskFault) [
+    input = λ h c follows e. elim (fault-here input IsAPage h c (input-relay L) (λ all. pages-kind first_page (feeds all)) follows e) as
+        (λ _. c ≡ cause.DiskFault) [
       | inl made ↦ input-by made.0 c made.1.0 made.1.1
       | inr lacks ↦ absurd (idle (input {L = L}).works refl lacks.0)
     ];
     job =
-        λ h c follows e. elim (fault-here (job J) IsAPage h c (job-relay jobs) (λ all. pages-kind first_page (job_lines J (unpacked 0 all) (loads all))) follows e) as (λ _. (c
+        λ h c follows e. elim (fault-here (job J) IsAPage h c (job-relay jobs)
+            (λ all. pages-kind first_page (job_lines J (unpacked 0 all) (loads all))) follows e) as (λ _. (c
         ≡ cause.DiskFault) ⊎ (IsDamaged c ⊎ (c ≡ cause.NoMemory))) [
           | inl made ↦ job-by made.0 c made.1.0 made.1.1
           | inr lacks ↦ inr (inr lacks.1)

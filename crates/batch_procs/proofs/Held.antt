@@ -254,7 +254,8 @@ module _ {L : Type 0} (J : Jobs L) where
   kept-after p h act.Release r relay is kept next fits = refl
   kept-after p h other r relay is kept next fits = free-holds_not (newest h) (aim p h) (holds h) (AwaitedRoom h) (AwaitedItem h) other kept next tt
 
-  pub kept : (p : Process L) (h : List (Entry L)) → IsRelay p → Follows J p h → caused h ≡ None → KeptBy (newest h) (aim p h) (holds h) (AwaitedRoom h) (AwaitedItem h)
+  pub kept : (p : Process L) (h : List (Entry L)) → IsRelay p → Follows J p h → caused h ≡ None → KeptBy (newest h) (aim p h) (holds h) (AwaitedRoom h)
+      (AwaitedItem h)
   kept p [] relay follows none = refl
   kept p (Does a r ∷ h) relay follows none =
       let before = or-none (caused h) (given_cause a r h) none in

@@ -89,7 +89,8 @@ module _ {L : Type 0} (J : Jobs L) where
   pub puts-awaited : (p : Process L) (h : List (Entry L)) (page : Page) → IsRelay p → Follows J p h → next_action p h ≡ Some (act.PutPage page) → AwaitedRoom h
   puts-awaited p h page relay follows next =
       let none = open-next J p h (act.PutPage page) next tt in
-      puts-by (newest h) (aim p h) (holds h) (AwaitedRoom h) (AwaitedItem h) page (kept J p h relay follows none) (works-next J p h (act.PutPage page) next none)
+      puts-by (newest h) (aim p h) (holds h) (AwaitedRoom h) (AwaitedItem h) page (kept J p h relay follows none)
+          (works-next J p h (act.PutPage page) next none)
 
   holds-on : (newest : Option Action) (aim : Action) (held : Bool) (room item : Type 0) → KeptBy newest aim held room item → held ≡ true
       → HoldsOn (working newest aim)
@@ -140,7 +141,8 @@ module _ {L : Type 0} (J : Jobs L) where
       let none = open-next J p h act.TakePage next tt in
       takes-by (newest h) (aim p h) (holds h) (AwaitedRoom h) (AwaitedItem h) (kept J p h relay follows none) (works-next J p h act.TakePage next none)
 
-  holds-by : (p : Process L) (cause : Option Outcome) (h : List (Entry L)) → (cause ≡ None → KeptBy (newest h) (aim p h) (holds h) (AwaitedRoom h) (AwaitedItem h))
+  holds-by : (p : Process L) (cause : Option Outcome) (h : List (Entry L)) → (cause ≡ None → KeptBy (newest h) (aim p h) (holds h) (AwaitedRoom h)
+      (AwaitedItem h))
       → ((how : Outcome) → newest h ≡ Some (act.Ended how) → ⊥) → holds h ≡ true → HoldsOn (next_by p cause h)
   holds-by p None h is not held = holds-on (newest h) (aim p h) _ (AwaitedRoom h) (AwaitedItem h) (is refl) held
   holds-by p (Some cause) h is not held =

@@ -15,7 +15,7 @@ use Rattle.page_codec.specs.declared.judge.BadPage.{BadPage}
 use Rattle.page_codec.specs.Reading.{PageContent, bad_place, content_or_bad, page_read}
 use Rattle.page_codec.specs.Stream.{Awaited, at_the_first, awaited_after}
 use Rattle.batch_procs.specs.Jobs.{Jobs, AreJobs}
-use Rattle.batch_procs.specs.JobTold.{JobTold, nothing_told, with_page, with_found, wanted, Packs}
+use Rattle.batch_procs.specs.JobTold.{JobTold, nothing_told, with_page, with_found, wanted, PushesLines}
 use Rattle.batch_procs.specs.declared.actions.Reply.{Reply}
 use Rattle.batch_procs.specs.declared.actions.Reply.TheVariants as reply
 use Rattle.batch_procs.specs.Parcels.{Parcel, OfFeed, OfPage, OfLine, OfLoad, loads, pages, is_last, is_ended, mark, NothingBehind}
@@ -23,7 +23,7 @@ use Rattle.batch_procs.specs.History.{taken_by}
 use Rattle.batch_procs.specs.Sends.{items, has_end, end_if, unpacked, items_then, lines_stream, marked, packed, job_lines, job_sends, job_wants}
 use Rattle.batch_procs.specs.Table.{job}
 use Rattle.batch_procs.specs.Work.{MayTake, cause_of}
-use Rattle.batch_procs.specs.KeepsJob.{IsNext, HasSent, told_by, KeepsJob}
+use Rattle.batch_procs.specs.KeepsJob.{IsNext, HasSent, told_with, KeepsJob}
 use Rattle.batch_procs.specs.Pages.{ReadsOn}
 use Rattle.batch_procs.specs.Parts.{some-same, drop-part}
 use Rattle.batch_procs.specs.Relays.{mark-of, packed-ends, goes-on, loads-append, loads-one, unpacked-load}
@@ -259,7 +259,7 @@ module _ {L : Type 0} {J : Jobs L} (jobs : AreJobs J) where
       ∙ ap (λ is. items (unpacked 0 taken) ++ is) (then-items content.items last) in
       let end_is : has_end (unpacked 0 (taken ++ OfPage page last ∷ [])) ≡ last = ap has_end more ∙ on.end_is ∙ then-end content.items last in
       let same_loads : loads (taken ++ OfPage page last ∷ []) ≡ loads taken = loads-append taken (OfPage page last ∷ []) ∙ append-nil (loads taken) in
-      let fed = feeds (told_by taken keeps.pushed keeps.rests) keeps.keeps rests (keeps.end_is ∙ goes) in (
+      let fed = feeds (told_with taken keeps.pushed keeps.rests) keeps.keeps rests (keeps.end_is ∙ goes) in (
         no-damage J was.place taken page last content r is reads read,
         rw (after, is) record {
           work_is = refl;
@@ -312,13 +312,13 @@ module _ {L : Type 0} {J : Jobs L} (jobs : AreJobs J) where
 
   module _ {old now : JobTold L → Type 0} {awaited : Awaited} {packer hand : PageInHand} {due : Option Page} {toil : Bool} {taken sent : List (Parcel L)}
       (keeps : KeepsJob J old awaited packer due toil taken sent true) (loaded : job_wants J taken ≡ []) (page : Option Page)
-      (packing : (told : JobTold L) → old told → wanted J told ≡ [] → Packs J now told packer page hand) where
+      (packing : (told : JobTold L) → old told → wanted J told ≡ [] → PushesLines J now told packer page hand) where
     whole : J.whole (items (unpacked 0 taken)) (loads taken) awaited.ended ≡ awaited.ended
     whole = jobs.all_loaded (items (unpacked 0 taken)) (loads taken) awaited.ended
         (few-dropped (length (loads taken)) (J.named (items (unpacked 0 taken))) loaded)
 
-    packs : Packs J now (told_by taken keeps.pushed keeps.rests) packer page hand
-    packs = packing (told_by taken keeps.pushed keeps.rests) keeps.keeps loaded
+    packs : PushesLines J now (told_with taken keeps.pushed keeps.rests) packer page hand
+    packs = packing (told_with taken keeps.pushed keeps.rests) keeps.keeps loaded
 
     all-sent : job_sends J taken ≡ marked false (pages_given first_page (keeps.pushed ++ packs.lines))
         ++ packed (hand_behind first_page (keeps.pushed ++ packs.lines)) (lines_stream packs.left awaited.ended)
@@ -327,7 +327,7 @@ module _ {L : Type 0} {J : Jobs L} (jobs : AreJobs J) where
 
   module _ {old now : JobTold L → Type 0} {awaited : Awaited} {packer hand : PageInHand} {due : Option Page} {toil : Bool} {taken sent : List (Parcel L)}
       (keeps : KeepsJob J old awaited packer due toil taken sent true) (loaded : job_wants J taken ≡ []) where
-    pub job-works-page : (page : Page) → ((told : JobTold L) → old told → wanted J told ≡ [] → Packs J now told packer (Some page) hand)
+    pub job-works-page : (page : Page) → ((told : JobTold L) → old told → wanted J told ≡ [] → PushesLines J now told packer (Some page) hand)
         → KeepsJob J now awaited hand (Some page) false taken sent false
     job-works-page page packing =
         let told = packs keeps loaded (Some page) packing in
@@ -359,7 +359,7 @@ module _ {L : Type 0} {J : Jobs L} (jobs : AreJobs J) where
         }
 
     -- where no push gave a page, all lines so far are in the pages that went out and in the page in hand
-    no-page : (packing : (told : JobTold L) → old told → wanted J told ≡ [] → Packs J now told packer None hand)
+    no-page : (packing : (told : JobTold L) → old told → wanted J told ≡ [] → PushesLines J now told packer None hand)
         → HasSent hand (keeps.pushed ++ (packs keeps loaded None packing).lines) sent
     no-page packing =
         let told = packs keeps loaded None packing in
@@ -368,7 +368,7 @@ module _ {L : Type 0} {J : Jobs L} (jobs : AreJobs J) where
         subst (HasSent hand (keeps.pushed ++ told.lines)) (append-nil sent) put
 
     -- and the rest is the end, where it has come
-    left-then : (packing : (told : JobTold L) → old told → wanted J told ≡ [] → Packs J now told packer None hand)
+    left-then : (packing : (told : JobTold L) → old told → wanted J told ≡ [] → PushesLines J now told packer None hand)
         → drop (length sent) (job_sends J taken)
         ≡ packed (hand_behind first_page (keeps.pushed ++ (packs keeps loaded None packing).lines)) (end_if awaited.ended)
     left-then packing =
@@ -382,7 +382,7 @@ module _ {L : Type 0} {J : Jobs L} (jobs : AreJobs J) where
         ∙ drop-part sent behind
 
     pub job-works-on : (then_due : Option Page) → then_due ≡ None → awaited.ended ≡ false
-        → ((told : JobTold L) → old told → wanted J told ≡ [] → Packs J now told packer None hand)
+        → ((told : JobTold L) → old told → wanted J told ≡ [] → PushesLines J now told packer None hand)
         → KeepsJob J now awaited hand then_due false taken sent false
     job-works-on then_due gone goes packing =
         let told = packs keeps loaded None packing in
@@ -404,7 +404,7 @@ module _ {L : Type 0} {J : Jobs L} (jobs : AreJobs J) where
         }
 
     pub job-works-last : (page : Page) (new : PageInHand) → page ≡ page_of hand.place true hand.content → awaited.ended ≡ true
-        → ((told : JobTold L) → old told → wanted J told ≡ [] → Packs J now told packer None hand)
+        → ((told : JobTold L) → old told → wanted J told ≡ [] → PushesLines J now told packer None hand)
         → KeepsJob J now awaited new (Some page) false taken sent false
     job-works-last page new is over packing =
         let told = packs keeps loaded None packing in
@@ -474,7 +474,7 @@ module _ {L : Type 0} {J : Jobs L} (jobs : AreJobs J) where
             told-same now (items (unpacked 0 taken)) (items (unpacked 0 (taken ++ OfLoad load ∷ []))) (has_end (unpacked 0 taken))
             (has_end (unpacked 0 (taken ++ OfLoad load ∷ []))) (loads taken ++ load ∷ []) (loads (taken ++ OfLoad load ∷ [])) keeps.pushed keeps.rests
             (ap items (sym same)) (ap has_end (sym same)) (sym (loads-one taken load))
-            (found (told_by taken keeps.pushed keeps.rests) file later keeps.keeps wants);
+            (found (told_with taken keeps.pushed keeps.rests) file later keeps.keeps wants);
         none_wanted = λ e. absurd cc;
         next = λ e. absurd cc;
         toiling = λ e. keeps.toiling on;

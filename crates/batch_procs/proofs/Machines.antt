@@ -87,7 +87,8 @@ module _ {L : Type 0} (J : Jobs L) where
         | false ↦ (λ e. refl)
       ] refl
 
-  held-after : (p : Process L) (h : List (Entry L)) (a : Action) → IsRelay p → Follows J p h → next_action p h ≡ Some a → holds_after (holds h) a ≡ held_at (step_of a)
+  held-after : (p : Process L) (h : List (Entry L)) (a : Action) → IsRelay p → Follows J p h → next_action p h ≡ Some a → holds_after (holds h) a ≡ held_at
+      (step_of a)
   held-after p h act.Request relay follows next = refl
   held-after p h act.Release relay follows next = refl
   held-after p h (act.PutPage page) relay follows next = moves-holding J p h (act.PutPage page) relay follows next tt
@@ -115,7 +116,8 @@ module _ {L : Type 0} (J : Jobs L) where
   stopped-same (b ∷ later) (suc n) h now same are = (same b ∙ are.0, stopped-same later n h now same are.1)
 
   -- no buffer but this one
-  stopped-others : (later : List ℕ) (b : ℕ) (r : Reply L) (h : List (Entry L)) → AreAbove b later → AreStopped later 0 h → AreStopped later 0 (Does (act.Stop b) r ∷ h)
+  stopped-others : (later : List ℕ) (b : ℕ) (r : Reply L) (h : List (Entry L)) → AreAbove b later → AreStopped later 0 h → AreStopped later 0
+      (Does (act.Stop b) r ∷ h)
   stopped-others [] b r h above are = tt
   stopped-others (c ∷ later) b r h above are = (other (c == b) refl, stopped-others later b r h above.1 are.1)
     where
@@ -151,7 +153,8 @@ module _ {L : Type 0} (J : Jobs L) where
   stops-none (c ∷ later) zero how h are is = absurd cc
   stops-none (c ∷ later) (suc n) how h are is = rw are.0 (stops-none later n how h are.1 is)
 
-  module _ {W X : Type 0} {p : Process L} {keeps : W → List (Parcel L) → List (Parcel L) → Bool → Type 0} {m : Machine X W} {h : List (Entry L)} (st : StandsFor J p keeps m h)
+  module _ {W X : Type 0} {p : Process L} {keeps : W → List (Parcel L) → List (Parcel L) → Bool → Type 0} {m : Machine X W} {h : List (Entry L)}
+      (st : StandsFor J p keeps m h)
       (relay : IsRelay p) where
     pub next-closes : (cause : Outcome) (a : Action) → m.cause ≡ Some cause → closes p.buffers cause h ≡ a → NextIs (next_action p h) a
     next-closes cause a e is = subst (λ c. NextIs (next_by p c h) a) (sym (sym st.cause ∙ e)) (closing-is (newest h) (closes p.buffers cause h) a is)
@@ -169,7 +172,8 @@ module _ {L : Type 0} (J : Jobs L) where
     closes-end cause off is = rw (held ∙ off) (stops-none p.buffers m.stops cause h st.stops is)
 
   -- ---- a call that waits
-  pub waits-on : {W X : Type 0} (p : Process L) (keeps : W → List (Parcel L) → List (Parcel L) → Bool → Type 0) (m : Machine X W) (h : List (Entry L)) (a : Action)
+  pub waits-on : {W X : Type 0} (p : Process L) (keeps : W → List (Parcel L) → List (Parcel L) → Bool → Type 0) (m : Machine X W) (h : List (Entry L))
+      (a : Action)
       → StandsFor J p keeps m h → next_action p h ≡ Some a → MayWait a → StandsFor J p keeps m (Delays a ∷ h)
   waits-on p keeps m h a st next may = record {
     follows = (next, may, st.follows);
@@ -264,7 +268,8 @@ module _ {L : Type 0} (J : Jobs L) where
   -- ---- what give does
   pub gives-done : {W X : Type 0} (p : Process L) (keeps : W → List (Parcel L) → List (Parcel L) → Bool
       → Type 0) (m : Machine X W) (work : W) (said : Action) (r : Reply L) (given : Option Outcome) (at : Step) (caused_now : Option Outcome) (n : ℕ) →
-      IsRelay p → Answers J p keeps m.work said r (Ok given) work → ((h : List (Entry L)) → StandsFor J p keeps m h → NextIs (next_action p h) said) → at ≡ step_of said
+      IsRelay p → Answers J p keeps m.work said r (Ok given) work → ((h : List (Entry L)) → StandsFor J p keeps m h → NextIs (next_action p h) said)
+          → at ≡ step_of said
       → caused_now ≡ or_new m.cause given → n ≡ stops_after m.stops said →
       (h : List (Entry L)) (a : Action) → StandsFor J p keeps m h → next_action p h ≡ Some a → Fits J a r
       → StandsFor J p keeps record { work = work; step = at; cause = caused_now; stops = n; of = m.of } (Does a r ∷ h)
@@ -282,6 +287,7 @@ module _ {L : Type 0} (J : Jobs L) where
       → StandsFor J p keeps record { work = work; step = at; cause = caused_now; stops = n; of = m.of } (LacksMemory a r ∷ h)
   gives-lacking p keeps m work said r refused at caused_now n answers says stepped caused_is stopped h a st next fits =
       let same : said ≡ a = next-same p h a said (says h st) next in
-      let lacks : (p.works ≡ true) × MayLack a r = (answers.lacks.0, subst (λ a. MayLack a r) same (answers.lacks.1 (subst (λ a. Fits J a r) (sym same) fits))) in
+      let lacks : (p.works ≡ true) × MayLack a r = (answers.lacks.0, subst (λ a. MayLack a r) same
+          (answers.lacks.1 (subst (λ a. Fits J a r) (sym same) fits))) in
       let stands = stands-lacking p keeps m h a r work st next lacks in
       rw (stepped ∙ ap step_of same, caused_is, stopped ∙ ap (stops_after m.stops) same) stands

@@ -145,13 +145,15 @@ module _ {L : Type 0} (J : Jobs L) where
     pub marked : IsMarked first
     pub worked : unworked p h ≡ false
 
-  due-worked : (t : Bool) (st all : List (Parcel L)) (first : Parcel L) (more : List (Parcel L)) → drop (length st) (if t then st else all) ≡ first ∷ more → t ≡ false
+  due-worked : (t : Bool) (st all : List (Parcel L)) (first : Parcel L) (more : List (Parcel L)) → drop (length st) (if t then st else all) ≡ first ∷ more
+      → t ≡ false
   due-worked true st all first more e = absurd (let none = drop-length st in let both = sym none ∙ e in cc)
   due-worked false st all first more e = refl
 
   pub next-putting : (p : Process L) (h : List (Entry L)) (a : Action) → IsRelay p → Follows J p h → next_action p h ≡ Some a → IsPut a → IsPutting p h a
   next-putting p h a relay follows next put =
-      let is = aimed-put J p.takes (p.wants (taken h)) (due p h) (is_ended (taken h)) (unworked p h) a relay.takes (next-put J p (caused h) h a next put).1 put in
+      let is = aimed-put J p.takes (p.wants (taken h)) (due p h) (is_ended (taken h)) (unworked p h) a relay.takes
+          (next-put J p (caused h) h a next put).1 put in
       let worked = due-worked (unworked p h) (sent h) (p.sends (taken h)) is.first is.more is.due_is in
       let left : drop (length (sent h)) (p.sends (taken h)) ≡ is.first
       ∷ is.more = ap (λ t. drop (length (sent h)) (if t then sent h else p.sends (taken h))) (sym worked) ∙ is.due_is in
@@ -189,7 +191,8 @@ module _ {L : Type 0} (J : Jobs L) where
   aimed-work takes a wanted [] false false take marked e work = absurd (take-no_work takes a take e work)
   aimed-work takes a wanted (parcel ∷ more) ended unworked take marked e work = absurd (puts-no_work parcel a (marked parcel more refl) e work)
 
-  due-marked : (p : Process L) (h : List (Entry L)) (first : Parcel L) (more : List (Parcel L)) → IsRelay p → Follows J p h → due p h ≡ first ∷ more → IsMarked first
+  due-marked : (p : Process L) (h : List (Entry L)) (first : Parcel L) (more : List (Parcel L)) → IsRelay p → Follows J p h → due p h ≡ first ∷ more
+      → IsMarked first
   due-marked p h first more relay follows is =
       let (rest, whole) = sent-is-part J p h relay follows in
       let (behind, rest-is) = due-rest J p h first more rest relay whole is in

@@ -311,7 +311,8 @@ module _ {L : Type 0} {J : Jobs L} (jobs : AreJobs J) where
   nobody-bound : GivesAtMost J 0 nobody
   nobody-bound = record { gives = λ all good. omega arith; names = λ all parcel. omega arith }
 
-  either : (t : Bool) (n m : ℕ) (this other : Process L) → GivesAtMost J n this → GivesAtMost J m other → GivesAtMost J (if t then n else m) (if t then this else other)
+  either : (t : Bool) (n m : ℕ) (this other : Process L) → GivesAtMost J n this → GivesAtMost J m other → GivesAtMost J (if t then n else m)
+      (if t then this else other)
   either true n m this other a b = a
   either false n m this other a b = b
 

@@ -67,7 +67,8 @@ module _ {L : Type 0} (J : Jobs L) where
       let P : Bool → Type 0 = λ t. IsPut (if t then act.Release else stops_next buffers how h) → ⊥ in
       elim (holds h) as P [ true ↦ (λ none. none) | false ↦ stops-no_put buffers how h ] put
 
-  pub next-put : (p : Process L) (cause : Option Outcome) (h : List (Entry L)) (a : Action) → next_by p cause h ≡ Some a → IsPut a → (cause ≡ None) × (aim p h ≡ a)
+  pub next-put : (p : Process L) (cause : Option Outcome) (h : List (Entry L)) (a : Action) → next_by p cause h ≡ Some a → IsPut a
+      → (cause ≡ None) × (aim p h ≡ a)
   next-put p None h a e put = (refl, working-put (newest h) (aim p h) a e put)
   next-put p (Some how) h a e put =
       absurd (closes-no_put p.buffers how h (subst IsPut (sym (closing-next (newest h) (closes p.buffers how h) a e)) put))

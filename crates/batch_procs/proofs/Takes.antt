@@ -95,7 +95,8 @@ module _ {L : Type 0} (J : Jobs L) where
       ∙ parcels-more (until_end (feeds taken)) f
 
   -- what the card process keeps of a card
-  pub card-takes : (due : List (Parcel L)) (was now : Bool) (taken sent : List (Parcel L)) (r : Reply L) (f : Feed) → taken_by r ≡ OfFeed f ∷ [] → now ≡ is_the_end f
+  pub card-takes : (due : List (Parcel L)) (was now : Bool) (taken sent : List (Parcel L)) (r : Reply L) (f : Feed) → taken_by r ≡ OfFeed f ∷ []
+      → now ≡ is_the_end f
       → KeepsDue card due was taken sent false → MayTake J card taken sent r → KeepsDue card (OfFeed f ∷ []) now (taken ++ taken_by r) sent false
   card-takes due was now taken sent r f is ends keeps may =
       due-take card due (OfFeed f ∷ []) was now taken sent r keeps may refl (ap (λ x. card_sends (taken ++ x)) is ∙ card-more taken f may.goes_on) (ends
@@ -136,7 +137,8 @@ module _ {L : Type 0} (J : Jobs L) where
       (ap (λ r. printer_sends (taken ++ taken_by r)) is ∙ printer-more taken f may.goes_on ∙ ap (λ ps. printer_sends taken ++ ps) (sym gives))
       (ends ∙ sym (ap (λ r. is_ended (taken_by r)) is ∙ or-nothing (is_the_end f)))
 
-  pub input-takes : (due new : List (Parcel L)) (was now : Bool) (hand then_hand : PageInHand) (taken sent : List (Parcel L)) (r : Reply L) (f : Feed) → r ≡ reply.Feed f
+  pub input-takes : (due new : List (Parcel L)) (was now : Bool) (hand then_hand : PageInHand) (taken sent : List (Parcel L)) (r : Reply L) (f : Feed)
+      → r ≡ reply.Feed f
       → KeepsInput due was hand taken sent false → MayTake J input taken sent r →
       new ≡ packed hand (f ∷ []) → now ≡ is_the_end f → (now ≡ false → then_hand ≡ hand_of hand (f ∷ []))
       → KeepsInput new now then_hand (taken ++ taken_by r) sent false

@@ -8,8 +8,8 @@ use Rattle.batch_procs.specs.declared.actions.Reply.TheVariants as reply
 use Rattle.batch_procs.specs.Jobs.{Jobs}
 
 -- A take is given what it takes, and a card that is read is an item. A call at a buffer may be told that the
--- other side has stopped, and a call of a device that it failed; a load and a print may be refused memory. What
--- is loaded is a load of these jobs. Any other call is done.
+-- other side has stopped, and a call of a device that it failed; a load and a print may be refused memory.
+-- What is loaded is a load of these jobs. Any other call is done.
 abbrev pub Fits : {L : Type 0} → Jobs L → Action → Reply L → Type 0
 Fits J act.ReadCard (reply.Card answer) = AreItems (item_of answer)
 Fits J (act.PutFeed f) reply.Done = Unit {0}

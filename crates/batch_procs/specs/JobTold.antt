@@ -49,7 +49,7 @@ first_of (file ∷ later) = Some file
 
 -- The next lines are pushed until a push gives a page, which goes out. Where none does, all lines of the
 -- items so far are pushed.
-pub record Packs {L : Type 0} (J : Jobs L) (now : JobTold L → Type 0) (told : JobTold L)
+pub record PushesLines {L : Type 0} (J : Jobs L) (now : JobTold L → Type 0) (told : JobTold L)
     (hand : PageInHand) (page : Option Page) (hand_then : PageInHand) : Type 0 where
   pub lines : List (List ℕ)
   pub pushes : PushesUpTo hand lines page

@@ -54,6 +54,8 @@ pub record AreJobs {L : Type 0} (J : Jobs L) : Type 0 where
   pub few_lines : (items : List Item) (loads : List L) (ended : Bool) → AreItems items
       → AllByRecursion J.IsLoad loads
       → length (J.lines items loads ended) ≤ J.most * length items + 1
+  -- So few that what they make of a run can be counted.
   pub some_lines : 0 < J.most
+  pub countable : J.most ≤ 404000000000000
   -- Where there is no file, what is loaded is a load.
   pub missing_loads : J.IsLoad J.missing

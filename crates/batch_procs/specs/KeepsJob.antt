@@ -22,8 +22,8 @@ pub record HasSent {L : Type 0} (hand : PageInHand) (lines : List (List ℕ)) (s
   pub pages : sent ≡ marked false (pages_given first_page lines)
 
 -- what its work on jobs was told by what was taken, with the lines that were pushed
-abbrev pub told_by : {L : Type 0} → List (Parcel L) → List (List ℕ) → Bool → JobTold L
-told_by taken pushed rests = record {
+abbrev pub told_with : {L : Type 0} → List (Parcel L) → List (List ℕ) → Bool → JobTold L
+told_with taken pushed rests = record {
   items = items (unpacked 0 taken);
   ended = has_end (unpacked 0 taken);
   loads = loads taken;
@@ -42,7 +42,7 @@ pub record KeepsJob {L : Type 0} (J : Jobs L) (now : JobTold L → Type 0) (awai
   -- the lines of all items that were taken are pushed, or still to be pushed
   pub pushed : List (List ℕ)
   pub rests : Bool
-  pub keeps : now (told_by taken pushed rests)
+  pub keeps : now (told_with taken pushed rests)
   -- no file is wanted where there is no work
   pub none_wanted : toil ≡ false → job_wants J taken ≡ []
   -- what is due is the first that is left

@@ -6,9 +6,9 @@ use Rattle.batch_procs.specs.Jobs.{Jobs, FilesAs}
 
 -- A load gives what a file may be loaded as: what this file is, where that is told. It may fail, and it may
 -- be refused memory.
-abbrev pub LoadsSo : {L : Type 0} → Jobs L → Option (FilesAs L) → List ℕ → Reply L → Type 0
-LoadsSo {L} J found file (reply.Loaded load) =
+abbrev pub AnswersLoad : {L : Type 0} → Jobs L → Option (FilesAs L) → List ℕ → Reply L → Type 0
+AnswersLoad {L} J found file (reply.Loaded load) =
     J.IsLoad load × ((files : FilesAs L) → found ≡ Some files → load ≡ files file)
-LoadsSo J found file reply.Failed = Unit {0}
-LoadsSo J found file reply.NoMemory = Unit {0}
-LoadsSo J found file other = ⊥
+AnswersLoad J found file reply.Failed = Unit {0}
+AnswersLoad J found file reply.NoMemory = Unit {0}
+AnswersLoad J found file other = ⊥

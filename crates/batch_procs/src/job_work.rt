@@ -1,6 +1,6 @@
 ghost use Rattle.std.specs.Prelude.{◌≡◌, ◌∷◌, ℕ, List, [], true, false, IfOk, OnOk};
 ghost use Rattle.batch_procs.specs.Jobs.{Jobs, AreJobs};
-ghost use Rattle.batch_procs.specs.JobTold.{JobTold, nothing_told, with_page, with_found, wanted, first_of, Packs};
+ghost use Rattle.batch_procs.specs.JobTold.{JobTold, nothing_told, with_page, with_found, wanted, first_of, PushesLines};
 
 use page_codec::{Packer, PageItems};
 use solo_base::{Ident, NoMemory, Page};
@@ -40,7 +40,7 @@ pub trait JobWork: Drop {
     /// far are pushed. No file is wanted.
     fn pack(&mut self, packer: &mut Packer) -> Result<Option<Page>, NoMemory>
         ensures { IfOk result (λ page. (told : JobTold Self.Load) → keeps self.old told
-            → wanted jobs told ≡ [] → Packs jobs (keeps self.new) told packer.old page packer.new) };
+            → wanted jobs told ≡ [] → PushesLines jobs (keeps self.new) told packer.old page packer.new) };
 
     /// What holds of its jobs.
     ghost are_jobs: { AreJobs jobs };

@@ -2,7 +2,7 @@ ghost use Rattle.std.specs.Prelude.{◌≡◌, ◌≢◌, ◌≤◌, ℕ, List, 
 ghost use Rattle.solo_devices.specs.Count.{Rose};
 ghost use Rattle.batch_procs.specs.declared.actions.Reply.TheVariants as reply;
 ghost use Rattle.batch_procs.specs.Jobs.{FilesAs};
-ghost use Rattle.batch_procs.specs.Loads.{LoadsSo};
+ghost use Rattle.batch_procs.specs.Loads.{AnswersLoad};
 
 use crate::Reply;
 use crate::job_work::JobWork;
@@ -10,9 +10,12 @@ use solo_base::Ident;
 use std::alloc::Global;
 
 /// What loads the files of jobs.
-pub trait Loader<J: JobWork> {
+pub trait Loader<J: JobWork>: Drop {
     /// What each file is loaded as, where it tells this.
     ghost found: { Self → Option (FilesAs J.Load) };
+
+    /// The pages that it loads from, where it tells them.
+    ghost pages: { Self → Option (List (List ℕ)) };
 
     /// How often a load failed so far.
     ghost faults: { Self → ℕ };
@@ -23,10 +26,11 @@ pub trait Loader<J: JobWork> {
     /// Loads the file of this name. It changes no file.
     fn load(&mut self, alloc: Global, file: &Ident) -> Reply<J::Load>
         requires { sound self.old }
-        ensures loads { LoadsSo J.jobs (found self.old) file.now result }
+        ensures loads { AnswersLoad J.jobs (found self.old) file.now result }
         ensures failed { result ≡ reply.Failed → Rose (faults self.old) (faults self.new) }
         ensures counts { faults self.old ≤ faults self.new }
-        ensures stays { found self.new ≡ found self.old }
+        ensures found { found self.new ≡ found self.old }
+        ensures left { pages self.new ≡ pages self.old }
         ensures sound { result ≢ reply.Failed → sound self.new };
 
     /// What is found is a load.

@@ -106,8 +106,10 @@ card-taken h read.Limit goes_on before =
       ended = λ e. absurd (true-false (is_ended (taken h)) (ap is_ended (sym same) ∙ e) goes_on);
     }
 
-card-other : (h : List (Entry Loaded)) (a : Action) (r : Reply Loaded) → Follows deck_jobs card h → next_action card h ≡ Some a → Fits deck_jobs a r → CardsTaken h → CardsTaken (Does a r ∷ h)
-card-other h act.ReadCard (reply.Card answer) follows next fits before = card-taken h answer (next-take deck_are_jobs card h act.ReadCard next tt).goes_on before
+card-other : (h : List (Entry Loaded)) (a : Action) (r : Reply Loaded) → Follows deck_jobs card h → next_action card h ≡ Some a → Fits deck_jobs a r
+    → CardsTaken h → CardsTaken (Does a r ∷ h)
+card-other h act.ReadCard (reply.Card answer) follows next fits before = card-taken h answer
+    (next-take deck_are_jobs card h act.ReadCard next tt).goes_on before
 card-other h act.ReadCard r follows next fits before = absurd fits
 card-other h act.TakeFeed r follows next fits before = absurd (let e = (next-take deck_are_jobs card h act.TakeFeed next tt).same in cc)
 card-other h act.TakePage r follows next fits before = absurd (let e = (next-take deck_are_jobs card h act.TakePage next tt).same in cc)
@@ -121,11 +123,13 @@ cards-taken (LacksMemory a r ∷ h) follows = absurd (let no = follows.1.0 in cc
 cards-taken (Delays a ∷ h) follows =
     (let before = cards-taken h follows.2 in record { goes_on = before.goes_on; ended = before.ended })
 
-pub deck-reads : (h : List (Entry Loaded)) (items rest : List Item) (deck : Option (List Item)) → Follows deck_jobs card h → deck ≡ Some rest → items ≡ cards_read h ++ rest
+pub deck-reads : (h : List (Entry Loaded)) (items rest : List Item) (deck : Option (List Item)) → Follows deck_jobs card h → deck ≡ Some rest
+    → items ≡ cards_read h ++ rest
     → (newest_read h ≡ Some read.End → rest ≡ []) → ReadsOf deck_are_jobs items deck (taken h)
 deck-reads h items rest deck follows now parts last =
     let all = cards-taken h follows in
-    let whole : item_parcels (cards_read h) ++ deck_parcels deck_are_jobs rest ≡ deck_parcels deck_are_jobs items = deck-append (cards_read h) rest ∙ ap (deck_parcels deck_are_jobs) (sym parts) in
+    let whole : item_parcels (cards_read h) ++ deck_parcels deck_are_jobs rest ≡ deck_parcels deck_are_jobs items = deck-append (cards_read h) rest
+        ∙ ap (deck_parcels deck_are_jobs) (sym parts) in
     record {
       left = rest;
       left_is = now;
@@ -138,7 +142,8 @@ deck-reads h items rest deck follows now parts last =
 one-line : (line : List ℕ) (st : List (Parcel Loaded)) → text_of deck_are_jobs (st ++ OfLine line ∷ []) ≡ text_of deck_are_jobs st ++ line_text line
 one-line line st = text-more deck_are_jobs st (OfLine line ∷ []) ∙ ap (λ last. text_of deck_are_jobs st ++ last) (append-nil (line_text line))
 
-print-done : (line : List ℕ) (r : Reply Loaded) (h : List (Entry Loaded)) → Fits deck_jobs (act.Print line) r → given_cause (act.Print line) r h ≡ None → r ≡ reply.Done
+print-done : (line : List ℕ) (r : Reply Loaded) (h : List (Entry Loaded)) → Fits deck_jobs (act.Print line) r → given_cause (act.Print line) r h ≡ None
+    → r ≡ reply.Done
 print-done line reply.Done h fits none = refl
 print-done line reply.Failed h fits none = absurd cc
 print-done line reply.NoMemory h fits none = absurd cc
@@ -146,9 +151,11 @@ print-done line r h fits none = absurd fits
 
 module _ (p : Process Loaded) (relay : IsRelay p) where
   -- without a cause all that was tried was printed
-  tried-other : (a : Action) (r : Reply Loaded) (h : List (Entry Loaded)) → IsNoPrint a → text_tried h ≡ text_of deck_are_jobs (sent h) → text_tried h ≡ text_of deck_are_jobs (sent h ++ put_by a r)
+  tried-other : (a : Action) (r : Reply Loaded) (h : List (Entry Loaded)) → IsNoPrint a → text_tried h ≡ text_of deck_are_jobs (sent h)
+      → text_tried h ≡ text_of deck_are_jobs (sent h ++ put_by a r)
   tried-other a r h is before =
-      before ∙ sym (text-more deck_are_jobs (sent h) (put_by a r) ∙ ap (λ more. text_of deck_are_jobs (sent h) ++ more) (entry-no_text deck_are_jobs (Does a r) is) ∙ append-nil (text_of deck_are_jobs (sent h)))
+      before ∙ sym (text-more deck_are_jobs (sent h) (put_by a r) ∙ ap (λ more. text_of deck_are_jobs (sent h) ++ more)
+          (entry-no_text deck_are_jobs (Does a r) is) ∙ append-nil (text_of deck_are_jobs (sent h)))
 
   pub tried-sent : (h : List (Entry Loaded)) → Follows deck_jobs p h → caused h ≡ None → text_tried h ≡ text_of deck_are_jobs (sent h)
   tried-sent [] follows none = refl
@@ -174,7 +181,8 @@ module _ (p : Process Loaded) (relay : IsRelay p) where
       let whole = text-part deck_are_jobs (sent h ++ OfLine line ∷ []) (p.sends (taken h ++ []))
       (sent-is-part deck_jobs p (Does (act.Print line) reply.Done ∷ h) relay (next, tt, follows)) in
       subst (λ text. IsPrefixOf text (text_of deck_are_jobs (p.sends (taken h ++ taken_by r)))) (sym now)
-      (prefix-longer _ _ _ (subst (λ all. IsPrefixOf (text_of deck_are_jobs (sent h ++ OfLine line ∷ [])) (text_of deck_are_jobs (p.sends all))) (append-nil (taken h)) whole)
+      (prefix-longer _ _ _ (subst (λ all. IsPrefixOf (text_of deck_are_jobs (sent h ++ OfLine line ∷ [])) (text_of deck_are_jobs (p.sends all)))
+          (append-nil (taken h)) whole)
       (text-part deck_are_jobs _ _ (relay.monotone (taken h) (taken_by r))))
 
   pub tried-part : (h : List (Entry Loaded)) → Follows deck_jobs p h → IsPrefixOf (text_tried h) (text_of deck_are_jobs (p.sends (taken h)))

@@ -66,7 +66,8 @@ pub record StoppedFirst (b : ℕ) (sender receiver : List (Entry Loaded)) (first
   pub neither : first ≡ None → (side : Side) → has_stopped b (by_side sender receiver side) ≡ false
   pub did : (side : Side) → first ≡ Some side → has_stopped b (by_side sender receiver side) ≡ true
 
-module _ (p q : Process Loaded) (b : ℕ) (sender receiver : List (Entry Loaded)) (first : Option Side) (sends : Follows deck_jobs p sender) (receives : Follows deck_jobs q receiver) where
+module _ (p q : Process Loaded) (b : ℕ) (sender receiver : List (Entry Loaded)) (first : Option Side) (sends : Follows deck_jobs p sender)
+    (receives : Follows deck_jobs q receiver) where
   line-stop : (side : Side) → line.has_stop (by_side (line_calls Sender b sender) (line_calls Receiver b receiver) side)
       ≡ has_stopped b (by_side sender receiver side)
   line-stop Sender = line_calls_are.stops-are p Sender b sender sends
@@ -168,7 +169,8 @@ pub record FiveRan {A B : Type 0} (input_told : A → Option (List (List ℕ))) 
   pub lines_rest : Option Feed
   pub lines : lines.Meets (by_side (line_calls Sender 4 output_history) (line_calls Receiver 4 printer_history)) lines_rest (first 4)
 
-either-follows : (t : Bool) (p q : Process Loaded) (h g : List (Entry Loaded)) → Follows deck_jobs p h → Follows deck_jobs q g → Follows deck_jobs (if t then p else q) (if t then h else g)
+either-follows : (t : Bool) (p q : Process Loaded) (h g : List (Entry Loaded)) → Follows deck_jobs p h → Follows deck_jobs q g
+    → Follows deck_jobs (if t then p else q) (if t then h else g)
 either-follows true p q h g a b = a
 either-follows false p q h g a b = b
 

@@ -17,14 +17,14 @@ use Rattle.core_law.specs.Core.{Devices, Allows}
 use Rattle.core_law.specs.FilesLoaded.{file_loaded, AreLoadedSo}
 use Rattle.core_law.proofs.Loading.{card-loads, lack-loads, loaded-more}
 use Rattle.core_net.specs.Devices.{LoadsFile}
-use Rattle.core_net.specs.Openings.{files_found}
 use Rattle.batch_run.specs.Files.{AreLoadedAs, FilesRan}
 use Rattle.batch_run.proofs.Decks.{new-none, rose-later}
 use Rattle.disk_system.specs.declared.loading.Loaded.{Loaded}
-use Rattle.deck_work.specs.DeckJobs.{deck_jobs, deck_are_jobs}
+use Rattle.deck_work.specs.DeckJobs.{files_found, deck_jobs, deck_are_jobs}
 
 -- ---- one load
-loaded-as : (found : Loads) (file : List ℕ) (r : Reply Loaded) (h : List (Entry Loaded)) (devices : Devices Loaded) → devices.files ≡ Some found → Fits deck_jobs (act.Load file) r
+loaded-as : (found : Loads) (file : List ℕ) (r : Reply Loaded) (h : List (Entry Loaded)) (devices : Devices Loaded) → devices.files ≡ Some found
+    → Fits deck_jobs (act.Load file) r
     → Allows devices (Does (act.Load file) r) [] → AreLoadedAs found h → AreLoadedAs found (Does (act.Load file) r ∷ h)
 loaded-as found file (reply.Loaded load) h devices told fits allowed before = (allowed.0 found told, before)
 loaded-as found file reply.Failed h devices told fits allowed before = before
@@ -34,7 +34,8 @@ loaded-as found file r h devices told fits allowed before = absurd fits
 none-failed : (file : List ℕ) (h : List (Entry Loaded)) (r : Reply Loaded) → given_cause (act.Load file) r h ≡ None → r ≢ reply.Failed
 none-failed file h r none is = (let e = ap (λ r. given_cause (act.Load file) r h) (sym is) ∙ none in cc)
 
-module _ {F : Type 0} {pages : F → Option (List (List ℕ))} {faults : F → ℕ} (start old new : FileTable F) (h : List (Entry Loaded)) (file : List ℕ) (r : Reply Loaded) where
+module _ {F : Type 0} {pages : F → Option (List (List ℕ))} {faults : F → ℕ} (start old new : FileTable F) (h : List (Entry Loaded)) (file : List ℕ)
+    (r : Reply Loaded) where
   pub file-loaded : FilesRan pages faults start old h → LoadsFile (files_found (pages old.area)) file r
       → (r ≡ reply.Failed → Rose (faults old.area) (faults new.area)) → faults old.area ≤ faults new.area → pages new.area ≡ pages old.area
       → (r ≢ reply.Failed → new.sound ≡ true) → FilesRan pages faults start new (Does (act.Load file) r ∷ h)

@@ -65,7 +65,8 @@ module _ (side : Side) (b : ℕ) where
       any-then test (line_calls side b before) (line_call side b a r) ∙ ap (λ t. t || list_any test (line_calls side b before)) e
   line-here test (Delays a) before e = absurd cc
 
-  pub line-among : (test : SlotCall Feed → Bool) (later : List (Entry Loaded)) (entry : Entry Loaded) (before : List (Entry Loaded)) → list_any test (calls_by side b entry) ≡ true
+  pub line-among : (test : SlotCall Feed → Bool) (later : List (Entry Loaded)) (entry : Entry Loaded) (before : List (Entry Loaded))
+      → list_any test (calls_by side b entry) ≡ true
       → list_any test (line_calls side b (later ++ entry ∷ before)) ≡ true
   line-among test [] entry before e = line-here test entry before e
   line-among test (Does a r ∷ later) entry before e =
@@ -84,7 +85,8 @@ module _ (side : Side) (b : ℕ) where
       any-then test (spool_calls side b before) (spool_call side b a r) ∙ ap (λ t. t || list_any test (spool_calls side b before)) e
   spool-here test (Delays a) before e = absurd cc
 
-  pub spool-among : (test : SpoolCall (List ℕ) → Bool) (later : List (Entry Loaded)) (entry : Entry Loaded) (before : List (Entry Loaded)) → list_any test (moves_by side b entry) ≡ true
+  pub spool-among : (test : SpoolCall (List ℕ) → Bool) (later : List (Entry Loaded)) (entry : Entry Loaded) (before : List (Entry Loaded))
+      → list_any test (moves_by side b entry) ≡ true
       → list_any test (spool_calls side b (later ++ entry ∷ before)) ≡ true
   spool-among test [] entry before e = spool-here test entry before e
   spool-among test (Does a r ∷ later) entry before e =
@@ -112,7 +114,8 @@ module _ (p : Process Loaded) {does : Action → Type 0} (only : DoesOnly p does
   told-by : (entry : Entry Loaded) → h ≡ later ++ entry ∷ before → cause_by entry before ≡ Some outcome.Stopped → WasTold does h
   told-by (Does a r) is gives =
       let stopped = given-stopped deck_are_jobs a r before gives in
-      let here = subst (λ r. Follows deck_jobs p (Does a r ∷ before)) stopped (follows-behind p later (Does a r ∷ before) (subst (Follows deck_jobs p) is follows)) in
+      let here = subst (λ r. Follows deck_jobs p (Does a r ∷ before)) stopped (follows-behind p later (Does a r ∷ before)
+          (subst (Follows deck_jobs p) is follows)) in
       record {
         action = a;
         later = later;
@@ -124,7 +127,8 @@ module _ (p : Process Loaded) {does : Action → Type 0} (only : DoesOnly p does
   told-by (LacksMemory a r) is gives = absurd cc
   told-by (Delays a) is gives = absurd cc
 
-pub was-told : (p : Process Loaded) {does : Action → Type 0} → DoesOnly p does → (h : List (Entry Loaded)) → Follows deck_jobs p h → caused h ≡ Some outcome.Stopped → WasTold does h
+pub was-told : (p : Process Loaded) {does : Action → Type 0} → DoesOnly p does → (h : List (Entry Loaded)) → Follows deck_jobs p h
+    → caused h ≡ Some outcome.Stopped → WasTold does h
 was-told p only h follows e = (let g = each_cause_is_given deck_jobs h outcome.Stopped e in told-by p only h g.later g.before follows g.entry g.is g.gives)
 
 pub put-refused : (b : ℕ) (h later before : List (Entry Loaded)) (f : Feed) → h ≡ later ++ Does (act.PutFeed f) reply.Stopped ∷ before
@@ -171,7 +175,8 @@ page-other : (c : Cause) (page : Result PageContent BadPage) → IsOfDevice c �
 page-other c (Ok content) is e = cc
 page-other c (Err bad) is e = is-other c (cause.Damaged bad.expected bad.found bad.at) e is
 
-given-failed : (c : Cause) (a : Action) (r : Reply Loaded) (h : List (Entry Loaded)) → IsOfDevice c → given_cause a r h ≡ Some (outcome.Fault c) → r ≡ reply.Failed
+given-failed : (c : Cause) (a : Action) (r : Reply Loaded) (h : List (Entry Loaded)) → IsOfDevice c → given_cause a r h ≡ Some (outcome.Fault c)
+    → r ≡ reply.Failed
 given-failed c a reply.Done h is e = absurd cc
 given-failed c a reply.Stopped h is e = absurd cc
 given-failed c a reply.Failed h is e = refl
@@ -195,7 +200,8 @@ module _ (p : Process Loaded) {does : Action → Type 0} (only : DoesOnly p does
   failed-by : (entry : Entry Loaded) → h ≡ later ++ entry ∷ before → cause_by entry before ≡ Some (outcome.Fault c) → HasFailed does c h
   failed-by (Does a r) is gives =
       let failed = given-failed c a r before of_device gives in
-      let here = subst (λ r. Follows deck_jobs p (Does a r ∷ before)) failed (follows-behind p later (Does a r ∷ before) (subst (Follows deck_jobs p) is follows)) in
+      let here = subst (λ r. Follows deck_jobs p (Does a r ∷ before)) failed (follows-behind p later (Does a r ∷ before)
+          (subst (Follows deck_jobs p) is follows)) in
       record {
         action = a;
         later = later;
@@ -208,7 +214,8 @@ module _ (p : Process Loaded) {does : Action → Type 0} (only : DoesOnly p does
   failed-by (LacksMemory a r) is gives = absurd (is-other c cause.NoMemory gives of_device)
   failed-by (Delays a) is gives = absurd cc
 
-pub has-failed : (p : Process Loaded) {does : Action → Type 0} → DoesOnly p does → (c : Cause) → IsOfDevice c → (h : List (Entry Loaded)) → Follows deck_jobs p h
+pub has-failed : (p : Process Loaded) {does : Action → Type 0} → DoesOnly p does → (c : Cause) → IsOfDevice c → (h : List (Entry Loaded))
+    → Follows deck_jobs p h
     → caused h ≡ Some (outcome.Fault c) → HasFailed does c h
 has-failed p only c of_device h follows e =
     (let g = each_cause_is_given deck_jobs h (outcome.Fault c) e in failed-by p only c of_device h g.later g.before follows g.entry g.is g.gives)
@@ -278,7 +285,8 @@ other-answer : (d c : Cause) (wanted : CardRead) → answer_of d ≡ None → So
 other-answer d c wanted none e is = none-answers c wanted (ap answer_of (sym (fault-same d c e)) ∙ none) is
 
 -- the card process
-card-read : (before : List (Entry Loaded)) (a : Action) (r : Reply Loaded) (wanted : CardRead) (c : Cause) → does_card a → Fits deck_jobs a r → answer_of c ≡ Some wanted
+card-read : (before : List (Entry Loaded)) (a : Action) (r : Reply Loaded) (wanted : CardRead) (c : Cause) → does_card a → Fits deck_jobs a r
+    → answer_of c ≡ Some wanted
     → given_cause a r before ≡ Some (outcome.Fault c) → newest_read (Does a r ∷ before) ≡ Some wanted
 card-read before act.ReadCard (reply.Card answer) wanted c does fits is e = ap Some (read-gave answer wanted c is e)
 card-read before (act.PutFeed f) reply.Done wanted c does fits is e = absurd cc
@@ -325,15 +333,18 @@ some-cause : (old : Option Outcome) (how : Outcome) → (first : Outcome) × (or
 some-cause None how = (how, refl)
 some-cause (Some old) how = (old, refl)
 
-pub print-failed : (h later before : List (Entry Loaded)) (line : List ℕ) → Follows deck_jobs printer h → h ≡ later ++ Does (act.Print line) reply.Failed ∷ before
+pub print-failed : (h later before : List (Entry Loaded)) (line : List ℕ) → Follows deck_jobs printer h
+    → h ≡ later ++ Does (act.Print line) reply.Failed ∷ before
     → newest_print h ≡ Some reply.Failed
 print-failed h later before line follows is =
     let (how, e) = some-cause (caused before) (outcome.Fault cause.PrintFault) in
     ap newest_print is ∙ print-before printer (Does (act.Print line) reply.Failed ∷ before) how e later (subst (Follows deck_jobs printer) is follows)
 
 -- the job process
-pub load-failed : (h later before : List (Entry Loaded)) (file : List ℕ) → Follows deck_jobs (job deck_jobs) h → h ≡ later ++ Does (act.Load file) reply.Failed ∷ before
+pub load-failed : (h later before : List (Entry Loaded)) (file : List ℕ) → Follows deck_jobs (job deck_jobs) h
+    → h ≡ later ++ Does (act.Load file) reply.Failed ∷ before
     → newest_load h ≡ Some reply.Failed
 load-failed h later before file follows is =
     let (how, e) = some-cause (caused before) (outcome.Fault cause.DiskFault) in
-    ap newest_load is ∙ load-before (job deck_jobs) (Does (act.Load file) reply.Failed ∷ before) how e later (subst (Follows deck_jobs (job deck_jobs)) is follows)
+    ap newest_load is ∙ load-before (job deck_jobs) (Does (act.Load file) reply.Failed ∷ before) how e later
+        (subst (Follows deck_jobs (job deck_jobs)) is follows)

@@ -61,7 +61,8 @@ stops-are p side b (LacksMemory a r ∷ h) follows =
 stops-are p side b (Delays a ∷ h) follows = stops-are p side b h follows.2
 
 -- who makes this action has not stopped
-pub not-stopped : (p : Process Loaded) (side : Side) (b : ℕ) (h : List (Entry Loaded)) (a : Action) (calls : List (SlotCall Feed)) → IsRelay p → Follows deck_jobs p h
+pub not-stopped : (p : Process Loaded) (side : Side) (b : ℕ) (h : List (Entry Loaded)) (a : Action) (calls : List (SlotCall Feed)) → IsRelay p
+    → Follows deck_jobs p h
     → next_action p h ≡ Some a → IsOpen a → calls ≡ line_calls side b h → has_stop calls ≡ false
 not-stopped p side b h a calls relay follows next is e =
     ap has_stop e ∙ stops-are p side b h follows ∙ unstopped deck_jobs p b h relay follows (open-next deck_jobs p h a next is)

@@ -28,7 +28,8 @@ part-printed line gained h devices reply.Failed fits allowed = (allowed, λ none
 part-printed line gained h devices reply.NoMemory fits allowed = (allowed, λ none. absurd cc)
 part-printed line gained h devices r fits allowed = absurd fits
 
-done-of : (line : List ℕ) (h : List (Entry Loaded)) (r : Reply Loaded) → Fits deck_jobs (act.Print line) r → given_cause (act.Print line) r h ≡ None → r ≡ reply.Done
+done-of : (line : List ℕ) (h : List (Entry Loaded)) (r : Reply Loaded) → Fits deck_jobs (act.Print line) r → given_cause (act.Print line) r h ≡ None
+    → r ≡ reply.Done
 done-of line h reply.Done fits none = refl
 done-of line h reply.Failed fits none = absurd cc
 done-of line h reply.NoMemory fits none = absurd cc
@@ -39,7 +40,8 @@ gained-more : (old new : Option (List ℕ)) (before gained more : List ℕ) → 
 gained-more old new before gained more was after =
     sym after ∙ ap (λ old. option_map (λ given. given ++ more) old) was ∙ ap Some (append_assoc before gained more)
 
-module _ {K : Type 0} {given : K → Option (List ℕ)} {faults : K → ℕ} (start old new : Printing K) (h : List (Entry Loaded)) (line : List ℕ) (r : Reply Loaded) where
+module _ {K : Type 0} {given : K → Option (List ℕ)} {faults : K → ℕ} (start old new : Printing K) (h : List (Entry Loaded)) (line : List ℕ)
+    (r : Reply Loaded) where
   pub paper-printed : PaperRan given faults start old h → caused h ≡ None → PrintsLine (given old.sink) (given new.sink) line r
       → (r ≡ reply.Failed → Rose (faults old.sink) (faults new.sink)) → faults old.sink ≤ faults new.sink → (r ≡ reply.Done → new.live ≡ true)
       → PaperRan given faults start new (Does (act.Print line) r ∷ h)

@@ -13,8 +13,7 @@ use Rattle.solo_base.specs.Text.{text}
 use Rattle.solo_devices.specs.Count.{Rose}
 use Rattle.solo_devices.specs.CardUnit.{Held, items_ahead, byte_limit, bytes_total, IsAllTaken}
 use Rattle.solo_devices.specs.declared.card_read.CardRead.TheVariants as read
-use Rattle.solo_devices.specs.PrinterUnit.{Printing, Gains}
-use Rattle.page_codec.specs.Items.{AreItems}
+use Rattle.solo_devices.specs.PrinterUnit.{Printing, Gains, GainsOf}
 use Rattle.disk_files.specs.Answers.{FileTable}
 use Rattle.disk_spool.specs.Ends.{known}
 use Rattle.resource_mon.specs.Seats.{Desk}
@@ -35,9 +34,10 @@ use Rattle.core_law.specs.Core.{IsBuffer}
 use Rattle.core_law.specs.Ends.{IsProcess, outcome_by}
 use Rattle.batch_job.specs.Report.{Loads}
 use Rattle.batch_job.specs.OneThread.{one_thread_lines}
-use Rattle.deck_work.specs.DeckJobs.{AreFound}
 use Rattle.core_law.proofs.Ends.{the-five}
 use Rattle.core_law.proofs.Outcomes.{ended-as}
+use Rattle.core_law.proofs.ReadCards.{cards-read, read-so}
+use Rattle.core_net.proofs.GoodFiles.{told-cards}
 use Rattle.core_law.proofs.Passing.{EndDone, AreFoundBy, gains-of, reads-all}
 use Rattle.core_law.proofs.Row.{each-buffer}
 use Rattle.core_law.proofs.Stopping.{done-none, none-done, stopped-by}
@@ -47,7 +47,6 @@ use Rattle.core_net.specs.declared.finish.Outcomes.{Outcomes}
 use Rattle.core_net.specs.Causes.{Counts, counting}
 use Rattle.core_net.specs.Ended.{outcome_at, all_done, none_stopped, stopped_at, StoppedBeside, SomeFault, EndTogether, FaultsAre, NoneDamaged}
 use Rattle.core_net.specs.Faults.{FaultsAreCounted}
-use Rattle.core_net.specs.Openings.{files_found}
 use Rattle.batch_run.specs.declared.batch.Parted.{Parted}
 use Rattle.batch_run.specs.declared.desk.Desk.{Desk as Place}
 use Rattle.batch_run.specs.declared.gates.AllMet.{AllMet as Met}
@@ -68,14 +67,15 @@ use Rattle.batch_run.proofs.FileLoads.{all-loaded}
 use Rattle.batch_run.proofs.Ending.{FiveRan, each-process, histories, follows, hand-over, are-first, line-met, spool-met}
 use Rattle.batch_run.proofs.Given.{has-failed, put-failed, take-failed, read-failed, print-failed, load-failed, limit-cause}
 use Rattle.disk_system.specs.declared.loading.Loaded.{Loaded}
-use Rattle.deck_work.specs.DeckJobs.{deck_jobs, deck_are_jobs}
+use Rattle.deck_work.specs.DeckJobs.{AreFound, files_found, deck_jobs, deck_are_jobs, one_thread_is}
 
 -- ---- one process
 fault-cause : (found : Option Outcome) (c : Cause) → outcome_by found ≡ outcome.Fault c → found ≡ Some (outcome.Fault c)
 fault-cause None c e = absurd cc
 fault-cause (Some how) c e = ap Some e
 
-caused-so : (p : Process Loaded) (h : List (Entry Loaded)) (how : Outcome) (c : Cause) → IsRelay p → Follows deck_jobs p h → newest h ≡ Some (act.Ended how) → how ≡ outcome.Fault c
+caused-so : (p : Process Loaded) (h : List (Entry Loaded)) (how : Outcome) (c : Cause) → IsRelay p → Follows deck_jobs p h → newest h ≡ Some (act.Ended how)
+    → how ≡ outcome.Fault c
     → caused h ≡ Some (outcome.Fault c)
 caused-so p h how c relay follows ended e = fault-cause (caused h) c (ended-as deck_are_jobs p h how relay follows ended ∙ e)
 
@@ -221,7 +221,8 @@ module _ {S K A B F : Type 0} (left : S → Option (List ℕ)) (taken source_fau
     all-done : met.stopped_by ≡ none_stopped → outcomes ≡ all_done
     all-done e =
         let free = λ (b : ℕ) (at : IsBuffer b). ap (λ all. stopped_at all b) e ∙ none-at b at in
-        let done = λ (p : ℕ) (one : IsProcess p). none-done deck_are_jobs (the-five deck_are_jobs) (histories five) (follows five) first (are-first five) free p (outcome_at outcomes p) one
+        let done = λ (p : ℕ) (one : IsProcess p). none-done deck_are_jobs (the-five deck_are_jobs) (histories five) (follows five) first
+            (are-first five) free p (outcome_at outcomes p) one
         (ended-at p one) in
         all-done-by outcomes.card outcomes.input outcomes.job outcomes.output outcomes.printer (done 1 (lit≤ tt, lit≤ tt)) (done 2 (lit≤ tt, lit≤ tt))
         (done 3 (lit≤ tt, lit≤ tt)) (done 4 (lit≤ tt, lit≤ tt)) (done 5 (lit≤ tt, lit≤ tt))
@@ -246,9 +247,12 @@ module _ {S K A B F : Type 0} (left : S → Option (List ℕ)) (taken source_fau
     -- ---- the faults
     pub faults : FaultsAre outcomes
     faults = record {
-      card = λ c e. (faults_of_the_five deck_jobs deck_are_jobs).card _ c five.card_follows (caused-so card _ _ c (card-relay Loaded) five.card_follows (ended-at 1 (lit≤ tt, lit≤ tt)) e);
-      input = λ c e. (faults_of_the_five deck_jobs deck_are_jobs).input _ c five.input_follows (caused-so input _ _ c (input-relay Loaded) five.input_follows (ended-at 2 (lit≤ tt, lit≤ tt)) e);
-      job = λ c e. (faults_of_the_five deck_jobs deck_are_jobs).job _ c five.job_follows (caused-so (job deck_jobs) _ _ c (job-relay deck_are_jobs) five.job_follows (ended-at 3 (lit≤ tt, lit≤ tt)) e);
+      card = λ c e. (faults_of_the_five deck_jobs deck_are_jobs).card _ c five.card_follows (caused-so card _ _ c (card-relay Loaded) five.card_follows
+          (ended-at 1 (lit≤ tt, lit≤ tt)) e);
+      input = λ c e. (faults_of_the_five deck_jobs deck_are_jobs).input _ c five.input_follows (caused-so input _ _ c (input-relay Loaded) five.input_follows
+          (ended-at 2 (lit≤ tt, lit≤ tt)) e);
+      job = λ c e. (faults_of_the_five deck_jobs deck_are_jobs).job _ c five.job_follows
+          (caused-so (job deck_jobs) _ _ c (job-relay deck_are_jobs) five.job_follows (ended-at 3 (lit≤ tt, lit≤ tt)) e);
       output = λ c e. (faults_of_the_five deck_jobs deck_are_jobs).output _ c five.output_follows
           (caused-so output _ _ c (output-relay Loaded) five.output_follows (ended-at 4 (lit≤ tt, lit≤ tt)) e);
       printer = λ c e. (faults_of_the_five deck_jobs deck_are_jobs).printer _ c five.printer_follows
@@ -284,12 +288,15 @@ module _ {S K A B F : Type 0} (left : S → Option (List ℕ)) (taken source_fau
     found-by items found (inr none) = inr none
 
     pub prints : is_some (input_told gates.input.area) ≡ true → is_some (output_told gates.output.area) ≡ true → (items : List Item) (found : Loads)
-        → items_ahead (left deck.source) deck.pending ≡ Some items → AreItems items → AreFound (files_found (file_pages files.area)) found items
+        → items_ahead (left deck.source) deck.pending ≡ Some items → AreFound (files_found (file_pages files.area)) found items
         → Gains (given paper.sink) (given parted.paper.sink) (text (one_thread_lines found items)) (outcomes ≡ all_done)
-    prints input_is output_is items found told valid are = record {
+    prints input_is output_is items found told are = record {
       told = λ before paper_told.
-          (let gains = gains-of deck_are_jobs (histories five) (follows five) (hand-over five input_is output_is) items _ before _ valid (deck-read items told)
+          (let valid = told-cards (left deck.source) deck.pending items told in
+          let gained = gains-of deck_are_jobs (histories five) (follows five) (hand-over five input_is output_is) items _ before _ valid (deck-read items told)
           found (found-by items found are) (paper-gains before paper_told) in
+          let gains = subst (λ lines. GainsOf before (given parted.paper.sink) (text lines) (EndDone deck_are_jobs (histories five))) (one_thread_is items found)
+          gained in
           record { part = gains.part; now_is = gains.now_is; prefix = gains.prefix; all_is = λ e. gains.all_is (end-done e) });
       untold = λ none. ap (λ p. given p.sink) is.paper
           ∙ ran.rest_ended.back_ended.paper_ended.stands.paper.untold (ap (λ p. given p.sink) begins.paper_is ∙ none);
@@ -300,10 +307,11 @@ module _ {S K A B F : Type 0} (left : S → Option (List ℕ)) (taken source_fau
     reads items told e = reads-all deck_are_jobs (the-five deck_are_jobs) (histories five) (follows five) items _ (deck-read items told) (end-done e)
 
     -- over told areas no page was damaged
-    pub undamaged : is_some (input_told gates.input.area) ≡ true → is_some (output_told gates.output.area) ≡ true → (items : List Item)
-        → items_ahead (left deck.source) deck.pending ≡ Some items → AreItems items → NoneDamaged outcomes
-    undamaged input_is output_is items told valid p c one e =
-        none-damaged deck_are_jobs (histories five) (follows five) (hand-over five input_is output_is) items _ (deck-read items told) valid p c one
+    pub undamaged : is_some (input_told gates.input.area) ≡ true → is_some (output_told gates.output.area) ≡ true → NoneDamaged outcomes
+    undamaged input_is output_is p c one e =
+        let seen = cards-read deck_are_jobs (histories five 1) (follows five 1) in
+        none-damaged deck_are_jobs (histories five) (follows five) (hand-over five input_is output_is) seen.items (Some [])
+        (read-so deck_are_jobs (history.taken (histories five 1)) seen) seen.are p c one
         (ended-at p one ∙ ap (λ how. Some (act.Ended how)) e)
 
     pub taken-all : outcomes ≡ all_done → IsAllTaken (left parted.deck.source)

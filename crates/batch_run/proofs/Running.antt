@@ -57,7 +57,8 @@ module _ {W X : Type 0} {p : Process Loaded} {keeps : W → List (Parcel Loaded)
     end-is (act.Ended other) how e = ap act.Ended (some-same other how e)
     end-is other how e = absurd cc
 
-    pub ends-here : {Then : List (Entry Loaded) → Type 0} {r : Reply Loaded} {how : Outcome} → Fits deck_jobs a r → Performs q Stands Then a r → end_of a ≡ Some how → EndsSo q Then how
+    pub ends-here : {Then : List (Entry Loaded) → Type 0} {r : Reply Loaded} {how : Outcome} → Fits deck_jobs a r → Performs q Stands Then a r
+        → end_of a ≡ Some how → EndsSo q Then how
     ends-here {Then} {r} {how} fits performs end = record {
       history = Does a r ∷ going.history;
       stands = (performs going.history going.connected comes-next.follows comes-next.next).done;
@@ -69,11 +70,14 @@ module _ {W X : Type 0} {p : Process Loaded} {keeps : W → List (Parcel Loaded)
     not-ended : (r : Reply Loaded) → end_of a ≡ None → HasEnded (Does a r ∷ going.history) → ⊥
     not-ended r end ended = (let is = ap end_of (some-same a (act.Ended ended.0) ended.1) in cc)
 
-    pub going-on : {Then : List (Entry Loaded) → Type 0} {r : Reply Loaded} {new : Machine X W} (result : Result (Unit {0}) NoMemory) → Fits deck_jobs a r → Performs q Stands Then a r
+    pub going-on : {Then : List (Entry Loaded) → Type 0} {r : Reply Loaded} {new : Machine X W} (result : Result (Unit {0}) NoMemory) → Fits deck_jobs a r
+        → Performs q Stands Then a r
         → end_of a ≡ None
-        → OnOk result ((h : List (Entry Loaded)) (action : Action) → StandsFor deck_jobs p keeps machine h → next_action p h ≡ Some action → Fits deck_jobs action r
+        → OnOk result ((h : List (Entry Loaded)) (action : Action) → StandsFor deck_jobs p keeps machine h → next_action p h ≡ Some action
+            → Fits deck_jobs action r
         → StandsFor deck_jobs p keeps new (Does action r ∷ h))
-        → OnErr result ((h : List (Entry Loaded)) (action : Action) → StandsFor deck_jobs p keeps machine h → next_action p h ≡ Some action → Fits deck_jobs action r
+        → OnErr result ((h : List (Entry Loaded)) (action : Action) → StandsFor deck_jobs p keeps machine h → next_action p h ≡ Some action
+            → Fits deck_jobs action r
         → StandsFor deck_jobs p keeps new (LacksMemory action r ∷ h))
         → Going p keeps new Then
     going-on {Then} {r} (Ok done) fits performs end ok err = record {

@@ -62,7 +62,8 @@ stops-are p side b (LacksMemory a r ∷ h) follows =
 stops-are p side b (Delays a ∷ h) follows = stops-are p side b h follows.2
 
 -- who makes this action has not stopped
-pub not-stopped : (p : Process Loaded) (side : Side) (b : ℕ) (h : List (Entry Loaded)) (a : Action) (calls : List (SpoolCall (List ℕ))) → IsRelay p → Follows deck_jobs p h
+pub not-stopped : (p : Process Loaded) (side : Side) (b : ℕ) (h : List (Entry Loaded)) (a : Action) (calls : List (SpoolCall (List ℕ))) → IsRelay p
+    → Follows deck_jobs p h
     → next_action p h ≡ Some a → IsOpen a → calls ≡ spool_calls side b h → has_stop calls ≡ false
 not-stopped p side b h a calls relay follows next is e =
     ap has_stop e ∙ stops-are p side b h follows ∙ unstopped deck_jobs p b h relay follows (open-next deck_jobs p h a next is)
@@ -72,7 +73,8 @@ ready-last : (ready : Bool) (calls : List (SpoolCall (List ℕ))) (side : Side) 
 ready-last ready [] side = refl
 ready-last ready (call ∷ later) side = ready-last (is_await call) later side
 
-room-ready : (p : Process Loaded) (b : ℕ) (h : List (Entry Loaded)) → Follows deck_jobs p h → caused h ≡ None → AwaitedRoom h → is_ready (spool_calls Sender b h) ≡ true
+room-ready : (p : Process Loaded) (b : ℕ) (h : List (Entry Loaded)) → Follows deck_jobs p h → caused h ≡ None → AwaitedRoom h
+    → is_ready (spool_calls Sender b h) ≡ true
 room-ready p b [] follows none awaited = absurd awaited
 room-ready p b (Does act.AwaitRoom reply.Done ∷ h) follows none awaited = ready-last false (spool_calls Sender b h) Sender
 room-ready p b (Does act.AwaitRoom reply.Stopped ∷ h) follows none awaited = absurd (some-not_none (caused h) outcome.Stopped none)
@@ -82,7 +84,8 @@ room-ready p b (Does a r ∷ h) follows none awaited = absurd awaited
 room-ready p b (LacksMemory a r ∷ h) follows none awaited = absurd awaited
 room-ready p b (Delays a ∷ h) follows none awaited = room-ready p b h follows.2 none awaited
 
-item-ready : (p : Process Loaded) (b : ℕ) (h : List (Entry Loaded)) → Follows deck_jobs p h → caused h ≡ None → AwaitedItem h → is_ready (spool_calls Receiver b h) ≡ true
+item-ready : (p : Process Loaded) (b : ℕ) (h : List (Entry Loaded)) → Follows deck_jobs p h → caused h ≡ None → AwaitedItem h
+    → is_ready (spool_calls Receiver b h) ≡ true
 item-ready p b [] follows none awaited = absurd awaited
 item-ready p b (Does act.AwaitItem reply.Done ∷ h) follows none awaited = ready-last false (spool_calls Receiver b h) Receiver
 item-ready p b (Does act.AwaitItem reply.Stopped ∷ h) follows none awaited = absurd (some-not_none (caused h) outcome.Stopped none)

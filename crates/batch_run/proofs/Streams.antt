@@ -80,7 +80,8 @@ line-puts b (act.Print line) r is = absurd is
 line-puts b (act.Stop c) r is = line-stop-puts Sender (b == c)
 line-puts b a r is = refl
 
-line-takes : (b : ℕ) (a : Action) (r : Reply Loaded) → TakesFeeds a → Fits deck_jobs a r → as_parcels (line.taken_of (line_call Receiver b a r)) ≡ handed (taken_by r)
+line-takes : (b : ℕ) (a : Action) (r : Reply Loaded) → TakesFeeds a → Fits deck_jobs a r → as_parcels (line.taken_of (line_call Receiver b a r)) ≡ handed
+    (taken_by r)
 line-takes b act.TakeFeed (reply.Feed f) is fits = refl
 line-takes b act.TakeFeed reply.Stopped is fits = refl
 line-takes b act.TakeFeed r is fits = absurd fits
@@ -118,7 +119,8 @@ module _ (p : Process Loaded) (b : ℕ) where
   line-took more by h is before =
       ap as_parcels (flat-then line.item_taken (line_calls Receiver b h) more)
       ∙ as_parcels-append (line.taken_of (line_calls Receiver b h)) (line.taken_of more)
-      ∙ ap (λ front. front ++ as_parcels (line.taken_of more)) before ∙ ap (λ rest. handed (taken h) ++ rest) is ∙ sym (handed-append deck_are_jobs (taken h) by)
+      ∙ ap (λ front. front ++ as_parcels (line.taken_of more)) before ∙ ap (λ rest. handed (taken h) ++ rest) is
+          ∙ sym (handed-append deck_are_jobs (taken h) by)
 
   pub line-taken : {does : Action → Type 0} → DoesOnly p does → ((a : Action) → does a → TakesFeeds a) → (h : List (Entry Loaded)) → Follows deck_jobs p h
       → as_parcels (line.taken_of (line_calls Receiver b h)) ≡ handed (taken h)

@@ -12,7 +12,8 @@ use Rattle.deck_work.specs.DeckJobs.{deck_jobs}
 
 -- Each action of the process is one of these.
 abbrev pub DoesOnly : Process Loaded → (Action → Type 0) → Type 0
-DoesOnly p does = (h : List (Entry Loaded)) (a : Action) → Follows deck_jobs p h → next_action p h ≡ Some a → does a
+DoesOnly p does = (h : List (Entry Loaded)) (a : Action) → Follows deck_jobs p h → next_action p h ≡ Some a
+    → does a
 
 -- The process has a history that its connections stand for, behind which it makes this action.
 pub record Comes (p : Process Loaded) (Stands : List (Entry Loaded) → Type 0) (a : Action) : Type 0 where
@@ -29,8 +30,10 @@ pub record Performed (Stands : List (Entry Loaded) → Type 0) (a : Action) (r :
   pub lacks : MayLack a r → Stands (LacksMemory a r ∷ before)
 
 -- Behind every history that the connections stood for.
-abbrev pub Performs : Process Loaded → (List (Entry Loaded) → Type 0) → (List (Entry Loaded) → Type 0) → Action → Reply Loaded → Type 0
-Performs p Stood Stands a r = (h : List (Entry Loaded)) → Stood h → Follows deck_jobs p h → next_action p h ≡ Some a
+abbrev pub Performs : Process Loaded → (List (Entry Loaded) → Type 0) → (List (Entry Loaded) → Type 0)
+    → Action → Reply Loaded → Type 0
+Performs p Stood Stands a r = (h : List (Entry Loaded)) → Stood h → Follows deck_jobs p h
+    → next_action p h ≡ Some a
     → Performed Stands a r h
 
 -- The process did what its history asks for, and ended so.

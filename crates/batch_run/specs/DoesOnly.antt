@@ -74,7 +74,8 @@ module _ {p : Process Loaded} {Is : Action → Type 0} (relay : IsRelay p) (all 
       let P : Bool → Type 0 = λ t. holds h ≡ t → Is (if t then act.Release else stops_next p.buffers how h) in
       elim (holds h) as P [ true ↦ (λ e. all.gives (so_far.asked e)) | false ↦ (λ e. stops-are p.buffers how h all.stops) ] refl
 
-  first-is : (h : List (Entry Loaded)) (first : Parcel Loaded) (more : List (Parcel Loaded)) → Follows deck_jobs p h → due p h ≡ first ∷ more → Is (puts first) × Is (begins (puts first))
+  first-is : (h : List (Entry Loaded)) (first : Parcel Loaded) (more : List (Parcel Loaded)) → Follows deck_jobs p h → due p h ≡ first ∷ more
+      → Is (puts first) × Is (begins (puts first))
   first-is h first more follows e =
       let (rest, whole) = sent-is-part deck_jobs p h relay follows in
       let (later, rest-is) = due-rest deck_jobs p h first more rest relay whole e in

@@ -8,7 +8,7 @@ use Rattle.batch_procs.specs.declared.actions.Reply.{Reply}
 use Rattle.batch_procs.specs.declared.actions.Reply.TheVariants as reply
 use Rattle.batch_procs.specs.History.{Entry, Does, LacksMemory, Delays}
 use Rattle.batch_procs.specs.Causes.{caused}
-use Rattle.core_net.specs.Openings.{files_found}
+use Rattle.deck_work.specs.DeckJobs.{files_found}
 use Rattle.disk_system.specs.declared.loading.Loaded.{Loaded}
 
 -- each file that was loaded was loaded as these say

@@ -37,7 +37,8 @@ abbrev pub JobsCame : {A B F : Type 0} → (A → ℕ) → (B → ℕ) → (F �
     → ℕ → ℕ → Bool → JobEnds A B F → (JobEnds A B F × Outcome) → Type 0
 JobsCame from_size to_size pages faults start here all jobs ended =
     Came start here all
-    (EndsSo (job deck_jobs) (JobRan from_size to_size pages faults (job_connected jobs) (job_connected ended.0)) ended.1)
+    (EndsSo (job deck_jobs) (JobRan from_size to_size pages faults (job_connected jobs)
+        (job_connected ended.0)) ended.1)
     (ended.0 ≡ jobs)
 
 abbrev pub LinesCame : {B : Type 0} → (B → ℕ) → ℕ → ℕ → Bool

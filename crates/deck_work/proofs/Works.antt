@@ -1,6 +1,8 @@
 -- What the work on a deck's jobs keeps at each of its steps.
 use Rattle.std.proofs.Common.{◌≡◌, ℕ, zero, suc, ◌+◌, Bool, true, false, not, List, [], ◌∷◌, ◌++◌, length, length-append, drop, Option, None, Some, refl, sym, ◌∙◌, ap, subst, append_assoc, arith}
+use Rattle.std.specs.Prelude.{Result, Ok, Err, IfOk, OnOk}
 use Rattle.std.proofs.lemmas.List.{append-nil}
+use Rattle.solo_base.specs.declared.no_memory.NoMemory.{NoMemory}
 use Rattle.solo_base.specs.declared.item.Item.{Item}
 use Rattle.solo_base.specs.declared.page.Page.{Page}
 use Rattle.page_codec.specs.Packing.{PageInHand}
@@ -14,7 +16,7 @@ use Rattle.batch_job.specs.declared.lines_ahead.End.TheVariants as end
 use Rattle.batch_job.specs.JobStream.{Stream, Account, StandsBy, StandsFor, IsSpent, Packs as StreamPacks, ahead, new_stream, fed, with_load, end_of, goes_on}
 use Rattle.batch_job.proofs.NamedFiles.{files_go_on}
 use Rattle.batch_procs.specs.Parts.{drop-part}
-use Rattle.batch_procs.specs.JobTold.{JobTold, nothing_told, with_page, with_found, with_lines, rests_behind, wanted, first_of, Packs}
+use Rattle.batch_procs.specs.JobTold.{JobTold, nothing_told, with_page, with_found, with_lines, rests_behind, wanted, first_of, PushesLines}
 use Rattle.deck_work.specs.DeckJobs.{deck_jobs}
 use Rattle.deck_work.specs.KeepsDeck.{KeepsDeck}
 
@@ -56,6 +58,13 @@ feeds old new content is stands told keeps rests going = record {
   none_wanted = λ none. absurd cc;
 }
 
+pub feeds-ok : (result : Result (Unit {0}) NoMemory) (old new : Stream) (content : PageContent) → OnOk result (new ≡ fed old content)
+    → OnOk result ((before : List Item) (loads : List Loaded) (pushed : List (List ℕ)) → IsSpent old → old.end ≡ end.NotYet
+    → StandsFor old before loads pushed → StandsFor new (before ++ content.items) loads pushed)
+    → OnOk result ((told : JobTold Loaded) → KeepsDeck old told → told.rests ≡ true → told.ended ≡ false → KeepsDeck new (with_page told content))
+feeds-ok (Ok done) old new content is stands = feeds old new content is stands
+feeds-ok (Err refused) old new content is stands = tt
+
 -- ---- the files that are wanted
 pub wanted-is : (stream : Stream) (told : JobTold Loaded) → KeepsDeck stream told → wanted deck_jobs told ≡ stream.wanted
 wanted-is stream told keeps =
@@ -68,6 +77,13 @@ first-same (name ∷ later) = refl
 pub wants : (stream : Stream) (first : Option (List ℕ)) → first ≡ first_named stream.wanted → (told : JobTold Loaded) → KeepsDeck stream told
     → first ≡ first_of (wanted deck_jobs told)
 wants stream first is told keeps = is ∙ first-same stream.wanted ∙ ap first_of (sym (wanted-is stream told keeps))
+
+pub none-first : (stream : Stream) (first : Option (List ℕ)) (file : List ℕ) → first ≡ first_named stream.wanted → first ≡ Some file → (told : JobTold Loaded)
+    → KeepsDeck stream told → wanted deck_jobs told ≡ [] → ⊥
+none-first stream first file is found told keeps none =
+    let empty = ap first_named (sym (wanted-is stream told keeps) ∙ none) in
+    let both = sym found ∙ is ∙ empty in
+    cc
 
 one-more : (xs : List (List ℕ)) (x : List ℕ) (ys : List Loaded) (y : Loaded) → length xs ≡ length ys → length (xs ++ x ∷ []) ≡ length (ys ++ y ∷ [])
 one-more xs x ys y e =
@@ -123,7 +139,7 @@ rests-none None e = refl
 rests-none (Some page) e = absurd cc
 
 pub packs : (old new : Stream) (hand hand_then : PageInHand) (page : Option Page) → StreamPacks old hand page new hand_then
-    → (told : JobTold Loaded) → KeepsDeck old told → wanted deck_jobs told ≡ [] → Packs deck_jobs (KeepsDeck new) told hand page hand_then
+    → (told : JobTold Loaded) → KeepsDeck old told → wanted deck_jobs told ≡ [] → PushesLines deck_jobs (KeepsDeck new) told hand page hand_then
 packs old new hand hand_then page is told keeps none =
     let stands = is.gives told.items told.loads told.pushed keeps.stands in
     let ends : not (goes_on new.end) ≡ told.ended = not-not told.ended (goes_on new.end) (is.same_end ∙ keeps.end_is) in
@@ -156,3 +172,10 @@ packs old new hand hand_then page is told keeps none =
     next-by (Some found) is_page stands ends =
         let (rest, all) = some-left new told.items told.loads (told.pushed ++ is.lines) stands in
         (rest, (ap (lines_so_far told.items told.loads) (sym ends) ∙ all, λ no_page. absurd (let both = sym is_page ∙ no_page in cc)))
+
+pub packs-ok : (result : Result (Option Page) NoMemory) (old new : Stream) (hand hand_then : PageInHand)
+    → IfOk result (λ page. StreamPacks old hand page new hand_then)
+    → IfOk result (λ page. (told : JobTold Loaded) → KeepsDeck old told → wanted deck_jobs told ≡ []
+    → PushesLines deck_jobs (KeepsDeck new) told hand page hand_then)
+packs-ok (Ok page) old new hand hand_then is = packs old new hand hand_then page is
+packs-ok (Err refused) old new hand hand_then is = tt

@@ -1,5 +1,5 @@
 -- The jobs of a deck, as the network knows them.
-use Rattle.std.proofs.Common.{lit<, ◌≡◌, ◌⊎◌, ℕ, List, [], Option, None, Some, sym, ap, ◌∙◌, refl, subst}
+use Rattle.std.proofs.Common.{lit<, lit≤, ◌≡◌, ◌⊎◌, ℕ, List, [], Option, None, Some, sym, ap, ◌∙◌, refl, subst}
 use Rattle.std.specs.Option.{option_map}
 use Rattle.solo_base.specs.declared.item.Item.{Item}
 use Rattle.disk_layout.specs.Files.{files as file_map}
@@ -51,6 +51,7 @@ deck_are_jobs = record {
   are_lines = printable-lines;
   few_lines = few-lines;
   some_lines = lit< tt;
+  countable = lit≤ tt;
   missing_loads = tt;
 }
 

@@ -18,6 +18,8 @@ impl<A: Area> Loader<DeckWork> for DeckFiles<A> {
 
     ghost found = { λ loader. files_found (A.pages loader.files.area) };
 
+    ghost pages = { λ loader. A.pages loader.files.area };
+
     ghost faults = { λ loader. A.faults loader.files.area };
 
     ghost sound = { λ loader. loader.files.sound ≡ true };

@@ -43,7 +43,7 @@ impl JobWork for DeckWork {
 
     fn pack(&mut self, packer: &mut Packer) -> Result<Option<Page>, NoMemory> {
         match self.stream.wants() {
-            Some(_file) => Ok(None),
+            Some(_wanted) => Ok(None),
             None => self.stream.pack(packer),
         }
     }

@@ -11,7 +11,6 @@ use Rattle.core_law.specs.Core.{CoreState}
 use Rattle.core_law.specs.Ends.{IsProcess, HasEndedSo}
 use Rattle.batch_job.specs.Report.{Loads}
 use Rattle.core_law.specs.Holds.{AreTold}
-use Rattle.deck_work.specs.DeckJobs.{AreFound}
 use Rattle.core_law.specs.Opening.{Spools, AreInBounds, AreGoodFiles, Opening, opened}
 use Rattle.core_law.specs.TheLaw.{the_law, IsReached}
 use Rattle.core_law.proofs.Law.{all-ended}
@@ -24,10 +23,10 @@ use Rattle.core_net.specs.Ended.{EndsSo, outcome_at, sides_of}
 use Rattle.solo_cli.specs.CountsLine.{counts_line}
 use Rattle.solo_cli.specs.CountsPaper.{GainsCounted}
 use Rattle.solo_cli.proofs.Adding.{nothing}
-use Rattle.solo_cli.proofs.CardItems.{card-items}
+use Rattle.page_codec.proofs.CardItems.{card-items}
 use Rattle.solo_cli.proofs.Counted.{opening_of, the-run}
 use Rattle.disk_system.specs.declared.loading.Loaded.{Loaded}
-use Rattle.deck_work.specs.DeckJobs.{deck_jobs, deck_are_jobs}
+use Rattle.deck_work.specs.DeckJobs.{AreFound, deck_jobs, deck_are_jobs}
 
 -- ---- how a state ends in which all have ended
 module _ (o : Opening deck_jobs) (end : CoreState Loaded) (reached : IsReached o end) (all : AllEnded (the_law deck_jobs) end) where
@@ -60,7 +59,7 @@ pub uncounted : (rule : Rule) (spools : Spools) (files : Option Loads) (found : 
     → (all → ⊥) → GainsCounted rule (opened spools (Some (cards deck)) paper files) paper paper (one_thread_output found deck) all
 uncounted rule spools files found deck paper all good are bounds told never =
     let s = opened spools (Some (cards deck)) paper files in
-    let o = opening_of spools (cards deck) paper files good bounds in
+    let o = opening_of spools (cards deck) paper files good bounds (card-items deck) in
     let one = the-run spools (cards deck) paper files found rule good are bounds told (card-items deck) in
     let end = run (the_law deck_jobs) s one.events in
     let reached : IsReached o end = record { events = one.events; enabled = one.is.enabled; leads = refl } in

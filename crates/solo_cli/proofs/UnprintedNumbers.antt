@@ -10,7 +10,7 @@ use Rattle.network_run.specs.declared.rules.Rule.{Rule}
 use Rattle.solo_cli.specs.DeckNumbers.{deck_lines}
 use Rattle.solo_cli.specs.MadePaper.{GainsNumbers}
 use Rattle.solo_cli.proofs.Adding.{nothing}
-use Rattle.solo_cli.proofs.CardItems.{card-items}
+use Rattle.page_codec.proofs.CardItems.{card-items}
 use Rattle.solo_cli.proofs.Counted.{some-counts}
 use Rattle.deck_work.specs.DeckJobs.{deck_jobs}
 
