@@ -18,7 +18,7 @@ use Rattle.batch_procs.specs.Causes.{given_cause}
 use Rattle.batch_procs.specs.Fits.{Fits, MayLack}
 use Rattle.batch_procs.specs.Process.{Process, unworked, next_action, Follows}
 use Rattle.batch_procs.specs.Laws.{IsTake, IsRelay}
-use Rattle.batch_procs.specs.Work.{cause_of, IsTaken, MayTake, Takes}
+use Rattle.batch_procs.specs.Work.{cause_of, HandsOver, MayTake, Takes}
 use Rattle.batch_procs.specs.Machine.{Uses, Answers}
 use Rattle.batch_procs.proofs.Relay.{IsPut, put-of}
 use Rattle.batch_procs.proofs.Nexts.{next-take, next-putting, put-unworked, next-local, next-load}
@@ -51,6 +51,13 @@ module _ {L : Type 0} (J : Jobs L) where
       }
 
   -- ---- a take
+  -- a reply that hands something over
+  abbrev pub IsTaken : Reply L → Type 0
+  IsTaken (reply.Card answer) = Unit {0}
+  IsTaken (reply.Feed f) = Unit {0}
+  IsTaken (reply.Page page last) = Unit {0}
+  IsTaken other = ⊥
+
   take-of : (a : Action) (r : Reply L) → Fits J a r → IsTaken r → IsTake a
   take-of act.ReadCard r fits is = tt
   take-of act.TakeFeed r fits is = tt
@@ -121,6 +128,17 @@ module _ {L : Type 0} (J : Jobs L) where
   nothing-due true st all e none = absurd cc
   nothing-due false st all e none = none
 
+  hands-over : (a : Action) (r : Reply L) → IsTake a → Fits J a r → IsTaken r → HandsOver a r
+  hands-over act.ReadCard (reply.Card answer) take fits is = tt
+  hands-over act.ReadCard other take fits is = absurd fits
+  hands-over act.TakeFeed (reply.Feed f) take fits is = tt
+  hands-over act.TakeFeed reply.Stopped take fits is = absurd is
+  hands-over act.TakeFeed other take fits is = absurd fits
+  hands-over act.TakePage (reply.Page page last) take fits is = tt
+  hands-over act.TakePage reply.Failed take fits is = absurd is
+  hands-over act.TakePage other take fits is = absurd fits
+  hands-over other r take fits is = absurd take
+
   lacks-page : (a : Action) (r : Reply L) → IsTake a → Fits J a r → MayLack act.TakePage r → MayLack a r
   lacks-page act.TakePage r take fits may = may
   lacks-page act.ReadCard (reply.Page page last) take fits may = absurd fits
@@ -129,19 +147,18 @@ module _ {L : Type 0} (J : Jobs L) where
   lacks-page act.TakeFeed other take fits may = absurd may
   lacks-page other r take fits may = absurd take
 
-  pub answers-take : {W X : Type 0} (p : Process L) (keeps : W → List (Parcel L) → List (Parcel L) → Bool
+  pub answers-take : {W : Type 0} (p : Process L) (keeps : W → List (Parcel L) → List (Parcel L) → Bool
       → Type 0) (old new : W) (a : Action) (r : Reply L) (result : Result (Option Outcome) NoMemory) → IsTaken r →
-      ((taken sent : List (Parcel L)) → keeps old taken sent false → MayTake J p taken sent r → IfOk result (λ cause. Takes p (keeps new) taken sent r cause)) →
+      ((taken sent : List (Parcel L)) → keeps old taken sent false → MayTake p taken sent r → IfOk result (λ cause. Takes p (keeps new) taken sent r cause)) →
       OnErr result ((p.works ≡ true) × MayLack act.TakePage r) → Answers J p keeps old a r result new
   answers-take p keeps old new a r result is law lacks = record {
     uses = λ h follows none next fits kept.
         let take = take-of a r fits is in
         let taking = next-take J p h a next take in
-        let may : MayTake J p (taken h) (sent h) r = record {
+        let may : MayTake p (taken h) (sent h) r = record {
           nothing_due = nothing-due (unworked p h) (sent h) (p.sends (taken h)) taking.worked taking.nothing;
           goes_on = taking.goes_on;
-          fits = subst (λ a. Fits J a r) (sym taking.same) fits;
-          is_taken = is;
+          hands_over = subst (λ a. HandsOver a r) (sym taking.same) (hands-over a r take fits is);
         } in
         if-ok result (λ cause. Takes p (keeps new) (taken h) (sent h) r cause) (λ cause. Uses p (keeps new) a r cause h)
         (λ cause (same, on). record {
@@ -162,7 +179,7 @@ module _ {L : Type 0} (J : Jobs L) where
   load-of (act.Load file) load fits = (file, refl)
   load-of other load fits = absurd fits
 
-  pub answers-load : {W X : Type 0} (p : Process L) (keeps : W → List (Parcel L) → List (Parcel L) → Bool → Type 0) (old new : W) (a : Action) (r : Reply L)
+  pub answers-load : {W : Type 0} (p : Process L) (keeps : W → List (Parcel L) → List (Parcel L) → Bool → Type 0) (old new : W) (a : Action) (r : Reply L)
       (load : L)
       → IsRelay p → r ≡ reply.Loaded load
       → ((taken sent : List (Parcel L)) (file : List ℕ) (later : List (List ℕ)) → keeps old taken sent true → p.wants taken ≡ file ∷ later

@@ -142,7 +142,7 @@ module _ {L : Type 0} {J : Jobs L} (jobs : AreJobs J) where
     work_is = refl;
     ended_is = refl;
     end_is = refl;
-    reads = λ going. reads-first J;
+    reads = λ going. reads-first;
     pushed = [];
     rests = true;
     keeps = told;
@@ -246,26 +246,26 @@ module _ {L : Type 0} {J : Jobs L} (jobs : AreJobs J) where
       r ≡ reply.Page page last → was.ended ≡ false → page_read was.place last page ≡ Ok content → content.last ≡ last
       → then_is ≡ awaited_after was last (Ok content)
       → ((told : JobTold L) → old told → told.rests ≡ true → told.ended ≡ false → now (with_page told content)) →
-      KeepsJob J old was packer due toil taken sent false → MayTake J (job J) taken sent r →
+      KeepsJob J old was packer due toil taken sent false → MayTake (job J) taken sent r →
       (None ≡ cause_of r taken) × KeepsJob J now then_is packer due true (taken ++ taken_by r) sent true
   job-takes old now was then_is packer due toil taken sent r page last content is goes read whole after feeds keeps may =
       let reads = keeps.reads goes in
       let off : toil ≡ false = sym keeps.work_is in
       let none : due ≡ None = due-none due (drop (length sent) (job_sends J taken)) (keeps.next off) may.nothing_due in
       let (rests, kept) = keeps.awaiting off none goes in
-      let more = page-more J was.place taken page last content reads read in
+      let more = page-more was.place taken page last content reads read in
       let on = goes-on (unpacked 0 taken) (items_then content.items (end_if last)) reads.no_end in
       let items_are : items (unpacked 0 (taken ++ OfPage page last ∷ [])) ≡ items (unpacked 0 taken) ++ content.items = ap items more ∙ on.items_are
       ∙ ap (λ is. items (unpacked 0 taken) ++ is) (then-items content.items last) in
       let end_is : has_end (unpacked 0 (taken ++ OfPage page last ∷ [])) ≡ last = ap has_end more ∙ on.end_is ∙ then-end content.items last in
       let same_loads : loads (taken ++ OfPage page last ∷ []) ≡ loads taken = loads-append taken (OfPage page last ∷ []) ∙ append-nil (loads taken) in
       let fed = feeds (told_with taken keeps.pushed keeps.rests) keeps.keeps rests (keeps.end_is ∙ goes) in (
-        no-damage J was.place taken page last content r is reads read,
+        no-damage was.place taken page last content r is reads read,
         rw (after, is) record {
           work_is = refl;
-          ended_is = sym (ended-more J taken (OfPage page last ∷ []) may.goes_on ∙ or-nothing last);
+          ended_is = sym (ended-more taken (OfPage page last ∷ []) may.goes_on ∙ or-nothing last);
           end_is = end_is;
-          reads = λ open_still. reads-behind J was.place taken page last content reads read open_still;
+          reads = λ open_still. reads-behind was.place taken page last content reads read open_still;
           pushed = keeps.pushed;
           rests = false;
           keeps =

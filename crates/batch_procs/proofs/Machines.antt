@@ -26,9 +26,9 @@ use Rattle.batch_procs.proofs.Relay.{closing-next}
 use Rattle.batch_procs.proofs.Holding.{holder-next, moves-holding}
 
 -- ---- the stops
-pub none-stopped : (buffers : List ℕ) → AreStopped buffers 0 []
-none-stopped [] = tt
-none-stopped (b ∷ later) = (refl, none-stopped later)
+pub none-stopped : (L : Type 0) (buffers : List ℕ) → AreStopped {L = L} buffers 0 []
+none-stopped L [] = tt
+none-stopped L (b ∷ later) = (refl, none-stopped L later)
 
 stopped-or : (t u : Bool) → u ≡ true → (t || u) ≡ true
 stopped-or true u e = refl
@@ -189,7 +189,7 @@ module _ {L : Type 0} (J : Jobs L) where
     follows = tt;
     cause = no_cause;
     step = free;
-    stops = subst (λ n. AreStopped p.buffers n []) (sym no_stops) (none-stopped p.buffers);
+    stops = subst (λ n. AreStopped {L = L} p.buffers n []) (sym no_stops) (none-stopped L p.buffers);
     work = λ none. subst (λ t. keeps m.work [] [] t) (sym (none-works p.works)) begins;
   }
 

@@ -8,7 +8,6 @@ use Rattle.solo_base.specs.declared.item.Feed.TheVariants as feed
 use Rattle.solo_base.specs.declared.page.Page.{Page}
 use Rattle.page_codec.specs.Reading.{PageContent, page_read}
 use Rattle.page_codec.specs.Stream.{Awaited, awaited_after}
-use Rattle.batch_procs.specs.Jobs.{Jobs}
 use Rattle.batch_procs.specs.Parcels.{Parcel, OfFeed, OfPage, OfLine, OfLoad, is_ended, pages}
 use Rattle.batch_procs.specs.Sends.{as_parcels, has_end, items, stream, end_if, items_then, behind, unpacked_by, unpacked, lines_of, lines_stream, output_lines, output_sends}
 use Rattle.batch_procs.specs.declared.actions.Reply.{Reply}
@@ -71,7 +70,7 @@ or-nothing : (t : Bool) → (t || false) ≡ t
 or-nothing true = refl
 or-nothing false = refl
 
-module _ {L : Type 0} (J : Jobs L) where
+module _ {L : Type 0} where
   pub reads-first : ReadsOn {L = L} 0 []
   reads-first = record { counted = refl; goes_on = λ rest. refl; no_end = refl }
 
@@ -137,14 +136,14 @@ module _ {L : Type 0} (J : Jobs L) where
       (last : Bool) (content : PageContent) →
       r ≡ reply.Page page last → was.ended ≡ false → page_read was.place last page ≡ Ok content → now ≡ awaited_after was last (Ok content) →
       lines_stream (lines_of content.items) last ≡ option_to_list then_due ++ then_left → (then_due ≡ None → then_left ≡ []) →
-      KeepsOutput was due left taken sent false → MayTake J output taken sent r →
+      KeepsOutput was due left taken sent false → MayTake output taken sent r →
       (None ≡ cause_of r taken) × (KeepsOutput now then_due then_left (taken ++ taken_by r) sent false)
   output-takes was now due then_due left then_left taken sent r page last content is goes_on read after gives front keeps may =
       let reads = keeps.reads goes_on in (
         no-damage was.place taken page last content r is reads read,
         rw after record {
           keeps =
-              due-take J output (as_parcels (option_to_list due ++ left)) (as_parcels (option_to_list then_due
+              due-take output (as_parcels (option_to_list due ++ left)) (as_parcels (option_to_list then_due
               ++ then_left)) was.ended last taken sent r keeps.keeps may refl
               (ap (λ r. output_sends (taken ++ taken_by r)) is ∙ output-more was.place taken page last content reads read
               ∙ ap (λ fs. output_sends taken ++ as_parcels fs) gives)

@@ -6,10 +6,9 @@ use Rattle.solo_base.specs.declared.item.Item.TheVariants.{Line, Spoiled}
 use Rattle.solo_base.specs.declared.item.Feed.{Feed}
 use Rattle.solo_base.specs.declared.item.Feed.TheVariants as feed
 use Rattle.page_codec.specs.Packing.{PageInHand, first_page, page_given, hand_after}
-use Rattle.batch_procs.specs.Jobs.{Jobs}
 use Rattle.batch_procs.specs.declared.actions.Reply.{Reply}
 use Rattle.batch_procs.specs.declared.actions.Reply.TheVariants as reply
-use Rattle.batch_procs.specs.Parcels.{Parcel, OfFeed, OfPage, OfLine, OfLoad, is_the_end, is_ended}
+use Rattle.batch_procs.specs.Parcels.{Parcel, OfFeed, OfPage, OfLine, OfLoad, is_last, is_the_end, is_ended}
 use Rattle.batch_procs.specs.History.{taken_by}
 use Rattle.batch_procs.specs.Process.{Process}
 use Rattle.batch_procs.specs.Sends.{feeds, as_parcels, as_lines, marked, has_end, items, packed, until_end, lines_of, card_sends, input_sends, printer_sends}
@@ -44,7 +43,7 @@ hand-behind [] more hand e = refl
 hand-behind (feed.Item item ∷ some) more hand e = hand-behind some more (hand_after hand item) e
 hand-behind (feed.End ∷ some) more hand e = absurd cc
 
-module _ {L : Type 0} (J : Jobs L) where
+module _ {L : Type 0} where
   -- ---- any process
   pub ended-more : (some more : List (Parcel L)) → is_ended some ≡ false → is_ended (some ++ more) ≡ is_ended more
   ended-more [] more e = refl
@@ -53,11 +52,11 @@ module _ {L : Type 0} (J : Jobs L) where
 
   -- where nothing is due all is put
   pub all-put : (p : Process L) (due : List (Parcel L)) (was : Bool) (taken sent : List (Parcel L)) (r : Reply L) → KeepsDue p due was taken sent false
-      → MayTake J p taken sent r → sent ≡ p.sends taken
+      → MayTake p taken sent r → sent ≡ p.sends taken
   all-put p due was taken sent r keeps may = part-whole sent (p.sends taken) (due, keeps.due_is) may.nothing_due
 
   pub due-take : (p : Process L) (due new : List (Parcel L)) (was now : Bool) (taken sent : List (Parcel L)) (r : Reply L) → KeepsDue p due was taken sent false
-      → MayTake J p taken sent r → p.works ≡ false →
+      → MayTake p taken sent r → p.works ≡ false →
       p.sends (taken ++ taken_by r) ≡ p.sends taken ++ new → now ≡ is_ended (taken_by r) → KeepsDue p new now (taken ++ taken_by r) sent p.works
   due-take p due new was now taken sent r keeps may idle sends ends = record {
     idle = idle;
@@ -66,7 +65,7 @@ module _ {L : Type 0} (J : Jobs L) where
   }
 
   pub still-going : (p : Process L) (due : List (Parcel L)) (was : Bool) (taken sent : List (Parcel L)) (r : Reply L) → KeepsDue p due was taken sent false
-      → MayTake J p taken sent r → was ≡ false
+      → MayTake p taken sent r → was ≡ false
   still-going p due was taken sent r keeps may = keeps.ended_is ∙ may.goes_on
 
   -- ---- feeds
@@ -97,7 +96,7 @@ module _ {L : Type 0} (J : Jobs L) where
   -- what the card process keeps of a card
   pub card-takes : (due : List (Parcel L)) (was now : Bool) (taken sent : List (Parcel L)) (r : Reply L) (f : Feed) → taken_by r ≡ OfFeed f ∷ []
       → now ≡ is_the_end f
-      → KeepsDue card due was taken sent false → MayTake J card taken sent r → KeepsDue card (OfFeed f ∷ []) now (taken ++ taken_by r) sent false
+      → KeepsDue card due was taken sent false → MayTake card taken sent r → KeepsDue card (OfFeed f ∷ []) now (taken ++ taken_by r) sent false
   card-takes due was now taken sent r f is ends keeps may =
       due-take card due (OfFeed f ∷ []) was now taken sent r keeps may refl (ap (λ x. card_sends (taken ++ x)) is ∙ card-more taken f may.goes_on) (ends
       ∙ sym (ap is_ended is ∙ or-nothing (is_the_end f)))
@@ -131,7 +130,7 @@ module _ {L : Type 0} (J : Jobs L) where
   -- ---- what they keep
   pub printer-takes : (due new : List (Parcel L)) (was now : Bool) (taken sent : List (Parcel L)) (r : Reply L) (f : Feed) → r ≡ reply.Feed f
       → new ≡ as_lines (lines_of (items (f ∷ []))) → now ≡ is_the_end f →
-      KeepsDue printer due was taken sent false → MayTake J printer taken sent r → KeepsDue printer new now (taken ++ taken_by r) sent false
+      KeepsDue printer due was taken sent false → MayTake printer taken sent r → KeepsDue printer new now (taken ++ taken_by r) sent false
   printer-takes due new was now taken sent r f is gives ends keeps may =
       due-take printer due new was now taken sent r keeps may refl
       (ap (λ r. printer_sends (taken ++ taken_by r)) is ∙ printer-more taken f may.goes_on ∙ ap (λ ps. printer_sends taken ++ ps) (sym gives))
@@ -139,7 +138,7 @@ module _ {L : Type 0} (J : Jobs L) where
 
   pub input-takes : (due new : List (Parcel L)) (was now : Bool) (hand then_hand : PageInHand) (taken sent : List (Parcel L)) (r : Reply L) (f : Feed)
       → r ≡ reply.Feed f
-      → KeepsInput due was hand taken sent false → MayTake J input taken sent r →
+      → KeepsInput due was hand taken sent false → MayTake input taken sent r →
       new ≡ packed hand (f ∷ []) → now ≡ is_the_end f → (now ≡ false → then_hand ≡ hand_of hand (f ∷ []))
       → KeepsInput new now then_hand (taken ++ taken_by r) sent false
   input-takes due new was now hand then_hand taken sent r f is keeps may gives ends after =

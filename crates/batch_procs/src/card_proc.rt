@@ -21,6 +21,11 @@ pub struct CardWork {
 }
 
 impl<J: JobWork> Work<J> for CardWork {
+    ghost use Rattle.std.specs.Prelude.{◌≡◌, true, false, List, IfOk, OnErr};
+    ghost use Rattle.batch_procs.specs.Parcels.{Parcel};
+    ghost use Rattle.batch_procs.specs.declared.actions.Action.TheVariants as act;
+    ghost use Rattle.batch_procs.specs.Fits.{MayLack};
+    ghost use Rattle.batch_procs.specs.Work.{MayTake, Takes};
     ghost use Rattle.batch_procs.specs.Table.{card};
     ghost use Rattle.batch_procs.specs.Keeping.{card_keeps};
     ghost use Rattle.batch_procs.specs.Relays.{card-relay};
@@ -57,7 +62,12 @@ impl<J: JobWork> Work<J> for CardWork {
     }
 
     #[inline(always)]
-    fn take(&mut self, reply: Reply<J::Load>) -> Result<Option<Outcome>, NoMemory> {
+    fn take(&mut self, reply: Reply<J::Load>) -> Result<Option<Outcome>, NoMemory>
+        ensures ok { (taken sent : List (Parcel J.Load)) → card_keeps self.old taken sent false
+            → MayTake card taken sent reply →
+            IfOk result (λ cause. Takes card (card_keeps self.new) taken sent reply cause) }
+        ensures err { OnErr result (((card {L = J.Load}).works ≡ true) × MayLack act.TakePage reply) }
+    {
         match reply {
             Reply::Card(CardRead::Card(line)) => self.due = Some(Feed::Item(Item::Line(line))),
             Reply::Card(CardRead::Spoiled) => self.due = Some(Feed::Item(Item::Spoiled)),

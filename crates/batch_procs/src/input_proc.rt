@@ -22,6 +22,11 @@ pub struct InputWork {
 }
 
 impl<J: JobWork> Work<J> for InputWork {
+    ghost use Rattle.std.specs.Prelude.{◌≡◌, true, false, List, IfOk, OnErr};
+    ghost use Rattle.batch_procs.specs.Parcels.{Parcel};
+    ghost use Rattle.batch_procs.specs.declared.actions.Action.TheVariants as act;
+    ghost use Rattle.batch_procs.specs.Fits.{MayLack};
+    ghost use Rattle.batch_procs.specs.Work.{MayTake, Takes};
     ghost use Rattle.batch_procs.specs.Table.{input};
     ghost use Rattle.batch_procs.specs.Keeping.{input_keeps};
     ghost use Rattle.batch_procs.specs.Relays.{input-relay};
@@ -59,7 +64,12 @@ impl<J: JobWork> Work<J> for InputWork {
     }
 
     #[inline(always)]
-    fn take(&mut self, reply: Reply<J::Load>) -> Result<Option<Outcome>, NoMemory> {
+    fn take(&mut self, reply: Reply<J::Load>) -> Result<Option<Outcome>, NoMemory>
+        ensures ok { (taken sent : List (Parcel J.Load)) → input_keeps self.old taken sent false
+            → MayTake input taken sent reply →
+            IfOk result (λ cause. Takes input (input_keeps self.new) taken sent reply cause) }
+        ensures err { OnErr result (((input {L = J.Load}).works ≡ true) × MayLack act.TakePage reply) }
+    {
         match reply {
             Reply::Feed(Feed::Item(item)) => self.due = self.packer.push(&item),
             Reply::Feed(Feed::End) => {

@@ -21,7 +21,7 @@ pub type JobProc<J> = Machine<J, JobProcWork<J>>;
 /// hand and the page that is due, and whether there is work to do. Files are loaded before the work on a
 /// page.
 #[derive(Drop)]
-pub struct JobProcWork<J: JobWork> {
+pub struct JobProcWork<J> {
     pages: Pages,
     jobs: J,
     packer: Packer,
@@ -30,6 +30,11 @@ pub struct JobProcWork<J: JobWork> {
 }
 
 impl<J: JobWork> Work<J> for JobProcWork<J> {
+    ghost use Rattle.std.specs.Prelude.{◌≡◌, true, false, List, IfOk, OnErr};
+    ghost use Rattle.batch_procs.specs.Parcels.{Parcel};
+    ghost use Rattle.batch_procs.specs.declared.actions.Action.TheVariants as act;
+    ghost use Rattle.batch_procs.specs.Fits.{MayLack};
+    ghost use Rattle.batch_procs.specs.Work.{MayTake, Takes};
     ghost use Rattle.batch_procs.specs.Table.{job};
     ghost use Rattle.batch_procs.specs.Keeping.{job_keeps};
     ghost use Rattle.batch_procs.specs.Relays.{job-relay};
@@ -72,7 +77,12 @@ impl<J: JobWork> Work<J> for JobProcWork<J> {
     }
 
     #[inline(always)]
-    fn take(&mut self, reply: Reply<J::Load>) -> Result<Option<Outcome>, NoMemory> {
+    fn take(&mut self, reply: Reply<J::Load>) -> Result<Option<Outcome>, NoMemory>
+        ensures ok { (taken sent : List (Parcel J.Load)) → job_keeps J.jobs J.keeps self.old taken sent false
+            → MayTake (job J.jobs) taken sent reply →
+            IfOk result (λ cause. Takes (job J.jobs) (job_keeps J.jobs J.keeps self.new) taken sent reply cause) }
+        ensures err { OnErr result (((job J.jobs).works ≡ true) × MayLack act.TakePage reply) }
+    {
         let Reply::Page { page, last } = reply else {
             return Ok(None);
         };

@@ -27,6 +27,11 @@ pub struct OutputWork {
 }
 
 impl<J: JobWork> Work<J> for OutputWork {
+    ghost use Rattle.std.specs.Prelude.{◌≡◌, true, false, List, IfOk, OnErr};
+    ghost use Rattle.batch_procs.specs.Parcels.{Parcel};
+    ghost use Rattle.batch_procs.specs.declared.actions.Action.TheVariants as act;
+    ghost use Rattle.batch_procs.specs.Fits.{MayLack};
+    ghost use Rattle.batch_procs.specs.Work.{MayTake, Takes};
     ghost use Rattle.batch_procs.specs.Table.{output};
     ghost use Rattle.batch_procs.specs.Keeping.{output_keeps};
     ghost use Rattle.batch_procs.specs.Relays.{output-relay};
@@ -65,7 +70,12 @@ impl<J: JobWork> Work<J> for OutputWork {
     }
 
     #[inline(always)]
-    fn take(&mut self, reply: Reply<J::Load>) -> Result<Option<Outcome>, NoMemory> {
+    fn take(&mut self, reply: Reply<J::Load>) -> Result<Option<Outcome>, NoMemory>
+        ensures ok { (taken sent : List (Parcel J.Load)) → output_keeps self.old taken sent false
+            → MayTake output taken sent reply →
+            IfOk result (λ cause. Takes output (output_keeps self.new) taken sent reply cause) }
+        ensures err { OnErr result (((output {L = J.Load}).works ≡ true) × MayLack act.TakePage reply) }
+    {
         let Reply::Page { page, last } = reply else {
             return Ok(None);
         };

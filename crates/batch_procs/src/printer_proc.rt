@@ -18,6 +18,11 @@ pub struct PrinterWork {
 }
 
 impl<J: JobWork> Work<J> for PrinterWork {
+    ghost use Rattle.std.specs.Prelude.{◌≡◌, true, false, List, IfOk, OnErr};
+    ghost use Rattle.batch_procs.specs.Parcels.{Parcel};
+    ghost use Rattle.batch_procs.specs.declared.actions.Action.TheVariants as act;
+    ghost use Rattle.batch_procs.specs.Fits.{MayLack};
+    ghost use Rattle.batch_procs.specs.Work.{MayTake, Takes};
     ghost use Rattle.batch_procs.specs.Table.{printer};
     ghost use Rattle.batch_procs.specs.Keeping.{printer_keeps};
     ghost use Rattle.batch_procs.specs.Relays.{printer-relay};
@@ -54,7 +59,12 @@ impl<J: JobWork> Work<J> for PrinterWork {
     }
 
     #[inline(always)]
-    fn take(&mut self, reply: Reply<J::Load>) -> Result<Option<Outcome>, NoMemory> {
+    fn take(&mut self, reply: Reply<J::Load>) -> Result<Option<Outcome>, NoMemory>
+        ensures ok { (taken sent : List (Parcel J.Load)) → printer_keeps self.old taken sent false
+            → MayTake printer taken sent reply →
+            IfOk result (λ cause. Takes printer (printer_keeps self.new) taken sent reply cause) }
+        ensures err { OnErr result (((printer {L = J.Load}).works ≡ true) × MayLack act.TakePage reply) }
+    {
         match reply {
             Reply::Feed(feed) => {
                 self.ended = is_end(&feed);

@@ -42,7 +42,7 @@ pub trait Work<J: JobWork> {
     /// Takes what a reply hands over, or says why the process stops.
     fn take(&mut self, reply: Reply<J::Load>) -> Result<Option<Outcome>, NoMemory>
         ensures ok { (taken sent : List (Parcel J.Load)) → keeps self.old taken sent false
-            → MayTake J.jobs process taken sent reply →
+            → MayTake process taken sent reply →
             IfOk result (λ cause. Takes process (keeps self.new) taken sent reply cause) }
         ensures err { OnErr result ((process.works ≡ true) × MayLack act.TakePage reply) };
 

@@ -8,11 +8,11 @@ use std::alloc::Global;
 
 /// The mounted files, from which the programs of a deck's jobs are loaded.
 #[derive(Drop)]
-pub struct DeckFiles<A: Area> {
+pub struct DeckFiles<A: Area + Drop> {
     pub files: FileArea<A>,
 }
 
-impl<A: Area> Loader<DeckWork> for DeckFiles<A> {
+impl<A: Area + Drop> Loader<DeckWork> for DeckFiles<A> {
     ghost use Rattle.std.specs.Prelude.{◌≡◌, true};
     ghost use Rattle.deck_work.specs.DeckJobs.{files_found, found_are_loads};
 

@@ -12,19 +12,19 @@ pub returns-in-Card-Card-clause-ok : goal.returns-in-Card-Card-clause-ok
 returns-in-Card-Card-clause-ok g c = λ taken sent keeps may.
     let is = c.in-Card-Card.is ∙ ap reply.Card c.in-Card-Card.field-0-is in (
       sym (ap (λ r. cause_of r taken) is),
-      λ none. card-takes g.J.JobWork.jobs _ _ _ taken sent c.args.reply (feed.Item (Line c.in-Card-Card.line)) (ap taken_by is)
-          (still-going g.J.JobWork.jobs card _ _ taken sent c.args.reply keeps may) keeps may,
+      λ none. card-takes _ _ _ taken sent c.args.reply (feed.Item (Line c.in-Card-Card.line)) (ap taken_by is)
+          (still-going card _ _ taken sent c.args.reply keeps may) keeps may,
     )
 
 pub returns-in-Card-Spoiled-clause-ok : goal.returns-in-Card-Spoiled-clause-ok
 returns-in-Card-Spoiled-clause-ok g c = λ taken sent keeps may.
     let is = c.in-Card-Spoiled.is ∙ ap reply.Card c.in-Card-Spoiled.field-0-is in (
       sym (ap (λ r. cause_of r taken) is),
-      λ none. card-takes g.J.JobWork.jobs _ _ _ taken sent c.args.reply (feed.Item Spoiled) (ap taken_by is)
-          (still-going g.J.JobWork.jobs card _ _ taken sent c.args.reply keeps may) keeps may,
+      λ none. card-takes _ _ _ taken sent c.args.reply (feed.Item Spoiled) (ap taken_by is)
+          (still-going card _ _ taken sent c.args.reply keeps may) keeps may,
     )
 
 pub returns-in-Card-End-clause-ok : goal.returns-in-Card-End-clause-ok
 returns-in-Card-End-clause-ok g c = λ taken sent keeps may.
     let is = c.in-Card-End.is ∙ ap reply.Card c.in-Card-End.field-0-is in
-    (sym (ap (λ r. cause_of r taken) is), λ none. card-takes g.J.JobWork.jobs _ _ _ taken sent c.args.reply feed.End (ap taken_by is) refl keeps may)
+    (sym (ap (λ r. cause_of r taken) is), λ none. card-takes _ _ _ taken sent c.args.reply feed.End (ap taken_by is) refl keeps may)

@@ -14,9 +14,9 @@ use Rattle.batch_procs.proofs.input_proc.InputWorkWork.take.Goals as goal
 pub returns-in-Feed-Item-clause-ok : goal.returns-in-Feed-Item-clause-ok
 returns-in-Feed-Item-clause-ok g c = λ taken sent keeps may.
     let is = c.in-Feed-Item.is ∙ ap reply.Feed c.in-Feed-Item.field-0-is in
-    let going = still-going g.J.JobWork.jobs input _ _ taken sent c.args.reply keeps.keeps may in (
+    let going = still-going input _ _ taken sent c.args.reply keeps.keeps may in (
       sym (ap (λ r. cause_of r taken) is),
-      λ none. input-takes g.J.JobWork.jobs _ _ _ _ _ _ taken sent c.args.reply (feed.Item c.in-Feed-Item.item) is keeps may
+      λ none. input-takes _ _ _ _ _ _ taken sent c.args.reply (feed.Item c.in-Feed-Item.item) is keeps may
           (ap (λ t. marked t (option_to_list c.push-self.result)) going ∙ ap (λ page. marked false (option_to_list page)) c.push-self.ensures.page
           ∙ sym (append-nil (marked false (option_to_list (page_given c.args.self.now.packer c.in-Feed-Item.item)))))
           going (λ on. c.push-self.ensures.hand),
@@ -26,7 +26,7 @@ pub returns-in-Feed-End-clause-ok : goal.returns-in-Feed-End-clause-ok
 returns-in-Feed-End-clause-ok g c = λ taken sent keeps may.
     let is = c.in-Feed-End.is ∙ ap reply.Feed c.in-Feed-End.field-0-is in (
       sym (ap (λ r. cause_of r taken) is),
-      λ none. input-takes g.J.JobWork.jobs _ _ _ _ _ _ taken sent c.args.reply feed.End is keeps may
+      λ none. input-takes _ _ _ _ _ _ taken sent c.args.reply feed.End is keeps may
           (ap (λ page. OfPage page true ∷ []) (c.finish.ensures.page
           ∙ ap (λ hand. page_of hand.place true hand.content) c.replace-packer.ensures.value)) refl (λ on. absurd cc),
     )
