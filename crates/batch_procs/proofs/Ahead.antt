@@ -287,7 +287,7 @@ module _ {L : Type 0} (J : Jobs L) where
   free-moves p h a relay follows next none free apart =
       free-step (newest h) (aim p h) a (works-next J p h a next none) free (sym (held-by J p h relay follows) ∙ not-held J p h a relay follows next apart)
 
-  put-within : (p : Process L) (most : ℕ) (h : List (Entry L)) (a : Action) → length (put_by a reply.Done) ≡ 1
+  put-within : (p : Process L) (most : ℕ) (h : List (Entry L)) (a : Action) → length (put_by {L = L} a reply.Done) ≡ 1
       → length (sent h ++ put_by a reply.Done) ≤ most * length (handed (taken h ++ [])) + 1
       → length (sent h) + 1 ≤ most * length (handed (taken h)) + 1
   put-within p most h a one bound =

@@ -189,7 +189,7 @@ module _ {L : Type 0} (J : Jobs L) where
   release-by p (Some how) h is so next = closes-release p.buffers how h (closing-next (newest h) (closes p.buffers how h) act.Release next)
 
   pub release-holds : (p : Process L) (h : List (Entry L)) → IsRelay p → Follows J p h → next_action p h ≡ Some act.Release → holds h ≡ true
-  release-holds p h relay follows next = release-by p (caused h) h (aim-is p h relay) (kept J p h relay follows) next
+  release-holds p h relay follows next = release-by p (caused h) h (aim-is J p h relay) (kept J p h relay follows) next
 
   requests-not : (newest : Option Action) (aim : Action) (held : Bool) (room item : Type 0) → KeptBy newest aim held room item
       → working newest aim ≡ Some act.Request → IsAim aim → held ≡ false
@@ -207,4 +207,4 @@ module _ {L : Type 0} (J : Jobs L) where
   request-holds_not p h relay follows next =
       let none = open-next J p h act.Request next tt in
       requests-not (newest h) (aim p h) (holds h) (AwaitedRoom h) (AwaitedItem h) (kept J p h relay follows none) (works-next J p h act.Request next none)
-      (aim-is p h relay)
+      (aim-is J p h relay)

@@ -26,7 +26,7 @@ use Rattle.batch_procs.proofs.Relay.{closing-next}
 use Rattle.batch_procs.proofs.Holding.{holder-next, moves-holding}
 
 -- ---- the stops
-pub none-stopped : (buffers : List ℕ) → AreStopped buffers 0 []
+pub none-stopped : {L : Type 0} (buffers : List ℕ) → AreStopped {L = L} buffers 0 []
 none-stopped [] = tt
 none-stopped (b ∷ later) = (refl, none-stopped later)
 

@@ -45,7 +45,7 @@ module _ {L : Type 0} {J : Jobs L} (jobs : AreJobs J) where
   no-page : (p : Process L) (h : List (Entry L)) → (p.takes ≡ act.TakePage → ⊥) → next_action p h ≡ Some act.TakePage → ⊥
   no-page p h not next = not (next-take jobs p h act.TakePage next tt).same
 
-  card-feeds : (answer : CardRead) → AllByRecursion IsAFeed (handed (card_taken answer))
+  card-feeds : (answer : CardRead) → AllByRecursion IsAFeed (handed (card_taken {L = L} answer))
   card-feeds (read.Card line) = (tt, tt)
   card-feeds read.Spoiled = (tt, tt)
   card-feeds read.End = (tt, tt)

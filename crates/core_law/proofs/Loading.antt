@@ -42,7 +42,7 @@ module _ {L : Type 0} {J : Jobs L} (jobs : AreJobs J) where
   abbrev LoadsOne : Entry L → Type 0
   LoadsOne entry = length (loads (took entry)) ≡ length (file_loaded entry)
 
-  pub card-loads : (answer : Rattle.solo_devices.specs.declared.card_read.CardRead.CardRead) → loads (card_taken answer) ≡ []
+  pub card-loads : (answer : Rattle.solo_devices.specs.declared.card_read.CardRead.CardRead) → loads (card_taken {L = L} answer) ≡ []
   card-loads (read.Card line) = refl
   card-loads read.Spoiled = refl
   card-loads read.End = refl
@@ -105,7 +105,7 @@ module _ {L : Type 0} {J : Jobs L} (jobs : AreJobs J) where
   wants-none p h file relay follows none next =
       (let wants = next-load J p h file relay follows next in let no = sym (none (taken h)) ∙ wants.first in cc)
 
-  card-handed : (answer : Rattle.solo_devices.specs.declared.card_read.CardRead.CardRead) → handed (card_taken answer) ≡ card_taken answer
+  card-handed : (answer : Rattle.solo_devices.specs.declared.card_read.CardRead.CardRead) → handed (card_taken {L = L} answer) ≡ card_taken answer
   card-handed (read.Card line) = refl
   card-handed read.Spoiled = refl
   card-handed read.End = refl
@@ -262,9 +262,16 @@ module _ {L : Type 0} {J : Jobs L} (jobs : AreJobs J) where
   worked-none p relay works opens (LacksMemory a r ∷ h) follows none off = absurd (some-not_none (caused h) _ none)
   worked-none p relay works opens (Delays a ∷ h) follows none off = worked-none p relay works opens h follows.2 none off
 
+  no-files : (files : List (List ℕ)) → length files ≤ 0 → files ≡ []
+  no-files [] few = refl
+  no-files (file ∷ files) few = absurd (omega (arith, few))
+
+  nothing-named : J.named [] ≡ []
+  nothing-named = no-files (J.named []) (jobs.few_named [])
+
   -- With its work done and no cause, the job process wants no file.
   pub job-worked : (h : List (Entry L)) → Follows J (job J) h → caused h ≡ None → unworked (job J) h ≡ false → (job J).wants (taken h) ≡ []
-  job-worked h follows none worked = worked-none (job J) (job-relay jobs) refl refl h follows none worked
+  job-worked h follows none worked = worked-none (job J) (job-relay jobs) refl nothing-named h follows none worked
 
   drop-none : (n : ℕ) (files : List (List ℕ)) → drop n files ≡ [] → length files ≤ n
   drop-none zero [] e = omega arith

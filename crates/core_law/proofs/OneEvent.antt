@@ -116,7 +116,7 @@ module _ {L : Type 0} {J : Jobs L} (jobs : AreJobs J) where
   card_for (Line line ∷ rest) = read.Card line
   card_for (Spoiled ∷ rest) = read.Spoiled
 
-  card-is : (deck : Option (List Item)) (items : List Item) (answer : CardRead) → deck ≡ Some items → IsSmooth (Does act.ReadCard (reply.Card answer))
+  card-is : (deck : Option (List Item)) (items : List Item) (answer : CardRead) → deck ≡ Some items → IsSmooth {L = L} (Does act.ReadCard (reply.Card answer))
       → DeckGives deck answer → answer ≡ card_for items
   card-is deck items (read.Card line) told smooth gives = sym (ap card_for (gives.item items told).1)
   card-is deck items read.Spoiled told smooth gives = sym (ap card_for (gives.item items told).1)

@@ -106,7 +106,7 @@ module _ {L : Type 0} {J : Jobs L} (jobs : AreJobs J) where
   read-more h a r follows next fits seen = read-same (taken h) (taken_by r) (plain-reply jobs a r fits tt) seen
 
   never-lacks : (r : Reply L) (a : Action) → (false ≡ true) × MayLack a r → ⊥
-  never-lacks r a (no, may) = cc
+  never-lacks r a (never, may) = cc
 
   -- It took cards, whatever deck was read.
   pub cards-read : (h : List (Entry L)) → Follows J (process J 1) h → CardsRead (taken h)

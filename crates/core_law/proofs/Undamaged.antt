@@ -113,7 +113,10 @@ module _ {L : Type 0} {J : Jobs L} (jobs : AreJobs J) where
   not-none [] rest x e = cc
   not-none (y ∷ front) rest x e = cc
 
-  same-page : (page other : Page) (last mark : Bool) → OfPage {L = L} page last ≡ OfPage other mark → (page ≡ other) × (last ≡ mark)
+  abbrev page_parcel : Page → Bool → Parcel L
+  page_parcel page last = OfPage page last
+
+  same-page : (page other : Page) (last mark : Bool) → page_parcel page last ≡ OfPage other mark → (page ≡ other) × (last ≡ mark)
   same-page page other last mark e = (cc, cc)
 
   head-same : (x y : Parcel L) (xs ys : List (Parcel L)) → x ∷ xs ≡ y ∷ ys → x ≡ y
@@ -122,7 +125,7 @@ module _ {L : Type 0} {J : Jobs L} (jobs : AreJobs J) where
   tail-same : (x y : Parcel L) (xs ys : List (Parcel L)) → x ∷ xs ≡ y ∷ ys → xs ≡ ys
   tail-same x y xs ys e = cc
 
-  undamaged-here : (n : ℕ) (page other : Page) (last mark : Bool) (all : List Item) → OfPage {L = L} page last ≡ OfPage other mark
+  undamaged-here : (n : ℕ) (page other : Page) (last mark : Bool) (all : List Item) → page_parcel page last ≡ OfPage other mark
       → page_read (n % 2 ^ 16) mark other ≡ good all mark → damage (page_read ((n + 0) % 2 ^ 16) last page) ≡ None
   undamaged-here n page other last mark all e is =
       let (pages_are, marks_are) = same-page page other last mark e in
