@@ -174,7 +174,8 @@ module _ {L : Type 0} {J : Jobs L} (jobs : AreJobs J) where
   pub item-ready : (row : ℕ → Process L) (p : ℕ) (h : List (Entry L)) → Follows J (row p) h → caused h ≡ None → AwaitedItem h
       → found_ready (upstream p) Receiver (law.acts (core J row) p h) ≡ true
   item-ready row p [] follows none awaited = absurd awaited
-  item-ready row p (Does act.AwaitItem r ∷ h) follows none awaited = item-found p (found_ready (upstream p) Receiver (law.acts (core J row) p h)) h r follows.1 none
+  item-ready row p (Does act.AwaitItem r ∷ h) follows none awaited = item-found p
+      (found_ready (upstream p) Receiver (law.acts (core J row) p h)) h r follows.1 none
   item-ready row p (Does act.Request r ∷ h) follows none awaited = asked-found (upstream p) p Receiver
       (found_ready (upstream p) Receiver (law.acts (core J row) p h)) r follows.1
       ∙ item-ready row p h follows.2 (or-none (caused h) (given_cause act.Request r h) none) awaited

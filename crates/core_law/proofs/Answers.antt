@@ -49,7 +49,8 @@ module _ {L : Type 0} {J : Jobs L} (jobs : AreJobs J) where
   all-front Is [] rest all = tt
   all-front Is (x ∷ part) rest all = (all.0, all-front Is part rest all.1)
 
-  first-is : (buffer : Buffer (Parcel L)) (parcel : Parcel L) (rest : List (Parcel L)) → buffer.inside ≡ Some (parcel ∷ rest) → buffer.marks ≡ map is_last (parcel ∷ rest)
+  first-is : (buffer : Buffer (Parcel L)) (parcel : Parcel L) (rest : List (Parcel L)) → buffer.inside ≡ Some (parcel ∷ rest) → buffer.marks ≡ map is_last
+      (parcel ∷ rest)
       → IsFirst is_last buffer parcel
   first-is buffer parcel rest told marks = record {
     marked = marks ∙ ap (λ ms. is_last parcel ∷ ms) (ap (drop 1) (sym marks));
@@ -59,7 +60,8 @@ module _ {L : Type 0} {J : Jobs L} (jobs : AreJobs J) where
   none-inside : (marks : List Bool) → 0 < length marks → marks ≡ [] → ⊥
   none-inside marks some e = let none : length marks ≡ 0 = ap length e in omega (arith, some, none)
 
-  first-feed : (buffer : Buffer (Parcel L)) (inside : List (Parcel L)) → buffer.inside ≡ Some inside → buffer.marks ≡ map is_last inside → AllByRecursion IsAFeed inside
+  first-feed : (buffer : Buffer (Parcel L)) (inside : List (Parcel L)) → buffer.inside ≡ Some inside → buffer.marks ≡ map is_last inside
+      → AllByRecursion IsAFeed inside
       → 0 < length buffer.marks → (f : Feed) × IsFirst is_last buffer (OfFeed f)
   first-feed buffer [] told marks are some = absurd (none-inside buffer.marks some marks)
   first-feed buffer (OfFeed f ∷ rest) told marks are some = (f, first-is buffer (OfFeed f) rest told marks)
@@ -70,7 +72,8 @@ module _ {L : Type 0} {J : Jobs L} (jobs : AreJobs J) where
   abbrev FirstPage : Buffer (Parcel L) → Type 0
   FirstPage buffer = (page : Page) × (last : Bool) × IsFirst is_last buffer (OfPage page last)
 
-  first-page : (buffer : Buffer (Parcel L)) (inside : List (Parcel L)) → buffer.inside ≡ Some inside → buffer.marks ≡ map is_last inside → AllByRecursion IsAPage inside
+  first-page : (buffer : Buffer (Parcel L)) (inside : List (Parcel L)) → buffer.inside ≡ Some inside → buffer.marks ≡ map is_last inside
+      → AllByRecursion IsAPage inside
       → 0 < length buffer.marks → FirstPage buffer
   first-page buffer [] told marks are some = absurd (none-inside buffer.marks some marks)
   first-page buffer (OfPage page last ∷ rest) told marks are some = (page, last, first-is buffer (OfPage page last) rest told marks)

@@ -126,7 +126,8 @@ module _ {L : Type 0} {J : Jobs L} (jobs : AreJobs J) where
   prints-no_page h a follows put d = absurd (page-no_line d.first a d.puts_it put (due-kind IsALine 5 h a follows (the-five jobs).prints_only d))
 
   pub page-puts : (p : ℕ) → IsProcess p → PutsPages p
-  page-puts p one = by-five PutsPages p one (no-page 1 feeds-1) (λ h a follows put d. inl refl) (λ h a follows put d. inr refl) (no-page 4 feeds-4) prints-no_page
+  page-puts p one = by-five PutsPages p one (no-page 1 feeds-1) (λ h a follows put d. inl refl) (λ h a follows put d. inr refl)
+      (no-page 4 feeds-4) prints-no_page
 
   page-put : (a : Action) → Rattle.batch_procs.proofs.Holding.IsPagePut a → IsPageAction a
   page-put (act.PutPage page) is = tt
@@ -144,11 +145,13 @@ module _ {L : Type 0} {J : Jobs L} (jobs : AreJobs J) where
   -- ---- who takes
   pub feed-takes : (p : ℕ) → IsProcess p → (process J p).takes ≡ act.TakeFeed → (p ≡ 2) ⊎ (p ≡ 5)
   feed-takes p one =
-      by-five (λ p. (process J p).takes ≡ act.TakeFeed → (p ≡ 2) ⊎ (p ≡ 5)) p one (λ e. absurd cc) (λ e. inl refl) (λ e. absurd cc) (λ e. absurd cc) (λ e. inr refl)
+      by-five (λ p. (process J p).takes ≡ act.TakeFeed → (p ≡ 2) ⊎ (p ≡ 5)) p one (λ e. absurd cc) (λ e. inl refl) (λ e. absurd cc) (λ e. absurd cc)
+          (λ e. inr refl)
 
   pub page-takes : (p : ℕ) → IsProcess p → (process J p).takes ≡ act.TakePage → (p ≡ 3) ⊎ (p ≡ 4)
   page-takes p one =
-      by-five (λ p. (process J p).takes ≡ act.TakePage → (p ≡ 3) ⊎ (p ≡ 4)) p one (λ e. absurd cc) (λ e. absurd cc) (λ e. inl refl) (λ e. inr refl) (λ e. absurd cc)
+      by-five (λ p. (process J p).takes ≡ act.TakePage → (p ≡ 3) ⊎ (p ≡ 4)) p one (λ e. absurd cc) (λ e. absurd cc) (λ e. inl refl) (λ e. inr refl)
+          (λ e. absurd cc)
 
   pub takes-feed : (p : ℕ) (h : List (Entry L)) → IsProcess p → next_action (process J p) h ≡ Some act.TakeFeed → (p ≡ 2) ⊎ (p ≡ 5)
   takes-feed p h one next = feed-takes p one (next-take jobs (process J p) h act.TakeFeed next tt).same
@@ -163,11 +166,13 @@ module _ {L : Type 0} {J : Jobs L} (jobs : AreJobs J) where
   pub reads-deck : (p : ℕ) (h : List (Entry L)) → next_action (process J p) h ≡ Some act.ReadCard → p ≡ 1
   reads-deck p h next = (the-five jobs).reads p (next-take jobs (process J p) h act.ReadCard next tt).same
 
-  pub prints-paper : (p : ℕ) (h : List (Entry L)) (line : List ℕ) → IsProcess p → Follows J (process J p) h → next_action (process J p) h ≡ Some (act.Print line) → p ≡ 5
+  pub prints-paper : (p : ℕ) (h : List (Entry L)) (line : List ℕ) → IsProcess p → Follows J (process J p) h → next_action (process J p) h ≡ Some
+      (act.Print line) → p ≡ 5
   prints-paper p h line one follows next =
       elim (eqb_tells p 5) as (λ _. p ≡ 5) [
         | inl is ↦ is.1
-        | inr not ↦ absurd (Rattle.core_law.proofs.Passed.prints-line jobs (process J p) h line ((the-five jobs).relays p) follows next ((the-five jobs).prints p (
+        | inr not ↦ absurd (Rattle.core_law.proofs.Passed.prints-line jobs (process J p) h line ((the-five jobs).relays p) follows next
+            ((the-five jobs).prints p (
           one.0,
           (let differ =
               not.1 in let below = one.1 in omega (arith, differ, below)),
@@ -178,6 +183,7 @@ module _ {L : Type 0} {J : Jobs L} (jobs : AreJobs J) where
   working-p : (p : ℕ) → IsProcess p → (process J p).works ≡ true → p ≡ 3
   working-p p one = by-five (λ p. (process J p).works ≡ true → p ≡ 3) p one (λ e. absurd cc) (λ e. absurd cc) (λ e. refl) (λ e. absurd cc) (λ e. absurd cc)
 
-  pub loads-files : (p : ℕ) (h : List (Entry L)) (file : List ℕ) → IsProcess p → Follows J (process J p) h → next_action (process J p) h ≡ Some (act.Load file) → p ≡ 3
+  pub loads-files : (p : ℕ) (h : List (Entry L)) (file : List ℕ) → IsProcess p → Follows J (process J p) h → next_action (process J p) h ≡ Some
+      (act.Load file) → p ≡ 3
   loads-files p h file one follows next =
       working-p p one (and_parts (process J p).works (is_unworked h) (next-load J (process J p) h file ((the-five jobs).relays p) follows next).works).0

@@ -41,7 +41,8 @@ module _ {L : Type 0} {J : Jobs L} (jobs : AreJobs J) where
     given-by : (entry : Entry L) (more : ℕ) → holds (entry ∷ h) ≡ holds h → counts jobs entry ≤ 1 + more → spent jobs p (entry ∷ h) ≡ spent jobs p h + more
         → made jobs (entry ∷ h) + closing_left jobs p (entry ∷ h) ≤ 2 + spent jobs p (entry ∷ h) + slack
     given-by entry more held few spent_is =
-        cause-sum (made jobs h) _ _ (spent jobs p h) (counts jobs entry) _ more _ slack (one_if (holds h)) (unstopped p.buffers (entry ∷ h)) (length p.buffers) was
+        cause-sum (made jobs h) _ _ (spent jobs p h) (counts jobs entry) _ more _ slack (one_if (holds h)) (unstopped p.buffers (entry ∷ h))
+            (length p.buffers) was
         (subst (λ t. closing_left jobs p (entry ∷ h) ≤ 2 * one_if t + 2 * unstopped p.buffers (entry ∷ h) + 1) held
         (at-most (step_after (newest (entry ∷ h))) (2 * one_if (holds (entry ∷ h)) + 2 * unstopped p.buffers (entry ∷ h) + 1)))
         (unstopped-most J p.buffers (entry ∷ h)) has few spent_is
@@ -53,7 +54,8 @@ module _ {L : Type 0} {J : Jobs L} (jobs : AreJobs J) where
     few : counts jobs entry ≤ 1 + more
     spent_is : spent jobs p (entry ∷ h) ≡ spent jobs p h + more
 
-  spent-none : (p : Process L) (h : List (Entry L)) (a : Action) (r : Reply L) → taken_by r ≡ [] → put_by a r ≡ [] → spent jobs p (Does a r ∷ h) ≡ spent jobs p h + 0
+  spent-none : (p : Process L) (h : List (Entry L)) (a : Action) (r : Reply L) → taken_by r ≡ [] → put_by a r ≡ []
+      → spent jobs p (Does a r ∷ h) ≡ spent jobs p h + 0
   spent-none p h a r takes puts_are =
       let same = spent-more jobs p h a r 0 [] (ap (taken_cost jobs p) takes ∙ none-costs jobs p) puts_are in
       omega (arith, same)
@@ -105,7 +107,8 @@ module _ {L : Type 0} {J : Jobs L} (jobs : AreJobs J) where
         held = refl;
         few = omega arith;
         spent_is = page-cost _ _ _ _ cost
-            (spent-more jobs p h act.TakePage (reply.Page page last) (take_cost p.takes + one_if p.works) [] (one-costs jobs p (OfPage page last ∷ []) refl refl) refl);
+            (spent-more jobs p h act.TakePage (reply.Page page last) (take_cost p.takes + one_if p.works) []
+                (one-costs jobs p (OfPage page last ∷ []) refl refl) refl);
       }
   causes p h act.TakePage other how follows given = absurd follows.1
   causes p h act.Release reply.Done how follows given = absurd cc
@@ -137,7 +140,8 @@ module _ {L : Type 0} {J : Jobs L} (jobs : AreJobs J) where
         held = refl;
         few = omega arith;
         spent_is = lack-cost (taken_cost jobs p (taken h)) (put_sum jobs p.works (sent h)) _ _ _ cost
-            (cost-append jobs p (taken h) (OfPage page last ∷ []) ∙ ap (λ n. taken_cost jobs p (taken h) + n) (one-costs jobs p (OfPage page last ∷ []) refl refl));
+            (cost-append jobs p (taken h) (OfPage page last ∷ []) ∙ ap (λ n. taken_cost jobs p (taken h) + n)
+                (one-costs jobs p (OfPage page last ∷ []) refl refl));
       }
     where
       lack-cost : (t k c w m : ℕ) → c ≡ 6 → m ≡ t + (c + w) → m + k ≡ t + k + (6 + w)
@@ -171,7 +175,8 @@ module _ {L : Type 0} {J : Jobs L} (jobs : AreJobs J) where
       omega (arith, same, cost, was)
   release-closes p slack h other fits was = absurd fits
 
-  stop-closes : (p : Process L) (slack : ℕ) (how : Outcome) (h : List (Entry L)) (b : ℕ) (r : Reply L) → stops_next p.buffers how h ≡ act.Stop b → Fits J (act.Stop b) r
+  stop-closes : (p : Process L) (slack : ℕ) (how : Outcome) (h : List (Entry L)) (b : ℕ) (r : Reply L) → stops_next p.buffers how h ≡ act.Stop b
+      → Fits J (act.Stop b) r
       → Closes p slack false h (act.Stop b) r
   stop-closes p slack how h b reply.Done e fits was =
       let less = stop-falls J p.buffers how b reply.Done h e in
@@ -179,7 +184,8 @@ module _ {L : Type 0} {J : Jobs L} (jobs : AreJobs J) where
       omega (arith, less, cost, was)
   stop-closes p slack how h b other e fits was = absurd fits
 
-  end-closes : (p : Process L) (slack : ℕ) (how : Outcome) (h : List (Entry L)) (r : Reply L) → Fits J (act.Ended how) r → Closes p slack false h (act.Ended how) r
+  end-closes : (p : Process L) (slack : ℕ) (how : Outcome) (h : List (Entry L)) (r : Reply L) → Fits J (act.Ended how) r → Closes p slack false h
+      (act.Ended how) r
   end-closes p slack how h reply.Done fits was =
       let cost = spent-none p h (act.Ended how) reply.Done refl refl in
       omega (arith, cost, was)
@@ -217,9 +223,11 @@ module _ {L : Type 0} {J : Jobs L} (jobs : AreJobs J) where
     delay-within h a None was = zero-more (made jobs h) _ _ was
     delay-within h a (Some how) was =
         let same = unstopped-same J p.buffers h (Delays a ∷ h) (λ b. refl) in
-        zero-more (made jobs h) _ _ (subst (λ n. made jobs h + ahead_at (step_after (newest h)) (2 * one_if (holds h) + 2 * n + 1) ≤ 2 + spent jobs p h + slack) (sym same) was)
+        zero-more (made jobs h) _ _
+            (subst (λ n. made jobs h + ahead_at (step_after (newest h)) (2 * one_if (holds h) + 2 * n + 1) ≤ 2 + spent jobs p h + slack) (sym same) was)
 
-    done-within : (h : List (Entry L)) (a : Action) (r : Reply L) (old new : Option Outcome) → Follows J p (Does a r ∷ h) → caused h ≡ old → given_cause a r h ≡ new
+    done-within : (h : List (Entry L)) (a : Action) (r : Reply L) (old new : Option Outcome) → Follows J p (Does a r ∷ h) → caused h ≡ old
+        → given_cause a r h ≡ new
         → Within jobs p slack old h → Within jobs p slack (or_new old new) (Does a r ∷ h)
     done-within h a r None None follows none given was =
         works-within jobs p h a r relay follows none given (no-ahead h a follows.0 none was)

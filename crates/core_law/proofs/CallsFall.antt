@@ -43,8 +43,10 @@ module _ {L : Type 0} {J : Jobs L} (jobs : AreJobs J) where
   process-falls : (p : ℕ) (h : List (Entry L)) (entry : Entry L) → Follows J (process J p) (entry ∷ h)
       → ahead (weight J p) (most_of J p) (process J p) (entry ∷ h) + weight J p * length (put entry) + cost entry
       ≤ ahead (weight J p) (most_of J p) (process J p) h + ((weight J p + 9) * most_of J p + 5) * length (handed (took entry))
-  process-falls p h (Does a r) follows = ahead_falls J (weight J p) (most_of J p) (process J p) h (Does a r) ((the-five jobs).relays p) (bounds jobs p) follows tt
-  process-falls p h (LacksMemory a r) follows = ahead_falls J (weight J p) (most_of J p) (process J p) h (LacksMemory a r) ((the-five jobs).relays p) (bounds jobs p) follows tt
+  process-falls p h (Does a r) follows = ahead_falls J (weight J p) (most_of J p) (process J p) h (Does a r) ((the-five jobs).relays p)
+      (bounds jobs p) follows tt
+  process-falls p h (LacksMemory a r) follows = ahead_falls J (weight J p) (most_of J p) (process J p) h (LacksMemory a r) ((the-five jobs).relays p)
+      (bounds jobs p) follows tt
   process-falls p h (Delays a) follows =
       let same : ahead (weight J p) (most_of J p) (process J p) (Delays a ∷ h) ≡ ahead (weight J p) (most_of J p) (process J p) h
       = ap (ahead_at (step_after (newest h))) (delay-by (weight J p) (most_of J p) (process J p) h a (caused h)) in
@@ -160,7 +162,8 @@ module _ {L : Type 0} {J : Jobs L} (jobs : AreJobs J) where
     event_of p = record { process = p; entry = entry; gained = gained }
 
     abbrev Falls : ℕ → Type 0
-    Falls p = IsEnabled (core J (process J)) s (event_of p) → calls_left J left (happens (core J (process J)) s (event_of p)) + cost entry ≤ calls_left J cards s
+    Falls p = IsEnabled (core J (process J)) s (event_of p)
+        → calls_left J left (happens (core J (process J)) s (event_of p)) + cost entry ≤ calls_left J cards s
 
     abbrev puts : ℕ
     puts = length (put entry)
@@ -169,12 +172,14 @@ module _ {L : Type 0} {J : Jobs L} (jobs : AreJobs J) where
     takes = length (handed (took entry))
 
     same-at : (p b : ℕ) (enabled : IsEnabled (core J (process J)) s (event_of p)) → IsBuffer b
-        → (happens (core J (process J)) s (event_of p)).histories (suc b) ≡ s.histories (suc b) → (happens (core J (process J)) s (event_of p)).histories b ≡ s.histories b
+        → (happens (core J (process J)) s (event_of p)).histories (suc b) ≡ s.histories (suc b) → (happens (core J (process J)) s (event_of p)).histories b
+            ≡ s.histories b
         → length ((happens (core J (process J)) s (event_of p)).buffers b).marks ≡ length (s.buffers b).marks
     same-at p b enabled is above own =
         let now = inside-next opening s (event_of p) st enabled b is in
         let before = inside opening s (event_of p) st enabled b is in
-        same-inside _ _ _ _ before (ap (λ h. length (handed (taken h)) + length ((happens (core J (process J)) s (event_of p)).buffers b).marks) (sym above) ∙ now
+        same-inside _ _ _ _ before (ap (λ h. length (handed (taken h)) + length ((happens (core J (process J)) s (event_of p)).buffers b).marks) (sym above)
+            ∙ now
         ∙ ap (λ h. length (sent h)) own)
 
     more-at : (p : ℕ) (enabled : IsEnabled (core J (process J)) s (event_of p)) → IsBuffer p
@@ -185,7 +190,8 @@ module _ {L : Type 0} {J : Jobs L} (jobs : AreJobs J) where
         let now = inside-next opening s (event_of p) st enabled p is in
         let before = inside opening s (event_of p) st enabled p is in
         more-inside _ _ _ _ _ puts before
-        (ap (λ h. length (handed (taken h)) + length ((happens (core J (process J)) s (event_of p)).buffers p).marks) (sym above) ∙ now ∙ ap (λ h. length (sent h)) own)
+        (ap (λ h. length (handed (taken h)) + length ((happens (core J (process J)) s (event_of p)).buffers p).marks) (sym above) ∙ now
+            ∙ ap (λ h. length (sent h)) own)
         (sent-more (s.histories p) entry)
 
     less-at : (p b : ℕ) (enabled : IsEnabled (core J (process J)) s (event_of p)) → IsBuffer b → suc b ≡ p
@@ -196,7 +202,8 @@ module _ {L : Type 0} {J : Jobs L} (jobs : AreJobs J) where
         let now = inside-next opening s (event_of p) st enabled b is in
         let before = inside opening s (event_of p) st enabled b is in
         less-inside _ _ _ _ _ takes before
-        (ap (λ h. length (handed (taken h)) + length ((happens (core J (process J)) s (event_of p)).buffers b).marks) (sym above) ∙ now ∙ ap (λ h. length (sent h)) own)
+        (ap (λ h. length (handed (taken h)) + length ((happens (core J (process J)) s (event_of p)).buffers b).marks) (sym above) ∙ now
+            ∙ ap (λ h. length (sent h)) own)
         (taken-more (s.histories (suc b)) entry)
 
     deck-same : (p : ℕ) → IsEnabled (core J (process J)) s (event_of p) → ((process J p).takes ≡ act.ReadCard → ⊥)
@@ -263,7 +270,8 @@ module _ {L : Type 0} {J : Jobs L} (jobs : AreJobs J) where
         (times-same (weight J 2) _ _ (same-at 5 2 enabled two refl refl)) (times-same (weight J 3) _ _ (same-at 5 3 enabled three refl refl))
         (times-less (weight J 4) (Inside 5 4) (Before 4) takes (less-at 5 4 enabled four refl refl refl))
 
-  pub calls-fall : (opening s : CoreState L) (st : Stands (core J (process J)) opening s) (event : CoreEvent L) (cards left : ℕ) → LeavesFewer event.entry cards left
+  pub calls-fall : (opening s : CoreState L) (st : Stands (core J (process J)) opening s) (event : CoreEvent L) (cards left : ℕ)
+      → LeavesFewer event.entry cards left
       → IsEnabled (core J (process J)) s event → calls_left J left (happens (core J (process J)) s event) + cost event.entry ≤ calls_left J cards s
   calls-fall opening s st event cards left leaves enabled =
       each-process (Falls opening s st event.entry event.gained cards left leaves) event.process enabled.one

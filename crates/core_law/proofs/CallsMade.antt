@@ -169,7 +169,8 @@ module _ {L : Type 0} {J : Jobs L} (jobs : AreJobs J) where
   closing-counts (Some (act.Load file)) next a n e = refl
   closing-counts (Some other) next a n e = refl
 
-  pub free-left : (p : Process L) (h : List (Entry L)) (a : Action) → IsRelay p → Follows J p h → next_action p h ≡ Some a → caused h ≡ None → IsFree a → (IsHeld a → ⊥)
+  pub free-left : (p : Process L) (h : List (Entry L)) (a : Action) → IsRelay p → Follows J p h → next_action p h ≡ Some a → caused h ≡ None → IsFree a
+      → (IsHeld a → ⊥)
       → left (step_after (newest h)) ≡ 2
   free-left p h a relay follows next none free apart =
       left-free (step_after (newest h)) (free-step (newest h) (aim p h) a (works-next J p h a next none) free
@@ -181,7 +182,8 @@ module _ {L : Type 0} {J : Jobs L} (jobs : AreJobs J) where
 
   -- ---- one that has no cause, and is given none
   -- what is spent behind an entry whose take costs so much, and that put these
-  pub spent-more : (p : Process L) (h : List (Entry L)) (a : Action) (r : Reply L) (n : ℕ) (ps : List (Parcel L)) → taken_cost p (taken_by r) ≡ n → put_by a r ≡ ps
+  pub spent-more : (p : Process L) (h : List (Entry L)) (a : Action) (r : Reply L) (n : ℕ) (ps : List (Parcel L)) → taken_cost p (taken_by r) ≡ n
+      → put_by a r ≡ ps
       → spent p (Does a r ∷ h) ≡ spent p h + n + put_sum p.works ps
   spent-more p h a r n ps takes puts_are =
       let tk : taken_cost p (taken h ++ taken_by r) ≡ taken_cost p (taken h) + n =
@@ -253,7 +255,8 @@ module _ {L : Type 0} {J : Jobs L} (jobs : AreJobs J) where
   local-less l true true is on off = absurd cc
   local-less l false now is on off = absurd cc
 
-  pub works-within : (p : Process L) (h : List (Entry L)) (a : Action) (r : Reply L) → IsRelay p → Follows J p (Does a r ∷ h) → caused h ≡ None → given_cause a r h ≡ None
+  pub works-within : (p : Process L) (h : List (Entry L)) (a : Action) (r : Reply L) → IsRelay p → Follows J p (Does a r ∷ h) → caused h ≡ None
+      → given_cause a r h ≡ None
       → made h + (left (step_after (newest h)) + one_if (unworked p h)) ≤ 2 + spent p h → Within p 0 None (Does a r ∷ h)
   works-within p h act.ReadCard r relay follows none given was =
       let cost = cost-is p.takes act.ReadCard (next-take jobs p h act.ReadCard follows.0 tt).same in

@@ -31,7 +31,8 @@ module _ {L : Type 0} {J : Jobs L} (jobs : AreJobs J) where
     pub smooth : IsSmooth entry
 
   -- ---- the deck
-  pub deck-comes : (row : ℕ → Process L) (s : CoreState L) (p : ℕ) (deck : Option (List Item)) → s.devices.deck ≡ deck → AreCards deck → Comes row s p act.ReadCard
+  pub deck-comes : (row : ℕ → Process L) (s : CoreState L) (p : ℕ) (deck : Option (List Item)) → s.devices.deck ≡ deck → AreCards deck
+      → Comes row s p act.ReadCard
   deck-comes row s p None e cards = record {
     entry = Does act.ReadCard (reply.Card read.End);
     gained = [];
@@ -123,7 +124,8 @@ module _ {L : Type 0} {J : Jobs L} (jobs : AreJobs J) where
   }
 
   -- ---- waiting calls
-  pub put-comes : (row : ℕ → Process L) (s : CoreState L) (p : ℕ) (f : Feed) (finds : Found) → found (s.buffers p) Sender ≡ finds → Comes row s p (act.PutFeed f)
+  pub put-comes : (row : ℕ → Process L) (s : CoreState L) (p : ℕ) (f : Feed) (finds : Found) → found (s.buffers p) Sender ≡ finds
+      → Comes row s p (act.PutFeed f)
   put-comes row s p f Ready e = record {
     entry = Does (act.PutFeed f) reply.Done;
     gained = [];
@@ -173,7 +175,8 @@ module _ {L : Type 0} {J : Jobs L} (jobs : AreJobs J) where
     smooth = tt;
   }
 
-  pub item-comes : (row : ℕ → Process L) (s : CoreState L) (p : ℕ) (finds : Found) → found (s.buffers (upstream p)) Receiver ≡ finds → Comes row s p act.AwaitItem
+  pub item-comes : (row : ℕ → Process L) (s : CoreState L) (p : ℕ) (finds : Found) → found (s.buffers (upstream p)) Receiver ≡ finds
+      → Comes row s p act.AwaitItem
   item-comes row s p Ready e = record {
     entry = Does act.AwaitItem reply.Done;
     gained = [];

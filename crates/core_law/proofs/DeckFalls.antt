@@ -114,7 +114,8 @@ module _ {L : Type 0} {J : Jobs L} (jobs : AreJobs J) where
     deck-falls (Delays a) follows leaves = (let same = ap (reads_left (caused h) (is_ended (taken h))) leaves in omega (arith, same))
 
   -- another process reads no card
-  pub reads-not : (p : ℕ) (h : List (Entry L)) (a : Action) → ((process J p).takes ≡ act.ReadCard → ⊥) → next_action (process J p) h ≡ Some a → a ≡ act.ReadCard → ⊥
+  pub reads-not : (p : ℕ) (h : List (Entry L)) (a : Action) → ((process J p).takes ≡ act.ReadCard → ⊥) → next_action (process J p) h ≡ Some a
+      → a ≡ act.ReadCard → ⊥
   reads-not p h a not next e =
       not ((next-take jobs (process J p) h act.ReadCard (next ∙ ap Some e) tt).same)
 

@@ -45,7 +45,7 @@ module _ {L : Type 0} {J : Jobs L} (jobs : AreJobs J) where
   no-page : (p : Process L) (h : List (Entry L)) → (p.takes ≡ act.TakePage → ⊥) → next_action p h ≡ Some act.TakePage → ⊥
   no-page p h not next = not (next-take jobs p h act.TakePage next tt).same
 
-  card-feeds : (answer : CardRead) → AllByRecursion IsAFeed (handed (card_taken answer))
+  card-feeds : (answer : CardRead) → AllByRecursion IsAFeed (handed (card_taken {L = L} answer))
   card-feeds (read.Card line) = (tt, tt)
   card-feeds read.Spoiled = (tt, tt)
   card-feeds read.End = (tt, tt)
@@ -237,7 +237,8 @@ module _ {L : Type 0} {J : Jobs L} (jobs : AreJobs J) where
 
   ends-law : (p : ℕ) → IsBuffer p → EndsLaw (process J p)
   ends-law p is =
-      by-number jobs EndsLaw p (λ e. card-ends) (λ e. input-ends) (λ e. job-ends) (λ e. output-ends) (λ e. (let below = is.1 in absurd (omega (arith, e, below))))
+      by-number jobs EndsLaw p (λ e. card-ends) (λ e. input-ends) (λ e. job-ends) (λ e. output-ends)
+          (λ e. (let below = is.1 in absurd (omega (arith, e, below))))
       (λ none. absurd (not-none p none is))
 
   -- The five of the table are a row.

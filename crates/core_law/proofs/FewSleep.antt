@@ -89,7 +89,8 @@ module _ {L : Type 0} {J : Jobs L} (jobs : AreJobs J) where
       elim (has_stopped b h) as P [ true ↦ plain-stops later how h | false ↦ tt ]
 
   module _ (p : Process L) (relay : IsRelay p) (aims : (h : List (Entry L)) → IsPlain (aim p h)) where
-    plain-now : (h : List (Entry L)) (a : Action) (cause : Option Outcome) → Follows J p h → NewestPlain (newest h) → caused h ≡ cause → next_action p h ≡ Some a
+    plain-now : (h : List (Entry L)) (a : Action) (cause : Option Outcome) → Follows J p h → NewestPlain (newest h) → caused h ≡ cause
+        → next_action p h ≡ Some a
         → IsPlain a
     plain-now h a None follows was cause next = plain-working (newest h) (aim p h) a was (aims h) (works-next J p h a next cause)
     plain-now h a (Some how) follows was cause next =
@@ -138,7 +139,8 @@ module _ {L : Type 0} {J : Jobs L} (jobs : AreJobs J) where
   all-drop (suc n) (x ∷ ps) are = all-drop n ps are.1
 
   -- it wants no file
-  aimed-plain : (takes : Action) (due : List (Parcel L)) (ended work : Bool) → IsPlain takes → AllByRecursion IsNoPage due → IsPlain (aimed takes [] due ended work)
+  aimed-plain : (takes : Action) (due : List (Parcel L)) (ended work : Bool) → IsPlain takes → AllByRecursion IsNoPage due
+      → IsPlain (aimed takes [] due ended work)
   aimed-plain takes [] true false is are = tt
   aimed-plain takes [] true true is are = tt
   aimed-plain takes [] false true is are = tt
@@ -180,7 +182,8 @@ module _ {L : Type 0} {J : Jobs L} (jobs : AreJobs J) where
     printer-holds_not q on e =
         let here : acts.holds (law.acts (core J (process J)) 5 (s.histories 5)) ≡ true
         = subst (λ q. acts.holds (law.acts (core J (process J)) q (s.histories q)) ≡ true) e on in
-        let off = holds-are jobs (process J) 5 (s.histories 5) (follows 5) ∙ plain-holds (process J 5) ((the-five jobs).relays 5) printer-aims (s.histories 5) (follows 5) in
+        let off = holds-are jobs (process J) 5 (s.histories 5) (follows 5) ∙ plain-holds (process J 5) ((the-five jobs).relays 5) printer-aims (s.histories 5)
+            (follows 5) in
         cc
 
     waits-four : (q : ℕ) → StandsAtDesk (core J (process J)) s q → (1 ≤ q) × (q ≤ 4)

@@ -69,7 +69,8 @@ module _ {L : Type 0} {J : Jobs L} (jobs : AreJobs J) where
       → (r : ReadsOf jobs items deck read) → r.left ≡ item ∷ rest
       → ReadsOf jobs items (option_map (drop 1) deck) (read ++ OfFeed (feed.Item item) ∷ [])
   reads-item items deck read item rest goes_on r first =
-      let all = append_assoc read (OfFeed (feed.Item item) ∷ []) (deck_parcels jobs rest) ∙ ap (λ left. read ++ deck_parcels jobs left) (sym first) ∙ r.parts goes_on in
+      let all = append_assoc read (OfFeed (feed.Item item) ∷ []) (deck_parcels jobs rest) ∙ ap (λ left. read ++ deck_parcels jobs left) (sym first)
+          ∙ r.parts goes_on in
       let not_yet : is_ended (read ++ OfFeed (feed.Item item) ∷ []) ≡ false = ended-more read (OfFeed (feed.Item item) ∷ []) ∙ rw goes_on refl in
       record {
         left = rest;
@@ -78,7 +79,8 @@ module _ {L : Type 0} {J : Jobs L} (jobs : AreJobs J) where
         whole = λ e. absurd (let off = not_yet in cc);
       }
 
-  reads-end : (items : List Item) (deck : Option (List Item)) (read : List (Parcel L)) → is_ended read ≡ false → (r : ReadsOf jobs items deck read) → r.left ≡ []
+  reads-end : (items : List Item) (deck : Option (List Item)) (read : List (Parcel L)) → is_ended read ≡ false → (r : ReadsOf jobs items deck read)
+      → r.left ≡ []
       → ReadsOf jobs items (option_map (drop 0) deck) (read ++ OfFeed feed.End ∷ [])
   reads-end items deck read goes_on r none =
       let now : is_ended (read ++ OfFeed feed.End ∷ []) ≡ true = ended-more read (OfFeed feed.End ∷ []) ∙ rw goes_on refl in
@@ -109,13 +111,15 @@ module _ {L : Type 0} {J : Jobs L} (jobs : AreJobs J) where
       → ReadsOf jobs items (option_map (drop 0) deck) (read ++ more)
   reads-plain items deck read more none r = rw none (reads-nothing items deck read r)
 
-  pub reads-still : (items : List Item) (deck : Option (List Item)) (read : List (Parcel L)) → ReadsOf jobs items deck read → ReadsOf jobs items (option_map (drop 0) deck) read
+  pub reads-still : (items : List Item) (deck : Option (List Item)) (read : List (Parcel L)) → ReadsOf jobs items deck read → ReadsOf jobs items
+      (option_map (drop 0) deck) read
   reads-still items deck read r = subst (ReadsOf jobs items (option_map (drop 0) deck)) (append-nil read) (reads-nothing items deck read r)
 
   takes-card : (p : Process L) (h : List (Entry L)) (a : Action) → p.takes ≡ act.ReadCard → next_action p h ≡ Some a → IsTake a → a ≡ act.ReadCard
   takes-card p h a first next take = sym (next-take jobs p h a next take).same ∙ first
 
-  lacks-nothing : (p : Process L) (h : List (Entry L)) (a : Action) (r : Reply L) → p.takes ≡ act.ReadCard → next_action p h ≡ Some a → MayLack a r → taken_by r ≡ []
+  lacks-nothing : (p : Process L) (h : List (Entry L)) (a : Action) (r : Reply L) → p.takes ≡ act.ReadCard → next_action p h ≡ Some a → MayLack a r
+      → taken_by r ≡ []
   lacks-nothing p h act.TakePage r first next may = absurd (let e = takes-card p h act.TakePage first next tt in cc)
   lacks-nothing p h act.Local reply.Done first next may = refl
   lacks-nothing p h a r first next may = absurd may
@@ -173,7 +177,8 @@ module _ {L : Type 0} {J : Jobs L} (jobs : AreJobs J) where
   read-gained devices (reply.Card answer) gained fits allows = allows.1
   read-gained devices r gained fits allows = absurd fits
 
-  load-gained : (devices : Devices L) (file : List ℕ) (r : Reply L) (gained : List ℕ) → Fits J (act.Load file) r → Allows devices (Does (act.Load file) r) gained
+  load-gained : (devices : Devices L) (file : List ℕ) (r : Reply L) (gained : List ℕ) → Fits J (act.Load file) r
+      → Allows devices (Does (act.Load file) r) gained
       → gained ≡ []
   load-gained devices file (reply.Loaded load) gained fits allows = allows.1
   load-gained devices file reply.Failed gained fits allows = allows

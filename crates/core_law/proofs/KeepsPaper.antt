@@ -80,10 +80,12 @@ module _ {L : Type 0} {J : Jobs L} (jobs : AreJobs J) where
         gained = g.gained;
         paper_is = rw none (none-gained given paper g.gained g.paper_is);
         printed = λ free. g.printed (caused-before entry h free)
-            ∙ sym (ap (text_of jobs) (sent-more entry h) ∙ text-more jobs (sent h) (put entry) ∙ ap (λ more. text_of jobs (sent h) ++ more) (entry-no_text jobs entry no_print)
+            ∙ sym (ap (text_of jobs) (sent-more entry h) ∙ text-more jobs (sent h) (put entry) ∙ ap (λ more. text_of jobs (sent h) ++ more)
+                (entry-no_text jobs entry no_print)
             ∙ append-nil (text_of jobs (sent h)));
         part = prefix-longer g.gained (text_of jobs (p.sends (taken h))) (text_of jobs (p.sends (taken (entry ∷ h)))) g.part
-            (text-part jobs (p.sends (taken h)) (p.sends (taken (entry ∷ h))) (subst (λ all. IsPrefixOf (p.sends (taken h)) (p.sends all)) (sym (taken-more entry h))
+            (text-part jobs (p.sends (taken h)) (p.sends (taken (entry ∷ h))) (subst (λ all. IsPrefixOf (p.sends (taken h)) (p.sends all))
+                (sym (taken-more entry h))
             (relay.monotone (taken h) (took entry))));
       }
 
@@ -102,7 +104,8 @@ module _ {L : Type 0} {J : Jobs L} (jobs : AreJobs J) where
         paper_is = ap (option_map (λ old. old ++ part)) g.paper_is ∙ ap Some (append_assoc given g.gained part);
         printed = λ free. now;
         part = subst (λ xs. IsPrefixOf xs (text_of jobs (p.sends (taken h ++ [])))) (sym now)
-            (text-part jobs (sent h ++ OfLine line ∷ []) (p.sends (taken h ++ [])) (sent-is-part J p (Does (act.Print line) reply.Done ∷ h) relay (next, tt, follows)));
+            (text-part jobs (sent h ++ OfLine line ∷ []) (p.sends (taken h ++ [])) (sent-is-part J p (Does (act.Print line) reply.Done ∷ h) relay
+                (next, tt, follows)));
       }
 
   gained-part : (p : Process L) (line : List ℕ) (r : Reply L) (h : List (Entry L)) (given part : List ℕ) (paper : Option (List ℕ)) → IsRelay p → Follows J p h
@@ -127,7 +130,8 @@ module _ {L : Type 0} {J : Jobs L} (jobs : AreJobs J) where
       → next_action p h ≡ Some (act.Print line) → Fits J (act.Print line) r
       → Allows devices (Does (act.Print line) r) part → Gained jobs given devices.paper p.sends h
       → Gained jobs given (option_map (λ old. old ++ part) devices.paper) p.sends (Does (act.Print line) r ∷ h)
-  gained-print p devices line reply.Done h given part relay follows next fits allows g = gained-line p line h given part devices.paper relay follows next allows g
+  gained-print p devices line reply.Done h given part relay follows next fits allows g =
+      gained-line p line h given part devices.paper relay follows next allows g
   gained-print p devices line reply.Failed h given part relay follows next fits allows g =
       gained-part p line reply.Failed h given part devices.paper relay follows next allows refl (some-not_none (caused h) _) g
   gained-print p devices line reply.NoMemory h given part relay follows next fits allows g =

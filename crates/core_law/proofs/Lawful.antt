@@ -57,7 +57,8 @@ module _ {L : Type 0} {J : Jobs L} (jobs : AreJobs J) where
         | false ↦ (λ not_yet e. let same : b ≡ c = cc in subst (IsStop Is h) same record { is = all.0; not_yet = not_yet })
       ] refl e
 
-  closes-among : (buffers : List ℕ) (Is : ℕ → Type 0) (how : Outcome) (h : List (Entry L)) (c : ℕ) → AllByRecursion Is buffers → closes buffers how h ≡ act.Stop c
+  closes-among : (buffers : List ℕ) (Is : ℕ → Type 0) (how : Outcome) (h : List (Entry L)) (c : ℕ) → AllByRecursion Is buffers
+      → closes buffers how h ≡ act.Stop c
       → IsStop Is h c
   closes-among buffers Is how h c all e =
       let P : Bool → Type 0 = λ t. (if t then act.Release else stops_next buffers how h) ≡ act.Stop c → IsStop Is h c in
@@ -70,7 +71,8 @@ module _ {L : Type 0} {J : Jobs L} (jobs : AreJobs J) where
       (aimed-no_stop J p.takes (p.wants (taken h)) (due p h) (is_ended (taken h)) (unworked p h) relay.takes) e)
   stops-by p (Some how) Is h c relay all e = closes-among p.buffers Is how h c all (closing-next (newest h) (closes p.buffers how h) (act.Stop c) e)
 
-  pub stops-among : (p : Process L) (Is : ℕ → Type 0) (h : List (Entry L)) (c : ℕ) → IsRelay p → AllByRecursion Is p.buffers → next_action p h ≡ Some (act.Stop c)
+  pub stops-among : (p : Process L) (Is : ℕ → Type 0) (h : List (Entry L)) (c : ℕ) → IsRelay p → AllByRecursion Is p.buffers → next_action p h ≡ Some
+      (act.Stop c)
       → IsStop Is h c
   stops-among p Is h c relay all e = stops-by p (caused h) Is h c relay all e
 
@@ -110,7 +112,8 @@ module _ {L : Type 0} {J : Jobs L} (jobs : AreJobs J) where
     open-unstopped : (a : Action) (b : ℕ) → IsOpen a → next_action (row p) h ≡ Some a → has_stopped b h ≡ false
     open-unstopped a b is next = unstopped J (row p) b h (laws.relays p) follows (open-next J (row p) h a next is)
 
-    pub unstopped-by : (a : Action) (b : ℕ) (side : Side) (visit : Visit) → next_action (row p) h ≡ Some a → call p a ≡ At b side visit → has_stopped b h ≡ false
+    pub unstopped-by : (a : Action) (b : ℕ) (side : Side) (visit : Visit) → next_action (row p) h ≡ Some a → call p a ≡ At b side visit
+        → has_stopped b h ≡ false
     unstopped-by (act.Stop c) b side visit next e = subst (λ b. has_stopped b h ≡ false) (at-number c b (side_at p c) side Stops visit e)
         (stops-among (row p) (λ b. (b ≡ p) ⊎ (suc b ≡ p)) h c (laws.relays p) (laws.beside p) next).not_yet
     unstopped-by act.Release b side visit next e = absurd cc
@@ -159,7 +162,9 @@ module _ {L : Type 0} {J : Jobs L} (jobs : AreJobs J) where
     gives = λ p h one follows calls. holds-are jobs row p h (follows-of jobs row p h follows)
         ∙ gives-by laws p h one.0 (follows-of jobs row p h follows) calls.action calls.next calls.call;
     held = λ p h one follows holding.
-        (let is = holder-next J (row p) h (laws.relays p) (follows-of jobs row p h follows) (sym (holds-are jobs row p h (follows-of jobs row p h follows)) ∙ holding) in
-        (call p is.action, prompt laws p h one.0 (follows-of jobs row p h follows) is.action is.held, record { action = is.action; next = is.is; call = refl }));
+        (let is = holder-next J (row p) h (laws.relays p) (follows-of jobs row p h follows) (sym (holds-are jobs row p h (follows-of jobs row p h follows))
+            ∙ holding) in
+        (call p is.action, prompt laws p h one.0
+            (follows-of jobs row p h follows) is.action is.held, record { action = is.action; next = is.is; call = refl }));
     again = λ p h entry delayed next. (let (a, is) = delays-of jobs entry delayed in next-again (row p) entry a h is ∙ next);
   }

@@ -42,7 +42,7 @@ module _ {L : Type 0} {J : Jobs L} (jobs : AreJobs J) where
   abbrev LoadsOne : Entry L → Type 0
   LoadsOne entry = length (loads (took entry)) ≡ length (file_loaded entry)
 
-  pub card-loads : (answer : Rattle.solo_devices.specs.declared.card_read.CardRead.CardRead) → loads (card_taken answer) ≡ []
+  pub card-loads : (answer : Rattle.solo_devices.specs.declared.card_read.CardRead.CardRead) → loads (card_taken {L = L} answer) ≡ []
   card-loads (read.Card line) = refl
   card-loads read.Spoiled = refl
   card-loads read.End = refl
@@ -105,7 +105,7 @@ module _ {L : Type 0} {J : Jobs L} (jobs : AreJobs J) where
   wants-none p h file relay follows none next =
       (let wants = next-load J p h file relay follows next in let no = sym (none (taken h)) ∙ wants.first in cc)
 
-  card-handed : (answer : Rattle.solo_devices.specs.declared.card_read.CardRead.CardRead) → handed (card_taken answer) ≡ card_taken answer
+  card-handed : (answer : Rattle.solo_devices.specs.declared.card_read.CardRead.CardRead) → handed (card_taken {L = L} answer) ≡ card_taken answer
   card-handed (read.Card line) = refl
   card-handed read.Spoiled = refl
   card-handed read.End = refl
@@ -131,7 +131,8 @@ module _ {L : Type 0} {J : Jobs L} (jobs : AreJobs J) where
   all-handed : (some more : List (Parcel L)) → handed some ≡ some → handed more ≡ more → handed (some ++ more) ≡ some ++ more
   all-handed some more a b = handed-append jobs some more ∙ ap (λ ps. ps ++ handed more) a ∙ ap (λ ps. some ++ ps) b
 
-  pub takes-handed : (p : Process L) (h : List (Entry L)) → IsRelay p → Follows J p h → ((all : List (Parcel L)) → p.wants all ≡ []) → handed (taken h) ≡ taken h
+  pub takes-handed : (p : Process L) (h : List (Entry L)) → IsRelay p → Follows J p h → ((all : List (Parcel L)) → p.wants all ≡ [])
+      → handed (taken h) ≡ taken h
   takes-handed p [] relay follows none = refl
   takes-handed p (Does a r ∷ h) relay follows none =
       all-handed (taken h) (taken_by r) (takes-handed p h relay follows.2 none)
@@ -217,7 +218,8 @@ module _ {L : Type 0} {J : Jobs L} (jobs : AreJobs J) where
 
   put-worked : (p : Process L) (h : List (Entry L)) (a : Action) → IsRelay p → next_action p h ≡ Some a → IsPut a → unworked p h ≡ false
   put-worked p h a relay next put =
-      let is = aimed-put J p.takes (p.wants (taken h)) (due p h) (is_ended (taken h)) (unworked p h) a relay.takes (next-put J p (caused h) h a next put).1 put in
+      let is = aimed-put J p.takes (p.wants (taken h)) (due p h) (is_ended (taken h)) (unworked p h) a relay.takes
+          (next-put J p (caused h) h a next put).1 put in
       due-worked p h is.first is.more is.due_is
 
   works-on : (works left : Bool) → works ≡ true → (works && left) ≡ false → left ≡ false
@@ -258,13 +260,21 @@ module _ {L : Type 0} {J : Jobs L} (jobs : AreJobs J) where
       → p.wants (taken h) ≡ []
   worked-none p relay works opens [] follows none off = opens
   worked-none p relay works opens (Does a r ∷ h) follows none off =
-      worked-by p relay works h follows.2 (worked-none p relay works opens h follows.2 (or-none (caused h) (given_cause a r h) none)) a r follows.0 follows.1 off
+      worked-by p relay works h follows.2 (worked-none p relay works opens h follows.2
+          (or-none (caused h) (given_cause a r h) none)) a r follows.0 follows.1 off
   worked-none p relay works opens (LacksMemory a r ∷ h) follows none off = absurd (some-not_none (caused h) _ none)
   worked-none p relay works opens (Delays a ∷ h) follows none off = worked-none p relay works opens h follows.2 none off
 
+  no-files : (files : List (List ℕ)) → length files ≤ 0 → files ≡ []
+  no-files [] few = refl
+  no-files (file ∷ files) few = absurd (omega (arith, few))
+
+  nothing-named : J.named [] ≡ []
+  nothing-named = no-files (J.named []) (jobs.few_named [])
+
   -- With its work done and no cause, the job process wants no file.
   pub job-worked : (h : List (Entry L)) → Follows J (job J) h → caused h ≡ None → unworked (job J) h ≡ false → (job J).wants (taken h) ≡ []
-  job-worked h follows none worked = worked-none (job J) (job-relay jobs) refl refl h follows none worked
+  job-worked h follows none worked = worked-none (job J) (job-relay jobs) refl nothing-named h follows none worked
 
   drop-none : (n : ℕ) (files : List (List ℕ)) → drop n files ≡ [] → length files ≤ n
   drop-none zero [] e = omega arith

@@ -94,7 +94,8 @@ module _ {L : Type 0} {J : Jobs L} (jobs : AreJobs J) where
         → newest (s.histories (seat b side)) ≡ Some (act.Ended how) → how ≡ outcome.Done
     ended-done b side outcome.Done is free e = refl
     ended-done b side outcome.Stopped is free e = absurd (not-done b side outcome.Stopped is free (ends-at (seat b side) outcome.Stopped e) tt)
-    ended-done b side (outcome.Fault cause) is free e = absurd (not-done b side (outcome.Fault cause) is free (ends-at (seat b side) (outcome.Fault cause) e) tt)
+    ended-done b side (outcome.Fault cause) is free e = absurd (not-done b side (outcome.Fault cause) is free
+        (ends-at (seat b side) (outcome.Fault cause) e) tt)
 
     -- ---- both sides agree on the last
     last-sent : (b : ℕ) → IsBuffer b → is_ended (taken (s.histories (suc b))) ≡ true → is_ended (sent (s.histories b)) ≡ true
@@ -154,7 +155,8 @@ module _ {L : Type 0} {J : Jobs L} (jobs : AreJobs J) where
     abbrev Goes_on : ℕ → Type 0
     Goes_on n = (b : ℕ) → b + n ≡ 5 → IsBuffer b → WaitsAt b Sender → ⊥
 
-    downstream : (n b : ℕ) → Goes_on n → b + suc n ≡ 5 → IsBuffer b → WaitsAt b Sender → (w : IsBlocked (core J row) s (suc b)) (side : Side) → w.side ≡ side → ⊥
+    downstream : (n b : ℕ) → Goes_on n → b + suc n ≡ 5 → IsBuffer b → WaitsAt b Sender → (w : IsBlocked (core J row) s (suc b)) (side : Side) → w.side ≡ side
+        → ⊥
     downstream n b goes_on five is full w Sender of =
         let at : w.buffer ≡ suc b = sym (ap (seat w.buffer) of) ∙ w.seated in
         goes_on (suc b) (omega (arith, five)) (subst IsBuffer at (buffer-of (suc b) w (seat-one laws opening s st b Receiver is)))
@@ -188,7 +190,8 @@ module _ {L : Type 0} {J : Jobs L} (jobs : AreJobs J) where
     never-sends b is w = (let below = is.1 in sender-goes_on (5 - b) b (omega (arith, below)) is w)
 
     -- ---- a receiver that waits is followed upstream
-    upstream-of : (k : ℕ) → (IsBuffer k → WaitsAt k Receiver → ⊥) → (w : IsBlocked (core J row) s (suc k)) → IsBuffer w.buffer → (side : Side) → w.side ≡ side → ⊥
+    upstream-of : (k : ℕ) → (IsBuffer k → WaitsAt k Receiver → ⊥) → (w : IsBlocked (core J row) s (suc k)) → IsBuffer w.buffer → (side : Side) → w.side ≡ side
+        → ⊥
     upstream-of k goes_on w is Sender of = never-sends w.buffer is (waits-at (suc k) w.buffer Sender w refl of)
     upstream-of k goes_on w is Receiver of =
         let next : suc w.buffer ≡ suc k = sym (ap (seat w.buffer) of) ∙ w.seated in

@@ -116,7 +116,7 @@ module _ {L : Type 0} {J : Jobs L} (jobs : AreJobs J) where
   card_for (Line line ∷ rest) = read.Card line
   card_for (Spoiled ∷ rest) = read.Spoiled
 
-  card-is : (deck : Option (List Item)) (items : List Item) (answer : CardRead) → deck ≡ Some items → IsSmooth (Does act.ReadCard (reply.Card answer))
+  card-is : (deck : Option (List Item)) (items : List Item) (answer : CardRead) → deck ≡ Some items → IsSmooth {L = L} (Does act.ReadCard (reply.Card answer))
       → DeckGives deck answer → answer ≡ card_for items
   card-is deck items (read.Card line) told smooth gives = sym (ap card_for (gives.item items told).1)
   card-is deck items read.Spoiled told smooth gives = sym (ap card_for (gives.item items told).1)
@@ -124,7 +124,8 @@ module _ {L : Type 0} {J : Jobs L} (jobs : AreJobs J) where
   card-is deck items read.Failed told smooth gives = absurd smooth
   card-is deck items read.Limit told smooth gives = absurd smooth
 
-  read-is : (devices : Devices L) (items : List Item) (gained : List ℕ) (answer : Option (Reply L)) → devices.deck ≡ Some items → ReplyFits J act.ReadCard answer
+  read-is : (devices : Devices L) (items : List Item) (gained : List ℕ) (answer : Option (Reply L)) → devices.deck ≡ Some items
+      → ReplyFits J act.ReadCard answer
       → IsSmooth (entry_of act.ReadCard answer) → Allows devices (entry_of act.ReadCard answer) gained → answer ≡ Some (reply.Card (card_for items))
   read-is devices items gained (Some (reply.Card answer)) told suits smooth allows =
       ap (λ answer. Some (reply.Card answer)) (card-is devices.deck items answer told smooth allows.0)
@@ -180,7 +181,8 @@ module _ {L : Type 0} {J : Jobs L} (jobs : AreJobs J) where
     entry-is (Delays a) gained suits smooth fits allows finds = ap (entry_of a) (is-expected a None gained suits smooth fits allows finds)
 
   -- ---- what the devices gain by it
-  same-gained : (p : Process L) (devices : Devices L) (entry : Entry L) (some others : List ℕ) → IsFitting J p entry → IsSmooth entry → Allows devices entry some
+  same-gained : (p : Process L) (devices : Devices L) (entry : Entry L) (some others : List ℕ) → IsFitting J p entry → IsSmooth entry
+      → Allows devices entry some
       → Allows devices entry others → others ≡ some
   same-gained p devices (Does act.ReadCard (reply.Card answer)) some others suits smooth first second = second.1 ∙ sym first.1
   same-gained p devices (Does (act.Load file) (reply.Loaded load)) some others suits smooth first second = second.1 ∙ sym first.1
@@ -205,7 +207,8 @@ module _ {L : Type 0} {J : Jobs L} (jobs : AreJobs J) where
   -- of one process
   same-entry : (s : CoreState L) (p : ℕ) (found_as : FilesAs L) (items : List Item) (inside : List (Parcel L)) → s.devices.deck ≡ Some items
       → (s.buffers (upstream p)).inside ≡ Some inside
-      → (x y : Entry L) (g h : List ℕ) → IsEnabled (core J (process J)) s (event_of p x g) → IsEnabled (core J (process J)) s (event_of p y h) → IsSmooth x → IsSmooth y
+      → (x y : Entry L) (g h : List ℕ) → IsEnabled (core J (process J)) s (event_of p x g) → IsEnabled (core J (process J)) s (event_of p y h) → IsSmooth x
+          → IsSmooth y
       → FindsSo jobs found_as x → FindsSo jobs found_as y → y ≡ x
   same-entry s p found_as items inside deck_is inside_is x y g h first second smooth too finds finds_too =
       let same = same-action (action_of y) (action_of x) (next_action (process J p) (s.histories p)) second.next first.next in
@@ -215,12 +218,14 @@ module _ {L : Type 0} {J : Jobs L} (jobs : AreJobs J) where
 
   pub one-event : (s : CoreState L) (found_as : FilesAs L) (items : List Item) (event other : CoreEvent L) → s.devices.deck ≡ Some items
       → (inside : List (Parcel L)) → (s.buffers (upstream event.process)).inside ≡ Some inside → IsEnabled (core J (process J)) s event
-      → IsEnabled (core J (process J)) s other → IsSmooth event.entry → IsSmooth other.entry → FindsSo jobs found_as event.entry → FindsSo jobs found_as other.entry
+      → IsEnabled (core J (process J)) s other → IsSmooth event.entry → IsSmooth other.entry → FindsSo jobs found_as event.entry
+          → FindsSo jobs found_as other.entry
       → other.process ≡ event.process → other ≡ event
   one-event s found_as items event other deck_is inside inside_is first second smooth too finds finds_too same =
       let p = event.process in
       let here = subst (λ q. IsEnabled (core J (process J)) s (event_of q other.entry other.gained)) same second in
-      let entries = same-entry s p found_as items inside deck_is inside_is event.entry other.entry event.gained other.gained first here smooth too finds finds_too
+      let entries = same-entry s p found_as items inside deck_is inside_is event.entry other.entry event.gained other.gained first here
+          smooth too finds finds_too
       in
       let gains = same-gained (process J p) s.devices event.entry event.gained other.gained first.suits smooth first.allowed
       (subst (λ entry. Allows s.devices entry other.gained) entries second.allowed) in

@@ -33,7 +33,8 @@ module _ {L : Type 0} {J : Jobs L} (jobs : AreJobs J) where
   ends-as p None h how relay next =
       let aims = working-end (newest h) _ how next in
       sym (aimed-end J p.takes (p.wants (taken h)) (due p h) (is_ended (taken h)) (unworked p h) how relay.takes aims).done
-  ends-as p (Some cause) h how relay next = sym (closes-end J p.buffers cause how h (closing-next (newest h) (closes p.buffers cause h) (act.Ended how) next)).same
+  ends-as p (Some cause) h how relay next = sym (closes-end J p.buffers cause how h (closing-next (newest h) (closes p.buffers cause h)
+      (act.Ended how) next)).same
 
   end-reply : (how : Outcome) (r : Reply L) → Fits J (act.Ended how) r → r ≡ reply.Done
   end-reply how reply.Done fits = refl
@@ -46,7 +47,8 @@ module _ {L : Type 0} {J : Jobs L} (jobs : AreJobs J) where
   end-not_lacks : (a : Action) (r : Reply L) (how : Outcome) → a ≡ act.Ended how → MayLack a r → ⊥
   end-not_lacks a r how e may = subst (λ a. MayLack a r) e may
 
-  pub ended-as : (p : Process L) (h : List (Entry L)) (how : Outcome) → IsRelay p → Follows J p h → newest h ≡ Some (act.Ended how) → outcome_by (caused h) ≡ how
+  pub ended-as : (p : Process L) (h : List (Entry L)) (how : Outcome) → IsRelay p → Follows J p h → newest h ≡ Some (act.Ended how)
+      → outcome_by (caused h) ≡ how
   ended-as p [] how relay follows e = absurd cc
   ended-as p (Does a r ∷ h) how relay follows e =
       let is = end-reply how r (subst (λ a. Fits J a r) (some-same a (act.Ended how) e) follows.1) in

@@ -123,7 +123,8 @@ module _ {L : Type 0} {J : Jobs L} (jobs : AreJobs J) where
           let (more, e) = took-3 in
           let all = input_sends (card_sends (deck_parcels jobs items)) in
           let some : IsPrefixOf (names_in jobs (handed (taken (histories 3)))) (names_in jobs all) =
-          subst (λ ps. IsPrefixOf (names_in jobs (handed (taken (histories 3)))) (names_in jobs ps)) e (names-monotone jobs (handed (taken (histories 3))) more) in
+          subst (λ ps. IsPrefixOf (names_in jobs (handed (taken (histories 3)))) (names_in jobs ps)) e
+              (names-monotone jobs (handed (taken (histories 3))) more) in
           let same : names_in jobs (handed (taken (histories 3))) ≡ names_in jobs (taken (histories 3)) =
           ap (λ fs. J.named (Rattle.batch_procs.specs.Sends.items fs))
           (unpacked-same jobs (handed (taken (histories 3))) (taken (histories 3)) (handed-again jobs (taken (histories 3)))) in
@@ -133,7 +134,8 @@ module _ {L : Type 0} {J : Jobs L} (jobs : AreJobs J) where
 
       -- The loads of the job process are the first of these.
       module _ (found : List L) (part : IsPrefixOf (loads (taken (histories 3))) found) where
-        goes_on : (more : List (Parcel L)) × (job_sends J (taken (histories 3) ++ more) ≡ job_puts jobs found (input_sends (card_sends (deck_parcels jobs items))))
+        goes_on : (more : List (Parcel L)) × (job_sends J (taken (histories 3) ++ more) ≡ job_puts jobs found
+            (input_sends (card_sends (deck_parcels jobs items))))
         goes_on = job-goes_on jobs found (taken (histories 3)) (input_sends (card_sends (deck_parcels jobs items))) took-3 part
 
         job-part : IsPrefixOf (job_sends J (taken (histories 3))) (job_puts jobs found (input_sends (card_sends (deck_parcels jobs items))))

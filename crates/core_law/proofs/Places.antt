@@ -42,7 +42,8 @@ module _ {L : Type 0} {J : Jobs L} (jobs : AreJobs J) where
   put-due p h f relay next = aimed-put J p.takes (p.wants (taken h)) (due p h) (is_ended (taken h)) (unworked p h)
       (act.PutFeed f) relay.takes (next-put J p (caused h) h (act.PutFeed f) next tt).1 tt
 
-  pub move-due : (p : Process L) (h : List (Entry L)) (page : Rattle.solo_base.specs.declared.page.Page.Page) → IsRelay p → next_action p h ≡ Some (act.PutPage page)
+  pub move-due : (p : Process L) (h : List (Entry L)) (page : Rattle.solo_base.specs.declared.page.Page.Page) → IsRelay p → next_action p h ≡ Some
+      (act.PutPage page)
       → IsDue J (due p h) (act.PutPage page)
   move-due p h page relay next = aimed-put J p.takes (p.wants (taken h)) (due p h) (is_ended (taken h)) (unworked p h)
       (act.PutPage page) relay.takes (next-put J p (caused h) h (act.PutPage page) next tt).1 tt
@@ -54,7 +55,8 @@ module _ {L : Type 0} {J : Jobs L} (jobs : AreJobs J) where
   room-due p h relay next =
       page-due p.takes (p.wants (taken h)) (due p h) (is_ended (taken h)) (unworked p h) (aim p h) relay.takes refl (room-put p h relay next)
 
-  pub sender-due : (p : Process L) (h : List (Entry L)) (k b : ℕ) (visit : Visit) (a : Action) → IsRelay p → next_action p h ≡ Some a → call k a ≡ At b Sender visit
+  pub sender-due : (p : Process L) (h : List (Entry L)) (k b : ℕ) (visit : Visit) (a : Action) → IsRelay p → next_action p h ≡ Some a
+      → call k a ≡ At b Sender visit
       → (visit ≡ Stops → ⊥) → (first : Parcel L) × (more : List (Parcel L)) × (due p h ≡ first ∷ more)
   sender-due p h k b visit (act.PutFeed f) relay next is not = let d = put-due p h f relay next in (d.first, d.more, d.due_is)
   sender-due p h k b visit (act.PutPage page) relay next is not = let d = move-due p h page relay next in (d.first, d.more, d.due_is)
@@ -65,12 +67,15 @@ module _ {L : Type 0} {J : Jobs L} (jobs : AreJobs J) where
       stop-visit c b x of visit e = cc
   sender-due p h k b visit other relay next is not = absurd cc
 
-  page-taking : (takes : Action) (wanted : List (List ℕ)) (due : List (Parcel L)) (ended unworked : Bool) (a : Action) → aimed takes wanted due ended unworked ≡ a
+  page-taking : (takes : Action) (wanted : List (List ℕ)) (due : List (Parcel L)) (ended unworked : Bool) (a : Action) → aimed takes wanted due ended unworked
+      ≡ a
       → IsPageTake a → (ended ≡ false) × (takes ≡ act.TakePage)
-  page-taking takes wanted due ended unworked act.TakePage e is = let t = aimed-take jobs takes act.TakePage wanted due ended unworked e tt in (t.goes_on, t.same)
+  page-taking takes wanted due ended unworked act.TakePage e is = let t = aimed-take jobs takes act.TakePage wanted due ended unworked e tt in
+      (t.goes_on, t.same)
   page-taking takes wanted due ended unworked other e is = absurd is
 
-  pub item-taking : (p : Process L) (h : List (Entry L)) → IsRelay p → next_action p h ≡ Some act.AwaitItem → (is_ended (taken h) ≡ false) × (p.takes ≡ act.TakePage)
+  pub item-taking : (p : Process L) (h : List (Entry L)) → IsRelay p → next_action p h ≡ Some act.AwaitItem → (is_ended (taken h) ≡ false) ×
+      (p.takes ≡ act.TakePage)
   item-taking p h relay next =
       let item = awaits-item (newest h) (aim p h) (works-next J p h act.AwaitItem next (open-next J p h act.AwaitItem next tt)) (aim-is J p h relay) in
       page-taking p.takes (p.wants (taken h)) (due p h) (is_ended (taken h)) (unworked p h) (aim p h) refl item

@@ -111,7 +111,8 @@ module _ {L : Type 0} {J : Jobs L} (jobs : AreJobs J) where
 
     delayed-by : (p : ℕ) (a : Action) → MayWait a → next_action (process J p) (s.histories p) ≡ Some a → acts.waits (law.acts (core J (process J)) p
         (s.histories p)) ≡ true → (q : Queue) × IsQueuedIn s q p
-    delayed-by p (act.PutFeed f) may next e = (Beside p Sender, st.queues.delayed p Sender Passes p e record { action = act.PutFeed f; next = next; call = refl })
+    delayed-by p (act.PutFeed f) may next e =
+        (Beside p Sender, st.queues.delayed p Sender Passes p e record { action = act.PutFeed f; next = next; call = refl })
     delayed-by p act.AwaitRoom may next e = (Beside p Sender, st.queues.delayed p Sender Awaits p e record { action = act.AwaitRoom; next = next; call = refl })
     delayed-by p act.TakeFeed may next e =
         (Beside (upstream p) Receiver, st.queues.delayed (upstream p) Receiver Passes p e record { action = act.TakeFeed; next = next; call = refl })

@@ -102,8 +102,10 @@ module _ {L : Type 0} {J : Jobs L} (jobs : AreJobs J) where
   follows-in : (opening s : CoreState L) → Stands (core J (process J)) opening s → (p : ℕ) → Follows J (process J p) (s.histories p)
   follows-in opening s st p = follows-of jobs (process J) p (s.histories p) (st.follows p)
 
-  pub hands-over : (opening s : CoreState L) → Stands (core J (process J)) opening s → ((b : ℕ) → IsBuffer b → IsTold (opening.buffers b)) → HandOver jobs s.histories
-  hands-over opening s st told b is = (let (inside, e) = st.told b (told b is) in (inside, (stands-between jobs (the-five jobs) opening s st b is).parcels inside e))
+  pub hands-over : (opening s : CoreState L) → Stands (core J (process J)) opening s → ((b : ℕ) → IsBuffer b → IsTold (opening.buffers b))
+      → HandOver jobs s.histories
+  hands-over opening s st told b is = (let (inside, e) = st.told b (told b is) in
+      (inside, (stands-between jobs (the-five jobs) opening s st b is).parcels inside e))
 
   pub found-by : (files : Option (FilesAs L)) (opening s : CoreState L) (found : FilesAs L) (items : List Item) → opening.devices.files ≡ files
       → DevicesStand jobs (process J) opening s → AreFound J files found items → AreFoundBy jobs found items (s.histories 3)
@@ -148,7 +150,8 @@ module _ {L : Type 0} {J : Jobs L} (jobs : AreJobs J) where
         let follows = follows-of jobs (process J) p (s.histories p) (c.stands.follows p) in
         elim (c.stands.desk.holder p e) as (λ _. GoesOn J s p) [
           | inl handed ↦ inl handed
-          | inr on ↦ inr (holder-next J (process J p) (s.histories p) ((the-five jobs).relays p) follows (sym (holds-are jobs (process J) p (s.histories p) follows) ∙ on))
+          | inr on ↦ inr (holder-next J (process J p) (s.histories p) ((the-five jobs).relays p) follows
+              (sym (holds-are jobs (process J) p (s.histories p) follows) ∙ on))
         ]
 
     pub reached-holds : Holds o s
@@ -173,7 +176,8 @@ module _ {L : Type 0} {J : Jobs L} (jobs : AreJobs J) where
 
     -- where no event may happen in which no device fails and no memory is refused, all have ended
     pub ended-where : ((event : CoreEvent L) → IsEnabled (core J (process J)) s event → IsSmooth event.entry → ⊥) → (p : ℕ) → IsProcess p → HasEnded s p
-    ended-where none = ended-all jobs (the-five jobs) opening s c.stands (λ b is takes. told-is spools b (lines-told spools b takes)) (all-sized spools o.bounds)
+    ended-where none = ended-all jobs (the-five jobs) opening s c.stands (λ b is takes. told-is spools b (lines-told spools b takes))
+        (all-sized spools o.bounds)
         (c.devices.cards o.cards) (subst (AreGoodFiles J) (sym c.devices.files_same) o.good) none
 
     pub never-stuck : IsStuck J s → ⊥

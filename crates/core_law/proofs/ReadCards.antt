@@ -63,7 +63,8 @@ module _ {L : Type 0} {J : Jobs L} (jobs : AreJobs J) where
   }
 
   -- ---- one more
-  read-item : (read : List (Parcel L)) (item : Item) → CardsRead read → is_ended read ≡ false → AreItems (item ∷ []) → CardsRead (read ++ OfFeed (feed.Item item) ∷ [])
+  read-item : (read : List (Parcel L)) (item : Item) → CardsRead read → is_ended read ≡ false → AreItems (item ∷ [])
+      → CardsRead (read ++ OfFeed (feed.Item item) ∷ [])
   read-item read item seen on is =
       let now : read ++ OfFeed (feed.Item item) ∷ [] ≡ card_parcels (seen.items ++ item ∷ []) =
       ap (λ ps. ps ++ OfFeed (feed.Item item) ∷ []) (seen.goes_on on) ∙ sym (cards-more seen.items (item ∷ [])) in
@@ -97,16 +98,19 @@ module _ {L : Type 0} {J : Jobs L} (jobs : AreJobs J) where
   read-reply h r fits on seen = absurd fits
 
   -- ---- the card process
-  read-more : (h : List (Entry L)) (a : Action) (r : Reply L) → Follows J (process J 1) h → next_action (process J 1) h ≡ Some a → Fits J a r → CardsRead (taken h)
+  read-more : (h : List (Entry L)) (a : Action) (r : Reply L) → Follows J (process J 1) h → next_action (process J 1) h ≡ Some a → Fits J a r
+      → CardsRead (taken h)
       → CardsRead (taken h ++ taken_by r)
   read-more h act.ReadCard r follows next fits seen = read-reply (taken h) r fits (next-take jobs (process J 1) h act.ReadCard next tt).goes_on seen
-  read-more h act.TakeFeed r follows next fits seen = absurd (let no : act.ReadCard ≡ act.TakeFeed = (next-take jobs (process J 1) h act.TakeFeed next tt).same in cc)
-  read-more h act.TakePage r follows next fits seen = absurd (let no : act.ReadCard ≡ act.TakePage = (next-take jobs (process J 1) h act.TakePage next tt).same in cc)
+  read-more h act.TakeFeed r follows next fits seen = absurd
+      (let no : act.ReadCard ≡ act.TakeFeed = (next-take jobs (process J 1) h act.TakeFeed next tt).same in cc)
+  read-more h act.TakePage r follows next fits seen = absurd
+      (let no : act.ReadCard ≡ act.TakePage = (next-take jobs (process J 1) h act.TakePage next tt).same in cc)
   read-more h (act.Load file) r follows next fits seen = absurd (wants-none jobs (process J 1) h file ((the-five jobs).relays 1) follows (λ all. refl) next)
   read-more h a r follows next fits seen = read-same (taken h) (taken_by r) (plain-reply jobs a r fits tt) seen
 
   never-lacks : (r : Reply L) (a : Action) → (false ≡ true) × MayLack a r → ⊥
-  never-lacks r a (no, may) = cc
+  never-lacks r a (never, may) = cc
 
   -- It took cards, whatever deck was read.
   pub cards-read : (h : List (Entry L)) → Follows J (process J 1) h → CardsRead (taken h)

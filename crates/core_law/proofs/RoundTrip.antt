@@ -58,7 +58,7 @@ module _ {L : Type 0} {J : Jobs L} (jobs : AreJobs J) where
   stream-last (first ∷ []) page = refl
   stream-last (first ∷ next ∷ rest) page = ap (λ ps. OfPage first false ∷ ps) (stream-last (next ∷ rest) page)
 
-  marked-more : (some more : List Page) → marked false (some ++ more) ≡ marked false some ++ marked false more
+  marked-more : (some more : List Page) → marked {L = L} false (some ++ more) ≡ marked false some ++ marked false more
   marked-more [] more = refl
   marked-more (page ∷ some) more = ap (λ ps. OfPage page false ∷ ps) (marked-more some more)
 

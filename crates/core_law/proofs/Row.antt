@@ -128,7 +128,8 @@ module _ {L : Type 0} {J : Jobs L} (jobs : AreJobs J) where
   lines-are [] = tt
   lines-are (line ∷ rest) = (tt, lines-are rest)
 
-  given-pages : (given : Option Page) (rest : List (Parcel L)) → AllByRecursion IsAPage rest → AllByRecursion IsAPage (marked false (option_to_list given) ++ rest)
+  given-pages : (given : Option Page) (rest : List (Parcel L)) → AllByRecursion IsAPage rest → AllByRecursion IsAPage
+      (marked false (option_to_list given) ++ rest)
   given-pages None rest is = is
   given-pages (Some page) rest is = (tt, is)
 
@@ -182,7 +183,8 @@ module _ {L : Type 0} {J : Jobs L} (jobs : AreJobs J) where
   pages-law b is takes all =
       elim (pages-at b is takes) as (λ _. AllByRecursion IsAPage ((process J b).sends all)) [
         | inl two ↦ subst (λ b. AllByRecursion IsAPage ((process J b).sends all)) (sym two) (packed-pages first_page (feeds all))
-        | inr three ↦ subst (λ b. AllByRecursion IsAPage ((process J b).sends all)) (sym three) (packed-pages first_page (job_lines J (unpacked 0 all) (loads all)))
+        | inr three ↦ subst (λ b. AllByRecursion IsAPage ((process J b).sends all)) (sym three)
+            (packed-pages first_page (job_lines J (unpacked 0 all) (loads all)))
       ]
 
   -- ---- buffers

@@ -76,7 +76,8 @@ module _ {L : Type 0} {J : Jobs L} (jobs : AreJobs J) where
   both-some : (t : Bool) → t ≡ true → t ≡ false → ⊥
   both-some t a b = cc
 
-  module _ {row : ℕ → Process L} (laws : IsRow jobs row) (histories : ℕ → List (Entry L)) (follows : (p : ℕ) → Follows J (row p) (histories p)) (first : ℕ → Option Side)
+  module _ {row : ℕ → Process L} (laws : IsRow jobs row) (histories : ℕ → List (Entry L)) (follows : (p : ℕ) → Follows J (row p) (histories p))
+      (first : ℕ → Option Side)
       (are : AreFirst histories first) where
     -- ---- all done
     none-first : EndDone jobs histories → (b : ℕ) → IsBuffer b → (by : Option Side) → first b ≡ by → by ≡ None
@@ -164,7 +165,8 @@ module _ {L : Type 0} {J : Jobs L} (jobs : AreJobs J) where
         let fault = stop-fault told.buffer told.side told.is_buffer told.by in
         let q = fault.process in
         let (how, ended) = all q fault.one in
-        let same : outcome.Fault fault.cause ≡ how = sym (ap outcome_by fault.is) ∙ ended-as jobs (row q) (histories q) how (laws.relays q) (follows q) ended in (
+        let same : outcome.Fault fault.cause ≡ how = sym (ap outcome_by fault.is) ∙ ended-as jobs (row q) (histories q) how (laws.relays q)
+            (follows q) ended in (
           told,
           record {
             process = q;

@@ -88,7 +88,8 @@ module _ {L : Type 0} {J : Jobs L} (jobs : AreJobs J) where
       told = ap (λ t. t || was_told b side (law.acts (core J row) p h)) told;
     }
 
-    told-now : (h : List (Entry L)) (a : Action) → Follows J (row p) h → next_action (row p) h ≡ Some a → Fits J a reply.Stopped → ToldAt row p (Does a reply.Stopped ∷ h)
+    told-now : (h : List (Entry L)) (a : Action) → Follows J (row p) h → next_action (row p) h ≡ Some a → Fits J a reply.Stopped
+        → ToldAt row p (Does a reply.Stopped ∷ h)
     told-now h (act.PutFeed f) follows next fits = told-here h (act.PutFeed f) p Sender Passes follows next refl (same-here p Sender)
     told-now h act.TakeFeed follows next fits = told-here h act.TakeFeed (upstream p) Receiver Passes follows next refl (same-here (upstream p) Receiver)
     told-now h act.AwaitRoom follows next fits = told-here h act.AwaitRoom p Sender Awaits follows next refl (same-here p Sender)

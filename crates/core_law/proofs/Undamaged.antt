@@ -46,9 +46,11 @@ module _ {L : Type 0} {J : Jobs L} (jobs : AreJobs J) where
 
   module _ (histories : ℕ → List (Entry L)) (follows : (p : ℕ) → Follows J (process J p) (histories p)) where
     caused-so : (p : ℕ) (how : Outcome) → newest (histories p) ≡ Some (act.Ended how) → IsNotDone (Some how) → caused (histories p) ≡ Some how
-    caused-so p how ended not = cause-of (caused (histories p)) how (ended-as jobs (process J p) (histories p) how ((the-five jobs).relays p) (follows p) ended) not
+    caused-so p how ended not = cause-of (caused (histories p)) how (ended-as jobs (process J p) (histories p) how ((the-five jobs).relays p)
+        (follows p) ended) not
 
-    fault-so : (Fault : Cause → Type 0) (p : ℕ) → FaultsOf J (process J p) Fault → (c : Cause) → newest (histories p) ≡ Some (act.Ended (outcome.Fault c)) → Fault c
+    fault-so : (Fault : Cause → Type 0) (p : ℕ) → FaultsOf J (process J p) Fault → (c : Cause) → newest (histories p) ≡ Some (act.Ended (outcome.Fault c))
+        → Fault c
     fault-so Fault p faults c ended = faults (histories p) c (follows p) (caused-so p (outcome.Fault c) ended tt)
 
   module _ (opening s : CoreState L) (st : Stands (core J (process J)) opening s) where
@@ -113,7 +115,10 @@ module _ {L : Type 0} {J : Jobs L} (jobs : AreJobs J) where
   not-none [] rest x e = cc
   not-none (y ∷ front) rest x e = cc
 
-  same-page : (page other : Page) (last mark : Bool) → OfPage {L = L} page last ≡ OfPage other mark → (page ≡ other) × (last ≡ mark)
+  abbrev page_parcel : Page → Bool → Parcel L
+  page_parcel page last = OfPage page last
+
+  same-page : (page other : Page) (last mark : Bool) → page_parcel page last ≡ OfPage other mark → (page ≡ other) × (last ≡ mark)
   same-page page other last mark e = (cc, cc)
 
   head-same : (x y : Parcel L) (xs ys : List (Parcel L)) → x ∷ xs ≡ y ∷ ys → x ≡ y
@@ -122,7 +127,7 @@ module _ {L : Type 0} {J : Jobs L} (jobs : AreJobs J) where
   tail-same : (x y : Parcel L) (xs ys : List (Parcel L)) → x ∷ xs ≡ y ∷ ys → xs ≡ ys
   tail-same x y xs ys e = cc
 
-  undamaged-here : (n : ℕ) (page other : Page) (last mark : Bool) (all : List Item) → OfPage {L = L} page last ≡ OfPage other mark
+  undamaged-here : (n : ℕ) (page other : Page) (last mark : Bool) (all : List Item) → page_parcel page last ≡ OfPage other mark
       → page_read (n % 2 ^ 16) mark other ≡ good all mark → damage (page_read ((n + 0) % 2 ^ 16) last page) ≡ None
   undamaged-here n page other last mark all e is =
       let (pages_are, marks_are) = same-page page other last mark e in
@@ -137,7 +142,8 @@ module _ {L : Type 0} {J : Jobs L} (jobs : AreJobs J) where
   undamaged-at (p ∷ []) n all (x ∷ front) page last rest form e =
       absurd (not-none front rest (OfPage page last) (tail-same x (OfPage p true) (front ++ OfPage page last ∷ rest) [] e))
   undamaged-at (p ∷ next ∷ more) n all [] page last rest (items, left, parts, form, later) e =
-      undamaged-here n page p last false items (head-same (OfPage page last) (OfPage p false) rest (as_stream jobs (next ∷ more)) e) (read-back n false items p form)
+      undamaged-here n page p last false items (head-same (OfPage page last) (OfPage p false) rest (as_stream jobs (next ∷ more)) e)
+          (read-back n false items p form)
   undamaged-at (p ∷ next ∷ more) n all (x ∷ front) page last rest (items, left, parts, form, later) e =
       let at : n + 1 + length front ≡ n + length (x ∷ front) = omega arith in
       ap (λ m. damage (page_read (m % 2 ^ 16) last page)) (sym at)
@@ -187,7 +193,8 @@ module _ {L : Type 0} {J : Jobs L} (jobs : AreJobs J) where
   as-missing : (files : List (List ℕ)) → length (missing files) ≡ length files
   as-missing files = length-map files (λ file. J.missing)
 
-  module _ (histories : ℕ → List (Entry L)) (follows : (p : ℕ) → Follows J (process J p) (histories p)) (hand_over : HandOver jobs histories) (items : List Item)
+  module _ (histories : ℕ → List (Entry L)) (follows : (p : ℕ) → Follows J (process J p) (histories p)) (hand_over : HandOver jobs histories)
+      (items : List Item)
       (deck : Option (List Item)) (read : ReadsOf jobs items deck (taken (histories 1))) (are : AreItems items) where
     job-undamaged : (c : Cause) → caused (histories 3) ≡ Some (outcome.Fault c) → IsDamaged c → ⊥
     job-undamaged c =

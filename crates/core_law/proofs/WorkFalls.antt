@@ -23,7 +23,8 @@ use Rattle.batch_procs.specs.Jobs.{Jobs, AreJobs}
 module _ {L : Type 0} {J : Jobs L} (jobs : AreJobs J) where
   -- ---- who sleeps behind an event
   module _ (opening s : CoreState L) (event : CoreEvent L) (st : Stands (core J (process J)) opening s) (enabled : IsEnabled (core J (process J)) s event) where
-    pub slept : Slept jobs (is_delayed (went event.entry)) (wakes jobs (call event.process (Rattle.batch_procs.specs.History.action_of event.entry)) (went event.entry))
+    pub slept : Slept jobs (is_delayed (went event.entry)) (wakes jobs (call event.process (Rattle.batch_procs.specs.History.action_of event.entry))
+        (went event.entry))
         (sleepers s) (sleepers (happens (core J (process J)) s event))
     slept =
         call-slept jobs s event.process (call event.process (Rattle.batch_procs.specs.History.action_of event.entry)) (went event.entry)
@@ -32,7 +33,8 @@ module _ {L : Type 0} {J : Jobs L} (jobs : AreJobs J) where
         enabled.may enabled.fits
 
     pub few : sleepers (happens (core J (process J)) s event) ≤ 12
-    few = few-sleep jobs (happens (core J (process J)) s event) (desk-room jobs opening (happens (core J (process J)) s event) (st-next jobs opening s event st enabled))
+    few = few-sleep jobs (happens (core J (process J)) s event) (desk-room jobs opening (happens (core J (process J)) s event)
+        (st-next jobs opening s event st enabled))
 
   -- ---- all that is left
   lower : (c left s now n : ℕ) → left + 1 ≤ c → s ≤ now + n → n ≤ 1 → 2 * left + (12 - now) < 2 * c + (12 - s)
@@ -40,16 +42,19 @@ module _ {L : Type 0} {J : Jobs L} (jobs : AreJobs J) where
 
   fall : (entry : Entry L) (c left s now n : ℕ) → left + cost jobs entry ≤ c → Slept jobs (is_delayed (went entry)) n s now → n ≤ 1 → now ≤ 12
       → 2 * left + (12 - now) < 2 * c + (12 - s)
-  fall (Does a r) c left s now n less slept one most = lower c left s now n less (subst (λ d. Slept jobs d n s now) (answered jobs (Does a r) (λ b e. cc)) slept) one
+  fall (Does a r) c left s now n less slept one most = lower c left s now n less
+      (subst (λ d. Slept jobs d n s now) (answered jobs (Does a r) (λ b e. cc)) slept) one
   fall (LacksMemory a r) c left s now n less slept one most =
       lower c left s now n less (subst (λ d. Slept jobs d n s now) (answered jobs (LacksMemory a r) (λ b e. cc)) slept) one
   fall (Delays a) c left s now n less slept one most = omega (arith, less, slept, most)
 
   -- each event of a state that stands as every event keeps it
-  pub work-lower : (opening s : CoreState L) (event : CoreEvent L) (cards left : ℕ) → Stands (core J (process J)) opening s → IsEnabled (core J (process J)) s event
+  pub work-lower : (opening s : CoreState L) (event : CoreEvent L) (cards left : ℕ) → Stands (core J (process J)) opening s
+      → IsEnabled (core J (process J)) s event
       → LeavesFewer event.entry cards left → events_left J left (happens (core J (process J)) s event) < events_left J cards s
   work-lower opening s event cards left st enabled leaves =
-      fall event.entry (calls_left J cards s) (calls_left J left (happens (core J (process J)) s event)) (sleepers s) (sleepers (happens (core J (process J)) s event)) _
+      fall event.entry (calls_left J cards s) (calls_left J left (happens (core J (process J)) s event)) (sleepers s)
+          (sleepers (happens (core J (process J)) s event)) _
       (calls-fall jobs opening s st event cards left leaves enabled) (slept opening s event st enabled) (wakes-most jobs _ _) (few opening s event st enabled)
 
   -- and so of a reached one

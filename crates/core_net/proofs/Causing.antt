@@ -65,7 +65,8 @@ module _ {S K A B F : Type 0} (counts : Counts S K A B F) (old new : Shared S K 
   fits-at : (action : Action) (result other : Option (Reply Loaded)) → result ≡ other → ReplyFits deck_jobs action result → ReplyFits deck_jobs action other
   fits-at action result other e fits = subst (ReplyFits deck_jobs action) e fits
 
-  pub quiet-causes : (action : Action) (result : Option (Reply Loaded)) → IsQuiet action → ReplyFits deck_jobs action result → AreSame → HasCauses counts old new p action result
+  pub quiet-causes : (action : Action) (result : Option (Reply Loaded)) → IsQuiet action → ReplyFits deck_jobs action result → AreSame
+      → HasCauses counts old new p action result
   quiet-causes action result quiet fits same = record {
     read = λ e. absurd (no-card action card_read.Failed (quiet-reads action quiet) (fits-at action result (Some (reply.Card card_read.Failed)) e fits));
     limit = λ e. absurd (no-card action card_read.Limit (quiet-reads action quiet) (fits-at action result (Some (reply.Card card_read.Limit)) e fits));
@@ -102,7 +103,8 @@ module _ {S K A B F : Type 0} (counts : Counts S K A B F) (old new : Shared S K 
   move-loads (act.Load file) is load = is
   move-loads action is load = load
 
-  pub input-causes : (action : Action) (r : Reply Loaded) → IsMove action → ReplyFits deck_jobs action (Some r) → (MovesOutput p action → ⊥) → new.deck ≡ old.deck
+  pub input-causes : (action : Action) (r : Reply Loaded) → IsMove action → ReplyFits deck_jobs action (Some r) → (MovesOutput p action → ⊥)
+      → new.deck ≡ old.deck
       → new.paper ≡ old.paper → new.output.area ≡ old.output.area → new.files ≡ old.files
       → (r ≡ reply.Failed → Rose (counts.input_faults old.input.area) (counts.input_faults new.input.area))
       → counts.input_faults old.input.area ≤ counts.input_faults new.input.area → HasCauses counts old new p action (Some r)
@@ -125,7 +127,8 @@ module _ {S K A B F : Type 0} (counts : Counts S K A B F) (old new : Shared S K 
     deck_stays = λ not. deck;
   }
 
-  pub output-causes : (action : Action) (r : Reply Loaded) → IsMove action → ReplyFits deck_jobs action (Some r) → (MovesInput p action → ⊥) → new.deck ≡ old.deck
+  pub output-causes : (action : Action) (r : Reply Loaded) → IsMove action → ReplyFits deck_jobs action (Some r) → (MovesInput p action → ⊥)
+      → new.deck ≡ old.deck
       → new.paper ≡ old.paper → new.input.area ≡ old.input.area → new.files ≡ old.files
       → (r ≡ reply.Failed → Rose (counts.output_faults old.output.area) (counts.output_faults new.output.area))
       → counts.output_faults old.output.area ≤ counts.output_faults new.output.area → HasCauses counts old new p action (Some r)

@@ -31,7 +31,8 @@ module _ {S K A B F : Type 0} (tells : Tells S K A B F) (old new : Shared S K A 
   }
 
   -- Where the process is at its turn, its step is an enabled event.
-  pub is-event : (a : Action) → next_action (process deck_jobs p) (s.histories p) ≡ Some a → MayCall s p (call p a) → (entry : Entry Loaded) → action_of entry ≡ a
+  pub is-event : (a : Action) → next_action (process deck_jobs p) (s.histories p) ≡ Some a → MayCall s p (call p a) → (entry : Entry Loaded)
+      → action_of entry ≡ a
       → IsFitting deck_jobs (process deck_jobs p) entry → Enters tells old new p a entry → IsEvent tells new s p entry
   is-event a next may entry same suits is =
       by-action entry (next

@@ -75,14 +75,16 @@ module _ (c : Cause) (a : Action) where
   told-memory : (r : Option (Reply Loaded)) → Some (outcome.Fault cause.NoMemory) ≡ Some (outcome.Fault c) → Told c a r
   told-memory r e = subst (λ c. Told c a r) (same-fault cause.NoMemory c e) tt
 
-told-failed : (c : Cause) (a : Action) → Fits deck_jobs a reply.Failed → Some (outcome.Fault (fault_at a)) ≡ Some (outcome.Fault c) → Told c a (Some reply.Failed)
+told-failed : (c : Cause) (a : Action) → Fits deck_jobs a reply.Failed → Some (outcome.Fault (fault_at a)) ≡ Some (outcome.Fault c)
+    → Told c a (Some reply.Failed)
 told-failed c (act.PutPage page) fits e = subst (λ c. Told c (act.PutPage page) (Some reply.Failed)) (same-fault cause.DiskFault c e) (inl tt, refl)
 told-failed c act.TakePage fits e = subst (λ c. Told c act.TakePage (Some reply.Failed)) (same-fault cause.DiskFault c e) (inl tt, refl)
 told-failed c (act.Load file) fits e = subst (λ c. Told c (act.Load file) (Some reply.Failed)) (same-fault cause.DiskFault c e) (inr tt, refl)
 told-failed c (act.Print line) fits e = subst (λ c. Told c (act.Print line) (Some reply.Failed)) (same-fault cause.PrintFault c e) (tt, refl)
 told-failed c a fits e = absurd fits
 
-told-so : (p : Process Loaded) (entry : Entry Loaded) (h : List (Entry Loaded)) (c : Cause) → IsFitting deck_jobs p entry → cause_by entry h ≡ Some (outcome.Fault c)
+told-so : (p : Process Loaded) (entry : Entry Loaded) (h : List (Entry Loaded)) (c : Cause) → IsFitting deck_jobs p entry → cause_by entry h ≡ Some
+    (outcome.Fault c)
     → Told c (action_of entry) (reply_of entry)
 told-so p (Does a reply.Done) h c fits e = absurd cc
 told-so p (Does a reply.Stopped) h c fits e = absurd cc
@@ -104,12 +106,14 @@ or-gave : (old new : Option Outcome) (how : Outcome) → or_new old new ≡ Some
 or-gave None new how e = inr e
 or-gave (Some before) new how e = inl e
 
-entry-gave : (entry : Entry Loaded) (h : List (Entry Loaded)) (how : Outcome) → caused (entry ∷ h) ≡ Some how → (caused h ≡ Some how) ⊎ (cause_by entry h ≡ Some how)
+entry-gave : (entry : Entry Loaded) (h : List (Entry Loaded)) (how : Outcome) → caused (entry ∷ h) ≡ Some how → (caused h ≡ Some how) ⊎
+    (cause_by entry h ≡ Some how)
 entry-gave (Does a r) h how e = or-gave (caused h) (given_cause a r h) how e
 entry-gave (LacksMemory a r) h how e = or-gave (caused h) (Some (outcome.Fault cause.NoMemory)) how e
 entry-gave (Delays a) h how e = inl e
 
-event-gave : (s : CoreState Loaded) (event : CoreEvent Loaded) (q : ℕ) (how : Outcome) → caused ((happens (core deck_jobs (process deck_jobs)) s event).histories q) ≡ Some how
+event-gave : (s : CoreState Loaded) (event : CoreEvent Loaded) (q : ℕ) (how : Outcome)
+    → caused ((happens (core deck_jobs (process deck_jobs)) s event).histories q) ≡ Some how
     → (caused (s.histories q) ≡ Some how) ⊎ ((event.process ≡ q) × (cause_by event.entry (s.histories q) ≡ Some how))
 event-gave s event q how =
     let Goal : Type 0 = (caused (s.histories q) ≡ Some how) ⊎ ((event.process ≡ q) × (cause_by event.entry (s.histories q) ≡ Some how)) in
@@ -139,7 +143,8 @@ event-keeps s event q how e =
       | inr not ↦ subst P (sym not.0) e
     ]
 
-event-own : (s : CoreState Loaded) (event : CoreEvent Loaded) (q : ℕ) (how : Outcome) → event.process ≡ q → caused (event.entry ∷ s.histories event.process) ≡ Some how
+event-own : (s : CoreState Loaded) (event : CoreEvent Loaded) (q : ℕ) (how : Outcome) → event.process ≡ q → caused (event.entry ∷ s.histories event.process)
+    ≡ Some how
     → caused ((happens (core deck_jobs (process deck_jobs)) s event).histories q) ≡ Some how
 event-own s event q how own e =
     let P : Bool → Type 0 = λ t. caused (if t then event.entry ∷ s.histories event.process else s.histories q) ≡ Some how in
@@ -149,7 +154,7 @@ event-own s event q how own e =
     ]
 
 -- the limit is a cause
-lack-limit : (a : Action) → MayLack a (reply.Card card_read.Limit) → ⊥
+lack-limit : (a : Action) → MayLack {L = Loaded} a (reply.Card card_read.Limit) → ⊥
 lack-limit act.TakePage may = may
 lack-limit act.Local may = may
 lack-limit a may = may
@@ -157,7 +162,8 @@ lack-limit a may = may
 same-reply : (r s : Reply Loaded) → Some r ≡ Some s → r ≡ s
 same-reply r s e = cc
 
-limit-gives : (p : Process Loaded) (entry : Entry Loaded) (h : List (Entry Loaded)) → IsFitting deck_jobs p entry → reply_of entry ≡ Some (reply.Card card_read.Limit) → caused h ≡ None
+limit-gives : (p : Process Loaded) (entry : Entry Loaded) (h : List (Entry Loaded)) → IsFitting deck_jobs p entry → reply_of entry ≡ Some
+    (reply.Card card_read.Limit) → caused h ≡ None
     → caused (entry ∷ h) ≡ Some (outcome.Fault cause.DeckLimit)
 limit-gives p (Does a r) h fits told none = let same = same-reply r (reply.Card card_read.Limit) told in rw (none, same) refl
 limit-gives p (LacksMemory a r) h fits told none = absurd (lack-limit a (subst (MayLack a) (same-reply r (reply.Card card_read.Limit) told) fits.1))
@@ -168,7 +174,8 @@ reads-or-not act.ReadCard = inl refl
 reads-or-not a = inr (λ e. cc)
 
 -- ---- who moves a page
-moves-so : (p : ℕ) (h : List (Entry Loaded)) (a : Action) → IsProcess p → Follows deck_jobs (process deck_jobs p) h → next_action (process deck_jobs p) h ≡ Some a → IsMove a
+moves-so : (p : ℕ) (h : List (Entry Loaded)) (a : Action) → IsProcess p → Follows deck_jobs (process deck_jobs p) h → next_action (process deck_jobs p) h
+    ≡ Some a → IsMove a
     → MovesInput p a ⊎ MovesOutput p a
 moves-so p h (act.PutPage page) one follows next is = moves-page deck_are_jobs p h page one follows next
 moves-so p h act.TakePage one follows next is = takes-page deck_are_jobs p h one next
@@ -185,7 +192,8 @@ no-input p act.TakePage four is = let same = sym four ∙ is in cc
 no-input p a four is = is
 
 -- ---- who loads a file
-loads-so : (p : ℕ) (h : List (Entry Loaded)) (a : Action) → IsProcess p → Follows deck_jobs (process deck_jobs p) h → next_action (process deck_jobs p) h ≡ Some a → IsLoad a → p ≡ 3
+loads-so : (p : ℕ) (h : List (Entry Loaded)) (a : Action) → IsProcess p → Follows deck_jobs (process deck_jobs p) h → next_action (process deck_jobs p) h
+    ≡ Some a → IsLoad a → p ≡ 3
 loads-so p h (act.Load file) one follows next is = loads-files deck_are_jobs p h file one follows next
 loads-so p h a one follows next is = absurd is
 
@@ -225,7 +233,8 @@ module _ {S K A B F : Type 0} (keeps : Keeps) (tells : Tells S K A B F) (counts 
   counted-each net before s stands are = λ t other. subst (AreCounted counts before (devices_of net.shared)) (same-outcomes net s t stands other) are
 
   -- ---- one step
-  module _ (old new : Net S K A B F) (o : Opening deck_jobs) (s : CoreState Loaded) (event : CoreEvent Loaded) (reached : IsReached o s) (enabled : IsEnabled (core deck_jobs (process deck_jobs)) s event)
+  module _ (old new : Net S K A B F) (o : Opening deck_jobs) (s : CoreState Loaded) (event : CoreEvent Loaded) (reached : IsReached o s)
+      (enabled : IsEnabled (core deck_jobs (process deck_jobs)) s event)
       (causes : HasCauses counts old.shared new.shared event.process (action_of event.entry) (reply_of event.entry)) where
     abbrev q : ℕ
     q = event.process
@@ -305,7 +314,8 @@ module _ {S K A B F : Type 0} (keeps : Keeps) (tells : Tells S K A B F) (counts 
       longer : counts.taken before.source ≤ byte_limit → byte_limit < counts.taken new.shared.deck.source
           → outcome_by (caused ((happens (core deck_jobs (process deck_jobs)) s event).histories 1)) ≡ outcome.Fault cause.DeckLimit
       longer few over =
-          elim (reads-or-not made) as (λ _. outcome_by (caused ((happens (core deck_jobs (process deck_jobs)) s event).histories 1)) ≡ outcome.Fault cause.DeckLimit) [
+          elim (reads-or-not made) as (λ _. outcome_by (caused ((happens (core deck_jobs (process deck_jobs)) s event).histories 1))
+              ≡ outcome.Fault cause.DeckLimit) [
             | inl reads ↦ ap outcome_by (event-own s event 1 (outcome.Fault cause.DeckLimit) (reads-deck deck_are_jobs q (s.histories q) (next ∙ ap Some reads))
                 (limit-gives (process deck_jobs q) event.entry (s.histories q) enabled.suits (causes.limit_told reads over)
                 (open-next deck_jobs (process deck_jobs q) (s.histories q) act.ReadCard (next ∙ ap Some reads) tt)))
@@ -326,7 +336,8 @@ module _ {S K A B F : Type 0} (keeps : Keeps) (tells : Tells S K A B F) (counts 
             ]
           ]
 
-      job : outcome_by (caused ((happens (core deck_jobs (process deck_jobs)) s event).histories 3)) ≡ outcome.Fault cause.DiskFault → InputRose ⊎ OutputRose ⊎ FilesRose
+      job : outcome_by (caused ((happens (core deck_jobs (process deck_jobs)) s event).histories 3)) ≡ outcome.Fault cause.DiskFault
+          → InputRose ⊎ OutputRose ⊎ FilesRose
       job is =
           elim (now-or-before 3 cause.DiskFault is) as (λ _. InputRose ⊎ OutputRose ⊎ FilesRose) [
             | inl had ↦ elim (was.job had) as (λ _. InputRose ⊎ OutputRose ⊎ FilesRose) [
@@ -383,12 +394,14 @@ module _ {S K A B F : Type 0} (keeps : Keeps) (tells : Tells S K A B F) (counts 
       }
 
   -- An event keeps that they were counted.
-  pub event-counted : (old new : Net S K A B F) (o : Opening deck_jobs) (s : CoreState Loaded) (event : CoreEvent Loaded) → IsReached o s → NetStands keeps tells old s
+  pub event-counted : (old new : Net S K A B F) (o : Opening deck_jobs) (s : CoreState Loaded) (event : CoreEvent Loaded) → IsReached o s
+      → NetStands keeps tells old s
       → IsEnabled (core deck_jobs (process deck_jobs)) s event → NetStands keeps tells new (happens (core deck_jobs (process deck_jobs)) s event)
       → HasCauses counts old.shared new.shared event.process (action_of event.entry) (reply_of event.entry)
       → (before : Peripherals S K A B F) → CausesAreCounted keeps tells counts before old → CausesAreCounted keeps tells counts before new
   event-counted old new o s event reached stood enabled stands causes before were =
-      counted-each new before (happens (core deck_jobs (process deck_jobs)) s event) stands (counted old new o s event reached enabled causes before (were s stood))
+      counted-each new before (happens (core deck_jobs (process deck_jobs)) s event) stands (counted old new o s event reached enabled causes before
+          (were s stood))
 
   -- What was counted until all ended is what the run tells.
   pub ended-counted : (net : Net S K A B F) (outcomes : Outcomes) (now : Peripherals S K A B F) (s : CoreState Loaded) → NetStands keeps tells net s

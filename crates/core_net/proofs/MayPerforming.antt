@@ -55,7 +55,8 @@ second-number p m n X Y differ e is =
 some-marks : (marks : List Bool) → 0 < length marks → marks ≡ [] → ⊥
 some-marks marks some e = let none : length marks ≡ 0 = ap length e in omega (arith, some, none)
 
-module _ {S K A B F : Type 0} (tells : Tells S K A B F) (opening s : CoreState Loaded) (st : Stands (core deck_jobs (process deck_jobs)) opening s) (shared : Shared S K A B F)
+module _ {S K A B F : Type 0} (tells : Tells S K A B F) (opening s : CoreState Loaded) (st : Stands (core deck_jobs (process deck_jobs)) opening s)
+    (shared : Shared S K A B F)
     (ss : SharedStands tells shared s)
     (p : ℕ) (one : IsProcess p) where
   abbrev follows : Follows deck_jobs (process deck_jobs p) (s.histories p)
@@ -68,7 +69,8 @@ module _ {S K A B F : Type 0} (tells : Tells S K A B F) (opening s : CoreState L
   side-open a b side visit next e =
       let seated = seated-by deck_are_jobs (the-five deck_are_jobs) p (s.histories p) one.0 follows a b side visit next e in
       mark-is deck_are_jobs (the-five deck_are_jobs) opening s st b side
-      ∙ subst (λ q. stopped_it b (s.histories q) ≡ false) (sym seated) (unstopped-by deck_are_jobs (the-five deck_are_jobs) p (s.histories p) one.0 follows a b side visit next e)
+      ∙ subst (λ q. stopped_it b (s.histories q) ≡ false) (sym seated) (unstopped-by deck_are_jobs (the-five deck_are_jobs) p
+          (s.histories p) one.0 follows a b side visit next e)
 
   at-turn : (a : Action) (b : ℕ) (side : Side) (visit : Visit) → MayCall s p (call p a) → call p a ≡ At b side visit → MayVisit (s.buffers b).sides side p visit
   at-turn a b side visit may e = subst (MayCall s p) e may
@@ -88,10 +90,12 @@ module _ {S K A B F : Type 0} (tells : Tells S K A B F) (opening s : CoreState L
   )
 
   -- what was awaited is there
-  ready-at : (a : Action) (b : ℕ) (side : Side) → next_action (process deck_jobs p) (s.histories p) ≡ Some a → call p a ≡ At b side Moves → IsReady (s.buffers b) side
+  ready-at : (a : Action) (b : ℕ) (side : Side) → next_action (process deck_jobs p) (s.histories p) ≡ Some a → call p a ≡ At b side Moves
+      → IsReady (s.buffers b) side
   ready-at a b side next e =
       let seated = seated-by deck_are_jobs (the-five deck_are_jobs) p (s.histories p) one.0 follows a b side Moves next e in
-      let found = (lawful deck_are_jobs (the-five deck_are_jobs)).found p (s.histories p) b side one (st.follows p) record { action = a; next = next; call = e } in
+      let found = (lawful deck_are_jobs (the-five deck_are_jobs)).found p (s.histories p) b side one
+          (st.follows p) record { action = a; next = next; call = e } in
       st.buffers.ready b side (subst (λ q. found_ready b side (law.acts (core deck_jobs (process deck_jobs)) q (s.histories q)) ≡ true) (sym seated) found)
 
   moves-at : (a : Action) (b : ℕ) (side : Side) (sides : Sides) → next_action (process deck_jobs p) (s.histories p) ≡ Some a → MayCall s p (call p a)
@@ -139,7 +143,8 @@ module _ {S K A B F : Type 0} (tells : Tells S K A B F) (opening s : CoreState L
       ]
 
   -- ---- pages
-  may-await_room : next_action (process deck_jobs p) (s.histories p) ≡ Some act.AwaitRoom → MayCall s p (call p act.AwaitRoom) → MayPerform shared p act.AwaitRoom
+  may-await_room : next_action (process deck_jobs p) (s.histories p) ≡ Some act.AwaitRoom → MayCall s p (call p act.AwaitRoom)
+      → MayPerform shared p act.AwaitRoom
   may-await_room next may =
       elim (room-waits deck_are_jobs p (s.histories p) one follows next) as (λ _. MayPerform shared p act.AwaitRoom) [
         | inl is ↦ first-number p 2 3 (WaitsAt shared.input.sides Sender)
@@ -150,7 +155,8 @@ module _ {S K A B F : Type 0} (tells : Tells S K A B F) (opening s : CoreState L
             (inr (ap (λ p. call p act.AwaitRoom) is)) output-sides)
       ]
 
-  may-await_item : next_action (process deck_jobs p) (s.histories p) ≡ Some act.AwaitItem → MayCall s p (call p act.AwaitItem) → MayPerform shared p act.AwaitItem
+  may-await_item : next_action (process deck_jobs p) (s.histories p) ≡ Some act.AwaitItem → MayCall s p (call p act.AwaitItem)
+      → MayPerform shared p act.AwaitItem
   may-await_item next may =
       elim (item-waits deck_are_jobs p (s.histories p) one next) as (λ _. MayPerform shared p act.AwaitItem) [
         | inl is ↦ first-number p 3 4 (WaitsAt shared.input.sides Receiver)
@@ -187,13 +193,15 @@ module _ {S K A B F : Type 0} (tells : Tells S K A B F) (opening s : CoreState L
   takes-input next may is =
       let e = ap (λ p. call p act.TakePage) is in
       let m = moves-at act.TakePage 2 Receiver shared.input.sides next may e input-sides in
-      (m.0, some-marks shared.input.ring.marks (subst (λ (b : Buffer (Parcel Loaded)). 0 < length b.marks) ss.input.is (ready-at act.TakePage 2 Receiver next e)), m.1)
+      (m.0, some-marks shared.input.ring.marks (subst (λ (b : Buffer (Parcel Loaded)). 0 < length b.marks) ss.input.is
+          (ready-at act.TakePage 2 Receiver next e)), m.1)
 
   takes-output : next_action (process deck_jobs p) (s.histories p) ≡ Some act.TakePage → MayCall s p (call p act.TakePage) → p ≡ 4 → TakesAt shared.output
   takes-output next may is =
       let e = ap (λ p. call p act.TakePage) is in
       let m = moves-at act.TakePage 3 Receiver shared.output.sides next may e output-sides in
-      (m.0, some-marks shared.output.ring.marks (subst (λ (b : Buffer (Parcel Loaded)). 0 < length b.marks) ss.output.is (ready-at act.TakePage 3 Receiver next e)), m.1)
+      (m.0, some-marks shared.output.ring.marks (subst (λ (b : Buffer (Parcel Loaded)). 0 < length b.marks) ss.output.is
+          (ready-at act.TakePage 3 Receiver next e)), m.1)
 
   may-take_page : next_action (process deck_jobs p) (s.histories p) ≡ Some act.TakePage → MayCall s p (call p act.TakePage) → MayPerform shared p act.TakePage
   may-take_page next may =
@@ -222,7 +230,8 @@ module _ {S K A B F : Type 0} (tells : Tells S K A B F) (opening s : CoreState L
         ]
       ]
 
-  may-stop : (b : ℕ) → next_action (process deck_jobs p) (s.histories p) ≡ Some (act.Stop b) → MayCall s p (call p (act.Stop b)) → MayPerform shared p (act.Stop b)
+  may-stop : (b : ℕ) → next_action (process deck_jobs p) (s.histories p) ≡ Some (act.Stop b) → MayCall s p (call p (act.Stop b)) → MayPerform shared p
+      (act.Stop b)
   may-stop b next may =
       let G : ℕ → Type 0 = λ b. (side : Side) → MayStop (s.buffers b).sides side → StopsAt shared b side in
       four-buffers G b (call-buffer deck_are_jobs (the-five deck_are_jobs) p (s.histories p) one follows (act.Stop b) b (side_at p b) Stops next refl)
@@ -253,7 +262,8 @@ module _ {S K A B F : Type 0} (tells : Tells S K A B F) (opening s : CoreState L
   may-release : next_action (process deck_jobs p) (s.histories p) ≡ Some act.Release → MayCall s p (call p act.Release)
       → IsSome s.desk.claims.holder × (s.desk.claims.handed ≡ None)
   may-release next may =
-      let on = holds-are deck_are_jobs (process deck_jobs) p (s.histories p) follows ∙ release-holds deck_jobs (process deck_jobs p) (s.histories p) ((the-five deck_are_jobs).relays p) follows next in
+      let on = holds-are deck_are_jobs (process deck_jobs) p (s.histories p) follows ∙ release-holds deck_jobs (process deck_jobs p) (s.histories p)
+          ((the-five deck_are_jobs).relays p) follows next in
       let held = st.desk.holds_alone p on in
       (rw held refl, may)
 
@@ -264,13 +274,15 @@ module _ {S K A B F : Type 0} (tells : Tells S K A B F) (opening s : CoreState L
       let is = reads-deck deck_are_jobs p (s.histories p) next in
       live (subst (λ q. caused (s.histories q) ≡ None) is (open-next deck_jobs (process deck_jobs p) (s.histories p) act.ReadCard next tt))
 
-  may-print : (caused (s.histories 5) ≡ None → shared.paper.live ≡ true) → (line : List ℕ) → next_action (process deck_jobs p) (s.histories p) ≡ Some (act.Print line)
+  may-print : (caused (s.histories 5) ≡ None → shared.paper.live ≡ true) → (line : List ℕ) → next_action (process deck_jobs p) (s.histories p) ≡ Some
+      (act.Print line)
       → MayPerform shared p (act.Print line)
   may-print live line next =
       let is = prints-paper deck_are_jobs p (s.histories p) line one follows next in
       live (subst (λ q. caused (s.histories q) ≡ None) is (open-next deck_jobs (process deck_jobs p) (s.histories p) (act.Print line) next tt))
 
-  may-load : (caused (s.histories 3) ≡ None → shared.files.sound ≡ true) → (file : List ℕ) → next_action (process deck_jobs p) (s.histories p) ≡ Some (act.Load file)
+  may-load : (caused (s.histories 3) ≡ None → shared.files.sound ≡ true) → (file : List ℕ) → next_action (process deck_jobs p) (s.histories p) ≡ Some
+      (act.Load file)
       → MayPerform shared p (act.Load file)
   may-load sound file next =
       let is = loads-files deck_are_jobs p (s.histories p) file one follows next in
@@ -278,7 +290,8 @@ module _ {S K A B F : Type 0} (tells : Tells S K A B F) (opening s : CoreState L
 
   -- What is next at its turn may be performed.
   pub may-perform : (caused (s.histories 1) ≡ None → shared.deck.live ≡ true) → (caused (s.histories 5) ≡ None → shared.paper.live ≡ true)
-      → (caused (s.histories 3) ≡ None → shared.files.sound ≡ true) → length s.desk.claims.waiting < 5 → (a : Action) → next_action (process deck_jobs p) (s.histories p)
+      → (caused (s.histories 3) ≡ None → shared.files.sound ≡ true) → length s.desk.claims.waiting < 5 → (a : Action) → next_action (process deck_jobs p)
+          (s.histories p)
       ≡ Some a → MayCall s p (call p a) → MayPerform shared p a
   may-perform deck paper files room act.ReadCard next may = may-read deck next
   may-perform deck paper files room (act.PutFeed f) next may = may-put_feed f next may

@@ -90,7 +90,7 @@ card-fits : (a : Action) (answer : CardRead) → Fits deck_jobs a (reply.Card an
 card-fits act.ReadCard answer fits = refl
 card-fits a answer fits = absurd fits
 
-lack-card : (a : Action) (answer : CardRead) → MayLack a (reply.Card answer) → ⊥
+lack-card : (a : Action) (answer : CardRead) → MayLack {L = Loaded} a (reply.Card answer) → ⊥
 lack-card act.TakePage answer may = may
 lack-card act.Local answer may = may
 lack-card a answer may = may
@@ -102,7 +102,8 @@ reads-nothing p (LacksMemory a r) answer fits not e = lack-card a answer (subst 
 reads-nothing p (Delays a) answer fits not e = cc
 
 -- a print without a cause is done
-print-done : (p : Process Loaded) (entry : Entry Loaded) (h : List (Entry Loaded)) → IsFitting deck_jobs p entry → caused (entry ∷ h) ≡ None → IsPrint (action_of entry)
+print-done : (p : Process Loaded) (entry : Entry Loaded) (h : List (Entry Loaded)) → IsFitting deck_jobs p entry → caused (entry ∷ h) ≡ None
+    → IsPrint (action_of entry)
     → reply_of entry ≡ Some reply.Done
 print-done p (Does (act.Print line) reply.Done) h fits none is = refl
 print-done p (Does (act.Print line) reply.Failed) h fits none is = absurd (some-not_none (caused h) _ none)
@@ -126,7 +127,8 @@ file-of a is = absurd is
 abbrev pub GoesOn : {S K A B F : Type 0} → Keeps → Tells S K A B F → Counts S K A B F → Net S K A B F → Net S K A B F → CoreState Loaded → ℕ → Stepped → Type 0
 GoesOn keeps tells counts old new s p result = law.Steps (the_law deck_jobs) (StandsWithin keeps tells) (MovesBy keeps tells counts) old new s p result
 
-module _ {S K A B F : Type 0} (keeps : Keeps) (tells : Tells S K A B F) (counts : Counts S K A B F) (net : Net S K A B F) (o : Opening deck_jobs) (s : CoreState Loaded)
+module _ {S K A B F : Type 0} (keeps : Keeps) (tells : Tells S K A B F) (counts : Counts S K A B F) (net : Net S K A B F) (o : Opening deck_jobs)
+    (s : CoreState Loaded)
     (reached : IsReached o s) (stood : StandsWithin keeps tells net s) where
   abbrev stands : NetStands keeps tells net s
   stands = stood.is
@@ -168,7 +170,8 @@ module _ {S K A B F : Type 0} (keeps : Keeps) (tells : Tells S K A B F) (counts 
     pub paper-other : (p ≡ 5 → ⊥) → caused (s.histories 5) ≡ None → new.paper.live ≡ true
     paper-other not none =
         causes.paper_live (stands.paper_live none)
-        (λ print. (let (line, is) = line-of action print in absurd (not (prints-paper deck_are_jobs p (s.histories p) line step.one (follows p) (step.next ∙ ap Some is)))))
+        (λ print. (let (line, is) = line-of action print in absurd
+            (not (prints-paper deck_are_jobs p (s.histories p) line step.one (follows p) (step.next ∙ ap Some is)))))
 
     pub files-own : p ≡ 3 → caused (entry ∷ s.histories p) ≡ None → new.files.sound ≡ true
     files-own is none =
@@ -178,7 +181,8 @@ module _ {S K A B F : Type 0} (keeps : Keeps) (tells : Tells S K A B F) (counts 
     pub files-other : (p ≡ 3 → ⊥) → caused (s.histories 3) ≡ None → new.files.sound ≡ true
     files-other not none =
         causes.files_sound (stands.files_sound none)
-        (λ load. (let (file, is) = file-of action load in absurd (not (loads-files deck_are_jobs p (s.histories p) file step.one (follows p) (step.next ∙ ap Some is)))))
+        (λ load. (let (file, is) = file-of action load in absurd
+            (not (loads-files deck_are_jobs p (s.histories p) file step.one (follows p) (step.next ∙ ap Some is)))))
 
   -- ---- by the machine
   card-stands : (m : Machine DeckWork CardWork) (new : Shared S K A B F) (action : Action) (entry : Entry Loaded) (gained : List ℕ)
@@ -319,14 +323,16 @@ module _ {S K A B F : Type 0} (keeps : Keeps) (tells : Tells S K A B F) (counts 
   -- A step of one machine is a step of the network that this machine and what is shared make of it.
   step-of : (p : ℕ) (next : Net S K A B F) (Stands : List (Entry Loaded) → Type 0) (action : Action) (result : Stepped) → MayStepIn s p action
       → (st : Steps Stands tells counts net.shared next.shared p action (s.histories p) result) → IsFitting deck_jobs (process deck_jobs p) st.entry
-      → ((gained : List ℕ) → SharedStands tells next.shared (happens (core deck_jobs (process deck_jobs)) s record { process = p; entry = st.entry; gained = gained })
+      → ((gained : List ℕ) → SharedStands tells next.shared
+          (happens (core deck_jobs (process deck_jobs)) s record { process = p; entry = st.entry; gained = gained })
       → NetStands keeps tells next (happens (core deck_jobs (process deck_jobs)) s record { process = p; entry = st.entry; gained = gained }))
       → GoesOn keeps tells counts net next s p result
   step-of p next Stands action result step st suits stand =
       let is = is-event tells net.shared next.shared s stands.shared p step.one action step.next step.may st.entry st.action_is suits st.enters in
       let event : CoreEvent Loaded = record { process = p; entry = st.entry; gained = is.gained } in
       let causes = subst (λ a. HasCauses counts net.shared next.shared p a (reply_of st.entry)) (sym st.action_is) st.causes in
-      let left = work-falls deck_are_jobs o s event (cards_left tells.taken net.shared.deck) (cards_left tells.taken next.shared.deck) reached is.enabled st.enters.deck in
+      let left = work-falls deck_are_jobs o s event (cards_left tells.taken net.shared.deck)
+          (cards_left tells.taken next.shared.deck) reached is.enabled st.enters.deck in
       let most = stood.within in
       let now = stand is.gained is.after in
       let told = st.told s stands.shared (has-place tells net.shared o s reached stands.shared p step.one action step.next) in
@@ -384,7 +390,8 @@ module _ {S K A B F : Type 0} (keeps : Keeps) (tells : Tells S K A B F) (counts 
       (λ gained shared. printer-stands m new action st.entry gained st.stands step st.action_is st.causes shared)
 
 -- ---- by the number
-pub next-at : (s : CoreState Loaded) (p q : ℕ) (action : Action) → p ≡ q → MayStepIn s p action → next_action (process deck_jobs q) (s.histories q) ≡ Some action
+pub next-at : (s : CoreState Loaded) (p q : ℕ) (action : Action) → p ≡ q → MayStepIn s p action → next_action (process deck_jobs q) (s.histories q)
+    ≡ Some action
 next-at s p q action e step = subst (λ q. next_action (process deck_jobs q) (s.histories q) ≡ Some action) e step.next
 
 pub in-step : (s : CoreState Loaded) (p : ℕ) (may : MayGo (core deck_jobs (process deck_jobs)) s p) → MayStepIn s p may.action
@@ -392,7 +399,8 @@ in-step s p may = record { one = may.one; next = may.next; may = may.may }
 
 -- that a machine may step
 pub may-step : {S K A B F : Type 0} (keeps : Keeps) (tells : Tells S K A B F) (net : Net S K A B F) (p q : ℕ) (Stands : List (Entry Loaded) → Type 0) → p ≡ q
-    → (m : law.MayStep (the_law deck_jobs) (StandsWithin keeps tells net) p) → Stands (m.at.state.histories q) → MayStep (process deck_jobs q) Stands net.shared p
+    → (m : law.MayStep (the_law deck_jobs) (StandsWithin keeps tells net) p) → Stands (m.at.state.histories q)
+        → MayStep (process deck_jobs q) Stands net.shared p
 may-step keeps tells net p q Stands e m stands = record {
   history = m.at.state.histories q;
   action = m.may.action;

@@ -209,7 +209,8 @@ module _ {S K A B F : Type 0} (tells : Tells S K A B F) (old : Shared S K A B F)
 
 module _ {S K A B F : Type 0} (tells : Tells S K A B F) (old : Shared S K A B F) (p : ℕ) where
   -- ---- at the desk
-  pub at-request : (new : Claims) (result : Option (Reply Loaded)) → Asked old.desk new p result → Performs tells old (record old { desk = new }) p act.Request result
+  pub at-request : (new : Claims) (result : Option (Reply Loaded)) → Asked old.desk new p result → Performs tells old
+      (record old { desk = new }) p act.Request result
   at-request new result a = record {
     suits = a.suits;
     gained = [];
@@ -230,7 +231,8 @@ module _ {S K A B F : Type 0} (tells : Tells S K A B F) (old : Shared S K A B F)
     };
   }
 
-  pub at-release : (new : Claims) (result : Reply Loaded) → Given old.desk new result → Performs tells old (record old { desk = new }) p act.Release (Some result)
+  pub at-release : (new : Claims) (result : Reply Loaded) → Given old.desk new result → Performs tells old (record old { desk = new }) p act.Release
+      (Some result)
   at-release new result a = record {
     suits = a.suits;
     gained = [];
@@ -252,7 +254,8 @@ module _ {S K A B F : Type 0} (tells : Tells S K A B F) (old : Shared S K A B F)
   }
 
   -- ---- at a device
-  card-fits : (r : Reply Loaded) → Rattle.batch_procs.specs.Fits.Fits deck_jobs act.ReadCard r → went (entry_of act.ReadCard (Some r)) ≡ Rattle.network_law.specs.Acts.Done
+  card-fits : (r : Reply Loaded) → Rattle.batch_procs.specs.Fits.Fits deck_jobs act.ReadCard r → went (entry_of act.ReadCard (Some r))
+      ≡ Rattle.network_law.specs.Acts.Done
   card-fits (reply.Card answer) fits = refl
   card-fits r fits = absurd fits
 

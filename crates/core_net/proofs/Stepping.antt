@@ -23,7 +23,8 @@ use Rattle.disk_system.specs.declared.loading.Loaded.{Loaded}
 use Rattle.deck_work.specs.DeckJobs.{deck_jobs, deck_are_jobs}
 
 module _ {S K A B F : Type 0} (tells : Tells S K A B F) (old new : Shared S K A B F) (p : ℕ) where
-  pub enters : (action : Action) (result : Option (Reply Loaded)) → Performs tells old new p action result → Enters tells old new p action (entry_of action result)
+  pub enters : (action : Action) (result : Option (Reply Loaded)) → Performs tells old new p action result → Enters tells old new p action
+      (entry_of action result)
   enters action result is = record {
     gained = is.gained;
     deck = is.deck;

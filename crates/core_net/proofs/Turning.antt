@@ -44,7 +44,8 @@ pub never-at-turn : (p : Process Loaded) (h : List (Entry Loaded)) (s : CoreStat
 never-at-turn p h s n ended at = (let none = ended-none deck_are_jobs p h ended in let some = at.next in cc)
 
 -- it has not, and so has a next action
-pub some-next : (p : Process Loaded) (h : List (Entry Loaded)) (t : Bool) → (IsTrue t ↔ HasEnded h) → t ≡ false → (action : Action) × (next_action p h ≡ Some action)
+pub some-next : (p : Process Loaded) (h : List (Entry Loaded)) (t : Bool) → (IsTrue t ↔ HasEnded h) → t ≡ false → (action : Action) ×
+    (next_action p h ≡ Some action)
 some-next p h t is not = some-of (next_action p h) refl
   where
     some-of : (next : Option Action) → next_action p h ≡ next → (action : Action) × (next_action p h ≡ Some action)
@@ -70,7 +71,8 @@ module _ {S K A B F : Type 0} (tells : Tells S K A B F) (shared : Shared S K A B
   pub has-place : (p : ℕ) → IsProcess p → (action : Action) → next_action (process deck_jobs p) (s.histories p) ≡ Some action → HasPlace s p action
   has-place p one action next = record {
     buffer = λ b side visit e.
-        call-buffer deck_are_jobs (the-five deck_are_jobs) p (s.histories p) one (follows-of deck_are_jobs (process deck_jobs) p (s.histories p) (centre.stands.follows p)) action b side visit next e;
+        call-buffer deck_are_jobs (the-five deck_are_jobs) p (s.histories p) one (follows-of deck_are_jobs (process deck_jobs) p (s.histories p)
+            (centre.stands.follows p)) action b side visit next e;
     asks = λ is may.
         may-request tells (first_state o) s centre.stands shared stands p one
         (subst (λ a. next_action (process deck_jobs p) (s.histories p) ≡ Some a) is next) may;
@@ -98,7 +100,8 @@ pub no-other : (p : ℕ) → IsProcess p → (p ≡ 1 → ⊥) → (p ≡ 2 → 
 no-other p one a b c d e = (let low = one.0 in let high = one.1 in omega (arith, a, b, c, d, e, low, high))
 
 -- ---- whether an event ends its process
-not-end : (p : Process Loaded) (h : List (Entry Loaded)) (a : Action) → newest h ≡ Some a → ((how : Outcome) → a ≡ act.Ended how → ⊥) → false ≡ is_none (next_action p h)
+not-end : (p : Process Loaded) (h : List (Entry Loaded)) (a : Action) → newest h ≡ Some a → ((how : Outcome) → a ≡ act.Ended how → ⊥)
+    → false ≡ is_none (next_action p h)
 not-end p h a e never = by (next_action p h) refl
   where
     same : (x y : Action) → newest h ≡ Some x → newest h ≡ Some y → x ≡ y

@@ -53,12 +53,14 @@ entry-smooth (Does a (reply.Loaded load)) h e = tt
 entry-smooth (Delays a) h e = tt
 
 -- ---- a run
-event-free : (s : CoreState Loaded) (event : CoreEvent Loaded) (p : ℕ) → caused ((happens (core deck_jobs (process deck_jobs)) s event).histories p) ≡ None → caused (s.histories p) ≡ None
+event-free : (s : CoreState Loaded) (event : CoreEvent Loaded) (p : ℕ) → caused ((happens (core deck_jobs (process deck_jobs)) s event).histories p) ≡ None
+    → caused (s.histories p) ≡ None
 event-free s event p =
     let h = s.histories event.process in
     set-related (λ old new. caused new ≡ None → caused old ≡ None) (λ h e. e) s.histories event.process (event.entry ∷ h) p (before-free event.entry h)
 
-run-free : (s : CoreState Loaded) (events : List (CoreEvent Loaded)) (p : ℕ) → caused ((run (the_law deck_jobs) s events).histories p) ≡ None → caused (s.histories p) ≡ None
+run-free : (s : CoreState Loaded) (events : List (CoreEvent Loaded)) (p : ℕ) → caused ((run (the_law deck_jobs) s events).histories p) ≡ None
+    → caused (s.histories p) ≡ None
 run-free s [] p e = e
 run-free s (event ∷ events) p e = event-free s event p (run-free (happens (core deck_jobs (process deck_jobs)) s event) events p e)
 
@@ -72,7 +74,8 @@ all-smooth s (event ∷ events) are free =
     let here : caused (event.entry ∷ h) ≡ None = subst (λ h. caused h ≡ None) (set-same s.histories p (event.entry ∷ h)) now in
     (entry-smooth event.entry h here, all-smooth (happens (core deck_jobs (process deck_jobs)) s event) events are.1 free)
 
-pub done-smooth : (opening s : CoreState Loaded) (events : List (CoreEvent Loaded)) → AreEnabled (the_law deck_jobs) s events → Centre deck_are_jobs opening (run (the_law deck_jobs) s events)
+pub done-smooth : (opening s : CoreState Loaded) (events : List (CoreEvent Loaded)) → AreEnabled (the_law deck_jobs) s events → Centre deck_are_jobs opening
+    (run (the_law deck_jobs) s events)
     → AllDone (run (the_law deck_jobs) s events) → AllByRecursion (λ event. IsSmooth event.entry) events
 done-smooth opening s events are c done =
     all-smooth s events are (λ p one. (let h = (run (the_law deck_jobs) s events).histories p in

@@ -29,7 +29,8 @@ use Rattle.schedule_law.proofs.AllSmooth.{done-smooth}
 use Rattle.disk_system.specs.declared.loading.Loaded.{Loaded}
 use Rattle.deck_work.specs.DeckJobs.{deck_jobs, deck_are_jobs}
 
-module _ {rule : Rule} {counts : Counts} {outcomes : Outcomes} {stops : List (Option Side)} {devices : Devices Loaded} (o : Opening deck_jobs) (s : CoreState Loaded)
+module _ {rule : Rule} {counts : Counts} {outcomes : Outcomes} {stops : List (Option Side)} {devices : Devices Loaded} (o : Opening deck_jobs)
+    (s : CoreState Loaded)
     (reached : IsReached o s) (told : TellsAll o) (ran : RunsToEnd rule s counts outcomes stops devices) where
   abbrev end : CoreState Loaded
   end = run (the_law deck_jobs) s ran.events
