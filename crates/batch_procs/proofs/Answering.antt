@@ -18,7 +18,7 @@ use Rattle.batch_procs.specs.Causes.{given_cause}
 use Rattle.batch_procs.specs.Fits.{Fits, MayLack}
 use Rattle.batch_procs.specs.Process.{Process, unworked, next_action, Follows}
 use Rattle.batch_procs.specs.Laws.{IsTake, IsRelay}
-use Rattle.batch_procs.specs.Work.{cause_of, HandsOver, MayTake, Takes}
+use Rattle.batch_procs.specs.Work.{cause_of, IsHanded, MayTake, Takes}
 use Rattle.batch_procs.specs.Machine.{Uses, Answers}
 use Rattle.batch_procs.proofs.Relay.{IsPut, put-of}
 use Rattle.batch_procs.proofs.Nexts.{next-take, next-putting, put-unworked, next-local, next-load}
@@ -128,7 +128,7 @@ module _ {L : Type 0} (J : Jobs L) where
   nothing-due true st all e none = absurd cc
   nothing-due false st all e none = none
 
-  hands-over : (a : Action) (r : Reply L) → IsTake a → Fits J a r → IsTaken r → HandsOver a r
+  hands-over : (a : Action) (r : Reply L) → IsTake a → Fits J a r → IsTaken r → IsHanded a r
   hands-over act.ReadCard (reply.Card answer) take fits is = tt
   hands-over act.ReadCard other take fits is = absurd fits
   hands-over act.TakeFeed (reply.Feed f) take fits is = tt
@@ -158,7 +158,7 @@ module _ {L : Type 0} (J : Jobs L) where
         let may : MayTake p (taken h) (sent h) r = record {
           nothing_due = nothing-due (unworked p h) (sent h) (p.sends (taken h)) taking.worked taking.nothing;
           goes_on = taking.goes_on;
-          hands_over = subst (λ a. HandsOver a r) (sym taking.same) (hands-over a r take fits is);
+          is_handed = subst (λ a. IsHanded a r) (sym taking.same) (hands-over a r take fits is);
         } in
         if-ok result (λ cause. Takes p (keeps new) (taken h) (sent h) r cause) (λ cause. Uses p (keeps new) a r cause h)
         (λ cause (same, on). record {

@@ -18,17 +18,17 @@ cause_of (reply.Page page last) taken = damage (page_read (length (pages taken) 
 cause_of other taken = None
 
 -- a reply that hands over what is taken
-abbrev pub HandsOver : {L : Type 0} → Action → Reply L → Type 0
-HandsOver act.ReadCard (reply.Card answer) = Unit {0}
-HandsOver act.TakeFeed (reply.Feed f) = Unit {0}
-HandsOver act.TakePage (reply.Page page last) = Unit {0}
-HandsOver action other = ⊥
+abbrev pub IsHanded : {L : Type 0} → Action → Reply L → Type 0
+IsHanded act.ReadCard (reply.Card answer) = Unit {0}
+IsHanded act.TakeFeed (reply.Feed f) = Unit {0}
+IsHanded act.TakePage (reply.Page page last) = Unit {0}
+IsHanded action other = ⊥
 
 -- where all that is due is put, no work is to be done and the last wasn't taken
 pub record MayTake {L : Type 0} (p : Process L) (taken sent : List (Parcel L)) (r : Reply L) : Type 0 where
   pub nothing_due : drop (length sent) (p.sends taken) ≡ []
   pub goes_on : is_ended taken ≡ false
-  pub hands_over : HandsOver p.takes r
+  pub is_handed : IsHanded p.takes r
 
 -- a take gives its cause, and without one the work keeps what was taken
 abbrev pub Takes : {L : Type 0} → Process L → (List (Parcel L) → List (Parcel L) → Bool → Type 0)

@@ -69,6 +69,7 @@ impl<J: JobWork> Work<J> for OutputWork {
         self.due = next_feed(&mut self.items, &mut self.ending);
     }
 
+    // The clauses of `Work`, which the prover does not yet give this method by itself.
     #[inline(always)]
     fn take(&mut self, reply: Reply<J::Load>) -> Result<Option<Outcome>, NoMemory>
         ensures ok { (taken sent : List (Parcel J.Load)) → output_keeps self.old taken sent false

@@ -58,6 +58,7 @@ impl<J: JobWork> Work<J> for PrinterWork {
         self.due = None;
     }
 
+    // The clauses of `Work`, which the prover does not yet give this method by itself.
     #[inline(always)]
     fn take(&mut self, reply: Reply<J::Load>) -> Result<Option<Outcome>, NoMemory>
         ensures ok { (taken sent : List (Parcel J.Load)) → printer_keeps self.old taken sent false
