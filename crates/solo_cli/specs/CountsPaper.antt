@@ -18,8 +18,8 @@ use Rattle.deck_work.specs.DeckJobs.{deck_jobs}
 -- Of a run by the rule from this state the paper gains these lines and behind them the line of its counts, or
 -- a prefix of that; all of it where this holds. Then all five processes are done, and the counts are those of
 -- the one run by the rule in which no device fails and no memory is refused.
-pub record GainsCounted (rule : Rule) (s : CoreState Loaded) (before now : Option (List ℕ)) (lines : List (List ℕ))
-    (all : Type 0) : Type 0 where
+pub record GainsCounted (rule : Rule) (s : CoreState Loaded) (before now : Option (List ℕ))
+    (lines : List (List ℕ)) (all : Type 0) : Type 0 where
   pub counts : Counts
   pub outcomes : Outcomes
   pub stops : List (Option Side)
