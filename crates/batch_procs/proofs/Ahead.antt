@@ -15,11 +15,10 @@ use Rattle.batch_procs.specs.Parcels.{Parcel, OfFeed, OfPage, OfLine, OfLoad, lo
 use Rattle.batch_procs.specs.History.{Entry, Does, LacksMemory, Delays, taken_by, taken, put_by, sent, holds, holds_after, has_stopped, newest}
 use Rattle.batch_procs.specs.Causes.{given_cause, or_new, caused}
 use Rattle.batch_procs.specs.Fits.{Fits, MayLack}
-use Rattle.batch_procs.specs.Process.{Process, unworked, due, aim, aimed, puts, working, stops_next, closes, closing, next_by, next_action, Follows}
+use Rattle.batch_procs.specs.Process.{Process, unworked, due, aim, working, stops_next, closes, closing, next_by, next_action, Follows}
 use Rattle.batch_procs.specs.Laws.{IsTake, IsOpen, IsRelay}
 use Rattle.batch_procs.specs.Machine.{step_of, step_after}
 use Rattle.batch_procs.specs.Ahead.{AreLoadsGood, GivesAtMost, moves_ahead, one_if, unstopped, ahead_by, ahead_at, ahead, AheadFalls}
-use Rattle.batch_procs.specs.Parts.{some-same}
 use Rattle.batch_procs.proofs.Relay.{closing-next, open-next, sent-is-part}
 use Rattle.batch_procs.proofs.Closing.{works-next, working-no_stop, aimed-no_stop}
 use Rattle.batch_procs.proofs.Held.{IsFree, aim-is}

@@ -15,7 +15,7 @@ use Rattle.solo_base.specs.Prefixes.{IsPrefixOf}
 use Rattle.batch_procs.specs.Jobs.{Jobs, AreJobs}
 use Rattle.batch_procs.specs.Parcels.{Parcel, OfFeed, OfPage, OfLine, OfLoad, loads, mark, IsMarked, NothingBehind}
 use Rattle.batch_procs.specs.Process.{Process}
-use Rattle.batch_procs.specs.Sends.{feeds, as_parcels, as_lines, marked, has_end, items, stream, packed, items_then, behind, unpacked_by, unpacked, until_end, lines_of, lines_stream, job_lines, job_sends, job_wants, output_lines}
+use Rattle.batch_procs.specs.Sends.{feeds, as_parcels, as_lines, marked, has_end, items, stream, packed, items_then, behind, unpacked_by, unpacked, until_end, lines_of, job_lines, job_sends, job_wants, output_lines}
 use Rattle.batch_procs.specs.Table.{no_wants, card, input, job, output, printer, nobody, process}
 use Rattle.batch_procs.specs.Laws.{IsRelay}
 use Rattle.batch_procs.specs.Parts.{IsMonotone, behind-both, part-same, part-cons, part-front}

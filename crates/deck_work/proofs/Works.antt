@@ -1,12 +1,11 @@
 -- What the work on a deck's jobs keeps at each of its steps.
-use Rattle.std.proofs.Common.{◌≡◌, ℕ, zero, suc, ◌+◌, Bool, true, false, not, List, [], ◌∷◌, ◌++◌, length, length-append, drop, Option, None, Some, refl, sym, ◌∙◌, ap, subst, append_assoc, arith}
+use Rattle.std.proofs.Common.{◌≡◌, ℕ, ◌+◌, Bool, true, false, not, List, [], ◌∷◌, ◌++◌, length, length-append, drop, Option, None, Some, refl, sym, ◌∙◌, ap, append_assoc}
 use Rattle.std.specs.Prelude.{Result, Ok, Err, IfOk, OnOk}
 use Rattle.std.proofs.lemmas.List.{append-nil}
 use Rattle.solo_base.specs.declared.no_memory.NoMemory.{NoMemory}
 use Rattle.solo_base.specs.declared.item.Item.{Item}
 use Rattle.solo_base.specs.declared.page.Page.{Page}
 use Rattle.page_codec.specs.Packing.{PageInHand}
-use Rattle.page_codec.specs.Pushes.{hand_behind, PushesUpTo}
 use Rattle.page_codec.specs.Reading.{PageContent}
 use Rattle.disk_system.specs.declared.loading.Loaded.{Loaded}
 use Rattle.batch_job.specs.Loads.{files_named, first_of as first_named}
@@ -16,7 +15,7 @@ use Rattle.batch_job.specs.declared.lines_ahead.End.TheVariants as end
 use Rattle.batch_job.specs.JobStream.{Stream, Account, StandsBy, StandsFor, IsSpent, Packs as StreamPacks, ahead, new_stream, fed, with_load, end_of, goes_on}
 use Rattle.batch_job.proofs.NamedFiles.{files_go_on}
 use Rattle.batch_procs.specs.Parts.{drop-part}
-use Rattle.batch_procs.specs.JobTold.{JobTold, nothing_told, with_page, with_found, with_lines, rests_behind, wanted, first_of, PushesLines}
+use Rattle.batch_procs.specs.JobTold.{JobTold, nothing_told, with_page, with_found, rests_behind, wanted, first_of, PushesLines}
 use Rattle.deck_work.specs.DeckJobs.{deck_jobs}
 use Rattle.deck_work.specs.KeepsDeck.{KeepsDeck}
 

@@ -1,5 +1,5 @@
 -- The jobs of a deck, as the network knows them.
-use Rattle.std.proofs.Common.{lit<, lit≤, ◌≡◌, ◌⊎◌, ℕ, List, [], Option, None, Some, sym, ap, ◌∙◌, refl, subst}
+use Rattle.std.proofs.Common.{lit<, lit≤, ◌≡◌, ◌⊎◌, ℕ, List, [], Option, None, Some, refl, subst}
 use Rattle.std.specs.Option.{option_map}
 use Rattle.solo_base.specs.declared.item.Item.{Item}
 use Rattle.disk_layout.specs.Files.{files as file_map}

@@ -1,5 +1,4 @@
 use Rattle.std.proofs.Common.{false, [], None, sym, subst}
-use Rattle.page_codec.specs.Packing.{first_page}
 use Rattle.page_codec.specs.Stream.{at_the_first}
 use Rattle.batch_procs.specs.KeepsJob.{KeepsJob}
 use Rattle.batch_procs.proofs.JobSteps.{job-begins}
