@@ -10,6 +10,7 @@ ghost use Rattle.core_law.specs.TheLaw.{the_law};
 ghost use Rattle.core_net.specs.Causes.{counting};
 ghost use Rattle.core_net.specs.Ended.{all_done};
 ghost use Rattle.core_net.specs.Faults.{devices_left};
+ghost use Rattle.core_net.specs.WholeRuns.{RunsToEnd};
 ghost use Rattle.core_net.specs.Openings.{spools_over};
 ghost use Rattle.schedule_law.specs.NoneCounted.{NoneCounted, NoneLacked};
 ghost use Rattle.deck_work.specs.DeckJobs.{files_found, deck_jobs};
@@ -37,6 +38,22 @@ pub fn run_schedule<S: Source, K: Sink, A: Area, B: Area, F: Area>(
     requires output { (0 < B.size output) × (B.size output ≤ 256) }
     requires sound { files.sound ≡ true }
 
+    // However it ended, what is counted is a run of this schedule from the opening over these devices, which
+    // ended with these outcomes and left the deck and the paper so.
+    ensures runs { RunsToEnd (rule.Numbered number)
+        (opened
+        (spools_over (A.size input) (A.pages input) (B.size output) (B.pages output))
+        (items_ahead (S.left source) [])
+        (K.given sink)
+        (files_found (F.pages files.area)))
+        result.1 result.0.outcomes result.0.stopped_by
+        record {
+          deck = items_ahead (S.left result.0.deck.source) result.0.deck.pending;
+          paper = K.given result.0.paper.sink;
+          files = files_found (F.pages result.0.files.area);
+        } }
+
+    // Over told devices it is the one run of the schedule, where no device failed and no memory was refused.
     // That none did is seen from the outcomes,
     ensures done { (items : List Item) → items_ahead (S.left source) [] ≡ Some items →
         AreFilesKnown deck_jobs (files_found (F.pages files.area)) items →

@@ -1,4 +1,6 @@
+use Rattle.network_run.specs.declared.rules.Rule.TheVariants as rule
 use Rattle.core_net.specs.Net.{first_place}
+use Rattle.core_net.proofs.WholeRuns.{runs-to-end}
 use Rattle.schedule_law.proofs.TheCounts.{to-end, where-done, where-none_counted}
 use Rattle.schedule_law.proofs.schedule.run_schedule.Goals as goal
 
@@ -9,6 +11,13 @@ pub finish-requires : goal.finish-requires
 finish-requires g c =
     let run = c.run_numbered-counts.ensures in
     record { ended = record { at = run.after; all = run.ended run.after } }
+
+pub returns-clause-runs : goal.returns-clause-runs
+returns-clause-runs g c =
+    runs-to-end _ _ (rule.Numbered c.args.number) c.run_numbered-counts.new.self _ c.run_numbered-counts.result
+    (c.run_numbered-counts.ensures.runs (first_place c.make-net.ensures.opens)) c.finish.result.outcomes c.finish.result.stopped_by
+    c.finish.ensures.ends c.finish.result.deck c.finish.result.paper c.finish.result.files
+    c.finish.ensures.units.0 c.finish.ensures.units.1 c.finish.ensures.files
 
 pub returns-clause-done : goal.returns-clause-done
 returns-clause-done g c = λ items is known told.
