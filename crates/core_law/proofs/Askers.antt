@@ -146,12 +146,12 @@ module _ {L : Type 0} {J : Jobs L} (jobs : AreJobs J) where
   pub feed-takes : (p : ℕ) → IsProcess p → (process J p).takes ≡ act.TakeFeed → (p ≡ 2) ⊎ (p ≡ 5)
   feed-takes p one =
       by-five (λ p. (process J p).takes ≡ act.TakeFeed → (p ≡ 2) ⊎ (p ≡ 5)) p one (λ e. absurd cc) (λ e. inl refl) (λ e. absurd cc) (λ e. absurd cc)
-          (λ e. inr refl)
+      (λ e. inr refl)
 
   pub page-takes : (p : ℕ) → IsProcess p → (process J p).takes ≡ act.TakePage → (p ≡ 3) ⊎ (p ≡ 4)
   page-takes p one =
       by-five (λ p. (process J p).takes ≡ act.TakePage → (p ≡ 3) ⊎ (p ≡ 4)) p one (λ e. absurd cc) (λ e. absurd cc) (λ e. inl refl) (λ e. inr refl)
-          (λ e. absurd cc)
+      (λ e. absurd cc)
 
   pub takes-feed : (p : ℕ) (h : List (Entry L)) → IsProcess p → next_action (process J p) h ≡ Some act.TakeFeed → (p ≡ 2) ⊎ (p ≡ 5)
   takes-feed p h one next = feed-takes p one (next-take jobs (process J p) h act.TakeFeed next tt).same
@@ -173,10 +173,10 @@ module _ {L : Type 0} {J : Jobs L} (jobs : AreJobs J) where
         | inl is ↦ is.1
         | inr not ↦ absurd (Rattle.core_law.proofs.Passed.prints-line jobs (process J p) h line ((the-five jobs).relays p) follows next
             ((the-five jobs).prints p (
-          one.0,
-          (let differ =
-              not.1 in let below = one.1 in omega (arith, differ, below)),
-        ) (taken h)))
+              one.0,
+              (let differ =
+                  not.1 in let below = one.1 in omega (arith, differ, below)),
+            ) (taken h)))
       ]
 
   -- ---- who loads files

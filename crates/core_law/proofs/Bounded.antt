@@ -94,7 +94,7 @@ module _ {L : Type 0} {J : Jobs L} (jobs : AreJobs J) where
   more-or-sleeps q p (Does a r) s now fits sleep =
       let wakes_few = wakes-does p a r fits in
       let rest : s ≤ now + wakes jobs (call p a) (went (Does a r)) = subst (λ d. Slept jobs d (wakes jobs (call p a) (went (Does a r))) s now)
-          (answered jobs (Does a r)
+      (answered jobs (Does a r)
       (λ b e. cc)) sleep in
       omega (arith, wakes_few, rest)
   more-or-sleeps q p (LacksMemory a r) s now fits sleep =
@@ -128,17 +128,17 @@ module _ {L : Type 0} {J : Jobs L} (jobs : AreJobs J) where
         ≡ all_made s + counts jobs entry
     made-at p one =
         each-process (λ p. all_made (happens (core J (process J)) s record { process = p; entry = entry; gained = gained })
-            ≡ all_made s + counts jobs entry) p one
+        ≡ all_made s + counts jobs entry) p one
         (sum-1 (counts jobs entry) (made jobs (s.histories 1)) (made jobs (s.histories 2)) (made jobs (s.histories 3)) (made jobs (s.histories 4))
-            (made jobs (s.histories 5)))
+        (made jobs (s.histories 5)))
         (sum-2 (counts jobs entry) (made jobs (s.histories 1)) (made jobs (s.histories 2)) (made jobs (s.histories 3)) (made jobs (s.histories 4))
-            (made jobs (s.histories 5)))
+        (made jobs (s.histories 5)))
         (sum-3 (counts jobs entry) (made jobs (s.histories 1)) (made jobs (s.histories 2)) (made jobs (s.histories 3)) (made jobs (s.histories 4))
-            (made jobs (s.histories 5)))
+        (made jobs (s.histories 5)))
         (sum-4 (counts jobs entry) (made jobs (s.histories 1)) (made jobs (s.histories 2)) (made jobs (s.histories 3)) (made jobs (s.histories 4))
-            (made jobs (s.histories 5)))
+        (made jobs (s.histories 5)))
         (sum-5 (counts jobs entry) (made jobs (s.histories 1)) (made jobs (s.histories 2)) (made jobs (s.histories 3)) (made jobs (s.histories 4))
-            (made jobs (s.histories 5)))
+        (made jobs (s.histories 5)))
 
   add-up : (n k m c s now all sl : ℕ) → k ≡ m + c → s + 1 ≤ c + now → n + k + now ≤ all + sl → suc n + m + s ≤ all + sl
   add-up n k m c s now all sl is more rest = omega (arith, is, more, rest)
@@ -292,7 +292,7 @@ module _ {L : Type 0} {J : Jobs L} (jobs : AreJobs J) where
         (let a = part-length _ _ loaded in let b = length-map (J.named items) found in let d = jobs.few_named items in omega (arith, a, b, d)) in
         let n1 = deck-length items in
         let n2 : length (card_sends (deck_parcels jobs items)) ≡ c + 1 = ap length (card-gives jobs items are) ∙ parcels-length J (whole items)
-            ∙ whole-length items in
+        ∙ whole-length items in
         let n3 = packed-length J first_page (whole items) in
         let n3_is = ap length (input-gives jobs items are) in
         let w = whole-length items in
@@ -316,29 +316,29 @@ module _ {L : Type 0} {J : Jobs L} (jobs : AreJobs J) where
         let p3_most = packed-seven first_page (whole (map Line lines)) in
         let p4 = part-sum false _ _ (put-of 4 _ (λ e. omega (arith, e)) fourth) in
         let p4_is : put_sum jobs false (output_sends (job_puts jobs all (input_sends (card_sends (deck_parcels jobs items))))) ≡ 2 * length
-            (whole (map Line lines))
+        (whole (map Line lines))
         = ap (put_sum jobs false) (output-gives jobs items are all enough) ∙ sum-feeds (whole (map Line lines)) in
         let p5 = part-sum false _ _ (put-of 5 _ (λ e. omega (arith, e)) fifth) in
         let p5_is : put_sum jobs false (output_of jobs all (deck_parcels jobs items)) ≡ length lines = ap (put_sum jobs false)
-            (output-is jobs items are all enough) ∙ sum-lines lines in
+        (output-is jobs items are all enough) ∙ sum-lines lines in
         let l = line-count in
         all-in-all c (length lines) (length (handed (taken (s.histories 1)))) (length (loads (taken (s.histories 1))))
-            (put_sum jobs false (sent (s.histories 1)))
+        (put_sum jobs false (sent (s.histories 1)))
         (length (handed (taken (s.histories 2)))) (length (loads (taken (s.histories 2)))) (put_sum jobs false (sent (s.histories 2)))
         (length (handed (taken (s.histories 3)))) (length (loads (taken (s.histories 3)))) (put_sum jobs true (sent (s.histories 3)))
         (length (handed (taken (s.histories 4)))) (length (loads (taken (s.histories 4)))) (put_sum jobs false (sent (s.histories 4)))
         (length (handed (taken (s.histories 5)))) (length (loads (taken (s.histories 5)))) (put_sum jobs false (sent (s.histories 5))) _ _ _ _ _
         (made-most jobs (process J 1) 2 ((the-five jobs).relays 1) (plain-slack (process J 1) ((the-five jobs).relays 1) (card-aims jobs) refl)
-            (s.histories 1) (follows 1))
+        (s.histories 1) (follows 1))
         (made-most jobs (process J 2) 8 ((the-five jobs).relays 2) (pages-slack (process J 2) refl) (s.histories 2) (follows 2))
         (made-most jobs (process J 3) 8 ((the-five jobs).relays 3) (pages-slack (process J 3) refl) (s.histories 3) (follows 3))
         (made-most jobs (process J 4) 8 ((the-five jobs).relays 4) (pages-slack (process J 4) refl) (s.histories 4) (follows 4))
         (made-most jobs (process J 5) 2 ((the-five jobs).relays 5) (plain-slack (process J 5) ((the-five jobs).relays 5) (printer-aims jobs) refl)
-            (s.histories 5) (follows 5))
+        (s.histories 5) (follows 5))
         (no-load 1 (λ e. omega (arith, e))) (no-load 2 (λ e. omega (arith, e))) few (no-load 4 (λ e. omega (arith, e))) (no-load 5 (λ e. omega (arith, e)))
         (omega (arith, t1, n1)) (omega (arith, p1, p1_is, w)) (omega (arith, t2, n2)) (omega (arith, p2, p2_is, p2_most, w)) (omega (arith, t3, n3, n3_is, w))
         (omega (arith, p3, p3_is, p3_most, l)) (omega (arith, t4, n4, n4_is, l)) (omega (arith, p4, p4_is, l)) (omega (arith, t5, n5))
-            (omega (arith, p5, p5_is))
+        (omega (arith, p5, p5_is))
 
   -- No list of events from an opening over told devices is longer.
   pub no-longer : (o : Opening J) (items : List Item) (found : FilesAs L) (events : List (CoreEvent L)) → AreTold o.spools → o.deck ≡ Some items

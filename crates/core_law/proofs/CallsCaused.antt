@@ -42,7 +42,7 @@ module _ {L : Type 0} {J : Jobs L} (jobs : AreJobs J) where
         → made jobs (entry ∷ h) + closing_left jobs p (entry ∷ h) ≤ 2 + spent jobs p (entry ∷ h) + slack
     given-by entry more held few spent_is =
         cause-sum (made jobs h) _ _ (spent jobs p h) (counts jobs entry) _ more _ slack (one_if (holds h)) (unstopped p.buffers (entry ∷ h))
-            (length p.buffers) was
+        (length p.buffers) was
         (subst (λ t. closing_left jobs p (entry ∷ h) ≤ 2 * one_if t + 2 * unstopped p.buffers (entry ∷ h) + 1) held
         (at-most (step_after (newest (entry ∷ h))) (2 * one_if (holds (entry ∷ h)) + 2 * unstopped p.buffers (entry ∷ h) + 1)))
         (unstopped-most J p.buffers (entry ∷ h)) has few spent_is
@@ -108,7 +108,7 @@ module _ {L : Type 0} {J : Jobs L} (jobs : AreJobs J) where
         few = omega arith;
         spent_is = page-cost _ _ _ _ cost
             (spent-more jobs p h act.TakePage (reply.Page page last) (take_cost p.takes + one_if p.works) []
-                (one-costs jobs p (OfPage page last ∷ []) refl refl) refl);
+            (one-costs jobs p (OfPage page last ∷ []) refl refl) refl);
       }
   causes p h act.TakePage other how follows given = absurd follows.1
   causes p h act.Release reply.Done how follows given = absurd cc
@@ -141,7 +141,7 @@ module _ {L : Type 0} {J : Jobs L} (jobs : AreJobs J) where
         few = omega arith;
         spent_is = lack-cost (taken_cost jobs p (taken h)) (put_sum jobs p.works (sent h)) _ _ _ cost
             (cost-append jobs p (taken h) (OfPage page last ∷ []) ∙ ap (λ n. taken_cost jobs p (taken h) + n)
-                (one-costs jobs p (OfPage page last ∷ []) refl refl));
+            (one-costs jobs p (OfPage page last ∷ []) refl refl));
       }
     where
       lack-cost : (t k c w m : ℕ) → c ≡ 6 → m ≡ t + (c + w) → m + k ≡ t + k + (6 + w)
@@ -224,7 +224,7 @@ module _ {L : Type 0} {J : Jobs L} (jobs : AreJobs J) where
     delay-within h a (Some how) was =
         let same = unstopped-same J p.buffers h (Delays a ∷ h) (λ b. refl) in
         zero-more (made jobs h) _ _
-            (subst (λ n. made jobs h + ahead_at (step_after (newest h)) (2 * one_if (holds h) + 2 * n + 1) ≤ 2 + spent jobs p h + slack) (sym same) was)
+        (subst (λ n. made jobs h + ahead_at (step_after (newest h)) (2 * one_if (holds h) + 2 * n + 1) ≤ 2 + spent jobs p h + slack) (sym same) was)
 
     done-within : (h : List (Entry L)) (a : Action) (r : Reply L) (old new : Option Outcome) → Follows J p (Does a r ∷ h) → caused h ≡ old
         → given_cause a r h ≡ new

@@ -173,13 +173,13 @@ module _ {L : Type 0} {J : Jobs L} (jobs : AreJobs J) where
 
     same-at : (p b : ℕ) (enabled : IsEnabled (core J (process J)) s (event_of p)) → IsBuffer b
         → (happens (core J (process J)) s (event_of p)).histories (suc b) ≡ s.histories (suc b) → (happens (core J (process J)) s (event_of p)).histories b
-            ≡ s.histories b
+        ≡ s.histories b
         → length ((happens (core J (process J)) s (event_of p)).buffers b).marks ≡ length (s.buffers b).marks
     same-at p b enabled is above own =
         let now = inside-next opening s (event_of p) st enabled b is in
         let before = inside opening s (event_of p) st enabled b is in
         same-inside _ _ _ _ before (ap (λ h. length (handed (taken h)) + length ((happens (core J (process J)) s (event_of p)).buffers b).marks) (sym above)
-            ∙ now
+        ∙ now
         ∙ ap (λ h. length (sent h)) own)
 
     more-at : (p : ℕ) (enabled : IsEnabled (core J (process J)) s (event_of p)) → IsBuffer p
@@ -191,7 +191,7 @@ module _ {L : Type 0} {J : Jobs L} (jobs : AreJobs J) where
         let before = inside opening s (event_of p) st enabled p is in
         more-inside _ _ _ _ _ puts before
         (ap (λ h. length (handed (taken h)) + length ((happens (core J (process J)) s (event_of p)).buffers p).marks) (sym above) ∙ now
-            ∙ ap (λ h. length (sent h)) own)
+        ∙ ap (λ h. length (sent h)) own)
         (sent-more (s.histories p) entry)
 
     less-at : (p b : ℕ) (enabled : IsEnabled (core J (process J)) s (event_of p)) → IsBuffer b → suc b ≡ p
@@ -203,7 +203,7 @@ module _ {L : Type 0} {J : Jobs L} (jobs : AreJobs J) where
         let before = inside opening s (event_of p) st enabled b is in
         less-inside _ _ _ _ _ takes before
         (ap (λ h. length (handed (taken h)) + length ((happens (core J (process J)) s (event_of p)).buffers b).marks) (sym above) ∙ now
-            ∙ ap (λ h. length (sent h)) own)
+        ∙ ap (λ h. length (sent h)) own)
         (taken-more (s.histories (suc b)) entry)
 
     deck-same : (p : ℕ) → IsEnabled (core J (process J)) s (event_of p) → ((process J p).takes ≡ act.ReadCard → ⊥)

@@ -238,7 +238,7 @@ module _ {L : Type 0} {J : Jobs L} (jobs : AreJobs J) where
   ends-law : (p : ℕ) → IsBuffer p → EndsLaw (process J p)
   ends-law p is =
       by-number jobs EndsLaw p (λ e. card-ends) (λ e. input-ends) (λ e. job-ends) (λ e. output-ends)
-          (λ e. (let below = is.1 in absurd (omega (arith, e, below))))
+      (λ e. (let below = is.1 in absurd (omega (arith, e, below))))
       (λ none. absurd (not-none p none is))
 
   -- The five of the table are a row.

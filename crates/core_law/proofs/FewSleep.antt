@@ -183,7 +183,7 @@ module _ {L : Type 0} {J : Jobs L} (jobs : AreJobs J) where
         let here : acts.holds (law.acts (core J (process J)) 5 (s.histories 5)) ≡ true
         = subst (λ q. acts.holds (law.acts (core J (process J)) q (s.histories q)) ≡ true) e on in
         let off = holds-are jobs (process J) 5 (s.histories 5) (follows 5) ∙ plain-holds (process J 5) ((the-five jobs).relays 5) printer-aims (s.histories 5)
-            (follows 5) in
+        (follows 5) in
         cc
 
     waits-four : (q : ℕ) → StandsAtDesk (core J (process J)) s q → (1 ≤ q) × (q ≤ 4)

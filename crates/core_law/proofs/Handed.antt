@@ -20,6 +20,6 @@ module _ {L : Type 0} {J : Jobs L} (jobs : AreJobs J) where
   stands-between {row} laws opening s st b is =
       let sent_is = passed-sent jobs laws b is (s.histories b) (follows-of jobs row b (s.histories b) (st.follows b)) in
       let taken_is = passed-taken jobs laws (suc b) (not-first b is.0) (s.histories (suc b)) (follows-of jobs row (suc b) (s.histories (suc b))
-          (st.follows (suc b))) in
+      (st.follows (suc b))) in
       subst (λ st. StandsFor is_last st (handed (taken (s.histories (suc b)))) (s.buffers b)) sent_is
       (subst (λ tk. StandsFor is_last (passed (core J row) s b Sender) tk (s.buffers b)) taken_is (st.buffers.hand_over b))

@@ -70,7 +70,7 @@ module _ {L : Type 0} {J : Jobs L} (jobs : AreJobs J) where
       → ReadsOf jobs items (option_map (drop 1) deck) (read ++ OfFeed (feed.Item item) ∷ [])
   reads-item items deck read item rest goes_on r first =
       let all = append_assoc read (OfFeed (feed.Item item) ∷ []) (deck_parcels jobs rest) ∙ ap (λ left. read ++ deck_parcels jobs left) (sym first)
-          ∙ r.parts goes_on in
+      ∙ r.parts goes_on in
       let not_yet : is_ended (read ++ OfFeed (feed.Item item) ∷ []) ≡ false = ended-more read (OfFeed (feed.Item item) ∷ []) ∙ rw goes_on refl in
       record {
         left = rest;

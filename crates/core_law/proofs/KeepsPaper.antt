@@ -81,11 +81,11 @@ module _ {L : Type 0} {J : Jobs L} (jobs : AreJobs J) where
         paper_is = rw none (none-gained given paper g.gained g.paper_is);
         printed = λ free. g.printed (caused-before entry h free)
             ∙ sym (ap (text_of jobs) (sent-more entry h) ∙ text-more jobs (sent h) (put entry) ∙ ap (λ more. text_of jobs (sent h) ++ more)
-                (entry-no_text jobs entry no_print)
+            (entry-no_text jobs entry no_print)
             ∙ append-nil (text_of jobs (sent h)));
         part = prefix-longer g.gained (text_of jobs (p.sends (taken h))) (text_of jobs (p.sends (taken (entry ∷ h)))) g.part
             (text-part jobs (p.sends (taken h)) (p.sends (taken (entry ∷ h))) (subst (λ all. IsPrefixOf (p.sends (taken h)) (p.sends all))
-                (sym (taken-more entry h))
+            (sym (taken-more entry h))
             (relay.monotone (taken h) (took entry))));
       }
 
@@ -105,7 +105,7 @@ module _ {L : Type 0} {J : Jobs L} (jobs : AreJobs J) where
         printed = λ free. now;
         part = subst (λ xs. IsPrefixOf xs (text_of jobs (p.sends (taken h ++ [])))) (sym now)
             (text-part jobs (sent h ++ OfLine line ∷ []) (p.sends (taken h ++ [])) (sent-is-part J p (Does (act.Print line) reply.Done ∷ h) relay
-                (next, tt, follows)));
+            (next, tt, follows)));
       }
 
   gained-part : (p : Process L) (line : List ℕ) (r : Reply L) (h : List (Entry L)) (given part : List ℕ) (paper : Option (List ℕ)) → IsRelay p → Follows J p h

@@ -54,7 +54,7 @@ module _ {L : Type 0} {J : Jobs L} (jobs : AreJobs J) where
 
   module _ (spools : Spools) (deck : Option (List Item)) (paper : Option (List ℕ)) (files : Option (FilesAs L)) (items : List Item) (are : AreTold spools)
       (deck_is : deck ≡ Some items) (cards : AreCards deck) (s : CoreState L) (c : Centre jobs (opened spools deck paper files) s) (event : CoreEvent L)
-          (is : IsEnabled
+      (is : IsEnabled
       (core J (process J)) s event) where
     abbrev opening : CoreState L
     opening = opened spools deck paper files

@@ -53,7 +53,7 @@ module _ {L : Type 0} {J : Jobs L} (jobs : AreJobs J) where
   never-stuck : (o : Opening J) (s : CoreState L) → IsReached o s → NoneGoes (the_law J) s → AllEnded (the_law J) s
   never-stuck o s reached none p one =
       ended-none (process J p) (s.histories p)
-          (ended-where jobs o s reached (λ event is smooth. none event.process is.one (goers.enabled-go (core J (process J)) s event is))
+      (ended-where jobs o s reached (λ event is smooth. none event.process is.one (goers.enabled-go (core J (process J)) s event is))
       p one)
 
   pub sound : IsSoundLaw (the_law J)
@@ -106,7 +106,7 @@ module _ {L : Type 0} {J : Jobs L} (jobs : AreJobs J) where
       let rest = few-events opening after now events (centre-run jobs opening s (event ∷ []) (are.0, tt) c)
       (ap (option_map (drop (length (read_off event.entry)))) is) are.1 in
       let less = work-lower jobs opening s event (length left) (length now) c.stands are.0
-          (leaves-fewer s.devices event.entry event.gained left are.0.allowed is) in
+      (leaves-fewer s.devices event.entry event.gained left are.0.allowed is) in
       omega (arith, rest, less)
 
   no-longer : (o : Opening J) (events : List (CoreEvent L)) → TellsAll o → AreEnabled (the_law J) (first_state o) events → length events ≤ first_work o

@@ -163,8 +163,11 @@ module _ {L : Type 0} {J : Jobs L} (jobs : AreJobs J) where
         ∙ gives-by laws p h one.0 (follows-of jobs row p h follows) calls.action calls.next calls.call;
     held = λ p h one follows holding.
         (let is = holder-next J (row p) h (laws.relays p) (follows-of jobs row p h follows) (sym (holds-are jobs row p h (follows-of jobs row p h follows))
-            ∙ holding) in
-        (call p is.action, prompt laws p h one.0
-            (follows-of jobs row p h follows) is.action is.held, record { action = is.action; next = is.is; call = refl }));
+        ∙ holding) in (
+          call p is.action,
+          prompt laws p h one.0
+              (follows-of jobs row p h follows) is.action is.held,
+          record { action = is.action; next = is.is; call = refl },
+        ));
     again = λ p h entry delayed next. (let (a, is) = delays-of jobs entry delayed in next-again (row p) entry a h is ∙ next);
   }

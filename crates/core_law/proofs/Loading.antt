@@ -219,7 +219,7 @@ module _ {L : Type 0} {J : Jobs L} (jobs : AreJobs J) where
   put-worked : (p : Process L) (h : List (Entry L)) (a : Action) → IsRelay p → next_action p h ≡ Some a → IsPut a → unworked p h ≡ false
   put-worked p h a relay next put =
       let is = aimed-put J p.takes (p.wants (taken h)) (due p h) (is_ended (taken h)) (unworked p h) a relay.takes
-          (next-put J p (caused h) h a next put).1 put in
+      (next-put J p (caused h) h a next put).1 put in
       due-worked p h is.first is.more is.due_is
 
   works-on : (works left : Bool) → works ≡ true → (works && left) ≡ false → left ≡ false
@@ -261,7 +261,7 @@ module _ {L : Type 0} {J : Jobs L} (jobs : AreJobs J) where
   worked-none p relay works opens [] follows none off = opens
   worked-none p relay works opens (Does a r ∷ h) follows none off =
       worked-by p relay works h follows.2 (worked-none p relay works opens h follows.2
-          (or-none (caused h) (given_cause a r h) none)) a r follows.0 follows.1 off
+      (or-none (caused h) (given_cause a r h) none)) a r follows.0 follows.1 off
   worked-none p relay works opens (LacksMemory a r ∷ h) follows none off = absurd (some-not_none (caused h) _ none)
   worked-none p relay works opens (Delays a ∷ h) follows none off = worked-none p relay works opens h follows.2 none off
 

@@ -208,7 +208,7 @@ module _ {L : Type 0} {J : Jobs L} (jobs : AreJobs J) where
   same-entry : (s : CoreState L) (p : ℕ) (found_as : FilesAs L) (items : List Item) (inside : List (Parcel L)) → s.devices.deck ≡ Some items
       → (s.buffers (upstream p)).inside ≡ Some inside
       → (x y : Entry L) (g h : List ℕ) → IsEnabled (core J (process J)) s (event_of p x g) → IsEnabled (core J (process J)) s (event_of p y h) → IsSmooth x
-          → IsSmooth y
+      → IsSmooth y
       → FindsSo jobs found_as x → FindsSo jobs found_as y → y ≡ x
   same-entry s p found_as items inside deck_is inside_is x y g h first second smooth too finds finds_too =
       let same = same-action (action_of y) (action_of x) (next_action (process J p) (s.histories p)) second.next first.next in
@@ -219,13 +219,13 @@ module _ {L : Type 0} {J : Jobs L} (jobs : AreJobs J) where
   pub one-event : (s : CoreState L) (found_as : FilesAs L) (items : List Item) (event other : CoreEvent L) → s.devices.deck ≡ Some items
       → (inside : List (Parcel L)) → (s.buffers (upstream event.process)).inside ≡ Some inside → IsEnabled (core J (process J)) s event
       → IsEnabled (core J (process J)) s other → IsSmooth event.entry → IsSmooth other.entry → FindsSo jobs found_as event.entry
-          → FindsSo jobs found_as other.entry
+      → FindsSo jobs found_as other.entry
       → other.process ≡ event.process → other ≡ event
   one-event s found_as items event other deck_is inside inside_is first second smooth too finds finds_too same =
       let p = event.process in
       let here = subst (λ q. IsEnabled (core J (process J)) s (event_of q other.entry other.gained)) same second in
       let entries = same-entry s p found_as items inside deck_is inside_is event.entry other.entry event.gained other.gained first here
-          smooth too finds finds_too
+      smooth too finds finds_too
       in
       let gains = same-gained (process J p) s.devices event.entry event.gained other.gained first.suits smooth first.allowed
       (subst (λ entry. Allows s.devices entry other.gained) entries second.allowed) in

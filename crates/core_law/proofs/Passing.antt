@@ -124,7 +124,7 @@ module _ {L : Type 0} {J : Jobs L} (jobs : AreJobs J) where
           let all = input_sends (card_sends (deck_parcels jobs items)) in
           let some : IsPrefixOf (names_in jobs (handed (taken (histories 3)))) (names_in jobs all) =
           subst (λ ps. IsPrefixOf (names_in jobs (handed (taken (histories 3)))) (names_in jobs ps)) e
-              (names-monotone jobs (handed (taken (histories 3))) more) in
+          (names-monotone jobs (handed (taken (histories 3))) more) in
           let same : names_in jobs (handed (taken (histories 3))) ≡ names_in jobs (taken (histories 3)) =
           ap (λ fs. J.named (Rattle.batch_procs.specs.Sends.items fs))
           (unpacked-same jobs (handed (taken (histories 3))) (taken (histories 3)) (handed-again jobs (taken (histories 3)))) in

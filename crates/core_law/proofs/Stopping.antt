@@ -166,7 +166,7 @@ module _ {L : Type 0} {J : Jobs L} (jobs : AreJobs J) where
         let q = fault.process in
         let (how, ended) = all q fault.one in
         let same : outcome.Fault fault.cause ≡ how = sym (ap outcome_by fault.is) ∙ ended-as jobs (row q) (histories q) how (laws.relays q)
-            (follows q) ended in (
+        (follows q) ended in (
           told,
           record {
             process = q;

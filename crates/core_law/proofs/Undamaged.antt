@@ -143,7 +143,7 @@ module _ {L : Type 0} {J : Jobs L} (jobs : AreJobs J) where
       absurd (not-none front rest (OfPage page last) (tail-same x (OfPage p true) (front ++ OfPage page last ∷ rest) [] e))
   undamaged-at (p ∷ next ∷ more) n all [] page last rest (items, left, parts, form, later) e =
       undamaged-here n page p last false items (head-same (OfPage page last) (OfPage p false) rest (as_stream jobs (next ∷ more)) e)
-          (read-back n false items p form)
+      (read-back n false items p form)
   undamaged-at (p ∷ next ∷ more) n all (x ∷ front) page last rest (items, left, parts, form, later) e =
       let at : n + 1 + length front ≡ n + length (x ∷ front) = omega arith in
       ap (λ m. damage (page_read (m % 2 ^ 16) last page)) (sym at)

@@ -54,7 +54,7 @@ module _ {L : Type 0} {J : Jobs L} (jobs : AreJobs J) where
       → LeavesFewer event.entry cards left → events_left J left (happens (core J (process J)) s event) < events_left J cards s
   work-lower opening s event cards left st enabled leaves =
       fall event.entry (calls_left J cards s) (calls_left J left (happens (core J (process J)) s event)) (sleepers s)
-          (sleepers (happens (core J (process J)) s event)) _
+      (sleepers (happens (core J (process J)) s event)) _
       (calls-fall jobs opening s st event cards left leaves enabled) (slept opening s event st enabled) (wakes-most jobs _ _) (few opening s event st enabled)
 
   -- and so of a reached one

@@ -315,7 +315,7 @@ module _ {S K A B F : Type 0} (keeps : Keeps) (tells : Tells S K A B F) (counts 
           → outcome_by (caused ((happens (core deck_jobs (process deck_jobs)) s event).histories 1)) ≡ outcome.Fault cause.DeckLimit
       longer few over =
           elim (reads-or-not made) as (λ _. outcome_by (caused ((happens (core deck_jobs (process deck_jobs)) s event).histories 1))
-              ≡ outcome.Fault cause.DeckLimit) [
+          ≡ outcome.Fault cause.DeckLimit) [
             | inl reads ↦ ap outcome_by (event-own s event 1 (outcome.Fault cause.DeckLimit) (reads-deck deck_are_jobs q (s.histories q) (next ∙ ap Some reads))
                 (limit-gives (process deck_jobs q) event.entry (s.histories q) enabled.suits (causes.limit_told reads over)
                 (open-next deck_jobs (process deck_jobs q) (s.histories q) act.ReadCard (next ∙ ap Some reads) tt)))
@@ -401,7 +401,7 @@ module _ {S K A B F : Type 0} (keeps : Keeps) (tells : Tells S K A B F) (counts 
       → (before : Peripherals S K A B F) → CausesAreCounted keeps tells counts before old → CausesAreCounted keeps tells counts before new
   event-counted old new o s event reached stood enabled stands causes before were =
       counted-each new before (happens (core deck_jobs (process deck_jobs)) s event) stands (counted old new o s event reached enabled causes before
-          (were s stood))
+      (were s stood))
 
   -- What was counted until all ended is what the run tells.
   pub ended-counted : (net : Net S K A B F) (outcomes : Outcomes) (now : Peripherals S K A B F) (s : CoreState Loaded) → NetStands keeps tells net s

@@ -65,7 +65,7 @@ cause-is (Some found) how e not = ap Some e
 
 module _ {X W : Type 0} (p : Process Loaded) (keeps : W → List (Parcel Loaded) → List (Parcel Loaded) → Bool → Type 0) (m : Machine X W) (how : Outcome)
     (is : (h : List (Entry Loaded)) → StandsFor deck_jobs p keeps m h → how ≡ outcome_by (caused h)) (h : List (Entry Loaded))
-        (st : StandsFor deck_jobs p keeps m h) where
+    (st : StandsFor deck_jobs p keeps m h) where
   ends-so : (before : List (Entry Loaded)) → IsRelay p → StandsFor deck_jobs p keeps m before → HasEnded before → newest h ≡ Some (act.Ended how)
   ends-so before relay stood ended =
       let at : step_after (newest h) ≡ step.Ended = sym st.step ∙ stood.step ∙ ap step_after ended.1 in
@@ -137,15 +137,15 @@ module _ {S K A B F : Type 0} (keeps : Keeps) (tells : Tells S K A B F) (net : N
   ended s st p one =
       each-process (λ p. HasEndedSo s (outcome_at outcomes p) p) p one
       (ends-so card keeps.card net.card outcomes.card card-is (s.histories 1) st.card (first.histories 1) (relays deck_are_jobs 1) stood.card
-          (the-end 1 (lit≤ tt, lit≤ tt)))
+      (the-end 1 (lit≤ tt, lit≤ tt)))
       (ends-so input keeps.input net.input outcomes.input input-is (s.histories 2) st.input (first.histories 2) (relays deck_are_jobs 2) stood.input
-          (the-end 2 (lit≤ tt, lit≤ tt)))
+      (the-end 2 (lit≤ tt, lit≤ tt)))
       (ends-so (job deck_jobs) keeps.job net.job outcomes.job job-is (s.histories 3) st.job (first.histories 3) (relays deck_are_jobs 3) stood.job
-          (the-end 3 (lit≤ tt, lit≤ tt)))
+      (the-end 3 (lit≤ tt, lit≤ tt)))
       (ends-so output keeps.output net.output outcomes.output output-is (s.histories 4) st.output (first.histories 4) (relays deck_are_jobs 4) stood.output
-          (the-end 4 (lit≤ tt, lit≤ tt)))
+      (the-end 4 (lit≤ tt, lit≤ tt)))
       (ends-so printer keeps.printer net.printer outcomes.printer printer-is (s.histories 5) st.printer (first.histories 5)
-          (relays deck_are_jobs 5) stood.printer
+      (relays deck_are_jobs 5) stood.printer
       (the-end 5 (lit≤ tt, lit≤ tt)))
 
   given : (s : CoreState Loaded) → NetStands keeps tells net s → (p : ℕ) (how : Outcome) → IsProcess p → outcome_at outcomes p ≡ how → IsNotDone (Some how)

@@ -1,4 +1,3 @@
-
 mod SpoolVisits
 mod DeviceVisits
 mod Performing

@@ -70,7 +70,7 @@ module _ {S K A B F : Type 0} (tells : Tells S K A B F) (opening s : CoreState L
       let seated = seated-by deck_are_jobs (the-five deck_are_jobs) p (s.histories p) one.0 follows a b side visit next e in
       mark-is deck_are_jobs (the-five deck_are_jobs) opening s st b side
       ∙ subst (λ q. stopped_it b (s.histories q) ≡ false) (sym seated) (unstopped-by deck_are_jobs (the-five deck_are_jobs) p
-          (s.histories p) one.0 follows a b side visit next e)
+      (s.histories p) one.0 follows a b side visit next e)
 
   at-turn : (a : Action) (b : ℕ) (side : Side) (visit : Visit) → MayCall s p (call p a) → call p a ≡ At b side visit → MayVisit (s.buffers b).sides side p visit
   at-turn a b side visit may e = subst (MayCall s p) e may
@@ -95,7 +95,7 @@ module _ {S K A B F : Type 0} (tells : Tells S K A B F) (opening s : CoreState L
   ready-at a b side next e =
       let seated = seated-by deck_are_jobs (the-five deck_are_jobs) p (s.histories p) one.0 follows a b side Moves next e in
       let found = (lawful deck_are_jobs (the-five deck_are_jobs)).found p (s.histories p) b side one
-          (st.follows p) record { action = a; next = next; call = e } in
+      (st.follows p) record { action = a; next = next; call = e } in
       st.buffers.ready b side (subst (λ q. found_ready b side (law.acts (core deck_jobs (process deck_jobs)) q (s.histories q)) ≡ true) (sym seated) found)
 
   moves-at : (a : Action) (b : ℕ) (side : Side) (sides : Sides) → next_action (process deck_jobs p) (s.histories p) ≡ Some a → MayCall s p (call p a)
@@ -192,16 +192,22 @@ module _ {S K A B F : Type 0} (tells : Tells S K A B F) (opening s : CoreState L
   takes-input : next_action (process deck_jobs p) (s.histories p) ≡ Some act.TakePage → MayCall s p (call p act.TakePage) → p ≡ 3 → TakesAt shared.input
   takes-input next may is =
       let e = ap (λ p. call p act.TakePage) is in
-      let m = moves-at act.TakePage 2 Receiver shared.input.sides next may e input-sides in
-      (m.0, some-marks shared.input.ring.marks (subst (λ (b : Buffer (Parcel Loaded)). 0 < length b.marks) ss.input.is
-          (ready-at act.TakePage 2 Receiver next e)), m.1)
+      let m = moves-at act.TakePage 2 Receiver shared.input.sides next may e input-sides in (
+        m.0,
+        some-marks shared.input.ring.marks (subst (λ (b : Buffer (Parcel Loaded)). 0 < length b.marks) ss.input.is
+            (ready-at act.TakePage 2 Receiver next e)),
+        m.1,
+      )
 
   takes-output : next_action (process deck_jobs p) (s.histories p) ≡ Some act.TakePage → MayCall s p (call p act.TakePage) → p ≡ 4 → TakesAt shared.output
   takes-output next may is =
       let e = ap (λ p. call p act.TakePage) is in
-      let m = moves-at act.TakePage 3 Receiver shared.output.sides next may e output-sides in
-      (m.0, some-marks shared.output.ring.marks (subst (λ (b : Buffer (Parcel Loaded)). 0 < length b.marks) ss.output.is
-          (ready-at act.TakePage 3 Receiver next e)), m.1)
+      let m = moves-at act.TakePage 3 Receiver shared.output.sides next may e output-sides in (
+        m.0,
+        some-marks shared.output.ring.marks (subst (λ (b : Buffer (Parcel Loaded)). 0 < length b.marks) ss.output.is
+            (ready-at act.TakePage 3 Receiver next e)),
+        m.1,
+      )
 
   may-take_page : next_action (process deck_jobs p) (s.histories p) ≡ Some act.TakePage → MayCall s p (call p act.TakePage) → MayPerform shared p act.TakePage
   may-take_page next may =
@@ -263,7 +269,7 @@ module _ {S K A B F : Type 0} (tells : Tells S K A B F) (opening s : CoreState L
       → IsSome s.desk.claims.holder × (s.desk.claims.handed ≡ None)
   may-release next may =
       let on = holds-are deck_are_jobs (process deck_jobs) p (s.histories p) follows ∙ release-holds deck_jobs (process deck_jobs p) (s.histories p)
-          ((the-five deck_are_jobs).relays p) follows next in
+      ((the-five deck_are_jobs).relays p) follows next in
       let held = st.desk.holds_alone p on in
       (rw held refl, may)
 
@@ -291,7 +297,7 @@ module _ {S K A B F : Type 0} (tells : Tells S K A B F) (opening s : CoreState L
   -- What is next at its turn may be performed.
   pub may-perform : (caused (s.histories 1) ≡ None → shared.deck.live ≡ true) → (caused (s.histories 5) ≡ None → shared.paper.live ≡ true)
       → (caused (s.histories 3) ≡ None → shared.files.sound ≡ true) → length s.desk.claims.waiting < 5 → (a : Action) → next_action (process deck_jobs p)
-          (s.histories p)
+      (s.histories p)
       ≡ Some a → MayCall s p (call p a) → MayPerform shared p a
   may-perform deck paper files room act.ReadCard next may = may-read deck next
   may-perform deck paper files room (act.PutFeed f) next may = may-put_feed f next may

@@ -171,7 +171,7 @@ module _ {S K A B F : Type 0} (keeps : Keeps) (tells : Tells S K A B F) (counts 
     paper-other not none =
         causes.paper_live (stands.paper_live none)
         (λ print. (let (line, is) = line-of action print in absurd
-            (not (prints-paper deck_are_jobs p (s.histories p) line step.one (follows p) (step.next ∙ ap Some is)))))
+        (not (prints-paper deck_are_jobs p (s.histories p) line step.one (follows p) (step.next ∙ ap Some is)))))
 
     pub files-own : p ≡ 3 → caused (entry ∷ s.histories p) ≡ None → new.files.sound ≡ true
     files-own is none =
@@ -182,7 +182,7 @@ module _ {S K A B F : Type 0} (keeps : Keeps) (tells : Tells S K A B F) (counts 
     files-other not none =
         causes.files_sound (stands.files_sound none)
         (λ load. (let (file, is) = file-of action load in absurd
-            (not (loads-files deck_are_jobs p (s.histories p) file step.one (follows p) (step.next ∙ ap Some is)))))
+        (not (loads-files deck_are_jobs p (s.histories p) file step.one (follows p) (step.next ∙ ap Some is)))))
 
   -- ---- by the machine
   card-stands : (m : Machine DeckWork CardWork) (new : Shared S K A B F) (action : Action) (entry : Entry Loaded) (gained : List ℕ)
@@ -324,7 +324,7 @@ module _ {S K A B F : Type 0} (keeps : Keeps) (tells : Tells S K A B F) (counts 
   step-of : (p : ℕ) (next : Net S K A B F) (Stands : List (Entry Loaded) → Type 0) (action : Action) (result : Stepped) → MayStepIn s p action
       → (st : Steps Stands tells counts net.shared next.shared p action (s.histories p) result) → IsFitting deck_jobs (process deck_jobs p) st.entry
       → ((gained : List ℕ) → SharedStands tells next.shared
-          (happens (core deck_jobs (process deck_jobs)) s record { process = p; entry = st.entry; gained = gained })
+      (happens (core deck_jobs (process deck_jobs)) s record { process = p; entry = st.entry; gained = gained })
       → NetStands keeps tells next (happens (core deck_jobs (process deck_jobs)) s record { process = p; entry = st.entry; gained = gained }))
       → GoesOn keeps tells counts net next s p result
   step-of p next Stands action result step st suits stand =
@@ -332,7 +332,7 @@ module _ {S K A B F : Type 0} (keeps : Keeps) (tells : Tells S K A B F) (counts 
       let event : CoreEvent Loaded = record { process = p; entry = st.entry; gained = is.gained } in
       let causes = subst (λ a. HasCauses counts net.shared next.shared p a (reply_of st.entry)) (sym st.action_is) st.causes in
       let left = work-falls deck_are_jobs o s event (cards_left tells.taken net.shared.deck)
-          (cards_left tells.taken next.shared.deck) reached is.enabled st.enters.deck in
+      (cards_left tells.taken next.shared.deck) reached is.enabled st.enters.deck in
       let most = stood.within in
       let now = stand is.gained is.after in
       let told = st.told s stands.shared (has-place tells net.shared o s reached stands.shared p step.one action step.next) in
@@ -400,7 +400,7 @@ in-step s p may = record { one = may.one; next = may.next; may = may.may }
 -- that a machine may step
 pub may-step : {S K A B F : Type 0} (keeps : Keeps) (tells : Tells S K A B F) (net : Net S K A B F) (p q : ℕ) (Stands : List (Entry Loaded) → Type 0) → p ≡ q
     → (m : law.MayStep (the_law deck_jobs) (StandsWithin keeps tells net) p) → Stands (m.at.state.histories q)
-        → MayStep (process deck_jobs q) Stands net.shared p
+    → MayStep (process deck_jobs q) Stands net.shared p
 may-step keeps tells net p q Stands e m stands = record {
   history = m.at.state.histories q;
   action = m.may.action;

@@ -72,7 +72,7 @@ module _ {S K A B F : Type 0} (tells : Tells S K A B F) (shared : Shared S K A B
   has-place p one action next = record {
     buffer = λ b side visit e.
         call-buffer deck_are_jobs (the-five deck_are_jobs) p (s.histories p) one (follows-of deck_are_jobs (process deck_jobs) p (s.histories p)
-            (centre.stands.follows p)) action b side visit next e;
+        (centre.stands.follows p)) action b side visit next e;
     asks = λ is may.
         may-request tells (first_state o) s centre.stands shared stands p one
         (subst (λ a. next_action (process deck_jobs p) (s.histories p) ≡ Some a) is next) may;

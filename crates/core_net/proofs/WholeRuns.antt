@@ -74,7 +74,7 @@ module _ {S K A B F : Type 0} (keeps : Keeps) (tells : Tells S K A B F) where
       let few = no-run_longer deck_are_jobs o s items found ran.events reached told deck_is are_found ran.enabled in
       let most = raised-few (length ran.events) in
       bounded counts.events (raised 0 (length ran.events)) (length ran.events) (longest_run deck_jobs found items)
-          (ap (λ (c : Counts). c.events) ran.counts_are) most few
+      (ap (λ (c : Counts). c.events) ran.counts_are) most few
     where
       bounded : (n m long most : ℕ) → n ≡ m → m ≤ long → long ≤ most → n ≤ most
       bounded n m long most a b c = omega (arith, a, b, c)

@@ -79,8 +79,8 @@ pub fn run_core<S: Source, K: Sink, A: Area, B: Area, F: Area>(
 
     // Over told spools no page was damaged, and over told devices there were no more events than the cards
     // and lines of the deck allow.
-    ensures undamaged {
-        AreTold (spools_over (A.size input) (A.pages input) (B.size output) (B.pages output)) →
+    ensures undamaged { AreTold
+        (spools_over (A.size input) (A.pages input) (B.size output) (B.pages output)) →
         NoneDamaged result.0.outcomes }
     ensures bound { (items : List Item) (found : Loads) →
         items_ahead (S.left source) [] ≡ Some items →

@@ -165,8 +165,11 @@ packs old new hand hand_then page is told keeps none =
         → (left : List (List ℕ)) × ((lines_so_far told.items told.loads told.ended ≡ (told.pushed ++ is.lines) ++ left) × (page ≡ None → left ≡ []))
     next-by None no_page stands ends = (
       [],
-      (ap (lines_so_far told.items told.loads) (sym ends) ∙ is.told no_page told.items told.loads told.pushed keeps.stands
-          ∙ sym (append-nil (told.pushed ++ is.lines)), λ e. refl),
+      (
+        ap (lines_so_far told.items told.loads) (sym ends) ∙ is.told no_page told.items told.loads told.pushed keeps.stands
+            ∙ sym (append-nil (told.pushed ++ is.lines)),
+        λ e. refl,
+      ),
     )
     next-by (Some found) is_page stands ends =
         let (rest, all) = some-left new told.items told.loads (told.pushed ++ is.lines) stands in

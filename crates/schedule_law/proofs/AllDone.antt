@@ -52,7 +52,7 @@ module _ (spools : Spools) (deck : Option (List Item)) (paper : Option (List ℕ
   whole : (p : ℕ) (x : Cause) → IsProcess p → outcome_at outcomes p ≡ outcome.Fault x → IsDamaged x → ⊥
   whole p x one e =
       undamaged deck_are_jobs opening s c.stands (hands-over deck_are_jobs opening s c.stands
-          (λ b at. told-is deck_are_jobs spools b (all-told deck_are_jobs spools are b at))) p x one
+      (λ b at. told-is deck_are_jobs spools b (all-told deck_are_jobs spools are b at))) p x one
       (subst (λ how. HasEndedSo s how p) e (ends.ended p one))
 
   ended-so : (p : ℕ) (x : Cause) → IsProcess p → outcome_at outcomes p ≡ outcome.Fault x → HasEndedSo s (outcome.Fault x) p
@@ -109,7 +109,7 @@ module _ (spools : Spools) (deck : Option (List Item)) (paper : Option (List ℕ
   none-stopped : (p : ℕ) → IsProcess p → HasEndedSo s outcome.Stopped p → ⊥
   none-stopped p one e =
       let (told, found) = (ends-together deck_are_jobs (the-five deck_are_jobs) opening s c.stands).stopped
-          (λ q is. (outcome_at outcomes q, ends.ended q is)) p one e in
+      (λ q is. (outcome_at outcomes q, ends.ended q is)) p one e in
       let (q, x, is, fault) = found in
       no-fault q is x (same-end (newest (s.histories q)) (outcome_at outcomes q) (outcome.Fault x) (ends.ended q is) fault)
 

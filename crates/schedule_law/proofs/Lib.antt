@@ -1,4 +1,3 @@
-
 mod AllSmooth
 mod AllDone
 pub mod TheCounts
