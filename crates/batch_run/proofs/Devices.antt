@@ -68,7 +68,7 @@ same-taken h entry took cards newest before = record {
       (took ∙ all.0 ∙ ap (λ cards. item_parcels cards ++ OfFeed feed.End ∷ []) (sym cards), newest ∙ all.1));
 }
 
-one-item : (h : List (Entry Loaded)) (answer : CardRead) (item : Item) → card_taken answer ≡ OfFeed (feed.Item item) ∷ [] → item_of answer ≡ item ∷ []
+one-item : (h : List (Entry Loaded)) (answer : CardRead) (item : Item) → card_taken {L = Loaded} answer ≡ OfFeed (feed.Item item) ∷ [] → item_of answer ≡ item ∷ []
     → is_ended (taken h) ≡ false → CardsTaken h → CardsTaken (Does act.ReadCard (reply.Card answer) ∷ h)
 one-item h answer item took gave goes_on before =
     let now : taken h ++ card_taken answer ≡ item_parcels (cards_read h ++ item_of answer) =

@@ -37,7 +37,7 @@ flat-then : {C X : Type 0} (f : C → List X) (calls more : List C) → flat_map
 flat-then f calls [] = sym (append-nil (flat_map f calls))
 flat-then f calls (call ∷ more) = flat_map-append f calls (call ∷ more)
 
-as_parcels-append : (some more : List Feed) → as_parcels (some ++ more) ≡ as_parcels some ++ as_parcels more
+as_parcels-append : (some more : List Feed) → as_parcels {L = Loaded} (some ++ more) ≡ as_parcels some ++ as_parcels more
 as_parcels-append [] more = refl
 as_parcels-append (f ∷ some) more = ap (λ rest. OfFeed f ∷ rest) (as_parcels-append some more)
 
@@ -63,11 +63,11 @@ TakesPages act.TakeFeed = ⊥
 TakesPages other = Unit {0}
 
 -- ---- a line buffer
-line-stop-puts : (side : Side) (t : Bool) → as_parcels (line.sent_of {T = Feed} (if t then slot.Stop side ∷ [] else [])) ≡ []
+line-stop-puts : (side : Side) (t : Bool) → as_parcels {L = Loaded} (line.sent_of {T = Feed} (if t then slot.Stop side ∷ [] else [])) ≡ []
 line-stop-puts side true = refl
 line-stop-puts side false = refl
 
-line-stop-takes : (side : Side) (t : Bool) → as_parcels (line.taken_of {T = Feed} (if t then slot.Stop side ∷ [] else [])) ≡ []
+line-stop-takes : (side : Side) (t : Bool) → as_parcels {L = Loaded} (line.taken_of {T = Feed} (if t then slot.Stop side ∷ [] else [])) ≡ []
 line-stop-takes side true = refl
 line-stop-takes side false = refl
 

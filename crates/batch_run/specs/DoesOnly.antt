@@ -138,12 +138,12 @@ module _ {p : Process Loaded} {Is : Action → Type 0} (relay : IsRelay p) (all 
 
 -- ---- what each puts
 feeds-put : (Is : Action → Type 0) → ((f : Feed) → Is (act.PutFeed f)) → (all : List Feed)
-    → AllByRecursion (λ parcel. Is (puts parcel) × Is (begins (puts parcel))) (as_parcels all)
+    → AllByRecursion (λ parcel. Is (puts parcel) × Is (begins (puts parcel))) (as_parcels {L = Loaded} all)
 feeds-put Is is [] = tt
 feeds-put Is is (f ∷ rest) = ((is f, is f), feeds-put Is is rest)
 
 lines-put : (Is : Action → Type 0) → ((line : List ℕ) → Is (act.Print line)) → (all : List (List ℕ))
-    → AllByRecursion (λ parcel. Is (puts parcel) × Is (begins (puts parcel))) (as_lines all)
+    → AllByRecursion (λ parcel. Is (puts parcel) × Is (begins (puts parcel))) (as_lines {L = Loaded} all)
 lines-put Is is [] = tt
 lines-put Is is (line ∷ rest) = ((is line, is line), lines-put Is is rest)
 
@@ -154,7 +154,7 @@ given-put Is is room None rest are = are
 given-put Is is room (Some page) rest are = ((is page, room), are)
 
 pages-put : (Is : Action → Type 0) → ((page : Page) → Is (act.PutPage page)) → Is act.AwaitRoom → (hand : PageInHand) (all : List Feed)
-    → AllByRecursion (λ parcel. Is (puts parcel) × Is (begins (puts parcel))) (packed hand all)
+    → AllByRecursion (λ parcel. Is (puts parcel) × Is (begins (puts parcel))) (packed {L = Loaded} hand all)
 pages-put Is is room hand [] = tt
 pages-put Is is room hand (feed.Item item ∷ rest) = given-put Is is room (page_given hand item) _ (pages-put Is is room (hand_after hand item) rest)
 pages-put Is is room hand (feed.End ∷ rest) = ((is _, room), tt)
