@@ -12,7 +12,8 @@ use Rattle.disk_system.specs.declared.loading.Loaded.{Loaded}
 use Rattle.batch_job.specs.Loads.{Loading, first_of, files_named}
 use Rattle.batch_job.specs.LinesSoFar.{lines_so_far}
 use Rattle.batch_job.specs.LinesAhead.{Where, Outside, lines_ahead}
-use Rattle.batch_job.specs.JobStream.{new_stream, stream_of, fed, with_load, AreWanted, end_of, made_of, IsTold, Stream, Account, IsAccount, Passes, StandsBy, StandsFor, Gives, IsSpent, ahead, goes_on, pages_given, hand_behind, IsGivenLast, Packs, Pushing, Rests, Resting, StandsStill}
+use Rattle.page_codec.specs.Pushes.{pages_given, hand_behind, IsGivenLast}
+use Rattle.batch_job.specs.JobStream.{new_stream, stream_of, fed, with_load, AreWanted, end_of, made_of, IsTold, Stream, Account, IsAccount, Passes, StandsBy, StandsFor, Gives, IsSpent, ahead, goes_on, Packs, Pushing, Rests, Resting, StandsStill}
 use Rattle.batch_job.specs.declared.lines_ahead.End.{End}
 use Rattle.batch_job.specs.declared.lines_ahead.LinesAhead.{LinesAhead}
 use Rattle.batch_job.specs.declared.lines_ahead.End.TheVariants as end

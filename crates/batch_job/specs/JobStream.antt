@@ -1,10 +1,10 @@
 -- A stream of items whose lines are made as they come.
-use Rattle.std.specs.Prelude.{◌≡◌, ℕ, ◌+◌, Bool, true, false, not, List, [], ◌∷◌, ◌++◌, length, drop, Option, Some, None, option_to_list}
+use Rattle.std.specs.Prelude.{◌≡◌, ℕ, ◌+◌, Bool, true, false, not, List, [], ◌∷◌, ◌++◌, length, drop, Option, Some, None}
 use Rattle.solo_base.specs.declared.item.Item.{Item}
-use Rattle.solo_base.specs.declared.item.Item.TheVariants.{Line}
 use Rattle.solo_base.specs.declared.page.Page.{Page}
-use Rattle.page_codec.specs.Reading.{PageContent}
-use Rattle.page_codec.specs.Packing.{PageInHand, page_given, hand_after}
+use Rattle.page_codec.specs.Reading.{PageContent, items_left}
+use Rattle.page_codec.specs.Packing.{PageInHand}
+use Rattle.page_codec.specs.Pushes.{pages_given, hand_behind, PushesUpTo}
 use Rattle.disk_system.specs.declared.loading.Loaded.{Loaded}
 use Rattle.batch_job.specs.Loads.{files_named}
 use Rattle.batch_job.specs.LinesSoFar.{lines_so_far}
@@ -150,34 +150,11 @@ pub record Rests (a : Account) (now : Stream) : Type 0 where
   pub place : lines_ahead passes.then_is.place [] [] false ≡ []
 
 -- ---- packing: lines are pushed until a push gives a page
--- the pages that the pushes give, and the page then in hand
-abbrev pub pages_given : PageInHand → List (List ℕ) → List Page
-pages_given hand [] = []
-pages_given hand (line ∷ lines) =
-    option_to_list (page_given hand (Line line)) ++ pages_given (hand_after hand (Line line)) lines
-
--- the page in hand behind these lines
-abbrev pub hand_behind : PageInHand → List (List ℕ) → PageInHand
-hand_behind hand [] = hand
-hand_behind hand (line ∷ lines) = hand_behind (hand_after hand (Line line)) lines
-
--- The last push, and no other, gives a page.
-abbrev pub IsGivenLast : PageInHand → List (List ℕ) → Type 0
-IsGivenLast hand [] = ⊥
-IsGivenLast hand (line ∷ []) = (page_given hand (Line line) ≡ None) → ⊥
-IsGivenLast hand (line ∷ next ∷ lines) =
-    (page_given hand (Line line) ≡ None) × IsGivenLast (hand_after hand (Line line)) (next ∷ lines)
-
 -- These lines are what the stream gave.
 abbrev pub Gives : Stream → Stream → List (List ℕ) → Type 0
 Gives before after lines =
     (items : List Item) (loads : List Loaded) (so_far : List (List ℕ)) → StandsFor before items loads so_far
     → StandsFor after items loads (so_far ++ lines)
-
--- It pushed these lines, in order: either none gave a page, or the last alone.
-abbrev pub PushesUpTo : PageInHand → List (List ℕ) → Option Page → Type 0
-PushesUpTo hand lines None = pages_given hand lines ≡ []
-PushesUpTo hand lines (Some page) = (pages_given hand lines ≡ page ∷ []) × IsGivenLast hand lines
 
 -- Where no push gave a page, all lines of the items so far are pushed.
 pub record Packs (before : Stream) (hand : PageInHand) (page : Option Page) (after : Stream)
@@ -217,10 +194,6 @@ PacksMade before hand None after hand_then = Resting before hand after hand_then
 PacksMade before hand (Some page) after hand_then = Packs before hand (Some page) after hand_then
 
 -- ---- the code's fields
-abbrev pub items_left : Option PageContent → List Item
-items_left None = []
-items_left (Some content) = content.items
-
 -- as callers see them
 abbrev pub stream_of : LinesAhead → Stream
 stream_of lines = record {

@@ -1,6 +1,7 @@
 ghost use Rattle.std.specs.Prelude.{◌≡◌, ◌++◌, ◌+◌, ◌<◌, ◌≤◌, List, [], None, IsTrue, true, false, length, option_to_list, IfOk, OnOk};
 ghost use Rattle.batch_job.specs.declared.lines_ahead.End.TheVariants as EndOf;
-ghost use Rattle.batch_job.specs.JobStream.{Account, IsAccount, HasNoLine, IsTold, Passes, Rests, new_stream, fed, stream_of, lines_made, turns_left, goes_on, items_left};
+ghost use Rattle.batch_job.specs.JobStream.{Account, IsAccount, HasNoLine, IsTold, Passes, Rests, new_stream, fed, stream_of, lines_made, turns_left, goes_on};
+ghost use Rattle.page_codec.specs.Reading.{items_left};
 
 use crate::Part;
 use crate::item_lines::ItemLines;

@@ -2,6 +2,7 @@
 use Rattle.std.proofs.Common.{◌≡◌, ◌≤◌, ℕ, ◌+◌, ◌*◌, ◌-◌, Bool, true, false, ◌||◌, ◌==◌, if◌then◌else◌, List, [], ◌∷◌, length, Option, None, Some, refl, sym, ◌∙◌, ap, subst, arith}
 use Rattle.std.proofs.lemmas.Bool.{eq-eqb}
 use Rattle.solo_base.specs.declared.outcome.Outcome.{Outcome}
+use Rattle.batch_procs.specs.Jobs.{Jobs}
 use Rattle.batch_procs.specs.declared.actions.Action.{Action}
 use Rattle.batch_procs.specs.declared.actions.Action.TheVariants as act
 use Rattle.batch_procs.specs.declared.actions.Reply.{Reply}
@@ -53,55 +54,12 @@ release-step (Some (act.Load file)) aim is e = refl
 release-step (Some (act.Ended how)) aim is e = absurd cc
 release-step (Some other) aim is e = absurd (begins-no_release aim (some-same (begins aim) act.Release e) is)
 
--- ---- the stops
-pub unstopped-most : (buffers : List ℕ) (h : List Entry) → unstopped buffers h ≤ length buffers
-unstopped-most [] h = omega arith
-unstopped-most (b ∷ later) h =
-    let rest = unstopped-most later h in
-    let P : Bool → Type 0 = λ t. (if t then 0 else 1) + unstopped later h ≤ length (b ∷ later) in
-    elim (has_stopped b h) as P [ true ↦ omega (arith, rest) | false ↦ omega (arith, rest) ]
-
--- a stop leaves no more unstopped
-unstopped-less : (buffers : List ℕ) (b : ℕ) (r : Reply) (h : List Entry) → unstopped buffers (Does (act.Stop b) r ∷ h) ≤ unstopped buffers h
-unstopped-less [] b r h = omega arith
-unstopped-less (c ∷ later) b r h =
-    let rest = unstopped-less later b r h in
-    let P : Bool → Bool → Type 0 = λ t u. (if (t || u) then 0 else 1) + unstopped later (Does (act.Stop b) r ∷ h) ≤ (if u then 0 else 1) + unstopped later h
-    in
-    both (c == b) (has_stopped c h) rest
-  where
-    both : (t u : Bool) → unstopped later (Does (act.Stop b) r ∷ h) ≤ unstopped later h
-        → (if (t || u) then 0 else 1) + unstopped later (Does (act.Stop b) r ∷ h) ≤ (if u then 0 else 1) + unstopped later h
-    both true true rest = omega (arith, rest)
-    both true false rest = omega (arith, rest)
-    both false true rest = omega (arith, rest)
-    both false false rest = omega (arith, rest)
-
 or-true : (t : Bool) → (t || true) ≡ true
 or-true true = refl
 or-true false = refl
 
 stop-same : (c b : ℕ) → act.Stop c ≡ act.Stop b → c ≡ b
 stop-same c b e = cc
-
-pub stop-falls : (buffers : List ℕ) (how : Outcome) (b : ℕ) (r : Reply) (h : List Entry) → stops_next buffers how h ≡ act.Stop b
-    → unstopped buffers (Does (act.Stop b) r ∷ h) + 1 ≤ unstopped buffers h
-stop-falls [] how b r h e = absurd cc
-stop-falls (c ∷ later) how b r h e = by (λ next. stop-falls later how b r h next) (has_stopped c h) refl
-  where
-    by : (stops_next later how h ≡ act.Stop b → unstopped later (Does (act.Stop b) r ∷ h) + 1 ≤ unstopped later h) → (t : Bool) → has_stopped c h ≡ t
-        → unstopped (c ∷ later) (Does (act.Stop b) r ∷ h) + 1 ≤ unstopped (c ∷ later) h
-    by falls true is =
-        let rest = falls (rw is at e) in
-        rw (is, or-true (c == b)) (omega (arith, rest))
-    by falls false is =
-        let same : c ≡ b = stop-same c b (rw is at e) in
-        let rest = unstopped-less later b r h in
-        rw (is, eq-eqb c b same) (omega (arith, rest))
-
-pub unstopped-same : (buffers : List ℕ) (h now : List Entry) → ((b : ℕ) → has_stopped b now ≡ has_stopped b h) → unstopped buffers now ≡ unstopped buffers h
-unstopped-same [] h now same = refl
-unstopped-same (b ∷ later) h now same = rw (same b, unstopped-same later h now same) refl
 
 -- ---- numbers of a put and of a take
 pub one-most : (t : Bool) → one_if t ≤ 1
@@ -118,3 +76,48 @@ pub after-put : (c most t s : ℕ) → s + 1 ≤ most * t + 1 → c * (most * t 
 after-put c most t s within =
     let less : most * t + 1 - s ≡ (most * t + 1 - (s + 1)) + 1 = omega (arith, within) in
     ap (λ n. c * n) less ∙ times-more c (most * t + 1 - (s + 1)) 1 ∙ omega arith
+
+module _ {L : Type 0} (J : Jobs L) where
+  -- ---- the stops
+  pub unstopped-most : (buffers : List ℕ) (h : List (Entry L)) → unstopped buffers h ≤ length buffers
+  unstopped-most [] h = omega arith
+  unstopped-most (b ∷ later) h =
+      let rest = unstopped-most later h in
+      let P : Bool → Type 0 = λ t. (if t then 0 else 1) + unstopped later h ≤ length (b ∷ later) in
+      elim (has_stopped b h) as P [ true ↦ omega (arith, rest) | false ↦ omega (arith, rest) ]
+
+  -- a stop leaves no more unstopped
+  unstopped-less : (buffers : List ℕ) (b : ℕ) (r : Reply L) (h : List (Entry L)) → unstopped buffers (Does (act.Stop b) r ∷ h) ≤ unstopped buffers h
+  unstopped-less [] b r h = omega arith
+  unstopped-less (c ∷ later) b r h =
+      let rest = unstopped-less later b r h in
+      let P : Bool → Bool → Type 0 = λ t u. (if (t || u) then 0 else 1) + unstopped later (Does (act.Stop b) r ∷ h) ≤ (if u then 0 else 1) + unstopped later h
+      in
+      both (c == b) (has_stopped c h) rest
+    where
+      both : (t u : Bool) → unstopped later (Does (act.Stop b) r ∷ h) ≤ unstopped later h
+          → (if (t || u) then 0 else 1) + unstopped later (Does (act.Stop b) r ∷ h) ≤ (if u then 0 else 1) + unstopped later h
+      both true true rest = omega (arith, rest)
+      both true false rest = omega (arith, rest)
+      both false true rest = omega (arith, rest)
+      both false false rest = omega (arith, rest)
+
+  pub stop-falls : (buffers : List ℕ) (how : Outcome) (b : ℕ) (r : Reply L) (h : List (Entry L)) → stops_next buffers how h ≡ act.Stop b
+      → unstopped buffers (Does (act.Stop b) r ∷ h) + 1 ≤ unstopped buffers h
+  stop-falls [] how b r h e = absurd cc
+  stop-falls (c ∷ later) how b r h e = by (λ next. stop-falls later how b r h next) (has_stopped c h) refl
+    where
+      by : (stops_next later how h ≡ act.Stop b → unstopped later (Does (act.Stop b) r ∷ h) + 1 ≤ unstopped later h) → (t : Bool) → has_stopped c h ≡ t
+          → unstopped (c ∷ later) (Does (act.Stop b) r ∷ h) + 1 ≤ unstopped (c ∷ later) h
+      by falls true is =
+          let rest = falls (rw is at e) in
+          rw (is, or-true (c == b)) (omega (arith, rest))
+      by falls false is =
+          let same : c ≡ b = stop-same c b (rw is at e) in
+          let rest = unstopped-less later b r h in
+          rw (is, eq-eqb c b same) (omega (arith, rest))
+
+  pub unstopped-same : (buffers : List ℕ) (h now : List (Entry L)) → ((b : ℕ) → has_stopped b now ≡ has_stopped b h)
+      → unstopped buffers now ≡ unstopped buffers h
+  unstopped-same [] h now same = refl
+  unstopped-same (b ∷ later) h now same = rw (same b, unstopped-same later h now same) refl

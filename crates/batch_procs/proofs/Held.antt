@@ -2,6 +2,7 @@
 use Rattle.std.proofs.Common.{◌≡◌, ℕ, ◌⊎◌, inl, inr, Bool, true, false, List, [], ◌∷◌, ◌++◌, Option, None, Some, refl, sym, ◌∙◌, ap, subst}
 use Rattle.std.proofs.lemmas.List.{append-nil}
 use Rattle.solo_base.specs.declared.outcome.Outcome.{Outcome}
+use Rattle.batch_procs.specs.Jobs.{Jobs}
 use Rattle.batch_procs.specs.declared.actions.Action.{Action}
 use Rattle.batch_procs.specs.declared.actions.Action.TheVariants as act
 use Rattle.batch_procs.specs.declared.actions.Reply.{Reply}
@@ -46,26 +47,9 @@ take-aim act.TakeFeed is = tt
 take-aim act.TakePage is = tt
 take-aim other is = absurd is
 
-puts-aim : (parcel : Parcel) → IsAim (puts parcel)
-puts-aim (OfFeed f) = tt
-puts-aim (OfPage page last) = tt
-puts-aim (OfLine line) = tt
-puts-aim (OfLoad load) = tt
-
 works-aim : (wanted : List (List ℕ)) → IsAim (works_on wanted)
 works-aim [] = tt
 works-aim (file ∷ later) = tt
-
-aimed-aim : (takes : Action) (wanted : List (List ℕ)) (due : List Parcel) (ended unworked : Bool) → IsTake takes
-    → IsAim (aimed takes wanted due ended unworked)
-aimed-aim takes wanted [] true false is = tt
-aimed-aim takes wanted [] true true is = works-aim wanted
-aimed-aim takes wanted [] false true is = works-aim wanted
-aimed-aim takes wanted [] false false is = take-aim takes is
-aimed-aim takes wanted (parcel ∷ more) ended unworked is = puts-aim parcel
-
-pub aim-is : (p : Process) (h : List Entry) → IsRelay p → IsAim (aim p h)
-aim-is p h relay = aimed-aim p.takes (p.wants (taken h)) (due p h) (is_ended (taken h)) (unworked p h) relay.takes
 
 -- by the newest action of one that works: whether it holds the disk, and what it aims at
 abbrev pub KeptBy : Option Action → Action → Bool → Type 0 → Type 0 → Type 0
@@ -190,72 +174,91 @@ IsAround act.AwaitItem = Unit {0}
 IsAround act.Request = Unit {0}
 IsAround other = ⊥
 
-around-takes : (a : Action) (r : Reply) → IsAround a → Fits a r → taken_by r ≡ []
-around-takes act.AwaitRoom reply.Done is fits = refl
-around-takes act.AwaitRoom reply.Stopped is fits = refl
-around-takes act.AwaitItem reply.Done is fits = refl
-around-takes act.AwaitItem reply.Stopped is fits = refl
-around-takes act.Request reply.Done is fits = refl
-around-takes act.AwaitRoom other is fits = absurd fits
-around-takes act.AwaitItem other is fits = absurd fits
-around-takes act.Request other is fits = absurd fits
-around-takes other r is fits = absurd is
-
-around-puts : (a : Action) (r : Reply) → IsAround a → put_by a r ≡ []
-around-puts act.AwaitRoom r is = refl
-around-puts act.AwaitItem r is = refl
-around-puts act.Request r is = refl
-around-puts other r is = absurd is
-
-around-work : (a : Action) (r : Reply) (h : List Entry) → IsAround a → is_unworked (Does a r ∷ h) ≡ is_unworked h
-around-work act.AwaitRoom r h is = refl
-around-work act.AwaitItem r h is = refl
-around-work act.Request r h is = refl
-around-work other r h is = absurd is
-
--- leaves what is aimed at
-same-aim : (p : Process) (h : List Entry) (a : Action) (r : Reply) → IsAround a → Fits a r → aim p (Does a r ∷ h) ≡ aim p h
-same-aim p h a r around fits =
-    let sent-is : sent h ++ put_by a r ≡ sent h = ap (λ more. sent h ++ more) (around-puts a r around) ∙ append-nil (sent h) in
-    let taken-is : taken h ++ taken_by r ≡ taken h = ap (λ more. taken h ++ more) (around-takes a r around fits) ∙ append-nil (taken h) in
-    rw (around-work a r h around, sent-is, taken-is) refl
-
-kept-after : (p : Process) (h : List Entry) (a : Action) (r : Reply) → IsRelay p → IsAim (aim p h)
-    → KeptBy (newest h) (aim p h) (holds h) (AwaitedRoom h) (AwaitedItem h) → working (newest h) (aim p h) ≡ Some a → Fits a r
-    → KeptBy (Some a) (aim p (Does a r ∷ h)) (holds_after (holds h) a) (AwaitedRoom (Does a r ∷ h)) (AwaitedItem (Does a r ∷ h))
-kept-after p h act.AwaitRoom r relay is kept next fits = (
-  free-holds_not (newest h) (aim p h) (holds h) (AwaitedRoom h) (AwaitedItem h) act.AwaitRoom kept next tt,
-  subst IsPagePut
-      (sym (same-aim p h act.AwaitRoom r tt fits)) (awaits-room (newest h) (aim p h) next is),
-  tt,
-)
-kept-after p h act.AwaitItem r relay is kept next fits = (
-  free-holds_not (newest h) (aim p h) (holds h) (AwaitedRoom h) (AwaitedItem h) act.AwaitItem kept next tt,
-  subst IsPageTake
-      (sym (same-aim p h act.AwaitItem r tt fits)) (awaits-item (newest h) (aim p h) next is),
-  tt,
-)
-kept-after p h act.Request r relay is kept next fits = (
-  refl,
-  subst (λ aim. IsHeldFor aim (AwaitedRoom h) (AwaitedItem h)) (sym (same-aim p h act.Request r tt fits)) (requests (newest h) (aim p h) (holds h)
-      (AwaitedRoom h) (AwaitedItem h) kept next is),
-)
-kept-after p h (act.PutPage page) r relay is kept next fits =
-    moves-held (newest h) (aim p h) (holds h) (AwaitedRoom h) (AwaitedItem h) (act.PutPage page) kept next tt
-kept-after p h act.TakePage r relay is kept next fits = moves-held (newest h) (aim p h) (holds h) (AwaitedRoom h) (AwaitedItem h) act.TakePage kept next tt
-kept-after p h (act.Load file) r relay is kept next fits =
-    moves-held (newest h) (aim p h) (holds h) (AwaitedRoom h) (AwaitedItem h) (act.Load file) kept next tt
-kept-after p h act.Release r relay is kept next fits = refl
-kept-after p h other r relay is kept next fits = free-holds_not (newest h) (aim p h) (holds h) (AwaitedRoom h) (AwaitedItem h) other kept next tt
-
 pub some-not_none : (old : Option Outcome) (how : Outcome) → or_new old (Some how) ≡ None → ⊥
 some-not_none None how e = cc
 some-not_none (Some before) how e = cc
 
-pub kept : (p : Process) (h : List Entry) → IsRelay p → Follows p h → caused h ≡ None → KeptBy (newest h) (aim p h) (holds h) (AwaitedRoom h) (AwaitedItem h)
-kept p [] relay follows none = refl
-kept p (Does a r ∷ h) relay follows none =
-    let before = or-none (caused h) (given_cause a r h) none in
-    kept-after p h a r relay (aim-is p h relay) (kept p h relay follows.2 before) (works-next p h a follows.0 before) follows.1
-kept p (LacksMemory a r ∷ h) relay follows none = absurd (some-not_none (caused h) _ none)
-kept p (Delays a ∷ h) relay follows none = kept p h relay follows.2 none
+module _ {L : Type 0} (J : Jobs L) where
+  puts-aim : (parcel : Parcel L) → IsAim (puts parcel)
+  puts-aim (OfFeed f) = tt
+  puts-aim (OfPage page last) = tt
+  puts-aim (OfLine line) = tt
+  puts-aim (OfLoad load) = tt
+
+  aimed-aim : (takes : Action) (wanted : List (List ℕ)) (due : List (Parcel L)) (ended unworked : Bool) → IsTake takes
+      → IsAim (aimed takes wanted due ended unworked)
+  aimed-aim takes wanted [] true false is = tt
+  aimed-aim takes wanted [] true true is = works-aim wanted
+  aimed-aim takes wanted [] false true is = works-aim wanted
+  aimed-aim takes wanted [] false false is = take-aim takes is
+  aimed-aim takes wanted (parcel ∷ more) ended unworked is = puts-aim parcel
+
+  pub aim-is : (p : Process L) (h : List (Entry L)) → IsRelay p → IsAim (aim p h)
+  aim-is p h relay = aimed-aim p.takes (p.wants (taken h)) (due p h) (is_ended (taken h)) (unworked p h) relay.takes
+
+  around-takes : (a : Action) (r : Reply L) → IsAround a → Fits J a r → taken_by r ≡ []
+  around-takes act.AwaitRoom reply.Done is fits = refl
+  around-takes act.AwaitRoom reply.Stopped is fits = refl
+  around-takes act.AwaitItem reply.Done is fits = refl
+  around-takes act.AwaitItem reply.Stopped is fits = refl
+  around-takes act.Request reply.Done is fits = refl
+  around-takes act.AwaitRoom other is fits = absurd fits
+  around-takes act.AwaitItem other is fits = absurd fits
+  around-takes act.Request other is fits = absurd fits
+  around-takes other r is fits = absurd is
+
+  around-puts : (a : Action) (r : Reply L) → IsAround a → put_by a r ≡ []
+  around-puts act.AwaitRoom r is = refl
+  around-puts act.AwaitItem r is = refl
+  around-puts act.Request r is = refl
+  around-puts other r is = absurd is
+
+  around-work : (a : Action) (r : Reply L) (h : List (Entry L)) → IsAround a → is_unworked (Does a r ∷ h) ≡ is_unworked h
+  around-work act.AwaitRoom r h is = refl
+  around-work act.AwaitItem r h is = refl
+  around-work act.Request r h is = refl
+  around-work other r h is = absurd is
+
+  -- leaves what is aimed at
+  same-aim : (p : Process L) (h : List (Entry L)) (a : Action) (r : Reply L) → IsAround a → Fits J a r → aim p (Does a r ∷ h) ≡ aim p h
+  same-aim p h a r around fits =
+      let sent-is : sent h ++ put_by a r ≡ sent h = ap (λ more. sent h ++ more) (around-puts a r around) ∙ append-nil (sent h) in
+      let taken-is : taken h ++ taken_by r ≡ taken h = ap (λ more. taken h ++ more) (around-takes a r around fits) ∙ append-nil (taken h) in
+      rw (around-work a r h around, sent-is, taken-is) refl
+
+  kept-after : (p : Process L) (h : List (Entry L)) (a : Action) (r : Reply L) → IsRelay p → IsAim (aim p h)
+      → KeptBy (newest h) (aim p h) (holds h) (AwaitedRoom h) (AwaitedItem h) → working (newest h) (aim p h) ≡ Some a → Fits J a r
+      → KeptBy (Some a) (aim p (Does a r ∷ h)) (holds_after (holds h) a) (AwaitedRoom (Does a r ∷ h)) (AwaitedItem (Does a r ∷ h))
+  kept-after p h act.AwaitRoom r relay is kept next fits = (
+    free-holds_not (newest h) (aim p h) (holds h) (AwaitedRoom h) (AwaitedItem h) act.AwaitRoom kept next tt,
+    subst IsPagePut
+        (sym (same-aim p h act.AwaitRoom r tt fits)) (awaits-room (newest h) (aim p h) next is),
+    tt,
+  )
+  kept-after p h act.AwaitItem r relay is kept next fits = (
+    free-holds_not (newest h) (aim p h) (holds h) (AwaitedRoom h) (AwaitedItem h) act.AwaitItem kept next tt,
+    subst IsPageTake
+        (sym (same-aim p h act.AwaitItem r tt fits)) (awaits-item (newest h) (aim p h) next is),
+    tt,
+  )
+  kept-after p h act.Request r relay is kept next fits = (
+    refl,
+    subst (λ aim. IsHeldFor aim (AwaitedRoom h) (AwaitedItem h)) (sym (same-aim p h act.Request r tt fits)) (requests (newest h) (aim p h) (holds h)
+        (AwaitedRoom h) (AwaitedItem h) kept next is),
+  )
+  kept-after p h (act.PutPage page) r relay is kept next fits =
+      moves-held (newest h) (aim p h) (holds h) (AwaitedRoom h) (AwaitedItem h) (act.PutPage page) kept next tt
+  kept-after p h act.TakePage r relay is kept next fits = moves-held (newest h) (aim p h) (holds h) (AwaitedRoom h) (AwaitedItem h) act.TakePage kept next tt
+  kept-after p h (act.Load file) r relay is kept next fits =
+      moves-held (newest h) (aim p h) (holds h) (AwaitedRoom h) (AwaitedItem h) (act.Load file) kept next tt
+  kept-after p h act.Release r relay is kept next fits = refl
+  kept-after p h other r relay is kept next fits = free-holds_not (newest h) (aim p h) (holds h) (AwaitedRoom h) (AwaitedItem h) other kept next tt
+
+  pub kept : (p : Process L) (h : List (Entry L)) → IsRelay p → Follows J p h → caused h ≡ None → KeptBy (newest h) (aim p h) (holds h) (AwaitedRoom h)
+      (AwaitedItem h)
+  kept p [] relay follows none = refl
+  kept p (Does a r ∷ h) relay follows none =
+      let before = or-none (caused h) (given_cause a r h) none in
+      kept-after p h a r relay (aim-is p h relay) (kept p h relay follows.2 before) (works-next J p h a follows.0 before) follows.1
+  kept p (LacksMemory a r ∷ h) relay follows none = absurd (some-not_none (caused h) _ none)
+  kept p (Delays a ∷ h) relay follows none = kept p h relay follows.2 none

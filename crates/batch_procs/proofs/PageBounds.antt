@@ -1,5 +1,5 @@
 -- How many items a page has at most, and what follows for those that take pages.
-use Rattle.std.proofs.Common.{◌≡◌, ◌≤◌, ℕ, zero, suc, ◌+◌, ◌*◌, ◌%◌, ◌^◌, ◌==◌, Bool, true, false, ◌&&◌, not, if◌then◌else◌, List, [], ◌∷◌, ◌++◌, length, length-append, take, drop, Option, None, Some, Result, Ok, Err, refl, ◌∙◌, ap, subst, arith}
+use Rattle.std.proofs.Common.{◌≡◌, ◌≤◌, ◌<◌, ℕ, zero, suc, ◌+◌, ◌*◌, ◌-◌, ◌%◌, ◌^◌, ◌==◌, Bool, true, false, ◌&&◌, not, if◌then◌else◌, List, [], ◌∷◌, ◌++◌, length, length-append, take, drop, Option, None, Some, Result, Ok, Err, refl, sym, ◌∙◌, ap, subst, arith}
 use Rattle.std.specs.Prelude.{map, nat_le, slice_index}
 use Rattle.std.proofs.lemmas.Bool.Decides.{nat_tests}
 use Rattle.std.proofs.lemmas.List.{length-drop}
@@ -16,16 +16,9 @@ use Rattle.page_codec.specs.Packing.{first_page}
 use Rattle.page_codec.specs.Reading.{PageContent, characters, items_after, has_length, or_else, bad_body, bad_place, content_or_bad, page_read}
 use Rattle.page_codec.specs.Items.{AreItems}
 use Rattle.page_codec.proofs.Scan.{all_read}
-use Rattle.disk_system.specs.declared.loading.Loaded.{Loaded}
-use Rattle.batch_job.specs.LinesSoFar.{lines_so_far, is_whole, lines_of_an_item}
-use Rattle.batch_job.proofs.LinesSoFar.{never_whole}
-use Rattle.batch_job.proofs.FewLines.{few-lines}
-use Rattle.deck_format.specs.declared.control.Opener.{Opener}
-use Rattle.deck_format.specs.declared.control.Opener.TheVariants as opener
-use Rattle.deck_format.specs.Jobs.{opener_of}
-use Rattle.batch_job.specs.Loads.{file_named, files_named}
+use Rattle.batch_procs.specs.Jobs.{Jobs, AreJobs}
 use Rattle.batch_procs.specs.Parcels.{Parcel, OfFeed, OfPage, OfLine, OfLoad, loads, handed}
-use Rattle.batch_procs.specs.Sends.{has_end, items, stream, items_then, behind, unpacked_by, unpacked, lines_of, job_lines, job_wants, output_lines}
+use Rattle.batch_procs.specs.Sends.{has_end, items, stream, items_then, behind, unpacked_by, unpacked, lines_of, job_lines, job_sends, job_wants, output_lines}
 use Rattle.batch_procs.specs.Process.{Process}
 use Rattle.batch_procs.specs.Table.{card, input, job, output, printer, nobody}
 use Rattle.batch_procs.specs.Ahead.{GivesAtMost, one_if, TheFiveAreBounded}
@@ -82,7 +75,6 @@ content-few place last bytes (Some at) content sound is = absurd cc
 page-few : (place : ℕ) (last : Bool) (page : Page) (content : PageContent) → page_read place last page ≡ Ok content → length content.items ≤ 506
 page-few place last page content is = content-few place last page.0 (bad_place place last page.0) content refl is
 
--- ---- a stream of pages
 then-length : (xs : List Item) (rest : List Feed) → length (items_then xs rest) ≡ length xs + length rest
 then-length [] rest = omega arith
 then-length (x ∷ xs) rest = let more = then-length xs rest in omega (arith, more)
@@ -100,17 +92,6 @@ page-length place last page rest (Ok content) is =
     omega (arith, few, both, end)
 page-length place last page rest (Err bad) is = omega arith
 
-unpacked-length : (place : ℕ) (all : List Parcel) → length (unpacked place all) ≤ 507 * length (handed all)
-unpacked-length place [] = omega arith
-unpacked-length place (OfPage page last ∷ rest) =
-    let few = unpacked-length ((place + 1) % 2 ^ 16) rest in
-    let one = page-length place last page (unpacked ((place + 1) % 2 ^ 16) rest) (page_read place last page) refl in
-    omega (arith, few, one)
-unpacked-length place (OfLoad load ∷ rest) = unpacked-length place rest
-unpacked-length place (OfFeed f ∷ rest) = omega arith
-unpacked-length place (OfLine line ∷ rest) = omega arith
-
--- ---- its items are items
 no-test : (a b c d : Bool) (rest : Option ℕ) → (if a then Some 0 else if b then Some 2 else if c then Some 3 else if d then Some 4 else rest) ≡ None
     → rest ≡ None
 no-test true b c d rest e = absurd cc
@@ -145,15 +126,6 @@ page-items place last page rest (Ok content) is are =
     then-items content.items (behind last rest) (content-items place last page.0 (bad_place place last page.0) content refl is) (behind-items last rest are)
 page-items place last page rest (Err bad) is are = tt
 
-unpacked-items : (place : ℕ) (all : List Parcel) → AreItems (items (unpacked place all))
-unpacked-items place [] = tt
-unpacked-items place (OfPage page last ∷ rest) =
-    page-items place last page (unpacked ((place + 1) % 2 ^ 16) rest) (page_read place last page) refl (unpacked-items ((place + 1) % 2 ^ 16) rest)
-unpacked-items place (OfLoad load ∷ rest) = unpacked-items place rest
-unpacked-items place (OfFeed f ∷ rest) = tt
-unpacked-items place (OfLine line ∷ rest) = tt
-
--- ---- the lines of it
 items-end : (all : List Feed) → length (items all) + one_if (has_end all) ≤ length all
 items-end [] = omega arith
 items-end (feed.Item item ∷ rest) = let few = items-end rest in omega (arith, few)
@@ -168,138 +140,183 @@ map-length : (lines : List (List ℕ)) → length (map Line lines) ≡ length li
 map-length [] = refl
 map-length (line ∷ lines) = ap suc (map-length lines)
 
-pub output-bound : GivesAtMost 507 output
-output-bound = record {
-  gives = λ all good.
-      let fs = unpacked 0 all in
-      let a = unpacked-length 0 all in
-      let b = items-end fs in
-      let c = lines_of-length (items fs) in
-      let d = map-length (lines_of (items fs)) in
-      let e = stream-length (map Line (lines_of (items fs))) (has_end fs) in
-      let g = parcels-length (output_lines fs) in
-      omega (arith, a, b, c, d, e, g);
-  names = λ all parcel. omega arith;
-}
+items-behind : (xs : List Item) (rest : List Feed) → items (items_then xs rest) ≡ xs ++ items rest
+items-behind [] rest = refl
+items-behind (item ∷ xs) rest = ap (λ all. item ∷ all) (items-behind xs rest)
 
--- ---- the files of a page
-named-one : (o : Option Opener) → length (file_named o) ≤ 1
-named-one None = omega arith
-named-one (Some (opener.List name)) = omega arith
-named-one (Some (opener.Job name limit)) = omega arith
-named-one (Some (opener.Run name file)) = omega arith
+-- ---- sums
+products : (j i e r : ℕ) → (j + 1) * (i + e + r) ≡ ((j + 1) * i + e) + (j * e + (j + 1) * r)
+products j i e r = grind arith
 
-named-few : (xs : List Item) → length (files_named xs) ≤ length xs
-named-few [] = omega arith
-named-few (item ∷ xs) =
-    let one = named-one (opener_of item) in
-    let rest = named-few xs in
-    let both = length-append (file_named (opener_of item)) (files_named xs) in
-    omega (arith, one, rest, both)
+below : (all a e more s : ℕ) → all ≡ (a + e) + more → s ≤ a + 1 + e → s ≤ all + 1
+below all a e more s is most = omega (arith, is, most)
 
-then-named : (xs : List Item) (rest : List Feed) → length (files_named (items (items_then xs rest))) ≡ length (files_named xs) + length (files_named
-    (items rest))
-then-named [] rest = omega arith
-then-named (item ∷ xs) rest =
-    let more = then-named xs rest in
-    let left = length-append (file_named (opener_of item)) (files_named (items (items_then xs rest))) in
-    let right = length-append (file_named (opener_of item)) (files_named xs) in
-    omega (arith, more, left, right)
+-- what has so many for each item and the end, where items and end are within n
+within-most : (k i e n s : ℕ) → 0 < k → i + e ≤ n → s ≤ k * i + 1 + e → s ≤ k * n + 1
+within-most k i e n s some fits most =
+    let k_is : k ≡ (k - 1) + 1 = omega (arith, some) in
+    let n_is : n ≡ i + e + (n - (i + e)) = omega (arith, fits) in
+    let most_then : s ≤ ((k - 1) + 1) * i + 1 + e = subst (λ k. s ≤ k * i + 1 + e) k_is most in
+    subst (λ k. s ≤ k * n + 1) (sym k_is)
+    (subst (λ n. s ≤ ((k - 1) + 1) * n + 1) (sym n_is) (below _ _ _ _ s (products (k - 1) i e (n - (i + e))) most_then))
 
-page-named : (place : ℕ) (last : Bool) (page : Page) (read : Result PageContent BadPage) → page_read place last page ≡ read
-    → length (files_named (items (unpacked_by read last []))) ≤ 507
-page-named place last page (Ok content) is =
-    let few = page-few place last page content is in
-    let named = named-few content.items in
-    let both = then-named content.items (behind last []) in
-    let none = no-named last in
-    omega (arith, few, named, both, none)
-  where
-    no-named : (last : Bool) → length (files_named (items (behind last []))) ≡ 0
-    no-named true = refl
-    no-named false = refl
-page-named place last page (Err bad) is = omega arith
+regrouped : (k h : ℕ) → k * (507 * h) ≡ 507 * k * h
+regrouped k h = grind arith
 
-one-page : (place : ℕ) (parcel : Parcel) → length (files_named (items (unpacked place (parcel ∷ [])))) ≤ 507 * length (handed (parcel ∷ []))
-one-page place (OfPage page last) = let few = page-named place last page (page_read place last page) refl in omega (arith, few)
-one-page place (OfLoad load) = omega arith
-one-page place (OfFeed f) = omega arith
-one-page place (OfLine line) = omega arith
+few-sent : (s st ml ln ki w e : ℕ) → s ≤ st → st ≡ ml + w → ml ≡ ln → ln ≤ ki + 1 → w ≤ e → s ≤ ki + 1 + e
+few-sent s st ml ln ki w e a b c d f = omega (arith, a, b, c, d, f)
 
-behind-named : (last : Bool) (rest more : List Feed) (n : ℕ) → length (files_named (items more)) ≤ length (files_named (items rest)) + n
-    → length (files_named (items (behind last more))) ≤ length (files_named (items (behind last rest))) + n
-behind-named true rest more n few = omega arith
-behind-named false rest more n few = few
+times-some : (j h : ℕ) → 507 * (j + 1) * h ≡ 507 * h + 507 * j * h
+times-some j h = grind arith
 
-more-named : (place : ℕ) (all : List Parcel) (parcel : Parcel) → length (files_named (items (unpacked place (all ++ parcel ∷ []))))
-    ≤ length (files_named (items (unpacked place all))) + 507 * length (handed (parcel ∷ []))
-more-named place [] parcel = let few = one-page place parcel in omega (arith, few)
-more-named place (OfPage page last ∷ all) parcel = by (page_read place last page) (more-named ((place + 1) % 2 ^ 16) all parcel)
-  where
-    by : (read : Result PageContent BadPage)
-        → length (files_named (items (unpacked ((place + 1) % 2 ^ 16) (all ++ parcel ∷ []))))
-        ≤ length (files_named (items (unpacked ((place + 1) % 2 ^ 16) all))) + 507 * length (handed (parcel ∷ []))
-        → length (files_named (items (unpacked_by read last (unpacked ((place + 1) % 2 ^ 16) (all ++ parcel ∷ [])))))
-        ≤ length (files_named (items (unpacked_by read last (unpacked ((place + 1) % 2 ^ 16) all)))) + 507 * length (handed (parcel ∷ []))
-    by (Ok content) next =
-        (let early = then-named content.items (behind last (unpacked ((place + 1) % 2 ^ 16) all)) in
-        let late = then-named content.items (behind last (unpacked ((place + 1) % 2 ^ 16) (all ++ parcel ∷ []))) in
-        let few =
-        behind-named last (unpacked ((place + 1) % 2 ^ 16) all) (unpacked ((place + 1) % 2 ^ 16) (all ++ parcel ∷ [])) (507 * length (handed (parcel ∷ [])))
-        next in
-        omega (arith, early, late, few))
-    by (Err bad) next = omega arith
-more-named place (OfLoad load ∷ all) parcel = more-named place all parcel
-more-named place (OfFeed f ∷ all) parcel = omega arith
-more-named place (OfLine line ∷ all) parcel = omega arith
+first-part : (a b c : ℕ) → a ≡ b + c → b ≤ a
+first-part a b c is = omega (arith, is)
 
-loads-grow : (all : List Parcel) (parcel : Parcel) → length (loads all) ≤ length (loads (all ++ parcel ∷ []))
-loads-grow all parcel = let both = ap length (loads-append all (parcel ∷ [])) ∙ length-append (loads all) (loads (parcel ∷ [])) in omega (arith, both)
+more-most : (k h : ℕ) → 0 < k → 507 * h ≤ 507 * k * h
+more-most k h some =
+    let k_is : k ≡ (k - 1) + 1 = omega (arith, some) in
+    subst (λ k. 507 * h ≤ 507 * k * h) (sym k_is) (first-part _ _ _ (times-some (k - 1) h))
 
-names-few : (all : List Parcel) (parcel : Parcel)
-    → length (job_wants (all ++ parcel ∷ [])) ≤ length (job_wants all) + 507 * lines_of_an_item * length (handed (parcel ∷ []))
-names-few all parcel =
-    let some = files_named (items (unpacked 0 all)) in
-    let more = files_named (items (unpacked 0 (all ++ parcel ∷ []))) in
-    let few = more-named 0 all parcel in
-    let grow = loads-grow all parcel in
-    let left = length-drop (length (loads all)) some in
-    let left_then = length-drop (length (loads (all ++ parcel ∷ []))) more in
-    omega (arith, few, grow, left, left_then)
+within-more : (a b c d : ℕ) → a ≤ b + c → c ≤ d → a ≤ b + d
+within-more a b c d most more = omega (arith, most, more)
 
-whole-most : (xs : List Item) (found : List Loaded) (t : Bool) → one_if (is_whole xs found t) ≤ one_if t
-whole-most xs found true = by (is_whole xs found true)
-  where
-    by : (w : Bool) → one_if w ≤ 1
-    by true = omega arith
-    by false = omega arith
-whole-most xs found false = let none = ap one_if (never_whole xs found) in omega (arith, none)
+few-wanted : (w now some more h l m : ℕ) → more ≤ some + 507 * h → l ≤ m → w ≡ some - l → now ≡ more - m → now ≤ w + 507 * h
+few-wanted w now some more h l m few grow left left_then = omega (arith, few, grow, left, left_then)
 
-pub job-bound : GivesAtMost (507 * lines_of_an_item) job
-job-bound = record {
-  gives = λ all good.
-      let fs = unpacked 0 all in
-      let a = unpacked-length 0 all in
-      let b = items-end fs in
-      let lines = lines_so_far (items fs) (loads all) (has_end fs) in
-      let c = few-lines (items fs) (loads all) (has_end fs) (unpacked-items 0 all) good in
-      let d = map-length lines in
-      let e = stream-length (map Line lines) (is_whole (items fs) (loads all) (has_end fs)) in
-      let f = whole-most (items fs) (loads all) (has_end fs) in
-      let g = packed-length first_page (job_lines fs (loads all)) in
-      omega (arith, a, b, c, d, e, f, g);
-  names = names-few;
-}
+module _ {L : Type 0} {J : Jobs L} (jobs : AreJobs J) where
+  unpacked-length : (place : ℕ) (all : List (Parcel L)) → length (unpacked place all) ≤ 507 * length (handed all)
+  unpacked-length place [] = omega arith
+  unpacked-length place (OfPage page last ∷ rest) =
+      let few = unpacked-length ((place + 1) % 2 ^ 16) rest in
+      let one = page-length place last page (unpacked ((place + 1) % 2 ^ 16) rest) (page_read place last page) refl in
+      omega (arith, few, one)
+  unpacked-length place (OfLoad load ∷ rest) = unpacked-length place rest
+  unpacked-length place (OfFeed f ∷ rest) = omega arith
+  unpacked-length place (OfLine line ∷ rest) = omega arith
 
--- ---- the five
-nobody-bound : GivesAtMost 0 nobody
-nobody-bound = record { gives = λ all good. omega arith; names = λ all parcel. omega arith }
+  unpacked-items : (place : ℕ) (all : List (Parcel L)) → AreItems (items (unpacked place all))
+  unpacked-items place [] = tt
+  unpacked-items place (OfPage page last ∷ rest) =
+      page-items place last page (unpacked ((place + 1) % 2 ^ 16) rest) (page_read place last page) refl (unpacked-items ((place + 1) % 2 ^ 16) rest)
+  unpacked-items place (OfLoad load ∷ rest) = unpacked-items place rest
+  unpacked-items place (OfFeed f ∷ rest) = tt
+  unpacked-items place (OfLine line ∷ rest) = tt
 
-either : (t : Bool) (n m : ℕ) (this other : Process) → GivesAtMost n this → GivesAtMost m other → GivesAtMost (if t then n else m) (if t then this else other)
-either true n m this other a b = a
-either false n m this other a b = b
+  pub output-bound : GivesAtMost J 507 output
+  output-bound = record {
+    gives = λ all good.
+        let fs = unpacked 0 all in
+        let a = unpacked-length 0 all in
+        let b = items-end fs in
+        let c = lines_of-length (items fs) in
+        let d = map-length (lines_of (items fs)) in
+        let e = stream-length (map Line (lines_of (items fs))) (has_end fs) in
+        let g = parcels-length J (output_lines fs) in
+        omega (arith, a, b, c, d, e, g);
+    names = λ all parcel. omega arith;
+  }
 
-pub bounds : TheFiveAreBounded
-bounds p =
-    either (p == 1) 1 _ card _ card-bound (either (p == 2) 1 _ input _ input-bound (either (p == 3) (507 * lines_of_an_item) _ job _ job-bound
-    (either (p == 4) 507 _ output _ output-bound (either (p == 5) 1 0 printer nobody printer-bound nobody-bound))))
+  -- ---- the files that items name
+  named-none : length (J.named []) ≡ 0
+  named-none = let few = jobs.few_named [] in omega (arith, few)
+
+  then-named : (xs : List Item) (rest : List Feed) → length (J.named (items (items_then xs rest))) ≡ length (J.named xs) + length (J.named (items rest))
+  then-named xs rest = ap length (ap J.named (items-behind xs rest) ∙ jobs.named_add xs (items rest)) ∙ length-append (J.named xs) (J.named (items rest))
+
+  page-named : (place : ℕ) (last : Bool) (page : Page) (read : Result PageContent BadPage) → page_read place last page ≡ read
+      → length (J.named (items (unpacked_by read last []))) ≤ 507
+  page-named place last page (Ok content) is =
+      let few = page-few place last page content is in
+      let named = jobs.few_named content.items in
+      let both = then-named content.items (behind last []) in
+      let none = no-named last in
+      omega (arith, few, named, both, none)
+    where
+      no-named : (last : Bool) → length (J.named (items (behind last []))) ≡ 0
+      no-named true = named-none
+      no-named false = named-none
+  page-named place last page (Err bad) is = let none = named-none in omega (arith, none)
+
+  one-page : (place : ℕ) (parcel : Parcel L) → length (J.named (items (unpacked place (parcel ∷ [])))) ≤ 507 * length (handed (parcel ∷ []))
+  one-page place (OfPage page last) = let few = page-named place last page (page_read place last page) refl in omega (arith, few)
+  one-page place (OfLoad load) = let none = named-none in omega (arith, none)
+  one-page place (OfFeed f) = let none = named-none in omega (arith, none)
+  one-page place (OfLine line) = let none = named-none in omega (arith, none)
+
+  behind-named : (last : Bool) (rest more : List Feed) (n : ℕ) → length (J.named (items more)) ≤ length (J.named (items rest)) + n
+      → length (J.named (items (behind last more))) ≤ length (J.named (items (behind last rest))) + n
+  behind-named true rest more n few = omega arith
+  behind-named false rest more n few = few
+
+  more-named : (place : ℕ) (all : List (Parcel L)) (parcel : Parcel L) → length (J.named (items (unpacked place (all ++ parcel ∷ []))))
+      ≤ length (J.named (items (unpacked place all))) + 507 * length (handed (parcel ∷ []))
+  more-named place [] parcel = let few = one-page place parcel in omega (arith, few)
+  more-named place (OfPage page last ∷ all) parcel = by (page_read place last page) (more-named ((place + 1) % 2 ^ 16) all parcel)
+    where
+      by : (read : Result PageContent BadPage)
+          → length (J.named (items (unpacked ((place + 1) % 2 ^ 16) (all ++ parcel ∷ []))))
+          ≤ length (J.named (items (unpacked ((place + 1) % 2 ^ 16) all))) + 507 * length (handed (parcel ∷ []))
+          → length (J.named (items (unpacked_by read last (unpacked ((place + 1) % 2 ^ 16) (all ++ parcel ∷ [])))))
+          ≤ length (J.named (items (unpacked_by read last (unpacked ((place + 1) % 2 ^ 16) all)))) + 507 * length (handed (parcel ∷ []))
+      by (Ok content) next =
+          (let early = then-named content.items (behind last (unpacked ((place + 1) % 2 ^ 16) all)) in
+          let late = then-named content.items (behind last (unpacked ((place + 1) % 2 ^ 16) (all ++ parcel ∷ []))) in
+          let few =
+          behind-named last (unpacked ((place + 1) % 2 ^ 16) all) (unpacked ((place + 1) % 2 ^ 16) (all ++ parcel ∷ [])) (507 * length (handed (parcel ∷ [])))
+          next in
+          omega (arith, early, late, few))
+      by (Err bad) next = omega arith
+  more-named place (OfLoad load ∷ all) parcel = more-named place all parcel
+  more-named place (OfFeed f ∷ all) parcel = omega arith
+  more-named place (OfLine line ∷ all) parcel = omega arith
+
+  loads-grow : (all : List (Parcel L)) (parcel : Parcel L) → length (loads all) ≤ length (loads (all ++ parcel ∷ []))
+  loads-grow all parcel = let both = ap length (loads-append all (parcel ∷ [])) ∙ length-append (loads all) (loads (parcel ∷ [])) in omega (arith, both)
+
+  names-few : (all : List (Parcel L)) (parcel : Parcel L)
+      → length (job_wants J (all ++ parcel ∷ [])) ≤ length (job_wants J all) + 507 * J.most * length (handed (parcel ∷ []))
+  names-few all parcel =
+      let some = J.named (items (unpacked 0 all)) in
+      let more = J.named (items (unpacked 0 (all ++ parcel ∷ []))) in
+      let few = more-named 0 all parcel in
+      let grow = loads-grow all parcel in
+      let left = length-drop (length (loads all)) some in
+      let left_then = length-drop (length (loads (all ++ parcel ∷ []))) more in
+      within-more _ _ _ _ (few-wanted _ _ _ _ _ _ _ few grow left left_then) (more-most J.most (length (handed (parcel ∷ []))) jobs.some_lines)
+
+  whole-most : (xs : List Item) (found : List L) (t : Bool) → one_if (J.whole xs found t) ≤ one_if t
+  whole-most xs found true = by (J.whole xs found true)
+    where
+      by : (w : Bool) → one_if w ≤ 1
+      by true = omega arith
+      by false = omega arith
+  whole-most xs found false = let none = ap one_if (jobs.not_whole xs found) in omega (arith, none)
+
+  pub job-bound : GivesAtMost J (507 * J.most) (job J)
+  job-bound = record {
+    gives = λ all good.
+        let fs = unpacked 0 all in
+        let lines = J.lines (items fs) (loads all) (has_end fs) in
+        let room = unpacked-length 0 all in
+        let parts = items-end fs in
+        subst (λ n. length (job_sends J all) ≤ n + 1) (regrouped J.most (length (handed all)))
+        (within-most J.most (length (items fs)) (one_if (has_end fs)) (507 * length (handed all)) (length (job_sends J all)) jobs.some_lines
+        (omega (arith, room, parts))
+        (few-sent _ _ _ _ _ _ _ (packed-length J first_page (job_lines J fs (loads all))) (stream-length (map Line lines) (J.whole (items fs) (loads all)
+        (has_end fs))) (map-length lines) (jobs.few_lines (items fs) (loads all) (has_end fs) (unpacked-items 0 all) good)
+        (whole-most (items fs) (loads all) (has_end fs))));
+    names = names-few;
+  }
+
+  nobody-bound : GivesAtMost J 0 nobody
+  nobody-bound = record { gives = λ all good. omega arith; names = λ all parcel. omega arith }
+
+  either : (t : Bool) (n m : ℕ) (this other : Process L) → GivesAtMost J n this → GivesAtMost J m other → GivesAtMost J (if t then n else m)
+      (if t then this else other)
+  either true n m this other a b = a
+  either false n m this other a b = b
+
+  pub bounds : TheFiveAreBounded J
+  bounds p =
+      either (p == 1) 1 _ card _ (card-bound J) (either (p == 2) 1 _ input _ (input-bound J) (either (p == 3) (507 * J.most) _ (job J) _ job-bound
+      (either (p == 4) 507 _ output _ output-bound (either (p == 5) 1 0 printer nobody (printer-bound J) nobody-bound))))

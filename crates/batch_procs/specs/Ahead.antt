@@ -1,10 +1,10 @@
 -- How much a process may still do before it takes again: a number that falls with each of its actions.
+use Rattle.std.specs.List.{AllByRecursion}
 use Rattle.std.specs.Prelude.{ℕ, ◌+◌, ◌*◌, ◌-◌, ◌≤◌, ◌==◌, Bool, true, false, List, [], ◌∷◌, ◌++◌, length, Option, None, Some, if◌then◌else◌}
 use Rattle.solo_base.specs.declared.outcome.Outcome.{Outcome}
 use Rattle.batch_procs.specs.declared.round.Step.{Step}
 use Rattle.batch_procs.specs.declared.round.Step.TheVariants as step
-use Rattle.batch_job.specs.LinesSoFar.{lines_of_an_item}
-use Rattle.batch_job.specs.Loads.{AreLoaded}
+use Rattle.batch_procs.specs.Jobs.{Jobs}
 use Rattle.batch_procs.specs.Parcels.{Parcel, loads, handed}
 use Rattle.batch_procs.specs.History.{Entry, Does, LacksMemory, Delays, took, put, taken, sent, holds, has_stopped, newest}
 use Rattle.batch_procs.specs.Causes.{caused}
@@ -13,19 +13,20 @@ use Rattle.batch_procs.specs.Table.{process}
 use Rattle.batch_procs.specs.Machine.{step_after}
 use Rattle.batch_procs.specs.Laws.{IsRelay}
 
--- each load keeps the rules of code
-abbrev pub AreLoadsGood : List Parcel → Type 0
-AreLoadsGood all = AreLoaded (loads all)
+-- the loads among them are loads of these jobs
+abbrev pub AreLoadsGood : {L : Type 0} → Jobs L → List (Parcel L) → Type 0
+AreLoadsGood J all = AllByRecursion J.IsLoad (loads all)
 
 -- Each parcel that a buffer or the deck hands over gives at most so many parcels, and the end one more; and
 -- it names at most so many files.
-pub record GivesAtMost (most : ℕ) (p : Process) : Type 0 where
-  pub gives : (all : List Parcel) → AreLoadsGood all → length (p.sends all) ≤ most * length (handed all) + 1
-  pub names : (all : List Parcel) (parcel : Parcel) → length (p.wants (all ++ parcel ∷ []))
+pub record GivesAtMost {L : Type 0} (J : Jobs L) (most : ℕ) (p : Process L) : Type 0 where
+  pub gives : (all : List (Parcel L)) → AreLoadsGood J all
+      → length (p.sends all) ≤ most * length (handed all) + 1
+  pub names : (all : List (Parcel L)) (parcel : Parcel L) → length (p.wants (all ++ parcel ∷ []))
       ≤ length (p.wants all) + most * length (handed (parcel ∷ []))
 
 -- how many parcels it may still put for what it took
-abbrev pub puts_ahead : ℕ → List Entry → ℕ
+abbrev pub puts_ahead : {L : Type 0} → ℕ → List (Entry L) → ℕ
 puts_ahead most h = most * length (handed (taken h)) + 1 - length (sent h)
 
 -- what is left of a move of a page
@@ -42,13 +43,13 @@ one_if true = 1
 one_if false = 0
 
 -- how many of the buffers it has not stopped
-abbrev pub unstopped : List ℕ → List Entry → ℕ
+abbrev pub unstopped : {L : Type 0} → List ℕ → List (Entry L) → ℕ
 unstopped [] h = 0
 unstopped (b ∷ later) h = (if has_stopped b h then 0 else 1) + unstopped later h
 
 -- of one that closes down, and of one that works; a put weighs so much more than its calls, and a load has
 -- two calls around it
-abbrev pub ahead_by : ℕ → ℕ → Process → Option Outcome → List Entry → ℕ
+abbrev pub ahead_by : {L : Type 0} → ℕ → ℕ → Process L → Option Outcome → List (Entry L) → ℕ
 ahead_by weight most p (Some how) h = one_if (holds h) + unstopped p.buffers h + 1
 ahead_by weight most p None h =
     (weight + 5) * puts_ahead most h + 4 * length (p.wants (taken h)) + moves_ahead (step_after (newest h))
@@ -60,36 +61,36 @@ ahead_at step.Ended n = 0
 ahead_at other n = n
 
 -- what it may still do for what it took, its closing down included
-abbrev pub ahead : ℕ → ℕ → Process → List Entry → ℕ
+abbrev pub ahead : {L : Type 0} → ℕ → ℕ → Process L → List (Entry L) → ℕ
 ahead weight most p h = ahead_at (step_after (newest h)) (ahead_by weight most p (caused h) h)
 
 -- not a call that waits
-abbrev pub IsAnswered : Entry → Type 0
+abbrev pub IsAnswered : {L : Type 0} → Entry L → Type 0
 IsAnswered (Does action r) = Unit {0}
 IsAnswered (LacksMemory action r) = Unit {0}
 IsAnswered (Delays action) = ⊥
 
 -- Each answered action lowers it, whatever weight is given to what it puts; only what a buffer or the deck
 -- hands over raises it.
-abbrev pub AheadFalls : Type 0
-AheadFalls =
-    (weight most : ℕ) (p : Process) (h : List Entry) (entry : Entry) → IsRelay p → GivesAtMost most p
-    → Follows p (entry ∷ h) →
+abbrev pub AheadFalls : {L : Type 0} → Jobs L → Type 0
+AheadFalls {L} J =
+    (weight most : ℕ) (p : Process L) (h : List (Entry L)) (entry : Entry L) → IsRelay p
+    → GivesAtMost J most p → Follows J p (entry ∷ h) →
     IsAnswered entry →
     ahead weight most p (entry ∷ h) + weight * length (put entry) + 1
     ≤ ahead weight most p h + ((weight + 9) * most + 5) * length (handed (took entry))
 
 -- how many parcels each of the five puts at most for one that it takes: a page has at most 506 items and its
--- end, and for an item of a deck a program may print as many lines as the limits of ticks allow
-abbrev pub most_of : ℕ → ℕ
-most_of p =
+-- end, and for an item of a deck the jobs print so many lines at most
+abbrev pub most_of : {L : Type 0} → Jobs L → ℕ → ℕ
+most_of J p =
     if p == 1 then 1
     else if p == 2 then 1
-    else if p == 3 then 507 * lines_of_an_item
+    else if p == 3 then 507 * J.most
     else if p == 4 then 507
     else if p == 5 then 1
     else 0
 
 -- Each of the five keeps to its bound.
-abbrev pub TheFiveAreBounded : Type 0
-TheFiveAreBounded = (p : ℕ) → GivesAtMost (most_of p) (process p)
+abbrev pub TheFiveAreBounded : {L : Type 0} → Jobs L → Type 0
+TheFiveAreBounded J = (p : ℕ) → GivesAtMost J (most_of J p) (process J p)

@@ -34,11 +34,11 @@ damage (Ok content) = None
 damage (Err bad) = Some (outcome.Fault (cause.Damaged bad.expected bad.found bad.at))
 
 -- the place that the next page has in its stream: how many were taken before, modulo 65,536
-abbrev pub place : List Entry → ℕ
+abbrev pub place : {L : Type 0} → List (Entry L) → ℕ
 place before = length (pages (taken before)) % 2 ^ 16
 
 -- of an action with its reply, behind these entries
-abbrev pub given_cause : Action → Reply → List Entry → Option Outcome
+abbrev pub given_cause : {L : Type 0} → Action → Reply L → List (Entry L) → Option Outcome
 given_cause action reply.Done before = None
 given_cause action reply.Stopped before = Some outcome.Stopped
 given_cause action reply.Failed before = Some (outcome.Fault (fault_at action))
@@ -54,7 +54,7 @@ or_new None new = new
 or_new (Some how) new = Some how
 
 -- the first cause that an entry gave
-abbrev pub caused : List Entry → Option Outcome
+abbrev pub caused : {L : Type 0} → List (Entry L) → Option Outcome
 caused [] = None
 caused (Does action reply ∷ before) = or_new (caused before) (given_cause action reply before)
 caused (LacksMemory action reply ∷ before) = or_new (caused before) (Some (outcome.Fault cause.NoMemory))

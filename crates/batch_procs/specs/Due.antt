@@ -9,8 +9,8 @@ use Rattle.batch_procs.specs.Sends.{feeds}
 use Rattle.batch_procs.specs.Table.{input}
 
 -- These parcels are due, and the last was taken or wasn't. There is never work to be done.
-pub record KeepsDue (p : Process) (due : List Parcel) (ended : Bool) (taken sent : List Parcel)
-    (unworked : Bool) : Type 0 where
+pub record KeepsDue {L : Type 0} (p : Process L) (due : List (Parcel L)) (ended : Bool)
+    (taken sent : List (Parcel L)) (unworked : Bool) : Type 0 where
   pub idle : unworked ≡ false
   pub due_is : sent ++ due ≡ p.sends taken
   pub ended_is : ended ≡ is_ended taken
@@ -22,7 +22,7 @@ hand_of hand (feed.Item item ∷ rest) = hand_of (hand_after hand item) rest
 hand_of hand (feed.End ∷ rest) = hand
 
 -- the input process: until its end the packer holds the page in hand
-pub record KeepsInput (due : List Parcel) (ended : Bool) (packer : PageInHand) (taken sent : List Parcel)
-    (unworked : Bool) : Type 0 where
+pub record KeepsInput {L : Type 0} (due : List (Parcel L)) (ended : Bool) (packer : PageInHand)
+    (taken sent : List (Parcel L)) (unworked : Bool) : Type 0 where
   pub keeps : KeepsDue input due ended taken sent unworked
   pub hand : ended ≡ false → packer ≡ hand_of first_page (feeds taken)

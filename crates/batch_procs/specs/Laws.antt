@@ -7,7 +7,7 @@ use Rattle.solo_base.specs.declared.page.Page.{Page}
 use Rattle.solo_base.specs.Prefixes.{IsPrefixOf}
 use Rattle.batch_procs.specs.declared.actions.Action.{Action}
 use Rattle.batch_procs.specs.declared.actions.Action.TheVariants as act
-use Rattle.disk_system.specs.declared.loading.Loaded.{Loaded}
+use Rattle.batch_procs.specs.Jobs.{Jobs}
 use Rattle.batch_procs.specs.Parcels.{Parcel, OfLoad, is_ended, IsMarked, NothingBehind}
 use Rattle.batch_procs.specs.History.{Entry, Does, LacksMemory, Delays, taken, sent, holds, has_stopped, newest}
 use Rattle.batch_procs.specs.Causes.{caused}
@@ -48,20 +48,20 @@ AreOrdered (b ∷ later) = AreAbove b later × AreOrdered later
 
 -- It takes; a prefix of what it takes gives a prefix of what it puts; its pages carry their marks, and
 -- nothing comes behind its last; files are loaded in order; its buffers stand in order, fewer than 256.
-pub record IsRelay (p : Process) : Type 0 where
+pub record IsRelay {L : Type 0} (p : Process L) : Type 0 where
   pub takes : IsTake p.takes
-  pub monotone : (some more : List Parcel) → IsPrefixOf (p.sends some) (p.sends (some ++ more))
-  pub marked : (all : List Parcel) → AllByRecursion IsMarked (p.sends all)
-  pub stream : (all : List Parcel) → NothingBehind (p.sends all)
+  pub monotone : (some more : List (Parcel L)) → IsPrefixOf (p.sends some) (p.sends (some ++ more))
+  pub marked : (all : List (Parcel L)) → AllByRecursion IsMarked (p.sends all)
+  pub stream : (all : List (Parcel L)) → NothingBehind (p.sends all)
   -- A file that is wanted is no longer so once it is loaded.
-  pub loads : (all : List Parcel) (load : Loaded) (file : List ℕ) (later : List (List ℕ))
+  pub loads : (all : List (Parcel L)) (load : L) (file : List ℕ) (later : List (List ℕ))
       → p.wants all ≡ file ∷ later → p.wants (all ++ OfLoad load ∷ []) ≡ later
   pub ordered : AreOrdered p.buffers
   pub few : length p.buffers < 2 ^ 8
 
 -- ---- what every history has
 -- the newest action is the end
-abbrev pub HasEnded : List Entry → Type 0
+abbrev pub HasEnded : {L : Type 0} → List (Entry L) → Type 0
 HasEnded h = (how : Outcome) × (newest h ≡ Some (act.Ended how))
 
 -- a cause, or none
@@ -70,12 +70,12 @@ IsNotDone (Some outcome.Done) = ⊥
 IsNotDone other = Unit {0}
 
 -- With its work done it put all and took the last; ended otherwise, it stopped each of its buffers.
-pub record EndsRightly (p : Process) (h : List Entry) (how : Outcome) : Type 0 where
+pub record EndsRightly {L : Type 0} (p : Process L) (h : List (Entry L)) (how : Outcome) : Type 0 where
   pub done : how ≡ outcome.Done → (sent h ≡ p.sends (taken h)) × (is_ended (taken h) ≡ true)
   pub otherwise : IsNotDone (Some how) → AllByRecursion (λ b. has_stopped b h ≡ true) p.buffers
 
 -- It awaited room, and since then made no more than its request.
-abbrev pub AwaitedRoom : List Entry → Type 0
+abbrev pub AwaitedRoom : {L : Type 0} → List (Entry L) → Type 0
 AwaitedRoom [] = ⊥
 AwaitedRoom (Does act.AwaitRoom r ∷ before) = Unit {0}
 AwaitedRoom (Does act.Request r ∷ before) = AwaitedRoom before
@@ -84,7 +84,7 @@ AwaitedRoom (LacksMemory action r ∷ before) = ⊥
 AwaitedRoom (Delays action ∷ before) = AwaitedRoom before
 
 -- and an item
-abbrev pub AwaitedItem : List Entry → Type 0
+abbrev pub AwaitedItem : {L : Type 0} → List (Entry L) → Type 0
 AwaitedItem [] = ⊥
 AwaitedItem (Does act.AwaitItem r ∷ before) = Unit {0}
 AwaitedItem (Does act.Request r ∷ before) = AwaitedItem before
@@ -99,13 +99,13 @@ pub record HoldsOn (next : Option Action) : Type 0 where
   pub held : IsHeld action
 
 -- this file is wanted first, and there is work to do
-pub record Wants (p : Process) (h : List Entry) (file : List ℕ) : Type 0 where
+pub record Wants {L : Type 0} (p : Process L) (h : List (Entry L)) (file : List ℕ) : Type 0 where
   pub works : unworked p h ≡ true
   pub later : List (List ℕ)
   pub first : p.wants (taken h) ≡ file ∷ later
 
 -- what every history of a process has
-pub record Keeps (p : Process) (h : List Entry) : Type 0 where
+pub record Keeps {L : Type 0} (p : Process L) (h : List (Entry L)) : Type 0 where
   -- What it put is a prefix of its list function of what it took.
   pub prefix : IsPrefixOf (sent h) (p.sends (taken h))
   pub ends : (how : Outcome) → newest h ≡ Some (act.Ended how) → EndsRightly p h how
@@ -128,9 +128,9 @@ pub record Keeps (p : Process) (h : List Entry) : Type 0 where
   pub load : (file : List ℕ) → next_action p h ≡ Some (act.Load file) → Wants p h file
 
 -- Each of the five is a relay, and every history that it may have keeps this.
-abbrev pub TheFiveAreRelays : Type 0
-TheFiveAreRelays = (p : ℕ) → IsRelay (process p)
+abbrev pub TheFiveAreRelays : {L : Type 0} → Jobs L → Type 0
+TheFiveAreRelays J = (p : ℕ) → IsRelay (process J p)
 
 -- Every history of a relay keeps this.
-abbrev pub HistoriesKeep : Type 0
-HistoriesKeep = (p : Process) (h : List Entry) → IsRelay p → Follows p h → Keeps p h
+abbrev pub HistoriesKeep : {L : Type 0} → Jobs L → Type 0
+HistoriesKeep {L} J = (p : Process L) (h : List (Entry L)) → IsRelay p → Follows J p h → Keeps p h

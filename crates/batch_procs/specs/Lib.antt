@@ -1,6 +1,9 @@
+pub mod Jobs
+pub mod JobTold
 pub mod Parcels
 pub mod History
 pub mod Fits
+pub mod Loads
 pub mod Causes
 pub mod Process
 pub mod Sends
@@ -14,4 +17,5 @@ pub mod Work
 pub mod Ahead
 pub mod Due
 pub mod Pages
-pub mod JobWork
+pub mod KeepsJob
+pub mod Keeping

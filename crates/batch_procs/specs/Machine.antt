@@ -8,6 +8,7 @@ use Rattle.batch_procs.specs.declared.actions.Reply.{Reply}
 use Rattle.batch_procs.specs.declared.round.Step.{Step}
 use Rattle.batch_procs.specs.declared.round.Step.TheVariants as step
 use Rattle.batch_procs.specs.declared.machine.Machine.{Machine}
+use Rattle.batch_procs.specs.Jobs.{Jobs}
 use Rattle.batch_procs.specs.Parcels.{Parcel}
 use Rattle.batch_procs.specs.History.{Entry, Does, taken, sent, has_stopped, newest}
 use Rattle.batch_procs.specs.Causes.{given_cause, caused}
@@ -40,7 +41,7 @@ held_at step.Ended = false
 
 -- ---- the stops
 -- of the buffers the first n are stopped, and no other
-abbrev pub AreStopped : List ℕ → ℕ → List Entry → Type 0
+abbrev pub AreStopped : {L : Type 0} → List ℕ → ℕ → List (Entry L) → Type 0
 AreStopped [] zero h = Unit {0}
 AreStopped [] (suc n) h = ⊥
 AreStopped (b ∷ later) zero h = (has_stopped b h ≡ false) × AreStopped later zero h
@@ -53,9 +54,10 @@ stops_after n other = n
 
 -- ---- the machine
 -- The history is one of the process, and the machine stands where it does behind it.
-pub record StandsFor {W : Type 0} (p : Process) (keeps : W → List Parcel → List Parcel → Bool → Type 0)
-    (machine : Machine W) (h : List Entry) : Type 0 where
-  pub follows : Follows p h
+pub record StandsFor {L X W : Type 0} (J : Jobs L) (p : Process L)
+    (keeps : W → List (Parcel L) → List (Parcel L) → Bool → Type 0)
+    (machine : Machine X W) (h : List (Entry L)) : Type 0 where
+  pub follows : Follows J p h
   pub cause : machine.cause ≡ caused h
   pub step : machine.step ≡ step_after (newest h)
   pub stops : AreStopped p.buffers machine.stops h
@@ -69,18 +71,19 @@ NextIs (Some next) action = next ≡ action
 -- ---- one reply to an action
 -- Without a cause before, it gives the cause of the action with its reply, and where there is none the work
 -- keeps what was taken and put with them.
-pub record Uses (p : Process) (now : List Parcel → List Parcel → Bool → Type 0) (action : Action) (r : Reply)
-    (cause : Option Outcome) (h : List Entry) : Type 0 where
+pub record Uses {L : Type 0} (p : Process L) (now : List (Parcel L) → List (Parcel L) → Bool → Type 0)
+    (action : Action) (r : Reply L) (cause : Option Outcome) (h : List (Entry L)) : Type 0 where
   pub cause_is : cause ≡ given_cause action r h
   pub keeps : cause ≡ None
       → now (taken (Does action r ∷ h)) (sent (Does action r ∷ h)) (unworked p (Does action r ∷ h))
 
 -- The reply is used so for every history that the work keeps.
-pub record Answers {W : Type 0} (p : Process) (keeps : W → List Parcel → List Parcel → Bool → Type 0)
-    (old : W) (action : Action) (r : Reply)
+pub record Answers {L W : Type 0} (J : Jobs L) (p : Process L)
+    (keeps : W → List (Parcel L) → List (Parcel L) → Bool → Type 0)
+    (old : W) (action : Action) (r : Reply L)
     (result : Result (Option Outcome) NoMemory) (new : W) : Type 0 where
-  pub uses : (h : List Entry) → Follows p h → caused h ≡ None → next_action p h ≡ Some action → Fits action r
-      → keeps old (taken h) (sent h) (unworked p h)
+  pub uses : (h : List (Entry L)) → Follows J p h → caused h ≡ None
+      → next_action p h ≡ Some action → Fits J action r → keeps old (taken h) (sent h) (unworked p h)
       → IfOk result (λ cause. Uses p (keeps new) action r cause h)
   -- memory is refused only where the process works, and where the action may lack it
-  pub lacks : OnErr result ((p.works ≡ true) × (Fits action r → MayLack action r))
+  pub lacks : OnErr result ((p.works ≡ true) × (Fits J action r → MayLack action r))

@@ -20,14 +20,15 @@ abbrev pub lines_left : List Item → Bool → List Feed
 lines_left items ending = lines_stream (lines_of items) ending
 
 -- No page of these was damaged or the last: what follows is unpacked from this place on.
-pub record ReadsOn (place : ℕ) (taken : List Parcel) : Type 0 where
+pub record ReadsOn {L : Type 0} (place : ℕ) (taken : List (Parcel L)) : Type 0 where
   pub counted : place ≡ length (pages taken) % 2 ^ 16
-  pub goes_on : (rest : List Parcel) → unpacked 0 (taken ++ rest) ≡ unpacked 0 taken ++ unpacked place rest
+  pub goes_on : (rest : List (Parcel L))
+      → unpacked 0 (taken ++ rest) ≡ unpacked 0 taken ++ unpacked place rest
   pub no_end : has_end (unpacked 0 taken) ≡ false
 
 -- The output process: what is due first, and the lines behind it.
-pub record KeepsOutput (awaited : Awaited) (due : Option Feed) (left : List Feed) (taken sent : List Parcel)
-    (unworked : Bool) : Type 0 where
+pub record KeepsOutput {L : Type 0} (awaited : Awaited) (due : Option Feed) (left : List Feed)
+    (taken sent : List (Parcel L)) (unworked : Bool) : Type 0 where
   pub keeps : KeepsDue output (as_parcels (option_to_list due ++ left)) awaited.ended taken sent unworked
   pub front : due ≡ None → left ≡ []
   pub reads : awaited.ended ≡ false → ReadsOn awaited.place taken

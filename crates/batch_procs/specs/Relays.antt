@@ -11,34 +11,16 @@ use Rattle.page_codec.specs.declared.judge.BadPage.{BadPage}
 use Rattle.page_codec.specs.Form.{page_of}
 use Rattle.page_codec.specs.Packing.{PageInHand, fits, first_page, page_given, hand_after}
 use Rattle.page_codec.specs.Reading.{PageContent, page_read}
-use Rattle.disk_system.specs.declared.loading.Loaded.{Loaded}
-use Rattle.batch_job.specs.Loads.{files_named}
 use Rattle.solo_base.specs.Prefixes.{IsPrefixOf}
-use Rattle.batch_job.specs.LinesSoFar.{lines_so_far, is_whole}
-use Rattle.batch_job.proofs.LinesSoFar.{lines_go_on, loads_go_on, never_whole}
+use Rattle.batch_procs.specs.Jobs.{Jobs, AreJobs}
 use Rattle.batch_procs.specs.Parcels.{Parcel, OfFeed, OfPage, OfLine, OfLoad, loads, mark, IsMarked, NothingBehind}
 use Rattle.batch_procs.specs.Process.{Process}
-use Rattle.batch_procs.specs.Sends.{feeds, as_parcels, as_lines, marked, has_end, items, stream, packed, items_then, behind, unpacked_by, unpacked, until_end, lines_of, lines_stream, job_lines, job_sends, job_wants, output_lines}
+use Rattle.batch_procs.specs.Sends.{feeds, as_parcels, as_lines, marked, has_end, items, stream, packed, items_then, behind, unpacked_by, unpacked, until_end, lines_of, job_lines, job_sends, job_wants, output_lines}
 use Rattle.batch_procs.specs.Table.{no_wants, card, input, job, output, printer, nobody, process}
 use Rattle.batch_procs.specs.Laws.{IsRelay}
 use Rattle.batch_procs.specs.Parts.{IsMonotone, behind-both, part-same, part-cons, part-front}
 
 -- ---- a prefix of what is taken gives a prefix of what is put
-feeds-monotone : IsMonotone feeds
-feeds-monotone [] more = (feeds more, refl)
-feeds-monotone (OfFeed f ∷ some) more = part-cons f _ _ (feeds-monotone some more)
-feeds-monotone (OfPage page last ∷ some) more = feeds-monotone some more
-feeds-monotone (OfLine line ∷ some) more = feeds-monotone some more
-feeds-monotone (OfLoad load ∷ some) more = feeds-monotone some more
-
-as_parcels-monotone : IsMonotone as_parcels
-as_parcels-monotone [] more = (as_parcels more, refl)
-as_parcels-monotone (f ∷ some) more = part-cons (OfFeed f) _ _ (as_parcels-monotone some more)
-
-as_lines-monotone : IsMonotone as_lines
-as_lines-monotone [] more = (as_lines more, refl)
-as_lines-monotone (line ∷ some) more = part-cons (OfLine line) _ _ (as_lines-monotone some more)
-
 items-monotone : IsMonotone items
 items-monotone [] more = (items more, refl)
 items-monotone (feed.Item item ∷ some) more = part-cons item _ _ (items-monotone some more)
@@ -48,12 +30,6 @@ lines_of-monotone : IsMonotone lines_of
 lines_of-monotone [] more = (lines_of more, refl)
 lines_of-monotone (Line line ∷ some) more = part-cons line _ _ (lines_of-monotone some more)
 lines_of-monotone (Spoiled ∷ some) more = lines_of-monotone some more
-
-pub packed-monotone : (hand : PageInHand) → IsMonotone (packed hand)
-packed-monotone hand [] more = (packed hand more, refl)
-packed-monotone hand (feed.Item item ∷ some) more =
-    part-front (marked false (option_to_list (page_given hand item))) _ _ (packed-monotone (hand_after hand item) some more)
-packed-monotone hand (feed.End ∷ some) more = ([], refl)
 
 items_then-part : (xs : List Item) (part whole : List Feed) → IsPrefixOf part whole → IsPrefixOf (items_then xs part) (items_then xs whole)
 items_then-part [] part whole is = is
@@ -68,15 +44,6 @@ unpacked-part : (content : Result PageContent BadPage) (last : Bool) (part whole
 unpacked-part (Ok content) last part whole is = items_then-part content.items _ _ (behind-part last part whole is)
 unpacked-part (Err bad) last part whole is = ([], refl)
 
-pub unpacked-monotone : (place : ℕ) → IsMonotone (unpacked place)
-unpacked-monotone place [] more = (unpacked place more, refl)
-unpacked-monotone place (OfPage page last ∷ some) more = unpacked-part (page_read place last page) last _ _
-    (unpacked-monotone ((place + 1) % 2 ^ 16) some more)
-unpacked-monotone place (OfLoad load ∷ some) more = unpacked-monotone place some more
-unpacked-monotone place (OfFeed f ∷ some) more = ([], refl)
-unpacked-monotone place (OfLine line ∷ some) more = ([], refl)
-
--- ---- streams: nothing more behind the end, and before it whatever the items give
 -- either the end has come, and nothing more is seen; or all items are seen
 pub record GoesOn (some more : List Feed) : Type 0 where
   pub items_are : items (some ++ more) ≡ items some ++ items more
@@ -126,75 +93,15 @@ stream-monotone makes part some more =
           ++ more)))) (sym on.items_are) (part (items some) (items more) (has_end (some ++ more)))))
     ] refl
 
--- ---- the lines of a job process, with more pages and more loads
 same-part : {A : Type 0} (part whole : List A) → part ≡ whole → IsPrefixOf part whole
 same-part part whole is = subst (λ all. IsPrefixOf part all) is (part-same part)
 
-jobs-on-ended : (xs : List Item) (found later : List Loaded) (t : Bool) → is_whole xs found true ≡ t
-    → IsPrefixOf (stream (map Line (lines_so_far xs found true)) t)
-    (stream (map Line (lines_so_far xs (found ++ later) true)) (is_whole xs (found ++ later) true))
-jobs-on-ended xs found later true whole =
-    let on = (loads_go_on xs found later).1 whole in
-    same-part _ _ (ap (λ ls. stream (map Line ls) true) (sym on.0) ∙ ap (λ t. stream (map Line (lines_so_far xs (found ++ later) true)) t) (sym on.1))
-jobs-on-ended xs found later false lacks =
-    stream-part (map Line (lines_so_far xs found true)) (map Line (lines_so_far xs (found ++ later) true)) (is_whole xs (found ++ later) true)
-    (map-part _ _ ((loads_go_on xs found later).0 lacks))
+output_lines-monotone : IsMonotone output_lines
+output_lines-monotone = stream-monotone (λ xs ended. map Line (lines_of xs)) (λ some more ended. map-part _ _ (lines_of-monotone some more))
 
-job_lines-on : (some more : List Feed) (found later : List Loaded) → IsPrefixOf (job_lines some found) (job_lines (some ++ more) (found ++ later))
-job_lines-on some more found later = by (has_end some) refl
-  where
-    by : (t : Bool) → has_end some ≡ t → IsPrefixOf (job_lines some found) (job_lines (some ++ more) (found ++ later))
-    by true e =
-        let same = ended-same some more e in
-        let now : stream (map Line (lines_so_far (items some) found true)) (is_whole (items some) found true) ≡ job_lines some found =
-        ap (λ t. stream (map Line (lines_so_far (items some) found t)) (is_whole (items some) found t)) (sym e) in
-        let then_is : stream (map Line (lines_so_far (items some) (found ++ later) true)) (is_whole (items some) (found ++ later) true)
-        ≡ job_lines (some ++ more) (found ++ later) =
-        ap (λ t. stream (map Line (lines_so_far (items some) (found ++ later) t)) (is_whole (items some) (found ++ later) t)) (sym same.1)
-        ∙ ap (λ xs. stream (map Line (lines_so_far xs (found ++ later) (has_end (some ++ more)))) (is_whole xs (found ++ later) (has_end (some ++ more))))
-        (sym same.0) in
-        subst (λ part. IsPrefixOf part (job_lines (some ++ more) (found ++ later))) now
-        (subst (λ whole. IsPrefixOf (stream (map Line (lines_so_far (items some) found true)) (is_whole (items some) found true)) whole) then_is
-        (jobs-on-ended (items some) found later (is_whole (items some) found true) refl))
-    by false e =
-        let on = goes-on some more e in
-        let t = has_end (some ++ more) in
-        let now : stream (map Line (lines_so_far (items some) found false)) false ≡ job_lines some found =
-        ap (λ w. stream (map Line (lines_so_far (items some) found false)) w) (sym (never_whole (items some) found))
-        ∙ ap (λ t. stream (map Line (lines_so_far (items some) found t)) (is_whole (items some) found t)) (sym e) in
-        let then_is : stream (map Line (lines_so_far (items some ++ items more) (found ++ later) t)) (is_whole (items (some ++ more)) (found ++ later) t)
-        ≡ job_lines (some ++ more) (found ++ later) =
-        ap (λ xs. stream (map Line (lines_so_far xs (found ++ later) t)) (is_whole (items (some ++ more)) (found ++ later) t)) (sym on.items_are) in
-        subst (λ part. IsPrefixOf part (job_lines (some ++ more) (found ++ later))) now
-        (subst (λ whole. IsPrefixOf (stream (map Line (lines_so_far (items some) found false)) false) whole) then_is
-        (stream-part (map Line (lines_so_far (items some) found false)) (map Line (lines_so_far (items some ++ items more) (found ++ later) t))
-        (is_whole (items (some ++ more)) (found ++ later) t)
-        (map-part _ _ (lines_go_on (items some) (items more) found later t))))
-
-pub loads-append : (some more : List Parcel) → loads (some ++ more) ≡ loads some ++ loads more
-loads-append [] more = refl
-loads-append (OfLoad load ∷ some) more = ap (λ ls. load ∷ ls) (loads-append some more)
-loads-append (OfFeed f ∷ some) more = loads-append some more
-loads-append (OfPage page last ∷ some) more = loads-append some more
-loads-append (OfLine line ∷ some) more = loads-append some more
-
-job-monotone : IsMonotone job_sends
-job-monotone some more =
-    let (rest, e) = unpacked-monotone 0 some more in
-    let (later, is) = job_lines-on (unpacked 0 some) rest (loads some) (loads more) in
-    let whole : job_lines (unpacked 0 some) (loads some) ++ later ≡ job_lines (unpacked 0 (some ++ more)) (loads (some ++ more)) =
-    is ∙ ap (λ fs. job_lines fs (loads some ++ loads more)) e ∙ ap (λ ls. job_lines (unpacked 0 (some ++ more)) ls) (sym (loads-append some more)) in
-    let (new, all) = packed-monotone first_page (job_lines (unpacked 0 some) (loads some)) later in
-    (new, all ∙ ap (packed first_page) whole)
-
--- ---- a load takes the first file that is wanted
-pub unpacked-load : (place : ℕ) (all : List Parcel) (load : Loaded) → unpacked place (all ++ OfLoad load ∷ []) ≡ unpacked place all
-unpacked-load place [] load = refl
-unpacked-load place (OfPage page last ∷ all) load =
-    ap (λ fs. unpacked_by (page_read place last page) last fs) (unpacked-load ((place + 1) % 2 ^ 16) all load)
-unpacked-load place (OfLoad first ∷ all) load = unpacked-load place all load
-unpacked-load place (OfFeed f ∷ all) load = refl
-unpacked-load place (OfLine line ∷ all) load = refl
+pub mark-of : (place : ℕ) (last : Bool) (content : List ℕ) → mark (page_of place last content) ≡ last
+mark-of place true content = refl
+mark-of place false content = refl
 
 one-longer : {A : Type 0} (xs : List A) (x : A) → length (xs ++ x ∷ []) ≡ suc (length xs)
 one-longer [] x = refl
@@ -205,148 +112,239 @@ drop-next zero xs x later e = ap (λ ys. drop 1 ys) e
 drop-next (suc n) [] x later e = absurd cc
 drop-next (suc n) (y ∷ xs) x later e = drop-next n xs x later e
 
-pub loads-one : (all : List Parcel) (load : Loaded) → loads (all ++ OfLoad load ∷ []) ≡ loads all ++ load ∷ []
-loads-one all load = loads-append all (OfLoad load ∷ [])
+-- ---- lists of parcels
+module _ {L : Type 0} where
+  feeds-monotone : (some more : List (Parcel L)) → IsPrefixOf (feeds some) (feeds (some ++ more))
+  feeds-monotone [] more = (feeds more, refl)
+  feeds-monotone (OfFeed f ∷ some) more = part-cons f _ _ (feeds-monotone some more)
+  feeds-monotone (OfPage page last ∷ some) more = feeds-monotone some more
+  feeds-monotone (OfLine line ∷ some) more = feeds-monotone some more
+  feeds-monotone (OfLoad load ∷ some) more = feeds-monotone some more
 
-job-loads : (all : List Parcel) (load : Loaded) (file : List ℕ) (later : List (List ℕ)) → job_wants all ≡ file ∷ later
-    → job_wants (all ++ OfLoad load ∷ []) ≡ later
-job-loads all load file later e =
-    ap (λ ls. drop (length ls) (files_named (items (unpacked 0 (all ++ OfLoad load ∷ []))))) (loads-one all load)
-    ∙ ap (λ n. drop n (files_named (items (unpacked 0 (all ++ OfLoad load ∷ []))))) (one-longer (loads all) load)
-    ∙ ap (λ fs. drop (suc (length (loads all))) (files_named (items fs))) (unpacked-load 0 all load)
-    ∙ drop-next (length (loads all)) (files_named (items (unpacked 0 all))) file later e
+  pub unpacked-monotone : (place : ℕ) (some more : List (Parcel L)) → IsPrefixOf (unpacked place some) (unpacked place (some ++ more))
+  unpacked-monotone place [] more = (unpacked place more, refl)
+  unpacked-monotone place (OfPage page last ∷ some) more = unpacked-part (page_read place last page) last _ _
+      (unpacked-monotone ((place + 1) % 2 ^ 16) some more)
+  unpacked-monotone place (OfLoad load ∷ some) more = unpacked-monotone place some more
+  unpacked-monotone place (OfFeed f ∷ some) more = ([], refl)
+  unpacked-monotone place (OfLine line ∷ some) more = ([], refl)
 
-none-wanted : (all : List Parcel) (load : Loaded) (file : List ℕ) (later : List (List ℕ)) → no_wants all ≡ file ∷ later
-    → no_wants (all ++ OfLoad load ∷ []) ≡ later
-none-wanted all load file later e = absurd cc
+  pub loads-append : (some more : List (Parcel L)) → loads (some ++ more) ≡ loads some ++ loads more
+  loads-append [] more = refl
+  loads-append (OfLoad load ∷ some) more = ap (λ ls. load ∷ ls) (loads-append some more)
+  loads-append (OfFeed f ∷ some) more = loads-append some more
+  loads-append (OfPage page last ∷ some) more = loads-append some more
+  loads-append (OfLine line ∷ some) more = loads-append some more
 
--- ---- nothing comes behind the last
-stream-ends : (xs : List Item) (ended : Bool) → NothingBehind (as_parcels (stream xs ended))
-stream-ends [] true = ((λ e. refl), tt)
-stream-ends [] false = tt
-stream-ends (item ∷ xs) ended = ((λ e. absurd cc), stream-ends xs ended)
+  pub loads-one : (all : List (Parcel L)) (load : L) → loads (all ++ OfLoad load ∷ []) ≡ loads all ++ load ∷ []
+  loads-one all load = loads-append all (OfLoad load ∷ [])
 
-lines-end : (all : List (List ℕ)) → NothingBehind (as_lines all)
-lines-end [] = tt
-lines-end (line ∷ rest) = ((λ e. absurd cc), lines-end rest)
+  pub unpacked-load : (place : ℕ) (all : List (Parcel L)) (load : L) → unpacked place (all ++ OfLoad load ∷ []) ≡ unpacked place all
+  unpacked-load place [] load = refl
+  unpacked-load place (OfPage page last ∷ all) load =
+      ap (λ fs. unpacked_by (page_read place last page) last fs) (unpacked-load ((place + 1) % 2 ^ 16) all load)
+  unpacked-load place (OfLoad first ∷ all) load = unpacked-load place all load
+  unpacked-load place (OfFeed f ∷ all) load = refl
+  unpacked-load place (OfLine line ∷ all) load = refl
 
-given-ends : (given : Option Page) (rest : List Parcel) → NothingBehind rest → NothingBehind (marked false (option_to_list given) ++ rest)
-given-ends None rest is = is
-given-ends (Some page) rest is = ((λ e. absurd cc), is)
+  none-wanted : (all : List (Parcel L)) (load : L) (file : List ℕ) (later : List (List ℕ)) → no_wants all ≡ file ∷ later
+      → no_wants (all ++ OfLoad load ∷ []) ≡ later
+  none-wanted all load file later e = absurd cc
 
-pub packed-ends : (hand : PageInHand) (all : List Feed) → NothingBehind (packed hand all)
-packed-ends hand [] = tt
-packed-ends hand (feed.Item item ∷ rest) = given-ends (page_given hand item) _ (packed-ends (hand_after hand item) rest)
-packed-ends hand (feed.End ∷ rest) = ((λ e. refl), tt)
+  given-ends : (given : Option Page) (rest : List (Parcel L)) → NothingBehind rest → NothingBehind (marked false (option_to_list given) ++ rest)
+  given-ends None rest is = is
+  given-ends (Some page) rest is = ((λ e. absurd cc), is)
 
--- ---- the marks of the pages
-pub mark-of : (place : ℕ) (last : Bool) (content : List ℕ) → mark (page_of place last content) ≡ last
-mark-of place true content = refl
-mark-of place false content = refl
+  -- what holds of two processes holds of either
+  either : (Is : Process L → Type 0) (t : Bool) (yes_p no_p : Process L) → Is yes_p → Is no_p → Is (if t then yes_p else no_p)
+  either Is true yes_p no_p a b = a
+  either Is false yes_p no_p a b = b
 
-parcels-marked : (all : List Feed) → AllByRecursion IsMarked (as_parcels all)
-parcels-marked [] = tt
-parcels-marked (f ∷ rest) = (tt, parcels-marked rest)
+-- ---- lists of feeds and lines as parcels, and the four that know no jobs
+module _ (L : Type 0) where
+  as_parcels-monotone : IsMonotone (as_parcels {L = L})
+  as_parcels-monotone [] more = (as_parcels more, refl)
+  as_parcels-monotone (f ∷ some) more = part-cons (OfFeed f) _ _ (as_parcels-monotone some more)
 
-lines-marked : (all : List (List ℕ)) → AllByRecursion IsMarked (as_lines all)
-lines-marked [] = tt
-lines-marked (line ∷ rest) = (tt, lines-marked rest)
+  as_lines-monotone : IsMonotone (as_lines {L = L})
+  as_lines-monotone [] more = (as_lines more, refl)
+  as_lines-monotone (line ∷ some) more = part-cons (OfLine line) _ _ (as_lines-monotone some more)
 
-pub packed-marked : (hand : PageInHand) (all : List Feed) → AllByRecursion IsMarked (packed hand all)
-packed-marked hand [] = tt
-packed-marked hand (feed.Item item ∷ rest) =
-    let more = packed-marked (hand_after hand item) rest in
-    let P : Bool
-    → Type 0 =
-    λ t. AllByRecursion IsMarked (marked false (option_to_list (if t then None else Some (page_of hand.place false hand.content)))
-    ++ packed (hand_after hand item) rest) in
-    elim (fits hand item) as P [ true ↦ more | false ↦ (mark-of hand.place false hand.content, more) ]
-packed-marked hand (feed.End ∷ rest) = (mark-of hand.place true hand.content, tt)
+  pub packed-monotone : (hand : PageInHand) → IsMonotone (packed {L = L} hand)
+  packed-monotone hand [] more = (packed hand more, refl)
+  packed-monotone hand (feed.Item item ∷ some) more =
+      part-front (marked false (option_to_list (page_given hand item))) _ _ (packed-monotone (hand_after hand item) some more)
+  packed-monotone hand (feed.End ∷ some) more = ([], refl)
 
--- ---- the five are relays
-pub card-relay : IsRelay card
-card-relay = record {
-  takes = tt;
-  monotone =
-      behind-both feeds (λ all. as_parcels (until_end all)) feeds-monotone
-      (behind-both until_end as_parcels (stream-monotone (λ xs ended. xs) (λ some more ended. (more, refl))) as_parcels-monotone);
-  marked = λ all. parcels-marked (until_end (feeds all));
-  stream = λ all. stream-ends (items (feeds all)) (has_end (feeds all));
-  loads = none-wanted;
-  ordered = (tt, tt);
-  few = lit< tt;
-}
+  stream-ends : (xs : List Item) (ended : Bool) → NothingBehind (as_parcels {L = L} (stream xs ended))
+  stream-ends [] true = ((λ e. refl), tt)
+  stream-ends [] false = tt
+  stream-ends (item ∷ xs) ended = ((λ e. absurd cc), stream-ends xs ended)
 
-pub input-relay : IsRelay input
-input-relay = record {
-  takes = tt;
-  monotone = behind-both feeds (packed first_page) feeds-monotone (packed-monotone first_page);
-  marked = λ all. packed-marked first_page (feeds all);
-  stream = λ all. packed-ends first_page (feeds all);
-  loads = none-wanted;
-  ordered = ((lit< tt, tt), (tt, tt));
-  few = lit< tt;
-}
+  lines-end : (all : List (List ℕ)) → NothingBehind (as_lines {L = L} all)
+  lines-end [] = tt
+  lines-end (line ∷ rest) = ((λ e. absurd cc), lines-end rest)
 
-pub job-relay : IsRelay job
-job-relay = record {
-  takes = tt;
-  monotone = job-monotone;
-  marked = λ all. packed-marked first_page (job_lines (unpacked 0 all) (loads all));
-  stream = λ all. packed-ends first_page (job_lines (unpacked 0 all) (loads all));
-  loads = job-loads;
-  ordered = ((lit< tt, tt), (tt, tt));
-  few = lit< tt;
-}
+  pub packed-ends : (hand : PageInHand) (all : List Feed) → NothingBehind (packed {L = L} hand all)
+  packed-ends hand [] = tt
+  packed-ends hand (feed.Item item ∷ rest) = given-ends (page_given hand item) _ (packed-ends (hand_after hand item) rest)
+  packed-ends hand (feed.End ∷ rest) = ((λ e. refl), tt)
 
-output_lines-monotone : IsMonotone output_lines
-output_lines-monotone = stream-monotone (λ xs ended. map Line (lines_of xs)) (λ some more ended. map-part _ _ (lines_of-monotone some more))
+  parcels-marked : (all : List Feed) → AllByRecursion IsMarked (as_parcels {L = L} all)
+  parcels-marked [] = tt
+  parcels-marked (f ∷ rest) = (tt, parcels-marked rest)
 
-pub output-relay : IsRelay output
-output-relay = record {
-  takes = tt;
-  monotone =
-      behind-both (unpacked 0) (λ all. as_parcels (output_lines all)) (unpacked-monotone 0)
-      (behind-both output_lines as_parcels output_lines-monotone as_parcels-monotone);
-  marked = λ all. parcels-marked (output_lines (unpacked 0 all));
-  stream = λ all. stream-ends (map Line (lines_of (items (unpacked 0 all)))) (has_end (unpacked 0 all));
-  loads = none-wanted;
-  ordered = ((lit< tt, tt), (tt, tt));
-  few = lit< tt;
-}
+  lines-marked : (all : List (List ℕ)) → AllByRecursion IsMarked (as_lines {L = L} all)
+  lines-marked [] = tt
+  lines-marked (line ∷ rest) = (tt, lines-marked rest)
 
-pub printer-relay : IsRelay printer
-printer-relay = record {
-  takes = tt;
-  monotone =
-      behind-both feeds (λ all. as_lines (lines_of (items all))) feeds-monotone
-      (behind-both items (λ xs. as_lines (lines_of xs)) items-monotone (behind-both lines_of as_lines lines_of-monotone as_lines-monotone));
-  marked = λ all. lines-marked (lines_of (items (feeds all)));
-  stream = λ all. lines-end (lines_of (items (feeds all)));
-  loads = none-wanted;
-  ordered = (tt, tt);
-  few = lit< tt;
-}
+  pub packed-marked : (hand : PageInHand) (all : List Feed) → AllByRecursion IsMarked (packed {L = L} hand all)
+  packed-marked hand [] = tt
+  packed-marked hand (feed.Item item ∷ rest) =
+      let more = packed-marked (hand_after hand item) rest in
+      let P : Bool
+      → Type 0 =
+      λ t. AllByRecursion IsMarked (marked {L = L} false (option_to_list (if t then None else Some (page_of hand.place false hand.content)))
+      ++ packed (hand_after hand item) rest) in
+      elim (fits hand item) as P [ true ↦ more | false ↦ (mark-of hand.place false hand.content, more) ]
+  packed-marked hand (feed.End ∷ rest) = (mark-of hand.place true hand.content, tt)
 
-nobody-relay : IsRelay nobody
-nobody-relay = record {
-  takes = tt;
-  monotone = λ some more. ([], refl);
-  marked = λ all. tt;
-  stream = λ all. tt;
-  loads = none-wanted;
-  ordered = tt;
-  few = lit< tt;
-}
+  pub card-relay : IsRelay (card {L = L})
+  card-relay = record {
+    takes = tt;
+    monotone =
+        behind-both feeds (λ all. as_parcels (until_end all)) feeds-monotone
+        (behind-both until_end as_parcels (stream-monotone (λ xs ended. xs) (λ some more ended. (more, refl))) as_parcels-monotone);
+    marked = λ all. parcels-marked (until_end (feeds all));
+    stream = λ all. stream-ends (items (feeds all)) (has_end (feeds all));
+    loads = none-wanted;
+    ordered = (tt, tt);
+    few = lit< tt;
+  }
 
--- what holds of two processes holds of either
-either : (Is : Process → Type 0) (t : Bool) (yes_p no_p : Process) → Is yes_p → Is no_p → Is (if t then yes_p else no_p)
-either Is true yes_p no_p a b = a
-either Is false yes_p no_p a b = b
+  pub input-relay : IsRelay (input {L = L})
+  input-relay = record {
+    takes = tt;
+    monotone = behind-both feeds (packed first_page) feeds-monotone (packed-monotone first_page);
+    marked = λ all. packed-marked first_page (feeds all);
+    stream = λ all. packed-ends first_page (feeds all);
+    loads = none-wanted;
+    ordered = ((lit< tt, tt), (tt, tt));
+    few = lit< tt;
+  }
 
-pub relays : (p : ℕ) → IsRelay (process p)
-relays p =
-    either IsRelay (p == 1) card _ card-relay
-    (either IsRelay (p == 2) input _ input-relay
-    (either IsRelay (p == 3) job _ job-relay (either IsRelay (p == 4) output _ output-relay
-    (either IsRelay (p == 5) printer nobody printer-relay nobody-relay))))
+  pub output-relay : IsRelay (output {L = L})
+  output-relay = record {
+    takes = tt;
+    monotone =
+        behind-both (unpacked 0) (λ all. as_parcels (output_lines all)) (unpacked-monotone 0)
+        (behind-both output_lines as_parcels output_lines-monotone as_parcels-monotone);
+    marked = λ all. parcels-marked (output_lines (unpacked 0 all));
+    stream = λ all. stream-ends (map Line (lines_of (items (unpacked 0 all)))) (has_end (unpacked 0 all));
+    loads = none-wanted;
+    ordered = ((lit< tt, tt), (tt, tt));
+    few = lit< tt;
+  }
+
+  pub printer-relay : IsRelay (printer {L = L})
+  printer-relay = record {
+    takes = tt;
+    monotone =
+        behind-both feeds (λ all. as_lines (lines_of (items all))) feeds-monotone
+        (behind-both items (λ xs. as_lines (lines_of xs)) items-monotone (behind-both lines_of as_lines lines_of-monotone as_lines-monotone));
+    marked = λ all. lines-marked (lines_of (items (feeds all)));
+    stream = λ all. lines-end (lines_of (items (feeds all)));
+    loads = none-wanted;
+    ordered = (tt, tt);
+    few = lit< tt;
+  }
+
+  nobody-relay : IsRelay (nobody {L = L})
+  nobody-relay = record {
+    takes = tt;
+    monotone = λ some more. ([], refl);
+    marked = λ all. tt;
+    stream = λ all. tt;
+    loads = none-wanted;
+    ordered = tt;
+    few = lit< tt;
+  }
+
+-- ---- the job process, with more pages and more loads; a load takes the first file that is wanted
+module _ {L : Type 0} {J : Jobs L} (jobs : AreJobs J) where
+  jobs-on-ended : (xs : List Item) (found later : List L) (t : Bool) → J.whole xs found true ≡ t
+      → IsPrefixOf (stream (map Line (J.lines xs found true)) t)
+      (stream (map Line (J.lines xs (found ++ later) true)) (J.whole xs (found ++ later) true))
+  jobs-on-ended xs found later true whole =
+      let lines = jobs.lines_stay xs found later whole in
+      let stays = jobs.stays_whole xs found later whole in
+      same-part _ _ (ap (λ ls. stream (map Line ls) true) (sym lines) ∙ ap (λ t. stream (map Line (J.lines xs (found ++ later) true)) t) (sym stays))
+  jobs-on-ended xs found later false lacks =
+      stream-part (map Line (J.lines xs found true)) (map Line (J.lines xs (found ++ later) true)) (J.whole xs (found ++ later) true)
+      (map-part _ _ (jobs.loads_add xs found later lacks))
+
+  job_lines-on : (some more : List Feed) (found later : List L) → IsPrefixOf (job_lines J some found) (job_lines J (some ++ more) (found ++ later))
+  job_lines-on some more found later = by (has_end some) refl
+    where
+      by : (t : Bool) → has_end some ≡ t → IsPrefixOf (job_lines J some found) (job_lines J (some ++ more) (found ++ later))
+      by true e =
+          let same = ended-same some more e in
+          let now : stream (map Line (J.lines (items some) found true)) (J.whole (items some) found true) ≡ job_lines J some found =
+          ap (λ t. stream (map Line (J.lines (items some) found t)) (J.whole (items some) found t)) (sym e) in
+          let then_is : stream (map Line (J.lines (items some) (found ++ later) true)) (J.whole (items some) (found ++ later) true)
+          ≡ job_lines J (some ++ more) (found ++ later) =
+          ap (λ t. stream (map Line (J.lines (items some) (found ++ later) t)) (J.whole (items some) (found ++ later) t)) (sym same.1)
+          ∙ ap (λ xs. stream (map Line (J.lines xs (found ++ later) (has_end (some ++ more)))) (J.whole xs (found ++ later) (has_end (some ++ more))))
+          (sym same.0) in
+          subst (λ part. IsPrefixOf part (job_lines J (some ++ more) (found ++ later))) now
+          (subst (λ whole. IsPrefixOf (stream (map Line (J.lines (items some) found true)) (J.whole (items some) found true)) whole) then_is
+          (jobs-on-ended (items some) found later (J.whole (items some) found true) refl))
+      by false e =
+          let on = goes-on some more e in
+          let t = has_end (some ++ more) in
+          let now : stream (map Line (J.lines (items some) found false)) false ≡ job_lines J some found =
+          ap (λ w. stream (map Line (J.lines (items some) found false)) w) (sym (jobs.not_whole (items some) found))
+          ∙ ap (λ t. stream (map Line (J.lines (items some) found t)) (J.whole (items some) found t)) (sym e) in
+          let then_is : stream (map Line (J.lines (items some ++ items more) (found ++ later) t)) (J.whole (items (some ++ more)) (found ++ later) t)
+          ≡ job_lines J (some ++ more) (found ++ later) =
+          ap (λ xs. stream (map Line (J.lines xs (found ++ later) t)) (J.whole (items (some ++ more)) (found ++ later) t)) (sym on.items_are) in
+          subst (λ part. IsPrefixOf part (job_lines J (some ++ more) (found ++ later))) now
+          (subst (λ whole. IsPrefixOf (stream (map Line (J.lines (items some) found false)) false) whole) then_is
+          (stream-part (map Line (J.lines (items some) found false)) (map Line (J.lines (items some ++ items more) (found ++ later) t))
+          (J.whole (items (some ++ more)) (found ++ later) t)
+          (map-part _ _ (jobs.items_add (items some) (items more) found later t))))
+
+  job-monotone : IsMonotone (job_sends J)
+  job-monotone some more =
+      let (rest, e) = unpacked-monotone 0 some more in
+      let (later, is) = job_lines-on (unpacked 0 some) rest (loads some) (loads more) in
+      let whole : job_lines J (unpacked 0 some) (loads some) ++ later ≡ job_lines J (unpacked 0 (some ++ more)) (loads (some ++ more)) =
+      is ∙ ap (λ fs. job_lines J fs (loads some ++ loads more)) e ∙ ap (λ ls. job_lines J (unpacked 0 (some ++ more)) ls) (sym (loads-append some more)) in
+      let (new, all) = packed-monotone L first_page (job_lines J (unpacked 0 some) (loads some)) later in
+      (new, all ∙ ap (packed first_page) whole)
+
+  job-loads : (all : List (Parcel L)) (load : L) (file : List ℕ) (later : List (List ℕ)) → job_wants J all ≡ file ∷ later
+      → job_wants J (all ++ OfLoad load ∷ []) ≡ later
+  job-loads all load file later e =
+      ap (λ ls. drop (length ls) (J.named (items (unpacked 0 (all ++ OfLoad load ∷ []))))) (loads-one all load)
+      ∙ ap (λ n. drop n (J.named (items (unpacked 0 (all ++ OfLoad load ∷ []))))) (one-longer (loads all) load)
+      ∙ ap (λ fs. drop (suc (length (loads all))) (J.named (items fs))) (unpacked-load 0 all load)
+      ∙ drop-next (length (loads all)) (J.named (items (unpacked 0 all))) file later e
+
+  pub job-relay : IsRelay (job J)
+  job-relay = record {
+    takes = tt;
+    monotone = job-monotone;
+    marked = λ all. packed-marked L first_page (job_lines J (unpacked 0 all) (loads all));
+    stream = λ all. packed-ends L first_page (job_lines J (unpacked 0 all) (loads all));
+    loads = job-loads;
+    ordered = ((lit< tt, tt), (tt, tt));
+    few = lit< tt;
+  }
+
+  pub relays : (p : ℕ) → IsRelay (process J p)
+  relays p =
+      either IsRelay (p == 1) card _ (card-relay L)
+      (either IsRelay (p == 2) input _ (input-relay L)
+      (either IsRelay (p == 3) (job J) _ job-relay (either IsRelay (p == 4) output _ (output-relay L)
+      (either IsRelay (p == 5) printer nobody (printer-relay L) (nobody-relay L)))))

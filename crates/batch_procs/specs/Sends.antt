@@ -9,14 +9,12 @@ use Rattle.page_codec.specs.declared.judge.BadPage.{BadPage}
 use Rattle.page_codec.specs.Form.{page_of}
 use Rattle.page_codec.specs.Packing.{PageInHand, first_page, page_given, hand_after}
 use Rattle.page_codec.specs.Reading.{PageContent, page_read}
-use Rattle.disk_system.specs.declared.loading.Loaded.{Loaded}
-use Rattle.batch_job.specs.Loads.{files_named}
-use Rattle.batch_job.specs.LinesSoFar.{lines_so_far, is_whole}
+use Rattle.batch_procs.specs.Jobs.{Jobs}
 use Rattle.batch_procs.specs.Parcels.{Parcel, OfFeed, OfPage, OfLine, OfLoad, loads}
 
 -- ---- parcels and what they hold
 -- the feeds among them
-abbrev pub feeds : List Parcel → List Feed
+abbrev pub feeds : {L : Type 0} → List (Parcel L) → List Feed
 feeds [] = []
 feeds (OfFeed f ∷ rest) = f ∷ feeds rest
 feeds (OfPage page last ∷ rest) = feeds rest
@@ -24,17 +22,17 @@ feeds (OfLine line ∷ rest) = feeds rest
 feeds (OfLoad load ∷ rest) = feeds rest
 
 -- each as a parcel
-abbrev pub as_parcels : List Feed → List Parcel
+abbrev pub as_parcels : {L : Type 0} → List Feed → List (Parcel L)
 as_parcels [] = []
 as_parcels (f ∷ rest) = OfFeed f ∷ as_parcels rest
 
 -- each as a printed line
-abbrev pub as_lines : List (List ℕ) → List Parcel
+abbrev pub as_lines : {L : Type 0} → List (List ℕ) → List (Parcel L)
 as_lines [] = []
 as_lines (line ∷ rest) = OfLine line ∷ as_lines rest
 
 -- each page with this mark
-abbrev pub marked : Bool → List Page → List Parcel
+abbrev pub marked : {L : Type 0} → Bool → List Page → List (Parcel L)
 marked last [] = []
 marked last (page ∷ rest) = OfPage page last ∷ marked last rest
 
@@ -61,7 +59,7 @@ stream [] ended = end_if ended
 stream (item ∷ rest) ended = feed.Item item ∷ stream rest ended
 
 -- ---- packing: a page goes out when an item has no room on it, and the last at the end
-abbrev pub packed : PageInHand → List Feed → List Parcel
+abbrev pub packed : {L : Type 0} → PageInHand → List Feed → List (Parcel L)
 packed hand [] = []
 packed hand (feed.Item item ∷ rest) =
     marked false (option_to_list (page_given hand item)) ++ packed (hand_after hand item) rest
@@ -83,7 +81,7 @@ unpacked_by (Ok content) last rest = items_then content.items (behind last rest)
 unpacked_by (Err bad) last rest = []
 
 -- of the pages from this place of their stream on; loads are passed over
-abbrev pub unpacked : ℕ → List Parcel → List Feed
+abbrev pub unpacked : {L : Type 0} → ℕ → List (Parcel L) → List Feed
 unpacked place [] = []
 unpacked place (OfPage page last ∷ rest) =
     unpacked_by (page_read place last page) last (unpacked ((place + 1) % 2 ^ 16) rest)
@@ -107,34 +105,34 @@ abbrev pub lines_stream : List (List ℕ) → Bool → List Feed
 lines_stream lines ended = stream (map Line lines) ended
 
 -- ---- the five
-abbrev pub card_sends : List Parcel → List Parcel
+abbrev pub card_sends : {L : Type 0} → List (Parcel L) → List (Parcel L)
 card_sends taken = as_parcels (until_end (feeds taken))
 
 -- the cards in pages
-abbrev pub input_sends : List Parcel → List Parcel
+abbrev pub input_sends : {L : Type 0} → List (Parcel L) → List (Parcel L)
 input_sends taken = packed first_page (feeds taken)
 
 -- the lines so far of the items of its pages, up to the first job of a file that isn't loaded yet
-abbrev pub job_lines : List Feed → List Loaded → List Feed
-job_lines all found =
-    lines_stream (lines_so_far (items all) found (has_end all)) (is_whole (items all) found (has_end all))
+abbrev pub job_lines : {L : Type 0} → Jobs L → List Feed → List L → List Feed
+job_lines J all found =
+    lines_stream (J.lines (items all) found (has_end all)) (J.whole (items all) found (has_end all))
 
 -- of pages of cards and loads, pages of the lines of their jobs
-abbrev pub job_sends : List Parcel → List Parcel
-job_sends taken = packed first_page (job_lines (unpacked 0 taken) (loads taken))
+abbrev pub job_sends : {L : Type 0} → Jobs L → List (Parcel L) → List (Parcel L)
+job_sends J taken = packed first_page (job_lines J (unpacked 0 taken) (loads taken))
 
 -- the files of its jobs that aren't loaded yet
-abbrev pub job_wants : List Parcel → List (List ℕ)
-job_wants taken = drop (length (loads taken)) (files_named (items (unpacked 0 taken)))
+abbrev pub job_wants : {L : Type 0} → Jobs L → List (Parcel L) → List (List ℕ)
+job_wants J taken = drop (length (loads taken)) (J.named (items (unpacked 0 taken)))
 
 -- the lines up to the end and with it
 abbrev pub output_lines : List Feed → List Feed
 output_lines all = lines_stream (lines_of (items all)) (has_end all)
 
 -- the lines of the pages, and the end
-abbrev pub output_sends : List Parcel → List Parcel
+abbrev pub output_sends : {L : Type 0} → List (Parcel L) → List (Parcel L)
 output_sends taken = as_parcels (output_lines (unpacked 0 taken))
 
 -- the lines up to the end, printed
-abbrev pub printer_sends : List Parcel → List Parcel
+abbrev pub printer_sends : {L : Type 0} → List (Parcel L) → List (Parcel L)
 printer_sends taken = as_lines (lines_of (items (feeds taken)))

@@ -1,6 +1,5 @@
 // What a process does, and what it is answered.
 
-use disk_system::Loaded;
 use solo_base::{BufferNo, Feed, Ident, Line, Outcome, Page};
 use solo_devices::CardRead;
 
@@ -23,7 +22,7 @@ pub enum Action {
     PutPage(Page),
     /// Takes a page from the spool before it.
     TakePage,
-    /// Loads the program of a job from the file of this name.
+    /// Loads the file of this name, for a job.
     Load(Ident),
     /// Gives the disk back.
     Release,
@@ -37,9 +36,9 @@ pub enum Action {
     Ended(Outcome),
 }
 
-/// What a process is answered.
+/// What a process is answered, where the file of a job is loaded as an `L`.
 #[derive(Debug, Drop)]
-pub enum Reply {
+pub enum Reply<L> {
     /// It is done.
     Done,
     /// The other side has stopped the buffer.
@@ -54,6 +53,6 @@ pub enum Reply {
     Feed(Feed),
     /// The page that was taken from a spool, and the mark with which it was put.
     Page { page: Page, last: bool },
-    /// What was found of the program of a job.
-    Loaded(Loaded),
+    /// What the file of a job was loaded as.
+    Loaded(L),
 }

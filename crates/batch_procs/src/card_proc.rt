@@ -2,36 +2,39 @@ ghost use Rattle.std.specs.Prelude.{◌≡◌, option_to_list};
 ghost use Rattle.batch_procs.specs.Sends.{as_parcels};
 
 use crate::feeds::copy;
+use crate::job_work::JobWork;
 use crate::machine::Machine;
 use crate::work::Work;
 use crate::{Action, Reply};
-use disk_system::Loaded;
 use solo_base::{BufferNo, Cause, Feed, Item, NoMemory, Outcome};
 use solo_devices::CardRead;
 use std::alloc::Global;
 
 /// The card process: it reads the cards of the deck, and puts each into the line buffer 1.
-pub type CardProc = Machine<CardWork>;
+pub type CardProc<J> = Machine<J, CardWork>;
 
 /// What the card process keeps: what it read and hasn't put, and whether the deck has ended.
-#[derive(Debug, Drop)]
+#[derive(Drop)]
 pub struct CardWork {
     due: Option<Feed>,
     ended: bool,
 }
 
-impl Work for CardWork {
-    ghost use Rattle.std.specs.Prelude.{option_to_list};
-    ghost use Rattle.batch_procs.specs.Sends.{as_parcels};
+impl<J: JobWork> Work<J> for CardWork {
+    ghost use Rattle.std.specs.Prelude.{◌≡◌, true, false, List, IfOk, OnErr};
+    ghost use Rattle.batch_procs.specs.Parcels.{Parcel};
+    ghost use Rattle.batch_procs.specs.declared.actions.Action.TheVariants as act;
+    ghost use Rattle.batch_procs.specs.Fits.{MayLack};
+    ghost use Rattle.batch_procs.specs.Work.{MayTake, Takes};
     ghost use Rattle.batch_procs.specs.Table.{card};
-    ghost use Rattle.batch_procs.specs.Due.{KeepsDue};
+    ghost use Rattle.batch_procs.specs.Keeping.{card_keeps};
     ghost use Rattle.batch_procs.specs.Relays.{card-relay};
 
     ghost process = { card };
 
-    ghost keeps = { λ work. KeepsDue card (as_parcels (option_to_list work.due)) work.ended };
+    ghost keeps = { card_keeps };
 
-    ghost relay = { card-relay };
+    ghost relay = { card-relay J.Load };
 
     fn begin(_alloc: Global) -> CardWork {
         CardWork {
@@ -58,8 +61,14 @@ impl Work for CardWork {
         self.due = None;
     }
 
+    // The clauses of `Work`, which the prover does not yet give this method by itself.
     #[inline(always)]
-    fn take(&mut self, reply: Reply) -> Result<Option<Outcome>, NoMemory> {
+    fn take(&mut self, reply: Reply<J::Load>) -> Result<Option<Outcome>, NoMemory>
+        ensures ok { (taken sent : List (Parcel J.Load)) → card_keeps self.old taken sent false
+            → MayTake card taken sent reply →
+            IfOk result (λ cause. Takes card (card_keeps self.new) taken sent reply cause) }
+        ensures err { OnErr result (((card {L = J.Load}).works ≡ true) × MayLack act.TakePage reply) }
+    {
         match reply {
             Reply::Card(CardRead::Card(line)) => self.due = Some(Feed::Item(Item::Line(line))),
             Reply::Card(CardRead::Spoiled) => self.due = Some(Feed::Item(Item::Spoiled)),
@@ -74,7 +83,7 @@ impl Work for CardWork {
         Ok(None)
     }
 
-    fn load(&mut self, _loaded: Loaded) {}
+    fn load(&mut self, _load: J::Load) {}
 
     fn work(&mut self) -> Result<(), NoMemory> {
         Ok(())

@@ -1,9 +1,9 @@
 ghost use Rattle.std.specs.Prelude.{◌≡◌, option_to_list};
 
+use crate::job_work::JobWork;
 use crate::machine::Machine;
 use crate::work::Work;
 use crate::{Action, Reply};
-use disk_system::Loaded;
 use page_codec::Packer;
 use solo_base::{BufferNo, Feed, NoMemory, Outcome, Page};
 use std::alloc::Global;
@@ -11,28 +11,31 @@ use std::mem;
 
 /// The input process: it takes cards from the line buffer 1, packs them into pages, and puts these into
 /// the spool 2.
-pub type InputProc = Machine<InputWork>;
+pub type InputProc<J> = Machine<J, InputWork>;
 
 /// What the input process keeps: the page in hand, the page that is due, and whether the end was taken.
-#[derive(Debug, Drop)]
+#[derive(Drop)]
 pub struct InputWork {
     packer: Packer,
     due: Option<Page>,
     ended: bool,
 }
 
-impl Work for InputWork {
-    ghost use Rattle.std.specs.Prelude.{option_to_list};
-    ghost use Rattle.batch_procs.specs.Sends.{marked};
+impl<J: JobWork> Work<J> for InputWork {
+    ghost use Rattle.std.specs.Prelude.{◌≡◌, true, false, List, IfOk, OnErr};
+    ghost use Rattle.batch_procs.specs.Parcels.{Parcel};
+    ghost use Rattle.batch_procs.specs.declared.actions.Action.TheVariants as act;
+    ghost use Rattle.batch_procs.specs.Fits.{MayLack};
+    ghost use Rattle.batch_procs.specs.Work.{MayTake, Takes};
     ghost use Rattle.batch_procs.specs.Table.{input};
-    ghost use Rattle.batch_procs.specs.Due.{KeepsInput};
+    ghost use Rattle.batch_procs.specs.Keeping.{input_keeps};
     ghost use Rattle.batch_procs.specs.Relays.{input-relay};
 
     ghost process = { input };
 
-    ghost keeps = { λ work. KeepsInput (marked work.ended (option_to_list work.due)) work.ended work.packer };
+    ghost keeps = { input_keeps };
 
-    ghost relay = { input-relay };
+    ghost relay = { input-relay J.Load };
 
     fn begin(_alloc: Global) -> InputWork {
         InputWork {
@@ -60,8 +63,14 @@ impl Work for InputWork {
         self.due = None;
     }
 
+    // The clauses of `Work`, which the prover does not yet give this method by itself.
     #[inline(always)]
-    fn take(&mut self, reply: Reply) -> Result<Option<Outcome>, NoMemory> {
+    fn take(&mut self, reply: Reply<J::Load>) -> Result<Option<Outcome>, NoMemory>
+        ensures ok { (taken sent : List (Parcel J.Load)) → input_keeps self.old taken sent false
+            → MayTake input taken sent reply →
+            IfOk result (λ cause. Takes input (input_keeps self.new) taken sent reply cause) }
+        ensures err { OnErr result (((input {L = J.Load}).works ≡ true) × MayLack act.TakePage reply) }
+    {
         match reply {
             Reply::Feed(Feed::Item(item)) => self.due = self.packer.push(&item),
             Reply::Feed(Feed::End) => {
@@ -74,7 +83,7 @@ impl Work for InputWork {
         Ok(None)
     }
 
-    fn load(&mut self, _loaded: Loaded) {}
+    fn load(&mut self, _load: J::Load) {}
 
     fn work(&mut self) -> Result<(), NoMemory> {
         Ok(())

@@ -1,14 +1,13 @@
 ghost use Rattle.std.specs.Prelude.{◌≡◌, ℕ, List};
-ghost use Rattle.batch_job.specs.Loads.{first_of};
+ghost use Rattle.batch_procs.specs.JobTold.{first_of};
 ghost use Rattle.batch_procs.specs.Process.{works_on};
 
+use crate::job_work::JobWork;
 use crate::machine::Machine;
 use crate::output_proc::damage;
 use crate::pages::Pages;
 use crate::work::Work;
 use crate::{Action, Reply};
-use batch_job::JobStream;
-use disk_system::Loaded;
 use page_codec::Packer;
 use solo_base::{BufferNo, Ident, NoMemory, Outcome, Page};
 use std::alloc::Global;
@@ -16,34 +15,40 @@ use std::mem;
 
 /// The job process: it takes pages of cards from the spool 2, and puts pages of the jobs' lines into the
 /// spool 3.
-pub type JobProc = Machine<JobWork>;
+pub type JobProc<J> = Machine<J, JobProcWork<J>>;
 
-/// What the job process keeps: the pages that it awaits, the lines of their items, the page in hand and
-/// the page that is due, and whether there is work to do. Files are loaded before the work on a page.
-#[derive(Debug, Drop)]
-pub struct JobWork {
+/// What the job process keeps: the pages that it awaits, the work on the jobs of their items, the page in
+/// hand and the page that is due, and whether there is work to do. Files are loaded before the work on a
+/// page.
+#[derive(Drop)]
+pub struct JobProcWork<J> {
     pages: Pages,
-    lines: JobStream,
+    jobs: J,
     packer: Packer,
     due: Option<Page>,
     unworked: bool,
 }
 
-impl Work for JobWork {
+impl<J: JobWork> Work<J> for JobProcWork<J> {
+    ghost use Rattle.std.specs.Prelude.{◌≡◌, true, false, List, IfOk, OnErr};
+    ghost use Rattle.batch_procs.specs.Parcels.{Parcel};
+    ghost use Rattle.batch_procs.specs.declared.actions.Action.TheVariants as act;
+    ghost use Rattle.batch_procs.specs.Fits.{MayLack};
+    ghost use Rattle.batch_procs.specs.Work.{MayTake, Takes};
     ghost use Rattle.batch_procs.specs.Table.{job};
-    ghost use Rattle.batch_procs.specs.JobWork.{KeepsJob};
+    ghost use Rattle.batch_procs.specs.Keeping.{job_keeps};
     ghost use Rattle.batch_procs.specs.Relays.{job-relay};
 
-    ghost process = { job };
+    ghost process = { job J.jobs };
 
-    ghost keeps = { λ work. KeepsJob work.pages work.lines work.packer work.due work.unworked };
+    ghost keeps = { job_keeps J.jobs J.keeps };
 
-    ghost relay = { job-relay };
+    ghost relay = { job-relay J.are_jobs };
 
-    fn begin(alloc: Global) -> JobWork {
-        JobWork {
+    fn begin(alloc: Global) -> JobProcWork<J> {
+        JobProcWork {
             pages: Pages::new(),
-            lines: JobStream::new(alloc),
+            jobs: J::begin(alloc),
             packer: Packer::new(),
             due: None,
             unworked: false,
@@ -58,7 +63,7 @@ impl Work for JobWork {
     fn aim(&self) -> Action {
         match &self.due {
             Some(page) => Action::PutPage(*page),
-            None if self.unworked => work_on(self.lines.wants()),
+            None if self.unworked => work_on(self.jobs.wants()),
             None if self.pages.is_ended() => Action::Ended(Outcome::Done),
             None => Action::TakePage,
         }
@@ -71,8 +76,15 @@ impl Work for JobWork {
         }
     }
 
+    // The clauses of `Work`, which the prover does not yet give this method by itself.
     #[inline(always)]
-    fn take(&mut self, reply: Reply) -> Result<Option<Outcome>, NoMemory> {
+    fn take(&mut self, reply: Reply<J::Load>) -> Result<Option<Outcome>, NoMemory>
+        ensures ok { (taken sent : List (Parcel J.Load)) → job_keeps J.jobs J.keeps self.old taken sent false
+            → MayTake (job J.jobs) taken sent reply →
+            IfOk result (λ cause.
+                Takes (job J.jobs) (job_keeps J.jobs J.keeps self.new) taken sent reply cause) }
+        ensures err { OnErr result (((job J.jobs).works ≡ true) × MayLack act.TakePage reply) }
+    {
         let Reply::Page { page, last } = reply else {
             return Ok(None);
         };
@@ -81,7 +93,7 @@ impl Work for JobWork {
         }
         match self.pages.take(&page, last) {
             Ok(items) => {
-                self.lines.feed(items)?;
+                self.jobs.feed(items)?;
                 self.unworked = true;
                 Ok(None)
             }
@@ -89,16 +101,13 @@ impl Work for JobWork {
         }
     }
 
-    fn load(&mut self, loaded: Loaded) {
-        self.lines.load(loaded);
+    fn load(&mut self, load: J::Load) {
+        self.jobs.load(load);
     }
 
     fn work(&mut self) -> Result<(), NoMemory> {
-        if self.lines.wants().is_some() {
-            return Ok(());
-        }
         self.unworked = false;
-        match self.lines.pack(&mut self.packer)? {
+        match self.jobs.pack(&mut self.packer)? {
             Some(page) => {
                 self.due = Some(page);
                 Ok(())

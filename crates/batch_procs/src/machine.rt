@@ -8,31 +8,36 @@ ghost use Rattle.batch_procs.specs.Process.{next_action};
 ghost use Rattle.batch_procs.specs.Laws.{HasEnded};
 ghost use Rattle.batch_procs.specs.Machine.{StandsFor, NextIs};
 
+use crate::job_work::JobWork;
 use crate::round::Step;
 use crate::work::Work;
 use crate::{Action, Reply};
 use solo_base::{Cause, NoMemory, Outcome};
 use std::alloc::Global;
+use std::marker::PhantomData;
 
-/// A process as a machine: it says what it does next, and is given the reply. It keeps no history.
-#[derive(Debug, Drop)]
-pub struct Machine<W: Work> {
+/// A process as a machine, in a network over jobs of this kind: it says what it does next, and is given the
+/// reply. It keeps no history.
+#[derive(Drop)]
+pub struct Machine<J, W> {
     pub(crate) work: W,
     pub(crate) step: Step,
     pub(crate) cause: Option<Outcome>,
     pub(crate) stops: u8,
+    pub(crate) of: PhantomData<J>,
 }
 
-impl<W: Work> Machine<W> {
+impl<J: JobWork, W: Work<J>> Machine<J, W> {
     /// The machine of a process that has done nothing.
-    pub fn new(alloc: Global) -> Machine<W>
-        ensures { StandsFor W.process W.keeps result [] }
+    pub fn new(alloc: Global) -> Machine<J, W>
+        ensures { StandsFor J.jobs W.process W.keeps result [] }
     {
         Machine {
             work: W::begin(alloc),
             step: Step::Free,
             cause: None,
             stops: 0,
+            of: PhantomData,
         }
     }
 
@@ -40,13 +45,14 @@ impl<W: Work> Machine<W> {
     // Inlined, since an action may hold a whole page: who looks at its kind alone then makes none.
     #[inline(always)]
     pub fn next(&self) -> Action
-        ensures next { (h : List Entry) → StandsFor W.process W.keeps self.now h
+        ensures next { (h : List (Entry J.Load)) → StandsFor J.jobs W.process W.keeps self.now h
             → NextIs (next_action W.process h) result }
 
         // A call that waits is made again.
-        ensures waits { (h : List Entry) (action : ActionOf) → StandsFor W.process W.keeps self.now h →
-            next_action W.process h ≡ Some action → MayWait action
-            → StandsFor W.process W.keeps self.now (Delays action ∷ h) }
+        ensures waits { (h : List (Entry J.Load)) (action : ActionOf)
+            → StandsFor J.jobs W.process W.keeps self.now h
+            → next_action W.process h ≡ Some action → MayWait action
+            → StandsFor J.jobs W.process W.keeps self.now (Delays action ∷ h) }
     {
         match self.cause {
             None => self.working(),
@@ -57,8 +63,8 @@ impl<W: Work> Machine<W> {
     /// What a process without a cause does next.
     #[inline(always)]
     fn working(&self) -> Action
-        ensures { (h : List Entry) → StandsFor W.process W.keeps self.now h → self.now.cause ≡ None
-            → NextIs (next_action W.process h) result }
+        ensures { (h : List (Entry J.Load)) → StandsFor J.jobs W.process W.keeps self.now h
+            → self.now.cause ≡ None → NextIs (next_action W.process h) result }
     {
         match self.step {
             Step::Free => begin(self.work.aim()),
@@ -72,8 +78,8 @@ impl<W: Work> Machine<W> {
     /// What a process with a cause does next.
     #[inline(always)]
     fn closing(&self, cause: Outcome) -> Action
-        ensures { (h : List Entry) → StandsFor W.process W.keeps self.now h → self.now.cause ≡ Some cause
-            → NextIs (next_action W.process h) result }
+        ensures { (h : List (Entry J.Load)) → StandsFor J.jobs W.process W.keeps self.now h
+            → self.now.cause ≡ Some cause → NextIs (next_action W.process h) result }
     {
         if self.step.holds_disk() {
             return Action::Release;
@@ -86,14 +92,16 @@ impl<W: Work> Machine<W> {
 
     /// Whether the process has ended.
     pub fn has_ended(&self) -> bool
-        ensures { (h : List Entry) → StandsFor W.process W.keeps self.now h → IsTrue result ↔ HasEnded h }
+        ensures { (h : List (Entry J.Load)) → StandsFor J.jobs W.process W.keeps self.now h
+            → IsTrue result ↔ HasEnded h }
     {
         matches!(self.step, Step::Ended)
     }
 
     /// Why the process closes down, or did. None: it has no cause to.
     pub fn cause(&self) -> Option<Outcome>
-        ensures { (h : List Entry) → StandsFor W.process W.keeps self.now h → result ≡ caused h }
+        ensures { (h : List (Entry J.Load)) → StandsFor J.jobs W.process W.keeps self.now h
+            → result ≡ caused h }
     {
         self.cause
     }
@@ -102,21 +110,21 @@ impl<W: Work> Machine<W> {
     /// process, and it closes down.
     // Inlined, as an action and a reply are copied whole where they cross a call.
     #[inline(always)]
-    pub fn give(&mut self, reply: Reply) -> Result<(), NoMemory>
-        ensures ok { OnOk result ((h : List Entry) (action : ActionOf)
-            → StandsFor W.process W.keeps self.old h →
-            next_action W.process h ≡ Some action → Fits action reply
-            → StandsFor W.process W.keeps self.new (Does action reply ∷ h)) }
-        ensures err { OnErr result ((h : List Entry) (action : ActionOf)
-            → StandsFor W.process W.keeps self.old h →
-            next_action W.process h ≡ Some action → Fits action reply
-            → StandsFor W.process W.keeps self.new (LacksMemory action reply ∷ h)) }
+    pub fn give(&mut self, reply: Reply<J::Load>) -> Result<(), NoMemory>
+        ensures ok { OnOk result ((h : List (Entry J.Load)) (action : ActionOf)
+            → StandsFor J.jobs W.process W.keeps self.old h →
+            next_action W.process h ≡ Some action → Fits J.jobs action reply
+            → StandsFor J.jobs W.process W.keeps self.new (Does action reply ∷ h)) }
+        ensures err { OnErr result ((h : List (Entry J.Load)) (action : ActionOf)
+            → StandsFor J.jobs W.process W.keeps self.old h →
+            next_action W.process h ≡ Some action → Fits J.jobs action reply
+            → StandsFor J.jobs W.process W.keeps self.new (LacksMemory action reply ∷ h)) }
         ensures works { OnErr result (W.process.works ≡ true) }
     {
         let action = self.next();
         self.step = Step::after(&action);
         self.stops = stops_after(self.stops, &action);
-        match answer(&mut self.work, &action, reply) {
+        match answer::<J, W>(&mut self.work, &action, reply) {
             Ok(cause) => {
                 add_cause(&mut self.cause, cause);
                 Ok(())
@@ -169,16 +177,20 @@ fn add_cause(cause: &mut Option<Outcome>, new: Option<Outcome>)
 
 /// Uses the reply to an action, and says which cause it gives.
 #[inline(always)]
-fn answer<W: Work>(work: &mut W, action: &Action, reply: Reply) -> Result<Option<Outcome>, NoMemory>
-    ensures { Answers W.process W.keeps work.old action.now reply result work.new }
+fn answer<J: JobWork, W: Work<J>>(
+    work: &mut W,
+    action: &Action,
+    reply: Reply<J::Load>,
+) -> Result<Option<Outcome>, NoMemory>
+    ensures { Answers J.jobs W.process W.keeps work.old action.now reply result work.new }
 {
     match reply {
-        Reply::Done => finish(work, action),
+        Reply::Done => finish::<J, W>(work, action),
         Reply::Stopped => Ok(Some(Outcome::Stopped)),
         Reply::Failed => Ok(Some(Outcome::Fault(fault_at(action)))),
         Reply::NoMemory => Ok(Some(Outcome::Fault(Cause::NoMemory))),
-        Reply::Loaded(loaded) => {
-            work.load(loaded);
+        Reply::Loaded(load) => {
+            work.load(load);
             Ok(None)
         }
         handed => work.take(handed),
@@ -187,8 +199,11 @@ fn answer<W: Work>(work: &mut W, action: &Action, reply: Reply) -> Result<Option
 
 /// An action is done.
 #[inline(always)]
-fn finish<W: Work>(work: &mut W, action: &Action) -> Result<Option<Outcome>, NoMemory>
-    ensures { Answers W.process W.keeps work.old action.now reply.Done result work.new }
+fn finish<J: JobWork, W: Work<J>>(
+    work: &mut W,
+    action: &Action,
+) -> Result<Option<Outcome>, NoMemory>
+    ensures { Answers J.jobs W.process W.keeps work.old action.now reply.Done result work.new }
 {
     match action {
         Action::PutFeed(_) | Action::PutPage(_) | Action::Print(_) => work.put(),

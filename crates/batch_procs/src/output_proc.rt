@@ -1,24 +1,24 @@
 ghost use Rattle.std.specs.Prelude.{◌≡◌, ◌++◌, [], None, option_to_list};
 ghost use Rattle.batch_procs.specs.Sends.{lines_of};
 ghost use Rattle.batch_procs.specs.Pages.{damaged, lines_left};
-ghost use Rattle.batch_job.specs.JobStream.{items_left};
+ghost use Rattle.page_codec.specs.Reading.{items_left};
 
 use crate::feeds::copy;
+use crate::job_work::JobWork;
 use crate::machine::Machine;
 use crate::pages::Pages;
 use crate::work::Work;
 use crate::{Action, Reply};
-use disk_system::Loaded;
 use page_codec::{BadPage, PageItems};
 use solo_base::{BufferNo, Cause, Feed, Item, Line, NoMemory, Outcome};
 use std::alloc::Global;
 
 /// The output process: it takes pages from the spool 3, and puts their lines into the line buffer 4.
-pub type OutputProc = Machine<OutputWork>;
+pub type OutputProc<J> = Machine<J, OutputWork>;
 
 /// What the output process keeps: the pages that it awaits, and of the page in hand what is due first,
 /// the items behind it, and whether the end comes behind these.
-#[derive(Debug, Drop)]
+#[derive(Drop)]
 pub struct OutputWork {
     pages: Pages,
     due: Option<Feed>,
@@ -26,18 +26,21 @@ pub struct OutputWork {
     ending: bool,
 }
 
-impl Work for OutputWork {
+impl<J: JobWork> Work<J> for OutputWork {
+    ghost use Rattle.std.specs.Prelude.{◌≡◌, true, false, List, IfOk, OnErr};
+    ghost use Rattle.batch_procs.specs.Parcels.{Parcel};
+    ghost use Rattle.batch_procs.specs.declared.actions.Action.TheVariants as act;
+    ghost use Rattle.batch_procs.specs.Fits.{MayLack};
+    ghost use Rattle.batch_procs.specs.Work.{MayTake, Takes};
     ghost use Rattle.batch_procs.specs.Table.{output};
-    ghost use Rattle.batch_procs.specs.Pages.{lines_left, KeepsOutput};
-    ghost use Rattle.batch_job.specs.JobStream.{items_left};
+    ghost use Rattle.batch_procs.specs.Keeping.{output_keeps};
     ghost use Rattle.batch_procs.specs.Relays.{output-relay};
 
     ghost process = { output };
 
-    ghost keeps = { λ work.
-        KeepsOutput work.pages work.due (lines_left (items_left work.items) work.ending) };
+    ghost keeps = { output_keeps };
 
-    ghost relay = { output-relay };
+    ghost relay = { output-relay J.Load };
 
     fn begin(_alloc: Global) -> OutputWork {
         OutputWork {
@@ -66,8 +69,14 @@ impl Work for OutputWork {
         self.due = next_feed(&mut self.items, &mut self.ending);
     }
 
+    // The clauses of `Work`, which the prover does not yet give this method by itself.
     #[inline(always)]
-    fn take(&mut self, reply: Reply) -> Result<Option<Outcome>, NoMemory> {
+    fn take(&mut self, reply: Reply<J::Load>) -> Result<Option<Outcome>, NoMemory>
+        ensures ok { (taken sent : List (Parcel J.Load)) → output_keeps self.old taken sent false
+            → MayTake output taken sent reply →
+            IfOk result (λ cause. Takes output (output_keeps self.new) taken sent reply cause) }
+        ensures err { OnErr result (((output {L = J.Load}).works ≡ true) × MayLack act.TakePage reply) }
+    {
         let Reply::Page { page, last } = reply else {
             return Ok(None);
         };
@@ -85,7 +94,7 @@ impl Work for OutputWork {
         }
     }
 
-    fn load(&mut self, _loaded: Loaded) {}
+    fn load(&mut self, _load: J::Load) {}
 
     fn work(&mut self) -> Result<(), NoMemory> {
         Ok(())

@@ -7,7 +7,7 @@ use solo_base::Page;
 use std::marker::Model;
 
 /// The pages of a stream, of which none is taken behind the last.
-#[derive(Debug, Drop)]
+#[derive(Drop)]
 pub struct Pages {
     unpacker: Unpacker,
     ended: bool,

@@ -1,34 +1,37 @@
 ghost use Rattle.std.specs.Prelude.{◌≡◌, option_to_list};
 
+use crate::job_work::JobWork;
 use crate::machine::Machine;
 use crate::work::Work;
 use crate::{Action, Reply};
-use disk_system::Loaded;
 use solo_base::{BufferNo, Feed, Item, Line, NoMemory, Outcome};
 use std::alloc::Global;
 
 /// The printer process: it takes lines from the line buffer 4, and prints them.
-pub type PrinterProc = Machine<PrinterWork>;
+pub type PrinterProc<J> = Machine<J, PrinterWork>;
 
 /// What the printer process keeps: the line that it took and hasn't printed, and whether the end was taken.
-#[derive(Debug, Drop)]
+#[derive(Drop)]
 pub struct PrinterWork {
     due: Option<Line>,
     ended: bool,
 }
 
-impl Work for PrinterWork {
-    ghost use Rattle.std.specs.Prelude.{option_to_list};
-    ghost use Rattle.batch_procs.specs.Sends.{as_lines};
+impl<J: JobWork> Work<J> for PrinterWork {
+    ghost use Rattle.std.specs.Prelude.{◌≡◌, true, false, List, IfOk, OnErr};
+    ghost use Rattle.batch_procs.specs.Parcels.{Parcel};
+    ghost use Rattle.batch_procs.specs.declared.actions.Action.TheVariants as act;
+    ghost use Rattle.batch_procs.specs.Fits.{MayLack};
+    ghost use Rattle.batch_procs.specs.Work.{MayTake, Takes};
     ghost use Rattle.batch_procs.specs.Table.{printer};
-    ghost use Rattle.batch_procs.specs.Due.{KeepsDue};
+    ghost use Rattle.batch_procs.specs.Keeping.{printer_keeps};
     ghost use Rattle.batch_procs.specs.Relays.{printer-relay};
 
     ghost process = { printer };
 
-    ghost keeps = { λ work. KeepsDue printer (as_lines (option_to_list work.due)) work.ended };
+    ghost keeps = { printer_keeps };
 
-    ghost relay = { printer-relay };
+    ghost relay = { printer-relay J.Load };
 
     fn begin(_alloc: Global) -> PrinterWork {
         PrinterWork {
@@ -55,8 +58,14 @@ impl Work for PrinterWork {
         self.due = None;
     }
 
+    // The clauses of `Work`, which the prover does not yet give this method by itself.
     #[inline(always)]
-    fn take(&mut self, reply: Reply) -> Result<Option<Outcome>, NoMemory> {
+    fn take(&mut self, reply: Reply<J::Load>) -> Result<Option<Outcome>, NoMemory>
+        ensures ok { (taken sent : List (Parcel J.Load)) → printer_keeps self.old taken sent false
+            → MayTake printer taken sent reply →
+            IfOk result (λ cause. Takes printer (printer_keeps self.new) taken sent reply cause) }
+        ensures err { OnErr result (((printer {L = J.Load}).works ≡ true) × MayLack act.TakePage reply) }
+    {
         match reply {
             Reply::Feed(feed) => {
                 self.ended = is_end(&feed);
@@ -67,7 +76,7 @@ impl Work for PrinterWork {
         Ok(None)
     }
 
-    fn load(&mut self, _loaded: Loaded) {}
+    fn load(&mut self, _load: J::Load) {}
 
     fn work(&mut self) -> Result<(), NoMemory> {
         Ok(())
@@ -75,11 +84,11 @@ impl Work for PrinterWork {
 }
 
 ghost use Rattle.std.specs.Prelude.{◌∷◌, []};
-ghost use Rattle.batch_procs.specs.Parcels.{OfFeed, is_last};
+ghost use Rattle.batch_procs.specs.Parcels.{is_the_end};
 ghost use Rattle.batch_procs.specs.Sends.{items, lines_of};
 
 fn is_end(feed: &Feed) -> bool
-    ensures { result ≡ is_last (OfFeed feed.now) }
+    ensures { result ≡ is_the_end feed.now }
 {
     matches!(feed, Feed::End)
 }

@@ -12,6 +12,7 @@ use Rattle.batch_procs.specs.Causes.{caused, or_new, fault_read}
 use Rattle.batch_procs.specs.Parts.{some-same}
 use Rattle.solo_base.specs.declared.outcome.Outcome.{Outcome}
 use Rattle.batch_run.specs.Cards.{DeckRan, cards_read}
+use Rattle.disk_system.specs.declared.loading.Loaded.{Loaded}
 
 pub rose-later : (start old new : ℕ) → start ≤ old → Rose old new → Rose start new
 rose-later start old new later rose = omega (arith, later, rose)
@@ -34,7 +35,7 @@ no-item read.End items rest parts none = sym parts ∙ none
 no-item read.Failed items rest parts none = sym parts ∙ none
 no-item read.Limit items rest parts none = sym parts ∙ none
 
-module _ {S : Type 0} {left : S → Option (List ℕ)} {taken faults : S → ℕ} (start old new : Held S) (h : List Entry) (answer : CardRead) where
+module _ {S : Type 0} {left : S → Option (List ℕ)} {taken faults : S → ℕ} (start old new : Held S) (h : List (Entry Loaded)) (answer : CardRead) where
   pub deck-read : DeckRan left taken faults start old h
       → GivesNext (items_ahead (left old.source) old.pending) (items_ahead (left new.source) new.pending) answer
       → (answer ≡ read.End → IsAllTaken (left new.source)) → faults old.source ≤ faults new.source

@@ -37,6 +37,8 @@ use Rattle.batch_run.proofs.LineCalls as line_calls_are
 use Rattle.batch_run.proofs.SpoolCalls as spool_calls_are
 use Rattle.batch_run.proofs.Streams.{PutsFeeds, PutsPages, TakesFeeds, TakesPages, line-sent, line-taken, line-part, spool-sent, spool-taken, spool-part}
 use Rattle.batch_run.proofs.Given.{was-told, put-refused, take-refused, room-refused, item-refused}
+use Rattle.disk_system.specs.declared.loading.Loaded.{Loaded}
+use Rattle.deck_work.specs.DeckJobs.{deck_jobs, deck_are_jobs}
 
 -- what holds of each process
 pub each-process : (P : ℕ → Type 0) (p : ℕ) → IsProcess p → P 1 → P 2 → P 3 → P 4 → P 5 → P p
@@ -60,11 +62,12 @@ module _ {A : Type 0} (told_by : A → Option (List (List ℕ))) (faults : A →
       (subst (λ r. spools.Meets told_by faults opening area (by_side s r) left first) b met)
 
 -- ---- who stopped a buffer first
-pub record StoppedFirst (b : ℕ) (sender receiver : List Entry) (first : Option Side) : Type 0 where
+pub record StoppedFirst (b : ℕ) (sender receiver : List (Entry Loaded)) (first : Option Side) : Type 0 where
   pub neither : first ≡ None → (side : Side) → has_stopped b (by_side sender receiver side) ≡ false
   pub did : (side : Side) → first ≡ Some side → has_stopped b (by_side sender receiver side) ≡ true
 
-module _ (p q : Process) (b : ℕ) (sender receiver : List Entry) (first : Option Side) (sends : Follows p sender) (receives : Follows q receiver) where
+module _ (p q : Process Loaded) (b : ℕ) (sender receiver : List (Entry Loaded)) (first : Option Side) (sends : Follows deck_jobs p sender)
+    (receives : Follows deck_jobs q receiver) where
   line-stop : (side : Side) → line.has_stop (by_side (line_calls Sender b sender) (line_calls Receiver b receiver) side)
       ≡ has_stopped b (by_side sender receiver side)
   line-stop Sender = line_calls_are.stops-are p Sender b sender sends
@@ -133,7 +136,7 @@ printer-takes act.TakePage does = absurd does
 printer-takes a does = tt
 
 -- ---- the four actions that may be told of a stop, and the three that may fail
-by-told : (P : Action → Type 0) (a : Action) → Fits a reply.Stopped → ((f : Feed) → P (act.PutFeed f)) → P act.TakeFeed → P act.AwaitRoom
+by-told : (P : Action → Type 0) (a : Action) → Fits deck_jobs a reply.Stopped → ((f : Feed) → P (act.PutFeed f)) → P act.TakeFeed → P act.AwaitRoom
     → P act.AwaitItem → P a
 by-told P (act.PutFeed f) fits put take room item = put f
 by-told P act.TakeFeed fits put take room item = take
@@ -145,16 +148,16 @@ by-told P a fits put take room item = absurd fits
 -- What is known of the five histories: each follows its process, and the calls of each buffer have met.
 pub record FiveRan {A B : Type 0} (input_told : A → Option (List (List ℕ))) (input_faults : A → ℕ) (output_told : B → Option (List (List ℕ)))
     (output_faults : B → ℕ) (input_opening input_area : A) (output_opening output_area : B) (first : ℕ → Option Side) : Type 0 where
-  pub card_history : List Entry
-  pub input_history : List Entry
-  pub job_history : List Entry
-  pub output_history : List Entry
-  pub printer_history : List Entry
-  pub card_follows : Follows card card_history
-  pub input_follows : Follows input input_history
-  pub job_follows : Follows job job_history
-  pub output_follows : Follows output output_history
-  pub printer_follows : Follows printer printer_history
+  pub card_history : List (Entry Loaded)
+  pub input_history : List (Entry Loaded)
+  pub job_history : List (Entry Loaded)
+  pub output_history : List (Entry Loaded)
+  pub printer_history : List (Entry Loaded)
+  pub card_follows : Follows deck_jobs card card_history
+  pub input_follows : Follows deck_jobs input input_history
+  pub job_follows : Follows deck_jobs (job deck_jobs) job_history
+  pub output_follows : Follows deck_jobs output output_history
+  pub printer_follows : Follows deck_jobs printer printer_history
   pub cards_rest : Option Feed
   pub cards : lines.Meets (by_side (line_calls Sender 1 card_history) (line_calls Receiver 1 input_history)) cards_rest (first 1)
   pub input_left : ℕ
@@ -166,7 +169,8 @@ pub record FiveRan {A B : Type 0} (input_told : A → Option (List (List ℕ))) 
   pub lines_rest : Option Feed
   pub lines : lines.Meets (by_side (line_calls Sender 4 output_history) (line_calls Receiver 4 printer_history)) lines_rest (first 4)
 
-either-follows : (t : Bool) (p q : Process) (h g : List Entry) → Follows p h → Follows q g → Follows (if t then p else q) (if t then h else g)
+either-follows : (t : Bool) (p q : Process Loaded) (h g : List (Entry Loaded)) → Follows deck_jobs p h → Follows deck_jobs q g
+    → Follows deck_jobs (if t then p else q) (if t then h else g)
 either-follows true p q h g a b = a
 either-follows false p q h g a b = b
 
@@ -181,7 +185,7 @@ told-some (Some told) e = (told, refl)
 module _ {A B : Type 0} {input_told : A → Option (List (List ℕ))} {input_faults : A → ℕ} {output_told : B → Option (List (List ℕ))} {output_faults : B → ℕ}
     {input_opening input_area : A} {output_opening output_area : B} {first : ℕ → Option Side}
     (ran : FiveRan input_told input_faults output_told output_faults input_opening input_area output_opening output_area first) where
-  abbrev pub histories : ℕ → List Entry
+  abbrev pub histories : ℕ → List (Entry Loaded)
   histories p =
       if p == 1 then ran.card_history
       else if p == 2 then ran.input_history
@@ -190,11 +194,11 @@ module _ {A B : Type 0} {input_told : A → Option (List (List ℕ))} {input_fau
       else if p == 5 then ran.printer_history
       else []
 
-  pub follows : (p : ℕ) → Follows (process p) (histories p)
+  pub follows : (p : ℕ) → Follows deck_jobs (process deck_jobs p) (histories p)
   follows p =
       either-follows (p == 1) card _ ran.card_history _ ran.card_follows
       (either-follows (p == 2) input _ ran.input_history _ ran.input_follows
-      (either-follows (p == 3) job _ ran.job_history _ ran.job_follows
+      (either-follows (p == 3) (job deck_jobs) _ ran.job_history _ ran.job_follows
       (either-follows (p == 4) output _ ran.output_history _ ran.output_follows
       (either-follows (p == 5) printer nobody ran.printer_history [] ran.printer_follows tt))))
 
@@ -213,7 +217,7 @@ module _ {A B : Type 0} {input_told : A → Option (List (List ℕ))} {input_fau
   input-part told =
       let (pages, is) = told-some (input_told input_area) (ran.input_meets.tells told) in
       spool-part _ _ _ _ _ (ran.input_meets.pages pages is) ran.input_meets.marks
-      (spool-taken job 2 job-does job-takes ran.job_history ran.job_follows)
+      (spool-taken (job deck_jobs) 2 job-does job-takes ran.job_history ran.job_follows)
       (spool-sent input 2 input-does input-puts ran.input_history ran.input_follows)
 
   output-part : is_some (output_told output_opening) ≡ true → IsPrefixOf (handed (taken ran.output_history)) (sent ran.job_history)
@@ -221,9 +225,9 @@ module _ {A B : Type 0} {input_told : A → Option (List (List ℕ))} {input_fau
       let (pages, is) = told-some (output_told output_area) (ran.output_meets.tells told) in
       spool-part _ _ _ _ _ (ran.output_meets.pages pages is) ran.output_meets.marks
       (spool-taken output 3 output-does output-takes ran.output_history ran.output_follows)
-      (spool-sent job 3 job-does job-puts ran.job_history ran.job_follows)
+      (spool-sent (job deck_jobs) 3 job-does job-puts ran.job_history ran.job_follows)
 
-  pub hand-over : is_some (input_told input_opening) ≡ true → is_some (output_told output_opening) ≡ true → HandOver histories
+  pub hand-over : is_some (input_told input_opening) ≡ true → is_some (output_told output_opening) ≡ true → HandOver deck_are_jobs histories
   hand-over input_is output_is b is =
       each-buffer (λ b. IsPrefixOf (handed (taken (histories (suc b)))) (sent (histories b))) b is cards-part (input-part input_is)
       (output-part output_is) lines-part
@@ -233,10 +237,10 @@ module _ {A B : Type 0} {input_told : A → Option (List (List ℕ))} {input_fau
   cards-first = line-first card input 1 ran.card_history ran.input_history (first 1) ran.card_follows ran.input_follows ran.cards.stopped
 
   input-first : StoppedFirst 2 ran.input_history ran.job_history (first 2)
-  input-first = spool-first input job 2 ran.input_history ran.job_history (first 2) ran.input_follows ran.job_follows ran.input_meets.stopped
+  input-first = spool-first input (job deck_jobs) 2 ran.input_history ran.job_history (first 2) ran.input_follows ran.job_follows ran.input_meets.stopped
 
   output-first : StoppedFirst 3 ran.job_history ran.output_history (first 3)
-  output-first = spool-first job output 3 ran.job_history ran.output_history (first 3) ran.job_follows ran.output_follows ran.output_meets.stopped
+  output-first = spool-first (job deck_jobs) output 3 ran.job_history ran.output_history (first 3) ran.job_follows ran.output_follows ran.output_meets.stopped
 
   lines-first : StoppedFirst 4 ran.output_history ran.printer_history (first 4)
   lines-first = line-first output printer 4 ran.output_history ran.printer_history (first 4) ran.output_follows ran.printer_follows ran.lines.stopped
@@ -255,8 +259,8 @@ module _ {A B : Type 0} {input_told : A → Option (List (List ℕ))} {input_fau
   did-at b is Receiver e = is.did Receiver e
 
   -- ---- who was told
-  abbrev Told : (Action → Type 0) → List Entry → ℕ → Action → Type 0
-  Told does h p a = (later before : List Entry) → h ≡ later ++ Does a reply.Stopped ∷ before → does a → WasToldBy first p
+  abbrev Told : (Action → Type 0) → List (Entry Loaded) → ℕ → Action → Type 0
+  Told does h p a = (later before : List (Entry Loaded)) → h ≡ later ++ Does a reply.Stopped ∷ before → does a → WasToldBy first p
 
   card-told : caused ran.card_history ≡ Some outcome.Stopped → WasToldBy first 1
   card-told e =
@@ -297,7 +301,7 @@ module _ {A B : Type 0} {input_told : A → Option (List (List ℕ))} {input_fau
   job-told : caused ran.job_history ≡ Some outcome.Stopped → WasToldBy first 3
   job-told e =
       let h = ran.job_history in
-      let told = was-told job job-does h ran.job_follows e in
+      let told = was-told (job deck_jobs) job-does h ran.job_follows e in
       by-told (Told does_job h 3) told.action told.fits (λ f later before is does. absurd does) (λ later before is does. absurd does)
       (λ later before is does. record {
         buffer = 3;
@@ -351,7 +355,7 @@ module _ {A B : Type 0} {input_told : A → Option (List (List ℕ))} {input_fau
       })
       (λ later before is does. absurd does) (λ later before is does. absurd does) told.later told.before told.is told.does_it
 
-  pub are-first : AreFirst histories first
+  pub are-first : AreFirst deck_are_jobs histories first
   are-first = record {
     neither = λ b is. each-buffer Neither b is (neither-at 1 cards-first) (neither-at 2 input-first) (neither-at 3 output-first) (neither-at 4 lines-first);
     did = λ b is. each-buffer Did b is (did-at 1 cards-first) (did-at 2 input-first) (did-at 3 output-first) (did-at 4 lines-first);

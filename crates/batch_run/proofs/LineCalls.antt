@@ -20,6 +20,8 @@ use Rattle.batch_procs.specs.Laws.{IsRelay, IsOpen}
 use Rattle.batch_procs.proofs.Relay.{open-next}
 use Rattle.batch_procs.proofs.Closing.{unstopped}
 use Rattle.batch_run.specs.Calls.{and_then, line_call, line_calls}
+use Rattle.disk_system.specs.declared.loading.Loaded.{Loaded}
+use Rattle.deck_work.specs.DeckJobs.{deck_jobs}
 
 -- ---- a test of the calls
 pub any-then : {C : Type 0} (test : C → Bool) (calls more : List C) → list_any test (and_then calls more) ≡ (list_any test more || list_any test calls)
@@ -27,7 +29,7 @@ any-then test calls [] = refl
 any-then test calls (call ∷ more) = list_any-append test calls (call ∷ more) ∙ or_comm (list_any test calls) (list_any test (call ∷ more))
 
 -- an action that lacks its memory is no call of a line buffer
-pub lack-call : (side : Side) (b : ℕ) (a : Action) (r : Reply) → MayLack a r → line_call side b a r ≡ []
+pub lack-call : (side : Side) (b : ℕ) (a : Action) (r : Reply Loaded) → MayLack a r → line_call side b a r ≡ []
 lack-call Sender b act.TakePage (reply.Page page last) may = refl
 lack-call Receiver b act.TakePage (reply.Page page last) may = refl
 lack-call Sender b act.Local reply.Done may = refl
@@ -39,7 +41,7 @@ stop-if : (side : Side) (t : Bool) → has_stop {T = Feed} (if t then slot.Stop 
 stop-if side true = refl
 stop-if side false = refl
 
-stop-call : (side : Side) (b : ℕ) (a : Action) (r : Reply) → has_stop (line_call side b a r) ≡ stops_at b a
+stop-call : (side : Side) (b : ℕ) (a : Action) (r : Reply Loaded) → has_stop (line_call side b a r) ≡ stops_at b a
 stop-call Sender b (act.Stop c) r = stop-if Sender (b == c)
 stop-call Receiver b (act.Stop c) r = stop-if Receiver (b == c)
 stop-call Sender b (act.PutFeed f) reply.Done = refl
@@ -49,7 +51,7 @@ stop-call Receiver b act.TakeFeed reply.Stopped = refl
 stop-call Sender b a r = refl
 stop-call Receiver b a r = refl
 
-pub stops-are : (p : Process) (side : Side) (b : ℕ) (h : List Entry) → Follows p h → has_stop (line_calls side b h) ≡ has_stopped b h
+pub stops-are : (p : Process Loaded) (side : Side) (b : ℕ) (h : List (Entry Loaded)) → Follows deck_jobs p h → has_stop (line_calls side b h) ≡ has_stopped b h
 stops-are p side b [] follows = refl
 stops-are p side b (Does a r ∷ h) follows =
     any-then _ (line_calls side b h) (line_call side b a r) ∙ ap (λ t. t || has_stop (line_calls side b h)) (stop-call side b a r)
@@ -59,7 +61,8 @@ stops-are p side b (LacksMemory a r ∷ h) follows =
 stops-are p side b (Delays a ∷ h) follows = stops-are p side b h follows.2
 
 -- who makes this action has not stopped
-pub not-stopped : (p : Process) (side : Side) (b : ℕ) (h : List Entry) (a : Action) (calls : List (SlotCall Feed)) → IsRelay p → Follows p h
+pub not-stopped : (p : Process Loaded) (side : Side) (b : ℕ) (h : List (Entry Loaded)) (a : Action) (calls : List (SlotCall Feed)) → IsRelay p
+    → Follows deck_jobs p h
     → next_action p h ≡ Some a → IsOpen a → calls ≡ line_calls side b h → has_stop calls ≡ false
 not-stopped p side b h a calls relay follows next is e =
-    ap has_stop e ∙ stops-are p side b h follows ∙ unstopped p b h relay follows (open-next p h a next is)
+    ap has_stop e ∙ stops-are p side b h follows ∙ unstopped deck_jobs p b h relay follows (open-next deck_jobs p h a next is)

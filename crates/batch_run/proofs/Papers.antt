@@ -16,9 +16,11 @@ use Rattle.core_law.specs.Core.{Devices, Allows}
 use Rattle.core_net.specs.Devices.{PrintsLine}
 use Rattle.batch_run.specs.Lines.{PaperRan, text_tried}
 use Rattle.batch_run.proofs.Decks.{new-none, rose-later}
+use Rattle.disk_system.specs.declared.loading.Loaded.{Loaded}
+use Rattle.deck_work.specs.DeckJobs.{deck_jobs}
 
 -- a print gives a part of its line, and all of it where it gives no cause
-part-printed : (line gained : List ℕ) (h : List Entry) (devices : Devices) (r : Reply) → Fits (act.Print line) r
+part-printed : (line gained : List ℕ) (h : List (Entry Loaded)) (devices : Devices Loaded) (r : Reply Loaded) → Fits deck_jobs (act.Print line) r
     → Allows devices (Does (act.Print line) r) gained
     → IsPrefixOf gained (line_text line) × (given_cause (act.Print line) r h ≡ None → gained ≡ line_text line)
 part-printed line gained h devices reply.Done fits allowed = (subst (λ whole. IsPrefixOf gained whole) allowed (part-same gained), λ none. allowed)
@@ -26,7 +28,8 @@ part-printed line gained h devices reply.Failed fits allowed = (allowed, λ none
 part-printed line gained h devices reply.NoMemory fits allowed = (allowed, λ none. absurd cc)
 part-printed line gained h devices r fits allowed = absurd fits
 
-done-of : (line : List ℕ) (h : List Entry) (r : Reply) → Fits (act.Print line) r → given_cause (act.Print line) r h ≡ None → r ≡ reply.Done
+done-of : (line : List ℕ) (h : List (Entry Loaded)) (r : Reply Loaded) → Fits deck_jobs (act.Print line) r → given_cause (act.Print line) r h ≡ None
+    → r ≡ reply.Done
 done-of line h reply.Done fits none = refl
 done-of line h reply.Failed fits none = absurd cc
 done-of line h reply.NoMemory fits none = absurd cc
@@ -37,12 +40,13 @@ gained-more : (old new : Option (List ℕ)) (before gained more : List ℕ) → 
 gained-more old new before gained more was after =
     sym after ∙ ap (λ old. option_map (λ given. given ++ more) old) was ∙ ap Some (append_assoc before gained more)
 
-module _ {K : Type 0} {given : K → Option (List ℕ)} {faults : K → ℕ} (start old new : Printing K) (h : List Entry) (line : List ℕ) (r : Reply) where
+module _ {K : Type 0} {given : K → Option (List ℕ)} {faults : K → ℕ} (start old new : Printing K) (h : List (Entry Loaded)) (line : List ℕ)
+    (r : Reply Loaded) where
   pub paper-printed : PaperRan given faults start old h → caused h ≡ None → PrintsLine (given old.sink) (given new.sink) line r
       → (r ≡ reply.Failed → Rose (faults old.sink) (faults new.sink)) → faults old.sink ≤ faults new.sink → (r ≡ reply.Done → new.live ≡ true)
       → PaperRan given faults start new (Does (act.Print line) r ∷ h)
   paper-printed ran free print failed counts live =
-      let devices : Devices = record { deck = None; paper = None; files = None } in
+      let devices : Devices Loaded = record { deck = None; paper = None; files = None } in
       let part = part-printed line print.gained h devices r print.suits (print.allowed devices) in
       record {
         prints = λ before told.

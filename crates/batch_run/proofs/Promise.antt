@@ -13,8 +13,7 @@ use Rattle.solo_base.specs.Text.{text}
 use Rattle.solo_devices.specs.Count.{Rose}
 use Rattle.solo_devices.specs.CardUnit.{Held, items_ahead, byte_limit, bytes_total, IsAllTaken}
 use Rattle.solo_devices.specs.declared.card_read.CardRead.TheVariants as read
-use Rattle.solo_devices.specs.PrinterUnit.{Printing, Gains}
-use Rattle.page_codec.specs.Items.{AreItems}
+use Rattle.solo_devices.specs.PrinterUnit.{Printing, Gains, GainsOf}
 use Rattle.disk_files.specs.Answers.{FileTable}
 use Rattle.disk_spool.specs.Ends.{known}
 use Rattle.resource_mon.specs.Seats.{Desk}
@@ -35,9 +34,10 @@ use Rattle.core_law.specs.Core.{IsBuffer}
 use Rattle.core_law.specs.Ends.{IsProcess, outcome_by}
 use Rattle.batch_job.specs.Report.{Loads}
 use Rattle.batch_job.specs.OneThread.{one_thread_lines}
-use Rattle.core_law.specs.Holds.{AreFound}
 use Rattle.core_law.proofs.Ends.{the-five}
 use Rattle.core_law.proofs.Outcomes.{ended-as}
+use Rattle.core_law.proofs.ReadCards.{cards-read, read-so}
+use Rattle.core_net.proofs.GoodFiles.{told-cards}
 use Rattle.core_law.proofs.Passing.{EndDone, AreFoundBy, gains-of, reads-all}
 use Rattle.core_law.proofs.Row.{each-buffer}
 use Rattle.core_law.proofs.Stopping.{done-none, none-done, stopped-by}
@@ -47,7 +47,6 @@ use Rattle.core_net.specs.declared.finish.Outcomes.{Outcomes}
 use Rattle.core_net.specs.Causes.{Counts, counting}
 use Rattle.core_net.specs.Ended.{outcome_at, all_done, none_stopped, stopped_at, StoppedBeside, SomeFault, EndTogether, FaultsAre, NoneDamaged}
 use Rattle.core_net.specs.Faults.{FaultsAreCounted}
-use Rattle.core_net.specs.Openings.{files_found}
 use Rattle.batch_run.specs.declared.batch.Parted.{Parted}
 use Rattle.batch_run.specs.declared.desk.Desk.{Desk as Place}
 use Rattle.batch_run.specs.declared.gates.AllMet.{AllMet as Met}
@@ -67,18 +66,21 @@ use Rattle.batch_run.proofs.Devices.{deck-reads, cards-taken, paper-gained}
 use Rattle.batch_run.proofs.FileLoads.{all-loaded}
 use Rattle.batch_run.proofs.Ending.{FiveRan, each-process, histories, follows, hand-over, are-first, line-met, spool-met}
 use Rattle.batch_run.proofs.Given.{has-failed, put-failed, take-failed, read-failed, print-failed, load-failed, limit-cause}
+use Rattle.disk_system.specs.declared.loading.Loaded.{Loaded}
+use Rattle.deck_work.specs.DeckJobs.{AreFound, files_found, deck_jobs, deck_are_jobs, one_thread_is}
 
 -- ---- one process
 fault-cause : (found : Option Outcome) (c : Cause) → outcome_by found ≡ outcome.Fault c → found ≡ Some (outcome.Fault c)
 fault-cause None c e = absurd cc
 fault-cause (Some how) c e = ap Some e
 
-caused-so : (p : Process) (h : List Entry) (how : Outcome) (c : Cause) → IsRelay p → Follows p h → newest h ≡ Some (act.Ended how) → how ≡ outcome.Fault c
+caused-so : (p : Process Loaded) (h : List (Entry Loaded)) (how : Outcome) (c : Cause) → IsRelay p → Follows deck_jobs p h → newest h ≡ Some (act.Ended how)
+    → how ≡ outcome.Fault c
     → caused h ≡ Some (outcome.Fault c)
-caused-so p h how c relay follows ended e = fault-cause (caused h) c (ended-as p h how relay follows ended ∙ e)
+caused-so p h how c relay follows ended e = fault-cause (caused h) c (ended-as deck_are_jobs p h how relay follows ended ∙ e)
 
 -- the four actions of which a device may fail
-by-failed : (P : Action → Type 0) (a : Action) → Fits a reply.Failed → ((page : Page) → P (act.PutPage page)) → P act.TakePage
+by-failed : (P : Action → Type 0) (a : Action) → Fits deck_jobs a reply.Failed → ((page : Page) → P (act.PutPage page)) → P act.TakePage
     → ((line : List ℕ) → P (act.Print line)) → ((file : List ℕ) → P (act.Load file)) → P a
 by-failed P (act.PutPage page) fits put take print load = put page
 by-failed P act.TakePage fits put take print load = take
@@ -102,7 +104,7 @@ rose-by {a} {c} {b} {d} x y rose = subst (λ n. Rose n d) x (subst (λ m. Rose a
 later-by : {a c b d : ℕ} → a ≡ c → b ≡ d → a ≤ b → c ≤ d
 later-by {a} {c} {b} {d} x y later = subst (λ n. n ≤ d) x (subst (λ m. a ≤ m) y later)
 
-seat-after : (desk : Desk) (number : ℕ) (start now : Place) (h : List Entry) → DeskRan start now h
+seat-after : (desk : Desk) (number : ℕ) (start now : Place) (h : List (Entry Loaded)) → DeskRan start now h
     → start.resource.now ≡ desk → start.seat.number ≡ number → IsSeatAt desk number now.seat
 seat-after desk number start now h ran disk is = record {
   gate = ran.at.gate ∙ ap (λ d. d.gate) (sym ran.same.0 ∙ disk);
@@ -120,7 +122,7 @@ module _ {S K A B F : Type 0} (left : S → Option (List ℕ)) (taken source_fau
   ends-are =
       let card = ran.front_ended.cards_ended.stands in
       let input = ran.front_ended.pages_ended.stands in
-      let job = ran.rest_ended.jobs_ended.stands in
+      let at_job = ran.rest_ended.jobs_ended.stands in
       let output = ran.rest_ended.back_ended.lines_ended.stands in
       let printer = ran.rest_ended.back_ended.paper_ended.stands in
       record {
@@ -128,10 +130,10 @@ module _ {S K A B F : Type 0} (left : S → Option (List ℕ)) (taken source_fau
         cards_receiver = ap (λ e. e.gate) is.cards_receiver ∙ input.from_gate.1 ∙ sym input.from_gate.0 ∙ begins.input_from_gate;
         input_sender = ap (λ e. e.gate) is.input_sender ∙ input.to_gate.1
             ∙ ap (λ g. known (from_size g.area) g) (sym input.to_gate.0 ∙ begins.input_to_gate);
-        input_receiver = ap (λ e. e.gate) is.input_receiver ∙ job.from_gate.1
-            ∙ ap (λ g. known (from_size g.area) g) (sym job.from_gate.0 ∙ begins.job_from_gate);
-        output_sender = ap (λ e. e.gate) is.output_sender ∙ job.to_gate.1
-            ∙ ap (λ g. known (to_size g.area) g) (sym job.to_gate.0 ∙ begins.job_to_gate);
+        input_receiver = ap (λ e. e.gate) is.input_receiver ∙ at_job.from_gate.1
+            ∙ ap (λ g. known (from_size g.area) g) (sym at_job.from_gate.0 ∙ begins.job_from_gate);
+        output_sender = ap (λ e. e.gate) is.output_sender ∙ at_job.to_gate.1
+            ∙ ap (λ g. known (to_size g.area) g) (sym at_job.to_gate.0 ∙ begins.job_to_gate);
         output_receiver = ap (λ e. e.gate) is.output_receiver ∙ output.from_gate.1
             ∙ ap (λ g. known (to_size g.area) g) (sym output.from_gate.0 ∙ begins.output_from_gate);
         lines_sender = ap (λ e. e.gate) is.lines_sender ∙ output.to_gate.1 ∙ sym output.to_gate.0 ∙ begins.output_to_gate;
@@ -141,7 +143,7 @@ module _ {S K A B F : Type 0} (left : S → Option (List ℕ)) (taken source_fau
           input = subst (IsSeatAt gates.disk 1) (sym is.input_seat)
               (seat-after gates.disk 1 _ _ _ input.desk begins.input_disk (ap (λ s. s.number) (begins.input_seat ∙ fresh.seats.input)));
           job = subst (IsSeatAt gates.disk 2) (sym is.job_seat)
-              (seat-after gates.disk 2 _ _ _ job.desk begins.job_disk (ap (λ s. s.number) (begins.job_seat ∙ fresh.seats.job)));
+              (seat-after gates.disk 2 _ _ _ at_job.desk begins.job_disk (ap (λ s. s.number) (begins.job_seat ∙ fresh.seats.job)));
           output = subst (IsSeatAt gates.disk 3) (sym is.output_seat)
               (seat-after gates.disk 3 _ _ _ output.desk begins.output_disk (ap (λ s. s.number) (begins.output_seat ∙ fresh.seats.output)));
         };
@@ -156,18 +158,18 @@ module _ {S K A B F : Type 0} (left : S → Option (List ℕ)) (taken source_fau
     five =
         let card = ran.front_ended.cards_ended in
         let input = ran.front_ended.pages_ended in
-        let job = ran.rest_ended.jobs_ended in
+        let at_job = ran.rest_ended.jobs_ended in
         let output = ran.rest_ended.back_ended.lines_ended in
         let printer = ran.rest_ended.back_ended.paper_ended in
         record {
           card_history = card.history;
           input_history = input.history;
-          job_history = job.history;
+          job_history = at_job.history;
           output_history = output.history;
           printer_history = printer.history;
           card_follows = card.follows;
           input_follows = input.follows;
-          job_follows = job.follows;
+          job_follows = at_job.follows;
           output_follows = output.follows;
           printer_follows = printer.follows;
           cards_rest = meets.cards_rest;
@@ -175,10 +177,10 @@ module _ {S K A B F : Type 0} (left : S → Option (List ℕ)) (taken source_fau
               (ap (λ e. e.calls) is.cards_receiver ∙ input.stands.from_calls) meets.cards;
           input_left = meets.input_left;
           input_meets = spool-met input_told input_faults gates.input.area met.input _ _ _ _ meets.input_left (first 2)
-              (ap (λ e. e.calls) is.input_sender ∙ input.stands.to_calls) (ap (λ e. e.calls) is.input_receiver ∙ job.stands.from_calls) meets.input;
+              (ap (λ e. e.calls) is.input_sender ∙ input.stands.to_calls) (ap (λ e. e.calls) is.input_receiver ∙ at_job.stands.from_calls) meets.input;
           output_left = meets.output_left;
           output_meets = spool-met output_told output_faults gates.output.area met.output _ _ _ _ meets.output_left (first 3)
-              (ap (λ e. e.calls) is.output_sender ∙ job.stands.to_calls) (ap (λ e. e.calls) is.output_receiver ∙ output.stands.from_calls) meets.output;
+              (ap (λ e. e.calls) is.output_sender ∙ at_job.stands.to_calls) (ap (λ e. e.calls) is.output_receiver ∙ output.stands.from_calls) meets.output;
           lines_rest = meets.lines_rest;
           lines = line-met _ _ _ _ meets.lines_rest (first 4) (ap (λ e. e.calls) is.lines_sender ∙ output.stands.to_calls)
               (ap (λ e. e.calls) is.lines_receiver ∙ printer.stands.calls) meets.lines;
@@ -188,7 +190,7 @@ module _ {S K A B F : Type 0} (left : S → Option (List ℕ)) (taken source_fau
     outcomes = parted.outcomes
 
     -- ---- how each ended
-    ends-so : (h : List Entry) (how found : Outcome) → how ≡ found → newest h ≡ Some (act.Ended found) → newest h ≡ Some (act.Ended how)
+    ends-so : (h : List (Entry Loaded)) (how found : Outcome) → how ≡ found → newest h ≡ Some (act.Ended found) → newest h ≡ Some (act.Ended how)
     ends-so h how found e last = last ∙ ap (λ how. Some (act.Ended how)) (sym e)
 
     pub ended-at : (p : ℕ) → IsProcess p → newest (histories five p) ≡ Some (act.Ended (outcome_at outcomes p))
@@ -203,13 +205,13 @@ module _ {S K A B F : Type 0} (left : S → Option (List ℕ)) (taken source_fau
     done-at : (p : ℕ) → IsProcess p → outcome_at all_done p ≡ outcome.Done
     done-at p one = each-process (λ p. outcome_at all_done p ≡ outcome.Done) p one refl refl refl refl refl
 
-    end-done : outcomes ≡ all_done → EndDone (histories five)
+    end-done : outcomes ≡ all_done → EndDone deck_are_jobs (histories five)
     end-done e p one = ended-at p one ∙ ap (λ how. Some (act.Ended how)) (ap (λ o. outcome_at o p) e ∙ done-at p one)
 
     -- ---- together
     none-first : outcomes ≡ all_done → met.stopped_by ≡ none_stopped
     none-first e =
-        let none = done-none the-five (histories five) (follows five) first (are-first five) (end-done e) in
+        let none = done-none deck_are_jobs (the-five deck_are_jobs) (histories five) (follows five) first (are-first five) (end-done e) in
         meets.four ∙ none-by (first 1) (first 2) (first 3) (first 4) (none 1 (lit≤ tt, lit≤ tt)) (none 2 (lit≤ tt, lit≤ tt)) (none 3 (lit≤ tt, lit≤ tt))
         (none 4 (lit≤ tt, lit≤ tt))
 
@@ -219,7 +221,8 @@ module _ {S K A B F : Type 0} (left : S → Option (List ℕ)) (taken source_fau
     all-done : met.stopped_by ≡ none_stopped → outcomes ≡ all_done
     all-done e =
         let free = λ (b : ℕ) (at : IsBuffer b). ap (λ all. stopped_at all b) e ∙ none-at b at in
-        let done = λ (p : ℕ) (one : IsProcess p). none-done the-five (histories five) (follows five) first (are-first five) free p (outcome_at outcomes p) one
+        let done = λ (p : ℕ) (one : IsProcess p). none-done deck_are_jobs (the-five deck_are_jobs) (histories five) (follows five) first
+            (are-first five) free p (outcome_at outcomes p) one
         (ended-at p one) in
         all-done-by outcomes.card outcomes.input outcomes.job outcomes.output outcomes.printer (done 1 (lit≤ tt, lit≤ tt)) (done 2 (lit≤ tt, lit≤ tt))
         (done 3 (lit≤ tt, lit≤ tt)) (done 4 (lit≤ tt, lit≤ tt)) (done 5 (lit≤ tt, lit≤ tt))
@@ -227,7 +230,7 @@ module _ {S K A B F : Type 0} (left : S → Option (List ℕ)) (taken source_fau
     beside : (p : ℕ) → IsProcess p → outcome_at outcomes p ≡ outcome.Stopped → StoppedBeside met.stopped_by p × SomeFault outcomes
     beside p one e =
         let all : (p : ℕ) → IsProcess p → HasEnded (histories five p) = λ p one. (outcome_at outcomes p, ended-at p one) in
-        let (told, fault) = stopped-by the-five (histories five) (follows five) first (are-first five) all p one
+        let (told, fault) = stopped-by deck_are_jobs (the-five deck_are_jobs) (histories five) (follows five) first (are-first five) all p one
         (ended-at p one ∙ ap (λ how. Some (act.Ended how)) e) in (
           record { buffer = told.buffer; side = told.side; is_buffer = told.is_buffer; seated = told.seated; by = told.by },
           record {
@@ -244,28 +247,31 @@ module _ {S K A B F : Type 0} (left : S → Option (List ℕ)) (taken source_fau
     -- ---- the faults
     pub faults : FaultsAre outcomes
     faults = record {
-      card = λ c e. faults_of_the_five.card _ c five.card_follows (caused-so card _ _ c card-relay five.card_follows (ended-at 1 (lit≤ tt, lit≤ tt)) e);
-      input = λ c e. faults_of_the_five.input _ c five.input_follows (caused-so input _ _ c input-relay five.input_follows (ended-at 2 (lit≤ tt, lit≤ tt)) e);
-      job = λ c e. faults_of_the_five.job _ c five.job_follows (caused-so job _ _ c job-relay five.job_follows (ended-at 3 (lit≤ tt, lit≤ tt)) e);
-      output = λ c e. faults_of_the_five.output _ c five.output_follows
-          (caused-so output _ _ c output-relay five.output_follows (ended-at 4 (lit≤ tt, lit≤ tt)) e);
-      printer = λ c e. faults_of_the_five.printer _ c five.printer_follows
-          (caused-so printer _ _ c printer-relay five.printer_follows (ended-at 5 (lit≤ tt, lit≤ tt)) e);
+      card = λ c e. (faults_of_the_five deck_jobs deck_are_jobs).card _ c five.card_follows (caused-so card _ _ c (card-relay Loaded) five.card_follows
+          (ended-at 1 (lit≤ tt, lit≤ tt)) e);
+      input = λ c e. (faults_of_the_five deck_jobs deck_are_jobs).input _ c five.input_follows (caused-so input _ _ c (input-relay Loaded) five.input_follows
+          (ended-at 2 (lit≤ tt, lit≤ tt)) e);
+      job = λ c e. (faults_of_the_five deck_jobs deck_are_jobs).job _ c five.job_follows
+          (caused-so (job deck_jobs) _ _ c (job-relay deck_are_jobs) five.job_follows (ended-at 3 (lit≤ tt, lit≤ tt)) e);
+      output = λ c e. (faults_of_the_five deck_jobs deck_are_jobs).output _ c five.output_follows
+          (caused-so output _ _ c (output-relay Loaded) five.output_follows (ended-at 4 (lit≤ tt, lit≤ tt)) e);
+      printer = λ c e. (faults_of_the_five deck_jobs deck_are_jobs).printer _ c five.printer_follows
+          (caused-so printer _ _ c (printer-relay Loaded) five.printer_follows (ended-at 5 (lit≤ tt, lit≤ tt)) e);
     }
 
     -- ---- the devices
     deck-read : (items : List Item) → items_ahead (left deck.source) deck.pending ≡ Some items
-        → ReadsOf items (items_ahead (left parted.deck.source) parted.deck.pending) (history.taken (histories five 1))
+        → ReadsOf deck_are_jobs items (items_ahead (left parted.deck.source) parted.deck.pending) (history.taken (histories five 1))
     deck-read items told =
         let card = ran.front_ended.cards_ended in
         let (rest, now, parts, last) = card.stands.deck.reads items (ap (λ d. items_ahead (left d.source) d.pending) begins.deck_is ∙ told) in
         deck-reads card.history items rest _ card.follows (ap (λ d. items_ahead (left d.source) d.pending) is.deck ∙ now) parts last
 
-    paper-gains : (before : List ℕ) → given paper.sink ≡ Some before → Gained before (given parted.paper.sink) printer.sends (histories five 5)
+    paper-gains : (before : List ℕ) → given paper.sink ≡ Some before → Gained deck_are_jobs before (given parted.paper.sink) printer.sends (histories five 5)
     paper-gains before told =
         let end = ran.rest_ended.back_ended.paper_ended in
         let (gained, now, part, all) = end.stands.paper.prints before (ap (λ p. given p.sink) begins.paper_is ∙ told) in
-        paper-gained printer printer-relay end.history before gained _ end.follows (ap (λ p. given p.sink) is.paper ∙ now) part all
+        paper-gained printer (printer-relay Loaded) end.history before gained _ end.follows (ap (λ p. given p.sink) is.paper ∙ now) part all
 
     -- ---- the files
     abbrev loaded : FilesRan file_pages file_faults row.jobs.files ended.rest.0.0.files five.job_history
@@ -275,19 +281,22 @@ module _ {S K A B F : Type 0} (left : S → Option (List ℕ)) (taken source_fau
     files-stay = ap (λ f. file_pages f.area) is.files ∙ loaded.stay ∙ ap (λ f. file_pages f.area) begins.files_are
 
     found-by : (items : List Item) (found : Loads) → AreFound (files_found (file_pages files.area)) found items
-        → AreFoundBy found items (histories five 3)
+        → AreFoundBy deck_are_jobs found items (histories five 3)
     found-by items found (inl told) =
-        inl (all-loaded found job five.job_history five.job_follows
+        inl (all-loaded found (job deck_jobs) five.job_history five.job_follows
         (loaded.loads found (ap (λ f. files_found (file_pages f.area)) begins.files_are ∙ told)))
     found-by items found (inr none) = inr none
 
     pub prints : is_some (input_told gates.input.area) ≡ true → is_some (output_told gates.output.area) ≡ true → (items : List Item) (found : Loads)
-        → items_ahead (left deck.source) deck.pending ≡ Some items → AreItems items → AreFound (files_found (file_pages files.area)) found items
+        → items_ahead (left deck.source) deck.pending ≡ Some items → AreFound (files_found (file_pages files.area)) found items
         → Gains (given paper.sink) (given parted.paper.sink) (text (one_thread_lines found items)) (outcomes ≡ all_done)
-    prints input_is output_is items found told valid are = record {
+    prints input_is output_is items found told are = record {
       told = λ before paper_told.
-          (let gains = gains-of (histories five) (follows five) (hand-over five input_is output_is) items _ before _ valid (deck-read items told)
+          (let valid = told-cards (left deck.source) deck.pending items told in
+          let gained = gains-of deck_are_jobs (histories five) (follows five) (hand-over five input_is output_is) items _ before _ valid (deck-read items told)
           found (found-by items found are) (paper-gains before paper_told) in
+          let gains = subst (λ lines. GainsOf before (given parted.paper.sink) (text lines) (EndDone deck_are_jobs (histories five))) (one_thread_is items found)
+          gained in
           record { part = gains.part; now_is = gains.now_is; prefix = gains.prefix; all_is = λ e. gains.all_is (end-done e) });
       untold = λ none. ap (λ p. given p.sink) is.paper
           ∙ ran.rest_ended.back_ended.paper_ended.stands.paper.untold (ap (λ p. given p.sink) begins.paper_is ∙ none);
@@ -295,19 +304,20 @@ module _ {S K A B F : Type 0} (left : S → Option (List ℕ)) (taken source_fau
 
     pub reads : (items : List Item) → items_ahead (left deck.source) deck.pending ≡ Some items → outcomes ≡ all_done
         → items_ahead (left parted.deck.source) parted.deck.pending ≡ Some []
-    reads items told e = reads-all the-five (histories five) (follows five) items _ (deck-read items told) (end-done e)
+    reads items told e = reads-all deck_are_jobs (the-five deck_are_jobs) (histories five) (follows five) items _ (deck-read items told) (end-done e)
 
     -- over told areas no page was damaged
-    pub undamaged : is_some (input_told gates.input.area) ≡ true → is_some (output_told gates.output.area) ≡ true → (items : List Item)
-        → items_ahead (left deck.source) deck.pending ≡ Some items → AreItems items → NoneDamaged outcomes
-    undamaged input_is output_is items told valid p c one e =
-        none-damaged (histories five) (follows five) (hand-over five input_is output_is) items _ (deck-read items told) valid p c one
+    pub undamaged : is_some (input_told gates.input.area) ≡ true → is_some (output_told gates.output.area) ≡ true → NoneDamaged outcomes
+    undamaged input_is output_is p c one e =
+        let seen = cards-read deck_are_jobs (histories five 1) (follows five 1) in
+        none-damaged deck_are_jobs (histories five) (follows five) (hand-over five input_is output_is) seen.items (Some [])
+        (read-so deck_are_jobs (history.taken (histories five 1)) seen) seen.are p c one
         (ended-at p one ∙ ap (λ how. Some (act.Ended how)) e)
 
     pub taken-all : outcomes ≡ all_done → IsAllTaken (left parted.deck.source)
     taken-all e =
         let end = ran.front_ended.cards_ended in
-        let last = (ended-rightly (process 1) (histories five 1) outcome.Done (the-five.relays 1) (follows five 1)
+        let last = (ended-rightly deck_jobs (process deck_jobs 1) (histories five 1) outcome.Done ((the-five deck_are_jobs).relays 1) (follows five 1)
         (end-done e 1 (lit≤ tt, lit≤ tt))).done refl in
         subst (λ d. IsAllTaken (left d.source)) (sym is.deck)
         (end.stands.deck.all ((cards-taken end.history end.follows).ended last.1).1)
@@ -318,7 +328,7 @@ module _ {S K A B F : Type 0} (left : S → Option (List ℕ)) (taken source_fau
         let newest = end.stands.deck.longer (subst (λ d. taken d.source ≤ byte_limit) (sym begins.deck_is) few)
         (subst (λ d. byte_limit < taken d.source) is.deck over) in
         let gave = limit-cause end.history end.follows newest in
-        sym (ended-as card end.history outcomes.card card-relay end.follows (ended-at 1 (lit≤ tt, lit≤ tt))) ∙ ap outcome_by gave
+        sym (ended-as deck_are_jobs card end.history outcomes.card (card-relay Loaded) end.follows (ended-at 1 (lit≤ tt, lit≤ tt))) ∙ ap outcome_by gave
 
     pub total : bytes_total (taken parted.deck.source) (left parted.deck.source) ≡ bytes_total (taken deck.source) (left deck.source)
     total =
@@ -327,7 +337,7 @@ module _ {S K A B F : Type 0} (left : S → Option (List ℕ)) (taken source_fau
 
     -- ---- the counts
     read-gave : (c : Cause) → outcomes.card ≡ outcome.Fault c → caused five.card_history ≡ Some (outcome.Fault c)
-    read-gave c e = caused-so card five.card_history outcomes.card c card-relay five.card_follows (ended-at 1 (lit≤ tt, lit≤ tt)) e
+    read-gave c e = caused-so card five.card_history outcomes.card c (card-relay Loaded) five.card_follows (ended-at 1 (lit≤ tt, lit≤ tt)) e
 
     deck-rose : outcomes.card ≡ outcome.Fault cause.ReadFault → Rose (source_faults deck.source) (source_faults parted.deck.source)
     deck-rose e =
@@ -343,9 +353,9 @@ module _ {S K A B F : Type 0} (left : S → Option (List ℕ)) (taken source_fau
     paper-rose : outcomes.printer ≡ outcome.Fault cause.PrintFault → Rose (sink_faults paper.sink) (sink_faults parted.paper.sink)
     paper-rose e =
         let h = five.printer_history in
-        let gave = caused-so printer h outcomes.printer cause.PrintFault printer-relay five.printer_follows (ended-at 5 (lit≤ tt, lit≤ tt)) e in
+        let gave = caused-so printer h outcomes.printer cause.PrintFault (printer-relay Loaded) five.printer_follows (ended-at 5 (lit≤ tt, lit≤ tt)) e in
         let failed = has-failed printer printer-does cause.PrintFault tt h five.printer_follows gave in
-        let newest = by-failed (λ a. (later before : List Entry) → h ≡ later ++ Does a reply.Failed ∷ before → does_printer a
+        let newest = by-failed (λ a. (later before : List (Entry Loaded)) → h ≡ later ++ Does a reply.Failed ∷ before → does_printer a
         → newest_print h ≡ Some reply.Failed)
         failed.action failed.fits (λ page later before at does. absurd does) (λ later before at does. absurd does)
         (λ line later before at does. print-failed h later before line five.printer_follows at)
@@ -356,9 +366,9 @@ module _ {S K A B F : Type 0} (left : S → Option (List ℕ)) (taken source_fau
     input-rose : outcomes.input ≡ outcome.Fault cause.DiskFault → Rose (input_faults gates.input.area) (input_faults met.input)
     input-rose e =
         let h = five.input_history in
-        let gave = caused-so input h outcomes.input cause.DiskFault input-relay five.input_follows (ended-at 2 (lit≤ tt, lit≤ tt)) e in
+        let gave = caused-so input h outcomes.input cause.DiskFault (input-relay Loaded) five.input_follows (ended-at 2 (lit≤ tt, lit≤ tt)) e in
         let failed = has-failed input input-does cause.DiskFault tt h five.input_follows gave in
-        by-failed (λ a. (later before : List Entry) → h ≡ later ++ Does a reply.Failed ∷ before → does_input a
+        by-failed (λ a. (later before : List (Entry Loaded)) → h ≡ later ++ Does a reply.Failed ∷ before → does_input a
         → Rose (input_faults gates.input.area) (input_faults met.input))
         failed.action failed.fits (λ page later before at does. five.input_meets.of_area.failed Sender (put-failed 2 h later before page at))
         (λ later before at does. absurd does) (λ line later before at does. absurd does) (λ file later before at does. absurd does)
@@ -374,9 +384,9 @@ module _ {S K A B F : Type 0} (left : S → Option (List ℕ)) (taken source_fau
     job-rose : outcomes.job ≡ outcome.Fault cause.DiskFault → JobRose
     job-rose e =
         let h = five.job_history in
-        let gave = caused-so job h outcomes.job cause.DiskFault job-relay five.job_follows (ended-at 3 (lit≤ tt, lit≤ tt)) e in
-        let failed = has-failed job job-does cause.DiskFault tt h five.job_follows gave in
-        by-failed (λ a. (later before : List Entry) → h ≡ later ++ Does a reply.Failed ∷ before → does_job a → JobRose)
+        let gave = caused-so (job deck_jobs) h outcomes.job cause.DiskFault (job-relay deck_are_jobs) five.job_follows (ended-at 3 (lit≤ tt, lit≤ tt)) e in
+        let failed = has-failed (job deck_jobs) job-does cause.DiskFault tt h five.job_follows gave in
+        by-failed (λ a. (later before : List (Entry Loaded)) → h ≡ later ++ Does a reply.Failed ∷ before → does_job a → JobRose)
         failed.action failed.fits
         (λ page later before at does. inr (inl (five.output_meets.of_area.failed Sender (put-failed 3 h later before page at))))
         (λ later before at does. inl (five.input_meets.of_area.failed Receiver (take-failed 2 h later before at)))
@@ -387,9 +397,9 @@ module _ {S K A B F : Type 0} (left : S → Option (List ℕ)) (taken source_fau
     output-rose : outcomes.output ≡ outcome.Fault cause.DiskFault → Rose (output_faults gates.output.area) (output_faults met.output)
     output-rose e =
         let h = five.output_history in
-        let gave = caused-so output h outcomes.output cause.DiskFault output-relay five.output_follows (ended-at 4 (lit≤ tt, lit≤ tt)) e in
+        let gave = caused-so output h outcomes.output cause.DiskFault (output-relay Loaded) five.output_follows (ended-at 4 (lit≤ tt, lit≤ tt)) e in
         let failed = has-failed output output-does cause.DiskFault tt h five.output_follows gave in
-        by-failed (λ a. (later before : List Entry) → h ≡ later ++ Does a reply.Failed ∷ before → does_output a
+        by-failed (λ a. (later before : List (Entry Loaded)) → h ≡ later ++ Does a reply.Failed ∷ before → does_output a
         → Rose (output_faults gates.output.area) (output_faults met.output))
         failed.action failed.fits (λ page later before at does. absurd does)
         (λ later before at does. five.output_meets.of_area.failed Receiver (take-failed 3 h later before at))

@@ -7,35 +7,40 @@ use Rattle.batch_procs.specs.declared.actions.Reply.{Reply}
 use Rattle.batch_procs.specs.Fits.{MayLack}
 use Rattle.batch_procs.specs.History.{Entry, Does, LacksMemory, newest}
 use Rattle.batch_procs.specs.Process.{Process, Follows, next_action}
+use Rattle.disk_system.specs.declared.loading.Loaded.{Loaded}
+use Rattle.deck_work.specs.DeckJobs.{deck_jobs}
 
 -- Each action of the process is one of these.
-abbrev pub DoesOnly : Process → (Action → Type 0) → Type 0
-DoesOnly p does = (h : List Entry) (a : Action) → Follows p h → next_action p h ≡ Some a → does a
+abbrev pub DoesOnly : Process Loaded → (Action → Type 0) → Type 0
+DoesOnly p does = (h : List (Entry Loaded)) (a : Action) → Follows deck_jobs p h → next_action p h ≡ Some a
+    → does a
 
 -- The process has a history that its connections stand for, behind which it makes this action.
-pub record Comes (p : Process) (Stands : List Entry → Type 0) (a : Action) : Type 0 where
-  pub history : List Entry
+pub record Comes (p : Process Loaded) (Stands : List (Entry Loaded) → Type 0) (a : Action) : Type 0 where
+  pub history : List (Entry Loaded)
   pub stands : Stands history
-  pub follows : Follows p history
+  pub follows : Follows deck_jobs p history
   pub next : next_action p history ≡ Some a
 
 -- The connections stand for the history with this action and reply, and with its want of memory where it may
 -- lack it.
-pub record Performed (Stands : List Entry → Type 0) (a : Action) (r : Reply)
-    (before : List Entry) : Type 0 where
+pub record Performed (Stands : List (Entry Loaded) → Type 0) (a : Action) (r : Reply Loaded)
+    (before : List (Entry Loaded)) : Type 0 where
   pub done : Stands (Does a r ∷ before)
   pub lacks : MayLack a r → Stands (LacksMemory a r ∷ before)
 
 -- Behind every history that the connections stood for.
-abbrev pub Performs : Process → (List Entry → Type 0) → (List Entry → Type 0) → Action → Reply → Type 0
-Performs p Stood Stands a r = (h : List Entry) → Stood h → Follows p h → next_action p h ≡ Some a
+abbrev pub Performs : Process Loaded → (List (Entry Loaded) → Type 0) → (List (Entry Loaded) → Type 0)
+    → Action → Reply Loaded → Type 0
+Performs p Stood Stands a r = (h : List (Entry Loaded)) → Stood h → Follows deck_jobs p h
+    → next_action p h ≡ Some a
     → Performed Stands a r h
 
 -- The process did what its history asks for, and ended so.
-pub record EndsSo (p : Process) (Stands : List Entry → Type 0) (how : Outcome) : Type 0 where
-  pub history : List Entry
+pub record EndsSo (p : Process Loaded) (Stands : List (Entry Loaded) → Type 0) (how : Outcome) : Type 0 where
+  pub history : List (Entry Loaded)
   pub stands : Stands history
-  pub follows : Follows p history
+  pub follows : Follows deck_jobs p history
   pub ended : newest history ≡ Some (act.Ended how)
 
 -- how it ends, if this is its end

@@ -8,10 +8,11 @@ use Rattle.batch_procs.specs.declared.actions.Reply.{Reply}
 use Rattle.batch_procs.specs.declared.actions.Reply.TheVariants as reply
 use Rattle.batch_procs.specs.History.{Entry, Does, LacksMemory, Delays}
 use Rattle.batch_procs.specs.Causes.{caused}
-use Rattle.core_net.specs.Openings.{files_found}
+use Rattle.deck_work.specs.DeckJobs.{files_found}
+use Rattle.disk_system.specs.declared.loading.Loaded.{Loaded}
 
 -- each file that was loaded was loaded as these say
-abbrev pub AreLoadedAs : Loads → List Entry → Type 0
+abbrev pub AreLoadedAs : Loads → List (Entry Loaded) → Type 0
 AreLoadedAs found [] = Unit {0}
 AreLoadedAs found (Does (act.Load file) (reply.Loaded load) ∷ h) = (load ≡ found file) × AreLoadedAs found h
 AreLoadedAs found (Does action r ∷ h) = AreLoadedAs found h
@@ -19,7 +20,7 @@ AreLoadedAs found (LacksMemory action r ∷ h) = AreLoadedAs found h
 AreLoadedAs found (Delays action ∷ h) = AreLoadedAs found h
 
 -- the answer to the newest load, if there was one
-abbrev pub newest_load : List Entry → Option Reply
+abbrev pub newest_load : List (Entry Loaded) → Option (Reply Loaded)
 newest_load [] = None
 newest_load (Does (act.Load file) r ∷ h) = Some r
 newest_load (Does action r ∷ h) = newest_load h
@@ -30,7 +31,7 @@ newest_load (Delays action ∷ h) = newest_load h
 -- counted.
 pub record FilesRan {F : Type 0} (pages : F → Option (List (List ℕ))) (faults : F → ℕ)
     (start now : FileTable F)
-    (h : List Entry) : Type 0 where
+    (h : List (Entry Loaded)) : Type 0 where
   pub stay : pages now.area ≡ pages start.area
   pub loads : (found : Loads) → files_found (pages start.area) ≡ Some found → AreLoadedAs found h
   pub counts : faults start.area ≤ faults now.area

@@ -14,6 +14,7 @@ use Rattle.batch_run.specs.declared.output_connections.OutputEnds.{OutputEnds}
 use Rattle.batch_run.specs.Calls.{line_calls, spool_calls}
 use Rattle.batch_run.specs.Desks.{DeskRan, at_desk}
 use Rattle.batch_run.specs.Files.{FilesRan}
+use Rattle.disk_system.specs.declared.loading.Loaded.{Loaded}
 
 -- ---- their actions
 abbrev pub does_input : Action → Type 0
@@ -51,7 +52,7 @@ does_output other = ⊥
 
 -- ---- each buffer has had the calls of the history at the side of the process; and the files were loaded
 pub record InputRan {A : Type 0} (size : A → ℕ) (start now : InputConnections A)
-    (h : List Entry) : Type 0 where
+    (h : List (Entry Loaded)) : Type 0 where
   pub from_gate : (start.cards_gate.now ≡ now.cards_gate.now) × (now.cards.gate ≡ now.cards_gate.now)
   pub from_calls : now.cards.calls ≡ line_calls Receiver 1 h
   pub to_gate : (start.pages_gate.now ≡ now.pages_gate.now)
@@ -61,7 +62,7 @@ pub record InputRan {A : Type 0} (size : A → ℕ) (start now : InputConnection
 
 pub record JobRan {A B F : Type 0} (from_size : A → ℕ) (to_size : B → ℕ)
     (file_pages : F → Option (List (List ℕ))) (file_faults : F → ℕ) (start now : JobConnections A B F)
-    (h : List Entry) : Type 0 where
+    (h : List (Entry Loaded)) : Type 0 where
   pub from_gate : (start.cards_gate.now ≡ now.cards_gate.now)
       × (now.cards.gate ≡ known (from_size now.cards_gate.now.area) now.cards_gate.now)
   pub from_calls : now.cards.calls ≡ spool_calls Receiver 2 h
@@ -72,7 +73,7 @@ pub record JobRan {A B F : Type 0} (from_size : A → ℕ) (to_size : B → ℕ)
   pub files : FilesRan file_pages file_faults start.files now.files h
 
 pub record OutputRan {B : Type 0} (size : B → ℕ) (start now : OutputConnections B)
-    (h : List Entry) : Type 0 where
+    (h : List (Entry Loaded)) : Type 0 where
   pub from_gate : (start.pages_gate.now ≡ now.pages_gate.now)
       × (now.pages.gate ≡ known (size now.pages_gate.now.area) now.pages_gate.now)
   pub from_calls : now.pages.calls ≡ spool_calls Receiver 3 h

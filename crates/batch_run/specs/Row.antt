@@ -13,6 +13,7 @@ use Rattle.batch_run.specs.Connections.{EndsSo}
 use Rattle.batch_run.specs.Cards.{CardRan}
 use Rattle.batch_run.specs.Lines.{PrinterRan}
 use Rattle.batch_run.specs.Pages.{InputRan, JobRan, OutputRan, input_connected, job_connected, output_connected}
+use Rattle.deck_work.specs.DeckJobs.{deck_jobs}
 
 -- What became of those that came to a start and were told whether all had come: they did this, or they stay
 -- as they were.
@@ -36,7 +37,8 @@ abbrev pub JobsCame : {A B F : Type 0} → (A → ℕ) → (B → ℕ) → (F �
     → ℕ → ℕ → Bool → JobEnds A B F → (JobEnds A B F × Outcome) → Type 0
 JobsCame from_size to_size pages faults start here all jobs ended =
     Came start here all
-    (EndsSo job (JobRan from_size to_size pages faults (job_connected jobs) (job_connected ended.0)) ended.1)
+    (EndsSo (job deck_jobs) (JobRan from_size to_size pages faults (job_connected jobs)
+        (job_connected ended.0)) ended.1)
     (ended.0 ≡ jobs)
 
 abbrev pub LinesCame : {B : Type 0} → (B → ℕ) → ℕ → ℕ → Bool
@@ -95,7 +97,7 @@ module _ {K A B F : Type 0} (given : K → Option (List ℕ)) (faults : K → �
   pub record RestRan (jobs : JobEnds A B F) (lines : OutputEnds B) (paper : PrinterConnections K)
       (ended : (JobEnds A B F × Outcome)
       × ((OutputEnds B × Outcome) × (PrinterConnections K × Outcome))) : Type 0 where
-    pub jobs_ended : EndsSo job
+    pub jobs_ended : EndsSo (job deck_jobs)
         (JobRan from_size to_size file_pages file_faults (job_connected jobs) (job_connected ended.0.0))
         ended.0.1
     pub back_ended : BackRan given faults to_size lines paper ended.1

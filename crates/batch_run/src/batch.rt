@@ -7,13 +7,13 @@ ghost use Rattle.solo_base.specs.declared.outcome.Cause.TheVariants as cause;
 ghost use Rattle.solo_base.specs.declared.outcome.Outcome.TheVariants as outcome;
 ghost use Rattle.solo_devices.specs.CardUnit.{items_ahead, byte_limit, bytes_total, IsAllTaken};
 ghost use Rattle.solo_devices.specs.PrinterUnit.{Gains};
-ghost use Rattle.page_codec.specs.Items.{AreItems};
 ghost use Rattle.batch_job.specs.OneThread.{one_thread_lines};
-ghost use Rattle.core_law.specs.Holds.{AreTold, AreFound};
+ghost use Rattle.core_law.specs.Holds.{AreTold};
 ghost use Rattle.core_net.specs.Causes.{counting};
 ghost use Rattle.core_net.specs.Ended.{all_done, EndTogether, FaultsAre, NoneDamaged};
 ghost use Rattle.core_net.specs.Faults.{FaultsAreCounted};
-ghost use Rattle.core_net.specs.Openings.{spools_over, files_found};
+ghost use Rattle.core_net.specs.Openings.{spools_over};
+ghost use Rattle.deck_work.specs.DeckJobs.{AreFound, files_found};
 ghost use Rattle.batch_run.specs.Begun.{AreFresh, IsTakenBack};
 ghost use Rattle.batch_run.specs.Met.{IsParted};
 
@@ -83,7 +83,7 @@ pub fn run_batch<
     // The paper gained what one thread prints or a part of it, all of it where all are done, and then
     // nothing is left of the deck.
     ensures prints { IfOk result (λ ran. (items : List Item) (found : Loads) →
-        items_ahead (S.left units.deck.source) units.deck.pending ≡ Some items → AreItems items →
+        items_ahead (S.left units.deck.source) units.deck.pending ≡ Some items →
         AreFound (files_found (F.pages units.files.area)) found items →
         AreTold (spools_over (A.size units.input) (A.pages units.input)
         (B.size units.output) (B.pages units.output)) →
@@ -98,8 +98,7 @@ pub fn run_batch<
     ensures files { IfOk result (λ ran. F.pages ran.files.area ≡ F.pages units.files.area) }
 
     // Over areas that tell their pages no page was damaged.
-    ensures undamaged { IfOk result (λ ran. (items : List Item) →
-        items_ahead (S.left units.deck.source) units.deck.pending ≡ Some items → AreItems items →
+    ensures undamaged { IfOk result (λ ran.
         AreTold (spools_over (A.size units.input) (A.pages units.input)
         (B.size units.output) (B.pages units.output)) →
         NoneDamaged ran.outcomes) }
@@ -170,7 +169,7 @@ fn run_made<
           files = files.area;
         } ran) }
     ensures prints { IfOk result (λ ran. (items : List Item) (found : Loads) →
-        items_ahead (S.left deck.source) deck.pending ≡ Some items → AreItems items →
+        items_ahead (S.left deck.source) deck.pending ≡ Some items →
         AreFound (files_found (F.pages files.area)) found items →
         IsSome (A.pages gates.input.area) → IsSome (B.pages gates.output.area) →
         Gains (K.given paper.sink) (K.given ran.paper.sink)
@@ -178,8 +177,7 @@ fn run_made<
     ensures reads { IfOk result (λ ran. (items : List Item) →
         items_ahead (S.left deck.source) deck.pending ≡ Some items → ran.outcomes ≡ all_done →
         items_ahead (S.left ran.deck.source) ran.deck.pending ≡ Some []) }
-    ensures undamaged { IfOk result (λ ran. (items : List Item) →
-        items_ahead (S.left deck.source) deck.pending ≡ Some items → AreItems items →
+    ensures undamaged { IfOk result (λ ran.
         IsSome (A.pages gates.input.area) → IsSome (B.pages gates.output.area) →
         NoneDamaged ran.outcomes) }
     ensures all_taken { IfOk result (λ ran. ran.outcomes ≡ all_done → IsAllTaken (S.left ran.deck.source)) }

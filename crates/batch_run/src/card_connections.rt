@@ -4,9 +4,13 @@ ghost use Rattle.batch_procs.specs.Table.{card};
 ghost use Rattle.batch_run.specs.Connections.{Comes, EndsSo, Performs};
 ghost use Rattle.batch_run.specs.declared.card_connections.CardConnections.{CardConnections};
 ghost use Rattle.batch_run.specs.Cards.{CardRan, does_card};
+ghost use Rattle.deck_work.specs.DeckJobs.{deck_jobs};
 
 use crate::run::{end_of, run_to_end};
 use batch_procs::{Action, CardWork, Machine, Reply};
+use core_net::is_item;
+use deck_work::DeckWork;
+use disk_system::Loaded;
 use slot_buffer::{SendEnd, SlotGate, Stopped};
 use solo_base::{Feed, Outcome};
 use solo_devices::{CardUnit, Source};
@@ -46,16 +50,20 @@ impl<'a, S: Source + Drop> CardConnections<'a, S> {
 
     /// Performs an action of the process, and waits where the other side of a buffer isn't ready.
     #[inline(always)]
-    fn perform<R: Threads + Wait + Sync>(&mut self, action: Action, rt: &R) -> Reply
+    fn perform<R: Threads + Wait + Sync>(&mut self, action: Action, rt: &R) -> Reply<Loaded>
         requires does { does_card action }
         requires comes { (start : CardConnections S)
             × Comes card (CardRan S.left S.taken S.faults start self.old) action }
-        ensures fits { Fits action result }
+        ensures fits { Fits deck_jobs action result }
         ensures performs { (start : CardConnections S)
             → Performs card (CardRan S.left S.taken S.faults start self.old) (CardRan S.left S.taken S.faults start self.new) action result }
     {
         match action {
-            Action::ReadCard => Reply::Card(self.deck.read()),
+            Action::ReadCard => {
+                let answer = self.deck.read();
+                is_item(&answer);
+                Reply::Card(answer)
+            }
             Action::PutFeed(feed) => match self.lines.put(self.gate, feed, rt) {
                 Ok(()) => Reply::Done,
                 Err(Stopped(_)) => Reply::Stopped,

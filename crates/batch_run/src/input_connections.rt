@@ -4,11 +4,14 @@ ghost use Rattle.batch_procs.specs.Table.{input};
 ghost use Rattle.batch_run.specs.Connections.{Comes, EndsSo, Performs};
 ghost use Rattle.batch_run.specs.declared.input_connections.InputConnections.{InputConnections};
 ghost use Rattle.batch_run.specs.Pages.{InputRan, does_input, input_connected};
+ghost use Rattle.deck_work.specs.DeckJobs.{deck_jobs};
 
 use crate::desk::Desk;
 use crate::run::{end_of, run_to_end};
 use batch_procs::{Action, InputWork, Machine, Reply};
+use deck_work::DeckWork;
 use disk_spool::{SpoolGate, SpoolSend};
+use disk_system::Loaded;
 use resource_mon::{DiskResource, DiskSeat};
 use slot_buffer::{RecvEnd, SlotGate};
 use solo_base::{Feed, Outcome};
@@ -49,10 +52,10 @@ impl<'a, A: Area + Send> InputConnections<'a, A> {
 
     /// Performs an action of the process, and waits where the other side of a buffer isn't ready.
     #[inline(always)]
-    fn perform<R: Threads + Wait + Sync>(&mut self, action: Action, rt: &R) -> Reply
+    fn perform<R: Threads + Wait + Sync>(&mut self, action: Action, rt: &R) -> Reply<Loaded>
         requires does { does_input action }
         requires comes { (start : InputConnections A) × Comes input (InputRan A.size start self.old) action }
-        ensures fits { Fits action result }
+        ensures fits { Fits deck_jobs action result }
         ensures performs { (start : InputConnections A)
             → Performs input (InputRan A.size start self.old) (InputRan A.size start self.new) action result }
     {

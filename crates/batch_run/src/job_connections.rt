@@ -4,13 +4,16 @@ ghost use Rattle.batch_procs.specs.Table.{job};
 ghost use Rattle.batch_run.specs.Connections.{Comes, EndsSo, Performs};
 ghost use Rattle.batch_run.specs.declared.job_connections.JobConnections.{JobConnections};
 ghost use Rattle.batch_run.specs.Pages.{JobRan, does_job, job_connected};
+ghost use Rattle.deck_work.specs.DeckJobs.{deck_jobs};
 
 use crate::desk::Desk;
 use crate::run::{end_of, run_to_end};
-use batch_procs::{Action, JobWork, Machine, Reply};
+use batch_procs::{Action, JobProcWork, Machine, Reply};
 use core_net::load_file;
+use deck_work::DeckWork;
 use disk_files::FileArea;
 use disk_spool::{Fetched, SpoolGate, SpoolRecv, SpoolSend};
+use disk_system::Loaded;
 use resource_mon::{DiskResource, DiskSeat};
 use solo_base::{Outcome, Page};
 use solo_devices::{Area, Moved};
@@ -45,20 +48,20 @@ impl<'a, A: Area + Send, B: Area + Send, F: Area> JobConnections<'a, A, B, F> {
     /// Runs the job process up to its end.
     fn run<R: Threads + Wait + Sync>(&mut self, rt: &R, alloc: Global) -> Outcome
         requires { JobRan A.size B.size F.pages F.faults self.old self.old [] }
-        ensures { EndsSo job (JobRan A.size B.size F.pages F.faults self.old self.new) result }
+        ensures { EndsSo (job deck_jobs) (JobRan A.size B.size F.pages F.faults self.old self.new) result }
     {
-        run_to_end!(JobWork, rt, alloc, |action| self.perform(action, rt, alloc))
+        run_to_end!(JobProcWork<DeckWork>, rt, alloc, |action| self.perform(action, rt, alloc))
     }
 
     /// Performs an action of the process, and waits where the other side of a buffer isn't ready.
     #[inline(always)]
-    fn perform<R: Threads + Wait + Sync>(&mut self, action: Action, rt: &R, alloc: Global) -> Reply
+    fn perform<R: Threads + Wait + Sync>(&mut self, action: Action, rt: &R, alloc: Global) -> Reply<Loaded>
         requires does { does_job action }
         requires comes { (start : JobConnections A B F)
-            × Comes job (JobRan A.size B.size F.pages F.faults start self.old) action }
-        ensures fits { Fits action result }
+            × Comes (job deck_jobs) (JobRan A.size B.size F.pages F.faults start self.old) action }
+        ensures fits { Fits deck_jobs action result }
         ensures performs { (start : JobConnections A B F)
-            → Performs job (JobRan A.size B.size F.pages F.faults start self.old)
+            → Performs (job deck_jobs) (JobRan A.size B.size F.pages F.faults start self.old)
             (JobRan A.size B.size F.pages F.faults start self.new) action result }
     {
         if let Action::Load(file) = &action {
@@ -119,7 +122,7 @@ impl<'a, A: Area + Send, B: Area + Send, F: Area> JobEnds<'a, A, B, F> {
         alloc: Global,
     ) -> (JobEnds<'a, A, B, F>, Outcome)
         requires { JobRan A.size B.size F.pages F.faults (job_connected self) (job_connected self) [] }
-        ensures { EndsSo job
+        ensures { EndsSo (job deck_jobs)
             (JobRan A.size B.size F.pages F.faults (job_connected self.entry) (job_connected result.0))
             result.1 }
     {

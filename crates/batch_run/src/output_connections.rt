@@ -4,11 +4,14 @@ ghost use Rattle.batch_procs.specs.Table.{output};
 ghost use Rattle.batch_run.specs.Connections.{Comes, EndsSo, Performs};
 ghost use Rattle.batch_run.specs.declared.output_connections.OutputConnections.{OutputConnections};
 ghost use Rattle.batch_run.specs.Pages.{OutputRan, does_output, output_connected};
+ghost use Rattle.deck_work.specs.DeckJobs.{deck_jobs};
 
 use crate::desk::Desk;
 use crate::run::{end_of, run_to_end};
 use batch_procs::{Action, Machine, OutputWork, Reply};
+use deck_work::DeckWork;
 use disk_spool::{Fetched, SpoolGate, SpoolRecv};
+use disk_system::Loaded;
 use resource_mon::{DiskResource, DiskSeat};
 use slot_buffer::{SendEnd, SlotGate};
 use solo_base::{Feed, Outcome, Page};
@@ -49,11 +52,11 @@ impl<'a, B: Area + Send> OutputConnections<'a, B> {
 
     /// Performs an action of the process, and waits where the other side of a buffer isn't ready.
     #[inline(always)]
-    fn perform<R: Threads + Wait + Sync>(&mut self, action: Action, rt: &R) -> Reply
+    fn perform<R: Threads + Wait + Sync>(&mut self, action: Action, rt: &R) -> Reply<Loaded>
         requires does { does_output action }
         requires comes { (start : OutputConnections B)
             × Comes output (OutputRan B.size start self.old) action }
-        ensures fits { Fits action result }
+        ensures fits { Fits deck_jobs action result }
         ensures performs { (start : OutputConnections B)
             → Performs output (OutputRan B.size start self.old) (OutputRan B.size start self.new) action result }
     {

@@ -4,10 +4,13 @@ ghost use Rattle.batch_procs.specs.Table.{printer};
 ghost use Rattle.batch_run.specs.Connections.{Comes, EndsSo, Performs};
 ghost use Rattle.batch_run.specs.declared.printer_connections.PrinterConnections.{PrinterConnections};
 ghost use Rattle.batch_run.specs.Lines.{PrinterRan, does_printer};
+ghost use Rattle.deck_work.specs.DeckJobs.{deck_jobs};
 
 use crate::run::{end_of, run_to_end};
 use batch_procs::{Action, Machine, PrinterWork, Reply};
 use core_net::print;
+use deck_work::DeckWork;
+use disk_system::Loaded;
 use slot_buffer::{Ended, RecvEnd, SlotGate};
 use solo_base::{Feed, Outcome};
 use solo_devices::{PrinterUnit, Sink};
@@ -47,11 +50,11 @@ impl<'a, K: Sink + Drop> PrinterConnections<'a, K> {
 
     /// Performs an action of the process, and waits where the other side of a buffer isn't ready.
     #[inline(always)]
-    fn perform<R: Threads + Wait + Sync>(&mut self, action: Action, rt: &R) -> Reply
+    fn perform<R: Threads + Wait + Sync>(&mut self, action: Action, rt: &R) -> Reply<Loaded>
         requires does { does_printer action }
         requires comes { (start : PrinterConnections K)
             × Comes printer (PrinterRan K.given K.faults start self.old) action }
-        ensures fits { Fits action result }
+        ensures fits { Fits deck_jobs action result }
         ensures performs { (start : PrinterConnections K)
             → Performs printer (PrinterRan K.given K.faults start self.old) (PrinterRan K.given K.faults start self.new) action result }
     {

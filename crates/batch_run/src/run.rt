@@ -9,7 +9,7 @@ use solo_base::Outcome;
 /// function of each of the connections, since what they send to a thread isn't known behind a trait.
 macro_rules! run_to_end {
     ($work:ty, $rt:expr, $alloc:expr, |$action:ident| $perform:expr) => {{
-        let mut machine = Machine::<$work>::new($alloc);
+        let mut machine = Machine::<DeckWork, $work>::new($alloc);
         for _ in $rt.forever() {
             let $action = machine.next();
             let end = end_of(&$action);

@@ -10,6 +10,7 @@ use Rattle.network_law.specs.Network as law
 use Rattle.network_law.specs.Kept.{StandsAtDesk, Stands}
 use Rattle.core_law.specs.Core.{core, CoreState}
 use Rattle.core_law.specs.Ends.{IsProcess}
+use Rattle.batch_procs.specs.Jobs.{Jobs, AreJobs}
 
 -- ---- a list without its first n
 abbrev without : ℕ → List ℕ → List ℕ
@@ -66,39 +67,40 @@ at-most (suc n) xs once are =
     let more = shorter (suc n) xs in
     omega (arith, rest, more)
 
--- ---- at the desk
-module _ (opening s : CoreState) (st : Stands (core process) opening s) where
-  pub waits-one : (q : ℕ) → StandsAtDesk (core process) s q → IsProcess q
-  waits-one q at =
-      elim (st.others q) as (λ _. IsProcess q) [
-        | inl one ↦ one
-        | inr empty ↦ (let no =
-            ap (λ h. acts.waits (law.acts (core process) q h)) (sym empty) ∙ at.waits_now in absurd cc)
-      ]
+module _ {L : Type 0} {J : Jobs L} (jobs : AreJobs J) where
+  -- ---- at the desk
+  module _ (opening s : CoreState L) (st : Stands (core J (process J)) opening s) where
+    pub waits-one : (q : ℕ) → StandsAtDesk (core J (process J)) s q → IsProcess q
+    waits-one q at =
+        elim (st.others q) as (λ _. IsProcess q) [
+          | inl one ↦ one
+          | inr empty ↦ (let no =
+              ap (λ h. acts.waits (law.acts (core J (process J)) q h)) (sym empty) ∙ at.waits_now in absurd cc)
+        ]
 
-  pub holds-one : (q : ℕ) → acts.holds (law.acts (core process) q (s.histories q)) ≡ true → IsProcess q
-  holds-one q on =
-      elim (st.others q) as (λ _. IsProcess q) [
-        | inl one ↦ one
-        | inr empty ↦ (let no =
-            ap (λ h. acts.holds (law.acts (core process) q h)) (sym empty) ∙ on in absurd cc)
-      ]
+    pub holds-one : (q : ℕ) → acts.holds (law.acts (core J (process J)) q (s.histories q)) ≡ true → IsProcess q
+    holds-one q on =
+        elim (st.others q) as (λ _. IsProcess q) [
+          | inl one ↦ one
+          | inr empty ↦ (let no =
+              ap (λ h. acts.holds (law.acts (core J (process J)) q h)) (sym empty) ∙ on in absurd cc)
+        ]
 
-  are-ones : (qs : List ℕ) → AllByRecursion (StandsAtDesk (core process) s) qs → AreUpTo 5 qs
-  are-ones [] at = tt
-  are-ones (q ∷ qs) at = (waits-one q at.0, are-ones qs at.1)
+    are-ones : (qs : List ℕ) → AllByRecursion (StandsAtDesk (core J (process J)) s) qs → AreUpTo 5 qs
+    are-ones [] at = tt
+    are-ones (q ∷ qs) at = (waits-one q at.0, are-ones qs at.1)
 
-  holder-one : (q : ℕ) → s.desk.claims.holder ≡ Some q → IsProcess q
-  holder-one q held =
-      elim (st.desk.holder q held) as (λ _. IsProcess q) [
-        | inl handed ↦ waits-one q (st.desk.handed q handed)
-        | inr on ↦ holds-one q on
-      ]
+    holder-one : (q : ℕ) → s.desk.claims.holder ≡ Some q → IsProcess q
+    holder-one q held =
+        elim (st.desk.holder q held) as (λ _. IsProcess q) [
+          | inl handed ↦ waits-one q (st.desk.handed q handed)
+          | inr on ↦ holds-one q on
+        ]
 
-  room-by : (holder : Option ℕ) → s.desk.claims.holder ≡ holder → EachOnce (option_to_list holder ++ s.desk.claims.waiting) → length s.desk.claims.waiting < 5
-  room-by None none once = (let empty : length s.desk.claims.waiting ≡ 0 = ap length (st.desk.one_holder.idle none) in omega (arith, empty))
-  room-by (Some q) held once =
-      (let all = at-most 5 (q ∷ s.desk.claims.waiting) once (holder-one q held, are-ones s.desk.claims.waiting st.desk.waiting) in omega (arith, all))
+    room-by : (holder : Option ℕ) → s.desk.claims.holder ≡ holder → EachOnce (option_to_list holder ++ s.desk.claims.waiting) → length s.desk.claims.waiting < 5
+    room-by None none once = (let empty : length s.desk.claims.waiting ≡ 0 = ap length (st.desk.one_holder.idle none) in omega (arith, empty))
+    room-by (Some q) held once =
+        (let all = at-most 5 (q ∷ s.desk.claims.waiting) once (holder-one q held, are-ones s.desk.claims.waiting st.desk.waiting) in omega (arith, all))
 
-  pub desk-room : length s.desk.claims.waiting < 5
-  desk-room = room-by s.desk.claims.holder refl st.desk.one_holder.each_once
+    pub desk-room : length s.desk.claims.waiting < 5
+    desk-room = room-by s.desk.claims.holder refl st.desk.one_holder.each_once

@@ -9,6 +9,7 @@ pub mod Queues
 pub mod Passed
 pub mod Streams
 pub mod KeepsDevices
+pub mod ReadCards
 pub mod KeepsPaper
 pub mod Places
 pub mod Told

@@ -18,6 +18,7 @@ use Rattle.core_law.specs.Core.{upstream, call, core, CoreState}
 use Rattle.core_law.specs.Queues.{Queue, Beside, AtDesk, IsQueuedIn, queue_of, WaitsIn, QueuesHold}
 use Rattle.core_law.proofs.Acting.{follows-of, answered}
 use Rattle.core_law.proofs.Lawful.{next-again}
+use Rattle.batch_procs.specs.Jobs.{Jobs, AreJobs}
 
 -- ---- calls and their queues
 beside : (n b : ℕ) (of side : Side) (one two : Visit) → At n of one ≡ At b side two → Some (Beside n of) ≡ Some (Beside b side)
@@ -61,80 +62,82 @@ asks-queue p act.Local e = absurd cc
 asks-queue p (act.Print line) e = absurd cc
 asks-queue p (act.Ended how) e = absurd cc
 
-among-all : (P : ℕ → Type 0) (qs : List ℕ) (q : ℕ) → AllByRecursion P qs → IsAmong qs q → P q
-among-all P [] q all is = absurd is
-among-all P (first ∷ later) q all (inl e) = subst P e all.0
-among-all P (first ∷ later) q all (inr is) = among-all P later q all.1 is
+module _ {L : Type 0} {J : Jobs L} (jobs : AreJobs J) where
+  among-all : (P : ℕ → Type 0) (qs : List ℕ) (q : ℕ) → AllByRecursion P qs → IsAmong qs q → P q
+  among-all P [] q all is = absurd is
+  among-all P (first ∷ later) q all (inl e) = subst P e all.0
+  among-all P (first ∷ later) q all (inr is) = among-all P later q all.1 is
 
--- ---- a history that waits
-pub waits-are : (row : ℕ → Process) (p : ℕ) (h : List Entry) → acts.waits (law.acts (core row) p h) ≡ waits h
-waits-are row p [] = refl
-waits-are row p (Does a r ∷ h) = answered (Does a r) (λ b e. cc)
-waits-are row p (LacksMemory a r ∷ h) = answered (LacksMemory a r) (λ b e. cc)
-waits-are row p (Delays a ∷ h) = refl
+  -- ---- a history that waits
+  pub waits-are : (row : ℕ → Process L) (p : ℕ) (h : List (Entry L)) → acts.waits (law.acts (core J row) p h) ≡ waits h
+  waits-are row p [] = refl
+  waits-are row p (Does a r ∷ h) = answered jobs (Does a r) (λ b e. cc)
+  waits-are row p (LacksMemory a r ∷ h) = answered jobs (LacksMemory a r) (λ b e. cc)
+  waits-are row p (Delays a ∷ h) = refl
 
-record WaitsFor (p : Process) (h : List Entry) : Type 0 where
-  action : Action
-  may : MayWait action
-  next : next_action p h ≡ Some action
+  record WaitsFor (p : Process L) (h : List (Entry L)) : Type 0 where
+    action : Action
+    may : MayWait action
+    next : next_action p h ≡ Some action
 
-waits-for : (p : Process) (h : List Entry) → Follows p h → waits h ≡ true → WaitsFor p h
-waits-for p [] follows e = absurd cc
-waits-for p (Does a r ∷ h) follows e = absurd cc
-waits-for p (LacksMemory a r ∷ h) follows e = absurd cc
-waits-for p (Delays a ∷ h) follows e = record { action = a; may = follows.1; next = next-again p (Delays a) a h refl ∙ follows.0 }
+  waits-for : (p : Process L) (h : List (Entry L)) → Follows J p h → waits h ≡ true → WaitsFor p h
+  waits-for p [] follows e = absurd cc
+  waits-for p (Does a r ∷ h) follows e = absurd cc
+  waits-for p (LacksMemory a r ∷ h) follows e = absurd cc
+  waits-for p (Delays a ∷ h) follows e = record { action = a; may = follows.1; next = next-again jobs p (Delays a) a h refl ∙ follows.0 }
 
--- ---- in a state
-module _ (opening s : CoreState) (st : Stands (core process) opening s) where
-  in-queue : (b : ℕ) (side : Side) (p : ℕ) → StandsInQueue (core process) s b side p → WaitsIn s (Beside b side) p
-  in-queue b side p is = record {
-    is_delayed = sym (waits-are process p (s.histories p)) ∙ is.waits_now;
-    action = is.calls.action;
-    next = is.calls.next;
-    here = call-queue p is.calls.action b side is.visit is.can_wait is.calls.call;
-  }
+  -- ---- in a state
+  module _ (opening s : CoreState L) (st : Stands (core J (process J)) opening s) where
+    in-queue : (b : ℕ) (side : Side) (p : ℕ) → StandsInQueue (core J (process J)) s b side p → WaitsIn J s (Beside b side) p
+    in-queue b side p is = record {
+      is_delayed = sym (waits-are (process J) p (s.histories p)) ∙ is.waits_now;
+      action = is.calls.action;
+      next = is.calls.next;
+      here = call-queue p is.calls.action b side is.visit is.can_wait is.calls.call;
+    }
 
-  at-desk : (p : ℕ) → StandsAtDesk (core process) s p → WaitsIn s AtDesk p
-  at-desk p is = record {
-    is_delayed = sym (waits-are process p (s.histories p)) ∙ is.waits_now;
-    action = is.calls.action;
-    next = is.calls.next;
-    here = asks-queue p is.calls.action is.calls.call;
-  }
+    at-desk : (p : ℕ) → StandsAtDesk (core J (process J)) s p → WaitsIn J s AtDesk p
+    at-desk p is = record {
+      is_delayed = sym (waits-are (process J) p (s.histories p)) ∙ is.waits_now;
+      action = is.calls.action;
+      next = is.calls.next;
+      here = asks-queue p is.calls.action is.calls.call;
+    }
 
-  stands-waits : (q : Queue) (p : ℕ) → IsQueuedIn s q p → WaitsIn s q p
-  stands-waits (Beside b side) p is = in-queue b side p (st.queues.queued b side p is)
-  stands-waits AtDesk p (inl is) = at-desk p (among-all (StandsAtDesk (core process) s) s.desk.claims.waiting p st.desk.waiting is)
-  stands-waits AtDesk p (inr is) = at-desk p (st.desk.handed p is)
+    stands-waits : (q : Queue) (p : ℕ) → IsQueuedIn s q p → WaitsIn J s q p
+    stands-waits (Beside b side) p is = in-queue b side p (st.queues.queued b side p is)
+    stands-waits AtDesk p (inl is) = at-desk p (among-all (StandsAtDesk (core J (process J)) s) s.desk.claims.waiting p st.desk.waiting is)
+    stands-waits AtDesk p (inr is) = at-desk p (st.desk.handed p is)
 
-  delayed-by : (p : ℕ) (a : Action) → MayWait a → next_action (process p) (s.histories p) ≡ Some a → acts.waits (law.acts (core process) p
-      (s.histories p)) ≡ true → (q : Queue) × IsQueuedIn s q p
-  delayed-by p (act.PutFeed f) may next e = (Beside p Sender, st.queues.delayed p Sender Passes p e record { action = act.PutFeed f; next = next; call = refl })
-  delayed-by p act.AwaitRoom may next e = (Beside p Sender, st.queues.delayed p Sender Awaits p e record { action = act.AwaitRoom; next = next; call = refl })
-  delayed-by p act.TakeFeed may next e =
-      (Beside (upstream p) Receiver, st.queues.delayed (upstream p) Receiver Passes p e record { action = act.TakeFeed; next = next; call = refl })
-  delayed-by p act.AwaitItem may next e =
-      (Beside (upstream p) Receiver, st.queues.delayed (upstream p) Receiver Awaits p e record { action = act.AwaitItem; next = next; call = refl })
-  delayed-by p act.Request may next e = (AtDesk, st.desk.delayed p e record { action = act.Request; next = next; call = refl })
-  delayed-by p a may next e = absurd may
+    delayed-by : (p : ℕ) (a : Action) → MayWait a → next_action (process J p) (s.histories p) ≡ Some a → acts.waits (law.acts (core J (process J)) p
+        (s.histories p)) ≡ true → (q : Queue) × IsQueuedIn s q p
+    delayed-by p (act.PutFeed f) may next e =
+        (Beside p Sender, st.queues.delayed p Sender Passes p e record { action = act.PutFeed f; next = next; call = refl })
+    delayed-by p act.AwaitRoom may next e = (Beside p Sender, st.queues.delayed p Sender Awaits p e record { action = act.AwaitRoom; next = next; call = refl })
+    delayed-by p act.TakeFeed may next e =
+        (Beside (upstream p) Receiver, st.queues.delayed (upstream p) Receiver Passes p e record { action = act.TakeFeed; next = next; call = refl })
+    delayed-by p act.AwaitItem may next e =
+        (Beside (upstream p) Receiver, st.queues.delayed (upstream p) Receiver Awaits p e record { action = act.AwaitItem; next = next; call = refl })
+    delayed-by p act.Request may next e = (AtDesk, st.desk.delayed p e record { action = act.Request; next = next; call = refl })
+    delayed-by p a may next e = absurd may
 
-  stands-delayed : (p : ℕ) → waits (s.histories p) ≡ true → (q : Queue) × IsQueuedIn s q p
-  stands-delayed p e =
-      let is = waits-for (process p) (s.histories p) (follows-of process p (s.histories p) (st.follows p)) e in
-      delayed-by p is.action is.may is.next (waits-are process p (s.histories p) ∙ e)
+    stands-delayed : (p : ℕ) → waits (s.histories p) ≡ true → (q : Queue) × IsQueuedIn s q p
+    stands-delayed p e =
+        let is = waits-for (process J p) (s.histories p) (follows-of jobs (process J) p (s.histories p) (st.follows p)) e in
+        delayed-by p is.action is.may is.next (waits-are (process J) p (s.histories p) ∙ e)
 
-  stands-once : (q r : Queue) (p : ℕ) → IsQueuedIn s q p → IsQueuedIn s r p → q ≡ r
-  stands-once q r p a b =
-      let one = stands-waits q p a in
-      let two = stands-waits r p b in
-      let same = some-same one.action two.action (sym one.next ∙ two.next) in
-      some-same q r (sym one.here ∙ ap (queue_of p) same ∙ two.here)
+    stands-once : (q r : Queue) (p : ℕ) → IsQueuedIn s q p → IsQueuedIn s r p → q ≡ r
+    stands-once q r p a b =
+        let one = stands-waits q p a in
+        let two = stands-waits r p b in
+        let same = some-same one.action two.action (sym one.next ∙ two.next) in
+        some-same q r (sym one.here ∙ ap (queue_of p) same ∙ two.here)
 
-  pub queues-hold : QueuesHold s
-  queues-hold = record {
-    stands = stands-waits;
-    delayed = stands-delayed;
-    in_one = stands-once;
-    handed = λ b side turn. (st.buffers.hand_over b).marks.waits.named side turn;
-    ready = λ b side found. st.buffers.ready b side found;
-  }
+    pub queues-hold : QueuesHold J s
+    queues-hold = record {
+      stands = stands-waits;
+      delayed = stands-delayed;
+      in_one = stands-once;
+      handed = λ b side turn. (st.buffers.hand_over b).marks.waits.named side turn;
+      ready = λ b side found. st.buffers.ready b side found;
+    }

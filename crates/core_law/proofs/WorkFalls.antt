@@ -18,39 +18,46 @@ use Rattle.core_law.proofs.Ends.{the-five}
 use Rattle.core_law.proofs.Places.{call-buffer}
 use Rattle.core_law.proofs.Reached.{reached-centre}
 use Rattle.core_law.proofs.Sleeping.{Slept, wakes, wakes-most, call-slept, few-sleep}
+use Rattle.batch_procs.specs.Jobs.{Jobs, AreJobs}
 
--- ---- who sleeps behind an event
-module _ (opening s : CoreState) (event : CoreEvent) (st : Stands (core process) opening s) (enabled : IsEnabled (core process) s event) where
-  pub slept : Slept (is_delayed (went event.entry)) (wakes (call event.process (Rattle.batch_procs.specs.History.action_of event.entry)) (went event.entry))
-      (sleepers s) (sleepers (happens (core process) s event))
-  slept =
-      call-slept s event.process (call event.process (Rattle.batch_procs.specs.History.action_of event.entry)) (went event.entry)
-      (λ b side visit e. call-buffer the-five event.process (s.histories event.process) enabled.one
-      (follows-of process event.process (s.histories event.process) (st.follows event.process)) _ b side visit enabled.next e)
-      enabled.may enabled.fits
+module _ {L : Type 0} {J : Jobs L} (jobs : AreJobs J) where
+  -- ---- who sleeps behind an event
+  module _ (opening s : CoreState L) (event : CoreEvent L) (st : Stands (core J (process J)) opening s) (enabled : IsEnabled (core J (process J)) s event) where
+    pub slept : Slept jobs (is_delayed (went event.entry)) (wakes jobs (call event.process (Rattle.batch_procs.specs.History.action_of event.entry))
+        (went event.entry))
+        (sleepers s) (sleepers (happens (core J (process J)) s event))
+    slept =
+        call-slept jobs s event.process (call event.process (Rattle.batch_procs.specs.History.action_of event.entry)) (went event.entry)
+        (λ b side visit e. call-buffer jobs (the-five jobs) event.process (s.histories event.process) enabled.one
+        (follows-of jobs (process J) event.process (s.histories event.process) (st.follows event.process)) _ b side visit enabled.next e)
+        enabled.may enabled.fits
 
-  pub few : sleepers (happens (core process) s event) ≤ 12
-  few = few-sleep (happens (core process) s event) (desk-room opening (happens (core process) s event) (st-next opening s event st enabled))
+    pub few : sleepers (happens (core J (process J)) s event) ≤ 12
+    few = few-sleep jobs (happens (core J (process J)) s event) (desk-room jobs opening (happens (core J (process J)) s event)
+        (st-next jobs opening s event st enabled))
 
--- ---- all that is left
-lower : (c left s now n : ℕ) → left + 1 ≤ c → s ≤ now + n → n ≤ 1 → 2 * left + (12 - now) < 2 * c + (12 - s)
-lower c left s now n less slept one = omega (arith, less, slept, one)
+  -- ---- all that is left
+  lower : (c left s now n : ℕ) → left + 1 ≤ c → s ≤ now + n → n ≤ 1 → 2 * left + (12 - now) < 2 * c + (12 - s)
+  lower c left s now n less slept one = omega (arith, less, slept, one)
 
-fall : (entry : Entry) (c left s now n : ℕ) → left + cost entry ≤ c → Slept (is_delayed (went entry)) n s now → n ≤ 1 → now ≤ 12
-    → 2 * left + (12 - now) < 2 * c + (12 - s)
-fall (Does a r) c left s now n less slept one most = lower c left s now n less (subst (λ d. Slept d n s now) (answered (Does a r) (λ b e. cc)) slept) one
-fall (LacksMemory a r) c left s now n less slept one most =
-    lower c left s now n less (subst (λ d. Slept d n s now) (answered (LacksMemory a r) (λ b e. cc)) slept) one
-fall (Delays a) c left s now n less slept one most = omega (arith, less, slept, most)
+  fall : (entry : Entry L) (c left s now n : ℕ) → left + cost jobs entry ≤ c → Slept jobs (is_delayed (went entry)) n s now → n ≤ 1 → now ≤ 12
+      → 2 * left + (12 - now) < 2 * c + (12 - s)
+  fall (Does a r) c left s now n less slept one most = lower c left s now n less
+      (subst (λ d. Slept jobs d n s now) (answered jobs (Does a r) (λ b e. cc)) slept) one
+  fall (LacksMemory a r) c left s now n less slept one most =
+      lower c left s now n less (subst (λ d. Slept jobs d n s now) (answered jobs (LacksMemory a r) (λ b e. cc)) slept) one
+  fall (Delays a) c left s now n less slept one most = omega (arith, less, slept, most)
 
--- each event of a state that stands as every event keeps it
-pub work-lower : (opening s : CoreState) (event : CoreEvent) (cards left : ℕ) → Stands (core process) opening s → IsEnabled (core process) s event
-    → LeavesFewer event.entry cards left → events_left left (happens (core process) s event) < events_left cards s
-work-lower opening s event cards left st enabled leaves =
-    fall event.entry (calls_left cards s) (calls_left left (happens (core process) s event)) (sleepers s) (sleepers (happens (core process) s event)) _
-    (calls-fall opening s st event cards left leaves enabled) (slept opening s event st enabled) (wakes-most _ _) (few opening s event st enabled)
+  -- each event of a state that stands as every event keeps it
+  pub work-lower : (opening s : CoreState L) (event : CoreEvent L) (cards left : ℕ) → Stands (core J (process J)) opening s
+      → IsEnabled (core J (process J)) s event
+      → LeavesFewer event.entry cards left → events_left J left (happens (core J (process J)) s event) < events_left J cards s
+  work-lower opening s event cards left st enabled leaves =
+      fall event.entry (calls_left J cards s) (calls_left J left (happens (core J (process J)) s event)) (sleepers s)
+      (sleepers (happens (core J (process J)) s event)) _
+      (calls-fall jobs opening s st event cards left leaves enabled) (slept opening s event st enabled) (wakes-most jobs _ _) (few opening s event st enabled)
 
--- and so of a reached one
-pub work-falls : (o : Opening) (s : CoreState) (event : CoreEvent) (cards left : ℕ) → IsReached o s → IsEnabled (core process) s event
-    → LeavesFewer event.entry cards left → events_left left (happens (core process) s event) < events_left cards s
-work-falls o s event cards left reached = work-lower (first_state o) s event cards left (reached-centre o s reached).stands
+  -- and so of a reached one
+  pub work-falls : (o : Opening J) (s : CoreState L) (event : CoreEvent L) (cards left : ℕ) → IsReached o s → IsEnabled (core J (process J)) s event
+      → LeavesFewer event.entry cards left → events_left J left (happens (core J (process J)) s event) < events_left J cards s
+  work-falls o s event cards left reached = work-lower (first_state o) s event cards left (reached-centre jobs o s reached).stands

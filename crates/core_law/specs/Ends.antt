@@ -17,14 +17,14 @@ use Rattle.core_law.specs.Core.{CoreState, IsBuffer, seat}
 abbrev pub IsProcess : ℕ → Type 0
 IsProcess p = (1 ≤ p) × (p ≤ 5)
 
-abbrev pub HasEndedSo : CoreState → Outcome → ℕ → Type 0
+abbrev pub HasEndedSo : {L : Type 0} → CoreState L → Outcome → ℕ → Type 0
 HasEndedSo s how p = newest (s.histories p) ≡ Some (act.Ended how)
 
-abbrev pub HasEnded : CoreState → ℕ → Type 0
+abbrev pub HasEnded : {L : Type 0} → CoreState L → ℕ → Type 0
 HasEnded s p = (how : Outcome) × HasEndedSo s how p
 
 -- all five ended with their work done
-abbrev pub AllDone : CoreState → Type 0
+abbrev pub AllDone : {L : Type 0} → CoreState L → Type 0
 AllDone s = (p : ℕ) → IsProcess p → HasEndedSo s outcome.Done p
 
 -- how one ends that has this cause to stop, or none
@@ -33,7 +33,7 @@ outcome_by None = outcome.Done
 outcome_by (Some how) = how
 
 -- the other side of one of its buffers was the first to stop it
-pub record WasTold (s : CoreState) (p : ℕ) : Type 0 where
+pub record WasTold {L : Type 0} (s : CoreState L) (p : ℕ) : Type 0 where
   pub buffer : ℕ
   pub side : Side
   pub is_buffer : IsBuffer buffer
@@ -42,7 +42,7 @@ pub record WasTold (s : CoreState) (p : ℕ) : Type 0 where
 
 -- Where all have ended: all are done exactly where no buffer was stopped; who ended Stopped was told so at a
 -- buffer, and then some process ended with a fault.
-pub record EndsTogether (s : CoreState) : Type 0 where
+pub record EndsTogether {L : Type 0} (s : CoreState L) : Type 0 where
   pub done : AllDone s → (b : ℕ) → IsBuffer b → stopped_by (s.buffers b).sides ≡ None
   pub unstopped : ((b : ℕ) → IsBuffer b → stopped_by (s.buffers b).sides ≡ None) → (p : ℕ) (how : Outcome)
       → IsProcess p → HasEndedSo s how p → how ≡ outcome.Done
@@ -52,7 +52,7 @@ pub record EndsTogether (s : CoreState) : Type 0 where
 
 -- ---- causes
 -- Each process that isn't done has the entry that gave its cause, and each fault is one of its own.
-pub record HaveCauses (s : CoreState) : Type 0 where
+pub record HaveCauses {L : Type 0} (s : CoreState L) : Type 0 where
   pub given : (p : ℕ) (how : Outcome) → IsProcess p → HasEndedSo s how p → IsNotDone (Some how)
       → GivenBy (s.histories p) how
   pub card : (c : Cause) → HasEndedSo s (outcome.Fault c) 1 → (c ≡ cause.ReadFault) ⊎ (c ≡ cause.DeckLimit)
@@ -65,7 +65,7 @@ pub record HaveCauses (s : CoreState) : Type 0 where
 
 -- ---- never stuck
 -- an entry in which no device failed and no memory was refused
-abbrev pub IsSmooth : Entry → Type 0
+abbrev pub IsSmooth : {L : Type 0} → Entry L → Type 0
 IsSmooth (Does action reply.Failed) = ⊥
 IsSmooth (Does action reply.NoMemory) = ⊥
 IsSmooth (Does action (reply.Card read.Failed)) = ⊥

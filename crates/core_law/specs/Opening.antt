@@ -1,8 +1,8 @@
 -- The openings of the core.
 use Rattle.std.specs.Prelude.{◌≡◌, ◌≤◌, ◌==◌, ℕ, Bool, true, if◌then◌else◌, List, Option, Some}
 use Rattle.solo_base.specs.declared.item.Item.{Item}
-use Rattle.batch_job.specs.Report.{Loads}
-use Rattle.batch_job.specs.Loads.{IsLoaded}
+use Rattle.page_codec.specs.Items.{AreItems}
+use Rattle.batch_procs.specs.Jobs.{Jobs, FilesAs}
 use Rattle.network_law.specs.Network as law
 use Rattle.core_law.specs.Core.{Devices, CoreState}
 
@@ -28,26 +28,32 @@ abbrev pub told_of : Spools → ℕ → Bool
 told_of spools b = if b == 2 then spools.input_told else if b == 3 then spools.output_told else true
 
 -- The state with which the core opens over these.
-abbrev pub opened : Spools → Option (List Item) → Option (List ℕ) → Option Loads → CoreState
+abbrev pub opened : {L : Type 0} → Spools → Option (List Item) → Option (List ℕ) → Option (FilesAs L)
+    → CoreState L
 opened spools deck paper files =
     law.opening record { deck = deck; paper = paper; files = files } (size_of spools) (told_of spools)
 
--- code that stands in told files keeps the rules of code
-abbrev pub AreGoodFiles : Option Loads → Type 0
-AreGoodFiles files = (found : Loads) → files ≡ Some found → (file : List ℕ) → IsLoaded (found file)
+-- what told files are loaded as is a load of these jobs
+abbrev pub AreGoodFiles : {L : Type 0} → Jobs L → Option (FilesAs L) → Type 0
+AreGoodFiles {L} J files = (found : FilesAs L) → files ≡ Some found → (file : List ℕ) → J.IsLoad (found file)
+
+-- the cards of a told deck are cards
+abbrev pub AreCards : Option (List Item) → Type 0
+AreCards deck = (items : List Item) → deck ≡ Some items → AreItems items
 
 -- An opening: the spools, the cards of the deck, what the paper was given and what each file is loaded as,
 -- where these are told.
-pub record Opening : Type 0 where
+pub record Opening {L : Type 0} (J : Jobs L) : Type 0 where
   pub spools : Spools
   pub deck : Option (List Item)
   pub paper : Option (List ℕ)
-  pub files : Option Loads
+  pub files : Option (FilesAs L)
   pub bounds : AreInBounds spools
-  pub good : AreGoodFiles files
+  pub cards : AreCards deck
+  pub good : AreGoodFiles J files
 
-abbrev pub devices_at : Opening → Devices
+abbrev pub devices_at : {L : Type 0} {J : Jobs L} → Opening J → Devices L
 devices_at opening = record { deck = opening.deck; paper = opening.paper; files = opening.files }
 
-abbrev pub first_state : Opening → CoreState
+abbrev pub first_state : {L : Type 0} {J : Jobs L} → Opening J → CoreState L
 first_state opening = opened opening.spools opening.deck opening.paper opening.files

@@ -4,6 +4,7 @@ use Rattle.solo_base.specs.declared.outcome.Side.{Side}
 use Rattle.solo_base.specs.declared.outcome.Side.TheVariants.{Sender, Receiver}
 use Rattle.queue_var.specs.declared.turn.Turn.TheVariants.{Handed}
 use Rattle.queue_var.specs.Sides.{queue}
+use Rattle.batch_procs.specs.Jobs.{Jobs}
 use Rattle.batch_procs.specs.declared.actions.Action.{Action}
 use Rattle.batch_procs.specs.declared.actions.Action.TheVariants as act
 use Rattle.batch_procs.specs.History.{waits}
@@ -20,7 +21,7 @@ pub data Queue : Type 0 where
   AtDesk : Queue
 
 -- A process stands there. One to which the turn of the desk is handed stands there until it goes on.
-abbrev pub IsQueuedIn : CoreState → Queue → ℕ → Type 0
+abbrev pub IsQueuedIn : {L : Type 0} → CoreState L → Queue → ℕ → Type 0
 IsQueuedIn s (Beside b side) p = queue (s.buffers b).sides side ≡ Some p
 IsQueuedIn s AtDesk p = IsAmong s.desk.claims.waiting p ⊎ (s.desk.claims.handed ≡ Some p)
 
@@ -34,16 +35,16 @@ queue_of p act.Request = Some AtDesk
 queue_of p action = None
 
 -- Its newest entry is a delay, and it makes a call of this queue next.
-pub record WaitsIn (s : CoreState) (q : Queue) (p : ℕ) : Type 0 where
+pub record WaitsIn {L : Type 0} (J : Jobs L) (s : CoreState L) (q : Queue) (p : ℕ) : Type 0 where
   pub is_delayed : waits (s.histories p) ≡ true
   pub action : Action
-  pub next : next_action (process p) (s.histories p) ≡ Some action
+  pub next : next_action (process J p) (s.histories p) ≡ Some action
   pub here : queue_of p action ≡ Some q
 
-pub record QueuesHold (s : CoreState) : Type 0 where
+pub record QueuesHold {L : Type 0} (J : Jobs L) (s : CoreState L) : Type 0 where
   -- A process stands in a queue exactly where its newest entry is a delay, and in one; its next call is one
   -- of this queue.
-  pub stands : (q : Queue) (p : ℕ) → IsQueuedIn s q p → WaitsIn s q p
+  pub stands : (q : Queue) (p : ℕ) → IsQueuedIn s q p → WaitsIn J s q p
   pub delayed : (p : ℕ) → waits (s.histories p) ≡ true → (q : Queue) × IsQueuedIn s q p
   pub in_one : (q r : Queue) (p : ℕ) → IsQueuedIn s q p → IsQueuedIn s r p → q ≡ r
   -- A turn that is handed names one that stands there.
@@ -51,5 +52,5 @@ pub record QueuesHold (s : CoreState) : Type 0 where
       → (p : ℕ) × IsQueuedIn s (Beside b side) p
   -- What was awaited and found ready is still there.
   pub ready : (b : ℕ) (side : Side)
-      → found_ready b side (acts (core process) (seat b side) (s.histories (seat b side))) ≡ true
+      → found_ready b side (acts (core J (process J)) (seat b side) (s.histories (seat b side))) ≡ true
       → IsReady (s.buffers b) side

@@ -1,6 +1,7 @@
 -- The law of the core, and its reached states.
 use Rattle.std.specs.Prelude.{◌≡◌, ℕ, List, [], length, Option, None, Some}
 use Rattle.solo_base.specs.declared.item.Item.{Item}
+use Rattle.batch_procs.specs.Jobs.{Jobs}
 use Rattle.batch_procs.specs.History.{Entry}
 use Rattle.batch_procs.specs.Table.{process}
 use Rattle.network_run.specs.Law as run
@@ -13,11 +14,11 @@ use Rattle.core_law.specs.Opening.{Opening, size_of, told_of, devices_at, first_
 use Rattle.core_law.specs.Work.{events_left}
 
 -- The spools tell their pages and the deck its cards, and what is known of the files that these name.
-pub record TellsAll (opening : Opening) : Type 0 where
+pub record TellsAll {L : Type 0} {J : Jobs L} (opening : Opening J) : Type 0 where
   pub spools : AreTold opening.spools
   pub items : List Item
   pub deck : opening.deck ≡ Some items
-  pub files : AreFilesKnown opening.files items
+  pub files : AreFilesKnown J opening.files items
 
 -- the cards ahead, where they are told
 abbrev pub cards_told : Option (List Item) → List Item
@@ -25,23 +26,23 @@ cards_told None = []
 cards_told (Some items) = items
 
 -- A run over told devices has no more events than the work that is left at its opening.
-abbrev pub first_work : Opening → ℕ
-first_work opening = events_left (length (cards_told opening.deck)) (first_state opening)
+abbrev pub first_work : {L : Type 0} {J : Jobs L} → Opening J → ℕ
+first_work {L} {J} opening = events_left J (length (cards_told opening.deck)) (first_state opening)
 
-abbrev pub the_openings : Openings Devices Entry
-the_openings = record {
-  Opening = Opening;
-  devices = devices_at;
+abbrev pub the_openings : {L : Type 0} → Jobs L → Openings (Devices L) (Entry L)
+the_openings J = record {
+  Opening = Opening J;
+  devices = λ opening. devices_at opening;
   sizes = λ opening. size_of opening.spools;
   told = λ opening. told_of opening.spools;
-  IsTold = TellsAll;
-  longest = first_work;
-  IsSmooth = IsSmooth;
+  IsTold = λ opening. TellsAll opening;
+  longest = λ opening. first_work opening;
+  IsSmooth = λ entry. IsSmooth entry;
 }
 
-abbrev pub the_law : run.Law
-the_law = law_of (core process) the_openings
+abbrev pub the_law : {L : Type 0} → Jobs L → run.Law
+the_law J = law_of (core J (process J)) (the_openings J)
 
 -- A state of the five that some list of enabled events leads to from an opening.
-abbrev pub IsReached : Opening → CoreState → Type 0
-IsReached opening s = run.IsReached the_law (first_state opening) s
+abbrev pub IsReached : {L : Type 0} {J : Jobs L} → Opening J → CoreState L → Type 0
+IsReached {L} {J} opening s = run.IsReached (the_law J) (first_state opening) s

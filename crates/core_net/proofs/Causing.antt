@@ -12,6 +12,8 @@ use Rattle.core_net.specs.declared.shared.Shared.{Shared}
 use Rattle.core_law.specs.Replies.{ReplyFits}
 use Rattle.disk_files.specs.Answers.{FileTable}
 use Rattle.core_net.specs.Causes.{Counts, MovesInput, MovesOutput, IsPrint, IsLoad, HasCauses}
+use Rattle.disk_system.specs.declared.loading.Loaded.{Loaded}
+use Rattle.deck_work.specs.DeckJobs.{deck_jobs}
 
 -- an action that no device hears of
 abbrev pub IsQuiet : Action → Type 0
@@ -23,7 +25,7 @@ IsQuiet (act.Print line) = ⊥
 IsQuiet action = Unit {0}
 
 no-card : (action : Action) (answer : Rattle.solo_devices.specs.declared.card_read.CardRead.CardRead) → (action ≡ act.ReadCard → ⊥)
-    → ReplyFits action (Some (reply.Card answer)) → ⊥
+    → ReplyFits deck_jobs action (Some (reply.Card answer)) → ⊥
 no-card act.ReadCard answer not fits = not refl
 no-card action answer not fits = fits
 
@@ -60,10 +62,11 @@ module _ {S K A B F : Type 0} (counts : Counts S K A B F) (old new : Shared S K 
     pub output : new.output.area ≡ old.output.area
     pub files : new.files ≡ old.files
 
-  fits-at : (action : Action) (result other : Option Reply) → result ≡ other → ReplyFits action result → ReplyFits action other
-  fits-at action result other e fits = subst (ReplyFits action) e fits
+  fits-at : (action : Action) (result other : Option (Reply Loaded)) → result ≡ other → ReplyFits deck_jobs action result → ReplyFits deck_jobs action other
+  fits-at action result other e fits = subst (ReplyFits deck_jobs action) e fits
 
-  pub quiet-causes : (action : Action) (result : Option Reply) → IsQuiet action → ReplyFits action result → AreSame → HasCauses counts old new p action result
+  pub quiet-causes : (action : Action) (result : Option (Reply Loaded)) → IsQuiet action → ReplyFits deck_jobs action result → AreSame
+      → HasCauses counts old new p action result
   quiet-causes action result quiet fits same = record {
     read = λ e. absurd (no-card action card_read.Failed (quiet-reads action quiet) (fits-at action result (Some (reply.Card card_read.Failed)) e fits));
     limit = λ e. absurd (no-card action card_read.Limit (quiet-reads action quiet) (fits-at action result (Some (reply.Card card_read.Limit)) e fits));
@@ -100,7 +103,8 @@ module _ {S K A B F : Type 0} (counts : Counts S K A B F) (old new : Shared S K 
   move-loads (act.Load file) is load = is
   move-loads action is load = load
 
-  pub input-causes : (action : Action) (r : Reply) → IsMove action → ReplyFits action (Some r) → (MovesOutput p action → ⊥) → new.deck ≡ old.deck
+  pub input-causes : (action : Action) (r : Reply Loaded) → IsMove action → ReplyFits deck_jobs action (Some r) → (MovesOutput p action → ⊥)
+      → new.deck ≡ old.deck
       → new.paper ≡ old.paper → new.output.area ≡ old.output.area → new.files ≡ old.files
       → (r ≡ reply.Failed → Rose (counts.input_faults old.input.area) (counts.input_faults new.input.area))
       → counts.input_faults old.input.area ≤ counts.input_faults new.input.area → HasCauses counts old new p action (Some r)
@@ -123,7 +127,8 @@ module _ {S K A B F : Type 0} (counts : Counts S K A B F) (old new : Shared S K 
     deck_stays = λ not. deck;
   }
 
-  pub output-causes : (action : Action) (r : Reply) → IsMove action → ReplyFits action (Some r) → (MovesInput p action → ⊥) → new.deck ≡ old.deck
+  pub output-causes : (action : Action) (r : Reply Loaded) → IsMove action → ReplyFits deck_jobs action (Some r) → (MovesInput p action → ⊥)
+      → new.deck ≡ old.deck
       → new.paper ≡ old.paper → new.input.area ≡ old.input.area → new.files ≡ old.files
       → (r ≡ reply.Failed → Rose (counts.output_faults old.output.area) (counts.output_faults new.output.area))
       → counts.output_faults old.output.area ≤ counts.output_faults new.output.area → HasCauses counts old new p action (Some r)
@@ -147,7 +152,7 @@ module _ {S K A B F : Type 0} (counts : Counts S K A B F) (old new : Shared S K 
   }
 
   -- ---- a card and a line
-  pub read-causes : (r : Reply) → new.paper ≡ old.paper → new.input.area ≡ old.input.area → new.output.area ≡ old.output.area → new.files ≡ old.files
+  pub read-causes : (r : Reply Loaded) → new.paper ≡ old.paper → new.input.area ≡ old.input.area → new.output.area ≡ old.output.area → new.files ≡ old.files
       → (r ≡ reply.Card card_read.Failed → Rose (counts.read_faults old.deck.source) (counts.read_faults new.deck.source))
       → counts.read_faults old.deck.source ≤ counts.read_faults new.deck.source
       → ((r ≡ reply.Card card_read.Limit) ↔ (byte_limit < counts.taken new.deck.source))
@@ -171,7 +176,7 @@ module _ {S K A B F : Type 0} (counts : Counts S K A B F) (old new : Shared S K 
     deck_stays = λ not. absurd (not refl);
   }
 
-  pub print-causes : (line : List ℕ) (r : Reply) → ReplyFits (act.Print line) (Some r) → new.deck ≡ old.deck → new.input.area ≡ old.input.area
+  pub print-causes : (line : List ℕ) (r : Reply Loaded) → ReplyFits deck_jobs (act.Print line) (Some r) → new.deck ≡ old.deck → new.input.area ≡ old.input.area
       → new.output.area ≡ old.output.area → new.files ≡ old.files
       → (r ≡ reply.Failed → Rose (counts.print_faults old.paper.sink) (counts.print_faults new.paper.sink))
       → counts.print_faults old.paper.sink ≤ counts.print_faults new.paper.sink
@@ -196,7 +201,7 @@ module _ {S K A B F : Type 0} (counts : Counts S K A B F) (old new : Shared S K 
   }
 
   -- ---- a load
-  pub load-causes : (file : List ℕ) (r : Reply) → ReplyFits (act.Load file) (Some r) → new.deck ≡ old.deck → new.paper ≡ old.paper
+  pub load-causes : (file : List ℕ) (r : Reply Loaded) → ReplyFits deck_jobs (act.Load file) (Some r) → new.deck ≡ old.deck → new.paper ≡ old.paper
       → new.input.area ≡ old.input.area → new.output.area ≡ old.output.area
       → (r ≡ reply.Failed → Rose (counts.file_faults old.files.area) (counts.file_faults new.files.area))
       → counts.file_faults old.files.area ≤ counts.file_faults new.files.area

@@ -5,6 +5,7 @@ use Rattle.solo_base.specs.Text.{line_text}
 use Rattle.solo_devices.specs.declared.card_read.CardRead.{CardRead}
 use Rattle.solo_devices.specs.CardUnit.{GivesNext, item_of}
 use Rattle.solo_devices.specs.PrinterUnit.{Gains}
+use Rattle.page_codec.specs.Items.{AreItems}
 use Rattle.batch_procs.specs.declared.actions.Reply.TheVariants as reply
 use Rattle.core_net.specs.Devices.{ReadsCard, PrintsLine}
 
@@ -12,17 +13,17 @@ drop-items : (front rest : List Item) → drop (length front) (front ++ rest) �
 drop-items [] rest = refl
 drop-items (item ∷ front) rest = drop-items front rest
 
-pub reads : (old new : Option (List Item)) (answer : CardRead) → GivesNext old new answer → ReadsCard old new (reply.Card answer)
-reads None new answer gives = record {
-  suits = tt;
+pub reads : (old new : Option (List Item)) (answer : CardRead) → AreItems (item_of answer) → GivesNext old new answer → ReadsCard old new (reply.Card answer)
+reads None new answer valid gives = record {
+  suits = valid;
   allowed =
       λ devices e. (record { item = λ items told. absurd (let no = sym e ∙ told in cc); end = λ items told is. absurd (let no = sym e ∙ told in cc) }, refl);
   after = sym (gives.untold refl);
 }
-reads (Some items) new answer gives =
+reads (Some items) new answer valid gives =
     let next = gives.told items refl in
     record {
-      suits = tt;
+      suits = valid;
       allowed = λ devices e. (
         record {
           item =

@@ -10,17 +10,19 @@ use Rattle.core_law.specs.Ends.{IsProcess}
 use Rattle.core_net.specs.declared.shared.Shared.{Shared}
 use Rattle.core_net.specs.Shared.{Tells, SharedStands}
 use Rattle.core_net.specs.Steps.{Enters}
+use Rattle.disk_system.specs.declared.loading.Loaded.{Loaded}
+use Rattle.deck_work.specs.DeckJobs.{deck_jobs}
 
 -- an enabled event of a process, and what is shared stands for the state behind it
-pub record IsEvent {S K A B F : Type 0} (tells : Tells S K A B F) (new : Shared S K A B F) (s : CoreState) (p : ℕ) (entry : Entry) : Type 0 where
+pub record IsEvent {S K A B F : Type 0} (tells : Tells S K A B F) (new : Shared S K A B F) (s : CoreState Loaded) (p : ℕ) (entry : Entry Loaded) : Type 0 where
   pub gained : List ℕ
-  pub enabled : IsEnabled (core process) s record { process = p; entry = entry; gained = gained }
-  pub after : SharedStands tells new (happens (core process) s record { process = p; entry = entry; gained = gained })
+  pub enabled : IsEnabled (core deck_jobs (process deck_jobs)) s record { process = p; entry = entry; gained = gained }
+  pub after : SharedStands tells new (happens (core deck_jobs (process deck_jobs)) s record { process = p; entry = entry; gained = gained })
 
-module _ {S K A B F : Type 0} (tells : Tells S K A B F) (old new : Shared S K A B F) (s : CoreState) (ss : SharedStands tells old s) (p : ℕ)
+module _ {S K A B F : Type 0} (tells : Tells S K A B F) (old new : Shared S K A B F) (s : CoreState Loaded) (ss : SharedStands tells old s) (p : ℕ)
     (one : IsProcess p) where
-  by-action : (entry : Entry) → next_action (process p) (s.histories p) ≡ Some (action_of entry) → MayCall s p (call p (action_of entry))
-      → IsFitting (process p) entry → Enters tells old new p (action_of entry) entry
+  by-action : (entry : Entry Loaded) → next_action (process deck_jobs p) (s.histories p) ≡ Some (action_of entry) → MayCall s p (call p (action_of entry))
+      → IsFitting deck_jobs (process deck_jobs p) entry → Enters tells old new p (action_of entry) entry
       → IsEvent tells new s p entry
   by-action entry next may suits is = record {
     gained = is.gained;
@@ -29,8 +31,9 @@ module _ {S K A B F : Type 0} (tells : Tells S K A B F) (old new : Shared S K A 
   }
 
   -- Where the process is at its turn, its step is an enabled event.
-  pub is-event : (a : Action) → next_action (process p) (s.histories p) ≡ Some a → MayCall s p (call p a) → (entry : Entry) → action_of entry ≡ a
-      → IsFitting (process p) entry → Enters tells old new p a entry → IsEvent tells new s p entry
+  pub is-event : (a : Action) → next_action (process deck_jobs p) (s.histories p) ≡ Some a → MayCall s p (call p a) → (entry : Entry Loaded)
+      → action_of entry ≡ a
+      → IsFitting deck_jobs (process deck_jobs p) entry → Enters tells old new p a entry → IsEvent tells new s p entry
   is-event a next may entry same suits is =
       by-action entry (next
       ∙ ap Some (sym same)) (subst (λ a. MayCall s p (call p a)) (sym same) may) suits (subst (λ a. Enters tells old new p a entry) (sym same) is)

@@ -37,6 +37,8 @@ use Rattle.core_net.specs.Net.{Keeps, NetStands}
 use Rattle.core_net.specs.Shared.{Tells}
 use Rattle.core_net.specs.Steps.{reply_of}
 use Rattle.core_law.proofs.Askers.{moves-page, takes-page, reads-deck, loads-files}
+use Rattle.disk_system.specs.declared.loading.Loaded.{Loaded}
+use Rattle.deck_work.specs.DeckJobs.{deck_jobs, deck_are_jobs}
 
 -- ---- what an entry that gave a fault was told
 abbrev IsMove : Action → Type 0
@@ -48,7 +50,7 @@ IsMove action = ⊥
 abbrev IsDisk : Action → Type 0
 IsDisk a = IsMove a ⊎ IsLoad a
 
-abbrev Told : Cause → Action → Option Reply → Type 0
+abbrev Told : Cause → Action → Option (Reply Loaded) → Type 0
 Told cause.ReadFault a r = r ≡ Some (reply.Card card_read.Failed)
 Told cause.DeckLimit a r = r ≡ Some (reply.Card card_read.Limit)
 Told cause.DiskFault a r = IsDisk a × (r ≡ Some reply.Failed)
@@ -66,21 +68,23 @@ module _ (c : Cause) (a : Action) where
   told-read card_read.Failed e = subst (λ c. Told c a (Some (reply.Card card_read.Failed))) (same-fault cause.ReadFault c e) refl
   told-read card_read.Limit e = subst (λ c. Told c a (Some (reply.Card card_read.Limit))) (same-fault cause.DeckLimit c e) refl
 
-  told-damage : (page : Result PageContent BadPage) (r : Option Reply) → damage page ≡ Some (outcome.Fault c) → Told c a r
+  told-damage : (page : Result PageContent BadPage) (r : Option (Reply Loaded)) → damage page ≡ Some (outcome.Fault c) → Told c a r
   told-damage (Ok content) r e = absurd cc
   told-damage (Err bad) r e = subst (λ c. Told c a r) (same-fault (cause.Damaged bad.expected bad.found bad.at) c e) tt
 
-  told-memory : (r : Option Reply) → Some (outcome.Fault cause.NoMemory) ≡ Some (outcome.Fault c) → Told c a r
+  told-memory : (r : Option (Reply Loaded)) → Some (outcome.Fault cause.NoMemory) ≡ Some (outcome.Fault c) → Told c a r
   told-memory r e = subst (λ c. Told c a r) (same-fault cause.NoMemory c e) tt
 
-told-failed : (c : Cause) (a : Action) → Fits a reply.Failed → Some (outcome.Fault (fault_at a)) ≡ Some (outcome.Fault c) → Told c a (Some reply.Failed)
+told-failed : (c : Cause) (a : Action) → Fits deck_jobs a reply.Failed → Some (outcome.Fault (fault_at a)) ≡ Some (outcome.Fault c)
+    → Told c a (Some reply.Failed)
 told-failed c (act.PutPage page) fits e = subst (λ c. Told c (act.PutPage page) (Some reply.Failed)) (same-fault cause.DiskFault c e) (inl tt, refl)
 told-failed c act.TakePage fits e = subst (λ c. Told c act.TakePage (Some reply.Failed)) (same-fault cause.DiskFault c e) (inl tt, refl)
 told-failed c (act.Load file) fits e = subst (λ c. Told c (act.Load file) (Some reply.Failed)) (same-fault cause.DiskFault c e) (inr tt, refl)
 told-failed c (act.Print line) fits e = subst (λ c. Told c (act.Print line) (Some reply.Failed)) (same-fault cause.PrintFault c e) (tt, refl)
 told-failed c a fits e = absurd fits
 
-told-so : (p : Process) (entry : Entry) (h : List Entry) (c : Cause) → IsFitting p entry → cause_by entry h ≡ Some (outcome.Fault c)
+told-so : (p : Process Loaded) (entry : Entry Loaded) (h : List (Entry Loaded)) (c : Cause) → IsFitting deck_jobs p entry → cause_by entry h ≡ Some
+    (outcome.Fault c)
     → Told c (action_of entry) (reply_of entry)
 told-so p (Does a reply.Done) h c fits e = absurd cc
 told-so p (Does a reply.Stopped) h c fits e = absurd cc
@@ -102,12 +106,14 @@ or-gave : (old new : Option Outcome) (how : Outcome) → or_new old new ≡ Some
 or-gave None new how e = inr e
 or-gave (Some before) new how e = inl e
 
-entry-gave : (entry : Entry) (h : List Entry) (how : Outcome) → caused (entry ∷ h) ≡ Some how → (caused h ≡ Some how) ⊎ (cause_by entry h ≡ Some how)
+entry-gave : (entry : Entry Loaded) (h : List (Entry Loaded)) (how : Outcome) → caused (entry ∷ h) ≡ Some how → (caused h ≡ Some how) ⊎
+    (cause_by entry h ≡ Some how)
 entry-gave (Does a r) h how e = or-gave (caused h) (given_cause a r h) how e
 entry-gave (LacksMemory a r) h how e = or-gave (caused h) (Some (outcome.Fault cause.NoMemory)) how e
 entry-gave (Delays a) h how e = inl e
 
-event-gave : (s : CoreState) (event : CoreEvent) (q : ℕ) (how : Outcome) → caused ((happens (core process) s event).histories q) ≡ Some how
+event-gave : (s : CoreState Loaded) (event : CoreEvent Loaded) (q : ℕ) (how : Outcome)
+    → caused ((happens (core deck_jobs (process deck_jobs)) s event).histories q) ≡ Some how
     → (caused (s.histories q) ≡ Some how) ⊎ ((event.process ≡ q) × (cause_by event.entry (s.histories q) ≡ Some how))
 event-gave s event q how =
     let Goal : Type 0 = (caused (s.histories q) ≡ Some how) ⊎ ((event.process ≡ q) × (cause_by event.entry (s.histories q) ≡ Some how)) in
@@ -123,13 +129,13 @@ event-gave s event q how =
     ]
 
 -- a cause stays
-entry-keeps : (entry : Entry) (h : List Entry) (how : Outcome) → caused h ≡ Some how → caused (entry ∷ h) ≡ Some how
+entry-keeps : (entry : Entry Loaded) (h : List (Entry Loaded)) (how : Outcome) → caused h ≡ Some how → caused (entry ∷ h) ≡ Some how
 entry-keeps (Does a r) h how e = rw e refl
 entry-keeps (LacksMemory a r) h how e = rw e refl
 entry-keeps (Delays a) h how e = e
 
-event-keeps : (s : CoreState) (event : CoreEvent) (q : ℕ) (how : Outcome) → caused (s.histories q) ≡ Some how
-    → caused ((happens (core process) s event).histories q) ≡ Some how
+event-keeps : (s : CoreState Loaded) (event : CoreEvent Loaded) (q : ℕ) (how : Outcome) → caused (s.histories q) ≡ Some how
+    → caused ((happens (core deck_jobs (process deck_jobs)) s event).histories q) ≡ Some how
 event-keeps s event q how e =
     let P : Bool → Type 0 = λ t. caused (if t then event.entry ∷ s.histories event.process else s.histories q) ≡ Some how in
     elim (eqb_tells q event.process) as (λ _. P (q == event.process)) [
@@ -137,8 +143,9 @@ event-keeps s event q how e =
       | inr not ↦ subst P (sym not.0) e
     ]
 
-event-own : (s : CoreState) (event : CoreEvent) (q : ℕ) (how : Outcome) → event.process ≡ q → caused (event.entry ∷ s.histories event.process) ≡ Some how
-    → caused ((happens (core process) s event).histories q) ≡ Some how
+event-own : (s : CoreState Loaded) (event : CoreEvent Loaded) (q : ℕ) (how : Outcome) → event.process ≡ q → caused (event.entry ∷ s.histories event.process)
+    ≡ Some how
+    → caused ((happens (core deck_jobs (process deck_jobs)) s event).histories q) ≡ Some how
 event-own s event q how own e =
     let P : Bool → Type 0 = λ t. caused (if t then event.entry ∷ s.histories event.process else s.histories q) ≡ Some how in
     elim (eqb_tells q event.process) as (λ _. P (q == event.process)) [
@@ -147,15 +154,16 @@ event-own s event q how own e =
     ]
 
 -- the limit is a cause
-lack-limit : (a : Action) → MayLack a (reply.Card card_read.Limit) → ⊥
+lack-limit : (a : Action) → MayLack {L = Loaded} a (reply.Card card_read.Limit) → ⊥
 lack-limit act.TakePage may = may
 lack-limit act.Local may = may
 lack-limit a may = may
 
-same-reply : (r s : Reply) → Some r ≡ Some s → r ≡ s
+same-reply : (r s : Reply Loaded) → Some r ≡ Some s → r ≡ s
 same-reply r s e = cc
 
-limit-gives : (p : Process) (entry : Entry) (h : List Entry) → IsFitting p entry → reply_of entry ≡ Some (reply.Card card_read.Limit) → caused h ≡ None
+limit-gives : (p : Process Loaded) (entry : Entry Loaded) (h : List (Entry Loaded)) → IsFitting deck_jobs p entry → reply_of entry ≡ Some
+    (reply.Card card_read.Limit) → caused h ≡ None
     → caused (entry ∷ h) ≡ Some (outcome.Fault cause.DeckLimit)
 limit-gives p (Does a r) h fits told none = let same = same-reply r (reply.Card card_read.Limit) told in rw (none, same) refl
 limit-gives p (LacksMemory a r) h fits told none = absurd (lack-limit a (subst (MayLack a) (same-reply r (reply.Card card_read.Limit) told) fits.1))
@@ -166,10 +174,11 @@ reads-or-not act.ReadCard = inl refl
 reads-or-not a = inr (λ e. cc)
 
 -- ---- who moves a page
-moves-so : (p : ℕ) (h : List Entry) (a : Action) → IsProcess p → Follows (process p) h → next_action (process p) h ≡ Some a → IsMove a
+moves-so : (p : ℕ) (h : List (Entry Loaded)) (a : Action) → IsProcess p → Follows deck_jobs (process deck_jobs p) h → next_action (process deck_jobs p) h
+    ≡ Some a → IsMove a
     → MovesInput p a ⊎ MovesOutput p a
-moves-so p h (act.PutPage page) one follows next is = moves-page p h page one follows next
-moves-so p h act.TakePage one follows next is = takes-page p h one next
+moves-so p h (act.PutPage page) one follows next is = moves-page deck_are_jobs p h page one follows next
+moves-so p h act.TakePage one follows next is = takes-page deck_are_jobs p h one next
 moves-so p h a one follows next is = absurd is
 
 no-output : (p : ℕ) (a : Action) → p ≡ 2 → MovesOutput p a → ⊥
@@ -183,8 +192,9 @@ no-input p act.TakePage four is = let same = sym four ∙ is in cc
 no-input p a four is = is
 
 -- ---- who loads a file
-loads-so : (p : ℕ) (h : List Entry) (a : Action) → IsProcess p → Follows (process p) h → next_action (process p) h ≡ Some a → IsLoad a → p ≡ 3
-loads-so p h (act.Load file) one follows next is = loads-files p h file one follows next
+loads-so : (p : ℕ) (h : List (Entry Loaded)) (a : Action) → IsProcess p → Follows deck_jobs (process deck_jobs p) h → next_action (process deck_jobs p) h
+    ≡ Some a → IsLoad a → p ≡ 3
+loads-so p h (act.Load file) one follows next is = loads-files deck_are_jobs p h file one follows next
 loads-so p h a one follows next is = absurd is
 
 -- ---- counts that rise
@@ -211,19 +221,20 @@ same-devices source sink a c b d files x y = cc
 
 module _ {S K A B F : Type 0} (keeps : Keeps) (tells : Tells S K A B F) (counts : Counts S K A B F) where
   -- a network's processes have the same causes in each state that it stands for
-  same-outcomes : (net : Net S K A B F) (s t : CoreState) → NetStands keeps tells net s → NetStands keeps tells net t → outcomes_in s ≡ outcomes_in t
+  same-outcomes : (net : Net S K A B F) (s t : CoreState Loaded) → NetStands keeps tells net s → NetStands keeps tells net t → outcomes_in s ≡ outcomes_in t
   same-outcomes net s t a b =
       same-five _ _ _ _ _ _ _ _ _ _ (ap outcome_by (sym a.card.cause ∙ b.card.cause)) (ap outcome_by (sym a.input.cause ∙ b.input.cause))
       (ap outcome_by (sym a.job.cause ∙ b.job.cause)) (ap outcome_by (sym a.output.cause ∙ b.output.cause))
       (ap outcome_by (sym a.printer.cause ∙ b.printer.cause)) (outcomes_in s) refl
 
   -- what is counted in one state that it stands for is in each
-  counted-each : (net : Net S K A B F) (before : Peripherals S K A B F) (s : CoreState) → NetStands keeps tells net s
+  counted-each : (net : Net S K A B F) (before : Peripherals S K A B F) (s : CoreState Loaded) → NetStands keeps tells net s
       → AreCounted counts before (devices_of net.shared) (outcomes_in s) → CausesAreCounted keeps tells counts before net
   counted-each net before s stands are = λ t other. subst (AreCounted counts before (devices_of net.shared)) (same-outcomes net s t stands other) are
 
   -- ---- one step
-  module _ (old new : Net S K A B F) (o : Opening) (s : CoreState) (event : CoreEvent) (reached : IsReached o s) (enabled : IsEnabled (core process) s event)
+  module _ (old new : Net S K A B F) (o : Opening deck_jobs) (s : CoreState Loaded) (event : CoreEvent Loaded) (reached : IsReached o s)
+      (enabled : IsEnabled (core deck_jobs (process deck_jobs)) s event)
       (causes : HasCauses counts old.shared new.shared event.process (action_of event.entry) (reply_of event.entry)) where
     abbrev q : ℕ
     q = event.process
@@ -231,28 +242,28 @@ module _ {S K A B F : Type 0} (keeps : Keeps) (tells : Tells S K A B F) (counts 
     abbrev made : Action
     made = action_of event.entry
 
-    follows : Follows (process q) (s.histories q)
-    follows = follows-of process q (s.histories q) ((reached-centre o s reached).stands.follows q)
+    follows : Follows deck_jobs (process deck_jobs q) (s.histories q)
+    follows = follows-of deck_are_jobs (process deck_jobs) q (s.histories q) ((reached-centre deck_are_jobs o s reached).stands.follows q)
 
-    next : next_action (process q) (s.histories q) ≡ Some made
+    next : next_action (process deck_jobs q) (s.histories q) ≡ Some made
     next = enabled.next
 
-    now-or-before : (n : ℕ) (c : Cause) → outcome_by (caused ((happens (core process) s event).histories n)) ≡ outcome.Fault c
+    now-or-before : (n : ℕ) (c : Cause) → outcome_by (caused ((happens (core deck_jobs (process deck_jobs)) s event).histories n)) ≡ outcome.Fault c
         → (outcome_by (caused (s.histories n)) ≡ outcome.Fault c) ⊎ ((q ≡ n) × Told c made (reply_of event.entry))
     now-or-before n c is =
-        elim (event-gave s event n (outcome.Fault c) (fault-of (caused ((happens (core process) s event).histories n)) c is))
+        elim (event-gave s event n (outcome.Fault c) (fault-of (caused ((happens (core deck_jobs (process deck_jobs)) s event).histories n)) c is))
         as (λ _. (outcome_by (caused (s.histories n)) ≡ outcome.Fault c) ⊎ ((q ≡ n) × Told c made (reply_of event.entry))) [
           | inl before ↦ inl (ap outcome_by before)
-          | inr now ↦ inr (now.0, told-so (process q) event.entry (s.histories n) c enabled.suits now.1)
+          | inr now ↦ inr (now.0, told-so (process deck_jobs q) event.entry (s.histories n) c enabled.suits now.1)
         ]
 
     -- with a cause the card process reads no more
     deck-same : (how : Outcome) → caused (s.histories 1) ≡ Some how → new.shared.deck ≡ old.shared.deck
     deck-same how is =
         causes.deck_stays (λ reads.
-        let asked : next_action (process q) (s.histories q) ≡ Some act.ReadCard = next ∙ ap Some reads in
-        let none : caused (s.histories q) ≡ None = open-next (process q) (s.histories q) act.ReadCard asked tt in
-        let here : caused (s.histories 1) ≡ None = subst (λ p. caused (s.histories p) ≡ None) (reads-deck q (s.histories q) asked) none in
+        let asked : next_action (process deck_jobs q) (s.histories q) ≡ Some act.ReadCard = next ∙ ap Some reads in
+        let none : caused (s.histories q) ≡ None = open-next deck_jobs (process deck_jobs q) (s.histories q) act.ReadCard asked tt in
+        let here : caused (s.histories 1) ≡ None = subst (λ p. caused (s.histories p) ≡ None) (reads-deck deck_are_jobs q (s.histories q) asked) none in
         let both = sym here ∙ is in cc)
 
     module _ (before : Peripherals S K A B F) (was : AreCounted counts before (devices_of old.shared) (outcomes_in s)) where
@@ -283,7 +294,7 @@ module _ {S K A B F : Type 0} (keeps : Keeps) (tells : Tells S K A B F) (counts 
           → Rose (counts.file_faults before.files) (counts.file_faults new.shared.files.area)
       files-rose is failed = then-rose _ _ _ was.files_on (causes.load is failed)
 
-      read : outcome_by (caused ((happens (core process) s event).histories 1)) ≡ outcome.Fault cause.ReadFault
+      read : outcome_by (caused ((happens (core deck_jobs (process deck_jobs)) s event).histories 1)) ≡ outcome.Fault cause.ReadFault
           → Rose (counts.read_faults before.source) (counts.read_faults new.shared.deck.source)
       read is =
           elim (now-or-before 1 cause.ReadFault is) as (λ _. Rose (counts.read_faults before.source) (counts.read_faults new.shared.deck.source)) [
@@ -291,7 +302,7 @@ module _ {S K A B F : Type 0} (keeps : Keeps) (tells : Tells S K A B F) (counts 
             | inr gave ↦ then-rose _ _ _ was.read_on (causes.read gave.1)
           ]
 
-      limit : outcome_by (caused ((happens (core process) s event).histories 1)) ≡ outcome.Fault cause.DeckLimit
+      limit : outcome_by (caused ((happens (core deck_jobs (process deck_jobs)) s event).histories 1)) ≡ outcome.Fault cause.DeckLimit
           → byte_limit < counts.taken new.shared.deck.source
       limit is =
           elim (now-or-before 1 cause.DeckLimit is) as (λ _. byte_limit < counts.taken new.shared.deck.source) [
@@ -301,17 +312,18 @@ module _ {S K A B F : Type 0} (keeps : Keeps) (tells : Tells S K A B F) (counts 
           ]
 
       longer : counts.taken before.source ≤ byte_limit → byte_limit < counts.taken new.shared.deck.source
-          → outcome_by (caused ((happens (core process) s event).histories 1)) ≡ outcome.Fault cause.DeckLimit
+          → outcome_by (caused ((happens (core deck_jobs (process deck_jobs)) s event).histories 1)) ≡ outcome.Fault cause.DeckLimit
       longer few over =
-          elim (reads-or-not made) as (λ _. outcome_by (caused ((happens (core process) s event).histories 1)) ≡ outcome.Fault cause.DeckLimit) [
-            | inl reads ↦ ap outcome_by (event-own s event 1 (outcome.Fault cause.DeckLimit) (reads-deck q (s.histories q) (next ∙ ap Some reads))
-                (limit-gives (process q) event.entry (s.histories q) enabled.suits (causes.limit_told reads over)
-                (open-next (process q) (s.histories q) act.ReadCard (next ∙ ap Some reads) tt)))
+          elim (reads-or-not made) as (λ _. outcome_by (caused ((happens (core deck_jobs (process deck_jobs)) s event).histories 1))
+          ≡ outcome.Fault cause.DeckLimit) [
+            | inl reads ↦ ap outcome_by (event-own s event 1 (outcome.Fault cause.DeckLimit) (reads-deck deck_are_jobs q (s.histories q) (next ∙ ap Some reads))
+                (limit-gives (process deck_jobs q) event.entry (s.histories q) enabled.suits (causes.limit_told reads over)
+                (open-next deck_jobs (process deck_jobs q) (s.histories q) act.ReadCard (next ∙ ap Some reads) tt)))
             | inr not ↦ ap outcome_by (event-keeps s event 1 (outcome.Fault cause.DeckLimit) (fault-of (caused (s.histories 1)) cause.DeckLimit
                 (was.longer few (subst (λ (d : Held S). byte_limit < counts.taken d.source) (causes.deck_stays not) over))))
           ]
 
-      input : outcome_by (caused ((happens (core process) s event).histories 2)) ≡ outcome.Fault cause.DiskFault → InputRose
+      input : outcome_by (caused ((happens (core deck_jobs (process deck_jobs)) s event).histories 2)) ≡ outcome.Fault cause.DiskFault → InputRose
       input is =
           elim (now-or-before 2 cause.DiskFault is) as (λ _. InputRose) [
             | inl had ↦ rose-then _ _ _ (was.input had) causes.input_on
@@ -324,7 +336,8 @@ module _ {S K A B F : Type 0} (keeps : Keeps) (tells : Tells S K A B F) (counts 
             ]
           ]
 
-      job : outcome_by (caused ((happens (core process) s event).histories 3)) ≡ outcome.Fault cause.DiskFault → InputRose ⊎ OutputRose ⊎ FilesRose
+      job : outcome_by (caused ((happens (core deck_jobs (process deck_jobs)) s event).histories 3)) ≡ outcome.Fault cause.DiskFault
+          → InputRose ⊎ OutputRose ⊎ FilesRose
       job is =
           elim (now-or-before 3 cause.DiskFault is) as (λ _. InputRose ⊎ OutputRose ⊎ FilesRose) [
             | inl had ↦ elim (was.job had) as (λ _. InputRose ⊎ OutputRose ⊎ FilesRose) [
@@ -343,7 +356,7 @@ module _ {S K A B F : Type 0} (keeps : Keeps) (tells : Tells S K A B F) (counts 
             ]
           ]
 
-      output : outcome_by (caused ((happens (core process) s event).histories 4)) ≡ outcome.Fault cause.DiskFault → OutputRose
+      output : outcome_by (caused ((happens (core deck_jobs (process deck_jobs)) s event).histories 4)) ≡ outcome.Fault cause.DiskFault → OutputRose
       output is =
           elim (now-or-before 4 cause.DiskFault is) as (λ _. OutputRose) [
             | inl had ↦ rose-then _ _ _ (was.output had) causes.output_on
@@ -356,7 +369,7 @@ module _ {S K A B F : Type 0} (keeps : Keeps) (tells : Tells S K A B F) (counts 
             ]
           ]
 
-      print : outcome_by (caused ((happens (core process) s event).histories 5)) ≡ outcome.Fault cause.PrintFault
+      print : outcome_by (caused ((happens (core deck_jobs (process deck_jobs)) s event).histories 5)) ≡ outcome.Fault cause.PrintFault
           → Rose (counts.print_faults before.sink) (counts.print_faults new.shared.paper.sink)
       print is =
           elim (now-or-before 5 cause.PrintFault is) as (λ _. Rose (counts.print_faults before.sink) (counts.print_faults new.shared.paper.sink)) [
@@ -364,7 +377,7 @@ module _ {S K A B F : Type 0} (keeps : Keeps) (tells : Tells S K A B F) (counts 
             | inr gave ↦ then-rose _ _ _ was.print_on (causes.print gave.1.0 gave.1.1)
           ]
 
-      counted : AreCounted counts before (devices_of new.shared) (outcomes_in (happens (core process) s event))
+      counted : AreCounted counts before (devices_of new.shared) (outcomes_in (happens (core deck_jobs (process deck_jobs)) s event))
       counted = record {
         read = read;
         limit = limit;
@@ -381,15 +394,17 @@ module _ {S K A B F : Type 0} (keeps : Keeps) (tells : Tells S K A B F) (counts 
       }
 
   -- An event keeps that they were counted.
-  pub event-counted : (old new : Net S K A B F) (o : Opening) (s : CoreState) (event : CoreEvent) → IsReached o s → NetStands keeps tells old s
-      → IsEnabled (core process) s event → NetStands keeps tells new (happens (core process) s event)
+  pub event-counted : (old new : Net S K A B F) (o : Opening deck_jobs) (s : CoreState Loaded) (event : CoreEvent Loaded) → IsReached o s
+      → NetStands keeps tells old s
+      → IsEnabled (core deck_jobs (process deck_jobs)) s event → NetStands keeps tells new (happens (core deck_jobs (process deck_jobs)) s event)
       → HasCauses counts old.shared new.shared event.process (action_of event.entry) (reply_of event.entry)
       → (before : Peripherals S K A B F) → CausesAreCounted keeps tells counts before old → CausesAreCounted keeps tells counts before new
   event-counted old new o s event reached stood enabled stands causes before were =
-      counted-each new before (happens (core process) s event) stands (counted old new o s event reached enabled causes before (were s stood))
+      counted-each new before (happens (core deck_jobs (process deck_jobs)) s event) stands (counted old new o s event reached enabled causes before
+      (were s stood))
 
   -- What was counted until all ended is what the run tells.
-  pub ended-counted : (net : Net S K A B F) (outcomes : Outcomes) (now : Peripherals S K A B F) (s : CoreState) → NetStands keeps tells net s
+  pub ended-counted : (net : Net S K A B F) (outcomes : Outcomes) (now : Peripherals S K A B F) (s : CoreState Loaded) → NetStands keeps tells net s
       → outcomes.card ≡ outcome_by (caused (s.histories 1)) → outcomes.input ≡ outcome_by (caused (s.histories 2))
       → outcomes.job ≡ outcome_by (caused (s.histories 3)) → outcomes.output ≡ outcome_by (caused (s.histories 4))
       → outcomes.printer ≡ outcome_by (caused (s.histories 5)) → now ≡ devices_of net.shared

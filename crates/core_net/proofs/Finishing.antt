@@ -9,7 +9,6 @@ use Rattle.solo_base.specs.Text.{text}
 use Rattle.batch_job.specs.Report.{Loads}
 use Rattle.solo_devices.specs.CardUnit.{items_ahead}
 use Rattle.solo_devices.specs.PrinterUnit.{Gains}
-use Rattle.page_codec.specs.Items.{AreItems}
 use Rattle.queue_var.specs.Sides.{stopped_by}
 use Rattle.batch_procs.specs.declared.machine.Machine.{Machine}
 use Rattle.batch_procs.specs.declared.round.Step.TheVariants as step
@@ -39,6 +38,8 @@ use Rattle.core_net.specs.declared.shared.Shared.{Shared}
 use Rattle.core_net.specs.Shared.{Tells, SharedStands}
 use Rattle.core_net.specs.Net.{Keeps, NetStands, IsPlaced}
 use Rattle.core_net.specs.Ended.{HaveEnded, outcome_at, all_done, sides_of, none_stopped, EndsSo, stopped_at, StoppedBeside, SomeFault, EndTogether, FaultsAre, NoneDamaged}
+use Rattle.disk_system.specs.declared.loading.Loaded.{Loaded}
+use Rattle.deck_work.specs.DeckJobs.{one_thread_is, deck_jobs, deck_are_jobs}
 
 -- ---- one process
 ended-step : (last : Option Action) → step_after last ≡ step.Ended → (how : Outcome) × (last ≡ Some (act.Ended how))
@@ -62,18 +63,19 @@ cause-is : (cause : Option Outcome) (how : Outcome) → outcome_by cause ≡ how
 cause-is None how e not = absurd (subst (λ o. IsNotDone (Some o)) (sym e) not)
 cause-is (Some found) how e not = ap Some e
 
-module _ {W : Type 0} (p : Process) (keeps : W → List Parcel → List Parcel → Bool → Type 0) (m : Machine W) (how : Outcome)
-    (is : (h : List Entry) → StandsFor p keeps m h → how ≡ outcome_by (caused h)) (h : List Entry) (st : StandsFor p keeps m h) where
-  ends-so : (before : List Entry) → IsRelay p → StandsFor p keeps m before → HasEnded before → newest h ≡ Some (act.Ended how)
+module _ {X W : Type 0} (p : Process Loaded) (keeps : W → List (Parcel Loaded) → List (Parcel Loaded) → Bool → Type 0) (m : Machine X W) (how : Outcome)
+    (is : (h : List (Entry Loaded)) → StandsFor deck_jobs p keeps m h → how ≡ outcome_by (caused h)) (h : List (Entry Loaded))
+    (st : StandsFor deck_jobs p keeps m h) where
+  ends-so : (before : List (Entry Loaded)) → IsRelay p → StandsFor deck_jobs p keeps m before → HasEnded before → newest h ≡ Some (act.Ended how)
   ends-so before relay stood ended =
       let at : step_after (newest h) ≡ step.Ended = sym st.step ∙ stood.step ∙ ap step_after ended.1 in
       let (found, e) = ended-step (newest h) at in
-      subst (λ how. newest h ≡ Some (act.Ended how)) (sym (is h st ∙ ended-as p h found relay st.follows e)) e
+      subst (λ how. newest h ≡ Some (act.Ended how)) (sym (is h st ∙ ended-as deck_are_jobs p h found relay st.follows e)) e
 
   given-so : (found : Outcome) → how ≡ found → IsNotDone (Some found) → GivenBy h found
-  given-so found e not = each_cause_is_given h found (cause-is (caused h) found (sym (is h st) ∙ e) not)
+  given-so found e not = each_cause_is_given deck_jobs h found (cause-is (caused h) found (sym (is h st) ∙ e) not)
 
-  fault-so : (Fault : Cause → Type 0) → FaultsOf p Fault → (c : Cause) → how ≡ outcome.Fault c → Fault c
+  fault-so : (Fault : Cause → Type 0) → FaultsOf deck_jobs p Fault → (c : Cause) → how ≡ outcome.Fault c → Fault c
   fault-so Fault faults c e = faults h c st.follows (cause-is (caused h) (outcome.Fault c) (sym (is h st) ∙ e) tt)
 
 -- ---- the five
@@ -87,7 +89,7 @@ done-so a b c d e x y z v w = cc
 same-four : (a b c d x y z v : Option Side) → a ≡ x → b ≡ y → c ≡ z → d ≡ v → (a ∷ b ∷ c ∷ d ∷ []) ≡ (x ∷ y ∷ z ∷ v ∷ [])
 same-four a b c d x y z v i j k l = cc
 
-pub sides-are : {S K A B F : Type 0} (tells : Tells S K A B F) (shared : Shared S K A B F) (s : CoreState) → SharedStands tells shared s →
+pub sides-are : {S K A B F : Type 0} (tells : Tells S K A B F) (shared : Shared S K A B F) (s : CoreState Loaded) → SharedStands tells shared s →
     (a b c d : Option Side)
     → a ≡ stopped_by shared.cards.sides → b ≡ stopped_by shared.input.sides → c ≡ stopped_by shared.output.sides → d ≡ stopped_by shared.lines.sides
     → (a ∷ b ∷ c ∷ d ∷ []) ≡ sides_of s
@@ -105,7 +107,7 @@ all-done : (p : ℕ) → IsProcess p → outcome_at all_done p ≡ outcome.Done
 all-done p one = each-process (λ p. outcome_at all_done p ≡ outcome.Done) p one refl refl refl refl refl
 
 -- The sides that stopped are those of the list.
-stopped-so : (s : CoreState) (b : ℕ) → IsBuffer b → stopped_at (sides_of s) b ≡ stopped_by (s.buffers b).sides
+stopped-so : (s : CoreState Loaded) (b : ℕ) → IsBuffer b → stopped_at (sides_of s) b ≡ stopped_by (s.buffers b).sides
 stopped-so s b is = each-buffer (λ b. stopped_at (sides_of s) b ≡ stopped_by (s.buffers b).sides) b is refl refl refl refl
 
 pub gains-where : (before now : Option (List ℕ)) (whole : List ℕ) (X Y : Type 0) → (Y → X) → Gains before now whole X → Gains before now whole Y
@@ -116,59 +118,66 @@ gains-where before now whole X Y if gains = record {
 
 module _ {S K A B F : Type 0} (keeps : Keeps) (tells : Tells S K A B F) (net : Net S K A B F) (outcomes : Outcomes) (stops : List (Option Side))
     (some : HaveEnded keeps tells net)
-    (card-is : (h : List Entry) → StandsFor card keeps.card net.card h → outcomes.card ≡ outcome_by (caused h))
-    (input-is : (h : List Entry) → StandsFor input keeps.input net.input h → outcomes.input ≡ outcome_by (caused h))
-    (job-is : (h : List Entry) → StandsFor job keeps.job net.job h → outcomes.job ≡ outcome_by (caused h))
-    (output-is : (h : List Entry) → StandsFor output keeps.output net.output h → outcomes.output ≡ outcome_by (caused h))
-    (printer-is : (h : List Entry) → StandsFor printer keeps.printer net.printer h → outcomes.printer ≡ outcome_by (caused h))
-    (stops-are : (s : CoreState) → NetStands keeps tells net s → stops ≡ sides_of s) where
-  abbrev first : CoreState
+    (card-is : (h : List (Entry Loaded)) → StandsFor deck_jobs card keeps.card net.card h → outcomes.card ≡ outcome_by (caused h))
+    (input-is : (h : List (Entry Loaded)) → StandsFor deck_jobs input keeps.input net.input h → outcomes.input ≡ outcome_by (caused h))
+    (job-is : (h : List (Entry Loaded)) → StandsFor deck_jobs (job deck_jobs) keeps.job net.job h → outcomes.job ≡ outcome_by (caused h))
+    (output-is : (h : List (Entry Loaded)) → StandsFor deck_jobs output keeps.output net.output h → outcomes.output ≡ outcome_by (caused h))
+    (printer-is : (h : List (Entry Loaded)) → StandsFor deck_jobs printer keeps.printer net.printer h → outcomes.printer ≡ outcome_by (caused h))
+    (stops-are : (s : CoreState Loaded) → NetStands keeps tells net s → stops ≡ sides_of s) where
+  abbrev first : CoreState Loaded
   first = some.at.state
 
   abbrev stood : NetStands keeps tells net first
   stood = some.at.stands.is
 
   the-end : (p : ℕ) → IsProcess p → HasEnded (first.histories p)
-  the-end p one = all-ended first some.all p one
+  the-end p one = all-ended deck_are_jobs first some.all p one
 
-  ended : (s : CoreState) → NetStands keeps tells net s → (p : ℕ) → IsProcess p → HasEndedSo s (outcome_at outcomes p) p
+  ended : (s : CoreState Loaded) → NetStands keeps tells net s → (p : ℕ) → IsProcess p → HasEndedSo s (outcome_at outcomes p) p
   ended s st p one =
       each-process (λ p. HasEndedSo s (outcome_at outcomes p) p) p one
-      (ends-so card keeps.card net.card outcomes.card card-is (s.histories 1) st.card (first.histories 1) (relays 1) stood.card (the-end 1 (lit≤ tt, lit≤ tt)))
-      (ends-so input keeps.input net.input outcomes.input input-is (s.histories 2) st.input (first.histories 2) (relays 2) stood.input (the-end 2 (lit≤ tt, lit≤ tt)))
-      (ends-so job keeps.job net.job outcomes.job job-is (s.histories 3) st.job (first.histories 3) (relays 3) stood.job (the-end 3 (lit≤ tt, lit≤ tt)))
-      (ends-so output keeps.output net.output outcomes.output output-is (s.histories 4) st.output (first.histories 4) (relays 4) stood.output (the-end 4 (lit≤ tt, lit≤ tt)))
-      (ends-so printer keeps.printer net.printer outcomes.printer printer-is (s.histories 5) st.printer (first.histories 5) (relays 5) stood.printer
+      (ends-so card keeps.card net.card outcomes.card card-is (s.histories 1) st.card (first.histories 1) (relays deck_are_jobs 1) stood.card
+      (the-end 1 (lit≤ tt, lit≤ tt)))
+      (ends-so input keeps.input net.input outcomes.input input-is (s.histories 2) st.input (first.histories 2) (relays deck_are_jobs 2) stood.input
+      (the-end 2 (lit≤ tt, lit≤ tt)))
+      (ends-so (job deck_jobs) keeps.job net.job outcomes.job job-is (s.histories 3) st.job (first.histories 3) (relays deck_are_jobs 3) stood.job
+      (the-end 3 (lit≤ tt, lit≤ tt)))
+      (ends-so output keeps.output net.output outcomes.output output-is (s.histories 4) st.output (first.histories 4) (relays deck_are_jobs 4) stood.output
+      (the-end 4 (lit≤ tt, lit≤ tt)))
+      (ends-so printer keeps.printer net.printer outcomes.printer printer-is (s.histories 5) st.printer (first.histories 5)
+      (relays deck_are_jobs 5) stood.printer
       (the-end 5 (lit≤ tt, lit≤ tt)))
 
-  given : (s : CoreState) → NetStands keeps tells net s → (p : ℕ) (how : Outcome) → IsProcess p → outcome_at outcomes p ≡ how → IsNotDone (Some how)
+  given : (s : CoreState Loaded) → NetStands keeps tells net s → (p : ℕ) (how : Outcome) → IsProcess p → outcome_at outcomes p ≡ how → IsNotDone (Some how)
       → GivenBy (s.histories p) how
   given s st p how one =
       each-process (λ p. outcome_at outcomes p ≡ how → IsNotDone (Some how) → GivenBy (s.histories p) how) p one
       (given-so card keeps.card net.card outcomes.card card-is (s.histories 1) st.card how)
       (given-so input keeps.input net.input outcomes.input input-is (s.histories 2) st.input how)
-      (given-so job keeps.job net.job outcomes.job job-is (s.histories 3) st.job how)
+      (given-so (job deck_jobs) keeps.job net.job outcomes.job job-is (s.histories 3) st.job how)
       (given-so output keeps.output net.output outcomes.output output-is (s.histories 4) st.output how)
       (given-so printer keeps.printer net.printer outcomes.printer printer-is (s.histories 5) st.printer how)
 
-  pub ends : (s : CoreState) → NetStands keeps tells net s → EndsSo s outcomes stops
+  pub ends : (s : CoreState Loaded) → NetStands keeps tells net s → EndsSo s outcomes stops
   ends s st = record { ended = ended s st; given = given s st; first = stops-are s st }
 
   pub faults : FaultsAre outcomes
   faults = record {
-    card = fault-so card keeps.card net.card outcomes.card card-is (first.histories 1) stood.card _ faults_of_the_five.card;
-    input = fault-so input keeps.input net.input outcomes.input input-is (first.histories 2) stood.input _ faults_of_the_five.input;
-    job = fault-so job keeps.job net.job outcomes.job job-is (first.histories 3) stood.job _ faults_of_the_five.job;
-    output = fault-so output keeps.output net.output outcomes.output output-is (first.histories 4) stood.output _ faults_of_the_five.output;
-    printer = fault-so printer keeps.printer net.printer outcomes.printer printer-is (first.histories 5) stood.printer _ faults_of_the_five.printer;
+    card = fault-so card keeps.card net.card outcomes.card card-is (first.histories 1) stood.card _ (faults_of_the_five deck_jobs deck_are_jobs).card;
+    input = fault-so input keeps.input net.input outcomes.input input-is (first.histories 2) stood.input _ (faults_of_the_five deck_jobs deck_are_jobs).input;
+    job = fault-so (job deck_jobs) keeps.job net.job outcomes.job job-is (first.histories 3) stood.job _ (faults_of_the_five deck_jobs deck_are_jobs).job;
+    output = fault-so output keeps.output net.output outcomes.output output-is (first.histories 4) stood.output _
+        (faults_of_the_five deck_jobs deck_are_jobs).output;
+    printer = fault-so printer keeps.printer net.printer outcomes.printer printer-is (first.histories 5) stood.printer _
+        (faults_of_the_five deck_jobs deck_are_jobs).printer;
   }
 
   -- ---- together
-  all-are : (s : CoreState) → NetStands keeps tells net s → outcomes ≡ all_done → AllDone s
+  all-are : (s : CoreState Loaded) → NetStands keeps tells net s → outcomes ≡ all_done → AllDone s
   all-are s st e p one = subst (λ how. HasEndedSo s how p) (ap (λ o. outcome_at o p) e ∙ all-done p one) (ended s st p one)
 
   law : EndsTogether first
-  law = (reached-holds some.at.opening first some.at.reached).ends
+  law = (reached-holds deck_are_jobs some.at.opening first some.at.reached).ends
 
   stopped-first : (b : ℕ) → IsBuffer b → stopped_at stops b ≡ stopped_by (first.buffers b).sides
   stopped-first b is = ap (λ all. stopped_at all b) (stops-are first stood) ∙ stopped-so first b is
@@ -211,19 +220,21 @@ module _ {S K A B F : Type 0} (keeps : Keeps) (tells : Tells S K A B F) (net : N
   -- ---- for an opening
   module _ (at : IsPlaced keeps tells net) where
     holds : Holds at.opening at.state
-    holds = reached-holds at.opening at.state at.reached
+    holds = reached-holds deck_are_jobs at.opening at.state at.reached
 
-    pub prints : AreTold at.opening.spools → (items : List Item) (found : Loads) → at.opening.deck ≡ Some items → AreItems items
-        → AreFound at.opening.files found items
+    pub prints : AreTold at.opening.spools → (items : List Item) (found : Loads) → at.opening.deck ≡ Some items
+        → AreFound deck_jobs at.opening.files found items
         → Gains at.opening.paper (tells.given net.shared.paper.sink) (text (one_thread_lines found items)) (outcomes ≡ all_done)
-    prints told items found is valid are_found =
+    prints told items found is are_found =
         subst (λ now. Gains at.opening.paper now (text (one_thread_lines found items)) (outcomes ≡ all_done)) at.stands.is.shared.paper
-        (gains-where at.opening.paper at.state.devices.paper _ _ _ (all-are at.state at.stands.is) (holds.prints told items found is valid are_found))
+        (gains-where at.opening.paper at.state.devices.paper _ _ _ (all-are at.state at.stands.is)
+        (subst (λ lines. Gains at.opening.paper at.state.devices.paper (text lines) (AllDone at.state)) (one_thread_is items found)
+        (holds.prints told items found is are_found)))
 
     pub reads : (items : List Item) → at.opening.deck ≡ Some items → outcomes ≡ all_done
         → items_ahead (tells.left net.shared.deck.source) net.shared.deck.pending ≡ Some []
     reads items is e = sym at.stands.is.shared.deck ∙ holds.reads items is (all-are at.state at.stands.is e)
 
-    pub undamaged : AreTold at.opening.spools → (items : List Item) → at.opening.deck ≡ Some items → AreItems items → NoneDamaged outcomes
-    undamaged told items is valid p c one e =
-        holds.undamaged told items is valid p c one (subst (λ how. HasEndedSo at.state how p) e (ended at.state at.stands.is p one))
+    pub undamaged : AreTold at.opening.spools → NoneDamaged outcomes
+    undamaged told p c one e =
+        holds.undamaged told p c one (subst (λ how. HasEndedSo at.state how p) e (ended at.state at.stands.is p one))

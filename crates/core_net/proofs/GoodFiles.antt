@@ -1,15 +1,18 @@
--- Code that stands in told files keeps the rules of code.
-use Rattle.std.proofs.Common.{◌≡◌, ℕ, List, Option, None, Some, subst}
-use Rattle.disk_layout.specs.Files.{files as file_map}
-use Rattle.batch_job.specs.Report.{Loads}
-use Rattle.batch_job.specs.Loads.{IsLoaded}
-use Rattle.batch_job.proofs.GoodFiles.{files_are_good}
-use Rattle.core_law.specs.Opening.{AreGoodFiles}
-use Rattle.core_net.specs.Openings.{files_found}
+-- What told files are loaded as are loads of a deck's jobs, and told cards are cards.
+use Rattle.std.proofs.Common.{◌≡◌, ℕ, List, ◌++◌, Option, None, Some, subst}
+use Rattle.solo_base.specs.declared.item.Item.{Item}
+use Rattle.solo_devices.specs.CardUnit.{items_ahead}
+use Rattle.page_codec.specs.Items.{AreItems}
+use Rattle.page_codec.proofs.CardItems.{card-items}
+use Rattle.core_law.specs.Opening.{AreCards, AreGoodFiles}
+use Rattle.deck_work.specs.DeckJobs.{deck_jobs, files_found, found_are_loads}
 
-same-loads : {X : Type 0} (a b : X) → Some a ≡ Some b → a ≡ b
-same-loads a b e = cc
+same-items : (a b : List Item) → Some a ≡ Some b → a ≡ b
+same-items a b e = cc
 
-pub are-good : (pages : Option (List (List ℕ))) → AreGoodFiles (files_found pages)
-are-good None found e file = absurd cc
-are-good (Some pages) found e file = subst (λ (loads : Loads). IsLoaded (loads file)) (same-loads _ _ e) (files_are_good (file_map pages) file)
+pub told-cards : (left : Option (List ℕ)) (pending : List ℕ) → AreCards (items_ahead left pending)
+told-cards None pending items e = absurd cc
+told-cards (Some rest) pending items e = subst AreItems (same-items _ _ e) (card-items (pending ++ rest))
+
+pub are-good : (pages : Option (List (List ℕ))) → AreGoodFiles deck_jobs (files_found pages)
+are-good pages = found_are_loads pages

@@ -9,6 +9,6 @@ mod NetSteps
 mod Turning
 mod Finishing
 mod FaultsCounted
-mod WholeRuns
+pub mod WholeRuns
 mod Within
 pub mod GoodFiles

@@ -9,7 +9,8 @@ use Rattle.batch_procs.specs.declared.actions.Reply.TheVariants as reply
 use Rattle.batch_procs.specs.declared.machine.Machine.{Machine}
 use Rattle.batch_procs.specs.declared.card_proc.CardWork.{CardWork}
 use Rattle.batch_procs.specs.declared.input_proc.InputWork.{InputWork}
-use Rattle.batch_procs.specs.declared.job_proc.JobWork.{JobWork}
+use Rattle.batch_procs.specs.declared.job_proc.JobProcWork.{JobProcWork}
+use Rattle.deck_work.specs.declared.work.DeckWork.{DeckWork}
 use Rattle.batch_procs.specs.declared.output_proc.OutputWork.{OutputWork}
 use Rattle.batch_procs.specs.declared.printer_proc.PrinterWork.{PrinterWork}
 use Rattle.batch_procs.specs.History.{Entry, Does, LacksMemory, Delays, action_of}
@@ -46,33 +47,35 @@ use Rattle.core_law.proofs.Askers.{reads-deck, prints-paper, loads-files}
 use Rattle.core_net.proofs.MayPerforming.{may-perform}
 use Rattle.core_law.proofs.DeskRoom.{desk-room}
 use Rattle.core_net.proofs.Entering.{is-event}
+use Rattle.disk_system.specs.declared.loading.Loaded.{Loaded}
+use Rattle.deck_work.specs.DeckJobs.{deck_jobs, deck_are_jobs}
 
 -- ---- what an entry without a cause tells
-abbrev pub IsFailedRead : Option Reply → Type 0
+abbrev pub IsFailedRead : Option (Reply Loaded) → Type 0
 IsFailedRead (Some (reply.Card card_read.Failed)) = Unit {0}
 IsFailedRead (Some (reply.Card card_read.Limit)) = Unit {0}
 IsFailedRead result = ⊥
 
 -- the history had no cause before, and the entry is no failed read
-pub record IsFree (entry : Entry) (h : List Entry) : Type 0 where
+pub record IsFree (entry : Entry Loaded) (h : List (Entry Loaded)) : Type 0 where
   pub before : caused h ≡ None
   pub no_failed : reply_of entry ≢ Some (reply.Card card_read.Failed)
   pub no_limit : reply_of entry ≢ Some (reply.Card card_read.Limit)
   pub no_failure : reply_of entry ≢ Some reply.Failed
 
-failed-cause : (a : Action) (r : Reply) (h : List Entry) → caused (Does a r ∷ h) ≡ None → r ≡ reply.Card card_read.Failed → ⊥
+failed-cause : (a : Action) (r : Reply Loaded) (h : List (Entry Loaded)) → caused (Does a r ∷ h) ≡ None → r ≡ reply.Card card_read.Failed → ⊥
 failed-cause a r h none e = some-not_none (caused h) _ (sym (ap (λ r. or_new (caused h) (given_cause a r h)) e) ∙ none)
 
-limit-cause : (a : Action) (r : Reply) (h : List Entry) → caused (Does a r ∷ h) ≡ None → r ≡ reply.Card card_read.Limit → ⊥
+limit-cause : (a : Action) (r : Reply Loaded) (h : List (Entry Loaded)) → caused (Does a r ∷ h) ≡ None → r ≡ reply.Card card_read.Limit → ⊥
 limit-cause a r h none e = some-not_none (caused h) _ (sym (ap (λ r. or_new (caused h) (given_cause a r h)) e) ∙ none)
 
-failure-cause : (a : Action) (r : Reply) (h : List Entry) → caused (Does a r ∷ h) ≡ None → r ≡ reply.Failed → ⊥
+failure-cause : (a : Action) (r : Reply Loaded) (h : List (Entry Loaded)) → caused (Does a r ∷ h) ≡ None → r ≡ reply.Failed → ⊥
 failure-cause a r h none e = some-not_none (caused h) _ (sym (ap (λ r. or_new (caused h) (given_cause a r h)) e) ∙ none)
 
-some-reply : (r s : Reply) → Some r ≡ Some s → r ≡ s
+some-reply : (r s : Reply Loaded) → Some r ≡ Some s → r ≡ s
 some-reply r s e = cc
 
-free-of : (entry : Entry) (h : List Entry) → caused (entry ∷ h) ≡ None → IsFree entry h
+free-of : (entry : Entry Loaded) (h : List (Entry Loaded)) → caused (entry ∷ h) ≡ None → IsFree entry h
 free-of (Does a r) h none = record {
   before = or-none (caused h) (given_cause a r h) none;
   no_failed = λ e. failed-cause a r h none (some-reply r _ e);
@@ -83,23 +86,24 @@ free-of (LacksMemory a r) h none = absurd (some-not_none (caused h) _ none)
 free-of (Delays a) h none = record { before = none; no_failed = λ e. cc; no_limit = λ e. cc; no_failure = λ e. cc }
 
 -- another process reads no card
-card-fits : (a : Action) (answer : CardRead) → Fits a (reply.Card answer) → a ≡ act.ReadCard
+card-fits : (a : Action) (answer : CardRead) → Fits deck_jobs a (reply.Card answer) → a ≡ act.ReadCard
 card-fits act.ReadCard answer fits = refl
 card-fits a answer fits = absurd fits
 
-lack-card : (a : Action) (answer : CardRead) → MayLack a (reply.Card answer) → ⊥
+lack-card : (a : Action) (answer : CardRead) → MayLack {L = Loaded} a (reply.Card answer) → ⊥
 lack-card act.TakePage answer may = may
 lack-card act.Local answer may = may
 lack-card a answer may = may
 
-reads-nothing : (p : Process) (entry : Entry) (answer : CardRead) → IsFitting p entry → (action_of entry ≡ act.ReadCard → ⊥)
+reads-nothing : (p : Process Loaded) (entry : Entry Loaded) (answer : CardRead) → IsFitting deck_jobs p entry → (action_of entry ≡ act.ReadCard → ⊥)
     → reply_of entry ≡ Some (reply.Card answer) → ⊥
-reads-nothing p (Does a r) answer fits not e = not (card-fits a answer (subst (Fits a) (some-reply r (reply.Card answer) e) fits))
+reads-nothing p (Does a r) answer fits not e = not (card-fits a answer (subst (Fits deck_jobs a) (some-reply r (reply.Card answer) e) fits))
 reads-nothing p (LacksMemory a r) answer fits not e = lack-card a answer (subst (MayLack a) (some-reply r (reply.Card answer) e) fits.1)
 reads-nothing p (Delays a) answer fits not e = cc
 
 -- a print without a cause is done
-print-done : (p : Process) (entry : Entry) (h : List Entry) → IsFitting p entry → caused (entry ∷ h) ≡ None → IsPrint (action_of entry)
+print-done : (p : Process Loaded) (entry : Entry Loaded) (h : List (Entry Loaded)) → IsFitting deck_jobs p entry → caused (entry ∷ h) ≡ None
+    → IsPrint (action_of entry)
     → reply_of entry ≡ Some reply.Done
 print-done p (Does (act.Print line) reply.Done) h fits none is = refl
 print-done p (Does (act.Print line) reply.Failed) h fits none is = absurd (some-not_none (caused h) _ none)
@@ -120,29 +124,30 @@ file-of a is = absurd is
 
 -- ---- one step
 -- an event of the process, from one network to the next
-abbrev pub GoesOn : {S K A B F : Type 0} → Keeps → Tells S K A B F → Counts S K A B F → Net S K A B F → Net S K A B F → CoreState → ℕ → Stepped → Type 0
-GoesOn keeps tells counts old new s p result = law.Steps the_law (StandsWithin keeps tells) (MovesBy keeps tells counts) old new s p result
+abbrev pub GoesOn : {S K A B F : Type 0} → Keeps → Tells S K A B F → Counts S K A B F → Net S K A B F → Net S K A B F → CoreState Loaded → ℕ → Stepped → Type 0
+GoesOn keeps tells counts old new s p result = law.Steps (the_law deck_jobs) (StandsWithin keeps tells) (MovesBy keeps tells counts) old new s p result
 
-module _ {S K A B F : Type 0} (keeps : Keeps) (tells : Tells S K A B F) (counts : Counts S K A B F) (net : Net S K A B F) (o : Opening) (s : CoreState)
+module _ {S K A B F : Type 0} (keeps : Keeps) (tells : Tells S K A B F) (counts : Counts S K A B F) (net : Net S K A B F) (o : Opening deck_jobs)
+    (s : CoreState Loaded)
     (reached : IsReached o s) (stood : StandsWithin keeps tells net s) where
   abbrev stands : NetStands keeps tells net s
   stands = stood.is
 
-  abbrev centre : Centre (first_state o) s
-  centre = reached-centre o s reached
+  abbrev centre : Centre deck_are_jobs (first_state o) s
+  centre = reached-centre deck_are_jobs o s reached
 
-  follows : (p : ℕ) → Follows (process p) (s.histories p)
-  follows p = follows-of process p (s.histories p) (centre.stands.follows p)
+  follows : (p : ℕ) → Follows deck_jobs (process deck_jobs p) (s.histories p)
+  follows p = follows-of deck_are_jobs (process deck_jobs) p (s.histories p) (centre.stands.follows p)
 
   pub may-now : (p : ℕ) (action : Action) → MayStepIn s p action → MayPerform net.shared p action
   may-now p action step =
       may-perform tells (first_state o) s centre.stands net.shared stands.shared p step.one stands.deck_live stands.paper_live
       stands.files_sound
-      (desk-room (first_state o) s centre.stands) action step.next step.may
+      (desk-room deck_are_jobs (first_state o) s centre.stands) action step.next step.may
 
   -- ---- the devices after it
-  module _ (p : ℕ) (action : Action) (step : MayStepIn s p action) (new : Shared S K A B F) (entry : Entry) (same : action_of entry ≡ action)
-      (suits : IsFitting (process p) entry) (causes : HasCauses counts net.shared new p action (reply_of entry)) where
+  module _ (p : ℕ) (action : Action) (step : MayStepIn s p action) (new : Shared S K A B F) (entry : Entry Loaded) (same : action_of entry ≡ action)
+      (suits : IsFitting deck_jobs (process deck_jobs p) entry) (causes : HasCauses counts net.shared new p action (reply_of entry)) where
     pub deck-own : p ≡ 1 → caused (entry ∷ s.histories p) ≡ None → new.deck.live ≡ true
     deck-own is none =
         let free = free-of entry (s.histories p) none in
@@ -150,9 +155,9 @@ module _ {S K A B F : Type 0} (keeps : Keeps) (tells : Tells S K A B F) (counts 
 
     pub deck-other : (p ≡ 1 → ⊥) → caused (s.histories 1) ≡ None → new.deck.live ≡ true
     deck-other not none =
-        let no_read : action_of entry ≡ act.ReadCard → ⊥ = λ e. not (reads-deck p (s.histories p) (step.next ∙ ap Some (sym same ∙ e))) in
-        causes.deck_live (stands.deck_live none) (reads-nothing (process p) entry card_read.Failed suits no_read)
-        (reads-nothing (process p) entry card_read.Limit suits no_read)
+        let no_read : action_of entry ≡ act.ReadCard → ⊥ = λ e. not (reads-deck deck_are_jobs p (s.histories p) (step.next ∙ ap Some (sym same ∙ e))) in
+        causes.deck_live (stands.deck_live none) (reads-nothing (process deck_jobs p) entry card_read.Failed suits no_read)
+        (reads-nothing (process deck_jobs p) entry card_read.Limit suits no_read)
 
     before-free : caused (entry ∷ s.histories p) ≡ None → caused (s.histories p) ≡ None
     before-free none = (free-of entry (s.histories p) none).before
@@ -160,12 +165,13 @@ module _ {S K A B F : Type 0} (keeps : Keeps) (tells : Tells S K A B F) (counts 
     pub paper-own : p ≡ 5 → caused (entry ∷ s.histories p) ≡ None → new.paper.live ≡ true
     paper-own is none =
         causes.paper_live (stands.paper_live (subst (λ q. caused (s.histories q) ≡ None) is (before-free none)))
-        (λ print. print-done (process p) entry (s.histories p) suits none (subst IsPrint (sym same) print))
+        (λ print. print-done (process deck_jobs p) entry (s.histories p) suits none (subst IsPrint (sym same) print))
 
     pub paper-other : (p ≡ 5 → ⊥) → caused (s.histories 5) ≡ None → new.paper.live ≡ true
     paper-other not none =
         causes.paper_live (stands.paper_live none)
-        (λ print. (let (line, is) = line-of action print in absurd (not (prints-paper p (s.histories p) line step.one (follows p) (step.next ∙ ap Some is)))))
+        (λ print. (let (line, is) = line-of action print in absurd
+        (not (prints-paper deck_are_jobs p (s.histories p) line step.one (follows p) (step.next ∙ ap Some is)))))
 
     pub files-own : p ≡ 3 → caused (entry ∷ s.histories p) ≡ None → new.files.sound ≡ true
     files-own is none =
@@ -175,13 +181,14 @@ module _ {S K A B F : Type 0} (keeps : Keeps) (tells : Tells S K A B F) (counts 
     pub files-other : (p ≡ 3 → ⊥) → caused (s.histories 3) ≡ None → new.files.sound ≡ true
     files-other not none =
         causes.files_sound (stands.files_sound none)
-        (λ load. (let (file, is) = file-of action load in absurd (not (loads-files p (s.histories p) file step.one (follows p) (step.next ∙ ap Some is)))))
+        (λ load. (let (file, is) = file-of action load in absurd
+        (not (loads-files deck_are_jobs p (s.histories p) file step.one (follows p) (step.next ∙ ap Some is)))))
 
   -- ---- by the machine
-  card-stands : (m : Machine CardWork) (new : Shared S K A B F) (action : Action) (entry : Entry) (gained : List ℕ)
-      → StandsFor card keeps.card m (entry ∷ s.histories 1) → MayStepIn s 1 action → action_of entry ≡ action
+  card-stands : (m : Machine DeckWork CardWork) (new : Shared S K A B F) (action : Action) (entry : Entry Loaded) (gained : List ℕ)
+      → StandsFor deck_jobs card keeps.card m (entry ∷ s.histories 1) → MayStepIn s 1 action → action_of entry ≡ action
       → HasCauses counts net.shared new 1 action (reply_of entry)
-      → SharedStands tells new (happens (core process) s record {
+      → SharedStands tells new (happens (core deck_jobs (process deck_jobs)) s record {
         process =
             1;
         entry =
@@ -192,7 +199,7 @@ module _ {S K A B F : Type 0} (keeps : Keeps) (tells : Tells S K A B F) (counts 
         card =
             m;
         shared = new;
-      }) (happens (core process) s record { process = 1; entry = entry; gained = gained })
+      }) (happens (core deck_jobs (process deck_jobs)) s record { process = 1; entry = entry; gained = gained })
   card-stands m new action entry gained st step same causes shared = record {
     card = st;
     input = stands.input;
@@ -205,10 +212,10 @@ module _ {S K A B F : Type 0} (keeps : Keeps) (tells : Tells S K A B F) (counts 
     files_sound = files-other 1 action step new entry same st.follows.1 causes (λ e. cc);
   }
 
-  input-stands : (m : Machine InputWork) (new : Shared S K A B F) (action : Action) (entry : Entry) (gained : List ℕ)
-      → StandsFor input keeps.input m (entry ∷ s.histories 2) → MayStepIn s 2 action → action_of entry ≡ action
+  input-stands : (m : Machine DeckWork InputWork) (new : Shared S K A B F) (action : Action) (entry : Entry Loaded) (gained : List ℕ)
+      → StandsFor deck_jobs input keeps.input m (entry ∷ s.histories 2) → MayStepIn s 2 action → action_of entry ≡ action
       → HasCauses counts net.shared new 2 action (reply_of entry)
-      → SharedStands tells new (happens (core process) s record {
+      → SharedStands tells new (happens (core deck_jobs (process deck_jobs)) s record {
         process =
             2;
         entry =
@@ -219,7 +226,7 @@ module _ {S K A B F : Type 0} (keeps : Keeps) (tells : Tells S K A B F) (counts 
         input =
             m;
         shared = new;
-      }) (happens (core process) s record { process = 2; entry = entry; gained = gained })
+      }) (happens (core deck_jobs (process deck_jobs)) s record { process = 2; entry = entry; gained = gained })
   input-stands m new action entry gained st step same causes shared = record {
     card = stands.card;
     input = st;
@@ -232,10 +239,10 @@ module _ {S K A B F : Type 0} (keeps : Keeps) (tells : Tells S K A B F) (counts 
     files_sound = files-other 2 action step new entry same st.follows.1 causes (λ e. cc);
   }
 
-  job-stands : (m : Machine JobWork) (new : Shared S K A B F) (action : Action) (entry : Entry) (gained : List ℕ)
-      → StandsFor job keeps.job m (entry ∷ s.histories 3) → MayStepIn s 3 action → action_of entry ≡ action
+  job-stands : (m : Machine DeckWork (JobProcWork DeckWork)) (new : Shared S K A B F) (action : Action) (entry : Entry Loaded) (gained : List ℕ)
+      → StandsFor deck_jobs (job deck_jobs) keeps.job m (entry ∷ s.histories 3) → MayStepIn s 3 action → action_of entry ≡ action
       → HasCauses counts net.shared new 3 action (reply_of entry)
-      → SharedStands tells new (happens (core process) s record {
+      → SharedStands tells new (happens (core deck_jobs (process deck_jobs)) s record {
         process =
             3;
         entry =
@@ -246,7 +253,7 @@ module _ {S K A B F : Type 0} (keeps : Keeps) (tells : Tells S K A B F) (counts 
         job =
             m;
         shared = new;
-      }) (happens (core process) s record { process = 3; entry = entry; gained = gained })
+      }) (happens (core deck_jobs (process deck_jobs)) s record { process = 3; entry = entry; gained = gained })
   job-stands m new action entry gained st step same causes shared = record {
     card = stands.card;
     input = stands.input;
@@ -259,10 +266,10 @@ module _ {S K A B F : Type 0} (keeps : Keeps) (tells : Tells S K A B F) (counts 
     files_sound = files-own 3 action step new entry same st.follows.1 causes refl;
   }
 
-  output-stands : (m : Machine OutputWork) (new : Shared S K A B F) (action : Action) (entry : Entry) (gained : List ℕ)
-      → StandsFor output keeps.output m (entry ∷ s.histories 4) → MayStepIn s 4 action → action_of entry ≡ action
+  output-stands : (m : Machine DeckWork OutputWork) (new : Shared S K A B F) (action : Action) (entry : Entry Loaded) (gained : List ℕ)
+      → StandsFor deck_jobs output keeps.output m (entry ∷ s.histories 4) → MayStepIn s 4 action → action_of entry ≡ action
       → HasCauses counts net.shared new 4 action (reply_of entry)
-      → SharedStands tells new (happens (core process) s record {
+      → SharedStands tells new (happens (core deck_jobs (process deck_jobs)) s record {
         process =
             4;
         entry =
@@ -273,7 +280,7 @@ module _ {S K A B F : Type 0} (keeps : Keeps) (tells : Tells S K A B F) (counts 
         output =
             m;
         shared = new;
-      }) (happens (core process) s record { process = 4; entry = entry; gained = gained })
+      }) (happens (core deck_jobs (process deck_jobs)) s record { process = 4; entry = entry; gained = gained })
   output-stands m new action entry gained st step same causes shared = record {
     card = stands.card;
     input = stands.input;
@@ -286,10 +293,10 @@ module _ {S K A B F : Type 0} (keeps : Keeps) (tells : Tells S K A B F) (counts 
     files_sound = files-other 4 action step new entry same st.follows.1 causes (λ e. cc);
   }
 
-  printer-stands : (m : Machine PrinterWork) (new : Shared S K A B F) (action : Action) (entry : Entry) (gained : List ℕ)
-      → StandsFor printer keeps.printer m (entry ∷ s.histories 5) → MayStepIn s 5 action → action_of entry ≡ action
+  printer-stands : (m : Machine DeckWork PrinterWork) (new : Shared S K A B F) (action : Action) (entry : Entry Loaded) (gained : List ℕ)
+      → StandsFor deck_jobs printer keeps.printer m (entry ∷ s.histories 5) → MayStepIn s 5 action → action_of entry ≡ action
       → HasCauses counts net.shared new 5 action (reply_of entry)
-      → SharedStands tells new (happens (core process) s record {
+      → SharedStands tells new (happens (core deck_jobs (process deck_jobs)) s record {
         process =
             5;
         entry =
@@ -300,7 +307,7 @@ module _ {S K A B F : Type 0} (keeps : Keeps) (tells : Tells S K A B F) (counts 
         printer =
             m;
         shared = new;
-      }) (happens (core process) s record { process = 5; entry = entry; gained = gained })
+      }) (happens (core deck_jobs (process deck_jobs)) s record { process = 5; entry = entry; gained = gained })
   printer-stands m new action entry gained st step same causes shared = record {
     card = stands.card;
     input = stands.input;
@@ -314,16 +321,18 @@ module _ {S K A B F : Type 0} (keeps : Keeps) (tells : Tells S K A B F) (counts 
   }
 
   -- A step of one machine is a step of the network that this machine and what is shared make of it.
-  step-of : (p : ℕ) (next : Net S K A B F) (Stands : List Entry → Type 0) (action : Action) (result : Stepped) → MayStepIn s p action
-      → (st : Steps Stands tells counts net.shared next.shared p action (s.histories p) result) → IsFitting (process p) st.entry
-      → ((gained : List ℕ) → SharedStands tells next.shared (happens (core process) s record { process = p; entry = st.entry; gained = gained })
-      → NetStands keeps tells next (happens (core process) s record { process = p; entry = st.entry; gained = gained }))
+  step-of : (p : ℕ) (next : Net S K A B F) (Stands : List (Entry Loaded) → Type 0) (action : Action) (result : Stepped) → MayStepIn s p action
+      → (st : Steps Stands tells counts net.shared next.shared p action (s.histories p) result) → IsFitting deck_jobs (process deck_jobs p) st.entry
+      → ((gained : List ℕ) → SharedStands tells next.shared
+      (happens (core deck_jobs (process deck_jobs)) s record { process = p; entry = st.entry; gained = gained })
+      → NetStands keeps tells next (happens (core deck_jobs (process deck_jobs)) s record { process = p; entry = st.entry; gained = gained }))
       → GoesOn keeps tells counts net next s p result
   step-of p next Stands action result step st suits stand =
       let is = is-event tells net.shared next.shared s stands.shared p step.one action step.next step.may st.entry st.action_is suits st.enters in
-      let event : CoreEvent = record { process = p; entry = st.entry; gained = is.gained } in
+      let event : CoreEvent Loaded = record { process = p; entry = st.entry; gained = is.gained } in
       let causes = subst (λ a. HasCauses counts net.shared next.shared p a (reply_of st.entry)) (sym st.action_is) st.causes in
-      let left = work-falls o s event (cards_left tells.taken net.shared.deck) (cards_left tells.taken next.shared.deck) reached is.enabled st.enters.deck in
+      let left = work-falls deck_are_jobs o s event (cards_left tells.taken net.shared.deck)
+      (cards_left tells.taken next.shared.deck) reached is.enabled st.enters.deck in
       let most = stood.within in
       let now = stand is.gained is.after in
       let told = st.told s stands.shared (has-place tells net.shared o s reached stands.shared p step.one action step.next) in
@@ -331,7 +340,7 @@ module _ {S K A B F : Type 0} (keeps : Keeps) (tells : Tells S K A B F) (counts 
         event = event;
         process_is = refl;
         told = subst (λ a. result ≡ stepped_so (is_delayed (went st.entry)) (is_end a) (is_again s (call p a))) (sym st.action_is) told
-            ∙ goes-so (process p) st.entry (s.histories p) (is_again s (call p (action_of st.entry)));
+            ∙ goes-so (process deck_jobs p) st.entry (s.histories p) (is_again s (call p (action_of st.entry)));
         enabled = is.enabled;
         stands = record { is = now; within = omega (arith, left, most) };
         moves = record {
@@ -345,51 +354,53 @@ module _ {S K A B F : Type 0} (keeps : Keeps) (tells : Tells S K A B F) (counts 
         };
       }
 
-  pub at-card : (m : Machine CardWork) (new : Shared S K A B F) (action : Action) (result : Stepped) → MayStepIn s 1 action
-      → Steps (StandsFor card keeps.card m) tells counts net.shared new 1 action (s.histories 1) result
+  pub at-card : (m : Machine DeckWork CardWork) (new : Shared S K A B F) (action : Action) (result : Stepped) → MayStepIn s 1 action
+      → Steps (StandsFor deck_jobs card keeps.card m) tells counts net.shared new 1 action (s.histories 1) result
       → GoesOn keeps tells counts net (record net { card = m; shared = new }) s 1 result
   at-card m new action result step st =
-      step-of 1 (record net { card = m; shared = new }) (StandsFor card keeps.card m) action result step st st.stands.follows.1
+      step-of 1 (record net { card = m; shared = new }) (StandsFor deck_jobs card keeps.card m) action result step st st.stands.follows.1
       (λ gained shared. card-stands m new action st.entry gained st.stands step st.action_is st.causes shared)
 
-  pub at-input : (m : Machine InputWork) (new : Shared S K A B F) (action : Action) (result : Stepped) → MayStepIn s 2 action
-      → Steps (StandsFor input keeps.input m) tells counts net.shared new 2 action (s.histories 2) result
+  pub at-input : (m : Machine DeckWork InputWork) (new : Shared S K A B F) (action : Action) (result : Stepped) → MayStepIn s 2 action
+      → Steps (StandsFor deck_jobs input keeps.input m) tells counts net.shared new 2 action (s.histories 2) result
       → GoesOn keeps tells counts net (record net { input = m; shared = new }) s 2 result
   at-input m new action result step st =
-      step-of 2 (record net { input = m; shared = new }) (StandsFor input keeps.input m) action result step st st.stands.follows.1
+      step-of 2 (record net { input = m; shared = new }) (StandsFor deck_jobs input keeps.input m) action result step st st.stands.follows.1
       (λ gained shared. input-stands m new action st.entry gained st.stands step st.action_is st.causes shared)
 
-  pub at-job : (m : Machine JobWork) (new : Shared S K A B F) (action : Action) (result : Stepped) → MayStepIn s 3 action
-      → Steps (StandsFor job keeps.job m) tells counts net.shared new 3 action (s.histories 3) result
+  pub at-job : (m : Machine DeckWork (JobProcWork DeckWork)) (new : Shared S K A B F) (action : Action) (result : Stepped) → MayStepIn s 3 action
+      → Steps (StandsFor deck_jobs (job deck_jobs) keeps.job m) tells counts net.shared new 3 action (s.histories 3) result
       → GoesOn keeps tells counts net (record net { job = m; shared = new }) s 3 result
   at-job m new action result step st =
-      step-of 3 (record net { job = m; shared = new }) (StandsFor job keeps.job m) action result step st st.stands.follows.1
+      step-of 3 (record net { job = m; shared = new }) (StandsFor deck_jobs (job deck_jobs) keeps.job m) action result step st st.stands.follows.1
       (λ gained shared. job-stands m new action st.entry gained st.stands step st.action_is st.causes shared)
 
-  pub at-output : (m : Machine OutputWork) (new : Shared S K A B F) (action : Action) (result : Stepped) → MayStepIn s 4 action
-      → Steps (StandsFor output keeps.output m) tells counts net.shared new 4 action (s.histories 4) result
+  pub at-output : (m : Machine DeckWork OutputWork) (new : Shared S K A B F) (action : Action) (result : Stepped) → MayStepIn s 4 action
+      → Steps (StandsFor deck_jobs output keeps.output m) tells counts net.shared new 4 action (s.histories 4) result
       → GoesOn keeps tells counts net (record net { output = m; shared = new }) s 4 result
   at-output m new action result step st =
-      step-of 4 (record net { output = m; shared = new }) (StandsFor output keeps.output m) action result step st st.stands.follows.1
+      step-of 4 (record net { output = m; shared = new }) (StandsFor deck_jobs output keeps.output m) action result step st st.stands.follows.1
       (λ gained shared. output-stands m new action st.entry gained st.stands step st.action_is st.causes shared)
 
-  pub at-printer : (m : Machine PrinterWork) (new : Shared S K A B F) (action : Action) (result : Stepped) → MayStepIn s 5 action
-      → Steps (StandsFor printer keeps.printer m) tells counts net.shared new 5 action (s.histories 5) result
+  pub at-printer : (m : Machine DeckWork PrinterWork) (new : Shared S K A B F) (action : Action) (result : Stepped) → MayStepIn s 5 action
+      → Steps (StandsFor deck_jobs printer keeps.printer m) tells counts net.shared new 5 action (s.histories 5) result
       → GoesOn keeps tells counts net (record net { printer = m; shared = new }) s 5 result
   at-printer m new action result step st =
-      step-of 5 (record net { printer = m; shared = new }) (StandsFor printer keeps.printer m) action result step st st.stands.follows.1
+      step-of 5 (record net { printer = m; shared = new }) (StandsFor deck_jobs printer keeps.printer m) action result step st st.stands.follows.1
       (λ gained shared. printer-stands m new action st.entry gained st.stands step st.action_is st.causes shared)
 
 -- ---- by the number
-pub next-at : (s : CoreState) (p q : ℕ) (action : Action) → p ≡ q → MayStepIn s p action → next_action (process q) (s.histories q) ≡ Some action
-next-at s p q action e step = subst (λ q. next_action (process q) (s.histories q) ≡ Some action) e step.next
+pub next-at : (s : CoreState Loaded) (p q : ℕ) (action : Action) → p ≡ q → MayStepIn s p action → next_action (process deck_jobs q) (s.histories q)
+    ≡ Some action
+next-at s p q action e step = subst (λ q. next_action (process deck_jobs q) (s.histories q) ≡ Some action) e step.next
 
-pub in-step : (s : CoreState) (p : ℕ) (may : MayGo (core process) s p) → MayStepIn s p may.action
+pub in-step : (s : CoreState Loaded) (p : ℕ) (may : MayGo (core deck_jobs (process deck_jobs)) s p) → MayStepIn s p may.action
 in-step s p may = record { one = may.one; next = may.next; may = may.may }
 
 -- that a machine may step
-pub may-step : {S K A B F : Type 0} (keeps : Keeps) (tells : Tells S K A B F) (net : Net S K A B F) (p q : ℕ) (Stands : List Entry → Type 0) → p ≡ q
-    → (m : law.MayStep the_law (StandsWithin keeps tells net) p) → Stands (m.at.state.histories q) → MayStep (process q) Stands net.shared p
+pub may-step : {S K A B F : Type 0} (keeps : Keeps) (tells : Tells S K A B F) (net : Net S K A B F) (p q : ℕ) (Stands : List (Entry Loaded) → Type 0) → p ≡ q
+    → (m : law.MayStep (the_law deck_jobs) (StandsWithin keeps tells net) p) → Stands (m.at.state.histories q)
+    → MayStep (process deck_jobs q) Stands net.shared p
 may-step keeps tells net p q Stands e m stands = record {
   history = m.at.state.histories q;
   action = m.may.action;
@@ -406,9 +417,9 @@ may-step keeps tells net p q Stands e m stands = record {
       } net m.at.opening m.at.state m.at.reached m.at.stands p m.may.action (in-step m.at.state p m.may);
 }
 
-pub steps-at : {S K A B F : Type 0} (keeps : Keeps) (tells : Tells S K A B F) (counts : Counts S K A B F) (old new : Net S K A B F) (s : CoreState)
-    (Stands : List Entry
-    → Type 0) (p q : ℕ) (action : Action) (result : Stepped) (h : List Entry) → p ≡ q
+pub steps-at : {S K A B F : Type 0} (keeps : Keeps) (tells : Tells S K A B F) (counts : Counts S K A B F) (old new : Net S K A B F) (s : CoreState Loaded)
+    (Stands : List (Entry Loaded)
+    → Type 0) (p q : ℕ) (action : Action) (result : Stepped) (h : List (Entry Loaded)) → p ≡ q
     → (MayStepIn s q action → Steps Stands tells counts old.shared new.shared q action h result → GoesOn keeps tells counts old new s q result)
     → MayStepIn s p action → Steps Stands tells counts old.shared new.shared p action h result → GoesOn keeps tells counts old new s p result
 steps-at keeps tells counts old new s Stands p q action result h e each =

@@ -25,8 +25,9 @@ use Rattle.core_net.specs.Lines.{LineStands}
 use Rattle.core_net.specs.Spools.{SpoolStands}
 use Rattle.core_net.specs.Desks.{Asked, Given}
 use Rattle.core_net.specs.Devices.{ReadsCard, PrintsLine, LoadsFile}
-use Rattle.core_net.specs.Openings.{files_found}
 use Rattle.core_net.specs.Shared.{Tells, Choice, AtNumbers, StopsAt, Performs, cards_left, deck_total}
+use Rattle.disk_system.specs.declared.loading.Loaded.{Loaded}
+use Rattle.deck_work.specs.DeckJobs.{files_found, deck_jobs}
 
 -- ---- numbers
 chosen : (t : Bool) (X Y : Type 0) → t ≡ true → Choice t X Y → X
@@ -85,8 +86,8 @@ same-paper None = refl
 same-paper (Some given) = ap Some (append-nil given)
 
 -- an action that no device hears of
-pub record IsSilent (action : Action) (result : Option Reply) : Type 0 where
-  pub allowed : (devices : Devices) → Allows devices (entry_of action result) []
+pub record IsSilent (action : Action) (result : Option (Reply Loaded)) : Type 0 where
+  pub allowed : (devices : Devices Loaded) → Allows devices (entry_of action result) []
   pub none_read : read_off (entry_of action result) ≡ []
 
 abbrev pub NoDevice : Action → Type 0
@@ -95,7 +96,7 @@ NoDevice (act.Print line) = ⊥
 NoDevice (act.Load file) = ⊥
 NoDevice action = Unit {0}
 
-pub silent : (action : Action) (result : Option Reply) → NoDevice action → IsSilent action result
+pub silent : (action : Action) (result : Option (Reply Loaded)) → NoDevice action → IsSilent action result
 silent act.ReadCard result is = absurd is
 silent (act.Print line) result is = absurd is
 silent (act.Load file) result is = absurd is
@@ -103,17 +104,17 @@ silent action None is = record { allowed = λ devices. refl; none_read = refl }
 silent action (Some r) is = record { allowed = λ devices. refl; none_read = refl }
 
 -- no card of the deck is given
-pub none-fewer : (action : Action) (result : Option Reply) (cards : ℕ) → NoDevice action → LeavesFewer (entry_of action result) cards cards
+pub none-fewer : (action : Action) (result : Option (Reply Loaded)) (cards : ℕ) → NoDevice action → LeavesFewer (entry_of action result) cards cards
 none-fewer act.ReadCard result cards is = absurd is
 none-fewer action None cards is = refl
 none-fewer action (Some r) cards is = refl
 
-module _ {S K A B F : Type 0} (tells : Tells S K A B F) (old : Shared S K A B F) (p : ℕ) (action : Action) (result : Option Reply) where
-  deck-stays : (s : CoreState) → IsSilent action result → s.devices.deck ≡ items_ahead (tells.left old.deck.source) old.deck.pending
+module _ {S K A B F : Type 0} (tells : Tells S K A B F) (old : Shared S K A B F) (p : ℕ) (action : Action) (result : Option (Reply Loaded)) where
+  deck-stays : (s : CoreState Loaded) → IsSilent action result → s.devices.deck ≡ items_ahead (tells.left old.deck.source) old.deck.pending
       → (given s.devices (entry_of action result) []).deck ≡ items_ahead (tells.left old.deck.source) old.deck.pending
   deck-stays s quiet e = ap (λ items. option_map (drop (length items)) s.devices.deck) quiet.none_read ∙ same-deck s.devices.deck ∙ e
 
-  paper-stays : (s : CoreState) → s.devices.paper ≡ tells.given old.paper.sink
+  paper-stays : (s : CoreState Loaded) → s.devices.paper ≡ tells.given old.paper.sink
       → (given s.devices (entry_of action result) []).paper ≡ tells.given old.paper.sink
   paper-stays s e = same-paper s.devices.paper ∙ e
 
@@ -208,7 +209,8 @@ module _ {S K A B F : Type 0} (tells : Tells S K A B F) (old : Shared S K A B F)
 
 module _ {S K A B F : Type 0} (tells : Tells S K A B F) (old : Shared S K A B F) (p : ℕ) where
   -- ---- at the desk
-  pub at-request : (new : Claims) (result : Option Reply) → Asked old.desk new p result → Performs tells old (record old { desk = new }) p act.Request result
+  pub at-request : (new : Claims) (result : Option (Reply Loaded)) → Asked old.desk new p result → Performs tells old
+      (record old { desk = new }) p act.Request result
   at-request new result a = record {
     suits = a.suits;
     gained = [];
@@ -229,7 +231,8 @@ module _ {S K A B F : Type 0} (tells : Tells S K A B F) (old : Shared S K A B F)
     };
   }
 
-  pub at-release : (new : Claims) (result : Reply) → Given old.desk new result → Performs tells old (record old { desk = new }) p act.Release (Some result)
+  pub at-release : (new : Claims) (result : Reply Loaded) → Given old.desk new result → Performs tells old (record old { desk = new }) p act.Release
+      (Some result)
   at-release new result a = record {
     suits = a.suits;
     gained = [];
@@ -251,11 +254,12 @@ module _ {S K A B F : Type 0} (tells : Tells S K A B F) (old : Shared S K A B F)
   }
 
   -- ---- at a device
-  card-fits : (r : Reply) → Rattle.batch_procs.specs.Fits.Fits act.ReadCard r → went (entry_of act.ReadCard (Some r)) ≡ Rattle.network_law.specs.Acts.Done
+  card-fits : (r : Reply Loaded) → Rattle.batch_procs.specs.Fits.Fits deck_jobs act.ReadCard r → went (entry_of act.ReadCard (Some r))
+      ≡ Rattle.network_law.specs.Acts.Done
   card-fits (reply.Card answer) fits = refl
   card-fits r fits = absurd fits
 
-  pub at-deck : (new : Held S) (r : Reply)
+  pub at-deck : (new : Held S) (r : Reply Loaded)
       → ReadsCard (items_ahead (tells.left old.deck.source) old.deck.pending) (items_ahead (tells.left new.source) new.pending) r
       → (0 < length (items_by r) → cards_left tells.taken new < cards_left tells.taken old.deck)
       → deck_total tells new ≡ deck_total tells old.deck
@@ -280,14 +284,14 @@ module _ {S K A B F : Type 0} (tells : Tells S K A B F) (old : Shared S K A B F)
     };
   }
 
-  print-fits : (line : List ℕ) (r : Reply) → Rattle.batch_procs.specs.Fits.Fits (act.Print line) r
+  print-fits : (line : List ℕ) (r : Reply Loaded) → Rattle.batch_procs.specs.Fits.Fits deck_jobs (act.Print line) r
       → went (entry_of (act.Print line) (Some r)) ≡ Rattle.network_law.specs.Acts.Done
   print-fits line reply.Done fits = refl
   print-fits line reply.Failed fits = refl
   print-fits line reply.NoMemory fits = refl
   print-fits line r fits = absurd fits
 
-  pub at-paper : (new : Printing K) (line : List ℕ) (r : Reply) → PrintsLine (tells.given old.paper.sink) (tells.given new.sink) line r
+  pub at-paper : (new : Printing K) (line : List ℕ) (r : Reply Loaded) → PrintsLine (tells.given old.paper.sink) (tells.given new.sink) line r
       → Performs tells old (record old { paper = new }) p (act.Print line) (Some r)
   at-paper new line r prints = record {
     suits = prints.suits;
@@ -309,14 +313,14 @@ module _ {S K A B F : Type 0} (tells : Tells S K A B F) (old : Shared S K A B F)
     };
   }
 
-  load-fits : (file : List ℕ) (r : Reply) → Rattle.batch_procs.specs.Fits.Fits (act.Load file) r
+  load-fits : (file : List ℕ) (r : Reply Loaded) → Rattle.batch_procs.specs.Fits.Fits deck_jobs (act.Load file) r
       → went (entry_of (act.Load file) (Some r)) ≡ Rattle.network_law.specs.Acts.Done
   load-fits file (reply.Loaded load) fits = refl
   load-fits file reply.Failed fits = refl
   load-fits file reply.NoMemory fits = refl
   load-fits file r fits = absurd fits
 
-  pub at-files : (new : FileTable F) (file : List ℕ) (r : Reply) → LoadsFile (files_found (tells.file_pages old.files.area)) file r
+  pub at-files : (new : FileTable F) (file : List ℕ) (r : Reply Loaded) → LoadsFile (files_found (tells.file_pages old.files.area)) file r
       → tells.file_pages new.area ≡ tells.file_pages old.files.area
       → Performs tells old (record old { files = new }) p (act.Load file) (Some r)
   at-files new file r loads left = record {
@@ -383,6 +387,6 @@ module _ {S K A B F : Type 0} (tells : Tells S K A B F) (old : Shared S K A B F)
   }
 
 -- ---- by what the action is
-pub at-action : {S K A B F : Type 0} (tells : Tells S K A B F) (old new : Shared S K A B F) (p : ℕ) (a b : Action) (result : Option Reply) → a ≡ b
+pub at-action : {S K A B F : Type 0} (tells : Tells S K A B F) (old new : Shared S K A B F) (p : ℕ) (a b : Action) (result : Option (Reply Loaded)) → a ≡ b
     → Performs tells old new p b result → Performs tells old new p a result
 at-action tells old new p a b result e is = subst (λ a. Performs tells old new p a result) (sym e) is

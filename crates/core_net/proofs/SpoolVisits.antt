@@ -16,6 +16,7 @@ use Rattle.network_law.specs.Acts.{Moves, Stops}
 use Rattle.network_law.specs.Buffer.{Buffer, after_stop, moved_through}
 use Rattle.core_net.specs.Calls.{Visited}
 use Rattle.core_net.specs.Spools.{page_parcel, told_inside, spool_buffer, SpoolStands}
+use Rattle.disk_system.specs.declared.loading.Loaded.{Loaded}
 
 -- ---- lists
 same-behind : {X : Type 0} (front a b : List X) → front ++ a ≡ front ++ b → a ≡ b
@@ -161,7 +162,7 @@ module _ {A : Type 0} (told_by : A → Option (List (List ℕ))) (s new : spool.
       → ((all : List (List ℕ)) → before ≡ Some all → map received_page taken ++ pages_inside all ring ≡ sent)
       → ((all : List (List ℕ)) → now ≡ Some all → map received_page (taken ++ got ∷ []) ++ pages_inside all ring' ≡ sent)
       → (option_map (drop 1) (told_inside before ring) ≡ told_inside now ring')
-      × ((inside : List Parcel) → told_inside before ring ≡ Some inside → inside ≡ OfPage record { 0 = got.page } got.last ∷ drop 1 inside)
+      × ((inside : List (Parcel Loaded)) → told_inside before ring ≡ Some inside → inside ≡ OfPage record { 0 = got.page } got.last ∷ drop 1 inside)
   take-told None now ring ring' marks sent taken got left in_order first old after = (rw left refl, λ inside e. absurd cc)
   take-told (Some all) now ring ring' marks sent taken got left in_order first old after =
       let is = take-inside taken (pages_inside all ring) (pages_inside all ring') sent got (old all refl) (after all left) in
@@ -180,14 +181,14 @@ module _ {A : Type 0} (told_by : A → Option (List (List ℕ))) (s new : spool.
   take-visited p page last e r first history =
       let got : Received = record { page = page.0; last = last } in
       let ring_is : new.ring ≡ without_first s.ring = ap (λ (s : spool.Spool A). s.ring) e in
-      let told = λ (b : Buffer Parcel) (st : SpoolStands told_by s b).
+      let told = λ (b : Buffer (Parcel Loaded)) (st : SpoolStands told_by s b).
       take-told (told_by s.area) (told_by new.area) s.ring new.ring s.ring.marks st.sent st.taken got r.left st.history.marks.in_order first st.history.pages
       (history st.sent st.taken st.stops st.history).pages in
       record {
         suits = tt;
         fits = λ b st. record {
-          marked = ap (λ (b : Buffer Parcel). b.marks) st.is ∙ first ∙ ap (λ (b : Buffer Parcel). last ∷ drop 1 b.marks) (sym st.is);
-          told = λ inside is. (told b st).1 inside (ap (λ (b : Buffer Parcel). b.inside) (sym st.is) ∙ is);
+          marked = ap (λ (b : Buffer (Parcel Loaded)). b.marks) st.is ∙ first ∙ ap (λ (b : Buffer (Parcel Loaded)). last ∷ drop 1 b.marks) (sym st.is);
+          told = λ inside is. (told b st).1 inside (ap (λ (b : Buffer (Parcel Loaded)). b.inside) (sym st.is) ∙ is);
         };
         after = λ b st. record {
           is = ap (moved_through is_last Receiver (OfPage page last)) st.is

@@ -19,9 +19,12 @@ use Rattle.core_net.specs.Causes.{Counts, HasCauses}
 use Rattle.core_net.specs.Shared.{Tells, SharedStands, Performs}
 use Rattle.core_net.specs.Steps.{is_end, Enters, Steps}
 use Rattle.core_net.specs.Turns.{HasPlace}
+use Rattle.disk_system.specs.declared.loading.Loaded.{Loaded}
+use Rattle.deck_work.specs.DeckJobs.{deck_jobs, deck_are_jobs}
 
 module _ {S K A B F : Type 0} (tells : Tells S K A B F) (old new : Shared S K A B F) (p : ℕ) where
-  pub enters : (action : Action) (result : Option Reply) → Performs tells old new p action result → Enters tells old new p action (entry_of action result)
+  pub enters : (action : Action) (result : Option (Reply Loaded)) → Performs tells old new p action result → Enters tells old new p action
+      (entry_of action result)
   enters action result is = record {
     gained = is.gained;
     deck = is.deck;
@@ -33,7 +36,7 @@ module _ {S K A B F : Type 0} (tells : Tells S K A B F) (old new : Shared S K A 
         is.after;
   }
 
-  pub enters-lacking : (action : Action) (r : Reply) → MayLack action r → Performs tells old new p action (Some r)
+  pub enters-lacking : (action : Action) (r : Reply Loaded) → MayLack action r → Performs tells old new p action (Some r)
       → Enters tells old new p action (LacksMemory action r)
   enters-lacking act.TakePage (reply.Page page last) may is =
       record { gained = is.gained; deck = is.deck; total = is.total; files = is.files; fits = is.fits; allowed = is.allowed; after = is.after }
@@ -49,13 +52,13 @@ pub next-is : (next : Option Action) (a r : Action) → NextIs next r → next �
 next-is None a r is e = absurd cc
 next-is (Some b) a r is e = (let same : b ≡ a = cc in sym same ∙ is)
 
-module _ {S K A B F : Type 0} (Stands : List Entry → Type 0) (tells : Tells S K A B F) (counts : Counts S K A B F) (old new : Shared S K A B F) (p : ℕ)
+module _ {S K A B F : Type 0} (Stands : List (Entry Loaded) → Type 0) (tells : Tells S K A B F) (counts : Counts S K A B F) (old new : Shared S K A B F) (p : ℕ)
     (a r : Action)
-    (h : List Entry) (same : a ≡ r) where
-  same-action : (result : Option Reply) → Performs tells old new p r result → Performs tells old new p a result
+    (h : List (Entry Loaded)) (same : a ≡ r) where
+  same-action : (result : Option (Reply Loaded)) → Performs tells old new p r result → Performs tells old new p a result
   same-action result is = subst (λ a. Performs tells old new p a result) (sym same) is
 
-  same-causes : (result : Option Reply) → HasCauses counts old new p r result → HasCauses counts old new p a result
+  same-causes : (result : Option (Reply Loaded)) → HasCauses counts old new p r result → HasCauses counts old new p a result
   same-causes result is = subst (λ a. HasCauses counts old new p a result) (sym same) is
 
   pub steps-delayed : Performs tells old new p r None → HasCauses counts old new p r None → (MayWait a → Stands (Delays a ∷ h))
@@ -72,16 +75,16 @@ module _ {S K A B F : Type 0} (Stands : List Entry → Type 0) (tells : Tells S 
       }
 
   module _ (ends again : Bool) (result : Stepped) (result-is : result ≡ stepped_so false ends again) (ends-is : ends ≡ is_end r)
-      (again-is : (s : CoreState) → SharedStands tells old s → HasPlace s p r → again ≡ is_again s (call p r)) where
-    told-so : (entry : Entry) → ((b : Action) → entry ≡ Delays b → ⊥) → (s : CoreState) → SharedStands tells old s → HasPlace s p a
+      (again-is : (s : CoreState Loaded) → SharedStands tells old s → HasPlace s p r → again ≡ is_again s (call p r)) where
+    told-so : (entry : Entry Loaded) → ((b : Action) → entry ≡ Delays b → ⊥) → (s : CoreState Loaded) → SharedStands tells old s → HasPlace s p a
         → result ≡ stepped_so (is_delayed (went entry)) (is_end a) (is_again s (call p a))
     told-so entry not s stood place =
         let ends_so : ends ≡ is_end a = ends-is ∙ ap is_end (sym same) in
         let again_so = again-is s stood (subst (HasPlace s p) same place) ∙ ap (λ a. is_again s (call p a)) (sym same) in
-        result-is ∙ same-stepped _ _ _ _ _ _ (sym (answered entry not)) ends_so again_so
+        result-is ∙ same-stepped _ _ _ _ _ _ (sym (answered deck_are_jobs entry not)) ends_so again_so
 
-    pub steps-acted : (reply : Reply) → Performs tells old new p r (Some reply) → HasCauses counts old new p r (Some reply)
-        → (Fits a reply → Stands (Does a reply ∷ h)) → Steps Stands tells counts old new p a h result
+    pub steps-acted : (reply : Reply Loaded) → Performs tells old new p r (Some reply) → HasCauses counts old new p r (Some reply)
+        → (Fits deck_jobs a reply → Stands (Does a reply ∷ h)) → Steps Stands tells counts old new p a h result
     steps-acted reply is causes stands =
         let own = same-action (Some reply) is in
         record {
@@ -93,8 +96,8 @@ module _ {S K A B F : Type 0} (Stands : List Entry → Type 0) (tells : Tells S 
           causes = same-causes (Some reply) causes;
         }
 
-    pub steps-lacking : (reply : Reply) → Performs tells old new p r (Some reply) → HasCauses counts old new p r (Some reply)
-        → (Fits a reply → Stands (LacksMemory a reply ∷ h)) → (Stands (LacksMemory a reply ∷ h) → MayLack a reply)
+    pub steps-lacking : (reply : Reply Loaded) → Performs tells old new p r (Some reply) → HasCauses counts old new p r (Some reply)
+        → (Fits deck_jobs a reply → Stands (LacksMemory a reply ∷ h)) → (Stands (LacksMemory a reply ∷ h) → MayLack a reply)
         → Steps Stands tells counts old new p a h result
     steps-lacking reply is causes stands lack =
         let own = same-action (Some reply) is in

@@ -7,7 +7,6 @@ use Rattle.batch_job.specs.Report.{Loads}
 use Rattle.disk_files.specs.Answers.{FileTable}
 use Rattle.solo_devices.specs.CardUnit.{Held, items_ahead, bytes_total, IsAllTaken}
 use Rattle.solo_devices.specs.PrinterUnit.{Printing}
-use Rattle.page_codec.specs.Items.{AreItems}
 use Rattle.network_run.specs.declared.counts.Counts.{Counts}
 use Rattle.network_run.specs.declared.rules.Rule.{Rule}
 use Rattle.network_run.specs.Counting.{raised}
@@ -23,12 +22,14 @@ use Rattle.core_law.proofs.Bounded.{no-run_longer}
 use Rattle.core_net.specs.declared.finish.Outcomes.{Outcomes}
 use Rattle.core_net.specs.declared.net.Net.{Net}
 use Rattle.core_net.specs.Ended.{EndsSo}
-use Rattle.core_net.specs.Openings.{files_found}
 use Rattle.core_net.specs.Net.{Keeps, NetStands, StandsWithin}
 use Rattle.core_net.specs.Shared.{Tells}
 use Rattle.core_net.specs.WholeRuns.{RunsToEnd}
+use Rattle.disk_system.specs.declared.loading.Loaded.{Loaded}
+use Rattle.deck_work.specs.DeckJobs.{files_found, deck_jobs, deck_are_jobs}
 
-same-told : (devices : Devices) (deck : Option (List Item)) (paper : Option (List ℕ)) (files : Option Loads) → devices.deck ≡ deck → devices.paper ≡ paper
+same-told : (devices : Devices Loaded) (deck : Option (List Item)) (paper : Option (List ℕ)) (files : Option Loads) → devices.deck ≡ deck
+    → devices.paper ≡ paper
     → devices.files ≡ files → devices ≡ record { deck = deck; paper = paper; files = files }
 same-told devices deck paper files a b c = rw (sym a, sym b, sym c) refl
 
@@ -65,20 +66,23 @@ all-taken (Some bytes) now taken_before taken_now pending total reads = λ rest 
 
 module _ {S K A B F : Type 0} (keeps : Keeps) (tells : Tells S K A B F) where
   -- over told devices it is no longer than its deck allows
-  pub run-bounded : (rule : Rule) (net : Net S K A B F) (o : Opening) (s : CoreState) (counts : Counts) (items : List Item) (found : Loads) → IsReached o s
-      → AreTold o.spools → o.deck ≡ Some items → AreItems items → AreFound o.files found items
-      → RunsBy the_law (StandsWithin keeps tells net) rule s counts → counts.events ≤ longest_run found items
-  run-bounded rule net o s counts items found reached told deck_is are are_found ran =
-      let few = no-run_longer o s items found ran.events reached told deck_is are are_found ran.enabled in
+  pub run-bounded : (rule : Rule) (net : Net S K A B F) (o : Opening deck_jobs) (s : CoreState Loaded) (counts : Counts) (items : List Item) (found : Loads)
+      → IsReached o s
+      → AreTold o.spools → o.deck ≡ Some items → AreFound deck_jobs o.files found items
+      → RunsBy (the_law deck_jobs) (StandsWithin keeps tells net) rule s counts → counts.events ≤ longest_run deck_jobs found items
+  run-bounded rule net o s counts items found reached told deck_is are_found ran =
+      let few = no-run_longer deck_are_jobs o s items found ran.events reached told deck_is are_found ran.enabled in
       let most = raised-few (length ran.events) in
-      bounded counts.events (raised 0 (length ran.events)) (length ran.events) (longest_run found items) (ap (λ (c : Counts). c.events) ran.counts_are) most few
+      bounded counts.events (raised 0 (length ran.events)) (length ran.events) (longest_run deck_jobs found items)
+      (ap (λ (c : Counts). c.events) ran.counts_are) most few
     where
       bounded : (n m long most : ℕ) → n ≡ m → m ≤ long → long ≤ most → n ≤ most
       bounded n m long most a b c = omega (arith, a, b, c)
 
   -- how a run went, once it has ended, told without its network
-  pub runs-to-end : (rule : Rule) (net : Net S K A B F) (s : CoreState) (counts : Counts) → RunsBy the_law (StandsWithin keeps tells net) rule s counts
-      → (outcomes : Outcomes) (stops : List (Option Side)) → ((s : CoreState) → NetStands keeps tells net s → EndsSo s outcomes stops)
+  pub runs-to-end : (rule : Rule) (net : Net S K A B F) (s : CoreState Loaded) (counts : Counts) → RunsBy (the_law deck_jobs)
+      (StandsWithin keeps tells net) rule s counts
+      → (outcomes : Outcomes) (stops : List (Option Side)) → ((s : CoreState Loaded) → NetStands keeps tells net s → EndsSo s outcomes stops)
       → (deck : Held S) (paper : Printing K) (files : FileTable F) → deck ≡ net.shared.deck → paper ≡ net.shared.paper → files ≡ net.shared.files
       → RunsToEnd rule s counts outcomes stops record {
         deck = items_ahead (tells.left deck.source) deck.pending;
@@ -90,9 +94,9 @@ module _ {S K A B F : Type 0} (keeps : Keeps) (tells : Tells S K A B F) where
     enabled = ran.enabled;
     by_rule = ran.by_rule;
     counts_are = ran.counts_are;
-    ends = ends (run the_law s ran.events) ran.stands.is;
+    ends = ends (run (the_law deck_jobs) s ran.events) ran.stands.is;
     devices_are =
-        same-told (run the_law s ran.events).devices _ _ _
+        same-told (run (the_law deck_jobs) s ran.events).devices _ _ _
         (ran.stands.is.shared.deck ∙ ap (λ (d : Held S). items_ahead (tells.left d.source) d.pending) (sym deck_is))
         (ran.stands.is.shared.paper ∙ ap (λ (d : Printing K). tells.given d.sink) (sym paper_is))
         (ran.stands.is.shared.files ∙ ap (λ (t : FileTable F). files_found (tells.file_pages t.area)) (sym files_are));

@@ -8,6 +8,7 @@ use Rattle.batch_procs.specs.declared.actions.Action.TheVariants as act
 use Rattle.batch_procs.specs.declared.actions.Reply.{Reply}
 use Rattle.batch_procs.specs.declared.actions.Reply.TheVariants as reply
 use Rattle.core_net.specs.declared.shared.Shared.{Shared}
+use Rattle.disk_system.specs.declared.loading.Loaded.{Loaded}
 
 -- what the devices count: the faults of each, and the bytes that were taken of the source
 pub record Counts (S K A B F : Type 0) : Type 0 where
@@ -52,7 +53,7 @@ IsLoad action = ⊥
 
 -- Each failure was counted by its own device, and the limit is told where too many bytes were taken.
 pub record HasCauses {S K A B F : Type 0} (counts : Counts S K A B F) (old new : Shared S K A B F) (p : ℕ)
-    (action : Action) (result : Option Reply) : Type 0 where
+    (action : Action) (result : Option (Reply Loaded)) : Type 0 where
   pub read : result ≡ Some (reply.Card card_read.Failed)
       → Rose (counts.read_faults old.deck.source) (counts.read_faults new.deck.source)
   pub limit : result ≡ Some (reply.Card card_read.Limit) → byte_limit < counts.taken new.deck.source

@@ -16,12 +16,14 @@ use Rattle.core_net.specs.declared.finish.Outcomes.{Outcomes}
 use Rattle.core_net.specs.declared.net.Net.{Net}
 use Rattle.core_net.specs.Shared.{Tells}
 use Rattle.core_net.specs.Net.{Keeps, IsPlaced}
+use Rattle.disk_system.specs.declared.loading.Loaded.{Loaded}
+use Rattle.deck_work.specs.DeckJobs.{deck_jobs}
 
 -- The network stands for some reached state in which all five have ended.
 pub record HaveEnded {S K A B F : Type 0} (keeps : Keeps) (tells : Tells S K A B F)
     (net : Net S K A B F) : Type 0 where
   pub at : IsPlaced keeps tells net
-  pub all : AllEnded the_law at.state
+  pub all : AllEnded (the_law deck_jobs) at.state
 
 -- the outcome of a process, by its number
 abbrev pub outcome_at : Outcomes → ℕ → Outcome
@@ -43,7 +45,7 @@ all_done = record {
 }
 
 -- the sides that stopped the four buffers first
-abbrev pub sides_of : CoreState → List (Option Side)
+abbrev pub sides_of : CoreState Loaded → List (Option Side)
 sides_of s =
     stopped_by (s.buffers 1).sides ∷ stopped_by (s.buffers 2).sides ∷ stopped_by (s.buffers 3).sides
     ∷ stopped_by (s.buffers 4).sides ∷ []
@@ -54,7 +56,7 @@ none_stopped = None ∷ None ∷ None ∷ None ∷ []
 
 -- Each process ended so in this state, one that isn't done by an entry that gave it that cause, and the
 -- buffers were first stopped by these sides.
-pub record EndsSo (s : CoreState) (outcomes : Outcomes) (stops : List (Option Side)) : Type 0 where
+pub record EndsSo (s : CoreState Loaded) (outcomes : Outcomes) (stops : List (Option Side)) : Type 0 where
   pub ended : (p : ℕ) → IsProcess p → HasEndedSo s (outcome_at outcomes p) p
   pub given : (p : ℕ) (how : Outcome) → IsProcess p → outcome_at outcomes p ≡ how → IsNotDone (Some how)
       → GivenBy (s.histories p) how

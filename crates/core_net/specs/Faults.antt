@@ -14,6 +14,7 @@ use Rattle.core_net.specs.declared.shared.Shared.{Shared}
 use Rattle.core_net.specs.Causes.{Counts}
 use Rattle.core_net.specs.Net.{Keeps, NetStands}
 use Rattle.core_net.specs.Shared.{Tells}
+use Rattle.disk_system.specs.declared.loading.Loaded.{Loaded}
 
 -- what the deck is read from, what the paper is printed on, and the areas of the two spools and of the files
 pub record Peripherals (S K A B F : Type 0) : Type 0 where
@@ -75,7 +76,7 @@ FaultsAreCounted counts before ran = AreCounted counts before (devices_left ran)
 
 -- ---- on the way there
 -- how each of the five ends with the cause to stop that it has in this state, or with none
-abbrev pub outcomes_in : CoreState → Outcomes
+abbrev pub outcomes_in : CoreState Loaded → Outcomes
 outcomes_in s = record {
   card = outcome_by (caused (s.histories 1));
   input = outcome_by (caused (s.histories 2));
@@ -87,5 +88,5 @@ outcomes_in s = record {
 -- The faults of each state that the network stands for were counted since.
 abbrev pub CausesAreCounted : {S K A B F : Type 0} → Keeps → Tells S K A B F → Counts S K A B F
     → Peripherals S K A B F → Net S K A B F → Type 0
-CausesAreCounted keeps tells counts before net = (s : CoreState) → NetStands keeps tells net s
+CausesAreCounted keeps tells counts before net = (s : CoreState Loaded) → NetStands keeps tells net s
     → AreCounted counts before (devices_of net.shared) (outcomes_in s)

@@ -9,6 +9,7 @@ use Rattle.core_net.specs.Faults.{Peripherals, CausesAreCounted}
 use Rattle.core_net.specs.Net.{Keeps}
 use Rattle.core_net.specs.Shared.{Tells, cards_left, deck_total}
 use Rattle.core_net.specs.Steps.{reply_of}
+use Rattle.disk_system.specs.declared.loading.Loaded.{Loaded}
 
 -- The faults that were counted so far are, the deck has as many bytes in all, and no file changes.
 pub record KeepsAll {S K A B F : Type 0} (keeps : Keeps) (tells : Tells S K A B F) (counts : Counts S K A B F)
@@ -20,7 +21,7 @@ pub record KeepsAll {S K A B F : Type 0} (keeps : Keeps) (tells : Tells S K A B 
 
 -- A failure comes from its own device, and the deck has fewer cards to give where it gave one.
 pub record MovesBy {S K A B F : Type 0} (keeps : Keeps) (tells : Tells S K A B F) (counts : Counts S K A B F)
-    (old : Net S K A B F) (event : CoreEvent) (new : Net S K A B F) : Type 0 where
+    (old : Net S K A B F) (event : CoreEvent Loaded) (new : Net S K A B F) : Type 0 where
   pub causes : HasCauses counts old.shared new.shared event.process (action_of event.entry)
       (reply_of event.entry)
   pub deck : LeavesFewer event.entry (cards_left tells.taken old.shared.deck)

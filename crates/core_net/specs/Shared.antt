@@ -17,8 +17,9 @@ use Rattle.core_law.specs.Work.{LeavesFewer}
 use Rattle.core_net.specs.declared.shared.Shared.{Shared}
 use Rattle.core_law.specs.Replies.{entry_of, ReplyFits}
 use Rattle.core_net.specs.Lines.{LineStands}
-use Rattle.core_net.specs.Openings.{files_found}
 use Rattle.core_net.specs.Spools.{SpoolStands}
+use Rattle.disk_system.specs.declared.loading.Loaded.{Loaded}
+use Rattle.deck_work.specs.DeckJobs.{files_found, deck_jobs}
 
 -- what the devices tell: what is left of a source and how many bytes were taken of it, what a sink was given,
 -- and the pages of the two areas of the spools and of that of the files
@@ -52,7 +53,7 @@ abbrev pub deck_total : {S K A B F : Type 0} → Tells S K A B F → Held S → 
 deck_total tells deck = bytes_total (tells.taken deck.source) (tells.left deck.source)
 
 pub record SharedStands {S K A B F : Type 0} (tells : Tells S K A B F) (shared : Shared S K A B F)
-    (s : CoreState) : Type 0 where
+    (s : CoreState Loaded) : Type 0 where
   pub deck : s.devices.deck ≡ items_ahead (tells.left shared.deck.source) shared.deck.pending
   pub paper : s.devices.paper ≡ tells.given shared.paper.sink
   pub files : s.devices.files ≡ files_found (tells.file_pages shared.files.area)
@@ -115,17 +116,18 @@ MayPerform shared p (act.Ended how) = Unit {0}
 -- It goes as the law allows in each state that is stood for, and what is shared stands for the state behind
 -- it.
 pub record Performs {S K A B F : Type 0} (tells : Tells S K A B F) (old new : Shared S K A B F) (p : ℕ)
-    (action : Action) (result : Option Reply) : Type 0 where
-  pub suits : ReplyFits action result
+    (action : Action) (result : Option (Reply Loaded)) : Type 0 where
+  pub suits : ReplyFits deck_jobs action result
   pub gained : List ℕ
   pub deck : LeavesFewer (entry_of action result) (cards_left tells.taken old.deck)
       (cards_left tells.taken new.deck)
   pub total : deck_total tells new.deck ≡ deck_total tells old.deck
   pub files : tells.file_pages new.files.area ≡ tells.file_pages old.files.area
-  pub fits : (s : CoreState) → SharedStands tells old s
+  pub fits : (s : CoreState Loaded) → SharedStands tells old s
       → Fits is_last s (call p action) (went (entry_of action result))
-  pub allowed : (s : CoreState) → SharedStands tells old s → Allows s.devices (entry_of action result) gained
-  pub after : (s : CoreState) (histories : ℕ → List Entry) → SharedStands tells old s
+  pub allowed : (s : CoreState Loaded) → SharedStands tells old s
+      → Allows s.devices (entry_of action result) gained
+  pub after : (s : CoreState Loaded) (histories : ℕ → List (Entry Loaded)) → SharedStands tells old s
       → SharedStands tells new record {
         devices = given s.devices (entry_of action result) gained;
         histories = histories;

@@ -10,14 +10,16 @@ use Rattle.core_law.specs.Core.{CoreState, CoreEvent, Devices}
 use Rattle.core_law.specs.TheLaw.{the_law}
 use Rattle.core_net.specs.declared.finish.Outcomes.{Outcomes}
 use Rattle.core_net.specs.Ended.{EndsSo}
+use Rattle.disk_system.specs.declared.loading.Loaded.{Loaded}
+use Rattle.deck_work.specs.DeckJobs.{deck_jobs}
 
 -- Enabled events by the rule, which come to these counts. Behind them all five have ended with these
 -- outcomes, the buffers were first stopped by these sides, and the deck and the paper are as told.
-pub record RunsToEnd (rule : Rule) (s : CoreState) (counts : Counts) (outcomes : Outcomes)
-    (stops : List (Option Side)) (devices : Devices) : Type 0 where
-  pub events : List CoreEvent
-  pub enabled : AreEnabled the_law s events
-  pub by_rule : AreByRule the_law rule s events
-  pub counts_are : counts ≡ counts_of the_law s events
-  pub ends : EndsSo (run the_law s events) outcomes stops
-  pub devices_are : (run the_law s events).devices ≡ devices
+pub record RunsToEnd (rule : Rule) (s : CoreState Loaded) (counts : Counts) (outcomes : Outcomes)
+    (stops : List (Option Side)) (devices : Devices Loaded) : Type 0 where
+  pub events : List (CoreEvent Loaded)
+  pub enabled : AreEnabled (the_law deck_jobs) s events
+  pub by_rule : AreByRule (the_law deck_jobs) rule s events
+  pub counts_are : counts ≡ counts_of (the_law deck_jobs) s events
+  pub ends : EndsSo (run (the_law deck_jobs) s events) outcomes stops
+  pub devices_are : (run (the_law deck_jobs) s events).devices ≡ devices

@@ -4,7 +4,6 @@ ghost use Rattle.solo_base.specs.declared.item.Item.{Item};
 ghost use Rattle.solo_base.specs.Text.{text};
 ghost use Rattle.solo_devices.specs.CardUnit.{items_ahead, bytes_total, IsAllTaken};
 ghost use Rattle.solo_devices.specs.PrinterUnit.{Gains};
-ghost use Rattle.page_codec.specs.Items.{AreItems};
 ghost use Rattle.core_law.specs.Bound.{longest_run};
 ghost use Rattle.batch_job.specs.Report.{Loads};
 ghost use Rattle.batch_job.specs.OneThread.{one_thread_lines};
@@ -13,8 +12,9 @@ ghost use Rattle.core_law.specs.Opening.{opened};
 ghost use Rattle.core_net.specs.Causes.{counting};
 ghost use Rattle.core_net.specs.Ended.{all_done, EndTogether, FaultsAre, NoneDamaged};
 ghost use Rattle.core_net.specs.Faults.{FaultsAreCounted};
-ghost use Rattle.core_net.specs.Openings.{spools_over, files_found};
+ghost use Rattle.core_net.specs.Openings.{spools_over};
 ghost use Rattle.core_net.specs.WholeRuns.{RunsToEnd};
+ghost use Rattle.deck_work.specs.DeckJobs.{files_found, deck_jobs};
 
 use crate::{Net, Ran};
 use disk_files::FileArea;
@@ -62,8 +62,8 @@ pub fn run_core<S: Source, K: Sink, A: Area, B: Area, F: Area>(
     // The paper gained what one thread prints or a part of it, all of it where all are done, and then nothing
     // is left of the deck.
     ensures prints { (items : List Item) (found : Loads) →
-        items_ahead (S.left source) [] ≡ Some items → AreItems items →
-        AreFound (files_found (F.pages files.area)) found items →
+        items_ahead (S.left source) [] ≡ Some items →
+        AreFound deck_jobs (files_found (F.pages files.area)) found items →
         AreTold (spools_over (A.size input) (A.pages input) (B.size output) (B.pages output)) →
         Gains (K.given sink) (K.given result.0.paper.sink)
         (text (one_thread_lines found items)) (result.0.outcomes ≡ all_done) }
@@ -77,17 +77,16 @@ pub fn run_core<S: Source, K: Sink, A: Area, B: Area, F: Area>(
     // No file is changed.
     ensures files { F.pages result.0.files.area ≡ F.pages files.area }
 
-    // Over told devices no page was damaged, and there were no more events than the cards and lines of the
-    // deck allow.
-    ensures undamaged { (items : List Item) →
-        items_ahead (S.left source) [] ≡ Some items → AreItems items →
-        AreTold (spools_over (A.size input) (A.pages input) (B.size output) (B.pages output)) →
+    // Over told spools no page was damaged, and over told devices there were no more events than the cards
+    // and lines of the deck allow.
+    ensures undamaged { AreTold
+        (spools_over (A.size input) (A.pages input) (B.size output) (B.pages output)) →
         NoneDamaged result.0.outcomes }
     ensures bound { (items : List Item) (found : Loads) →
-        items_ahead (S.left source) [] ≡ Some items → AreItems items →
-        AreFound (files_found (F.pages files.area)) found items →
+        items_ahead (S.left source) [] ≡ Some items →
+        AreFound deck_jobs (files_found (F.pages files.area)) found items →
         AreTold (spools_over (A.size input) (A.pages input) (B.size output) (B.pages output)) →
-        result.1.events ≤ longest_run found items }
+        result.1.events ≤ longest_run deck_jobs found items }
 {
     let mut net = Net::make(alloc, source, input, output, sink, files);
     let counts = net.run_by(rule);

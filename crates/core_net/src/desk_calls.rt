@@ -3,11 +3,12 @@ ghost use Rattle.resource_mon.specs.Claims.{MayRequest};
 ghost use Rattle.core_net.specs.Desks.{Asked, Given};
 
 use batch_procs::Reply;
+use disk_system::Loaded;
 use resource_mon::{Grant, Resource};
 use solo_base::ProcNo;
 
 /// Asks for the disk, or resumes where the turn is handed to the process. No reply: the process waits.
-pub fn request<const N: usize>(desk: &mut Resource<N>, p: ProcNo) -> Option<Reply>
+pub fn request<const N: usize>(desk: &mut Resource<N>, p: ProcNo) -> Option<Reply<Loaded>>
     requires may { MayRequest desk.old p }
     requires room { length desk.old.waiting < N }
     ensures { Asked desk.old desk.new p result }
@@ -22,7 +23,7 @@ pub fn request<const N: usize>(desk: &mut Resource<N>, p: ProcNo) -> Option<Repl
 }
 
 /// Asks for the disk while no turn is handed.
-fn grant<const N: usize>(desk: &mut Resource<N>, p: ProcNo) -> Option<Reply>
+fn grant<const N: usize>(desk: &mut Resource<N>, p: ProcNo) -> Option<Reply<Loaded>>
     requires free { desk.old.handed ≡ None }
     requires may { MayRequest desk.old p }
     requires room { length desk.old.waiting < N }
@@ -35,7 +36,7 @@ fn grant<const N: usize>(desk: &mut Resource<N>, p: ProcNo) -> Option<Reply>
 }
 
 /// Gives the disk back.
-pub fn release<const N: usize>(desk: &mut Resource<N>) -> Reply
+pub fn release<const N: usize>(desk: &mut Resource<N>) -> Reply<Loaded>
     requires held { IsSome desk.old.holder }
     requires free { desk.old.handed ≡ None }
     ensures { Given desk.old desk.new result }

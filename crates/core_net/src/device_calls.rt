@@ -1,22 +1,23 @@
 ghost use Rattle.std.specs.Prelude.{◌≡◌, ◌≤◌, ◌<◌, ◌≢◌, ◌↔◌, true, Some, ℕ, length};
 ghost use Rattle.solo_devices.specs.Count.{Rose};
-ghost use Rattle.solo_devices.specs.CardUnit.{items_ahead, byte_limit, bytes_total, IsAllTaken};
+ghost use Rattle.solo_devices.specs.CardUnit.{items_ahead, item_of, byte_limit, bytes_total, IsAllTaken};
+ghost use Rattle.page_codec.specs.Items.{AreItems};
 ghost use Rattle.solo_devices.specs.declared.card_read.CardRead.TheVariants as card_read;
 ghost use Rattle.batch_procs.specs.declared.actions.Reply.TheVariants as reply;
 ghost use Rattle.core_law.specs.Core.{items_by};
 ghost use Rattle.core_net.specs.Devices.{ReadsCard, PrintsLine, LoadsFile};
-ghost use Rattle.core_net.specs.Openings.{files_found};
+ghost use Rattle.deck_work.specs.DeckJobs.{files_found};
 ghost use Rattle.core_net.specs.Shared.{cards_left};
 
 use batch_procs::Reply;
 use disk_files::FileArea;
-use disk_system::{LoadFault, load_job};
+use disk_system::{LoadFault, Loaded, load_job};
 use solo_base::{Ident, Line};
 use solo_devices::{Area, CardRead, CardUnit, PrintFault, PrinterUnit, Sink, Source};
 use std::alloc::Global;
 
 /// Reads the next card of the deck.
-pub fn read_card<S: Source>(deck: &mut CardUnit<S>) -> Reply
+pub fn read_card<S: Source>(deck: &mut CardUnit<S>) -> Reply<Loaded>
     requires live { deck.old.live ≡ true }
     ensures reads { ReadsCard (items_ahead (S.left deck.old.source) deck.old.pending)
         (items_ahead (S.left deck.new.source) deck.new.pending) result }
@@ -31,11 +32,28 @@ pub fn read_card<S: Source>(deck: &mut CardUnit<S>) -> Reply
     ensures live { result ≢ reply.Card card_read.Failed → result ≢ reply.Card card_read.Limit
         → deck.new.live ≡ true }
 {
-    Reply::Card(deck.read())
+    let answer = deck.read();
+    is_item(&answer);
+    Reply::Card(answer)
+}
+
+/// A card that is read is an item. Nothing is done here: the contract tells it of the line.
+pub fn is_item(answer: &CardRead)
+    ensures { AreItems (item_of answer.now) }
+{
+    match answer {
+        CardRead::Card(line) => {
+            let _ = line.bytes();
+        }
+        CardRead::Spoiled => {}
+        CardRead::End => {}
+        CardRead::Failed => {}
+        CardRead::Limit => {}
+    }
 }
 
 /// Prints a line.
-pub fn print<K: Sink>(paper: &mut PrinterUnit<K>, line: &Line) -> Reply
+pub fn print<K: Sink>(paper: &mut PrinterUnit<K>, line: &Line) -> Reply<Loaded>
     requires live { paper.old.live ≡ true }
     ensures prints { PrintsLine (K.given paper.old.sink) (K.given paper.new.sink) line.now result }
     ensures failed { result ≡ reply.Failed → Rose (K.faults paper.old.sink) (K.faults paper.new.sink) }
@@ -50,7 +68,7 @@ pub fn print<K: Sink>(paper: &mut PrinterUnit<K>, line: &Line) -> Reply
 }
 
 /// Loads the program of a job from the file of this name. It changes no file.
-pub fn load_file<F: Area>(alloc: Global, files: &mut FileArea<F>, file: &Ident) -> Reply
+pub fn load_file<F: Area>(alloc: Global, files: &mut FileArea<F>, file: &Ident) -> Reply<Loaded>
     requires sound { files.old.sound ≡ true }
     ensures loads { LoadsFile (files_found (F.pages files.old.area)) file.now result }
     ensures failed { result ≡ reply.Failed → Rose (F.faults files.old.area) (F.faults files.new.area) }

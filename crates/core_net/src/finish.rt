@@ -4,7 +4,6 @@ ghost use Rattle.batch_job.specs.Report.{Loads};
 ghost use Rattle.solo_base.specs.Text.{text};
 ghost use Rattle.solo_devices.specs.CardUnit.{items_ahead};
 ghost use Rattle.solo_devices.specs.PrinterUnit.{Gains};
-ghost use Rattle.page_codec.specs.Items.{AreItems};
 ghost use Rattle.batch_procs.specs.Causes.{caused};
 ghost use Rattle.batch_procs.specs.History.{Entry};
 ghost use Rattle.batch_procs.specs.Machine.{StandsFor};
@@ -17,9 +16,12 @@ ghost use Rattle.core_net.specs.Faults.{Peripherals, CausesAreCounted, FaultsAre
 ghost use Rattle.core_net.specs.Net.{NetStands, IsPlaced, the_keeps};
 ghost use Rattle.core_net.specs.Shared.{telling};
 ghost use Rattle.core_net.specs.Ended.{HaveEnded, EndsSo, EndTogether, FaultsAre, NoneDamaged, all_done};
+ghost use Rattle.disk_system.specs.declared.loading.Loaded.{Loaded};
+ghost use Rattle.deck_work.specs.DeckJobs.{deck_jobs};
 
 use crate::{Net, Shared};
 use batch_procs::{Machine, Work};
+use deck_work::DeckWork;
 use disk_files::FileArea;
 use solo_base::{Outcome, Side};
 use solo_devices::{Area, CardUnit, PrinterUnit, Sink, Source};
@@ -54,7 +56,7 @@ impl<S: Source, K: Sink, A: Area, B: Area, F: Area> Net<S, K, A, B, F> {
             (telling S.left S.taken K.given A.pages B.pages F.pages) self }
 
         // In every state that it stands for.
-        ensures ends { (s : CoreState) →
+        ensures ends { (s : CoreState Loaded) →
             NetStands the_keeps
             (telling S.left S.taken K.given A.pages B.pages F.pages) self s →
             EndsSo s result.outcomes result.stopped_by }
@@ -70,7 +72,7 @@ impl<S: Source, K: Sink, A: Area, B: Area, F: Area> Net<S, K, A, B, F> {
         ensures prints { (at : IsPlaced the_keeps
             (telling S.left S.taken K.given A.pages B.pages F.pages) self) →
             AreTold at.opening.spools → (items : List Item) (found : Loads) →
-            at.opening.deck ≡ Some items → AreItems items → AreFound at.opening.files found items →
+            at.opening.deck ≡ Some items → AreFound deck_jobs at.opening.files found items →
             Gains at.opening.paper (K.given result.paper.sink) (text (one_thread_lines found items))
             (result.outcomes ≡ all_done) }
         ensures reads { (at : IsPlaced the_keeps
@@ -80,8 +82,7 @@ impl<S: Source, K: Sink, A: Area, B: Area, F: Area> Net<S, K, A, B, F> {
         // and no page was damaged
         ensures undamaged { (at : IsPlaced the_keeps
             (telling S.left S.taken K.given A.pages B.pages F.pages) self) →
-            AreTold at.opening.spools → (items : List Item) → at.opening.deck ≡ Some items → AreItems items →
-            NoneDamaged result.outcomes }
+            AreTold at.opening.spools → NoneDamaged result.outcomes }
         ensures units { (result.deck ≡ self.shared.deck) × (result.paper ≡ self.shared.paper) }
         ensures files { result.files ≡ self.shared.files }
         ensures areas { (result.input ≡ self.shared.input.area) × (result.output ≡ self.shared.output.area) }
@@ -130,8 +131,9 @@ impl<S: Source, K: Sink, A: Area, B: Area, F: Area> Net<S, K, A, B, F> {
 }
 
 // How a process ended, by its cause.
-fn outcome<W: Work>(machine: &Machine<W>) -> Outcome
-    ensures { (h : List Entry) → StandsFor W.process W.keeps machine.now h → result ≡ outcome_by (caused h) }
+fn outcome<W: Work<DeckWork>>(machine: &Machine<DeckWork, W>) -> Outcome
+    ensures { (h : List (Entry Loaded)) → StandsFor deck_jobs W.process W.keeps machine.now h
+        → result ≡ outcome_by (caused h) }
 {
     match machine.cause() {
         Some(cause) => cause,

@@ -15,7 +15,7 @@ mod turns;
 
 pub use core_run::run_core;
 pub use desk_calls::{release, request};
-pub use device_calls::{load_file, print, read_card};
+pub use device_calls::{is_item, load_file, print, read_card};
 pub use finish::{Outcomes, Ran};
 pub use line_calls::{put_feed, stop_line, take_feed};
 pub use net::Net;

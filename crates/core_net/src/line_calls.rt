@@ -9,11 +9,12 @@ ghost use Rattle.core_net.specs.Calls.{Visited};
 ghost use Rattle.core_net.specs.Lines.{LineStands};
 
 use batch_procs::Reply;
+use disk_system::Loaded;
 use slot_buffer::{LineBuffer, Put, Take};
 use solo_base::{BufferNo, Feed, ProcNo, Side};
 
 /// Puts what is handed over into a line buffer. No reply: the process waits.
-pub fn put_feed(buffer: &mut LineBuffer, p: ProcNo, feed: Feed) -> Option<Reply>
+pub fn put_feed(buffer: &mut LineBuffer, p: ProcNo, feed: Feed) -> Option<Reply<Loaded>>
     requires may_enter { MayEnter buffer.old.sides Sender p }
     requires not_stopped { has_stopped buffer.old.sides Sender ≡ false }
     ensures { Visited LineStands buffer.old buffer.new Sender Passes p (act.PutFeed feed) result }
@@ -26,7 +27,7 @@ pub fn put_feed(buffer: &mut LineBuffer, p: ProcNo, feed: Feed) -> Option<Reply>
 }
 
 /// Takes what is handed over from a line buffer. No reply: the process waits.
-pub fn take_feed(buffer: &mut LineBuffer, p: ProcNo) -> Option<Reply>
+pub fn take_feed(buffer: &mut LineBuffer, p: ProcNo) -> Option<Reply<Loaded>>
     requires may_enter { MayEnter buffer.old.sides Receiver p }
     requires not_stopped { has_stopped buffer.old.sides Receiver ≡ false }
     ensures { Visited LineStands buffer.old buffer.new Receiver Passes p act.TakeFeed result }
@@ -39,7 +40,7 @@ pub fn take_feed(buffer: &mut LineBuffer, p: ProcNo) -> Option<Reply>
 }
 
 /// Stops a line buffer, which has this number, at a side.
-pub fn stop_line(buffer: &mut LineBuffer, number: BufferNo, side: Side) -> Reply
+pub fn stop_line(buffer: &mut LineBuffer, number: BufferNo, side: Side) -> Reply<Loaded>
     requires free { buffer.old.sides.turn ≡ Free }
     requires nobody_waits { queue buffer.old.sides side ≡ None }
     ensures { (p : ℕ)

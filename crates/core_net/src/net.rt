@@ -5,17 +5,19 @@ ghost use Rattle.core_law.specs.Work.{events_left};
 ghost use Rattle.core_law.proofs.Law.{sound, sure};
 ghost use Rattle.core_law.proofs.WorkFalls.{work-falls};
 ghost use Rattle.solo_devices.specs.CardUnit.{items_ahead};
-ghost use Rattle.core_net.specs.Openings.{spools_over, files_found};
+ghost use Rattle.core_net.specs.Openings.{spools_over};
 ghost use Rattle.core_net.specs.Causes.{counting};
 ghost use Rattle.core_net.specs.Faults.{devices_of, CausesAreCounted};
 ghost use Rattle.core_net.specs.Moves.{KeepsAll, MovesBy};
 ghost use Rattle.core_net.specs.Shared.{cards_left, telling};
 ghost use Rattle.core_net.specs.Net.{the_keeps, StandsWithin, StandsAtOpening};
+ghost use Rattle.deck_work.specs.DeckJobs.{files_found, deck_jobs, deck_are_jobs};
 
 use crate::Shared;
 use crate::step::step_machine;
 use crate::turns::may_step;
 use batch_procs::{CardProc, InputProc, JobProc, Machine, OutputProc, PrinterProc};
+use deck_work::DeckWork;
 use disk_files::FileArea;
 use network_run::{Falling, Network, Stepped, Sure};
 use solo_base::ProcNo;
@@ -26,11 +28,11 @@ use std::alloc::Global;
 /// contracts say which states of the core it stands for.
 #[derive(Drop)]
 pub struct Net<S: Source, K: Sink, A: Area, B: Area, F: Area> {
-    pub card: CardProc,
-    pub input: InputProc,
-    pub job: JobProc,
-    pub output: OutputProc,
-    pub printer: PrinterProc,
+    pub card: CardProc<DeckWork>,
+    pub input: InputProc<DeckWork>,
+    pub job: JobProc<DeckWork>,
+    pub output: OutputProc<DeckWork>,
+    pub printer: PrinterProc<DeckWork>,
     pub shared: Shared<S, K, A, B, F>,
 }
 
@@ -69,7 +71,7 @@ impl<S: Source, K: Sink, A: Area, B: Area, F: Area> Net<S, K, A, B, F> {
 }
 
 impl<S: Source, K: Sink, A: Area, B: Area, F: Area> Network for Net<S, K, A, B, F> {
-    ghost law = { the_law };
+    ghost law = { the_law deck_jobs };
 
     ghost Stands = { λ net s. StandsWithin the_keeps
         (telling S.left S.taken K.given A.pages B.pages F.pages) net s };
@@ -82,9 +84,9 @@ impl<S: Source, K: Sink, A: Area, B: Area, F: Area> Network for Net<S, K, A, B, 
         (telling S.left S.taken K.given A.pages B.pages F.pages)
         (counting S.faults S.taken K.faults A.faults B.faults F.faults) old new };
 
-    ghost left = { λ net s. events_left (cards_left S.taken net.shared.deck) s };
+    ghost left = { λ net s. events_left deck_jobs (cards_left S.taken net.shared.deck) s };
 
-    ghost sound = { sound };
+    ghost sound = { sound deck_are_jobs };
 
     ghost keeps_itself = { λ net. record { counted = λ before were. were; total = refl; files = refl } };
 
@@ -145,7 +147,7 @@ impl<S: Source, K: Sink, A: Area, B: Area, F: Area> Network for Net<S, K, A, B, 
 
 impl<S: Source, K: Sink, A: Area, B: Area, F: Area> Falling for Net<S, K, A, B, F> {
     ghost falls = { λ old new at event is stands moves.
-        work-falls at.opening at.state event (cards_left S.taken old.shared.deck)
+        work-falls deck_are_jobs at.opening at.state event (cards_left S.taken old.shared.deck)
         (cards_left S.taken new.shared.deck) at.reached is moves.deck };
 
     ghost few = { λ net at. at.stands.within };
@@ -156,5 +158,5 @@ impl<S: Source, K: Sink, A: Area, B: Area, F: Area> Falling for Net<S, K, A, B, 
 }
 
 impl<S: Source, K: Sink, A: Area, B: Area, F: Area> Sure for Net<S, K, A, B, F> {
-    ghost sure = { sure };
+    ghost sure = { sure deck_are_jobs };
 }

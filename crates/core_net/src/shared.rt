@@ -2,7 +2,8 @@ ghost use Rattle.std.specs.Prelude.{◌≡◌, ◌≤◌, ◌<◌, ℕ, true, Li
 ghost use Rattle.batch_procs.specs.declared.actions.Action.TheVariants as act;
 ghost use Rattle.solo_devices.specs.CardUnit.{fresh_unit, items_ahead};
 ghost use Rattle.core_law.specs.Opening.{opened};
-ghost use Rattle.core_net.specs.Openings.{spools_over, files_found};
+ghost use Rattle.core_net.specs.Openings.{spools_over};
+ghost use Rattle.deck_work.specs.DeckJobs.{files_found};
 ghost use Rattle.core_net.specs.Causes.{HasCauses, counting};
 ghost use Rattle.core_net.specs.Faults.{devices_of};
 ghost use Rattle.core_net.specs.Shared.{SharedStands, MayPerform, Performs, telling};
@@ -14,6 +15,7 @@ use crate::{
 use batch_procs::{Action, Reply};
 use disk_files::FileArea;
 use disk_spool::Spool;
+use disk_system::Loaded;
 use resource_mon::Resource;
 use slot_buffer::{LineBuffer, SlotBuffer};
 use solo_base::{BufferNo, Feed, Ident, Line, Page, ProcNo, Side};
@@ -69,7 +71,7 @@ impl<S: Source, K: Sink, A: Area, B: Area, F: Area> Shared<S, K, A, B, F> {
     }
 
     /// Performs the action of a process. No reply: the process waits.
-    pub fn perform(&mut self, p: ProcNo, action: Action) -> Option<Reply>
+    pub fn perform(&mut self, p: ProcNo, action: Action) -> Option<Reply<Loaded>>
         requires may { MayPerform self.old p action }
         ensures performs { Performs (telling S.left S.taken K.given A.pages B.pages F.pages)
             self.old self.new p action result }
@@ -94,7 +96,7 @@ impl<S: Source, K: Sink, A: Area, B: Area, F: Area> Shared<S, K, A, B, F> {
         }
     }
 
-    fn put_feed(&mut self, p: ProcNo, feed: Feed) -> Option<Reply>
+    fn put_feed(&mut self, p: ProcNo, feed: Feed) -> Option<Reply<Loaded>>
         requires may { MayPerform self.old p (act.PutFeed feed) }
         ensures performs { Performs (telling S.left S.taken K.given A.pages B.pages F.pages)
             self.old self.new p (act.PutFeed feed) result }
@@ -108,7 +110,7 @@ impl<S: Source, K: Sink, A: Area, B: Area, F: Area> Shared<S, K, A, B, F> {
         }
     }
 
-    fn take_feed(&mut self, p: ProcNo) -> Option<Reply>
+    fn take_feed(&mut self, p: ProcNo) -> Option<Reply<Loaded>>
         requires may { MayPerform self.old p act.TakeFeed }
         ensures performs { Performs (telling S.left S.taken K.given A.pages B.pages F.pages)
             self.old self.new p act.TakeFeed result }
@@ -122,7 +124,7 @@ impl<S: Source, K: Sink, A: Area, B: Area, F: Area> Shared<S, K, A, B, F> {
         }
     }
 
-    fn await_room(&mut self, p: ProcNo) -> Option<Reply>
+    fn await_room(&mut self, p: ProcNo) -> Option<Reply<Loaded>>
         requires may { MayPerform self.old p act.AwaitRoom }
         ensures performs { Performs (telling S.left S.taken K.given A.pages B.pages F.pages)
             self.old self.new p act.AwaitRoom result }
@@ -136,7 +138,7 @@ impl<S: Source, K: Sink, A: Area, B: Area, F: Area> Shared<S, K, A, B, F> {
         }
     }
 
-    fn await_item(&mut self, p: ProcNo) -> Option<Reply>
+    fn await_item(&mut self, p: ProcNo) -> Option<Reply<Loaded>>
         requires may { MayPerform self.old p act.AwaitItem }
         ensures performs { Performs (telling S.left S.taken K.given A.pages B.pages F.pages)
             self.old self.new p act.AwaitItem result }
@@ -150,7 +152,7 @@ impl<S: Source, K: Sink, A: Area, B: Area, F: Area> Shared<S, K, A, B, F> {
         }
     }
 
-    fn put_page(&mut self, p: ProcNo, page: Page) -> Reply
+    fn put_page(&mut self, p: ProcNo, page: Page) -> Reply<Loaded>
         requires may { MayPerform self.old p (act.PutPage page) }
         ensures performs { Performs (telling S.left S.taken K.given A.pages B.pages F.pages)
             self.old self.new p (act.PutPage page) (Some result) }
@@ -164,7 +166,7 @@ impl<S: Source, K: Sink, A: Area, B: Area, F: Area> Shared<S, K, A, B, F> {
         }
     }
 
-    fn take_page(&mut self, p: ProcNo) -> Reply
+    fn take_page(&mut self, p: ProcNo) -> Reply<Loaded>
         requires may { MayPerform self.old p act.TakePage }
         ensures performs { Performs (telling S.left S.taken K.given A.pages B.pages F.pages)
             self.old self.new p act.TakePage (Some result) }
@@ -178,7 +180,7 @@ impl<S: Source, K: Sink, A: Area, B: Area, F: Area> Shared<S, K, A, B, F> {
         }
     }
 
-    fn load(&mut self, p: ProcNo, file: Ident) -> Reply
+    fn load(&mut self, p: ProcNo, file: Ident) -> Reply<Loaded>
         requires may { MayPerform self.old p (act.Load file) }
         ensures performs { Performs (telling S.left S.taken K.given A.pages B.pages F.pages)
             self.old self.new p (act.Load file) (Some result) }
@@ -189,7 +191,7 @@ impl<S: Source, K: Sink, A: Area, B: Area, F: Area> Shared<S, K, A, B, F> {
         load_file(self.alloc, &mut self.files, &file)
     }
 
-    fn print(&mut self, p: ProcNo, line: Line) -> Reply
+    fn print(&mut self, p: ProcNo, line: Line) -> Reply<Loaded>
         requires may { MayPerform self.old p (act.Print line) }
         ensures performs { Performs (telling S.left S.taken K.given A.pages B.pages F.pages)
             self.old self.new p (act.Print line) (Some result) }
@@ -200,7 +202,7 @@ impl<S: Source, K: Sink, A: Area, B: Area, F: Area> Shared<S, K, A, B, F> {
         print(&mut self.paper, &line)
     }
 
-    fn stop(&mut self, p: ProcNo, buffer: BufferNo) -> Reply
+    fn stop(&mut self, p: ProcNo, buffer: BufferNo) -> Reply<Loaded>
         requires may { MayPerform self.old p (act.Stop buffer) }
         ensures performs { Performs (telling S.left S.taken K.given A.pages B.pages F.pages)
             self.old self.new p (act.Stop buffer) (Some result) }

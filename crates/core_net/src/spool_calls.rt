@@ -11,11 +11,12 @@ ghost use Rattle.core_net.specs.Spools.{SpoolStands};
 
 use batch_procs::Reply;
 use disk_spool::{Await, Fetched, Spool};
+use disk_system::Loaded;
 use solo_base::{BufferNo, Page, ProcNo, Side};
 use solo_devices::{Area, Moved};
 
 /// Waits until a spool has room for a page. No reply: the process waits.
-pub fn await_room<A: Area>(spool: &mut Spool<A>, p: ProcNo) -> Option<Reply>
+pub fn await_room<A: Area>(spool: &mut Spool<A>, p: ProcNo) -> Option<Reply<Loaded>>
     requires may_enter { MayEnter spool.old.sides Sender p }
     requires not_stopped { has_stopped spool.old.sides Sender ≡ false }
     ensures visited { Visited (SpoolStands A.pages) spool.old spool.new Sender Awaits p act.AwaitRoom result }
@@ -25,7 +26,7 @@ pub fn await_room<A: Area>(spool: &mut Spool<A>, p: ProcNo) -> Option<Reply>
 }
 
 /// Waits until a spool has a page. No reply: the process waits.
-pub fn await_item<A: Area>(spool: &mut Spool<A>, p: ProcNo) -> Option<Reply>
+pub fn await_item<A: Area>(spool: &mut Spool<A>, p: ProcNo) -> Option<Reply<Loaded>>
     requires may_enter { MayEnter spool.old.sides Receiver p }
     requires not_stopped { has_stopped spool.old.sides Receiver ≡ false }
     ensures visited { Visited
@@ -36,7 +37,7 @@ pub fn await_item<A: Area>(spool: &mut Spool<A>, p: ProcNo) -> Option<Reply>
 }
 
 /// Puts a page into a spool that has room.
-pub fn put_page<A: Area>(spool: &mut Spool<A>, page: Page) -> Reply
+pub fn put_page<A: Area>(spool: &mut Spool<A>, page: Page) -> Reply<Loaded>
     requires free { spool.old.sides.turn ≡ Free }
     requires nobody_waits { queue spool.old.sides Sender ≡ None }
     requires room { length spool.old.ring.marks < spool.old.ring.capacity }
@@ -53,7 +54,7 @@ pub fn put_page<A: Area>(spool: &mut Spool<A>, page: Page) -> Reply
 }
 
 /// Takes a page from a spool that has one.
-pub fn take_page<A: Area>(spool: &mut Spool<A>) -> Reply
+pub fn take_page<A: Area>(spool: &mut Spool<A>) -> Reply<Loaded>
     requires free { spool.old.sides.turn ≡ Free }
     requires nobody_waits { queue spool.old.sides Receiver ≡ None }
     requires item { spool.old.ring.marks ≢ [] }
@@ -71,7 +72,7 @@ pub fn take_page<A: Area>(spool: &mut Spool<A>) -> Reply
 }
 
 /// Stops a spool, which has this number, at a side.
-pub fn stop_spool<A: Area>(spool: &mut Spool<A>, number: BufferNo, side: Side) -> Reply
+pub fn stop_spool<A: Area>(spool: &mut Spool<A>, number: BufferNo, side: Side) -> Reply<Loaded>
     requires free { spool.old.sides.turn ≡ Free }
     requires nobody_waits { queue spool.old.sides side ≡ None }
     ensures visited { (p : ℕ)
@@ -85,7 +86,7 @@ pub fn stop_spool<A: Area>(spool: &mut Spool<A>, number: BufferNo, side: Side) -
 
 ghost use Rattle.core_net.specs.Calls.{await_reply};
 
-fn reply_of(answer: Await) -> Option<Reply>
+fn reply_of(answer: Await) -> Option<Reply<Loaded>>
     ensures { result ≡ await_reply answer }
 {
     match answer {

@@ -7,23 +7,27 @@ ghost use Rattle.network_law.specs.Stepping.{stepped_so};
 ghost use Rattle.core_net.specs.Causes.{counting};
 ghost use Rattle.core_net.specs.Shared.{telling};
 ghost use Rattle.core_net.specs.Steps.{is_end, MayStep, Steps};
+ghost use Rattle.disk_system.specs.declared.loading.Loaded.{Loaded};
+ghost use Rattle.deck_work.specs.DeckJobs.{deck_jobs};
 
 use crate::Shared;
 use batch_procs::{Action, Machine, Work};
+use deck_work::DeckWork;
 use network_run::Stepped;
 use solo_base::ProcNo;
 use solo_devices::{Area, Sink, Source};
 
 /// Takes the next action of a process.
-pub fn step_machine<W: Work, S: Source, K: Sink, A: Area, B: Area, F: Area>(
-    machine: &mut Machine<W>,
+pub fn step_machine<W: Work<DeckWork>, S: Source, K: Sink, A: Area, B: Area, F: Area>(
+    machine: &mut Machine<DeckWork, W>,
     p: ProcNo,
     shared: &mut Shared<S, K, A, B, F>,
 ) -> Stepped
-    requires may { MayStep W.process (StandsFor W.process W.keeps machine.old) shared.old p }
-    ensures { (h : List Entry) (action : ActionOf) → StandsFor W.process W.keeps machine.old h →
+    requires may { MayStep W.process (StandsFor deck_jobs W.process W.keeps machine.old) shared.old p }
+    ensures { (h : List (Entry Loaded)) (action : ActionOf) →
+        StandsFor deck_jobs W.process W.keeps machine.old h →
         next_action W.process h ≡ Some action →
-        Steps (StandsFor W.process W.keeps machine.new)
+        Steps (StandsFor deck_jobs W.process W.keeps machine.new)
         (telling S.left S.taken K.given A.pages B.pages F.pages)
         (counting S.faults S.taken K.faults A.faults B.faults F.faults)
         shared.old shared.new p action h result }

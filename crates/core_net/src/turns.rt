@@ -10,17 +10,20 @@ ghost use Rattle.network_law.specs.Stepping.{is_named, is_again};
 ghost use Rattle.core_law.specs.Core.{call, upstream, CoreState, IsBuffer};
 ghost use Rattle.core_net.specs.Shared.{SharedStands, telling};
 ghost use Rattle.core_net.specs.Turns.{HasPlace, IsAtTurn};
+ghost use Rattle.disk_system.specs.declared.loading.Loaded.{Loaded};
+ghost use Rattle.deck_work.specs.DeckJobs.{deck_jobs};
 
 use crate::Shared;
 use crate::shared::side_at;
 use batch_procs::{Action, Machine, Work};
+use deck_work::DeckWork;
 use solo_base::{BufferNo, ProcNo, Side};
 use solo_devices::{Area, Sink, Source};
 
 impl<S: Source, K: Sink, A: Area, B: Area, F: Area> Shared<S, K, A, B, F> {
     /// Whether a process may enter a buffer by a side.
     fn may_enter(&self, b: BufferNo, side: Side, p: ProcNo) -> bool
-        ensures { (s : CoreState) →
+        ensures { (s : CoreState Loaded) →
             SharedStands (telling S.left S.taken K.given A.pages B.pages F.pages) self.now s →
             IsBuffer b → IsTrue result ↔ MayEnter (s.buffers b).sides side p }
     {
@@ -37,7 +40,7 @@ impl<S: Source, K: Sink, A: Area, B: Area, F: Area> Shared<S, K, A, B, F> {
 
     /// Whether a side of a buffer may move a page or stop.
     fn may_stop(&self, b: BufferNo, side: Side) -> bool
-        ensures { (s : CoreState) →
+        ensures { (s : CoreState Loaded) →
             SharedStands (telling S.left S.taken K.given A.pages B.pages F.pages) self.now s →
             IsBuffer b → IsTrue result ↔ MayStop (s.buffers b).sides side }
     {
@@ -55,7 +58,7 @@ impl<S: Source, K: Sink, A: Area, B: Area, F: Area> Shared<S, K, A, B, F> {
     /// Whether the monitors let a process make its call now.
     #[inline(always)]
     pub fn may_call(&self, p: ProcNo, action: &Action) -> bool
-        ensures { (s : CoreState) →
+        ensures { (s : CoreState Loaded) →
             SharedStands (telling S.left S.taken K.given A.pages B.pages F.pages) self.now s →
             HasPlace s p action.now → IsTrue result ↔ MayCall s p (call p action.now) }
     {
@@ -77,7 +80,7 @@ impl<S: Source, K: Sink, A: Area, B: Area, F: Area> Shared<S, K, A, B, F> {
 
     /// Whether the turn of a buffer is handed.
     fn is_named(&self, b: BufferNo) -> bool
-        ensures { (s : CoreState) →
+        ensures { (s : CoreState Loaded) →
             SharedStands (telling S.left S.taken K.given A.pages B.pages F.pages) self.now s →
             IsBuffer b → result ≡ is_named (s.buffers b).sides.turn }
     {
@@ -95,7 +98,7 @@ impl<S: Source, K: Sink, A: Area, B: Area, F: Area> Shared<S, K, A, B, F> {
     /// Whether a call that waits is made at a handed turn, and so is made again.
     #[inline(always)]
     pub fn is_again(&self, p: ProcNo, action: &Action) -> bool
-        ensures { (s : CoreState) →
+        ensures { (s : CoreState Loaded) →
             SharedStands (telling S.left S.taken K.given A.pages B.pages F.pages) self.now s →
             HasPlace s p action.now → result ≡ is_again s (call p action.now) }
     {
@@ -125,13 +128,13 @@ fn upstream(p: ProcNo) -> BufferNo
 
 /// Whether a process has a next action, and is at its turn.
 #[inline(always)]
-pub fn may_step<W: Work, S: Source, K: Sink, A: Area, B: Area, F: Area>(
-    machine: &Machine<W>,
+pub fn may_step<W: Work<DeckWork>, S: Source, K: Sink, A: Area, B: Area, F: Area>(
+    machine: &Machine<DeckWork, W>,
     p: ProcNo,
     shared: &Shared<S, K, A, B, F>,
 ) -> bool
-    ensures { (h : List Entry) (s : CoreState) →
-        StandsFor W.process W.keeps machine.now h →
+    ensures { (h : List (Entry Loaded)) (s : CoreState Loaded) →
+        StandsFor deck_jobs W.process W.keeps machine.now h →
         SharedStands (telling S.left S.taken K.given A.pages B.pages F.pages) shared.now s →
         ((action : ActionOf) → next_action W.process h ≡ Some action → HasPlace s p action) →
         IsTrue result ↔ IsAtTurn W.process h s p }

@@ -2,8 +2,9 @@
 
 use crate::walks::{Trouble, first_other, listing_actions, put_action};
 use batch_procs::{
-    CardProc, CardWork, InputWork, JobWork, OutputProc, OutputWork, PrinterWork, Reply,
+    CardProc, CardWork, InputWork, JobProcWork, OutputProc, OutputWork, PrinterWork, Reply,
 };
+use deck_work::DeckWork;
 use solo_base::Page;
 use solo_devices::CardRead;
 use std::alloc::Global;
@@ -38,7 +39,7 @@ fn the_card_process_puts_each_card_before_it_reads_the_next(rt: HostRuntime) -> 
 
 // Whether the card process does so behind a read.
 fn goes_on(alloc: Global, read: CardRead, want: &str) -> Result<bool, Fail> {
-    let mut machine = CardProc::new(alloc);
+    let mut machine = CardProc::<DeckWork>::new(alloc);
     machine.give(Reply::Card(read))?;
     let mut text = Vec::new(alloc);
     put_action(&mut text, &machine.next())?;
@@ -108,7 +109,7 @@ const JOB: [(Trouble, &str); 5] = [
 
 #[test]
 fn the_job_process_works_behind_each_page(rt: HostRuntime) -> Result<(), Fail> {
-    let other = first_other::<JobWork>(rt.alloc(), &[b"#LIST A", b"HELLO", b"#END"], &JOB)?;
+    let other = first_other::<JobProcWork<DeckWork>>(rt.alloc(), &[b"#LIST A", b"HELLO", b"#END"], &JOB)?;
     assert_eq!(rt; other, None);
     Ok(())
 }
@@ -133,7 +134,7 @@ const LOADS: [(Trouble, &str); 3] = [
 
 #[test]
 fn the_job_process_loads_each_file_before_it_works(rt: HostRuntime) -> Result<(), Fail> {
-    let other = first_other::<JobWork>(
+    let other = first_other::<JobProcWork<DeckWork>>(
         rt.alloc(),
         &[b"#RUN A PROG", b"X", b"#RUN B OTHER"],
         &LOADS,
@@ -160,7 +161,7 @@ const TWO_PAGES: [(usize, &str); 2] = [
 #[test]
 fn a_listing_of_two_pages_goes_out_as_they_fill(rt: HostRuntime) -> Result<(), Fail> {
     for (columns, want) in TWO_PAGES {
-        let text = listing_actions::<JobWork>(rt.alloc(), columns)?;
+        let text = listing_actions::<JobProcWork<DeckWork>>(rt.alloc(), columns)?;
         assert_eq!(rt; text.as_slice(), want.as_bytes());
     }
     Ok(())
@@ -196,7 +197,7 @@ fn the_output_process_puts_the_lines_of_each_page(rt: HostRuntime) -> Result<(),
 
 #[test]
 fn a_page_that_was_not_put_is_damaged(rt: HostRuntime) -> Result<(), Fail> {
-    let mut machine = OutputProc::new(rt.alloc());
+    let mut machine = OutputProc::<DeckWork>::new(rt.alloc());
     machine.give(Reply::Done)?;
     machine.give(Reply::Done)?;
     machine.give(Reply::Page {

@@ -1,6 +1,7 @@
 // Walks a process from its beginning to its end, for tests.
 
 use batch_procs::{Action, Machine, Reply, Work};
+use deck_work::DeckWork;
 use disk_system::Loaded;
 use page_codec::Packer;
 use solo_base::{Cause, Feed, Item, Line, Outcome, Page};
@@ -141,7 +142,7 @@ impl Supply<'_> {
         }
     }
 
-    fn page(&mut self) -> Reply {
+    fn page(&mut self) -> Reply<Loaded> {
         let place = self.taken;
         self.taken = place.saturating_add(1);
         match self.pages.as_slice().get(place) {
@@ -154,7 +155,7 @@ impl Supply<'_> {
     }
 
     /// The reply to an action that succeeds.
-    fn reply_to(&mut self, action: &Action) -> Reply {
+    fn reply_to(&mut self, action: &Action) -> Reply<Loaded> {
         match action {
             Action::ReadCard => Reply::Card(self.card()),
             Action::TakeFeed => Reply::Feed(self.feed()),
@@ -166,7 +167,7 @@ impl Supply<'_> {
 }
 
 /// The reply that goes wrong at the action of this number.
-fn trouble_at(trouble: Trouble, number: usize) -> Option<Reply> {
+fn trouble_at(trouble: Trouble, number: usize) -> Option<Reply<Loaded>> {
     match trouble {
         Trouble::Stop(at) if at == number => Some(Reply::Stopped),
         Trouble::Failure(at) if at == number => Some(Reply::Failed),
@@ -178,7 +179,7 @@ fn trouble_at(trouble: Trouble, number: usize) -> Option<Reply> {
 
 /// The first row of a table by which a process that takes these cards, or the pages of them, doesn't do
 /// what is wanted up to its end.
-pub fn first_other<W: Work + Drop>(
+pub fn first_other<W: Work<DeckWork> + Drop>(
     alloc: Global,
     cards: &[&[u8]],
     rows: &[(Trouble, &str)],
@@ -199,7 +200,7 @@ pub fn first_other<W: Work + Drop>(
 }
 
 /// All actions of a process that takes a listing of two pages.
-pub fn listing_actions<W: Work + Drop>(alloc: Global, columns: usize) -> Result<Vec<u8>, Fail> {
+pub fn listing_actions<W: Work<DeckWork> + Drop>(alloc: Global, columns: usize) -> Result<Vec<u8>, Fail> {
     let supply = Supply {
         cards: &[],
         pages: listing(alloc, columns)?,
@@ -208,12 +209,12 @@ pub fn listing_actions<W: Work + Drop>(alloc: Global, columns: usize) -> Result<
     actions_over::<W>(alloc, supply, Trouble::None)
 }
 
-fn actions_over<W: Work + Drop>(
+fn actions_over<W: Work<DeckWork> + Drop>(
     alloc: Global,
     mut supply: Supply,
     trouble: Trouble,
 ) -> Result<Vec<u8>, Fail> {
-    let mut machine = Machine::<W>::new(alloc);
+    let mut machine = Machine::<DeckWork, W>::new(alloc);
     let mut text = Vec::new(alloc);
     for number in 0..60 {
         let action = machine.next();

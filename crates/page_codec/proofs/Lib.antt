@@ -3,3 +3,4 @@ pub mod Judged
 pub mod Pages
 pub mod Cutting
 pub mod Taking
+pub mod CardItems

@@ -2,6 +2,7 @@ pub mod Items
 pub mod Form
 pub mod Places
 pub mod Packing
+pub mod Pushes
 pub mod Reading
 pub mod Stream
 pub mod Laws

@@ -68,6 +68,11 @@ pub record PageContent : Type 0 where
   pub items : List Item
   pub last : Bool
 
+-- the items that are left of a page that was read
+abbrev pub items_left : Option PageContent → List Item
+items_left None = []
+items_left (Some content) = content.items
+
 abbrev pub content_or_bad : ℕ → Bool → List ℕ → Option ℕ → Result PageContent BadPage
 content_or_bad expected last bytes None = Ok (record { items = items_after 0 (content_of bytes); last = last })
 content_or_bad expected last bytes (Some at) = Err (record { expected = expected; found = number_at bytes 0; at = at })

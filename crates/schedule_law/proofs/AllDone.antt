@@ -8,7 +8,6 @@ use Rattle.solo_base.specs.declared.outcome.Cause.{Cause}
 use Rattle.solo_base.specs.declared.outcome.Cause.TheVariants as cause
 use Rattle.batch_job.specs.Report.{Loads}
 use Rattle.solo_devices.specs.Count.{Rose, Stayed}
-use Rattle.page_codec.specs.Items.{AreItems}
 use Rattle.batch_procs.specs.declared.actions.Action.{Action}
 use Rattle.batch_procs.specs.declared.actions.Action.TheVariants as act
 use Rattle.batch_procs.specs.Faults.{IsDamaged}
@@ -27,6 +26,8 @@ use Rattle.core_net.specs.Causes.{Counts}
 use Rattle.core_net.specs.Ended.{EndsSo, outcome_at, all_done}
 use Rattle.core_net.specs.Faults.{Peripherals, AreCounted}
 use Rattle.schedule_law.specs.NoneCounted.{NoneCounted, NoneLacked}
+use Rattle.disk_system.specs.declared.loading.Loaded.{Loaded}
+use Rattle.deck_work.specs.DeckJobs.{deck_are_jobs}
 
 stays-not : (before now : ℕ) → Rose before now → Stayed before now → ⊥
 stays-not before now rose stayed = omega (arith, rose, stayed)
@@ -35,24 +36,23 @@ same-end : (last : Option Action) (a b : Outcome) → last ≡ Some (act.Ended a
 same-end last a b first second = cc
 
 -- the outcomes of a state are those that it ends with
-pub done-so : (s : CoreState) (outcomes : Outcomes) (stops : List (Option Side)) → EndsSo s outcomes stops → outcomes ≡ all_done → AllDone s
+pub done-so : (s : CoreState Loaded) (outcomes : Outcomes) (stops : List (Option Side)) → EndsSo s outcomes stops → outcomes ≡ all_done → AllDone s
 done-so s outcomes stops ends are p one =
     let done : outcome_at all_done p ≡ outcome.Done = each-process (λ p. outcome_at all_done p ≡ outcome.Done) p one refl refl refl refl refl in
     subst (λ how. HasEndedSo s how p) (ap (λ all. outcome_at all p) are ∙ done) (ends.ended p one)
 
-module _ (spools : Spools) (deck : Option (List Item)) (paper : Option (List ℕ)) (files : Option Loads) (items : List Item) (are : AreTold spools)
-    (deck_is : deck ≡ Some items)
-    (valid : AreItems items)
-    (s : CoreState) (c : Centre (opened spools deck paper files) s)
+module _ (spools : Spools) (deck : Option (List Item)) (paper : Option (List ℕ)) (files : Option Loads) (are : AreTold spools)
+    (s : CoreState Loaded) (c : Centre deck_are_jobs (opened spools deck paper files) s)
     {S K A B F : Type 0} (counts : Counts S K A B F) (before now : Peripherals S K A B F) (outcomes : Outcomes) (stops : List (Option Side))
     (ends : EndsSo s outcomes stops) (counted : AreCounted counts before now outcomes) (none : NoneCounted counts before now)
     (lacked : NoneLacked outcomes) where
-  abbrev opening : CoreState
+  abbrev opening : CoreState Loaded
   opening = opened spools deck paper files
 
   whole : (p : ℕ) (x : Cause) → IsProcess p → outcome_at outcomes p ≡ outcome.Fault x → IsDamaged x → ⊥
   whole p x one e =
-      undamaged opening s c.stands c.devices (hands-over opening s c.stands (λ b at. told-is spools b (all-told spools are b at))) items deck_is valid p x one
+      undamaged deck_are_jobs opening s c.stands (hands-over deck_are_jobs opening s c.stands
+      (λ b at. told-is deck_are_jobs spools b (all-told deck_are_jobs spools are b at))) p x one
       (subst (λ how. HasEndedSo s how p) e (ends.ended p one))
 
   ended-so : (p : ℕ) (x : Cause) → IsProcess p → outcome_at outcomes p ≡ outcome.Fault x → HasEndedSo s (outcome.Fault x) p
@@ -63,14 +63,14 @@ module _ (spools : Spools) (deck : Option (List Item)) (paper : Option (List ℕ
 
   card-none : NoFault 1
   card-none x e =
-      elim ((have-causes opening s c.stands).card x (ended-so 1 x (lit≤ tt, lit≤ tt) e)) as (λ _. ⊥) [
+      elim ((have-causes deck_are_jobs opening s c.stands).card x (ended-so 1 x (lit≤ tt, lit≤ tt) e)) as (λ _. ⊥) [
         | inl is ↦ stays-not _ _ (counted.read (e ∙ ap outcome.Fault is)) none.read
         | inr is ↦ (let over = counted.limit (e ∙ ap outcome.Fault is) in let within = none.within in omega (arith, over, within))
       ]
 
   input-none : NoFault 2
   input-none x e =
-      let is = (have-causes opening s c.stands).input x (ended-so 2 x (lit≤ tt, lit≤ tt) e) in
+      let is = (have-causes deck_are_jobs opening s c.stands).input x (ended-so 2 x (lit≤ tt, lit≤ tt) e) in
       stays-not _ _ (counted.input (e ∙ ap outcome.Fault is)) none.input
 
   job-disk : outcomes.job ≡ outcome.Fault cause.DiskFault → ⊥
@@ -83,7 +83,7 @@ module _ (spools : Spools) (deck : Option (List Item)) (paper : Option (List ℕ
 
   job-none : NoFault 3
   job-none x e =
-      elim ((have-causes opening s c.stands).job x (ended-so 3 x (lit≤ tt, lit≤ tt) e)) as (λ _. ⊥) [
+      elim ((have-causes deck_are_jobs opening s c.stands).job x (ended-so 3 x (lit≤ tt, lit≤ tt) e)) as (λ _. ⊥) [
         | inl is ↦ job-disk (e ∙ ap outcome.Fault is)
         | inr (inl is) ↦ whole 3 x (lit≤ tt, lit≤ tt) e is
         | inr (inr is) ↦ lacked 3 (lit≤ tt, lit≤ tt) (e ∙ ap outcome.Fault is)
@@ -91,14 +91,14 @@ module _ (spools : Spools) (deck : Option (List Item)) (paper : Option (List ℕ
 
   output-none : NoFault 4
   output-none x e =
-      elim ((have-causes opening s c.stands).output x (ended-so 4 x (lit≤ tt, lit≤ tt) e)) as (λ _. ⊥) [
+      elim ((have-causes deck_are_jobs opening s c.stands).output x (ended-so 4 x (lit≤ tt, lit≤ tt) e)) as (λ _. ⊥) [
         | inl is ↦ stays-not _ _ (counted.output (e ∙ ap outcome.Fault is)) none.output
         | inr is ↦ whole 4 x (lit≤ tt, lit≤ tt) e is
       ]
 
   printer-none : NoFault 5
   printer-none x e =
-      elim ((have-causes opening s c.stands).printer x (ended-so 5 x (lit≤ tt, lit≤ tt) e)) as (λ _. ⊥) [
+      elim ((have-causes deck_are_jobs opening s c.stands).printer x (ended-so 5 x (lit≤ tt, lit≤ tt) e)) as (λ _. ⊥) [
         | inl is ↦ stays-not _ _ (counted.print (e ∙ ap outcome.Fault is)) none.print
         | inr is ↦ lacked 5 (lit≤ tt, lit≤ tt) (e ∙ ap outcome.Fault is)
       ]
@@ -108,7 +108,8 @@ module _ (spools : Spools) (deck : Option (List Item)) (paper : Option (List ℕ
 
   none-stopped : (p : ℕ) → IsProcess p → HasEndedSo s outcome.Stopped p → ⊥
   none-stopped p one e =
-      let (told, found) = (ends-together the-five opening s c.stands).stopped (λ q is. (outcome_at outcomes q, ends.ended q is)) p one e in
+      let (told, found) = (ends-together deck_are_jobs (the-five deck_are_jobs) opening s c.stands).stopped
+      (λ q is. (outcome_at outcomes q, ends.ended q is)) p one e in
       let (q, x, is, fault) = found in
       no-fault q is x (same-end (newest (s.histories q)) (outcome_at outcomes q) (outcome.Fault x) (ends.ended q is) fault)
 

@@ -2,7 +2,6 @@
 use Rattle.std.proofs.Common.{◌≡◌, ℕ, List, Option, Some, refl}
 use Rattle.solo_base.specs.declared.outcome.Side.{Side}
 use Rattle.solo_base.specs.declared.outcome.Outcome.TheVariants as outcome
-use Rattle.page_codec.specs.Items.{AreItems}
 use Rattle.batch_procs.specs.Table.{process}
 use Rattle.network_run.specs.declared.counts.Counts.{Counts}
 use Rattle.network_run.specs.declared.rules.Rule.{Rule}
@@ -27,53 +26,56 @@ use Rattle.core_net.specs.WholeRuns.{RunsToEnd}
 use Rattle.schedule_law.specs.NoneCounted.{NoneCounted, NoneLacked}
 use Rattle.schedule_law.proofs.AllDone.{done-so, all-done}
 use Rattle.schedule_law.proofs.AllSmooth.{done-smooth}
+use Rattle.disk_system.specs.declared.loading.Loaded.{Loaded}
+use Rattle.deck_work.specs.DeckJobs.{deck_jobs, deck_are_jobs}
 
-module _ {rule : Rule} {counts : Counts} {outcomes : Outcomes} {stops : List (Option Side)} {devices : Devices} (o : Opening) (s : CoreState)
+module _ {rule : Rule} {counts : Counts} {outcomes : Outcomes} {stops : List (Option Side)} {devices : Devices Loaded} (o : Opening deck_jobs)
+    (s : CoreState Loaded)
     (reached : IsReached o s) (told : TellsAll o) (ran : RunsToEnd rule s counts outcomes stops devices) where
-  abbrev end : CoreState
-  end = run the_law s ran.events
+  abbrev end : CoreState Loaded
+  end = run (the_law deck_jobs) s ran.events
 
-  last : Centre (first_state o) end
-  last = centre-run (first_state o) s ran.events ran.enabled (reached-centre o s reached)
+  last : Centre deck_are_jobs (first_state o) end
+  last = centre-run deck_are_jobs (first_state o) s ran.events ran.enabled (reached-centre deck_are_jobs o s reached)
 
-  of-done : AllDone end → AreItsCounts the_law rule s counts
+  of-done : AllDone end → AreItsCounts (the_law deck_jobs) rule s counts
   of-done done =
       let smooth = done-smooth (first_state o) s ran.events ran.enabled last done in
-      let is : IsUndisturbed the_law rule s ran.events
+      let is : IsUndisturbed (the_law deck_jobs) rule s ran.events
       = record {
         enabled = ran.enabled;
         by_rule = ran.by_rule;
         smooth = smooth;
-        ends = λ p one. ended-none (process p) (end.histories p) (outcome.Done, done p one);
+        ends = λ p one. ended-none deck_are_jobs (process deck_jobs p) (end.histories p) (outcome.Done, done p one);
       } in
       record {
         the_run = record {
           events = ran.events;
           is = is;
-          only = λ others too. one-run the_law sound sure o told rule s ran.events others reached is too;
+          only = λ others too. one-run (the_law deck_jobs) (sound deck_are_jobs) (sure deck_are_jobs) o told rule s ran.events others reached is too;
         };
         counts_are = ran.counts_are;
       }
 
-  pub where-done : outcomes ≡ all_done → AreItsCounts the_law rule s counts
+  pub where-done : outcomes ≡ all_done → AreItsCounts (the_law deck_jobs) rule s counts
   where-done all = of-done (done-so end outcomes stops ran.ends all)
 
-  pub where-none_counted : AreItems told.items → {S K A B F : Type 0} {counting : device.Counts S K A B F} {before now : Peripherals S K A B F}
-      → AreCounted counting before now outcomes → NoneCounted counting before now → NoneLacked outcomes → AreItsCounts the_law rule s counts
-  where-none_counted valid {counting = counting} {before = before} {now = now} counted none lacked =
-      of-done (all-done o.spools o.deck o.paper o.files told.items told.spools told.deck valid end last counting before now outcomes stops ran.ends counted
+  pub where-none_counted : {S K A B F : Type 0} {counting : device.Counts S K A B F} {before now : Peripherals S K A B F}
+      → AreCounted counting before now outcomes → NoneCounted counting before now → NoneLacked outcomes → AreItsCounts (the_law deck_jobs) rule s counts
+  where-none_counted {counting = counting} {before = before} {now = now} counted none lacked =
+      of-done (all-done o.spools o.deck o.paper o.files told.spools end last counting before now outcomes stops ran.ends counted
       none lacked)
 
 -- a run of a network whose end is told, without the network
-pub to-end : {S K A B F : Type 0} {keeps : Keeps} {tells : Tells S K A B F} {rule : Rule} {net : Net S K A B F} {s : CoreState} {counts : Counts}
-    {outcomes : Outcomes} {stops : List (Option Side)} → (by : RunsBy the_law (StandsWithin keeps tells net) rule s counts)
-    → ((t : CoreState) → NetStands keeps tells net t → EndsSo t outcomes stops)
-    → RunsToEnd rule s counts outcomes stops (run the_law s by.events).devices
+pub to-end : {S K A B F : Type 0} {keeps : Keeps} {tells : Tells S K A B F} {rule : Rule} {net : Net S K A B F} {s : CoreState Loaded} {counts : Counts}
+    {outcomes : Outcomes} {stops : List (Option Side)} → (by : RunsBy (the_law deck_jobs) (StandsWithin keeps tells net) rule s counts)
+    → ((t : CoreState Loaded) → NetStands keeps tells net t → EndsSo t outcomes stops)
+    → RunsToEnd rule s counts outcomes stops (run (the_law deck_jobs) s by.events).devices
 to-end by ends = record {
   events = by.events;
   enabled = by.enabled;
   by_rule = by.by_rule;
   counts_are = by.counts_are;
-  ends = ends (run the_law _ by.events) by.stands.is;
+  ends = ends (run (the_law deck_jobs) _ by.events) by.stands.is;
   devices_are = refl;
 }

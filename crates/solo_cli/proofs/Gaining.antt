@@ -9,12 +9,13 @@ use Rattle.solo_cli.specs.CountsPaper.{GainsCounted}
 use Rattle.solo_cli.specs.DeckNumbers.{deck_lines}
 use Rattle.solo_cli.specs.MadePaper.{GainsNumbers}
 use Rattle.solo_cli.proofs.Adding.{gains-same}
+use Rattle.disk_system.specs.declared.loading.Loaded.{Loaded}
 
 module _ (before now : Option (List ℕ)) (all other : Type 0) (change : other → all) where
   pub gains_where : (whole : List ℕ) → Gains before now whole all → Gains before now whole other
   gains_where whole gains = gains-same before before now now whole whole all other refl refl refl change gains
 
-  pub counted_where : (rule : Rule) (s : CoreState) (lines : List (List ℕ)) → GainsCounted rule s before now lines all
+  pub counted_where : (rule : Rule) (s : CoreState Loaded) (lines : List (List ℕ)) → GainsCounted rule s before now lines all
       → GainsCounted rule s before now lines other
   counted_where rule s lines gains = record {
     counts = gains.counts;
@@ -27,7 +28,7 @@ module _ (before now : Option (List ℕ)) (all other : Type 0) (change : other �
     counted = λ is. gains.counted (change is);
   }
 
-  pub numbers_where : (rule : Rule) (s : CoreState) (deck : List ℕ) → GainsNumbers rule s deck before now all
+  pub numbers_where : (rule : Rule) (s : CoreState Loaded) (deck : List ℕ) → GainsNumbers rule s deck before now all
       → GainsNumbers rule s deck before now other
   numbers_where rule s deck gains = record {
     counts = gains.counts;
@@ -36,7 +37,7 @@ module _ (before now : Option (List ℕ)) (all other : Type 0) (change : other �
   }
 
 -- the same of equals
-pub counted_as : (rule rule' : Rule) (s : CoreState) (before now now' : Option (List ℕ)) (lines : List (List ℕ)) (all other : Type 0)
+pub counted_as : (rule rule' : Rule) (s : CoreState Loaded) (before now now' : Option (List ℕ)) (lines : List (List ℕ)) (all other : Type 0)
     → rule ≡ rule' → now ≡ now' → (other → all) → GainsCounted rule s before now lines all → GainsCounted rule' s before now' lines other
 counted_as rule rule' s before now now' lines all other r n change gains =
     subst (λ rule. GainsCounted rule s before now' lines other) r

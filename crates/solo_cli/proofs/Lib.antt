@@ -6,7 +6,6 @@ mod Mounts
 mod Migrations
 mod Lowest
 mod AllDone
-mod CardItems
 mod Reasons
 mod Adding
 mod Counted

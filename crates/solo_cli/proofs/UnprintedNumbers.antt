@@ -10,11 +10,12 @@ use Rattle.network_run.specs.declared.rules.Rule.{Rule}
 use Rattle.solo_cli.specs.DeckNumbers.{deck_lines}
 use Rattle.solo_cli.specs.MadePaper.{GainsNumbers}
 use Rattle.solo_cli.proofs.Adding.{nothing}
-use Rattle.solo_cli.proofs.CardItems.{card-items}
+use Rattle.page_codec.proofs.CardItems.{card-items}
 use Rattle.solo_cli.proofs.Counted.{some-counts}
+use Rattle.deck_work.specs.DeckJobs.{deck_jobs}
 
 pub no_numbers : (rule : Rule) (spools : Spools) (files : Option Loads) (deck : List ℕ) (paper : Option (List ℕ)) (all : Type 0)
-    → AreGoodFiles files → files_named (cards deck) ≡ [] → AreInBounds spools → AreTold spools → (all → ⊥)
+    → AreGoodFiles deck_jobs files → files_named (cards deck) ≡ [] → AreInBounds spools → AreTold spools → (all → ⊥)
     → GainsNumbers rule (opened spools (Some (cards deck)) (Some []) files) deck paper paper all
 no_numbers rule spools files deck paper all good none bounds told never =
     let some = some-counts spools (cards deck) (Some []) files no_files rule good (inr none) bounds told (card-items deck) in

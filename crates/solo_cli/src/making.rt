@@ -13,14 +13,14 @@ ghost use Rattle.batch_job.specs.Loads.{files_named};
 ghost use Rattle.batch_job.specs.OneThread.{one_thread_output};
 ghost use Rattle.batch_procs.specs.Faults.{IsDamaged};
 ghost use Rattle.made_deck.specs.MadeDeck.{made_deck};
-ghost use Rattle.core_law.specs.Holds.{AreFound};
 ghost use Rattle.core_law.specs.Opening.{opened};
 ghost use Rattle.core_law.specs.TheLaw.{the_law};
-ghost use Rattle.core_net.specs.Openings.{spools_over, files_found};
+ghost use Rattle.core_net.specs.Openings.{spools_over};
 ghost use Rattle.network_run.specs.OneRun.{AreItsCounts};
 ghost use Rattle.solo_cli.specs.Causes.{IsMakeCause};
 ghost use Rattle.solo_cli.specs.DeckNumbers.{five_lines, characters_of};
 ghost use Rattle.solo_cli.specs.MadePaper.{GainsNumbers};
+ghost use Rattle.deck_work.specs.DeckJobs.{AreFound, files_found, deck_jobs};
 
 use crate::counts::{counts_line, number_line};
 use crate::deck_numbers::{DeckNumbers, PIECE, numbers_of};
@@ -181,7 +181,7 @@ fn run_in_memory<F: Area, I: Area, O: Area>(
     requires output { (0 < O.size output) × (O.size output ≤ 256) }
     ensures counted { (found : Loads) → AreFound (files_found (F.pages files.area)) found (cards deck.items) →
         IsSome (I.pages input) → IsSome (O.pages output) → result.0.cause ≡ None →
-        AreItsCounts the_law (Rule.Numbered number)
+        AreItsCounts (the_law deck_jobs) (Rule.Numbered number)
         (opened (spools_over (I.size input) (I.pages input) (O.size output) (O.pages output))
         (Some (cards deck.items)) (Some []) (files_found (F.pages files.area))) result.1 }
     ensures printed { (found : Loads) → AreFound (files_found (F.pages files.area)) found (cards deck.items) →

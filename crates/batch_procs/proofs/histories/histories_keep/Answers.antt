@@ -6,4 +6,14 @@ use Rattle.batch_procs.proofs.PageBounds.{bounds}
 use Rattle.batch_procs.proofs.histories.histories_keep.Goals as goal
 
 pub returns : goal.returns
-returns c = record { five = relays; keep = kept.histories_keep; given = each_cause_is_given; faults = faults_of_the_five; falls = ahead_falls; bounds = bounds }
+returns g c =
+    let jobs = g.met.J.JobWork.are_jobs in
+    let J = g.J.JobWork.jobs in
+    record {
+      five = relays jobs;
+      keep = kept.histories_keep J;
+      given = each_cause_is_given J;
+      faults = faults_of_the_five J jobs;
+      falls = ahead_falls J;
+      bounds = bounds jobs;
+    }

@@ -31,12 +31,12 @@ returns-in-Ok-clause-counted g c =
     c.in-Ok.ensures.ran c.take_apart-ends.ensures g.A.Area.pages g.A.Area.faults g.B.Area.pages g.B.Area.faults c.meet-input.result c.meet-input.ensures
 
 pub returns-in-Ok-clause-prints : goal.returns-in-Ok-clause-prints
-returns-in-Ok-clause-prints g c items found ahead valid are input_told output_told =
+returns-in-Ok-clause-prints g c items found ahead are input_told output_told =
     prints g.S.Source.left g.S.Source.taken g.S.Source.faults g.K.Sink.given g.K.Sink.faults g.A.Area.size g.B.Area.size
     g.F.Area.pages g.F.Area.faults c.args.gates c.args.ends c.args.deck c.args.paper c.args.files c.row.result c.in-Ok.ended c.take_apart-ends.result
     c.requires.fresh c.row.ensures
     c.in-Ok.ensures.ran c.take_apart-ends.ensures g.A.Area.pages g.A.Area.faults g.B.Area.pages g.B.Area.faults c.meet-input.result c.meet-input.ensures
-    input_told output_told items found ahead valid are
+    input_told output_told items found ahead are
 
 pub returns-in-Ok-clause-reads : goal.returns-in-Ok-clause-reads
 returns-in-Ok-clause-reads g c items ahead done =
@@ -47,12 +47,12 @@ returns-in-Ok-clause-reads g c items ahead done =
     items ahead done
 
 pub returns-in-Ok-clause-undamaged : goal.returns-in-Ok-clause-undamaged
-returns-in-Ok-clause-undamaged g c items ahead valid input_told output_told =
+returns-in-Ok-clause-undamaged g c input_told output_told =
     undamaged g.S.Source.left g.S.Source.taken g.S.Source.faults g.K.Sink.given g.K.Sink.faults g.A.Area.size g.B.Area.size
     g.F.Area.pages g.F.Area.faults c.args.gates c.args.ends c.args.deck c.args.paper c.args.files c.row.result c.in-Ok.ended c.take_apart-ends.result
     c.requires.fresh c.row.ensures
     c.in-Ok.ensures.ran c.take_apart-ends.ensures g.A.Area.pages g.A.Area.faults g.B.Area.pages g.B.Area.faults c.meet-input.result c.meet-input.ensures
-    input_told output_told items ahead valid
+    input_told output_told
 
 pub returns-in-Ok-clause-all_taken : goal.returns-in-Ok-clause-all_taken
 returns-in-Ok-clause-all_taken g c done =

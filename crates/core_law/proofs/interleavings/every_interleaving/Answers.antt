@@ -2,4 +2,4 @@ use Rattle.core_law.proofs.Reached.{reached-holds}
 use Rattle.core_law.proofs.interleavings.every_interleaving.Goals as goal
 
 pub returns : goal.returns
-returns c = reached-holds
+returns g c = reached-holds g.met.J.JobWork.are_jobs

@@ -5,5 +5,5 @@ pub returns-clause-done : goal.returns-clause-done
 returns-clause-done g c = λ opening s number counts net ran reached told by ends. where-done opening s reached told (to-end by ends)
 
 pub returns-clause-uncounted : goal.returns-clause-uncounted
-returns-clause-uncounted g c = λ opening s number counts net ran before reached told valid by ends.
-    where-none_counted opening s reached told (to-end by ends) valid
+returns-clause-uncounted g c = λ opening s number counts net ran before reached told by ends.
+    where-none_counted opening s reached told (to-end by ends)

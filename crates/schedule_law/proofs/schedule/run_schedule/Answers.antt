@@ -1,4 +1,6 @@
+use Rattle.network_run.specs.declared.rules.Rule.TheVariants as rule
 use Rattle.core_net.specs.Net.{first_place}
+use Rattle.core_net.proofs.WholeRuns.{runs-to-end}
 use Rattle.schedule_law.proofs.TheCounts.{to-end, where-done, where-none_counted}
 use Rattle.schedule_law.proofs.schedule.run_schedule.Goals as goal
 
@@ -10,6 +12,13 @@ finish-requires g c =
     let run = c.run_numbered-counts.ensures in
     record { ended = record { at = run.after; all = run.ended run.after } }
 
+pub returns-clause-runs : goal.returns-clause-runs
+returns-clause-runs g c =
+    runs-to-end _ _ (rule.Numbered c.args.number) c.run_numbered-counts.new.self _ c.run_numbered-counts.result
+    (c.run_numbered-counts.ensures.runs (first_place c.make-net.ensures.opens)) c.finish.result.outcomes c.finish.result.stopped_by
+    c.finish.ensures.ends c.finish.result.deck c.finish.result.paper c.finish.result.files
+    c.finish.ensures.units.0 c.finish.ensures.units.1 c.finish.ensures.files
+
 pub returns-clause-done : goal.returns-clause-done
 returns-clause-done g c = λ items is known told.
     let at = first_place c.make-net.ensures.opens in
@@ -17,8 +26,8 @@ returns-clause-done g c = λ items is known told.
     (to-end (c.run_numbered-counts.ensures.runs at) c.finish.ensures.ends)
 
 pub returns-clause-uncounted : goal.returns-clause-uncounted
-returns-clause-uncounted g c = λ items is valid known told.
+returns-clause-uncounted g c = λ items is known told.
     let at = first_place c.make-net.ensures.opens in
     where-none_counted at.opening at.state at.reached record { spools = told; items = items; deck = is; files = known }
-    (to-end (c.run_numbered-counts.ensures.runs at) c.finish.ensures.ends) valid
+    (to-end (c.run_numbered-counts.ensures.runs at) c.finish.ensures.ends)
     (c.finish.ensures.counted _ (c.run_numbered-counts.ensures.keeps.counted _ c.make-net.ensures.counted))

@@ -4,7 +4,8 @@ use Rattle.solo_base.specs.Card.{cards}
 use Rattle.made_deck.specs.MadeDeck.{made_deck}
 use Rattle.core_law.specs.Opening.{opened}
 use Rattle.network_run.specs.declared.rules.Rule.TheVariants.{Numbered}
-use Rattle.core_net.specs.Openings.{spools_over, files_found}
+use Rattle.core_net.specs.Openings.{spools_over}
+use Rattle.deck_work.specs.DeckJobs.{files_found}
 use Rattle.solo_cli.specs.declared.words.Command.TheVariants.{Core, Make}
 use Rattle.solo_cli.specs.declared.mounting.Mode.TheVariants as Mode
 use Rattle.solo_cli.specs.MadePaper.{GainsNumbers}

@@ -8,7 +8,8 @@ use Rattle.batch_job.specs.OneThread.{one_thread_output}
 use Rattle.made_deck.specs.MadeDeck.{made_deck}
 use Rattle.core_law.specs.Opening.{opened}
 use Rattle.network_run.specs.declared.rules.Rule.TheVariants.{Numbered}
-use Rattle.core_net.specs.Openings.{spools_over, files_found}
+use Rattle.core_net.specs.Openings.{spools_over}
+use Rattle.deck_work.specs.DeckJobs.{files_found}
 use Rattle.solo_cli.specs.declared.words.Command.TheVariants.{Migrate}
 use Rattle.solo_cli.specs.Words.{form}
 use Rattle.solo_cli.specs.Status.{status_of}

@@ -3,7 +3,8 @@ use Rattle.solo_base.specs.Card.{cards}
 use Rattle.batch_job.specs.Loads.{files_named}
 use Rattle.core_law.specs.Opening.{opened}
 use Rattle.network_run.specs.declared.rules.Rule.TheVariants.{Numbered}
-use Rattle.core_net.specs.Openings.{spools_over, files_found}
+use Rattle.core_net.specs.Openings.{spools_over}
+use Rattle.deck_work.specs.DeckJobs.{files_found}
 use Rattle.core_net.proofs.GoodFiles.{are-good}
 use Rattle.made_deck.specs.MadeDeck.{made_deck}
 use Rattle.solo_cli.specs.MadePaper.{GainsNumbers}

@@ -7,16 +7,18 @@ use Rattle.batch_procs.specs.Faults.{IsDamaged}
 use Rattle.core_law.specs.Core.{Devices}
 use Rattle.core_law.specs.Opening.{opened}
 use Rattle.network_run.specs.declared.rules.Rule.TheVariants.{Numbered}
-use Rattle.core_net.specs.Openings.{spools_over, files_found}
+use Rattle.core_net.specs.Openings.{spools_over}
+use Rattle.deck_work.specs.DeckJobs.{files_found}
 use Rattle.core_net.specs.WholeRuns.{RunsToEnd}
 use Rattle.core_net.proofs.GoodFiles.{are-good}
 use Rattle.solo_cli.specs.Causes.{IsMakeCause}
 use Rattle.solo_cli.proofs.AllDone.{all-done, by-print, by-disk}
-use Rattle.solo_cli.proofs.CardItems.{card-items}
+use Rattle.page_codec.proofs.CardItems.{card-items}
 use Rattle.solo_cli.proofs.Counted.{counted-whole}
 use Rattle.solo_cli.proofs.MadeRuns.{never_rose, within_limit, known_made}
 use Rattle.solo_cli.proofs.Reasons.{undamaged}
 use Rattle.solo_cli.proofs.making.run_in_memory.Goals as goal
+use Rattle.disk_system.specs.declared.loading.Loaded.{Loaded}
 
 pub returns-clause-counted : goal.returns-clause-counted
 returns-clause-counted g c = λ found files input_told output_told none.
@@ -25,7 +27,7 @@ returns-clause-counted g c = λ found files input_told output_told none.
     let counts = c.run_core-ran.result.1 in
     let items = cards c.args.deck.items in
     let spools = spools_over (g.I.Area.size c.args.input) (g.I.Area.pages c.args.input) (g.O.Area.size c.args.output) (g.O.Area.pages c.args.output) in
-    let devices : Devices = record { deck = _; paper = _; files = _ } in
+    let devices : Devices Loaded = record { deck = _; paper = _; files = _ } in
     let told_files = files_found (g.F.Area.pages c.args.files.area) in
     let runs : RunsToEnd (Numbered c.args.number) (opened spools (Some items) (Some []) told_files) counts ran.outcomes ran.stopped_by devices
     = subst (λ paper. RunsToEnd (Numbered c.args.number) (opened spools (Some items) paper told_files) counts ran.outcomes ran.stopped_by devices)
@@ -45,7 +47,7 @@ pub returns-clause-printed : goal.returns-clause-printed
 returns-clause-printed g c = λ found files input_told output_told none.
     let e = c.run_core-ran.ensures in
     let ran = c.run_core-ran.result.0 in
-    let gained = (e.prints (cards c.args.deck.items) found (ap (λ left. items_ahead left []) c.new-deck.ensures.left) (card-items c.args.deck.items)
+    let gained = (e.prints (cards c.args.deck.items) found (ap (λ left. items_ahead left []) c.new-deck.ensures.left)
     files record { input = input_told; output = output_told }).told [] c.new-paper.ensures.given in
     ap (λ paper. Some paper.bytes.items) c.came_to.ensures.units.1 ∙ gained.now_is
     ∙ ap Some (gained.all_is (all-done ran.outcomes ran.stopped_by e.together (sym c.came_to.ensures.decided ∙ none)))
@@ -77,8 +79,7 @@ returns-clause-left g c = ap g.F.Area.pages c.came_to.ensures.files.0 ∙ c.run_
 pub returns-clause-undamaged : goal.returns-clause-undamaged
 returns-clause-undamaged g c = λ input_told output_told.
     subst (λ why. IfSome why (λ it. IsDamaged it → ⊥)) (sym c.came_to.ensures.decided)
-    (undamaged c.run_core-ran.result.0.outcomes (c.run_core-ran.ensures.undamaged (cards c.args.deck.items)
-    (ap (λ left. items_ahead left []) c.new-deck.ensures.left) (card-items c.args.deck.items) record { input = input_told; output = output_told }))
+    (undamaged c.run_core-ran.result.0.outcomes (c.run_core-ran.ensures.undamaged record { input = input_told; output = output_told }))
 
 pub returns-clause-known : goal.returns-clause-known
 returns-clause-known g c =

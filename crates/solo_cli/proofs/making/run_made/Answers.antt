@@ -5,11 +5,12 @@ use Rattle.solo_devices.specs.PrinterUnit.{Gains}
 use Rattle.batch_job.specs.Report.{Loads, no_files}
 use Rattle.batch_job.specs.OneThread.{one_thread_output}
 use Rattle.network_run.specs.declared.rules.Rule.TheVariants.{Numbered}
-use Rattle.core_net.specs.Openings.{spools_over, files_found}
+use Rattle.core_net.specs.Openings.{spools_over}
+use Rattle.deck_work.specs.DeckJobs.{files_found}
 use Rattle.core_net.proofs.GoodFiles.{are-good}
 use Rattle.batch_job.proofs.ReportLines.{report-lines}
 use Rattle.solo_cli.specs.DeckNumbers.{deck_lines}
-use Rattle.solo_cli.proofs.CardItems.{card-items}
+use Rattle.page_codec.proofs.CardItems.{card-items}
 use Rattle.solo_cli.proofs.UnprintedNumbers.{no_numbers}
 use Rattle.solo_cli.proofs.making.run_made.Goals as goal
 

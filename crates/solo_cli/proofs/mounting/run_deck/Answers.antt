@@ -1,11 +1,11 @@
 use Rattle.std.proofs.Common.{◌≡◌, Some, None, sym, subst, arith}
 use Rattle.solo_base.specs.Card.{cards}
 use Rattle.batch_job.specs.OneThread.{one_thread_output}
-use Rattle.core_law.specs.Holds.{AreFound}
 use Rattle.core_law.specs.Opening.{opened}
 use Rattle.core_net.specs.Causes.{counting}
 use Rattle.network_run.specs.declared.rules.Rule.TheVariants.{Numbered}
-use Rattle.core_net.specs.Openings.{spools_over, files_found}
+use Rattle.core_net.specs.Openings.{spools_over}
+use Rattle.deck_work.specs.DeckJobs.{AreFound, files_found}
 use Rattle.core_net.proofs.GoodFiles.{are-good}
 use Rattle.solo_cli.specs.CountsPaper.{GainsCounted}
 use Rattle.solo_cli.proofs.Mounts.{from_mount}

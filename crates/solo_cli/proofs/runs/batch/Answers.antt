@@ -11,9 +11,7 @@ use Rattle.core_net.specs.Causes.{counting}
 use Rattle.core_net.specs.Faults.{devices_left}
 use Rattle.solo_cli.specs.Causes.{IsRunCause}
 use Rattle.solo_cli.proofs.AllDone.{all-done}
-use Rattle.solo_cli.proofs.CardItems.{card-items}
 use Rattle.solo_cli.proofs.Adding.{gains-same, nothing}
-use Rattle.solo_cli.proofs.Complete.{told_bytes}
 use Rattle.solo_cli.proofs.Reasons.{known, undamaged, reason, same-reason}
 use Rattle.solo_cli.proofs.runs.batch.Goals as goal
 
@@ -23,7 +21,7 @@ returns-in-Ok-clause-output g c = λ bytes found told files input_told output_to
     (λ none. all-done c.in-Ok.ran.outcomes c.in-Ok.ran.stopped_by c.in-Ok.ensures.together (sym c.came_to.ensures.decided ∙ none))
     (c.in-Ok.ensures.prints (cards bytes) found
     (ap (λ unit. items_ahead (g.S.Source.left unit.source) unit.pending) c.new.ensures ∙ ap (λ left. items_ahead left []) told)
-    (card-items bytes) files record { input = input_told; output = output_told })
+    files record { input = input_told; output = output_told })
 
 pub returns-in-Err-clause-output : goal.returns-in-Err-clause-output
 returns-in-Err-clause-output g c = λ bytes found told files input_told output_told.
@@ -64,11 +62,8 @@ returns-in-Ok-clause-all_taken g c = λ none.
 
 pub returns-in-Ok-clause-undamaged : goal.returns-in-Ok-clause-undamaged
 returns-in-Ok-clause-undamaged g c = λ deck_told input_told output_told.
-    let (bytes, told) = told_bytes (g.S.Source.left c.args.deck) deck_told in
     subst (λ why. IfSome why (λ it. IsDamaged it → ⊥)) (sym c.came_to.ensures.decided)
-    (undamaged c.in-Ok.ran.outcomes (c.in-Ok.ensures.undamaged (cards bytes)
-    (ap (λ unit. items_ahead (g.S.Source.left unit.source) unit.pending) c.new.ensures ∙ ap (λ left. items_ahead left []) told)
-    (card-items bytes) record { input = input_told; output = output_told }))
+    (undamaged c.in-Ok.ran.outcomes (c.in-Ok.ensures.undamaged record { input = input_told; output = output_told }))
 
 pub returns-in-Ok-clause-known : goal.returns-in-Ok-clause-known
 returns-in-Ok-clause-known g c =

@@ -9,18 +9,19 @@ use Rattle.core_law.specs.Opening.{opened}
 use Rattle.network_run.specs.declared.rules.Rule.TheVariants.{Numbered}
 use Rattle.core_net.specs.Causes.{counting}
 use Rattle.core_net.specs.Faults.{devices_left}
-use Rattle.core_net.specs.Openings.{spools_over, files_found}
+use Rattle.core_net.specs.Openings.{spools_over}
+use Rattle.deck_work.specs.DeckJobs.{files_found}
 use Rattle.core_net.specs.WholeRuns.{RunsToEnd}
 use Rattle.core_net.proofs.GoodFiles.{are-good}
 use Rattle.solo_cli.specs.Causes.{IsRunCause}
 use Rattle.solo_cli.specs.CountsLine.{counts_line}
 use Rattle.solo_cli.proofs.AllDone.{all-done}
-use Rattle.solo_cli.proofs.CardItems.{card-items}
+use Rattle.page_codec.proofs.CardItems.{card-items}
 use Rattle.solo_cli.proofs.Counted.{counted-whole}
 use Rattle.solo_cli.proofs.Adding.{gains-same, both, without}
-use Rattle.solo_cli.proofs.Complete.{told_bytes}
 use Rattle.solo_cli.proofs.Reasons.{known, undamaged, reason, same-reason, printed-on}
 use Rattle.solo_cli.proofs.runs.core.Goals as goal
+use Rattle.disk_system.specs.declared.loading.Loaded.{Loaded}
 
 pub returns-in-None-clause-output : goal.returns-in-None-clause-output
 returns-in-None-clause-output g c = λ bytes found told files input_told output_told.
@@ -29,7 +30,7 @@ returns-in-None-clause-output g c = λ bytes found told files input_told output_
     let counts = c.run_core-ran.result.1 in
     let spools = spools_over (g.I.Area.size c.args.input) (g.I.Area.pages c.args.input) (g.O.Area.size c.args.output) (g.O.Area.pages c.args.output) in
     let told_files = files_found (g.F.Area.pages c.args.files.area) in
-    let devices : Devices
+    let devices : Devices Loaded
     = record {
       deck = items_ahead (g.S.Source.left ran.deck.source) ran.deck.pending;
       paper = g.K.Sink.given ran.paper.sink;
@@ -48,7 +49,7 @@ returns-in-None-clause-output g c = λ bytes found told files input_told output_
           (c.with_counts.result.cause ≡ None) c.in-None.is
           (gains-same _ _ _ _ _ _ _ _ refl (ap g.K.Sink.given (sym c.came_to-done.ensures.units.1)) refl
           (λ none. all-done ran.outcomes ran.stopped_by e.together (sym c.came_to-done.ensures.decided ∙ none))
-          (e.prints (cards bytes) found (ap (λ left. items_ahead left []) told) (card-items bytes) files
+          (e.prints (cards bytes) found (ap (λ left. items_ahead left []) told) files
           record { input = input_told; output = output_told }))
           c.with_counts.ensures.line;
       done = λ none. all-done ran.outcomes ran.stopped_by e.together (sym c.came_to-done.ensures.decided ∙ c.in-None.is);
@@ -68,7 +69,7 @@ returns-in-Some-clause-output g c = λ bytes found told files input_told output_
     let counts = c.run_core-ran.result.1 in
     let spools = spools_over (g.I.Area.size c.args.input) (g.I.Area.pages c.args.input) (g.O.Area.size c.args.output) (g.O.Area.pages c.args.output) in
     let told_files = files_found (g.F.Area.pages c.args.files.area) in
-    let devices : Devices
+    let devices : Devices Loaded
     = record {
       deck = items_ahead (g.S.Source.left ran.deck.source) ran.deck.pending;
       paper = g.K.Sink.given ran.paper.sink;
@@ -87,7 +88,7 @@ returns-in-Some-clause-output g c = λ bytes found told files input_told output_
           (λ none. (let no : Some c.in-Some.field-0 ≡ None = sym c.in-Some.is ∙ none in cc))
           (gains-same _ _ _ _ _ _ _ _ refl (ap g.K.Sink.given (sym c.came_to-done.ensures.units.1)) refl
           (λ none. all-done ran.outcomes ran.stopped_by e.together (sym c.came_to-done.ensures.decided ∙ none))
-          (e.prints (cards bytes) found (ap (λ left. items_ahead left []) told) (card-items bytes) files
+          (e.prints (cards bytes) found (ap (λ left. items_ahead left []) told) files
           record { input = input_told; output = output_told }));
       done = λ none. all-done ran.outcomes ran.stopped_by e.together (sym c.came_to-done.ensures.decided ∙ none);
       counted = λ none. counted-whole spools (cards bytes) found (are-good (g.F.Area.pages c.args.files.area)) record {
@@ -160,10 +161,8 @@ returns-in-Some-clause-all_taken g c = λ none. absurd (let no : Some c.in-Some.
 
 pub returns-in-Some-clause-undamaged : goal.returns-in-Some-clause-undamaged
 returns-in-Some-clause-undamaged g c = λ deck_told input_told output_told.
-    let (bytes, told) = told_bytes (g.S.Source.left c.args.deck) deck_told in
     subst (λ why. IfSome why (λ it. IsDamaged it → ⊥)) (sym c.came_to-done.ensures.decided)
-    (undamaged c.run_core-ran.result.0.outcomes (c.run_core-ran.ensures.undamaged (cards bytes)
-    (ap (λ left. items_ahead left []) told) (card-items bytes) record { input = input_told; output = output_told }))
+    (undamaged c.run_core-ran.result.0.outcomes (c.run_core-ran.ensures.undamaged record { input = input_told; output = output_told }))
 
 pub returns-in-Some-clause-known : goal.returns-in-Some-clause-known
 returns-in-Some-clause-known g c =

@@ -1,5 +1,6 @@
 use Rattle.std.proofs.Common.{refl, ap, ◌∙◌, ◌++◌, option_to_list}
-use Rattle.batch_job.specs.JobStream.{stream_of, items_left}
+use Rattle.page_codec.specs.Reading.{items_left}
+use Rattle.batch_job.specs.JobStream.{stream_of}
 use Rattle.batch_job.proofs.Making.{next-item, has-load, wanted-here}
 use Rattle.batch_job.proofs.lines_ahead.LinesAhead.make_item.Goals as goal
 

@@ -9,7 +9,7 @@ use Rattle.batch_procs.proofs.Takes.{card-takes, still-going}
 use Rattle.batch_procs.proofs.card_proc.CardWorkWork.take.Goals as goal
 
 pub returns-in-Card-Card-clause-ok : goal.returns-in-Card-Card-clause-ok
-returns-in-Card-Card-clause-ok c = λ taken sent keeps may.
+returns-in-Card-Card-clause-ok g c = λ taken sent keeps may.
     let is = c.in-Card-Card.is ∙ ap reply.Card c.in-Card-Card.field-0-is in (
       sym (ap (λ r. cause_of r taken) is),
       λ none. card-takes _ _ _ taken sent c.args.reply (feed.Item (Line c.in-Card-Card.line)) (ap taken_by is)
@@ -17,7 +17,7 @@ returns-in-Card-Card-clause-ok c = λ taken sent keeps may.
     )
 
 pub returns-in-Card-Spoiled-clause-ok : goal.returns-in-Card-Spoiled-clause-ok
-returns-in-Card-Spoiled-clause-ok c = λ taken sent keeps may.
+returns-in-Card-Spoiled-clause-ok g c = λ taken sent keeps may.
     let is = c.in-Card-Spoiled.is ∙ ap reply.Card c.in-Card-Spoiled.field-0-is in (
       sym (ap (λ r. cause_of r taken) is),
       λ none. card-takes _ _ _ taken sent c.args.reply (feed.Item Spoiled) (ap taken_by is)
@@ -25,6 +25,6 @@ returns-in-Card-Spoiled-clause-ok c = λ taken sent keeps may.
     )
 
 pub returns-in-Card-End-clause-ok : goal.returns-in-Card-End-clause-ok
-returns-in-Card-End-clause-ok c = λ taken sent keeps may.
+returns-in-Card-End-clause-ok g c = λ taken sent keeps may.
     let is = c.in-Card-End.is ∙ ap reply.Card c.in-Card-End.field-0-is in
     (sym (ap (λ r. cause_of r taken) is), λ none. card-takes _ _ _ taken sent c.args.reply feed.End (ap taken_by is) refl keeps may)

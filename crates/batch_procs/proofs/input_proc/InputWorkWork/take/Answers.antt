@@ -12,7 +12,7 @@ use Rattle.batch_procs.proofs.Takes.{input-takes, still-going}
 use Rattle.batch_procs.proofs.input_proc.InputWorkWork.take.Goals as goal
 
 pub returns-in-Feed-Item-clause-ok : goal.returns-in-Feed-Item-clause-ok
-returns-in-Feed-Item-clause-ok c = λ taken sent keeps may.
+returns-in-Feed-Item-clause-ok g c = λ taken sent keeps may.
     let is = c.in-Feed-Item.is ∙ ap reply.Feed c.in-Feed-Item.field-0-is in
     let going = still-going input _ _ taken sent c.args.reply keeps.keeps may in (
       sym (ap (λ r. cause_of r taken) is),
@@ -23,7 +23,7 @@ returns-in-Feed-Item-clause-ok c = λ taken sent keeps may.
     )
 
 pub returns-in-Feed-End-clause-ok : goal.returns-in-Feed-End-clause-ok
-returns-in-Feed-End-clause-ok c = λ taken sent keeps may.
+returns-in-Feed-End-clause-ok g c = λ taken sent keeps may.
     let is = c.in-Feed-End.is ∙ ap reply.Feed c.in-Feed-End.field-0-is in (
       sym (ap (λ r. cause_of r taken) is),
       λ none. input-takes _ _ _ _ _ _ taken sent c.args.reply feed.End is keeps may

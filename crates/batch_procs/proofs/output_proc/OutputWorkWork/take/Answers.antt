@@ -4,7 +4,7 @@ use Rattle.batch_procs.proofs.PageTakes.{output-takes}
 use Rattle.batch_procs.proofs.output_proc.OutputWorkWork.take.Goals as goal
 
 pub returns-in-Ok-clause-ok : goal.returns-in-Ok-clause-ok
-returns-in-Ok-clause-ok c = λ taken sent keeps may.
+returns-in-Ok-clause-ok g c = λ taken sent keeps may.
     let read = sym c.take.ensures.read ∙ c.in-Ok.is in
     let all = output-takes _ _ _ _ _ _ taken sent c.args.reply c.in-Page.page c.in-Page.last c.in-Ok.items c.in-Page.is (sym c.is_ended.ensures
     ∙ c.if-is_ended.false) read

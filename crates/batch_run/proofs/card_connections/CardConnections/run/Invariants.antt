@@ -1,12 +1,8 @@
-use Rattle.std.specs.Prelude.{option_to_list}
-use Rattle.batch_procs.specs.Sends.{as_parcels}
-use Rattle.batch_procs.specs.Due.{KeepsDue}
+use Rattle.batch_procs.specs.Keeping.{card_keeps}
 use Rattle.batch_procs.specs.Table.{card}
 use Rattle.batch_run.specs.Cards.{CardRan}
 use Rattle.batch_run.proofs.Running.{Going}
 use Rattle.batch_run.proofs.card_connections.CardConnections.run.Given as goal
 
 abbrev pub invariant-loop : goal.invariant-loop
-invariant-loop g l =
-    Going card (λ work. KeepsDue card (as_parcels (option_to_list work.due)) work.ended) l.machine
-    (CardRan g.S.Source.left g.S.Source.taken g.S.Source.faults l.initial.self l.self)
+invariant-loop g l = Going card card_keeps l.machine (CardRan g.S.Source.left g.S.Source.taken g.S.Source.faults l.initial.self l.self)

@@ -8,65 +8,71 @@ use Rattle.batch_run.specs.Desks.{IsAt}
 use Rattle.batch_run.proofs.FileLoads.{file-loaded}
 use Rattle.batch_run.proofs.SpoolCalls as spools
 use Rattle.batch_run.proofs.job_connections.JobConnections.perform.Goals as goal
+use Rattle.deck_work.specs.DeckJobs.{deck_jobs, deck_are_jobs}
 
 pub await_item-requires-clause-not_stopped : goal.await_item-requires-clause-not_stopped
 await_item-requires-clause-not_stopped g c κs within =
     let (start, comes) = c.requires.comes in
-    spools.not-stopped job Receiver 2 comes.history _ _ job-relay comes.follows (comes.next ∙ ap Some c.in-AwaitItem.is) tt comes.stands.from_calls
+    spools.not-stopped (job deck_jobs) Receiver 2 comes.history _ _ (job-relay deck_are_jobs) comes.follows
+        (comes.next ∙ ap Some c.in-AwaitItem.is) tt comes.stands.from_calls
 
 pub await_room-requires-clause-not_stopped : goal.await_room-requires-clause-not_stopped
 await_room-requires-clause-not_stopped g c κs within =
     let (start, comes) = c.requires.comes in
-    spools.not-stopped job Sender 3 comes.history _ _ job-relay comes.follows (comes.next ∙ ap Some c.in-AwaitRoom.is) tt comes.stands.to_calls
+    spools.not-stopped (job deck_jobs) Sender 3 comes.history _ _ (job-relay deck_are_jobs) comes.follows
+        (comes.next ∙ ap Some c.in-AwaitRoom.is) tt comes.stands.to_calls
 
 pub request-requires-after_bounds : goal.request-requires-after_bounds
 request-requires-after_bounds g c κs within =
     let (start, comes) = c.requires.comes in
-    subst (λ has. IsAt c.args.self.now.desk has) (request-holds_not job comes.history job-relay comes.follows (comes.next
+    subst (λ has. IsAt c.args.self.now.desk has) (request-holds_not deck_jobs (job deck_jobs) comes.history (job-relay deck_are_jobs) comes.follows (comes.next
     ∙ ap Some c.in-Request.is)) comes.stands.desk.at
 
 pub pass-requires : goal.pass-requires
 pass-requires g c =
     let (start, comes) = c.requires.comes in
-    subst (λ has. IsAt c.args.self.now.desk has) (moves-holding job comes.history _ job-relay comes.follows (comes.next
+    subst (λ has. IsAt c.args.self.now.desk has) (moves-holding deck_jobs (job deck_jobs) comes.history _ (job-relay deck_are_jobs) comes.follows (comes.next
     ∙ ap Some c.in-TakePage.is) tt) comes.stands.desk.at
 
 pub take-requires-clause-not_stopped : goal.take-requires-clause-not_stopped
 take-requires-clause-not_stopped g c κs within =
     let (start, comes) = c.requires.comes in
-    spools.not-stopped job Receiver 2 comes.history _ _ job-relay comes.follows (comes.next ∙ ap Some c.in-TakePage.is) tt comes.stands.from_calls
+    spools.not-stopped (job deck_jobs) Receiver 2 comes.history _ _ (job-relay deck_are_jobs) comes.follows
+        (comes.next ∙ ap Some c.in-TakePage.is) tt comes.stands.from_calls
 
 pub take-requires-clause-ready : goal.take-requires-clause-ready
 take-requires-clause-ready g c κs within =
     let (start, comes) = c.requires.comes in
-    spools.may-take job 2 comes.history _ job-relay comes.follows (comes.next ∙ ap Some c.in-TakePage.is) comes.stands.from_calls
+    spools.may-take (job deck_jobs) 2 comes.history _ (job-relay deck_are_jobs) comes.follows (comes.next ∙ ap Some c.in-TakePage.is) comes.stands.from_calls
 
 pub pass-requires-in-PutPage : goal.pass-requires-in-PutPage
 pass-requires-in-PutPage g c =
     let (start, comes) = c.requires.comes in
-    subst (λ has. IsAt c.args.self.now.desk has) (moves-holding job comes.history _ job-relay comes.follows (comes.next
+    subst (λ has. IsAt c.args.self.now.desk has) (moves-holding deck_jobs (job deck_jobs) comes.history _ (job-relay deck_are_jobs) comes.follows (comes.next
     ∙ ap Some c.in-PutPage.is) tt) comes.stands.desk.at
 
 pub put-requires-clause-not_stopped : goal.put-requires-clause-not_stopped
 put-requires-clause-not_stopped g c κs within =
     let (start, comes) = c.requires.comes in
-    spools.not-stopped job Sender 3 comes.history _ _ job-relay comes.follows (comes.next ∙ ap Some c.in-PutPage.is) tt comes.stands.to_calls
+    spools.not-stopped (job deck_jobs) Sender 3 comes.history _ _ (job-relay deck_are_jobs) comes.follows
+        (comes.next ∙ ap Some c.in-PutPage.is) tt comes.stands.to_calls
 
 pub put-requires-clause-ready : goal.put-requires-clause-ready
 put-requires-clause-ready g c κs within =
     let (start, comes) = c.requires.comes in
-    spools.may-put job 3 comes.history c.in-PutPage.page _ job-relay comes.follows (comes.next ∙ ap Some c.in-PutPage.is) comes.stands.to_calls
+    spools.may-put (job deck_jobs) 3 comes.history c.in-PutPage.page _ (job-relay deck_are_jobs) comes.follows
+        (comes.next ∙ ap Some c.in-PutPage.is) comes.stands.to_calls
 
 pub release-requires-after_bounds : goal.release-requires-after_bounds
 release-requires-after_bounds g c κs within =
     let (start, comes) = c.requires.comes in
-    subst (λ has. IsAt c.args.self.now.desk has) (release-holds job comes.history job-relay comes.follows (comes.next
+    subst (λ has. IsAt c.args.self.now.desk has) (release-holds deck_jobs (job deck_jobs) comes.history (job-relay deck_are_jobs) comes.follows (comes.next
     ∙ ap Some c.in-Release.is)) comes.stands.desk.at
 
 pub load_file-requires : goal.load_file-requires
 load_file-requires g c =
     let (start, comes) = c.requires.comes in
-    record { sound = comes.stands.files.sound (open-next job comes.history _ (comes.next ∙ ap Some c.in-Load.is) tt) }
+    record { sound = comes.stands.files.sound (open-next deck_jobs (job deck_jobs) comes.history _ (comes.next ∙ ap Some c.in-Load.is) tt) }
 
 pub returns-in-Load-clause-performs : goal.returns-in-Load-clause-performs
 returns-in-Load-clause-performs g c start h ran follows next =

@@ -1,9 +1,10 @@
 use Rattle.std.proofs.Common.{◌≤◌, [], sym, subst, refl, ◌∙◌, ap}
 use Rattle.solo_devices.specs.CardUnit.{items_ahead}
 use Rattle.disk_files.specs.Answers.{FileTable}
-use Rattle.core_net.specs.Openings.{spools_over, files_found}
+use Rattle.core_net.specs.Openings.{spools_over}
+use Rattle.deck_work.specs.DeckJobs.{files_found}
 use Rattle.core_net.specs.Shared.{cards_left}
-use Rattle.core_net.proofs.GoodFiles.{are-good}
+use Rattle.core_net.proofs.GoodFiles.{are-good, told-cards}
 use Rattle.core_net.proofs.Within.{opening-within, fresh-few}
 use Rattle.core_net.proofs.net.Net.make.Goals as goal
 
@@ -15,6 +16,7 @@ returns-clause-opens g c = record {
     output_some = c.requires.output_some;
     output_most = c.requires.output_few;
   };
+  cards = told-cards (g.S.Source.left c.args.source) [];
   good = are-good (g.F.Area.pages c.args.files.area);
   stands = record {
     is = record {

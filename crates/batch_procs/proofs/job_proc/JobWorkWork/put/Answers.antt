@@ -1,8 +1,0 @@
-use Rattle.std.proofs.Common.{sym, ◌∙◌}
-use Rattle.batch_procs.proofs.JobSteps.{is-last, job-puts}
-use Rattle.batch_procs.proofs.job_proc.JobWorkWork.put.Goals as goal
-
-pub returns-in-Some : goal.returns-in-Some
-returns-in-Some c = λ taken sent more first keeps left.
-    job-puts _ _ _ _ _ _ c.last.result taken sent more first c.in-Some.page (sym c.take.ensures.value
-    ∙ c.in-Some.is) c.take.ensures.after (is-last c.last.result _ c.last.ensures) keeps left

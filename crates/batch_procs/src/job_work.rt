@@ -1,0 +1,47 @@
+ghost use Rattle.std.specs.Prelude.{◌≡◌, ◌∷◌, ℕ, List, [], true, false, IfOk, OnOk};
+ghost use Rattle.batch_procs.specs.Jobs.{Jobs, AreJobs};
+ghost use Rattle.batch_procs.specs.JobTold.{JobTold, nothing_told, with_page, with_found, wanted, first_of, PushesLines};
+
+use page_codec::{Packer, PageItems};
+use solo_base::{Ident, NoMemory, Page};
+use std::alloc::Global;
+
+/// The work on the jobs of a deck: it is fed the items of the deck, a page at a time, and what the files that
+/// they name are loaded as, and packs the lines that they print into pages.
+pub trait JobWork: Drop {
+    /// What the file of a job is loaded as.
+    type Load: Drop + Send;
+
+    /// The files that items name, and the lines that they print.
+    ghost jobs: { Jobs Self.Load };
+
+    /// It keeps what it was told.
+    ghost keeps: { Self → JobTold Self.Load → Type 0 };
+
+    /// The work of one that was told nothing.
+    fn begin(alloc: Global) -> Self
+        ensures { keeps result nothing_told };
+
+    /// Takes the items of the next page, once all lines of those before are pushed. None follows the last.
+    fn feed(&mut self, items: PageItems) -> Result<(), NoMemory>
+        ensures { OnOk result ((told : JobTold Self.Load) → keeps self.old told → told.rests ≡ true
+            → told.ended ≡ false → keeps self.new (with_page told items)) };
+
+    /// The first file of the jobs that were fed whose load wasn't given yet.
+    fn wants(&self) -> Option<Ident>
+        ensures { (told : JobTold Self.Load) → keeps self.now told → result ≡ first_of (wanted jobs told) };
+
+    /// Gives what was found of that file.
+    fn load(&mut self, load: Self::Load)
+        ensures { (told : JobTold Self.Load) (file : List ℕ) (later : List (List ℕ)) → keeps self.old told
+            → wanted jobs told ≡ file ∷ later → keeps self.new (with_found told load) };
+
+    /// Makes and pushes the next lines until a push gives a page. No page says that all lines of the items so
+    /// far are pushed. No file is wanted.
+    fn pack(&mut self, packer: &mut Packer) -> Result<Option<Page>, NoMemory>
+        ensures { IfOk result (λ page. (told : JobTold Self.Load) → keeps self.old told
+            → wanted jobs told ≡ [] → PushesLines jobs (keeps self.new) told packer.old page packer.new) };
+
+    /// What holds of its jobs.
+    ghost are_jobs: { AreJobs jobs };
+}

@@ -1,0 +1,3 @@
+pub mod DeckJobs
+pub mod KeepsDeck
+pub mod DeckKeeps

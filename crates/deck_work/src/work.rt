@@ -1,0 +1,50 @@
+use batch_job::JobStream;
+use batch_procs::JobWork;
+use disk_system::Loaded;
+use page_codec::{Packer, PageItems};
+use solo_base::{Ident, NoMemory, Page};
+use std::alloc::Global;
+
+/// The work on the jobs of a deck, as the job process does it.
+#[derive(Drop)]
+pub struct DeckWork {
+    stream: JobStream,
+}
+
+impl JobWork for DeckWork {
+    ghost use Rattle.deck_work.specs.DeckJobs.{deck_jobs, deck_are_jobs};
+    ghost use Rattle.deck_work.specs.DeckKeeps.{deck_keeps};
+
+    type Load = Loaded;
+
+    ghost jobs = { deck_jobs };
+
+    ghost keeps = { deck_keeps };
+
+    ghost are_jobs = { deck_are_jobs };
+
+    fn begin(alloc: Global) -> DeckWork {
+        DeckWork {
+            stream: JobStream::new(alloc),
+        }
+    }
+
+    fn feed(&mut self, items: PageItems) -> Result<(), NoMemory> {
+        self.stream.feed(items)
+    }
+
+    fn wants(&self) -> Option<Ident> {
+        self.stream.wants()
+    }
+
+    fn load(&mut self, load: Loaded) {
+        self.stream.load(load);
+    }
+
+    fn pack(&mut self, packer: &mut Packer) -> Result<Option<Page>, NoMemory> {
+        match self.stream.wants() {
+            Some(_wanted) => Ok(None),
+            None => self.stream.pack(packer),
+        }
+    }
+}
