@@ -204,7 +204,8 @@ module _ {P : Type 0} (p : Process Action Reply) (ready : P → p.Place → Type
   page-uses page (Err refused) at r is takes = tt
 
   page-lacking : (page : Page) (result : Result (Option Outcome) NoMemory) → OnErr result (p.may_lack ≡ true)
-      → OnErr result ((p.may_lack ≡ true) × ((at : p.Place) (a : Action) (r : Reply) → Fits a r → Hears (ready old at) (came old at) (hear.Page page) r → MayLack a r))
+      → OnErr result ((p.may_lack ≡ true) × ((at : p.Place) (a : Action) (r : Reply) → Fits a r → Hears (ready old at) (came old at) (hear.Page page) r →
+      MayLack a r))
   page-lacking page (Ok cause) lacks = tt
   page-lacking page (Err refused) lacks = (
     lacks,

@@ -1,6 +1,6 @@
 -- The steps of the input process.
 use Rattle.std.proofs.Common.{◌≡◌, ℕ, suc, ◌+◌, ◌%◌, ◌^◌, Bool, true, false, if◌then◌else◌, List, [], ◌∷◌, ◌++◌, length, map, Option, None, Some, refl, sym, ◌∙◌, ap, subst, arith, append_assoc}
-use Rattle.std.specs.Prelude.{nat_le, Result, Ok}
+use Rattle.std.specs.Prelude.{nat_le}
 use Rattle.std.proofs.lemmas.List.{append-nil}
 use Rattle.solo_base.specs.declared.item.Item.TheVariants.{Line}
 use Rattle.solo_base.specs.declared.page.Page.{Page}
@@ -19,7 +19,7 @@ use Rattle.exchange_law.specs.Parcels.{is_nil}
 use Rattle.solo_law.specs.Actions.{Reply}
 use Rattle.solo_law.specs.Actions as act
 use Rattle.solo_law.specs.Replies.{Fits}
-use Rattle.solo_law.specs.InputPlaces.{InputPlace, AwaitsOrder, Reads, PutsFull, PutsLast, Reports, IsOver, input_does, packs, packs_if, closes_file, behind_card, behind_order, input_behind}
+use Rattle.solo_law.specs.InputPlaces.{InputPlace, AwaitsOrder, Reads, PutsFull, PutsLast, Reports, IsOver, input_does, packs, packs_if, closes_file, behind_card, input_behind}
 use Rattle.solo_procs.specs.declared.actions.SoloAction.{SoloAction}
 use Rattle.solo_procs.specs.declared.actions.SoloAction.TheVariants as say
 use Rattle.solo_procs.specs.declared.input_proc.InputAt.{InputAt}
@@ -143,10 +143,12 @@ pub input-reads-as : (card as_is : CardRead) → card ≡ as_is → (place : Inp
     → ((pages : ℕ) (hand : List (List ℕ)) (clean : Bool) → InputStands place packer sound (Reads pages hand clean) → Now (behind_card pages hand clean as_is))
     → (at : InputPlace) → InputStands place packer sound at → Fits (input_does at) (act.OfCard card) → Now (input_behind at (act.OfCard card))
 input-reads-as card as_is is place packer sound Now reads =
-    input-reads card place packer sound Now (λ pages hand clean kept. subst (λ card. Now (behind_card pages hand clean card)) (sym is) (reads pages hand clean kept))
+    input-reads card place packer sound Now (λ pages hand clean kept. subst (λ card. Now (behind_card pages hand clean card)) (sym is)
+    (reads pages hand clean kept))
 
 -- no card was read
-pub reads-on : (card : CardRead) (place : InputAt) (packer : PageInHand) (sound : Bool) → ((line : List ℕ) → card ≡ read.Card line → ⊥) → (card ≡ read.Spoiled → ⊥)
+pub reads-on : (card : CardRead) (place : InputAt) (packer : PageInHand) (sound : Bool) → ((line : List ℕ) → card ≡ read.Card line → ⊥)
+    → (card ≡ read.Spoiled → ⊥)
     → (card ≡ read.End → ⊥) → (pages : ℕ) (hand : List (List ℕ)) (clean : Bool) → InputStands place packer sound (Reads pages hand clean)
     → InputStands place packer sound (behind_card pages hand clean card)
 reads-on (read.Card line) place packer sound line_not spoiled end pages hand clean kept = absurd (line_not line refl)
@@ -187,7 +189,8 @@ packed place packer now sound pages hand line given gives after is_sound kept =
     let room : fits packer (Line line) ≡ has_room_for hand line =
     ap (λ c. nat_le (length (c ++ item_bytes (Line line))) CONTENT_ROOM) content ∙ sym (ap (λ c. nat_le (length c) CONTENT_ROOM) (content-more hand line)) in
     let P : Bool → Type 0 = λ t. given ≡ (if t then None else Some (page_of packer.place false packer.content))
-    → now ≡ (if t then record packer { content = packer.content ++ item_bytes (Line line) } else record { place = (packer.place + 1) % 2 ^ 16; content = item_bytes (Line line) })
+    → now ≡ (if t then record packer { content = packer.content ++ item_bytes (Line line) } else record
+    { place = (packer.place + 1) % 2 ^ 16; content = item_bytes (Line line) })
     → InputStands (place_given given place) now sound
     (if t then Reads pages (hand ++ line ∷ []) true else PutsFull (page_with pages false hand) (suc pages) (line ∷ [])) in
     let both : (t : Bool) → P t = λ t. elim t as P [

@@ -1,9 +1,8 @@
 -- What the job process makes of needs, lines and pages.
-use Rattle.std.proofs.Common.{◌≡◌, ◌<◌, ◌≤◌, ℕ, zero, suc, ◌+◌, ◌%◌, ◌^◌, not, Bool, true, false, List, [], ◌∷◌, ◌++◌, length, Option, None, Some, refl, sym, ◌∙◌, ap, subst, arith}
+use Rattle.std.proofs.Common.{◌≡◌, ◌≤◌, ℕ, zero, suc, ◌+◌, not, Bool, true, false, List, [], ◌∷◌, length, Option, None, Some, refl, sym, ◌∙◌, ap, subst, arith}
 use Rattle.std.specs.Prelude.{drop, slice_get}
 use Rattle.solo_base.specs.declared.item.Item.{Item}
-use Rattle.solo_base.specs.declared.item.Item.TheVariants.{Line, Spoiled}
-use Rattle.solo_base.specs.declared.item.Feed.TheVariants as feed
+use Rattle.solo_base.specs.declared.item.Item.TheVariants.{Line}
 use Rattle.solo_base.specs.declared.page.Page.{Page}
 use Rattle.solo_base.specs.declared.system_call.Arg.{Arg}
 use Rattle.solo_base.specs.declared.system_call.Arg.TheVariants as arg
@@ -12,15 +11,15 @@ use Rattle.solo_devices.specs.declared.card_read.CardRead.TheVariants as read
 use Rattle.exchange_law.specs.Pages.{lines_of, page_with}
 use Rattle.solo_law.specs.Work.{Work}
 use Rattle.solo_law.specs.Work as law
-use Rattle.solo_law.specs.JobPlaces.{JobPlace, Listens, Toils, OrdersCards, TakesCards, TakesReport, Accepts, Displays, OrdersPrinter, PutsPage, TakesPrinted, AnswersLine, DismissesInput, Behind, GoesOn, EndsWith, works, answers, meets, ends, puts_page, begins_with, behind_typed, behind_accepted, behind_put, file_of}
+use Rattle.solo_law.specs.JobPlaces.{JobPlace, Listens, OrdersCards, TakesCards, TakesReport, Accepts, PutsPage, DismissesInput, Behind, GoesOn, EndsWith, works, answers, meets, ends, puts_page, begins_with, behind_typed, behind_accepted, behind_put, file_of}
 use Rattle.solo_procs.specs.declared.commands.Given.{Given}
 use Rattle.solo_procs.specs.declared.commands.Given.TheVariants as given
 use Rattle.solo_procs.specs.declared.commands.Need.{Need}
 use Rattle.solo_procs.specs.declared.commands.Need.TheVariants as need
 use Rattle.solo_procs.specs.declared.job_proc.JobAt.TheVariants as here
 use Rattle.solo_procs.specs.declared.job_proc.JobProc.{JobProc}
-use Rattle.solo_procs.specs.Commands.{Kind, AtLine, AtTyped, given_of, kind_given, kind_behind, pages_behind, last_page, IsNeed}
-use Rattle.solo_procs.specs.Job.{has_put, answers_left, JobStands, CameSo, says_true}
+use Rattle.solo_procs.specs.Commands.{Kind, AtTyped, given_of, kind_given, kind_behind, pages_behind, last_page, IsNeed}
+use Rattle.solo_procs.specs.Job.{JobStands, CameSo, says_true}
 use Rattle.solo_procs.specs.JobSteps.{IsAnswering, IsPutting}
 
 some-same : {A : Type 0} (a b : A) → Some a ≡ Some b → a ≡ b
@@ -160,7 +159,8 @@ module _ {C : Type 0} (awaits : C → ℕ → Kind → Type 0) (j : JobProc C) w
   pub answers-none : length j.answers ≤ j.answered → (lines : List (List ℕ)) → IsAnswering awaits j lines
       → JobStands awaits (record j { place = here.Listens }) (answers lines)
   answers-none past lines answering =
-      subst (λ lines. JobStands awaits (record j { place = here.Listens }) (answers lines)) (sym (drop-past j.answers j.answered past) ∙ answering.left) record {
+      subst (λ lines. JobStands awaits (record j { place = here.Listens }) (answers lines)) (sym (drop-past j.answers j.answered past) ∙ answering.left)
+      record {
         place = tt;
         holds = tt;
         unmet = answering.unmet;
@@ -188,7 +188,8 @@ module _ {C : Type 0} (awaits : C → ℕ → Kind → Type 0) (j : JobProc C) w
   kind-file items (arg.Int n) = refl
   kind-file items (arg.Id name) = refl
 
-  pub file-taken : (report : Arg) (spoiled : Bool) (left : List (List ℕ)) → spoiled ≡ not (says_true report) → (items : List Item) (pages : ℕ) → JobStands awaits j (TakesReport items pages)
+  pub file-taken : (report : Arg) (spoiled : Bool) (left : List (List ℕ)) → spoiled ≡ not (says_true report) → (items : List Item) (pages : ℕ)
+      → JobStands awaits j (TakesReport items pages)
       → JobStands awaits (record j { cards = left; place = here.Toils; given = given.Cards j.cards spoiled }) (works (file_of items report) pages)
   file-taken report spoiled left is items pages kept = record {
     place = tt;

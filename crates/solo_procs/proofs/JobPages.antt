@@ -1,5 +1,5 @@
 -- The pages of a card file that the job process takes.
-use Rattle.std.proofs.Common.{◌≡◌, ℕ, ◌+◌, ◌%◌, ◌^◌, Bool, true, false, List, [], ◌∷◌, ◌++◌, Option, None, Some, refl, sym, ◌∙◌, ap, subst, arith, append_assoc}
+use Rattle.std.proofs.Common.{◌≡◌, ℕ, ◌+◌, ◌%◌, ◌^◌, Bool, true, false, List, [], ◌∷◌, ◌++◌, None, Some, sym, ◌∙◌, ap, arith, append_assoc}
 use Rattle.std.specs.Prelude.{Ok, Err, option_to_list}
 use Rattle.std.proofs.lemmas.List.{append-nil}
 use Rattle.solo_base.specs.declared.item.Item.{Item}
@@ -8,7 +8,7 @@ use Rattle.solo_base.specs.declared.outcome.Outcome.TheVariants as outcome
 use Rattle.solo_base.specs.declared.outcome.Cause.{Cause}
 use Rattle.page_codec.specs.declared.judge.BadPage.{BadPage}
 use Rattle.page_codec.specs.Reading.{PageContent, page_read}
-use Rattle.exchange_law.specs.Pages.{is_last, page_gives, items_read, lines_of, damage}
+use Rattle.exchange_law.specs.Pages.{is_last, page_gives, lines_of, damage}
 use Rattle.exchange_law.proofs.Lines.{lines-append}
 use Rattle.place_law.specs.Process.{fault_in}
 use Rattle.solo_law.specs.Actions as act
@@ -58,7 +58,8 @@ module _ {C : Type 0} (awaits : C → ℕ → Kind → Type 0) (j : JobProc C) w
       → (at : JobPlace) → JobStands awaits j at → Fits (job_does at) (act.OfPage page)
       → Takes job (JobStands awaits (record j { pages = next; cards = cards; place = page_place last })) at (act.OfPage page) None
   job-takes page content last next cards reads is behind added =
-      page-taken awaits j page (λ at. Takes job (JobStands awaits (record j { pages = next; cards = cards; place = page_place last })) at (act.OfPage page) None)
+      page-taken awaits j page (λ at. Takes job (JobStands awaits (record j { pages = next; cards = cards; place = page_place last })) at (act.OfPage page)
+      None)
       (λ taken items pages kept.
       let read : page_gives taken page ≡ Ok content = ap (λ n. page_read n (is_last page) page) (sym kept.taken) ∙ reads in (
         sym (ap (λ r. fault_in (damage r)) read),

@@ -1,34 +1,27 @@
 -- The steps of the job process.
-use Rattle.std.proofs.Common.{◌≡◌, ◌<◌, ◌≤◌, ℕ, zero, suc, ◌+◌, ◌%◌, ◌^◌, not, Bool, true, false, List, [], ◌∷◌, ◌++◌, length, Option, None, Some, refl, sym, ◌∙◌, ap, subst, arith}
-use Rattle.std.specs.Prelude.{drop, slice_get}
+use Rattle.std.proofs.Common.{◌≡◌, ℕ, suc, not, List, [], Some, refl, sym, ◌∙◌, ap, subst}
 use Rattle.solo_base.specs.declared.item.Item.{Item}
-use Rattle.solo_base.specs.declared.item.Item.TheVariants.{Line, Spoiled}
-use Rattle.solo_base.specs.declared.item.Feed.TheVariants as feed
 use Rattle.solo_base.specs.declared.page.Page.{Page}
 use Rattle.solo_base.specs.declared.system_call.Arg.{Arg}
 use Rattle.solo_base.specs.declared.system_call.Arg.TheVariants as arg
 use Rattle.solo_base.specs.declared.outcome.Outcome.TheVariants as outcome
 use Rattle.solo_devices.specs.declared.card_read.CardRead.{CardRead}
-use Rattle.solo_devices.specs.declared.card_read.CardRead.TheVariants as read
-use Rattle.exchange_law.specs.Pages.{lines_of, page_with}
 use Rattle.solo_law.specs.Work.{Work}
 use Rattle.solo_law.specs.Work as law
 use Rattle.solo_law.specs.Actions.{Reply}
 use Rattle.solo_law.specs.Actions as act
 use Rattle.solo_law.specs.Replies.{Fits}
-use Rattle.solo_law.specs.JobPlaces.{JobPlace, Listens, Toils, OrdersCards, TakesCards, TakesReport, Accepts, Displays, OrdersPrinter, PutsPage, TakesPrinted, AnswersLine, DismissesInput, DismissesOutput, HasLeft, Behind, GoesOn, EndsWith, job_does, job_behind, cards_order, printer_order, works, answers, meets, ends, puts_page, begins_with, behind_typed, behind_accepted, behind_put, file_of}
+use Rattle.solo_law.specs.JobPlaces.{JobPlace, Listens, Toils, OrdersCards, TakesCards, TakesReport, Accepts, Displays, OrdersPrinter, PutsPage, TakesPrinted, AnswersLine, DismissesInput, DismissesOutput, HasLeft, Behind, job_does, job_behind, cards_order, printer_order, works, answers, meets, behind_typed, behind_accepted, behind_put, file_of}
 use Rattle.solo_procs.specs.declared.commands.Given.TheVariants as given
-use Rattle.solo_procs.specs.declared.commands.Need.{Need}
-use Rattle.solo_procs.specs.declared.commands.Need.TheVariants as need
 use Rattle.solo_procs.specs.declared.job_proc.JobAt.{JobAt}
 use Rattle.solo_procs.specs.declared.job_proc.JobAt.TheVariants as here
 use Rattle.solo_procs.specs.declared.job_proc.JobProc.{JobProc}
 use Rattle.solo_procs.specs.declared.actions.SoloAction.{SoloAction}
 use Rattle.solo_procs.specs.declared.actions.SoloAction.TheVariants as say
 use Rattle.solo_procs.specs.Said.{said, IsHeardDone}
-use Rattle.solo_procs.specs.Commands.{Kind, AtLine, given_of, kind_behind, pages_behind, last_page, IsNeed}
-use Rattle.solo_procs.specs.Job.{IsPlace, has_put, answers_left, KeepsBehind, KeepsAt, JobStands, CameSo, job_came, says_true}
-use Rattle.solo_procs.specs.JobSteps.{IsAnswering, IsPutting}
+use Rattle.solo_procs.specs.Commands.{Kind}
+use Rattle.solo_procs.specs.Job.{IsPlace, JobStands, CameSo, job_came}
+use Rattle.solo_procs.specs.JobSteps.{IsAnswering}
 
 some-same : {A : Type 0} (a b : A) → Some a ≡ Some b → a ≡ b
 some-same a b e = cc

@@ -1,6 +1,6 @@
 -- What a machine says and keeps, for any process.
 use Rattle.std.proofs.Common.{◌≡◌, ◌+◌, ℕ, min, Bool, true, false, List, [], ◌∷◌, Option, None, Some, refl, sym, ◌∙◌, ap, subst}
-use Rattle.std.specs.Prelude.{slice_get, Result, Ok, Err, IsTrue}
+use Rattle.std.specs.Prelude.{slice_get, Ok, Err, IsTrue}
 use Rattle.std.specs.Option.{is_some}
 use Rattle.solo_base.specs.declared.no_memory.NoMemory.{NoMemory}
 use Rattle.solo_base.specs.declared.outcome.Outcome.{Outcome}
@@ -154,7 +154,8 @@ module _ {P : Type 0} {p : Process Action Reply} {is_at : P → p.Place → Type
         → IsUsedSo p (ready process) (place p h) r given
         → StandsFor p is_at ready (record { process = process; cause = given; stops = m.stops; ended = is_end s }) (Does a r ∷ h)
     stands-done process given s stands e same uses =
-        let gives : given ≡ given_cause view p (place p h) a r = uses.cause_is ∙ ap (λ a. given_cause view p (place p h) a r) (does-next a (caused-none e) next) in
+        let gives : given ≡ given_cause view p (place p h) a r = uses.cause_is ∙ ap (λ a. given_cause view p (place p h) a r)
+        (does-next a (caused-none e) next) in
         let there : or_new (caused view p h) (given_cause view p (place p h) a r) ≡ None → ready process (p.behind (place p h) r) =
         (λ none. uses.ready (gives ∙ or-new (caused view p h) (given_cause view p (place p h) a r) none)) in
         record {
@@ -170,7 +171,8 @@ module _ {P : Type 0} {p : Process Action Reply} {is_at : P → p.Place → Type
 
   stands-lacking : (ready : P → p.Place → Type 0) (a : Action) (r : Reply) (process : P) → next_action view p h ≡ Some a → m.cause ≡ None
       → (p.may_lack ≡ true) × MayLack a r
-      → StandsFor p is_at ready (record { process = process; cause = Some (outcome.Fault cause.NoMemory); stops = m.stops; ended = m.ended }) (LacksMemory a r ∷ h)
+      → StandsFor p is_at ready (record { process = process; cause = Some (outcome.Fault cause.NoMemory); stops = m.stops; ended = m.ended })
+      (LacksMemory a r ∷ h)
   stands-lacking ready a r process next e lacks = record {
     tracks = record {
       follows = (next, lacks, st.follows);
@@ -230,6 +232,7 @@ module _ {P : Type 0} (p : Process Action Reply) (is_at ready : P → p.Place �
   pub gives-lacking : (refused : NoMemory) → Answers p ready came m.process s reply (Err refused) process
       → (h : List (Entry Action Reply)) (a : Action) (r : Reply) → Tracks p is_at m h → next_action view p h ≡ Some a → Fits a r
       → IsTold p ready came m h reply r
-      → StandsFor p is_at ready (record { process = process; cause = Some (outcome.Fault cause.NoMemory); stops = m.stops; ended = m.ended }) (LacksMemory a r ∷ h)
+      → StandsFor p is_at ready (record { process = process; cause = Some (outcome.Fault cause.NoMemory); stops = m.stops; ended = m.ended })
+      (LacksMemory a r ∷ h)
   gives-lacking refused answers h a r st next fits told =
       stands-lacking st ready a r process next free (answers.lacks.0, answers.lacks.1 (place p h) a r fits (told (caused-none st free)))

@@ -4,7 +4,6 @@ use Rattle.std.specs.Prelude.{Ok, Err, option_to_list}
 use Rattle.solo_base.specs.declared.page.Page.{Page}
 use Rattle.solo_base.specs.declared.system_call.Arg.{Arg}
 use Rattle.solo_base.specs.declared.system_call.Arg.TheVariants as arg
-use Rattle.solo_base.specs.declared.outcome.Outcome.{Outcome}
 use Rattle.solo_base.specs.declared.outcome.Outcome.TheVariants as outcome
 use Rattle.solo_base.specs.declared.outcome.Cause.{Cause}
 use Rattle.solo_devices.specs.declared.card_read.CardRead.{CardRead}
@@ -16,7 +15,7 @@ use Rattle.place_law.specs.Process.{fault_in}
 use Rattle.solo_law.specs.Actions.{Reply}
 use Rattle.solo_law.specs.Actions as act
 use Rattle.solo_law.specs.Replies.{Fits}
-use Rattle.solo_law.specs.OutputPlaces.{output, OutputPlace, AwaitsPrinting, TakesPage, PrintsLine, ReportsPrinted, IsDone, output_does, output_finds, output_behind, prints, behind_page, behind_printing}
+use Rattle.solo_law.specs.OutputPlaces.{output, OutputPlace, AwaitsPrinting, TakesPage, PrintsLine, ReportsPrinted, IsDone, output_does, output_behind, prints, behind_page}
 use Rattle.solo_procs.specs.declared.actions.SoloAction.{SoloAction}
 use Rattle.solo_procs.specs.declared.actions.SoloAction.TheVariants as say
 use Rattle.solo_procs.specs.declared.output_proc.OutputAt.{OutputAt}
@@ -72,7 +71,8 @@ module _ (place : OutputAt) (pages : ℕ) (items : Option PageContent) (last : B
   reported-by is IsDone kept = absurd (let same = kept in cc)
 
   pub output-reported : place ≡ here.ReportsPrinted → (at : OutputPlace) (answer : Reply) → Fits (output_does at) answer
-      → said.IsHeardDone (OutputStands place pages items last at) (λ need. ⊥) answer → OutputStands here.AwaitsPrinting pages items last (output_behind at answer)
+      → said.IsHeardDone (OutputStands place pages items last at) (λ need. ⊥) answer
+      → OutputStands here.AwaitsPrinting pages items last (output_behind at answer)
   output-reported is at answer fits done =
       done-case (OutputStands place pages items last at) (λ r. OutputStands here.AwaitsPrinting pages items last (output_behind at r)) answer done
       (reported-by is at)

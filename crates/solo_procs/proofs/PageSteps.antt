@@ -1,5 +1,5 @@
 -- The pages of streams, one behind the other.
-use Rattle.std.proofs.Common.{◌≡◌, ℕ, ◌+◌, ◌%◌, ◌^◌, ◌==◌, not, Bool, true, false, refl, sym, ◌∙◌, ap}
+use Rattle.std.proofs.Common.{◌≡◌, ◌==◌, not, Bool, true, false, refl, sym, ◌∙◌}
 use Rattle.std.specs.Prelude.{Ok, IsTrue, slice_index}
 use Rattle.std.proofs.lemmas.Bool.{eqb-true, eq-eqb}
 use Rattle.solo_base.specs.declared.page.Page.{Page}

@@ -1,9 +1,9 @@
 -- Which buffers a process has stopped, and what it stops next.
-use Rattle.std.proofs.Common.{◌≡◌, ◌<◌, ◌+◌, ◌^◌, ℕ, zero, suc, min, Bool, true, false, ◌||◌, ◌==◌, if◌then◌else◌, List, [], ◌∷◌, length, Option, None, Some, refl, sym, ◌∙◌, ap, subst, arith}
+use Rattle.std.proofs.Common.{◌≡◌, ◌<◌, ◌+◌, ◌^◌, ℕ, zero, suc, min, Bool, true, false, ◌||◌, ◌==◌, List, [], ◌∷◌, length, None, Some, refl, ◌∙◌, ap, subst, arith}
 use Rattle.std.specs.Prelude.{slice_get}
 use Rattle.std.proofs.lemmas.Bool.{eqb-true, eq-eqb}
 use Rattle.solo_base.specs.declared.outcome.Outcome.{Outcome}
-use Rattle.place_law.specs.Process.{Entry, Does, LacksMemory, Delays, Process, stops_by, has_stopped, stops_next}
+use Rattle.place_law.specs.Process.{Entry, Does, Process, stops_by, has_stopped, stops_next}
 use Rattle.solo_law.specs.Actions.{Action, Reply}
 use Rattle.solo_law.specs.Actions as act
 use Rattle.solo_law.specs.Replies.{view}

@@ -1,6 +1,5 @@
 -- How each of the three closes down.
 use Rattle.std.proofs.Common.{lit<, ◌≡◌, ℕ, false, None, refl}
-use Rattle.solo_base.specs.declared.outcome.Outcome.{Outcome}
 use Rattle.solo_law.specs.Actions.{Reply}
 use Rattle.solo_law.specs.Actions as act
 use Rattle.solo_law.specs.Buffers.{call}

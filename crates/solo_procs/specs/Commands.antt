@@ -1,5 +1,5 @@
 -- What the commands of Solo are to the job process.
-use Rattle.std.specs.Prelude.{◌≡◌, ℕ, zero, suc, Bool, true, false, List, [], Option, None, Some}
+use Rattle.std.specs.Prelude.{◌≡◌, ℕ, zero, suc, true, false, List, [], Option, None, Some}
 use Rattle.solo_base.specs.declared.page.Page.{Page}
 use Rattle.exchange_law.specs.Pages.{page_with}
 use Rattle.solo_law.specs.Work.{Plan, NeedFits}

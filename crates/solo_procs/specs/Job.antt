@@ -1,15 +1,13 @@
 -- Which place of the law the job process stands at.
-use Rattle.std.specs.Prelude.{◌≡◌, ℕ, zero, suc, ◌%◌, ◌^◌, Bool, true, false, List, [], drop, Option, None, Some}
+use Rattle.std.specs.Prelude.{◌≡◌, ℕ, zero, suc, ◌%◌, ◌^◌, Bool, true, false, List, [], drop, None, Some}
 use Rattle.solo_base.specs.declared.system_call.Arg.{Arg}
 use Rattle.solo_base.specs.declared.system_call.Arg.TheVariants as arg
 use Rattle.exchange_law.specs.Pages.{lines_of}
-use Rattle.place_law.specs.Process.{Entry, next_action}
+use Rattle.place_law.specs.Process.{Entry}
 use Rattle.solo_law.specs.Work.{Work, Plan, NeedFits}
 use Rattle.solo_law.specs.Work as law
 use Rattle.solo_law.specs.Actions.{Action, Reply}
-use Rattle.solo_law.specs.Actions as act
 use Rattle.solo_law.specs.Devices.{plan_behind}
-use Rattle.solo_law.specs.Replies.{view}
 use Rattle.solo_law.specs.JobPlaces.{job, JobPlace, Listens, Toils, OrdersCards, TakesCards, TakesReport, Accepts, Displays, OrdersPrinter, PutsPage, TakesPrinted, AnswersLine, DismissesInput, DismissesOutput, HasLeft, Behind, GoesOn, EndsWith}
 use Rattle.solo_procs.specs.declared.actions.SoloReply.{SoloReply}
 use Rattle.solo_procs.specs.declared.actions.SoloReply.TheVariants as hear
@@ -19,7 +17,7 @@ use Rattle.solo_procs.specs.declared.job_proc.JobAt.{JobAt}
 use Rattle.solo_procs.specs.declared.job_proc.JobAt.TheVariants as here
 use Rattle.solo_procs.specs.declared.job_proc.JobProc.{JobProc}
 use Rattle.solo_procs.specs.Commands.{Kind, AtLine, AtCards, AtTyped, AtNothing, given_of, kind_given, kind_behind, pages_behind, IsNeed}
-use Rattle.solo_procs.specs.Machine.{Tracks, StandsFor}
+use Rattle.solo_procs.specs.Machine.{Tracks}
 
 -- ---- its place
 abbrev pub IsPlace : JobAt → JobPlace → Type 0

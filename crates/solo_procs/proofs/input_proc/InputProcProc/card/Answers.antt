@@ -23,4 +23,5 @@ pub returns-in_default-clause-ready : goal.returns-in_default-clause-ready
 returns-in_default-clause-ready c =
     input-reads c.args.card c.args.self.now.place c.args.self.now.packer c.args.self.now.sound
     (λ to. InputStands c.args.self.now.place c.args.self.now.packer c.args.self.now.sound to)
-    (reads-on c.args.card c.args.self.now.place c.args.self.now.packer c.args.self.now.sound c.in_default.not-Card c.in_default.not-Spoiled c.in_default.not-End)
+    (reads-on c.args.card c.args.self.now.place c.args.self.now.packer c.args.self.now.sound c.in_default.not-Card c.in_default.not-Spoiled
+    c.in_default.not-End)

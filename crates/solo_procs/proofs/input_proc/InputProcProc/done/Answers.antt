@@ -10,7 +10,8 @@ pub returns-in-PutsLast-clause-ready : goal.returns-in-PutsLast-clause-ready
 returns-in-PutsLast-clause-ready c = input-done c.args.self.now.place here.Reports c.args.self.now.packer c.args.self.now.sound (ap input_done c.in-PutsLast.is)
 
 pub returns-in-Reports-clause-ready : goal.returns-in-Reports-clause-ready
-returns-in-Reports-clause-ready c = input-done c.args.self.now.place here.AwaitsOrder c.args.self.now.packer c.args.self.now.sound (ap input_done c.in-Reports.is)
+returns-in-Reports-clause-ready c = input-done c.args.self.now.place here.AwaitsOrder c.args.self.now.packer c.args.self.now.sound
+    (ap input_done c.in-Reports.is)
 
 pub returns-in_default-clause-ready : goal.returns-in_default-clause-ready
 returns-in_default-clause-ready c =

@@ -8,11 +8,13 @@ use Rattle.solo_procs.proofs.job_proc.JobProc.accept.Goals as goal
 
 pub returns-in-Card-clause-ready : goal.returns-in-Card-clause-ready
 returns-in-Card-clause-ready g c = λ pages kept.
-    rw (c.in-Card.is, c.toil.ensures) (accepts g.C.Commands.awaits c.args.self.now (OfTyped (feed.Item (Line c.in-Card.line))) (given.Typed (feed.Item (Line c.in-Card.line))) pages refl refl kept)
+    rw (c.in-Card.is, c.toil.ensures) (accepts g.C.Commands.awaits c.args.self.now (OfTyped (feed.Item (Line c.in-Card.line)))
+    (given.Typed (feed.Item (Line c.in-Card.line))) pages refl refl kept)
 
 pub returns-in-Spoiled-clause-ready : goal.returns-in-Spoiled-clause-ready
 returns-in-Spoiled-clause-ready g c = λ pages kept.
-    rw (c.in-Spoiled.is, c.toil-in-Spoiled.ensures) (accepts g.C.Commands.awaits c.args.self.now (OfTyped (feed.Item Spoiled)) (given.Typed (feed.Item Spoiled)) pages refl refl kept)
+    rw (c.in-Spoiled.is, c.toil-in-Spoiled.ensures) (accepts g.C.Commands.awaits c.args.self.now (OfTyped (feed.Item Spoiled))
+    (given.Typed (feed.Item Spoiled)) pages refl refl kept)
 
 pub returns-in-End-clause-ready : goal.returns-in-End-clause-ready
 returns-in-End-clause-ready g c = λ pages kept.

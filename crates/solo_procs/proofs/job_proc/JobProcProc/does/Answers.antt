@@ -24,7 +24,8 @@ pub returns-in-Displays : goal.returns-in-Displays
 returns-in-Displays g c = λ at kept. rw c.copy.ensures (job-does c.args.self.now.place (here.Displays c.in-Displays.line) at c.in-Displays.is kept)
 
 pub returns-in-OrdersPrinter : goal.returns-in-OrdersPrinter
-returns-in-OrdersPrinter g c = λ at kept. rw c.printer_order.ensures (job-does c.args.self.now.place (here.OrdersPrinter c.in-OrdersPrinter.field-0) at c.in-OrdersPrinter.is kept)
+returns-in-OrdersPrinter g c = λ at kept. rw c.printer_order.ensures (job-does c.args.self.now.place (here.OrdersPrinter c.in-OrdersPrinter.field-0) at
+    c.in-OrdersPrinter.is kept)
 
 pub returns-in-PutsPage : goal.returns-in-PutsPage
 returns-in-PutsPage g c = λ at kept. job-does c.args.self.now.place (here.PutsPage c.in-PutsPage.page) at c.in-PutsPage.is kept
@@ -33,7 +34,8 @@ pub returns-in-TakesPrinted : goal.returns-in-TakesPrinted
 returns-in-TakesPrinted g c = λ at kept. job-does c.args.self.now.place here.TakesPrinted at c.in-TakesPrinted.is kept
 
 pub returns-in-AnswersLine : goal.returns-in-AnswersLine
-returns-in-AnswersLine g c = λ at kept. rw c.copy-in-AnswersLine.ensures (job-does c.args.self.now.place (here.AnswersLine c.in-AnswersLine.line) at c.in-AnswersLine.is kept)
+returns-in-AnswersLine g c = λ at kept. rw c.copy-in-AnswersLine.ensures (job-does c.args.self.now.place (here.AnswersLine c.in-AnswersLine.line) at
+    c.in-AnswersLine.is kept)
 
 pub returns-in-DismissesInput : goal.returns-in-DismissesInput
 returns-in-DismissesInput g c = λ at kept. job-does c.args.self.now.place here.DismissesInput at c.in-DismissesInput.is kept

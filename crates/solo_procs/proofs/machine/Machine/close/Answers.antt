@@ -7,4 +7,5 @@ returns-in-Some-clause-closes g c = closes-some g.P.Proc.process g.P.Proc.is_at 
     c.saturating_add-self.ensures (sym c.buffer.ensures ∙ c.in-Some.is)
 
 pub returns-in-None-clause-closes : goal.returns-in-None-clause-closes
-returns-in-None-clause-closes g c = closes-none g.P.Proc.process g.P.Proc.is_at g.P.Proc.ready c.args.self.now g.met.P.Proc.closes (sym c.buffer.ensures ∙ c.in-None.is)
+returns-in-None-clause-closes g c = closes-none g.P.Proc.process g.P.Proc.is_at g.P.Proc.ready c.args.self.now g.met.P.Proc.closes
+    (sym c.buffer.ensures ∙ c.in-None.is)

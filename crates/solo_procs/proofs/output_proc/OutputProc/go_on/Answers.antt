@@ -1,8 +1,7 @@
-use Rattle.std.proofs.Common.{Some, sym, ap, ◌∙◌}
+use Rattle.std.proofs.Common.{ap, ◌∙◌}
 use Rattle.std.specs.Prelude.{◌++◌, option_to_list}
-use Rattle.solo_procs.specs.declared.output_proc.OutputAt.TheVariants as here
 use Rattle.solo_procs.specs.Output.{lines_left}
-use Rattle.solo_procs.proofs.OutputSteps.{goes-line, goes-behind, behind-last, behind-other}
+use Rattle.solo_procs.proofs.OutputSteps.{goes-line}
 use Rattle.solo_procs.proofs.output_proc.OutputProc.go_on.Goals as goal
 
 pub returns-in-Some : goal.returns-in-Some
