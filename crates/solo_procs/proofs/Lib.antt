@@ -1,0 +1,9 @@
+pub mod Stops
+pub mod Machines
+pub mod Answering
+pub mod PageSteps
+pub mod InputSteps
+pub mod OutputSteps
+pub mod JobSteps
+pub mod JobNeeds
+pub mod JobPages

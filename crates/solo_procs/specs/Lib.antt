@@ -1,0 +1,9 @@
+pub mod Said
+pub mod Machine
+pub mod Closing
+pub mod Hands
+pub mod Input
+pub mod Output
+pub mod Commands
+pub mod Job
+pub mod JobSteps
