@@ -10,8 +10,10 @@ mod fault;
 mod files;
 mod gate;
 mod machine;
+mod memory;
 mod page_map;
 mod parse;
+mod programs;
 mod scan;
 
 use fault::Fault;
@@ -58,6 +60,7 @@ fn measure(
         "machine" => machine::run(rt),
         "core" => core_runs::run(rt, number(words, 1)?, number(words, 2)?),
         "files" => files::run(rt),
+        "programs" => programs::run(rt, word(words, 1)?, number(words, 2)?),
         "gate" => gate::run(rt, number(words, 1)?, number(words, 2)?, number(words, 3)?),
         "all" => all(rt),
         _ => Err(Fault::Usage),
@@ -85,5 +88,6 @@ fn all(
     machine::run(rt)?;
     core_runs::run(rt, 10, 2)?;
     files::run(rt)?;
+    programs::run(rt, "small", 1000)?;
     gate::run(rt, 1000, 1000, 1000)
 }

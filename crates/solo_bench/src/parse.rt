@@ -1,10 +1,11 @@
 //! Times the parser on a body of so many times some statements, and measures the memory that the tree takes.
 use crate::fault::Fault;
+use crate::memory::pages_taken;
 use crate::{cards, clock};
 use pascal_read::{parse, scan};
 use solo_base::LineList;
 use std::alloc::Global;
-use std::fs::{self, Files};
+use std::fs::Files;
 use std::time::CpuClock;
 
 /// Ten statements of 68 words.
@@ -51,15 +52,4 @@ fn program(alloc: Global, cards: &[&str], times: u32) -> Result<LineList, Fault>
     cards::add_all(&mut program, cards, times)?;
     cards::add(&mut program, "END.")?;
     Ok(program)
-}
-
-/// The memory that this process takes now, in pages of 4,096 bytes.
-fn pages_taken(rt: &(impl AllocGlobal + Files)) -> Result<u64, Fault> {
-    let text = fs::read_to_string(rt, "/proc/self/statm")?;
-    let pages = text.as_str().split_whitespace().nth(1);
-    let pages = pages.ok_or(Fault::Unexpected("no number of pages"))?;
-    pages
-        .parse()
-        .ok()
-        .ok_or(Fault::Unexpected("no number of pages"))
 }

@@ -1,0 +1,5 @@
+use Rattle.prog_stack.specs.Callers.{IsStack}
+use Rattle.solo_bench.proofs.programs.get_pages.Given as goal
+
+abbrev pub invariant-loop : goal.invariant-loop
+invariant-loop l = IsStack 5 l.stack
