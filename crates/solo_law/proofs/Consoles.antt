@@ -1,5 +1,5 @@
 -- What the console gained in a reached state.
-use Rattle.std.proofs.Common.{◌≡◌, ℕ, true, List, [], ◌∷◌, ◌++◌, Option, None, Some, refl, sym, ◌∙◌, ap, subst}
+use Rattle.std.proofs.Common.{◌≡◌, ℕ, List, [], ◌∷◌, ◌++◌, Option, None, Some, refl, sym, ◌∙◌, ap, subst}
 use Rattle.std.proofs.lemmas.List.{append-nil}
 use Rattle.solo_base.specs.Text.{text}
 use Rattle.solo_base.specs.declared.outcome.Outcome.TheVariants as outcome
@@ -47,7 +47,7 @@ left-shows other e = absurd cc
 pub console-gains : (d : Devices) (s : SoloState) → IsReached d s
     → Gains d.console s.devices.console (text (shown (s.histories 2))) (HasEndedSo table s 2 outcome.Done)
 console-gains d s reached =
-    let st = reached-stands solo-lawful openings d s reached.reached in
+    let st = reached-stands solo-lawful openings (record { devices = d; sound = reached.sound }) s reached.reached in
     record {
       told = λ before e.
           let is = console-tells before d s e reached in

@@ -18,3 +18,8 @@ pub mod Printed
 pub mod Put
 pub mod Papers
 pub mod Working
+pub mod CardFiles
+pub mod InputFiles
+pub mod JobFiles
+pub mod HandedOn
+pub mod Law

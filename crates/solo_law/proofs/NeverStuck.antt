@@ -280,5 +280,5 @@ module _ (opening s : SoloState) (st : Stands solo opening s) (told : (b : ℕ) 
 
 pub never-stuck : (devices : Devices) (s : SoloState) → IsReached devices s → IsStuck s → ⊥
 never-stuck devices s reached stuck =
-    let st = reached-stands solo-lawful openings devices s reached.reached in
+    let st = reached-stands solo-lawful openings (record { devices = devices; sound = reached.sound }) s reached.reached in
     stuck.not_ended (ended-all (opened devices) s st (λ b. ([], refl)) (λ b. refl) (reached-sound devices s reached) stuck.none_enabled)

@@ -58,7 +58,7 @@ run-untold s (event ∷ events) e = run-untold (happens solo s event) events (en
 -- the lines of the pages that output took are the first of those that the needs print
 taken-first : (d : Devices) (s : SoloState) → IsReached d s → (later : List (List ℕ)) × (printed (s.histories 2) ≡ taken_lines (s.histories 3) ++ later)
 taken-first d s reached =
-    let st = reached-stands solo-lawful openings d s reached.reached in
+    let st = reached-stands solo-lawful openings (record { devices = d; sound = reached.sound }) s reached.reached in
     let (inside, e) = st.told 5 ([], refl) in
     let over = (st.buffers.hand_over 5).parcels inside e in
     let put = put-first (s.histories 2) (st.follows 2) in
@@ -98,7 +98,7 @@ output-left other e = absurd cc
 module _ (d : Devices) (s : SoloState) (reached : IsReached d s) (job_done : HasEndedSo table s 2 outcome.Done)
     (output_done : HasEndedSo table s 3 outcome.Done) where
   st : Stands solo (opened d) s
-  st = reached-stands solo-lawful openings d s reached.reached
+  st = reached-stands solo-lawful openings (record { devices = d; sound = reached.sound }) s reached.reached
 
   abbrev marks_of : ℕ → ℕ → Side → List Bool
   marks_of p b side = marks_at mark b side (acts solo p (s.histories p))

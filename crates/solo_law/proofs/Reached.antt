@@ -12,10 +12,11 @@ use Rattle.solo_law.proofs.Causes.{have-causes}
 use Rattle.solo_law.proofs.Working.{works-so}
 use Rattle.solo_law.proofs.Consoles.{console-gains}
 use Rattle.solo_law.proofs.Papers.{paper-gains}
+use Rattle.solo_law.proofs.HandedOn.{begins-so}
 
 pub reached-holds : (devices : Devices) (s : SoloState) → IsReached devices s → Holds devices s
 reached-holds devices s reached =
-    let st = reached-stands solo-lawful openings devices s reached.reached in
+    let st = reached-stands solo-lawful openings (record { devices = devices; sound = reached.sound }) s reached.reached in
     let causes = causes-reached table placed seats openings (opened devices) s (opening-stands solo devices (λ b. 1) (λ b. true))
     (λ p one. refl) reached.reached in
     record {
@@ -30,6 +31,7 @@ reached-holds devices s reached =
       reasons = reasons table placed seats (opened devices) s st causes;
       causes = have-causes (opened devices) s st (λ b. ([], refl));
       works = λ plan e. works-so plan devices s e reached;
+      begins = λ cards keys c k. begins-so cards keys devices s c k reached;
       shows = console-gains devices s reached;
       prints = paper-gains devices s reached;
       follows = st.follows;

@@ -8,6 +8,7 @@ use Rattle.solo_base.specs.declared.outcome.Outcome.TheVariants as outcome
 use Rattle.solo_base.specs.declared.outcome.Cause.{Cause}
 use Rattle.solo_base.specs.declared.outcome.Cause.TheVariants as cause
 use Rattle.solo_base.specs.Text.{text}
+use Rattle.solo_base.specs.declared.item.Item.{Item}
 use Rattle.solo_devices.specs.PrinterUnit.{Gains}
 use Rattle.queue_var.specs.HandsOver.{is_one_of}
 use Rattle.network_law.specs.Acts.{made_stop, was_told}
@@ -20,6 +21,7 @@ use Rattle.solo_law.specs.Replies.{view}
 use Rattle.solo_law.specs.Work.{Plan}
 use Rattle.solo_law.specs.Devices.{Devices}
 use Rattle.solo_law.specs.Told.{needs, on_console, on_paper, lines_of_all, begun, needs_of}
+use Rattle.solo_law.specs.Begins.{WorkHanded}
 use Rattle.solo_law.specs.Solo.{process, table, solo, SoloState, IsProcess}
 
 abbrev pub IsBuffer : ℕ → Type 0
@@ -68,6 +70,9 @@ pub record Holds (devices : Devices) (s : SoloState) : Type 0 where
   -- Over told files the needs are those that these files make of what the work began with.
   pub works : (plan : Plan) → devices.work ≡ Some plan
       → needs (s.histories 2) ≡ needs_of plan (begun (s.histories 2))
+  -- Over told cards and typed lines the work begins with what these hand on, in order.
+  pub begins : (cards keys : List Item) → devices.cards ≡ Some cards → devices.keys ≡ Some keys
+      → WorkHanded cards keys s
   -- What the console gained is a first part of what the needs of the commands show, in order, and all of it
   -- where the job process ended with its work done.
   pub shows : Gains devices.console s.devices.console (text (lines_of_all on_console (needs (s.histories 2))))

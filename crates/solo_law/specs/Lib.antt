@@ -9,3 +9,4 @@ pub mod Devices
 pub mod Solo
 pub mod Holds
 pub mod Told
+pub mod Begins

@@ -83,16 +83,20 @@ IsSmooth (LacksMemory action reply) = ⊥
 IsSmooth entry = Unit {0}
 
 -- ---- the law, as the driver of networks asks for it
--- Solo opens with its devices. A program may ask for typed lines as long as there are any, so of no opening
--- it is said how long a run is.
+-- What Solo opens with: its devices, of which what is told is sound.
+pub record SoloOpening : Type 0 where
+  pub devices : Devices
+  pub sound : AreSound devices
+
+-- A program may ask for typed lines as long as there are any, so of no opening it is said how long a run is.
 abbrev pub openings : Openings Devices SoloEntry
 openings = record {
-  Opening = Devices;
-  devices = λ devices. devices;
-  sizes = λ devices b. 1;
-  told = λ devices b. true;
-  IsTold = λ devices. ⊥;
-  longest = λ devices. 0;
+  Opening = SoloOpening;
+  devices = λ o. o.devices;
+  sizes = λ o b. 1;
+  told = λ o b. true;
+  IsTold = λ o. ⊥;
+  longest = λ o. 0;
   IsSmooth = IsSmooth;
 }
 

@@ -1,6 +1,7 @@
+ghost use Rattle.network_run.specs.Sound.{IsSoundLaw};
 ghost use Rattle.network_law.specs.Processes.{IsLawful};
 ghost use Rattle.solo_law.specs.Devices.{Devices};
-ghost use Rattle.solo_law.specs.Solo.{solo, SoloState, IsReached, IsStuck};
+ghost use Rattle.solo_law.specs.Solo.{solo, SoloState, IsReached, IsStuck, the_law};
 ghost use Rattle.solo_law.specs.Holds.{Holds};
 
 /// Solo meets what the law of networks asks of its processes. Nothing is done here: the contract is the law.
@@ -21,4 +22,10 @@ pub fn every_interleaving()
 /// contract is the law.
 pub fn no_state_is_stuck()
     ensures { (devices : Devices) (s : SoloState) → IsReached devices s → IsStuck s → ⊥ }
+{}
+
+/// The law of Solo is sound, as who steps its network asks: only a process may go on, none that has ended,
+/// and where none may, all three have ended. Nothing is done here: the contract is the law.
+pub fn the_law_is_sound()
+    ensures { IsSoundLaw the_law }
 {}

@@ -4,4 +4,4 @@
 
 mod interleavings;
 
-pub use interleavings::{every_interleaving, is_lawful, no_state_is_stuck};
+pub use interleavings::{every_interleaving, is_lawful, no_state_is_stuck, the_law_is_sound};

@@ -1,5 +1,5 @@
 -- Each command prints and displays lines, and so the paper of a session has lines.
-use Rattle.std.proofs.Common.{◌≡◌, ℕ, zero, suc, Bool, true, false, List, [], ◌∷◌, ◌++◌, length, Option, None, Some, refl}
+use Rattle.std.proofs.Common.{ℕ, zero, suc, Bool, true, false, List, [], ◌∷◌, ◌++◌, length, Option, None, Some}
 use Rattle.std.specs.Prelude.{if◌then◌else◌, codes, Result, Ok, Err}
 use Rattle.std.specs.FinMap as fin
 use Rattle.solo_base.specs.LineList.{AreLines}
@@ -28,12 +28,12 @@ use Rattle.program_task.specs.Program.{Ended, Runner, begins_with}
 use Rattle.program_task.specs.Run.{runner, program_room}
 use Rattle.solo_task.specs.Answers.{Doing, answers, becomes, stores}
 use Rattle.solo_task.specs.Copying.{copier, prints_text, prints_file, stores_file, copies_file, with_cards, stores_cards, copies_cards, copies}
-use Rattle.solo_task.specs.Compiles.{compiler, compiling_text, stores_program, compiles_file, compiles_to, compiles_from, compiles}
-use Rattle.solo_task.specs.Doing.{lists, deletes, renamed, renames, protected, protects, program_answers, ends_program, tick_limit, first_share, runs_loaded, does, done_if, line_does}
+use Rattle.solo_task.specs.Compiles.{compiler, compiling_text, stores_program, compiles_file, compiles_to, compiles_from}
+use Rattle.solo_task.specs.Doing.{renamed, protected, program_answers, ends_program, tick_limit, first_share, runs_loaded, does, done_if, line_does}
 use Rattle.solo_task.specs.Needs.{or_idle}
 use Rattle.solo_task.specs.Session.{SoloWorld, first_file, next_feed, after_cards, after_line, with_files, tells, world_after, lines_told, next_tells, one_tells, opening, session}
 use Rattle.solo_task.specs.Laws.{MakesLines, Any}
-use Rattle.solo_task.proofs.ProgramLines.{lines-then, lines-printed, are-both, empty-line, ArePrinted, characters-printed, last-printed, LeavesHands, RunsInLines, runner-lines}
+use Rattle.solo_task.proofs.ProgramLines.{lines-then, lines-printed, are-both, empty-line, characters-printed, last-printed, LeavesHands, RunsInLines, runner-lines}
 
 abbrev InLines : Doing → Type 0
 InLines doing = MakesLines Any doing

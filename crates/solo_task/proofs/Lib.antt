@@ -4,3 +4,10 @@ pub mod NeedsMet
 pub mod Sessions
 pub mod Refusals
 pub mod RowProofs
+pub mod HiProgram
+pub mod StoredRow
+pub mod RunsOn
+pub mod DeepProgram
+pub mod DeepRow
+pub mod PutsRefused
+pub mod CatalogueRowProofs

@@ -1,12 +1,12 @@
 -- The needs of a command, one after the other, are what its task tells.
-use Rattle.std.proofs.Common.{◌≡◌, ℕ, Bool, true, false, List, [], ◌∷◌, ◌++◌, refl, sym, ◌∙◌, ap, append_assoc}
+use Rattle.std.proofs.Common.{◌≡◌, ℕ, Bool, true, false, List, [], ◌∷◌, ◌++◌, refl, ◌∙◌, ap, append_assoc}
 use Rattle.std.specs.Prelude.{if◌then◌else◌}
 use Rattle.std.proofs.lemmas.List.{append-nil}
 use Rattle.disk_layout.specs.Files.{Files}
 use Rattle.program_task.specs.Task.{Gives, ReadsCards, Accepts, Displays, Prints, Changes}
 use Rattle.solo_task.specs.Answers.{Doing}
 use Rattle.solo_task.specs.Session.{SoloWorld, first_file, next_feed, after_cards, after_line, with_files, tells, given_by}
-use Rattle.solo_task.specs.Needs.{Need, PageNeeded, Paused, needs, either, GoesOn, fits_behind, comes_to, needs_of}
+use Rattle.solo_task.specs.Needs.{PageNeeded, Paused, needs, either, GoesOn, fits_behind, comes_to, needs_of}
 use Rattle.solo_task.specs.Laws.{NeedsPrint, NeedsDisplay, ComesToEachNeed, ChangesToEachMap, LeavesTheLastMap, paper_of, console_of, needs_behind, maps_behind, last_of}
 
 -- ---- Lines that are printed

@@ -9,15 +9,13 @@ use Rattle.std.proofs.lemmas.List.{length-append}
 use Rattle.std.proofs.lemmas.List.Folds.{list_all-append}
 use Rattle.solo_base.specs.Line.{IsLine, is_printable}
 use Rattle.solo_base.specs.LineList.{AreLines}
-use Rattle.solo_base.specs.Text.{text}
 use Rattle.solo_base.specs.Arguments.{word_name}
 use Rattle.solo_base.specs.declared.arg_list.TheConstants.{ARG_LIMIT}
-use Rattle.solo_base.specs.declared.item.Feed.{Feed}
 use Rattle.solo_base.specs.declared.system_call.Arg.{Arg}
 use Rattle.solo_base.specs.declared.system_call.SysCall.{SysCall}
 use Rattle.solo_base.specs.declared.system_call.SysCall.TheVariants as calls
 use Rattle.solo_base.specs.declared.system_call.SysReply.TheVariants as replies
-use Rattle.disk_layout.specs.Files.{File, Files}
+use Rattle.disk_layout.specs.Files.{File}
 use Rattle.disk_system.specs.declared.loading.Loaded.{Loaded}
 use Rattle.disk_system.specs.declared.loading.Loaded.TheVariants.{Code}
 use Rattle.stack_code.specs.CodeLists.{CodeLists}
@@ -26,13 +24,13 @@ use Rattle.stack_machine.specs.State.{Next, Goes, Asks, Stops, Lacks}
 use Rattle.stack_machine.specs.Machine.{next, start_state, answered}
 use Rattle.stack_machine.specs.Left.{left_until_end}
 use Rattle.pascal_mean.specs.Batch.{Printed, shown, with_character, with_characters, last_line}
-use Rattle.program_task.specs.Task.{CardFile, Task, Gives, ReadsCards, Accepts, Displays, Prints, Changes, and_then, prints_all, displays_all}
+use Rattle.program_task.specs.Task.{Task, Gives, ReadsCards, Accepts, Displays, Prints, Changes, and_then, prints_all, displays_all}
 use Rattle.program_task.specs.Program.{Own, Shared, Answer, Ended, Runner, begins_with, simply, refuses}
 use Rattle.program_task.specs.Arguments.{argument_of, writes_argument}
 use Rattle.program_task.specs.OpenFiles.{found_file, open_as, opens_found, opens, closes, of_found, of_open, page_numbered, gets_page, gets, put_in, pages_free, changes, puts, measures, looks_up}
 use Rattle.program_task.specs.Characters.{reads_from, accepts, writes, displays}
 use Rattle.program_task.specs.Table.{loaded_as, returned, runs, answer}
-use Rattle.program_task.specs.Run.{Later, ends_so, step_by, run_for, runner}
+use Rattle.program_task.specs.Run.{Later, step_by, run_for, runner}
 use Rattle.solo_task.specs.Laws.{MakesLines}
 
 pub lines-then : {A B : Type 0} (P : A → Type 0) (Q : B → Type 0) (t : Task A) (go : A → Task B) → MakesLines P t → ((a : A) → P a → MakesLines Q (go a))

@@ -1,5 +1,5 @@
 -- A command that is refused tells nothing, and reads no card where it is since a file exists.
-use Rattle.std.proofs.Common.{◌≡◌, ◌⊎◌, inl, inr, ℕ, Bool, true, false, List, [], ◌∷◌, ◌++◌, length, Option, None, Some, refl, sym, ◌∙◌, ap, subst, arith}
+use Rattle.std.proofs.Common.{◌≡◌, ◌⊎◌, inl, inr, ℕ, Bool, true, false, List, [], ◌∷◌, length, Option, None, Some, refl, sym, ◌∙◌, ap, subst, arith}
 use Rattle.std.specs.Prelude.{if◌then◌else◌, codes, Result, Ok, Err, nat_le, nat_lt}
 use Rattle.std.specs.FinMap as fin
 use Rattle.solo_base.specs.Text.{text}
@@ -20,19 +20,17 @@ use Rattle.stack_code.specs.CodeLists.{CodeLists}
 use Rattle.pascal_code.specs.Code.{code_of}
 use Rattle.pascal_compile.specs.Compiling.{Compiling, compiled, bad_word, syntax_error, semantic_error, code_limit}
 use Rattle.pascal_mean.specs.Batch.{nothing_printed, with_characters, lines_in}
-use Rattle.solo_commands.specs.declared.command.Command.{Command}
 use Rattle.solo_commands.specs.declared.command.Command.TheVariants as command
 use Rattle.solo_commands.specs.Commands.{is_cards, is_printer}
 use Rattle.program_task.specs.OpenFiles.{pages_free}
-use Rattle.program_task.specs.Task.{CardFile, Task, Gives, ReadsCards, Prints, prints_all}
-use Rattle.program_task.specs.Program.{Runner}
+use Rattle.program_task.specs.Task.{CardFile, Gives, ReadsCards, prints_all}
 use Rattle.program_task.specs.Run.{runner, program_room}
-use Rattle.solo_task.specs.Answers.{Doing, answer_line, answers, fault_text, becomes, stores}
+use Rattle.solo_task.specs.Answers.{Doing, answer_line, answers, becomes, stores}
 use Rattle.solo_task.specs.Copying.{copier, prints_text, prints_file, stores_file, copies_file, with_cards, stores_cards, copies_cards, copies}
 use Rattle.solo_task.specs.Compiles.{compiler, compiling_text, stores_program, compiles_file, compiles_to, compiles_from}
 use Rattle.solo_task.specs.Doing.{renamed, protected, runs_loaded, does}
-use Rattle.solo_task.specs.Session.{SoloWorld, first_file, after_cards, tells, world_after, given_by}
-use Rattle.solo_task.specs.Laws.{word_of, TellsNothing, RefusedChangesNothing, RefusedProgramChangesNothing, ExistsReadsNoCard}
+use Rattle.solo_task.specs.Session.{SoloWorld, first_file, after_cards, world_after, given_by}
+use Rattle.solo_task.specs.Laws.{TellsNothing, RefusedChangesNothing, RefusedProgramChangesNothing, ExistsReadsNoCard}
 
 same-word : (a b : List ℕ) → ◌≡◌ {A = Option (List ℕ)} (Some a) (Some b) → a ≡ b
 same-word a b e = cc

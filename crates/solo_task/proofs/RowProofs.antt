@@ -1,14 +1,16 @@
 -- The sessions that were worked by hand: what is known of the files is put in, and the rest computes.
-use Rattle.std.proofs.Common.{◌≡◌, ℕ, List, [], ◌∷◌, length, Option, None, Some, refl, sym, subst}
+use Rattle.std.proofs.Common.{◌≡◌, ℕ, List, [], ◌∷◌, ◌++◌, Option, None, Some, refl, sym, subst}
 use Rattle.std.specs.Prelude.{codes, pos}
 use Rattle.std.specs.FinMap as fin
+use Rattle.std.specs.Fmt.{decimal}
 use Rattle.solo_base.specs.declared.item.Item.{Item}
+use Rattle.solo_base.specs.declared.item.Item.TheVariants.{Line, Spoiled}
 use Rattle.solo_base.specs.declared.system_call.Arg.{Arg}
 use Rattle.solo_base.specs.declared.system_call.Arg.TheVariants as arg
 use Rattle.disk_layout.specs.Files.{File, Files}
 use Rattle.disk_system.specs.Loading.{program_of}
 use Rattle.disk_system.specs.declared.loading.Loaded.{Loaded}
-use Rattle.disk_system.specs.declared.loading.Loaded.TheVariants.{Code, NoFile, NotCode}
+use Rattle.disk_system.specs.declared.loading.Loaded.TheVariants.{Code, NoFile, NotCode, BadCode}
 use Rattle.stack_machine.specs.Machine.{effect, next, answered}
 use Rattle.program_task.specs.Run.{runner, program_room}
 use Rattle.solo_task.specs.Answers.{Doing}
@@ -64,6 +66,15 @@ echo cards all e =
     let w : SoloWorld = opening (lines_of (codes "AB" ∷ codes "" ∷ codes "list" ∷ [])) cards all in
     let P : Loaded → Type 0 = λ load. program_told 3 all echo_name [] w load
     ≡ told_over all (codes "AB" ∷ codes "" ∷ codes "list" ∷ codes "?" ∷ codes "ECHO: TERMINATED" ∷ []) [] in
+    subst P (sym e) refl
+
+echo-spoiled : (cards : List Item) (all : Files) → program_of all echo_name ≡ Code echo_code
+    → session (Line (codes "echo") ∷ Spoiled ∷ []) cards all ≡ told_over all (codes "" ∷ codes "?" ∷ codes "ECHO: TERMINATED" ∷ []) []
+unfolding effect next answered
+echo-spoiled cards all e =
+    let w : SoloWorld = opening (Spoiled ∷ []) cards all in
+    let P : Loaded → Type 0 = λ load. program_told 1 all echo_name [] w load
+    ≡ told_over all (codes "" ∷ codes "?" ∷ codes "ECHO: TERMINATED" ∷ []) [] in
     subst P (sym e) refl
 
 argument : (cards : List Item) (all : Files) → program_of all hi_name ≡ Code argument_code
@@ -122,6 +133,13 @@ no-file cards all e =
     let P : Loaded → Type 0 = λ load. program_told 0 all hi_name [] (opening [] cards all) load ≡ told_over all (codes "HI: NO FILE" ∷ []) [] in
     subst P (sym e) refl
 
+bad-code : (cards : List Item) (all : Files) → program_of all hi_name ≡ BadCode 12
+    → session (lines_of (codes "hi" ∷ [])) cards all ≡ told_over all ((codes "HI: BAD CODE AT " ++ decimal 12) ∷ []) []
+bad-code cards all e =
+    let P : Loaded → Type 0 = λ load. program_told 0 all hi_name [] (opening [] cards all) load
+    ≡ told_over all ((codes "HI: BAD CODE AT " ++ decimal 12) ∷ []) [] in
+    subst P (sym e) refl
+
 not-code : (cards : List Item) (all : Files) → program_of all hi_name ≡ NotCode
     → session (lines_of (codes "hi" ∷ [])) cards all ≡ told_over all (codes "HI: NOT CODE" ∷ []) []
 not-code cards all e =
@@ -132,9 +150,11 @@ pub program-rows : ProgramRows
 program-rows = record {
   hi = hi;
   echo = echo;
+  echo_spoiled = echo-spoiled;
   argument = argument;
   no_argument = no-argument;
   reads = reads;
   no_file = no-file;
+  bad_code = bad-code;
   not_code = not-code;
 }

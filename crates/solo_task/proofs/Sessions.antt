@@ -1,17 +1,17 @@
 -- A session leaves the last of its maps, and goes on where more is typed.
-use Rattle.std.proofs.Common.{◌≡◌, ℕ, zero, suc, ◌+◌, ◌≤◌, List, [], ◌∷◌, ◌++◌, length, Option, None, Some, refl, sym, ◌∙◌, ap, subst, arith, append_assoc}
+use Rattle.std.proofs.Common.{◌≡◌, ℕ, zero, suc, ◌+◌, ◌≤◌, List, [], ◌∷◌, ◌++◌, length, Option, None, Some, refl, sym, ◌∙◌, ap, arith, append_assoc}
 use Rattle.std.proofs.lemmas.List.{append-nil, length-append}
 use Rattle.solo_base.specs.declared.item.Item.{Item}
 use Rattle.disk_layout.specs.Files.{Files}
 use Rattle.program_task.specs.Task.{Task, Gives, ReadsCards, Accepts, Displays, Prints, Changes}
 use Rattle.solo_task.specs.Answers.{Doing}
 use Rattle.solo_task.specs.Doing.{line_does}
-use Rattle.solo_task.specs.Session.{SoloWorld, Transcript, silent, and_told, console_line, paper_line, changed, first_file, next_feed, later_lines, after_cards, after_line, with_files, tells, world_after, given_by, command_told, one_tells, next_tells, lines_told, opening, session, one_left, next_left, lines_leave}
+use Rattle.solo_task.specs.Session.{SoloWorld, Transcript, silent, and_told, console_line, paper_line, changed, first_file, next_feed, later_lines, after_cards, after_line, with_files, tells, world_after, given_by, command_told, one_tells, next_tells, lines_told, opening, one_left, next_left, lines_leave}
 use Rattle.solo_task.specs.Laws.{last_of, LastMapIsTheLast, GoesOnWith, MoreCommandsGoOn, HasKeys, OneHasKeys, NextHasKeys, LinesHaveKeys, MoreKeysGoOn}
 
 -- ---- The last map
 
-last-append : (all : Files) (some more : List Files) → last_of all (some ++ more) ≡ last_of (last_of all some) more
+pub last-append : (all : Files) (some more : List Files) → last_of all (some ++ more) ≡ last_of (last_of all some) more
 last-append all [] more = refl
 last-append all (first ∷ some) more = last-append first some more
 

@@ -1,5 +1,5 @@
 -- copy: cards or a file to the printer or to a new file.
-use Rattle.std.specs.Prelude.{ℕ, ◌++◌, Bool, true, false, List, [], ◌∷◌, codes, Option, Some, None, if◌then◌else◌}
+use Rattle.std.specs.Prelude.{ℕ, false, List, codes, Option, Some, None, if◌then◌else◌}
 use Rattle.std.specs.FinMap as fin
 use Rattle.solo_base.specs.Text.{text}
 use Rattle.disk_layout.specs.declared.kind.FileKind.{FileKind}

@@ -1,5 +1,5 @@
 -- What each command does, as a task over the files: it gives the lines that answer it.
-use Rattle.std.specs.Prelude.{ℕ, ◌++◌, Bool, true, false, List, [], ◌∷◌, codes, Option, Some, None, if◌then◌else◌}
+use Rattle.std.specs.Prelude.{ℕ, ◌++◌, Bool, false, List, [], ◌∷◌, codes, Option, Some, None, if◌then◌else◌}
 use Rattle.std.specs.Fmt.{decimal}
 use Rattle.std.specs.FinMap as fin
 use Rattle.solo_base.specs.declared.item.Item.{Item}
@@ -15,7 +15,7 @@ use Rattle.program_lines.specs.Texts.{note, result_line, no_file_line, not_code_
 use Rattle.solo_commands.specs.declared.command.Command.{Command}
 use Rattle.solo_commands.specs.declared.command.Command.TheVariants as command
 use Rattle.solo_commands.specs.Commands.{Said, Blank, Asks, Bad, item_says}
-use Rattle.program_task.specs.Task.{Task, Gives, and_then, prints_all}
+use Rattle.program_task.specs.Task.{Gives, and_then, prints_all}
 use Rattle.program_task.specs.Program.{Shared, Ended, Runner, begins_with}
 use Rattle.program_task.specs.Run.{runner, program_room}
 use Rattle.solo_task.specs.Answers.{Doing, becomes}

@@ -15,7 +15,7 @@ use Rattle.program_task.specs.Task.{CardFile, Task, Gives, ReadsCards, Accepts, 
 use Rattle.solo_task.specs.Answers.{Doing, answer_line}
 use Rattle.solo_task.specs.Doing.{does, line_does}
 use Rattle.solo_task.specs.Session.{SoloWorld, Transcript, silent, first_file, next_feed, after_cards, after_line, with_files, tells, world_after, given_by, lines_told, opening, session, last_map}
-use Rattle.solo_task.specs.Needs.{Need, CardsNeeded, LineNeeded, DisplayNeeded, PageNeeded, EndNeeded, Pause, Idle, WantsCards, WantsLine, GoesOn, Paused, comes_to, needs_of, or_idle}
+use Rattle.solo_task.specs.Needs.{Need, CardsNeeded, LineNeeded, DisplayNeeded, PageNeeded, EndNeeded, Pause, Idle, WantsCards, WantsLine, GoesOn, comes_to, needs_of, or_idle}
 
 -- ---- Lines
 

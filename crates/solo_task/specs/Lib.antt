@@ -8,3 +8,6 @@ pub mod Session
 pub mod Needs
 pub mod Laws
 pub mod Rows
+pub mod WholeRows
+pub mod Puts
+pub mod CatalogueRows

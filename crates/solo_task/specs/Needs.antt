@@ -3,30 +3,15 @@ use Rattle.std.specs.Prelude.{ℕ, zero, suc, Bool, true, false, if◌then◌els
 use Rattle.solo_base.specs.declared.item.Item.{Item}
 use Rattle.solo_base.specs.declared.item.Item.TheVariants.{Line}
 use Rattle.solo_base.specs.declared.item.Feed.{Feed}
+pub use Rattle.solo_needs.specs.Needs.{Given, OfLine, OfCards, OfTyped, OfNothing}
+pub use Rattle.solo_needs.specs.Needs.{Need, CardsNeeded, LineNeeded, DisplayNeeded, PageNeeded, EndNeeded}
 use Rattle.page_codec.specs.declared.form.TheConstants.{CONTENT_ROOM}
 use Rattle.page_codec.specs.Items.{items_bytes}
 use Rattle.disk_layout.specs.Files.{Files}
-use Rattle.program_task.specs.Task.{CardFile, Task, Gives, ReadsCards, Accepts, Displays, Prints, Changes}
+use Rattle.program_task.specs.Task.{CardFile, Gives, ReadsCards, Accepts, Displays, Prints, Changes}
 use Rattle.solo_task.specs.Answers.{Doing}
 use Rattle.solo_task.specs.Doing.{line_does}
 use Rattle.solo_task.specs.Session.{SoloWorld, first_file, next_feed, after_cards, after_line, with_files, world_after, opening}
-
--- A command needs a card file, a typed line, that a line is displayed, that a page with these lines is put,
--- or its end, with the lines that it printed behind the last page, and the lines that answer it.
-pub data Need : Type 0 where
-  CardsNeeded : Need
-  LineNeeded : Need
-  DisplayNeeded : List ℕ → Need
-  PageNeeded : List (List ℕ) → Need
-  EndNeeded : List (List ℕ) → List (List ℕ) → Need
-
--- what a piece of work begins with: a typed line, a card file, a typed line that a program accepts, or
--- nothing but that a line was displayed or a page was put
-pub data Given : Type 0 where
-  OfLine : Item → Given
-  OfCards : CardFile → Given
-  OfTyped : Feed → Given
-  OfNothing : Given
 
 -- ---- The lines of the page in hand
 
@@ -82,7 +67,8 @@ or_idle (Some doing) = doing
 -- a piece of work: by what it begins with, and where the command paused
 abbrev pub resumes : Given → Files → Pause → Paused
 resumes (OfLine item) files pause = comes_to [] files (or_idle (line_does item files))
-resumes (OfCards file) files (WantsCards hand more) = comes_to hand files (more file)
+resumes (OfCards cards spoiled) files (WantsCards hand more) =
+    comes_to hand files (more (record { cards = cards; spoiled = spoiled }))
 resumes (OfTyped typed) files (WantsLine hand more) = comes_to hand files (more typed)
 resumes OfNothing files (GoesOn hand later) = comes_to hand files later
 resumes given files pause = needs (EndNeeded [] []) files Idle

@@ -1,11 +1,12 @@
 -- Sessions that were worked by hand, over any files of which the little is known that they need.
-use Rattle.std.specs.Prelude.{◌≡◌, ℕ, false, List, [], ◌∷◌, map, codes, Some, None}
+use Rattle.std.specs.Prelude.{◌≡◌, ℕ, false, List, [], ◌∷◌, ◌++◌, map, codes, Some, None}
+use Rattle.std.specs.Fmt.{decimal}
 use Rattle.std.specs.FinMap as fin
 use Rattle.solo_base.specs.declared.item.Item.{Item}
 use Rattle.solo_base.specs.declared.item.Item.TheVariants.{Line, Spoiled}
 use Rattle.disk_layout.specs.Files.{File, Files}
 use Rattle.disk_system.specs.Loading.{program_of}
-use Rattle.disk_system.specs.declared.loading.Loaded.TheVariants.{Code, NoFile, NotCode}
+use Rattle.disk_system.specs.declared.loading.Loaded.TheVariants.{Code, NoFile, NotCode, BadCode}
 use Rattle.stack_code.specs.CodeLists.{CodeLists}
 use Rattle.stack_code.specs.declared.instr.Instr.{Instr}
 use Rattle.stack_code.specs.declared.table.Op.{Op}
@@ -114,6 +115,10 @@ pub record ProgramRows : Type 0 where
   pub echo : (cards : List Item) (all : Files) → program_of all echo_name ≡ Code echo_code
       → session (lines_of (codes "echo" ∷ codes "AB" ∷ codes "" ∷ codes "list" ∷ [])) cards all
       ≡ told_over all (codes "AB" ∷ codes "" ∷ codes "list" ∷ codes "?" ∷ codes "ECHO: TERMINATED" ∷ []) []
+  -- a spoiled line is an empty one to it
+  pub echo_spoiled : (cards : List Item) (all : Files) → program_of all echo_name ≡ Code echo_code
+      → session (Line (codes "echo") ∷ Spoiled ∷ []) cards all
+      ≡ told_over all (codes "" ∷ codes "?" ∷ codes "ECHO: TERMINATED" ∷ []) []
   pub argument : (cards : List Item) (all : Files) → program_of all hi_name ≡ Code argument_code
       → session (lines_of (codes "hi(66, nil)" ∷ [])) cards all
       ≡ told_over all (codes "HI: TERMINATED" ∷ []) (codes "B2" ∷ [])
@@ -130,5 +135,8 @@ pub record ProgramRows : Type 0 where
       ∷ []) ([] ∷ codes "A" ∷ [] ∷ codes "C" ∷ codes "??" ∷ [])
   pub no_file : (cards : List Item) (all : Files) → program_of all hi_name ≡ NoFile
       → session (lines_of (codes "Hi" ∷ [])) cards all ≡ told_over all (codes "HI: NO FILE" ∷ []) []
+  pub bad_code : (cards : List Item) (all : Files) → program_of all hi_name ≡ BadCode 12
+      → session (lines_of (codes "hi" ∷ [])) cards all
+      ≡ told_over all ((codes "HI: BAD CODE AT " ++ decimal 12) ∷ []) []
   pub not_code : (cards : List Item) (all : Files) → program_of all hi_name ≡ NotCode
       → session (lines_of (codes "hi" ∷ [])) cards all ≡ told_over all (codes "HI: NOT CODE" ∷ []) []

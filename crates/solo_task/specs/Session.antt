@@ -1,10 +1,9 @@
 -- What one thread makes of all that is typed: the session.
-use Rattle.std.specs.Prelude.{ℕ, zero, suc, Bool, true, false, List, [], ◌∷◌, ◌++◌, length, Option, Some, None, if◌then◌else◌}
+use Rattle.std.specs.Prelude.{ℕ, zero, suc, true, false, List, [], ◌∷◌, ◌++◌, length, Option, Some, None, if◌then◌else◌}
 use Rattle.solo_base.specs.declared.item.Item.{Item}
 use Rattle.solo_base.specs.declared.item.Item.TheVariants.{Line, Spoiled}
-use Rattle.solo_base.specs.declared.item.Feed.{Feed}
-use Rattle.solo_base.specs.declared.item.Feed.TheVariants as feed
 use Rattle.deck_format.specs.Jobs.{is_end}
+pub use Rattle.solo_needs.specs.Handing.{behind_file, next_feed, later_lines}
 use Rattle.disk_layout.specs.Files.{Files}
 use Rattle.program_task.specs.Task.{CardFile, Task, Gives, ReadsCards, Accepts, Displays, Prints, Changes}
 use Rattle.solo_task.specs.Answers.{Doing}
@@ -22,20 +21,6 @@ abbrev pub first_file : List Item → CardFile
 first_file [] = record { cards = []; spoiled = false }
 first_file (item ∷ rest) =
     if is_end item then record { cards = []; spoiled = false } else card_before item (first_file rest)
-
-abbrev pub behind_file : List Item → List Item
-behind_file [] = []
-behind_file (item ∷ rest) = if is_end item then rest else behind_file rest
-
--- ---- Typed lines
-
-abbrev pub next_feed : List Item → Feed
-next_feed [] = feed.End
-next_feed (item ∷ rest) = feed.Item item
-
-abbrev pub later_lines : List Item → List Item
-later_lines [] = []
-later_lines (item ∷ rest) = rest
 
 -- ---- What a task tells
 

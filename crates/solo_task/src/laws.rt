@@ -4,7 +4,10 @@ ghost use Rattle.solo_task.specs.Laws.{CommandsMakeLines, PaperHasLines};
 ghost use Rattle.solo_task.specs.Laws.{NeedsPrint, NeedsDisplay, ComesToEachNeed, ChangesToEachMap, LeavesTheLastMap};
 ghost use Rattle.solo_task.specs.Laws.{LastMapIsTheLast, MoreCommandsGoOn, MoreKeysGoOn};
 ghost use Rattle.solo_task.specs.Laws.{RefusedChangesNothing, RefusedProgramChangesNothing, ExistsReadsNoCard};
+ghost use Rattle.solo_task.specs.Puts.{PutsAreRefusedSo};
 ghost use Rattle.solo_task.specs.Rows.{QuietRows, CardRows, ProgramRows};
+ghost use Rattle.solo_task.specs.CatalogueRows.{CatalogueRows, FileCopyRows};
+ghost use Rattle.solo_task.specs.WholeRows.{StoredRows, DeepRows};
 
 /// Whatever is typed, and whatever the files are, a command prints and displays lines.
 pub fn commands_make_lines()
@@ -36,9 +39,19 @@ pub fn refusals_change_nothing()
     ensures exists { ExistsReadsNoCard }
 {}
 
+/// A program's PUT is refused where its file is protected, has no such page, or has no room for one more; and
+/// there alone.
+pub fn puts_are_refused_so()
+    ensures { PutsAreRefusedSo }
+{}
+
 /// Sessions that were worked by hand, shown by computing.
 pub fn worked_sessions()
     ensures quiet { QuietRows }
     ensures cards { CardRows }
     ensures programs { ProgramRows }
+    ensures catalogue { CatalogueRows }
+    ensures copies { FileCopyRows }
+    ensures stored { StoredRows }
+    ensures deep { DeepRows }
 {}

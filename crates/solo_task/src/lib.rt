@@ -5,5 +5,6 @@
 mod laws;
 
 pub use laws::{
-    commands_make_lines, needs_are_met_in_turn, refusals_change_nothing, sessions_go_on,
+    commands_make_lines, needs_are_met_in_turn, puts_are_refused_so, refusals_change_nothing,
+    sessions_go_on, worked_sessions,
 };

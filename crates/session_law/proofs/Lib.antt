@@ -1,0 +1,4 @@
+pub mod Fitting
+pub mod Pieces
+pub mod Lines
+pub mod Told
