@@ -7,7 +7,7 @@ use Rattle.disk_layout.specs.declared.kind.FileKind.TheVariants.{Ascii, SeqCode}
 use Rattle.disk_layout.specs.Files.{File, Files, with_protection}
 use Rattle.disk_files.specs.Answers.{delete_answer, rename_answer, protect_answer}
 use Rattle.disk_files.specs.declared.fault.FileFault.{FileFault}
-use Rattle.disk_files.specs.declared.fault.FileFault.TheVariants.{DiskFull}
+use Rattle.disk_files.specs.declared.fault.FileFault.TheVariants.{CatalogFull, FileFull, DiskFull}
 use Rattle.disk_system.specs.Calls.{room_answer}
 use Rattle.disk_system.specs.Contents.{text_file, cut}
 use Rattle.solo_base.specs.Text.{text}
@@ -20,7 +20,7 @@ use Rattle.solo_task.specs.Doing.{renamed, protected}
 use Rattle.solo_task.specs.Session.{SoloWorld, Transcript, and_told, changed, command_told, world_after, lines_told, opening, session}
 use Rattle.solo_task.specs.Rows.{told_over, text_name, lines_of}
 use Rattle.solo_task.specs.WholeRows.{prog_file}
-use Rattle.solo_task.specs.CatalogueRows.{file_with, TextIs, ProgIs, DiskIsFull, BadWordIn, CompilesSo, CatalogueRows, FileCopyRows}
+use Rattle.solo_task.specs.CatalogueRows.{file_with, TextIs, ProgIs, LacksRoom, BadWordIn, CompilesSo, CatalogueRows, FileCopyRows}
 
 -- what a command alone tells over files
 abbrev tells : Files → Doing → Transcript
@@ -106,7 +106,7 @@ comes-so comes answer is all protected pages e f c =
     compiled_to all (file_with Ascii protected pages) None (refused all (codes "COMPILE: " ++ answer)) e f
     (subst (λ comes. tells all (stores_program all prog_file comes) ≡ refused all (codes "COMPILE: " ++ answer)) (sym c) (is all))
 
-cards-taken : (all : Files) → TextIs all None → DiskIsFull all 1
+cards-taken : (all : Files) → TextIs all None → LacksRoom all 1 DiskFull
     → session (lines_of (codes "copy(cards, text)" ∷ codes "copy(cards, printer)" ∷ [])) (lines_of (codes "A" ∷ codes "#END" ∷ codes "B" ∷ [])) all
     ≡ told_over all (codes "COPY: DISK FULL" ∷ codes "COPY: OK" ∷ []) (codes "B" ∷ [])
 unfolding cut
@@ -136,6 +136,10 @@ copy-rows = record {
       (in-room all (file_with kind protected pages) (Ok tt) (leaving all (codes "COPY: OK") (fin.insert all prog_file (file_with kind false pages))) room refl);
   no_room = λ all file e f full.
       copied all file None (refused all (codes "COPY: DISK FULL")) e f (in-room all file (Err DiskFull) (refused all (codes "COPY: DISK FULL")) full refl);
+  no_name_left = λ all file e f full.
+      copied all file None (refused all (codes "COPY: CATALOG FULL")) e f (in-room all file (Err CatalogFull) (refused all (codes "COPY: CATALOG FULL")) full refl);
+  too_many_pages = λ all file e f full.
+      copied all file None (refused all (codes "COPY: FILE FULL")) e f (in-room all file (Err FileFull) (refused all (codes "COPY: FILE FULL")) full refl);
   exists = λ all file other e f. copied all file (Some other) (refused all (codes "COPY: FILE EXISTS")) e f refl;
   no_file = λ all e. one-file all (λ found. copies_file found all prog_file) None (refused all (codes "COPY: NO FILE")) e refl;
   no_text = λ all protected pages e. one-file all (λ found. copies_file found all printer_name) (Some (file_with SeqCode protected pages))

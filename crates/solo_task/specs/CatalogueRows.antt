@@ -5,7 +5,8 @@ use Rattle.std.specs.FinMap as fin
 use Rattle.disk_layout.specs.declared.kind.FileKind.{FileKind}
 use Rattle.disk_layout.specs.declared.kind.FileKind.TheVariants.{Ascii, SeqCode}
 use Rattle.disk_layout.specs.Files.{File, Files}
-use Rattle.disk_files.specs.declared.fault.FileFault.TheVariants.{DiskFull}
+use Rattle.disk_files.specs.declared.fault.FileFault.{FileFault}
+use Rattle.disk_files.specs.declared.fault.FileFault.TheVariants.{CatalogFull, FileFull, DiskFull}
 use Rattle.disk_system.specs.Calls.{room_answer}
 use Rattle.disk_system.specs.Contents.{file_bytes, text_in}
 use Rattle.pascal_compile.specs.Compiling.{Compiling, syntax_error, semantic_error, code_limit}
@@ -38,8 +39,8 @@ ProgIs all found = fin.get all prog_file ≡ found
 abbrev pub FitsOnDisk : Files → ℕ → Type 0
 FitsOnDisk all count = room_answer (fin.len all) (pages_free all) count ≡ Ok tt
 
-abbrev pub DiskIsFull : Files → ℕ → Type 0
-DiskIsFull all count = room_answer (fin.len all) (pages_free all) count ≡ Err DiskFull
+abbrev pub LacksRoom : Files → ℕ → FileFault → Type 0
+LacksRoom all count fault = room_answer (fin.len all) (pages_free all) count ≡ Err fault
 
 pub record CatalogueRows : Type 0 where
   pub deletes : (all : Files) (kind : FileKind) (pages : List (List ℕ))
@@ -94,8 +95,14 @@ pub record FileCopyRows : Type 0 where
       → Leaves (codes "copy(text, prog)") all (codes "COPY: OK")
       (fin.insert all prog_file (file_with kind false pages))
   pub no_room : (all : Files) (file : File) → TextIs all (Some file) → ProgIs all None
-      → DiskIsFull all (length file.pages)
+      → LacksRoom all (length file.pages) DiskFull
       → Refuses (codes "copy(text, prog)") all (codes "COPY: DISK FULL")
+  pub no_name_left : (all : Files) (file : File) → TextIs all (Some file) → ProgIs all None
+      → LacksRoom all (length file.pages) CatalogFull
+      → Refuses (codes "copy(text, prog)") all (codes "COPY: CATALOG FULL")
+  pub too_many_pages : (all : Files) (file : File) → TextIs all (Some file) → ProgIs all None
+      → LacksRoom all (length file.pages) FileFull
+      → Refuses (codes "copy(text, prog)") all (codes "COPY: FILE FULL")
   pub exists : (all : Files) (file other : File) → TextIs all (Some file) → ProgIs all (Some other)
       → Refuses (codes "copy(text, prog)") all (codes "COPY: FILE EXISTS")
   -- where no file is there, it isn't asked whether the new one is
@@ -121,7 +128,7 @@ pub record FileCopyRows : Type 0 where
       → session (lines_of (codes "copy(text, printer)" ∷ [])) [] all
       ≡ told_over all (codes "COPY: OK" ∷ []) (codes "A?" ∷ codes "B" ∷ [])
   -- where there is no room for the text of a card file, the next copy has the next one
-  pub cards_taken : (all : Files) → TextIs all None → DiskIsFull all 1
+  pub cards_taken : (all : Files) → TextIs all None → LacksRoom all 1 DiskFull
       → session (lines_of (codes "copy(cards, text)" ∷ codes "copy(cards, printer)" ∷ []))
       (lines_of (codes "A" ∷ codes "#END" ∷ codes "B" ∷ [])) all
       ≡ told_over all (codes "COPY: DISK FULL" ∷ codes "COPY: OK" ∷ []) (codes "B" ∷ [])
