@@ -1,11 +1,10 @@
 -- Who may go on, and who has ended.
-use Rattle.std.proofs.Common.{◌≡◌, ◌≢◌, ◌↔◌, ◌⊎◌, inl, inr, ℕ, zero, suc, ◌+◌, ◌<◌, ◌≤◌, Bool, true, false, Option, None, Some, List, [], ◌∷◌, get_or, length, refl, sym, ◌∙◌, ap, subst, arith}
-use Rattle.std.specs.Prelude.{◌-◌, IsSome, IsTrue}
+use Rattle.std.proofs.Common.{◌≡◌, ◌↔◌, ◌⊎◌, inl, inr, ℕ, zero, suc, ◌<◌, ◌≤◌, true, false, None, List, [], ◌∷◌, get_or, length, refl, sym, ap, subst, arith}
+use Rattle.std.specs.Prelude.{◌-◌, IsSome}
 use Rattle.real_time.specs.declared.table.Seat.TheVariants.{Operator, Task}
 use Rattle.real_time.specs.Table.{MayComeIn, Table, has_left, sleeper_at}
-use Rattle.real_time.specs.declared.typed_line.Typed.{Typed}
-use Rattle.real_time.specs.Deeds.{Deed, Enters, Shows, Wakes, Returns}
-use Rattle.real_time.specs.States.{Stage, Works, Closes, Joins, Tells, Ended, HasEnded, MayMove, OperatorMay, TaskMay, TimeState, action_at, ended_at}
+use Rattle.real_time.specs.Deeds.{Wakes, Returns}
+use Rattle.real_time.specs.States.{Stage, Works, Tells, Ended, HasEnded, MayMove, OperatorMay, TaskMay, TimeState, action_at, ended_at}
 use Rattle.time_net.specs.declared.calling.Call.{Call}
 use Rattle.time_net.specs.declared.calling.Call.TheVariants as call
 use Rattle.time_net.specs.declared.task_proc.Phase.{Phase}

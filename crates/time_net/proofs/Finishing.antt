@@ -1,26 +1,25 @@
 -- How the nine ended.
-use Rattle.std.proofs.Common.{◌≡◌, ◌⊎◌, inl, inr, ℕ, zero, suc, ◌+◌, ◌<◌, ◌≤◌, Bool, true, false, Option, None, Some, List, [], ◌∷◌, ◌++◌, get_or, length, refl, sym, ◌∙◌, ap, subst, arith}
+use Rattle.std.proofs.Common.{◌≡◌, ◌⊎◌, inl, inr, ℕ, zero, suc, ◌+◌, ◌<◌, Option, None, Some, List, [], ◌∷◌, ◌++◌, get_or, length, refl, sym, ◌∙◌, ap, subst, arith}
 use Rattle.std.specs.Prelude.{map}
 use Rattle.solo_base.specs.Text.{text}
 use Rattle.solo_base.specs.declared.item.Item.{Item}
 use Rattle.solo_base.specs.declared.outcome.Cause.{Cause}
 use Rattle.solo_base.specs.declared.outcome.Outcome.TheVariants as outcome
 use Rattle.solo_devices.specs.CardUnit.{IsAllTaken, items_ahead}
-use Rattle.solo_devices.specs.PrinterUnit.{Gains, GainsOf}
-use Rattle.network_run.specs.Law.{IsReached, Placed}
+use Rattle.solo_devices.specs.PrinterUnit.{Gains}
+use Rattle.network_run.specs.Law.{Placed}
 use Rattle.real_time.specs.Awaiting.{Row}
 use Rattle.real_time.specs.Consoles.{timed}
 use Rattle.real_time.specs.Deeds.{Returns, Wakes, shows_start}
 use Rattle.real_time.specs.Reaching.{holds}
 use Rattle.real_time.specs.Starts.{Script, times}
-use Rattle.real_time.specs.States.{Stage, Works, Ended, TimeState, opened}
+use Rattle.real_time.specs.States.{Stage, Works, Ended}
 use Rattle.real_time.specs.TimesLaw.{timing}
 use Rattle.time_net.specs.declared.net.TimeNet.{TimeNet}
 use Rattle.time_net.specs.declared.operator.Doing.{Doing}
 use Rattle.time_net.specs.declared.operator.Doing.TheVariants as doing
 use Rattle.time_net.specs.declared.task_proc.TaskProc.{TaskProc}
 use Rattle.time_net.specs.Standing.{Does, name_at, ticks_from}
-use Rattle.time_net.specs.TaskSteps.{TasksStand}
 use Rattle.time_net.specs.TimeStands.{NineHaveEnded, IsReadOut, TimesStand, Tellers, all_runs, outcome_with}
 
 -- ---- a list of eight
@@ -102,8 +101,8 @@ module _ {Y T : Type 0} (tells : Tellers Y T) (net : TimeNet Y T) (have : NineHa
         let st = at.stands.is.tasks in
         ap (map (λ task. task.runs)) are
         ∙ by net.tasks at.state.seen (st.eight ∙ sym h.lists.0) (λ place d e below.
-            (let eight = st.eight in (st.each place d (omega (arith, below, eight))).runs_are ∙ ap length (default at.state.seen place e
-                (below-seen place below))))
+        (let eight = st.eight in (st.each place d (omega (arith, below, eight))).runs_are ∙ ap length (default at.state.seen place e
+        (below-seen place below))))
       where
         below-seen : (place : ℕ) → place < length net.tasks → place < length at.state.seen
         below-seen place below =

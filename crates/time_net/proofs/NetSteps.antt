@@ -1,14 +1,13 @@
 -- A step of the network is an event of its law.
-use Rattle.std.proofs.Common.{◌≡◌, ◌≢◌, ◌⊎◌, ◌↔◌, inl, inr, ℕ, zero, suc, ◌+◌, ◌<◌, ◌≤◌, Bool, true, false, Option, None, Some, List, [], ◌∷◌, ◌++◌, get_or, length, refl, sym, ◌∙◌, ap, subst, arith}
-use Rattle.std.specs.Prelude.{◌-◌, drop, if◌then◌else◌, slice_set, IsOk}
-use Rattle.std.specs.Option.{option_map}
+use Rattle.std.proofs.Common.{◌≡◌, ◌≢◌, ◌↔◌, ℕ, suc, ◌<◌, ◌≤◌, true, false, Option, None, Some, List, [], ◌∷◌, ◌++◌, get_or, length, refl, sym, ◌∙◌, ap, subst, arith}
+use Rattle.std.specs.Prelude.{drop, slice_set}
 use Rattle.solo_base.specs.Text.{line_text}
 use Rattle.solo_base.specs.declared.item.Item.{Item}
 use Rattle.solo_base.specs.declared.outcome.Cause.{Cause}
 use Rattle.solo_base.specs.declared.outcome.Cause.TheVariants as cause
 use Rattle.solo_devices.specs.Count.{Rose}
 use Rattle.solo_devices.specs.CardUnit.{GivesNext, IsAllTaken, byte_limit, bytes_total, item_of, items_ahead, work_ahead}
-use Rattle.solo_devices.specs.PrinterUnit.{Gains, GainsOf}
+use Rattle.solo_devices.specs.PrinterUnit.{Gains}
 use Rattle.solo_devices.specs.Typewriter.{Typing}
 use Rattle.solo_devices.specs.declared.card_read.CardRead.{CardRead}
 use Rattle.solo_devices.specs.declared.card_read.CardRead.TheVariants as read
@@ -17,26 +16,24 @@ use Rattle.solo_devices.specs.declared.printer_unit.PrintFault.TheVariants as pr
 use Rattle.network_run.specs.declared.stepped.Stepped.{Stepped}
 use Rattle.network_run.specs.declared.stepped.Stepped.TheVariants as stepped
 use Rattle.network_run.specs.Law.{IsReached, Steps}
-use Rattle.network_run.specs.Runs.{most_events}
 use Rattle.real_time.specs.Table.{Table}
-use Rattle.real_time.specs.Deeds.{Deed, Enters, Shows, Wakes, Returns}
 use Rattle.real_time.specs.Starts.{Script}
 use Rattle.real_time.specs.States.{Stage, Works, Closes, Joins, Tells, Ended, Accepts, Displays, MayHappen, MayMove, Moved, Moves, Opening, OperatorMay, Prints, TimeEvent, TimeState, action_at, after_answer, behind_display, behind_fault, display_cause, how_went, keys_behind, move_of, occurs, opened, operator_move, process_of}
 use Rattle.real_time.specs.TimesLaw.{timing}
-use Rattle.real_time.specs.Reaching.{Fits, Holds, holds}
+use Rattle.real_time.specs.Reaching.{Fits, holds}
 use Rattle.time_net.specs.declared.calling.Call.{Call}
 use Rattle.time_net.specs.declared.net.TimeNet.{TimeNet}
 use Rattle.time_net.specs.declared.operator.Operator.{Operator}
 use Rattle.time_net.specs.declared.task_proc.TaskProc.{TaskProc}
 use Rattle.time_net.specs.Falls.{net-falls}
-use Rattle.time_net.specs.Standing.{CallsFor, IsCall, MayFail, OperatorStands, OperatorIsAt, behind_call}
+use Rattle.time_net.specs.Standing.{CallsFor, IsCall, OperatorStands, OperatorIsAt, behind_call}
 use Rattle.time_net.specs.TableCalls.{MayCallTable, called_how, called_table}
 use Rattle.time_net.specs.TaskSteps.{TasksStand, stepped_how, stepped_table, stepped_task}
-use Rattle.time_net.specs.TimeStands.{IsCounted, IsFaultOfTimes, IsReadOut, IsTimesCause, KeepsCounts, LeavesLines, TimesMoves, TimesStand, NineStand, Tellers, keys_ahead, operator_held}
-use Rattle.time_net.proofs.OperatorMoves.{CallMoved, Goes, call-moved}
+use Rattle.time_net.specs.TimeStands.{IsCounted, IsFaultOfTimes, IsReadOut, KeepsCounts, LeavesLines, TimesMoves, TimesStand, NineStand, Tellers, keys_ahead, operator_held}
+use Rattle.time_net.proofs.OperatorMoves.{CallMoved, call-moved}
 use Rattle.time_net.proofs.SeenFew.{seen-few}
-use Rattle.time_net.proofs.TaskMoves.{SameAt, TaskMoved, task-moved, tasks-moved, tasks-same}
-use Rattle.time_net.proofs.TaskKeeps.{Keeps, task-keeps}
+use Rattle.time_net.proofs.TaskMoves.{TaskMoved, task-moved, tasks-moved, tasks-same}
+use Rattle.time_net.proofs.TaskKeeps.{task-keeps}
 
 -- ---- what a card unit gives is what the keys are behind it
 keys-follow : (before now : Option (List Item)) (answer : CardRead) → GivesNext before now answer → now ≡ keys_behind before answer
@@ -232,11 +229,14 @@ module _ {Y T : Type 0} (tells : Tellers Y T) (old : TimeNet Y T) (o : Opening) 
     shown-steps all ok gains live at =
         let new : TimeNet Y T = record old { typewriter = t; operator = operator } in
         let happens = gains-where (tells.given old.typewriter.console.sink) (tells.given t.console.sink) (line_text line) all
-            (◌≡◌ {A = Option PrintFault} None None)
-            (λ e. ok) gains in
-        step-of new (Displays None (tells.given t.console.sink)) 1 stepped.Acted refl refl
-        (line, asks, subst (λ before. Gains before (tells.given t.console.sink) (line_text line) (◌≡◌ {A = Option PrintFault} None None))
-            (sym stands.is.console) happens)
+        (◌≡◌ {A = Option PrintFault} None None)
+        (λ e. ok) gains in
+        step-of new (Displays None (tells.given t.console.sink)) 1 stepped.Acted refl refl (
+          line,
+          asks,
+          subst (λ before. Gains before (tells.given t.console.sink) (line_text line) (◌≡◌ {A = Option PrintFault} None None))
+              (sym stands.is.console) happens,
+        )
         record {
           keys = stands.is.keys ∙ ap (λ keys. items_ahead (tells.left keys.source) keys.pending) (sym keys);
           console = refl;
@@ -252,16 +252,16 @@ module _ {Y T : Type 0} (tells : Tellers Y T) (old : TimeNet Y T) (o : Opening) 
         }
         displayed-lines record {
           counted = λ first console were. (let fault = at.fault_is ∙ sym stands.is.operator.fault_is in
-          subst (λ f. IsCounted tells first console f t) (sym fault) (record {
-            read = λ is. subst (λ keys. Rose (tells.read_faults first) (tells.read_faults keys.source)) (sym keys) (were.read is);
-            limit = λ is. subst (λ keys. byte_limit < tells.taken keys.source) (sym keys) (were.limit is);
-            beyond = λ over. were.beyond (subst (λ keys. byte_limit < tells.taken keys.source) keys over);
-            shown = λ is. absurd (no-fault fault is);
-            read_on = subst (λ keys. tells.read_faults first ≤ tells.read_faults keys.source) (sym keys) were.read_on;
-            shown_on = (let front = were.shown_on in omega (arith, front, on));
-            total = subst (λ keys. bytes_total (tells.taken keys.source) (tells.left keys.source) ≡ bytes_total (tells.taken first) (tells.left first))
-                (sym keys) were.total;
-          }));
+              subst (λ f. IsCounted tells first console f t) (sym fault) (record {
+                read = λ is. subst (λ keys. Rose (tells.read_faults first) (tells.read_faults keys.source)) (sym keys) (were.read is);
+                limit = λ is. subst (λ keys. byte_limit < tells.taken keys.source) (sym keys) (were.limit is);
+                beyond = λ over. were.beyond (subst (λ keys. byte_limit < tells.taken keys.source) keys over);
+                shown = λ is. absurd (no-fault fault is);
+                read_on = subst (λ keys. tells.read_faults first ≤ tells.read_faults keys.source) (sym keys) were.read_on;
+                shown_on = (let front = were.shown_on in omega (arith, front, on));
+                total = subst (λ keys. bytes_total (tells.taken keys.source) (tells.left keys.source) ≡ bytes_total (tells.taken first) (tells.left first))
+                    (sym keys) were.total;
+              }));
           known = λ known. subst IsFaultOfTimes (sym (at.fault_is ∙ sym stands.is.operator.fault_is)) known;
         }
       where
@@ -276,11 +276,14 @@ module _ {Y T : Type 0} (tells : Tellers Y T) (old : TimeNet Y T) (o : Opening) 
     failed-steps all fault gains rose at =
         let new : TimeNet Y T = record old { typewriter = t; operator = operator } in
         let happens = gains-where (tells.given old.typewriter.console.sink) (tells.given t.console.sink) (line_text line) all (◌≡◌ {A = Option PrintFault}
-            (Some fault) None)
-            (λ e. absurd cc) gains in
-        step-of new (Displays (Some fault) (tells.given t.console.sink)) 1 stepped.Acted refl refl
-        (line, asks, subst (λ before. Gains before (tells.given t.console.sink) (line_text line) (◌≡◌ {A = Option PrintFault} (Some fault) None))
-            (sym stands.is.console) happens)
+        (Some fault) None)
+        (λ e. absurd cc) gains in
+        step-of new (Displays (Some fault) (tells.given t.console.sink)) 1 stepped.Acted refl refl (
+          line,
+          asks,
+          subst (λ before. Gains before (tells.given t.console.sink) (line_text line) (◌≡◌ {A = Option PrintFault} (Some fault) None))
+              (sym stands.is.console) happens,
+        )
         record {
           keys = stands.is.keys ∙ ap (λ keys. items_ahead (tells.left keys.source) keys.pending) (sym keys);
           console = refl;
@@ -364,7 +367,7 @@ module _ {Y T : Type 0} (tells : Tellers Y T) (old : TimeNet Y T) (o : Opening) 
   at-now operator m stage stage_is script fault at =
       subst (λ stage. OperatorStands operator stage m.to.script m.to.fault) (sym stage_is)
       (subst (λ script. OperatorStands operator stage script m.to.fault) (sym script) (subst (λ fault. OperatorStands operator stage s.script fault)
-          (sym fault) at))
+      (sym fault) at))
 
   out-now : (m : Moved) (stage : Stage) (left : Option (List ℕ)) → m.to.stage ≡ stage → m.to.fault ≡ s.fault → IsReadOut stage s.fault left
       → IsReadOut m.to.stage m.to.fault left

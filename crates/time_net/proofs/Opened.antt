@@ -1,6 +1,6 @@
 -- The nine before their first step.
-use Rattle.std.proofs.Common.{◌≡◌, ◌≤◌, ◌<◌, ◌+◌, ◌*◌, ℕ, zero, suc, Bool, true, false, Option, None, Some, List, [], ◌∷◌, get_or, length, refl, sym, ◌∙◌, ap, subst, arith}
-use Rattle.solo_devices.specs.CardUnit.{items_ahead, work_ahead}
+use Rattle.std.proofs.Common.{◌≡◌, ◌≤◌, ◌<◌, ◌+◌, ◌*◌, ℕ, zero, suc, false, Option, List, [], ◌∷◌, get_or, refl, sym, subst, arith}
+use Rattle.solo_devices.specs.CardUnit.{work_ahead}
 use Rattle.solo_base.specs.declared.item.Item.{Item}
 use Rattle.real_time.specs.States.{opened}
 use Rattle.time_net.specs.declared.task_proc.TaskProc.{TaskProc}

@@ -1,25 +1,20 @@
 -- What the operator does, and the stage that it is at.
-use Rattle.std.proofs.Common.{◌≡◌, ◌≢◌, ◌⊎◌, ◌↔◌, inl, inr, ℕ, zero, suc, ◌+◌, ◌<◌, ◌≤◌, Bool, true, false, Option, None, Some, List, [], ◌∷◌, ◌++◌, get_or, length, drop, refl, sym, ◌∙◌, ap, subst, arith}
+use Rattle.std.proofs.Common.{◌≡◌, ◌⊎◌, inl, inr, ℕ, zero, suc, ◌+◌, ◌<◌, ◌≤◌, Bool, true, false, Option, None, Some, List, [], ◌∷◌, ◌++◌, get_or, length, drop, refl, sym, ◌∙◌, ap, subst, arith}
 use Rattle.std.specs.Prelude.{Err, IsErrOf, Result, is_some, map}
 use Rattle.solo_devices.specs.declared.printer_unit.PrintFault.{PrintFault}
 use Rattle.solo_devices.specs.declared.printer_unit.PrintFault.TheVariants as print
 use Rattle.std.proofs.lemmas.List.{drop_more, drop_all}
 use Rattle.solo_base.specs.declared.outcome.Cause.{Cause}
-use Rattle.real_time.specs.declared.typed_line.Typed.{Typed}
 use Rattle.real_time.specs.Starts.{Script, opening, start_line}
 use Rattle.real_time.specs.Awaiting.{Row}
-use Rattle.real_time.specs.Deeds.{Deed, Enters, Shows, Wakes, Returns, shows_start}
-use Rattle.real_time.specs.States.{Stage, Works, Closes, Joins, Tells, Ended, TimeState, Prints, action_at, behind_display, behind_fault, names_by, seen_at, told_line}
+use Rattle.real_time.specs.Deeds.{Deed, Shows, Wakes, Returns, shows_start}
+use Rattle.real_time.specs.States.{Stage, Works, Closes, Joins, Tells, Ended, TimeState, Prints, action_at, behind_display, behind_fault, names_by, seen_at}
 use Rattle.time_net.specs.declared.answering.Answer.{Answer}
-use Rattle.time_net.specs.declared.answering.Answer.TheVariants as answer
 use Rattle.time_net.specs.declared.calling.Call.TheVariants as call
-use Rattle.time_net.specs.declared.operator.Action.TheVariants as act
 use Rattle.time_net.specs.declared.operator.Doing.{Doing}
 use Rattle.time_net.specs.declared.operator.Doing.TheVariants as doing
 use Rattle.time_net.specs.declared.operator.Operator.{Operator}
-use Rattle.time_net.specs.declared.task_proc.TaskProc.{TaskProc}
-use Rattle.time_net.specs.Standing.{AreNamed, ActsAt, CallsFor, Does, IsCall, IsPassing, IsBetweenLines, IsStarting, TellsRuns, IsWaking, MayFail, OperatorStands, OperatorIsAt, answer_text, behind_call, behind_this, doing_failed, name_at, runs_text, ticks_from}
-use Rattle.time_net.specs.TaskSteps.{TasksStand}
+use Rattle.time_net.specs.Standing.{AreNamed, CallsFor, Does, IsCall, IsBetweenLines, IsStarting, TellsRuns, IsWaking, MayFail, OperatorStands, answer_text, behind_call, doing_failed, name_at, runs_text, ticks_from}
 use Rattle.time_net.proofs.Ticking.{as-many}
 
 -- ---- what it does, where that is known
@@ -211,10 +206,18 @@ wake-well rows place second due left stage script fault w may = by w.stage_is
     by : ((stage ≡ Works (Wakes place second due ∷ shows_start due second (name_at w.s place) ++ ticks_from w.s (place + 1) left))
         ⊎ (stage ≡ Works (Returns ∷ shows_start due second (name_at w.s place) ++ ticks_from w.s (place + 1) left)))
         → (deed : Deed) × (deeds : List Deed) × (stage ≡ Works (deed ∷ deeds)) × (behind_call stage script fault ≡ Works deeds)
-    by (inl is) = (Wakes place second due, shows_start due second (name_at w.s place) ++ ticks_from w.s (place + 1) left, is,
-        ap (λ stage. behind_call stage script fault) is)
-    by (inr is) = (Returns, shows_start due second (name_at w.s place) ++ ticks_from w.s (place + 1) left, is,
-        ap (λ stage. behind_call stage script fault) is)
+    by (inl is) = (
+      Wakes place second due,
+      shows_start due second (name_at w.s place) ++ ticks_from w.s (place + 1) left,
+      is,
+      ap (λ stage. behind_call stage script fault) is,
+    )
+    by (inr is) = (
+      Returns,
+      shows_start due second (name_at w.s place) ++ ticks_from w.s (place + 1) left,
+      is,
+      ap (λ stage. behind_call stage script fault) is,
+    )
 
 -- no other call is made
 pub never-done : (d : Doing) (rows : List Row) (now : ℕ) (stage : Stage) (script : Script) (fault : Option Cause)

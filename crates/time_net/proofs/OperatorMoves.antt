@@ -1,14 +1,14 @@
 -- A call of the operator is its event in the law.
-use Rattle.std.proofs.Common.{◌≡◌, ◌≢◌, ◌⊎◌, inl, inr, ℕ, zero, suc, ◌+◌, ◌<◌, Bool, true, false, Option, None, Some, List, [], ◌∷◌, refl, sym, ◌∙◌, ap, subst, arith}
+use Rattle.std.proofs.Common.{◌≡◌, ◌⊎◌, inl, inr, ℕ, Bool, true, false, Option, None, Some, List, ◌∷◌, refl, sym, ap, subst, arith}
 use Rattle.std.specs.Prelude.{IsSome, if◌then◌else◌, slice_index_or}
-use Rattle.queue_var.specs.declared.turn.Turn.TheVariants.{Free, Handed}
+use Rattle.queue_var.specs.declared.turn.Turn.TheVariants.{Handed}
 use Rattle.network_run.specs.declared.stepped.Stepped.{Stepped}
 use Rattle.network_run.specs.declared.stepped.Stepped.TheVariants as stepped
-use Rattle.real_time.specs.declared.table.Seat.TheVariants.{Operator, Task}
+use Rattle.real_time.specs.declared.table.Seat.TheVariants.{Operator}
 use Rattle.real_time.specs.Table.{MayComeIn, Table, after_wake, all_left, operator_resumed, sleeper_at, woken_by}
 use Rattle.real_time.specs.declared.typed_line.Typed.{Typed}
-use Rattle.real_time.specs.Deeds.{Deed, Enters, Shows, Wakes, Returns}
-use Rattle.real_time.specs.States.{Stage, Works, Closes, Joins, Tells, Ended, IsMove, MayMove, Moved, OperatorMay, TimeState, action_at, after_woken, join_move, joined_by, operator_move}
+use Rattle.real_time.specs.Deeds.{Deed, Enters, Wakes, Returns}
+use Rattle.real_time.specs.States.{Stage, Works, Closes, Joins, IsMove, MayMove, Moved, OperatorMay, TimeState, action_at, after_woken, join_move, joined_by, operator_move}
 use Rattle.real_time.specs.Reaching.{Fits, Holds, is-outside}
 use Rattle.time_net.specs.declared.calling.Call.{Call}
 use Rattle.time_net.specs.declared.calling.Call.TheVariants as call

@@ -1,6 +1,6 @@
 -- No task starts more than a million times, whatever was typed.
-use Rattle.std.proofs.Common.{◌≡◌, inl, inr, ℕ, zero, suc, ◌+◌, ◌<◌, ◌≤◌, Bool, true, false, Option, None, Some, List, [], ◌∷◌, ◌++◌, append_assoc, append-nil, length, length-append, refl, sym, ◌∙◌, ap, subst, arith}
-use Rattle.std.specs.Prelude.{drop, if◌then◌else◌, nat_le, slice_get}
+use Rattle.std.proofs.Common.{◌≡◌, ℕ, zero, suc, ◌+◌, ◌≤◌, Bool, true, false, Option, None, Some, List, [], ◌∷◌, ◌++◌, append_assoc, length, length-append, refl, sym, ◌∙◌, ap, subst, arith}
+use Rattle.std.specs.Prelude.{if◌then◌else◌, slice_get}
 use Rattle.std.proofs.lemmas.Bool.{leb-true}
 use Rattle.solo_base.specs.declared.item.Item.{Item}
 use Rattle.solo_base.specs.declared.item.Item.TheVariants as item
@@ -19,7 +19,7 @@ use Rattle.real_time.specs.declared.typed_line.Typed.{Typed}
 use Rattle.real_time.specs.declared.typed_line.Typed.TheVariants.{Blank, Names, Plans, Stops, Passes, Bad}
 use Rattle.real_time.specs.Typed.{typed}
 use Rattle.real_time.specs.declared.plan.Plan.TheVariants.{Never, First}
-use Rattle.real_time.specs.Starts.{Change, Script, behind_line, behind_seconds, is_due, is_task, may_name, may_plan, next_second, opening, plan_of, within_clock}
+use Rattle.real_time.specs.Starts.{Change, Script, behind_line, is_due, is_task, may_name, may_plan, next_second, opening, plan_of, within_clock}
 use Rattle.real_time.specs.Deeds.{Deed, Enters, Shows, Wakes, Returns, starts, starts_from, starts_in_second, starts_named, starts_of_line, starts_of_seconds}
 use Rattle.real_time.specs.States.{Stage, Works, Closes, Joins, Tells, Ended, Opening, TimeState, TimeEvent, Accepts, Displays, Moves, Moved, after_woken, behind_display, behind_fault, join_move, joined_by, move_of, occurs, opened, operator_move, seen_at, stage_told, task_move, MayHappen}
 use Rattle.real_time.specs.TimesLaw.{timing}
@@ -55,11 +55,17 @@ few-line place s Blank few = (few, omega arith)
 few-line place s (Names name) few =
     let same = same-now (may_name s name) (record s { tasks = s.tasks ++ name ∷ [] }) s refl in (omega (arith, few, same), omega (arith, same))
 few-line place s (Plans name time period) few =
-    let same = same-now (may_plan s name time) (record s { accepted = record { name = name; plan = First time period } ∷ s.accepted }) s refl in (omega
-        (arith, few, same), omega (arith, same))
+    let same = same-now (may_plan s name time) (record s { accepted = record { name = name; plan = First time period } ∷ s.accepted }) s refl in (
+      omega
+          (arith, few, same),
+      omega (arith, same),
+    )
 few-line place s (Stops name) few =
-    let same = same-now (is_task s name) (record s { accepted = record { name = name; plan = Never } ∷ s.accepted }) s refl in (omega
-        (arith, few, same), omega (arith, same))
+    let same = same-now (is_task s name) (record s { accepted = record { name = name; plan = Never } ∷ s.accepted }) s refl in (
+      omega
+          (arith, few, same),
+      omega (arith, same),
+    )
 few-line place s (Passes seconds) few = by (within_clock s seconds) refl
   where
     by : (within : Bool) → within_clock s seconds ≡ within
@@ -236,34 +242,52 @@ module _ (given : List Item) (s : TimeState) (h : Holds s) (accounted : Accounte
       keeps-accounts (given ++ rest) (with_keys s rest) (Accepts answer) (holds-keys s rest h) (reading rest is) happens
 
   accounted-more : (event : TimeEvent) → MayHappen s event → (later : List Item) × Accounted later (occurs s event)
-  accounted-more (Accepts (read.Card line)) is =
-      (given ++ item.Line line ∷ [], λ rest fits. take-one (item.Line line) (read.Card line) rest (is.0, gives-one (item.Line line) rest (read.Card line) refl
-      (λ end. absurd cc)) (reads-at s.stage s.seen is.0))
-  accounted-more (Accepts read.Spoiled) is =
-      (given ++ item.Spoiled ∷ [], λ rest fits. take-one item.Spoiled read.Spoiled rest (is.0, gives-one item.Spoiled rest read.Spoiled refl
-      (λ end. absurd cc)) (reads-at s.stage s.seen is.0))
+  accounted-more (Accepts (read.Card line)) is = (
+    given ++ item.Line line ∷ [],
+    λ rest fits. take-one (item.Line line) (read.Card line) rest (
+      is.0,
+      gives-one (item.Line line) rest (read.Card line) refl
+          (λ end. absurd cc),
+    ) (reads-at s.stage s.seen is.0),
+  )
+  accounted-more (Accepts read.Spoiled) is = (
+    given ++ item.Spoiled ∷ [],
+    λ rest fits. take-one item.Spoiled read.Spoiled rest (
+      is.0,
+      gives-one item.Spoiled rest read.Spoiled refl
+          (λ end. absurd cc),
+    ) (reads-at s.stage s.seen is.0),
+  )
   accounted-more (Accepts read.End) is =
       (given, λ rest fits. take-none read.End rest (is.0, gives-none rest read.End refl (λ end. fits)) (reads-at s.stage s.seen is.0))
   accounted-more (Accepts read.Failed) is =
       (given, λ rest fits. take-none read.Failed rest (is.0, gives-none rest read.Failed refl (λ end. absurd cc)) (reads-at s.stage s.seen is.0))
   accounted-more (Accepts read.Limit) is =
       (given, λ rest fits. take-none read.Limit rest (is.0, gives-none rest read.Limit refl (λ end. absurd cc)) (reads-at s.stage s.seen is.0))
-  accounted-more (Displays None now) is =
-      (given, λ rest fits. keeps-accounts (given ++ rest) (with_keys s rest) (Displays None now) (holds-keys s rest h)
-      (accounted rest (fits-display s.stage rest fits)) is)
-  accounted-more (Displays (Some fault) now) is =
-      (given, λ rest fits. keeps-accounts (given ++ rest) (with_keys s rest) (Displays (Some fault) now) (holds-keys s rest h)
-      (accounted rest (fits-fault s.stage rest fits)) is)
+  accounted-more (Displays None now) is = (
+    given,
+    λ rest fits. keeps-accounts (given ++ rest) (with_keys s rest) (Displays None now) (holds-keys s rest h)
+        (accounted rest (fits-display s.stage rest fits)) is,
+  )
+  accounted-more (Displays (Some fault) now) is = (
+    given,
+    λ rest fits. keeps-accounts (given ++ rest) (with_keys s rest) (Displays (Some fault) now) (holds-keys s rest h)
+        (accounted rest (fits-fault s.stage rest fits)) is,
+  )
   accounted-more (Moves zero how) is = absurd is.0
-  accounted-more (Moves (suc zero) how) is =
-      (given, λ rest fits. (let same = operator-keys s.stage s rest in
-      subst (λ m. Accounts (given ++ rest) m.to) same (keeps-accounts (given ++ rest) (with_keys s rest) (Moves 1 how) (holds-keys s rest h)
-      (accounted rest (fits-operator s s.stage rest refl fits)) (is.0, is.1, is.2 ∙ sym (ap (λ (m : Moved). m.how) same)))))
-  accounted-more (Moves (suc (suc place)) how) is =
-      (given, λ rest fits. (let same = task-keys (has_left s.table place) (sleeper_at s.table.queues place) s place rest in
-      subst (λ m. Accounts (given ++ rest) m.to) same (keeps-accounts (given ++ rest) (with_keys s rest) (Moves (suc (suc place)) how) (holds-keys s rest h)
-      (accounted rest (fits-task (has_left s.table place) (sleeper_at s.table.queues place) s place rest fits))
-      (is.0, is.1, is.2 ∙ sym (ap (λ (m : Moved). m.how) same)))))
+  accounted-more (Moves (suc zero) how) is = (
+    given,
+    λ rest fits. (let same = operator-keys s.stage s rest in
+        subst (λ m. Accounts (given ++ rest) m.to) same (keeps-accounts (given ++ rest) (with_keys s rest) (Moves 1 how) (holds-keys s rest h)
+        (accounted rest (fits-operator s s.stage rest refl fits)) (is.0, is.1, is.2 ∙ sym (ap (λ (m : Moved). m.how) same)))),
+  )
+  accounted-more (Moves (suc (suc place)) how) is = (
+    given,
+    λ rest fits. (let same = task-keys (has_left s.table place) (sleeper_at s.table.queues place) s place rest in
+        subst (λ m. Accounts (given ++ rest) m.to) same (keeps-accounts (given ++ rest) (with_keys s rest) (Moves (suc (suc place)) how) (holds-keys s rest h)
+        (accounted rest (fits-task (has_left s.table place) (sleeper_at s.table.queues place) s place rest fits))
+        (is.0, is.1, is.2 ∙ sym (ap (λ (m : Moved). m.how) same)))),
+  )
 
 accounted-along : (given : List Item) (s : TimeState) (events : List TimeEvent) → Holds s → Accounted given s → AreEnabled timing s events
     → (later : List Item) × Accounted later (run timing s events)

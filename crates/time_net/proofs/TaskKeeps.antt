@@ -1,20 +1,18 @@
 -- A step of a task leaves the operator where it is, or ends the wake in which it waits for the task.
-use Rattle.std.proofs.Common.{◌≡◌, ◌⊎◌, inl, inr, ℕ, zero, suc, ◌+◌, ◌<◌, Bool, true, false, Option, None, Some, List, [], ◌∷◌, ◌++◌, refl, sym, ◌∙◌, ap, subst, arith}
+use Rattle.std.proofs.Common.{◌≡◌, ◌⊎◌, inl, inr, ℕ, suc, ◌+◌, Bool, true, false, Option, None, Some, List, [], ◌∷◌, ◌++◌, refl, sym, ◌∙◌, ap}
 use Rattle.std.specs.Prelude.{if◌then◌else◌}
 use Rattle.solo_base.specs.declared.outcome.Cause.{Cause}
-use Rattle.queue_var.specs.declared.turn.Turn.TheVariants.{Free, Handed}
-use Rattle.real_time.specs.declared.table.Seat.TheVariants.{Operator as OperatorSeat, Task}
 use Rattle.real_time.specs.declared.table.Waited.TheVariants as waited
-use Rattle.real_time.specs.Table.{Table, after_resume, behind_leave, has_left, is_awaited, out_of_queue, sleeper_at, waited_by}
+use Rattle.real_time.specs.Table.{behind_leave, has_left, is_awaited, out_of_queue, sleeper_at}
 use Rattle.real_time.specs.Starts.{Script}
 use Rattle.real_time.specs.Awaiting.{Row}
 use Rattle.real_time.specs.Deeds.{Deed, Enters, Shows, Wakes, Returns, shows_start}
-use Rattle.real_time.specs.States.{Stage, Works, Closes, Joins, Tells, Ended, MayMove, Moved, TaskMay, TimeState, goes_on, move_of, stage_told, task_move, waits}
+use Rattle.real_time.specs.States.{Stage, Works, Closes, Joins, Tells, Ended, MayMove, Moved, TimeState, move_of, stage_told, task_move, waits}
 use Rattle.real_time.specs.Reaching.{Fits, Holds, awaited-is}
 use Rattle.time_net.specs.declared.operator.Doing.{Doing}
 use Rattle.time_net.specs.declared.operator.Doing.TheVariants as doing
 use Rattle.time_net.specs.declared.operator.Operator.{Operator}
-use Rattle.time_net.specs.Standing.{Does, IsWaking, OperatorStands, OperatorIsAt, name_at, ticks_from}
+use Rattle.time_net.specs.Standing.{Does, OperatorIsAt, name_at, ticks_from}
 use Rattle.time_net.specs.TimeStands.{IsReadOut}
 
 pub record Keeps (s : TimeState) (operator : Operator) (m : Moved) : Type 0 where

@@ -1,16 +1,15 @@
 -- A step of a task is its event in the law.
-use Rattle.std.proofs.Common.{◌≡◌, ◌≢◌, ◌⊎◌, inl, inr, ℕ, zero, suc, ◌+◌, ◌<◌, ◌≤◌, Bool, true, false, Option, None, Some, List, [], ◌∷◌, ◌++◌, get_or, get_or-set_other, get_or-set_same, length, length-append, slice_set, refl, sym, ◌∙◌, ap, subst, arith}
-use Rattle.std.specs.Prelude.{IsSome, if◌then◌else◌, min, slice_index_or}
+use Rattle.std.proofs.Common.{◌≡◌, ◌≢◌, inl, inr, ℕ, suc, ◌+◌, ◌<◌, ◌≤◌, Bool, true, false, Option, None, Some, List, [], ◌∷◌, ◌++◌, get_or, get_or-set_other, get_or-set_same, length, length-append, slice_set, refl, sym, ◌∙◌, ap, subst, arith}
+use Rattle.std.specs.Prelude.{IsSome, if◌then◌else◌, min}
 use Rattle.std.proofs.lemmas.List.{length-set}
 use Rattle.std.proofs.lemmas.Bool.Decides.{eqb_tells}
 use Rattle.queue_var.specs.declared.turn.Turn.{Turn}
 use Rattle.queue_var.specs.declared.turn.Turn.TheVariants.{Free, Handed}
 use Rattle.network_run.specs.declared.stepped.Stepped.TheVariants as stepped
 use Rattle.real_time.specs.declared.table.Seat.{Seat}
-use Rattle.real_time.specs.declared.table.Seat.TheVariants.{Operator, Task}
-use Rattle.real_time.specs.declared.table.Waited.{Waited}
+use Rattle.real_time.specs.declared.table.Seat.TheVariants.{Task}
 use Rattle.real_time.specs.declared.table.Waited.TheVariants as waited
-use Rattle.real_time.specs.Table.{MayComeIn, Table, after_resume, behind_leave, behind_wait, has_left, is_awaited, out_of_queue, resumed_by, sleeper_at, waited_by}
+use Rattle.real_time.specs.Table.{MayComeIn, Table, behind_leave, behind_wait, has_left, is_awaited, out_of_queue, resumed_by, sleeper_at, waited_by}
 use Rattle.real_time.specs.States.{MayMove, Moved, Stage, TimeState, TaskMay, ended_at, goes_on, move_of, seen_at, task_move, waits, with_start}
 use Rattle.real_time.specs.Reaching.{Holds}
 use Rattle.time_net.specs.declared.task_proc.Phase.{Phase}
@@ -205,8 +204,11 @@ moved-by s h place runs Runs below st few may =
     let task : TaskProc = record { runs = runs; phase = Runs } in
     let phase : (ended_at s place ≡ false) × (has_left s.table place ≡ false) × (sleeper_at s.table.queues place ≡ None) = st.phase_is in
     let same = moves-runs s h place task below st few phase.1 phase.2 in record {
-      may = (call-in s place h below,
-          outside s place h phase.2 (subst (λ left. TaskMay left s.table place) phase.1 may.2), phase.2);
+      may = (
+        call-in s place h below,
+        outside s place h phase.2 (subst (λ left. TaskMay left s.table place) phase.1 may.2),
+        phase.2,
+      );
       how = sym (ap (λ (m : Moved). m.how) same);
       table = sym (ap (λ (m : Moved). m.to.table) same);
       one = subst (λ (m : Moved). OneMoves s m.to place (told task (waited_by s.table place))) (sym same)
@@ -216,8 +218,11 @@ moved-by s h place runs Waits below st few may =
     let task : TaskProc = record { runs = runs; phase = Waits } in
     let phase : (ended_at s place ≡ false) × (has_left s.table place ≡ false) × IsSome (sleeper_at s.table.queues place) = st.phase_is in
     let same = moves-waits s h place task below st few phase.1 phase.2 in record {
-      may = (call-in s place h below,
-          handed-on s place phase.2 (subst (λ left. TaskMay left s.table place) phase.1 may.2), phase.2);
+      may = (
+        call-in s place h below,
+        handed-on s place phase.2 (subst (λ left. TaskMay left s.table place) phase.1 may.2),
+        phase.2,
+      );
       how = sym (ap (λ (m : Moved). m.how) same);
       table = sym (ap (λ (m : Moved). m.to.table) same);
       one = subst (λ (m : Moved). OneMoves s m.to place (told task (resumed_by s.table))) (sym same)

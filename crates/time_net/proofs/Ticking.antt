@@ -7,7 +7,7 @@ use Rattle.solo_base.specs.declared.outcome.Cause.{Cause}
 use Rattle.real_time.specs.Starts.{Script, Change, behind_seconds, next_second}
 use Rattle.real_time.specs.Awaiting.{Row, AllAwait}
 use Rattle.real_time.specs.Answers.{StandsForScript, StandsWithin, starts_at}
-use Rattle.real_time.specs.Deeds.{Deed, Shows, Wakes, deeds_of_seconds, shows_start, wakes_of}
+use Rattle.real_time.specs.Deeds.{Shows, Wakes, deeds_of_seconds, shows_start, wakes_of}
 use Rattle.real_time.specs.States.{Works}
 use Rattle.time_net.specs.declared.answering.Answer.TheVariants as answer
 use Rattle.time_net.specs.declared.operator.Doing.TheVariants as doing
@@ -146,7 +146,7 @@ refilled old new same =
 -- ---- the first of so many seconds
 pub ticks-begin : (operator : Operator) (left rest : ℕ) (s : Script) → left ≡ suc rest
     → OperatorStands operator (Works (ticks_from s 0 rest)) (behind_this rest s) None → OperatorStands operator (Works (ticks left s))
-        (behind_seconds left s) None
+    (behind_seconds left s) None
 ticks-begin operator left rest s is st =
     subst (λ left. OperatorStands operator (Works (ticks left s)) (behind_seconds left s) None) (sym is)
     (subst (λ deeds. OperatorStands operator (Works deeds) (behind_this rest s) None) same st)

@@ -1,7 +1,6 @@
 -- What a typed line lets the operator do.
-use Rattle.std.proofs.Common.{◌≡◌, ◌⊎◌, inl, inr, ℕ, zero, suc, ◌+◌, ◌<◌, ◌≤◌, Bool, true, false, Option, None, Some, List, [], ◌∷◌, ◌++◌, refl, sym, ◌∙◌, ap, subst, arith}
-use Rattle.std.specs.Prelude.{◌&&◌, codes, if◌then◌else◌, map, nat_le, not}
-use Rattle.std.specs.Fmt.{decimal}
+use Rattle.std.proofs.Common.{◌≡◌, ℕ, ◌+◌, ◌<◌, ◌≤◌, Bool, true, false, Option, None, Some, List, [], ◌∷◌, refl, sym, ◌∙◌, ap, arith}
+use Rattle.std.specs.Prelude.{◌&&◌, codes, if◌then◌else◌, map, nat_le}
 use Rattle.std.proofs.lemmas.Bool.{leb-true}
 use Rattle.std.proofs.lemmas.Bool.Decides.{nat_tests}
 use Rattle.deck_format.specs.Numeral.{is_numeral, number_within, value_after}
@@ -12,16 +11,16 @@ use Rattle.solo_base.specs.declared.item.Item.TheVariants as item
 use Rattle.solo_base.specs.declared.outcome.Cause.{Cause}
 use Rattle.real_time.specs.declared.typed_line.Typed.{Typed}
 use Rattle.real_time.specs.declared.typed_line.Typed.TheVariants.{Blank, Names, Plans, Stops, Passes, Bad}
-use Rattle.real_time.specs.Typed.{naming, of_four, of_two, passing, planning, stopping, typed, typed_words}
+use Rattle.real_time.specs.Typed.{naming, passing, planning, stopping, typed, typed_words}
 use Rattle.real_time.specs.Starts.{Script, answer as answer_of, behind_line, behind_seconds, is_task, may_name, may_plan, within_clock}
 use Rattle.real_time.specs.Awaiting.{Row}
 use Rattle.real_time.specs.Answers.{AnswersLine}
-use Rattle.real_time.specs.Deeds.{Enters, Shows, deeds_of, deeds_of_seconds}
+use Rattle.real_time.specs.Deeds.{Enters, Shows, deeds_of}
 use Rattle.real_time.specs.States.{Works}
 use Rattle.time_net.specs.declared.answering.Answer.{Answer}
 use Rattle.time_net.specs.declared.answering.Answer.TheVariants as answer
 use Rattle.time_net.specs.declared.operator.Doing.TheVariants as doing
-use Rattle.time_net.specs.Standing.{Does, IsBetweenLines, IsShortLine, answer_text, ticks, time_text}
+use Rattle.time_net.specs.Standing.{Does, IsBetweenLines, IsShortLine, answer_text, ticks}
 
 -- ---- periods are short
 some-same : (a b : ℕ) → ◌≡◌ {A = Option ℕ} (Some a) (Some b) → a ≡ b

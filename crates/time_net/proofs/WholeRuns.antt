@@ -1,11 +1,10 @@
 -- A whole run, from the making of the nine to their end.
-use Rattle.std.proofs.Common.{◌≡◌, ◌≤◌, ◌<◌, ◌+◌, ◌⊎◌, inl, inr, ℕ, zero, suc, Bool, true, false, Option, None, Some, List, [], ◌∷◌, length, refl, sym, ◌∙◌, ap, subst, arith}
+use Rattle.std.proofs.Common.{◌≡◌, ◌<◌, ℕ, zero, suc, Bool, true, false, Option, None, Some, List, [], ◌∷◌, refl, sym, ◌∙◌, ap, subst, arith}
 use Rattle.std.specs.List.{AllByRecursion}
 use Rattle.solo_base.specs.declared.item.Item.{Item}
 use Rattle.solo_base.specs.declared.outcome.Cause.{Cause}
 use Rattle.solo_base.specs.declared.outcome.Cause.TheVariants as cause
 use Rattle.solo_base.specs.declared.outcome.Outcome.{Outcome}
-use Rattle.solo_base.specs.declared.outcome.Outcome.TheVariants as outcome
 use Rattle.solo_devices.specs.CardUnit.{byte_limit, bytes_total, items_ahead}
 use Rattle.solo_devices.specs.Typewriter.{Typing}
 use Rattle.solo_devices.specs.declared.card_read.CardRead.TheVariants as read
@@ -14,7 +13,7 @@ use Rattle.network_run.specs.declared.rules.Rule.{Rule}
 use Rattle.network_run.specs.declared.stepped.Stepped.{Stepped}
 use Rattle.network_run.specs.declared.stepped.Stepped.TheVariants as stepped
 use Rattle.network_run.specs.Counting.{counts_of, grants_of, raised}
-use Rattle.network_run.specs.Law.{AllEnded, AreEnabled, IsReached, Placed, run}
+use Rattle.network_run.specs.Law.{AllEnded, Placed, run}
 use Rattle.network_run.specs.OneRun.{AreItsCounts}
 use Rattle.network_run.specs.Runs.{RunsBy}
 use Rattle.network_run.proofs.OneRun.{its-counts}
@@ -22,12 +21,12 @@ use Rattle.real_time.specs.declared.table.Woken.{Woken}
 use Rattle.real_time.specs.declared.table.Woken.TheVariants as woken
 use Rattle.real_time.specs.Deeds.{Deed, Enters, Shows, Wakes, Returns}
 use Rattle.real_time.specs.Sureness.{sure}
-use Rattle.real_time.specs.States.{Stage, Works, Closes, Joins, Tells, Ended, Accepts, Displays, MayHappen, Moves, Opening, TimeEvent, TimeState, after_woken, join_move, joined_by, move_of, occurs, opened, operator_move, task_move}
+use Rattle.real_time.specs.States.{Stage, Works, Closes, Joins, Tells, Ended, Accepts, Displays, Moves, TimeEvent, TimeState, after_woken, join_move, joined_by, move_of, occurs, operator_move, task_move}
 use Rattle.real_time.specs.Table.{Table, all_left, has_left, operator_resumed, sleeper_at, woken_by}
 use Rattle.real_time.specs.TimesLaw.{IsUntroubled, timing}
 use Rattle.real_time.specs.Unstuck.{sound}
 use Rattle.time_net.specs.declared.net.TimeNet.{TimeNet}
-use Rattle.time_net.specs.TimeStands.{IsCounted, IsFaultOfTimes, TimesStand, OpensOver, Tellers, times_place, outcome_with}
+use Rattle.time_net.specs.TimeStands.{IsCounted, IsFaultOfTimes, TimesStand, OpensOver, Tellers, outcome_with}
 use Rattle.time_net.specs.TimesRuns.{TimesRun, fault_told}
 
 -- ---- a fault stays

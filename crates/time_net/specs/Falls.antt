@@ -1,5 +1,5 @@
 -- Each event leaves fewer.
-use Rattle.std.proofs.Common.{◌≡◌, ℕ, zero, suc, ◌+◌, ◌*◌, ◌<◌, ◌≤◌, Bool, true, false, Option, None, Some, List, [], ◌∷◌, refl, subst, arith}
+use Rattle.std.proofs.Common.{◌≡◌, ℕ, zero, suc, ◌+◌, ◌*◌, ◌<◌, ◌≤◌, Bool, true, false, Option, None, Some, List, [], ◌∷◌, refl, arith}
 use Rattle.solo_devices.specs.declared.card_read.CardRead.TheVariants as read
 use Rattle.network_run.specs.declared.stepped.Stepped.{Stepped}
 use Rattle.network_run.specs.declared.stepped.Stepped.TheVariants as stepped

@@ -1,6 +1,6 @@
 -- What the operator stands for: where it is in a script, and what it has still to do of the line that it
 -- read.
-use Rattle.std.specs.Prelude.{◌≡◌, ◌⊎◌, ◌<◌, ◌≤◌, ◌+◌, ℕ, Bool, List, [], ◌∷◌, ◌++◌, Option, None, Some, codes, length, map, drop, slice_index_or}
+use Rattle.std.specs.Prelude.{◌≡◌, ◌⊎◌, ◌<◌, ◌≤◌, ◌+◌, ℕ, Bool, List, [], ◌∷◌, ◌++◌, Option, None, codes, length, map, drop, slice_index_or}
 use Rattle.std.specs.Fmt.{decimal}
 use Rattle.solo_base.specs.Blanks.{trimmed}
 use Rattle.solo_base.specs.declared.outcome.Cause.{Cause}

@@ -1,5 +1,5 @@
 -- What a call of the operator is, by whether it waits in it already and by the table.
-use Rattle.std.specs.Prelude.{◌≡◌, ◌<◌, ℕ, Bool, true, false, length, None, Some, IsSome, if◌then◌else◌}
+use Rattle.std.specs.Prelude.{◌≡◌, ◌<◌, ℕ, Bool, true, false, length, None, IsSome, if◌then◌else◌}
 use Rattle.queue_var.specs.declared.turn.Turn.TheVariants.{Free}
 use Rattle.network_run.specs.declared.stepped.Stepped.{Stepped}
 use Rattle.network_run.specs.declared.stepped.Stepped.TheVariants as stepped

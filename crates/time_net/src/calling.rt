@@ -10,7 +10,11 @@ pub enum Call {
     /// The entry of a TASK, a START or a STOP, whose answer it has.
     Enters,
     /// It wakes the task at a place in a second, where the task is due.
-    Wakes { place: usize, second: u32, due: bool },
+    Wakes {
+        place: usize,
+        second: u32,
+        due: bool,
+    },
     /// It closes the table.
     Closes,
     /// It waits until all tasks have left.
@@ -56,7 +60,11 @@ fn join(table: &mut TimeTable, waits: bool) -> Stepped
 {
     if waits {
         table.resume_operator();
-        return if table.join() { Stepped::Resumed } else { Stepped::Delayed };
+        return if table.join() {
+            Stepped::Resumed
+        } else {
+            Stepped::Delayed
+        };
     }
     if table.join() {
         Stepped::Acted

@@ -58,7 +58,9 @@ pub enum Doing {
     Closes,
     Joins,
     /// It displays the runs of the task at a place.
-    Tells { place: usize },
+    Tells {
+        place: usize,
+    },
     Ends,
     Ended,
 }
@@ -96,7 +98,10 @@ impl Operator {
             Doing::Enters(_) => Action::Calls(Call::Enters),
             Doing::Answers(answer) => Action::Displays(answer_line(answer)),
             Doing::Wakes {
-                place, second, due, ..
+                place,
+                second,
+                due,
+                ..
             } => Action::Calls(Call::Wakes { place, second, due }),
             Doing::Starts { place, second, .. } => self.tell_start(place, second),
             Doing::Closes => Action::Calls(Call::Closes),

@@ -1,4 +1,4 @@
-use Rattle.std.proofs.Common.{None, ◌∙◌, ap, refl, sym, subst}
+use Rattle.std.proofs.Common.{◌∙◌, sym, subst}
 use Rattle.solo_devices.specs.Typewriter.{Typing}
 use Rattle.network_run.proofs.Along.{place-behind}
 use Rattle.real_time.specs.TimesLaw.{timing}
@@ -47,9 +47,9 @@ returns-clause-counted g c =
     let tells = tellers g.Y.Source.left g.Y.Source.taken g.Y.Source.faults g.T.Sink.given g.T.Sink.faults in
     subst (λ (t : Typing _ _). IsCounted tells c.args.source c.args.sink (fault_told c.finish.result.outcome) t) (sym c.finish.ensures.typewriter)
     (subst (λ f. IsCounted tells c.args.source c.args.sink f c.run_by-counts.new.self.typewriter) (the-fault c.finish.result.outcome
-        c.run_by-counts.new.self.operator.fault c.finish.ensures.outcome)
+    c.run_by-counts.new.self.operator.fault c.finish.ensures.outcome)
     (c.run_by-counts.ensures.keeps.counted c.args.source c.args.sink (counted-first tells c.make-net.result c.args.source c.args.sink c.make-net.ensures
-        c.requires)))
+    c.requires)))
 
 pub returns-clause-known : goal.returns-clause-known
 returns-clause-known g c =

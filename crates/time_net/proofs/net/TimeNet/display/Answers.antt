@@ -17,7 +17,7 @@ returns-in-Err-Failed g c = λ at asks.
     let well = prints-well _ _ _ at.state.stage at.state.script at.state.fault at.state.seen c.args.line.now at.stands.is.operator.does asks in
     failed-steps _ c.args.self.now at.opening at.state at.reached at.stands c.display.new.self c.fail.new.self c.args.line.now asks well
     c.display.ensures.keys c.display.ensures.counts (IsOk c.display.result) print.Failed c.display.ensures.line (λ is. c.display.ensures.failed
-        (failed-of c.display.result c.in-Err-Failed.field-0 c.in-Err-Failed.is c.in-Err-Failed.field-0-is))
+    (failed-of c.display.result c.in-Err-Failed.field-0 c.in-Err-Failed.is c.in-Err-Failed.field-0-is))
     (c.fail.ensures at.state at.stands.is.operator (may-fail at.state.stage at.state.seen c.args.line.now asks))
 
 pub returns-in-Err-NoMemory : goal.returns-in-Err-NoMemory

@@ -1,4 +1,4 @@
-use Rattle.std.proofs.Common.{◌≤◌, arith, subst, sym}
+use Rattle.std.proofs.Common.{arith, subst, sym}
 use Rattle.real_time.specs.States.{HasEnded}
 use Rattle.std.specs.Prelude.{◌↔◌, IsTrue}
 use Rattle.time_net.proofs.net.TimeNetNetwork.has_ended.Goals as goal

@@ -1,4 +1,4 @@
-use Rattle.std.proofs.Common.{◌<◌, ◌∙◌, ap, arith, get_or, length, subst, suc, sym}
+use Rattle.std.proofs.Common.{◌∙◌, ap, arith, get_or, subst, suc, sym}
 use Rattle.network_run.specs.Law.{MayStep, Steps}
 use Rattle.real_time.specs.States.{MayMove}
 use Rattle.real_time.specs.TimesLaw.{timing}
@@ -34,7 +34,7 @@ returns-then-p-eq-OPERATOR g c =
     let tells = tellers g.Y.Source.left g.Y.Source.taken g.Y.Source.faults g.T.Sink.given g.T.Sink.faults in record {
       steps = λ at may.
           subst (λ p. Steps timing (TimesStand tells) (TimesMoves tells) c.args.self.now c.step_operator.new.self at.state p c.step_operator.result)
-              (sym c.if-p-eq-OPERATOR.true)
+          (sym c.if-p-eq-OPERATOR.true)
           (c.step_operator.ensures at (subst (MayMove at.state) c.if-p-eq-OPERATOR.true may));
     }
 

@@ -1,4 +1,4 @@
-use Rattle.std.proofs.Common.{None, refl, sym, subst, ap, ◌∙◌}
+use Rattle.std.proofs.Common.{sym, subst, ap}
 use Rattle.real_time.specs.States.{Works, Tells, names_by}
 use Rattle.time_net.specs.Standing.{AreNamed, IsWaking, OperatorStands, behind_call}
 use Rattle.time_net.specs.declared.operator.Doing.TheVariants as doing

@@ -1,4 +1,3 @@
-use Rattle.real_time.specs.Starts.{Script}
 use Rattle.time_net.specs.declared.answering.Answer.TheVariants as answer
 use Rattle.time_net.proofs.Typing.{entered-name}
 use Rattle.time_net.proofs.operator.Operator.name_task.Goals as goal

@@ -21,7 +21,7 @@ returns-in-Answers c = λ s st tasks.
 pub returns-in-Wakes : goal.returns-in-Wakes
 returns-in-Wakes c = λ s st tasks.
     let does =
-        does-so c.args.self.now (doing.Wakes c.in-Wakes.place c.in-Wakes.second c.in-Wakes.due c.in-Wakes.left) s.stage s.script s.fault c.in-Wakes.is st in
+    does-so c.args.self.now (doing.Wakes c.in-Wakes.place c.in-Wakes.second c.in-Wakes.due c.in-Wakes.left) s.stage s.script s.fault c.in-Wakes.is st in
     asks-wake c.args.self.now.tasks.items c.in-Wakes.place c.in-Wakes.second c.in-Wakes.due c.in-Wakes.left s.stage s.script s.fault does
 
 pub returns-in-Starts : goal.returns-in-Starts

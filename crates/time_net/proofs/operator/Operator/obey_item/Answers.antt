@@ -15,6 +15,6 @@ pub returns : goal.returns
 returns c = λ s st at.
     let (ready, well) = is-ready c.args.self.now s.stage s.script s.fault st at in
     subst (λ fault. OperatorStands c.obey.new.self (Works (deeds_of s.script (typed c.args.item.now))) (behind_line s.script
-        (typed c.args.item.now)) fault) (sym well)
+    (typed c.args.item.now)) fault) (sym well)
     (subst (λ line. OperatorStands c.obey.new.self (Works (deeds_of s.script line)) (behind_line s.script line) None) c.line_says-line.ensures
     (c.obey.ensures s.script ready))

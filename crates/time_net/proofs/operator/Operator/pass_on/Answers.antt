@@ -1,4 +1,4 @@
-use Rattle.std.proofs.Common.{◌≡◌, ◌<◌, ◌≤◌, ◌+◌, None, length, sym, subst, ap, ◌∙◌, arith}
+use Rattle.std.proofs.Common.{◌≡◌, ◌+◌, None, length, sym, subst, arith}
 use Rattle.real_time.specs.States.{Works}
 use Rattle.real_time.specs.Starts.{next_second}
 use Rattle.time_net.specs.Standing.{IsBetweenLines, IsPassing, OperatorStands, behind_this, ticks_from}

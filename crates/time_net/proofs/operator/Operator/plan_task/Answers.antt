@@ -19,7 +19,7 @@ returns c = λ s ready.
           (behind_line s (Plans c.args.task.now c.args.time c.args.period)) None)
           (sym (refilled c.args.self.now.tasks.items c.start-planned.new.tasks (c.start-planned.auto.tasks ∙ ap length items)))
           (entered-plan s c.args.task.now c.args.time c.args.period (answer.Plans c.start-planned.result) c.args.self.now.tasks.items
-              c.start-planned.new.tasks c.args.self.now.clock c.args.self.now.fault ready
+          c.start-planned.new.tasks c.args.self.now.clock c.args.self.now.fault ready
           (c.start-planned.ensures s (sym ready.now_is) (subst (StandsForScript s) (sym items) ready.stand)));
       fault_is = ready.well;
     }

@@ -18,7 +18,7 @@ returns-in-Starts c = λ s text st prints.
     (sym (shown-start c.args.self.now.tasks.items c.in-Starts.place c.in-Starts.second c.in-Starts.left s.stage s.script s.fault w))
     (subst (λ script. OperatorStands c.pass_on.new.self (Works (ticks_from w.s (c.in-Starts.place + 1) c.in-Starts.left)) script s.fault) (sym w.script_is)
     (subst (λ fault. OperatorStands c.pass_on.new.self (Works (ticks_from w.s (c.in-Starts.place + 1) c.in-Starts.left))
-        (behind_this c.in-Starts.left w.s) fault)
+    (behind_this c.in-Starts.left w.s) fault)
     (sym w.well) at))
 
 pub returns-in-Tells : goal.returns-in-Tells

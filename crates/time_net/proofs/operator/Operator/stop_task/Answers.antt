@@ -18,7 +18,7 @@ returns c = λ s ready.
           (behind_line s (Stops c.args.task.now)) None)
           (sym (refilled c.args.self.now.tasks.items c.stop-stopped.new.tasks (c.stop-stopped.auto.tasks ∙ ap length items)))
           (entered-stop s c.args.task.now (answer.Stops c.stop-stopped.result) c.args.self.now.tasks.items c.stop-stopped.new.tasks c.args.self.now.clock
-              c.args.self.now.fault ready
+          c.args.self.now.fault ready
           (c.stop-stopped.ensures s (subst (StandsForScript s) (sym items) ready.stand)));
       fault_is = ready.well;
     }

@@ -1,4 +1,4 @@
-use Rattle.std.proofs.Common.{◌≡◌, ◌<◌, ◌≤◌, None, Some, length, refl, sym, arith}
+use Rattle.std.proofs.Common.{refl, sym, arith}
 use Rattle.time_net.proofs.Operating.{all-told, none-fault, some-fault, telling}
 use Rattle.time_net.proofs.operator.Operator.tell_from.Goals as goal
 

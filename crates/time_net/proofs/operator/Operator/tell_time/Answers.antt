@@ -1,4 +1,4 @@
-use Rattle.std.proofs.Common.{◌≡◌, ◌≤◌, ◌+◌, arith}
+use Rattle.std.proofs.Common.{◌≡◌, ◌+◌, arith}
 use Rattle.time_net.proofs.Ticking.{all-passed}
 use Rattle.time_net.proofs.operator.Operator.tell_time.Goals as goal
 
