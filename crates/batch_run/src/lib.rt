@@ -2,6 +2,7 @@
 #![tactic(auto)]
 
 mod batch;
+mod beside;
 mod buffers;
 mod card_connections;
 mod desk;
@@ -12,6 +13,7 @@ mod making;
 mod output_connections;
 mod printer_connections;
 mod processes;
+mod promises;
 mod row;
 mod run;
 mod start;

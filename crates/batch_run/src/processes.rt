@@ -20,8 +20,8 @@ use std::thread::Threads;
 
 /// Runs a process with these connections up to its end, where all have come to the start.
 macro_rules! begin {
-    ($connections:expr, $start:expr, $told:expr, $rt:expr, $alloc:expr) => {{
-        let told = $told;
+    ($connections:expr, $start:expr, $rt:expr, $alloc:expr) => {{
+        let told = $start.come($rt);
         if $start.is_whole(&told) {
             return ($connections.ran($rt, $alloc), told);
         }
@@ -39,7 +39,7 @@ pub fn begin_cards<'a, 's, S: Source + Drop + Send, R: Threads + Wait + Sync>(
     ensures { CardsCame S.left S.taken S.faults
         start.now.all.id result.1.of result.1.value cards.entry result.0 }
 {
-    begin!(cards, start, start.come(rt), rt, alloc)
+    begin!(cards, start, rt, alloc)
 }
 
 pub fn begin_pages<'a, 's, A: Area + Send, R: Threads + Wait + Sync>(
@@ -52,7 +52,7 @@ pub fn begin_pages<'a, 's, A: Area + Send, R: Threads + Wait + Sync>(
     ensures { PagesCame A.size
         start.now.all.id result.1.of result.1.value pages.entry result.0 }
 {
-    begin!(pages, start, start.come(rt), rt, alloc)
+    begin!(pages, start, rt, alloc)
 }
 
 pub fn begin_jobs<
@@ -72,7 +72,7 @@ pub fn begin_jobs<
     ensures { JobsCame A.size B.size F.pages F.faults
         start.now.all.id result.1.of result.1.value jobs.entry result.0 }
 {
-    begin!(jobs, start, start.come(rt), rt, alloc)
+    begin!(jobs, start, rt, alloc)
 }
 
 pub fn begin_lines<'a, 's, B: Area + Send, R: Threads + Wait + Sync>(
@@ -85,10 +85,9 @@ pub fn begin_lines<'a, 's, B: Area + Send, R: Threads + Wait + Sync>(
     ensures { LinesCame B.size
         start.now.all.id result.1.of result.1.value lines.entry result.0 }
 {
-    begin!(lines, start, start.come(rt), rt, alloc)
+    begin!(lines, start, rt, alloc)
 }
 
-/// The printer process tells the others, since its thread is the one that calls.
 pub fn begin_paper<'a, 's, K: Sink + Drop + Send, R: Threads + Wait + Sync>(
     rt: &R,
     alloc: Global,
@@ -99,5 +98,5 @@ pub fn begin_paper<'a, 's, K: Sink + Drop + Send, R: Threads + Wait + Sync>(
     ensures { PaperCame K.given K.faults
         start.now.all.id result.1.of result.1.value paper.entry result.0 }
 {
-    begin!(paper, start, start.tell(rt), rt, alloc)
+    begin!(paper, start, rt, alloc)
 }

@@ -5,18 +5,21 @@ ghost use Rattle.batch_run.specs.Lines.{PrinterRan};
 ghost use Rattle.batch_run.specs.Row.{BackBegins, BackCame, BackRan, CardsCame, FrontBegins, FrontCame, FrontRan, JobsCame, LinesCame, PagesCame, PaperCame, RestBegins, RestCame, RestRan, RowBegins, RowRan};
 ghost use Rattle.batch_run.specs.Pages.{InputRan, JobRan, OutputRan, input_connected, job_connected, output_connected};
 
+use crate::beside::beside;
 use crate::card_connections::CardConnections;
 use crate::input_connections::InputEnds;
 use crate::job_connections::JobEnds;
 use crate::output_connections::OutputEnds;
 use crate::printer_connections::PrinterConnections;
 use crate::processes::{begin_cards, begin_jobs, begin_lines, begin_pages, begin_paper};
+use crate::promises::{CardsComing, FrontComing, JobsComing, LinesComing};
 use crate::start::{Start, Told};
 use solo_base::Outcome;
 use solo_devices::{Area, Sink, Source};
 use std::alloc::Global;
+use std::snapshot::Snapshot;
 use std::sync::Wait;
-use std::thread::{Threads, join};
+use std::thread::Threads;
 
 /// What a process ended with: its connections and how it ended.
 pub type Ended<C> = (C, Outcome);
@@ -54,8 +57,13 @@ fn run_front<'a, 'b, 's, S: Source + Drop + Send, A: Area + Send, R: Threads + W
     ensures { FrontCame S.left S.taken S.faults A.size
         start.now.all.id result.1.of result.1.value cards.entry pages.entry result.0 }
 {
-    let ((cards, told), (pages, also)) = join(
+    let ((cards, told), (pages, also)) = beside(
         rt,
+        start,
+        CardsComing {
+            start,
+            cards: Snapshot::of(&cards),
+        },
         move || -> (Ended<CardConnections<S>>, Told<'_>)
             requires { CardRan S.left S.taken S.faults cards cards [] }
             ensures { CardsCame S.left S.taken S.faults
@@ -86,8 +94,13 @@ fn run_back<'a, 'b, 's, K: Sink + Drop + Send, B: Area + Send, R: Threads + Wait
     ensures { BackCame K.given K.faults B.size
         start.now.all.id result.1.of result.1.value lines.entry paper.entry result.0 }
 {
-    let ((lines, told), (paper, also)) = join(
+    let ((lines, told), (paper, also)) = beside(
         rt,
+        start,
+        LinesComing {
+            start,
+            lines: Snapshot::of(&lines),
+        },
         move || -> (Ended<OutputEnds<B>>, Told<'_>)
             requires { OutputRan B.size (output_connected lines) (output_connected lines) [] }
             ensures { LinesCame B.size
@@ -132,8 +145,13 @@ fn run_rest<
     ensures { RestCame K.given K.faults A.size B.size F.pages F.faults
         start.now.all.id result.1.of result.1.value jobs.entry lines.entry paper.entry result.0 }
 {
-    let ((jobs, told), (back, also)) = join(
+    let ((jobs, told), (back, also)) = beside(
         rt,
+        start,
+        JobsComing {
+            start,
+            jobs: Snapshot::of(&jobs),
+        },
         move || -> (Ended<JobEnds<A, B, F>>, Told<'_>)
             requires { JobRan A.size B.size F.pages F.faults (job_connected jobs) (job_connected jobs) [] }
             ensures { JobsCame A.size B.size F.pages F.faults
@@ -181,8 +199,14 @@ pub fn run_five<
         paper,
     } = row;
     let start = &Start::new();
-    let ((front, told), (rest, also)) = join(
+    let ((front, told), (rest, also)) = beside(
         rt,
+        start,
+        FrontComing {
+            start,
+            cards: Snapshot::of(&cards),
+            pages: Snapshot::of(&pages),
+        },
         move || -> ((Ended<CardConnections<S>>, Ended<InputEnds<A>>), Told<'_>)
             requires { FrontBegins S.left S.taken S.faults A.size cards pages }
             ensures { FrontCame S.left S.taken S.faults A.size

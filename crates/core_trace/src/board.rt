@@ -4,22 +4,23 @@ use solo_base::{BufferNo, Feed, Item, ProcNo};
 use std::alloc::{AllocError, Global};
 
 /// Where a process may wait.
-#[derive(Clone, Copy, Debug, PartialEq, Eq)]
+#[derive(Clone, Copy, PartialEq, Eq)]
 pub enum Place {
     Buffer(BufferNo),
     Disk,
 }
 
-/// A process that waits.
-#[derive(Clone, Copy, Debug, PartialEq, Eq)]
+/// A process that waits, from this event on.
+#[derive(Clone, Copy)]
 pub struct Waiting {
     pub process: ProcNo,
     pub place: Place,
+    pub since: u64,
 }
 
 /// What a network doesn't tell of itself, noted from the events so far: what the line buffers 1 and 4 hold,
 /// and who waits where, in order of arrival.
-#[derive(Debug, Drop)]
+#[derive(Drop)]
 pub struct Board {
     pub cards: Option<Feed>,
     pub lines: Option<Feed>,
@@ -45,14 +46,17 @@ impl Board {
         }
     }
 
-    /// Notes an event.
-    pub fn note(&mut self, event: &Event) -> Result<(), AllocError> {
+    /// Notes an event that has this number.
+    pub fn note(&mut self, event: &Event, number: u64) -> Result<(), AllocError> {
         let process = event.process;
-        self.goes_on(process);
         match (&event.action, &event.told) {
             (action, Told::Waits) => {
                 if let Some(place) = place_of(process, action) {
-                    self.waiting.push(Waiting { process, place })?;
+                    self.waiting.push(Waiting {
+                        process,
+                        place,
+                        since: number,
+                    })?;
                 }
             }
             (Action::PutFeed(feed), Told::Done) => *self.slot(process) = Some(copy(feed)),
@@ -61,14 +65,14 @@ impl Board {
         Ok(())
     }
 
-    /// A process that waited goes on.
-    fn goes_on(&mut self, process: ProcNo) {
+    /// A process goes on. Where it waited so far, if it did.
+    pub fn goes_on(&mut self, process: ProcNo) -> Option<Waiting> {
         for at in 0..self.waiting.len() {
             if self.waiting[at].process == process {
-                self.waiting.remove(at);
-                return;
+                return Some(self.waiting.remove(at));
             }
         }
+        None
     }
 }
 

@@ -11,7 +11,7 @@ use solo_base::{Feed, Outcome, ProcNo};
 use solo_devices::{Area, Sink, Source};
 
 /// What an action came to.
-#[derive(Debug, Drop)]
+#[derive(Drop)]
 pub enum Told {
     /// The process waits, and makes the same call again.
     Waits,
@@ -26,7 +26,7 @@ pub enum Told {
 }
 
 /// One event of a run.
-#[derive(Debug, Drop)]
+#[derive(Drop)]
 pub struct Event {
     pub process: ProcNo,
     pub action: Action,

@@ -1,58 +1,98 @@
 //! The trace of a run of the five processes over a deck: a line for each event, with what the buffers and the
-//! disk hold then.
+//! disk hold then; or a picture of the run.
 #![tactic(auto)]
 
 ghost use Rattle.std.specs.Prelude.{◌≡◌, true, IfSome};
 
 mod board;
 mod event;
+mod fault;
+mod frame;
+mod picture;
 mod row;
 mod said;
+mod svg;
 mod trace;
 mod words;
 
-use anyhow::{Context, Result};
 use core_net::Net;
 use disk_files::FileArea;
 use disk_pages::AREA_PAGES;
 use disk_system::format;
-use network_run::Counts;
-use solo_devices::{SureArea, SureSink};
+use fault::Fault;
+use solo_devices::{Area, SureArea, SureSink};
 use solo_edge::ReaderSource;
 use std::alloc::Global;
 use std::env;
-use words::asked_by;
-
-const USAGE: &str = "usage: core_trace --least|--cyclic|--schedule N [--events FROM TO]";
+use std::process::ExitCode;
+use std::rt::Env;
+use words::{Asked, asked_by};
 
 /// The pages of each spool.
 const SPOOL_PAGES: u16 = 256;
 
-fn main(rt: HostRuntime) -> Result<()> {
+fn main(rt: HostRuntime) -> ExitCode {
+    match run(&rt) {
+        Ok(()) => ExitCode::from(0),
+        Err(fault) => {
+            let _ = rt.eprintln(fault);
+            ExitCode::from(1)
+        }
+    }
+}
+
+/// Shows the run that the words ask for, of the deck on standard input.
+fn run<R: AllocGlobal + Env + Input + Print>(rt: &R) -> Result<(), Fault>
+where
+    R::Reader: Drop,
+{
+    let asked = read_words(rt)?;
+    let Some(
+        Areas {
+            input,
+            output,
+            files,
+        },
+    ) = make_areas(rt.alloc())
+    else {
+        return Err(Fault::NoMemory);
+    };
+    let source = ReaderSource::new(rt.reader());
+    let paper = SureSink::new(rt.alloc());
+    let mut net = Net::make(rt.alloc(), source, input, output, paper, files);
+    trace::trace(rt, &mut net, asked)
+}
+
+/// What the words of the command line ask for.
+fn read_words(rt: &(impl AllocGlobal + Env)) -> Result<Asked, Fault> {
     let mut words = Vec::new(rt.alloc());
-    for word in env::args(&rt)?.skip(1) {
+    for word in env::args(rt)?.skip(1) {
         words.push(word)?;
     }
-    let asked = asked_by(words.as_slice()).context(USAGE)?;
-    let input = SureArea::new(rt.alloc(), SPOOL_PAGES)
-        .ok()
-        .context("no memory")?;
-    let output = SureArea::new(rt.alloc(), SPOOL_PAGES)
-        .ok()
-        .context("no memory")?;
-    let paper = SureSink::new(rt.alloc());
-    let source = ReaderSource::new(rt.reader());
-    let files = no_files(rt.alloc()).context("no memory")?;
-    let mut net = Net::make(rt.alloc(), source, input, output, paper, files);
-    println!(rt; "{}", row::HEAD)?;
-    let counts = trace::trace(&rt, &mut net, asked)?;
-    let Counts {
-        events,
-        delays,
-        grants,
-    } = counts;
-    println!(rt; "{events} events, {delays} delays, {grants} grants")?;
-    Ok(())
+    asked_by(words.as_slice()).ok_or(Fault::Usage)
+}
+
+/// The areas in memory that a run uses: those of the two spools, and that of the files.
+struct Areas {
+    input: SureArea,
+    output: SureArea,
+    files: FileArea<SureArea>,
+}
+
+/// New areas, without a file. None: memory was refused.
+fn make_areas(alloc: Global) -> Option<Areas>
+    ensures input { IfSome result (λ areas. ⟦<SureArea as Area>⟧.size areas.input ≡ SPOOL_PAGES) }
+    ensures output { IfSome result (λ areas. ⟦<SureArea as Area>⟧.size areas.output ≡ SPOOL_PAGES) }
+    ensures files { IfSome result (λ areas. areas.files.sound ≡ true) }
+{
+    let files = no_files(alloc)?;
+    let input = SureArea::new(alloc, SPOOL_PAGES).ok()?;
+    let output = SureArea::new(alloc, SPOOL_PAGES).ok()?;
+    Some(Areas {
+        input,
+        output,
+        files,
+    })
 }
 
 /// The files of an area in memory, of which there are none. None: memory was refused.

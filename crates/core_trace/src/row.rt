@@ -1,6 +1,6 @@
 use crate::board::{Board, Place};
 use crate::event::Event;
-use crate::said::{action_of, feed_text, name_of, told_of};
+use crate::said::{name_of, write_action, write_feed, write_told};
 use core_net::Shared;
 use solo_base::{BufferNo, Feed, ProcNo};
 use solo_devices::{Area, Sink, Source};
@@ -11,6 +11,13 @@ use std::alloc::{AllocError, Global};
 pub const HEAD: &str =
     "event process  what it does -> what came of it    1 cards         2 in   3 out  4 lines         disk";
 
+/// How wide the columns are: what is done and what came of it, a line buffer, a spool.
+const ACTS: usize = 36;
+
+const LINES: usize = 16;
+
+const PAGES: usize = 7;
+
 /// The line of an event, with what the buffers and the disk hold behind it.
 pub fn row_of<S: Source, K: Sink, A: Area, B: Area, F: Area>(
     alloc: Global,
@@ -19,82 +26,106 @@ pub fn row_of<S: Source, K: Sink, A: Area, B: Area, F: Area>(
     board: &Board,
     shared: &Shared<S, K, A, B, F>,
 ) -> Result<String, AllocError> {
+    let mut row = String::new(alloc);
+    write_row(&mut row, number, event, board, shared)?;
+    Ok(row)
+}
+
+fn write_row<S: Source, K: Sink, A: Area, B: Area, F: Area>(
+    row: &mut String,
+    number: u64,
+    event: &Event,
+    board: &Board,
+    shared: &Shared<S, K, A, B, F>,
+) -> Result<(), AllocError> {
+    write_event(row, number, event)?;
+    write_slot(row, board, 1, &board.cards, shared.cards.handed())?;
+    write_spool(row, board, 2, shared.input.left(), shared.input.handed())?;
+    write_spool(row, board, 3, shared.output.left(), shared.output.handed())?;
+    write_slot(row, board, 4, &board.lines, shared.lines.handed())?;
+    write_disk(row, board, shared.desk.holder(), shared.desk.handed())
+}
+
+/// Who did what, and what came of it.
+fn write_event(row: &mut String, number: u64, event: &Event) -> Result<(), AllocError> {
     let process = event.process;
     let name = name_of(process);
-    let action = action_of(alloc, &event.action)?;
-    let told = told_of(alloc, &event.told)?;
-    let acts = format!(in alloc; "{action} -> {told}")?;
-    let cards = line_cell(alloc, board, 1, &board.cards, shared.cards.handed())?;
-    let input = spool_cell(alloc, board, 2, shared.input.left(), shared.input.handed())?;
-    let output = spool_cell(
-        alloc,
-        board,
-        3,
-        shared.output.left(),
-        shared.output.handed(),
-    )?;
-    let lines = line_cell(alloc, board, 4, &board.lines, shared.lines.handed())?;
-    let disk = disk_cell(alloc, board, shared.desk.holder(), shared.desk.handed())?;
-    format!(in alloc;
-        "{number:>5} {process} {name:<8}{acts:<36}{cards:<16}{input:<7}{output:<7}{lines:<16}{disk}"
-    )
+    write!(row, "{number:>5} {process} {name:<8}")?;
+    let start = row.len();
+    write_action(row, &event.action)?;
+    row.push_str(" -> ")?;
+    write_told(row, &event.told)?;
+    fill(row, start, ACTS)
 }
 
 /// What a line buffer holds.
-fn line_cell(
-    alloc: Global,
+fn write_slot(
+    row: &mut String,
     board: &Board,
     buffer: BufferNo,
     held: &Option<Feed>,
     handed: Option<ProcNo>,
-) -> Result<String, AllocError> {
-    let text = match held {
-        Some(feed) => feed_text(alloc, feed)?,
-        None => String::from_str(alloc, "-")?,
-    };
-    with_queue(text, board, Place::Buffer(buffer), handed)
+) -> Result<(), AllocError> {
+    let start = row.len();
+    match held {
+        Some(feed) => write_feed(row, feed)?,
+        None => row.push('-')?,
+    }
+    write_queue(row, board, Place::Buffer(buffer), handed)?;
+    fill(row, start, LINES)
 }
 
 /// How many pages a spool holds.
-fn spool_cell(
-    alloc: Global,
+fn write_spool(
+    row: &mut String,
     board: &Board,
     buffer: BufferNo,
     pages: u16,
     handed: Option<ProcNo>,
-) -> Result<String, AllocError> {
-    let text = format!(in alloc; "{pages}")?;
-    with_queue(text, board, Place::Buffer(buffer), handed)
+) -> Result<(), AllocError> {
+    let start = row.len();
+    write!(row, "{pages}")?;
+    write_queue(row, board, Place::Buffer(buffer), handed)?;
+    fill(row, start, PAGES)
 }
 
 /// Who has the disk.
-fn disk_cell(
-    alloc: Global,
+fn write_disk(
+    row: &mut String,
     board: &Board,
     holder: Option<ProcNo>,
     handed: Option<ProcNo>,
-) -> Result<String, AllocError> {
-    let text = match holder {
-        Some(process) => format!(in alloc; "{process}")?,
-        None => String::from_str(alloc, "-")?,
-    };
-    with_queue(text, board, Place::Disk, handed)
+) -> Result<(), AllocError> {
+    match holder {
+        Some(process) => write!(row, "{process}")?,
+        None => row.push('-')?,
+    }
+    write_queue(row, board, Place::Disk, handed)
 }
 
-/// What stands at a place, and behind it who waits there and to whom the turn is handed.
-fn with_queue(
-    mut text: String,
+/// Who waits at a place, and to whom the turn is handed there.
+fn write_queue(
+    row: &mut String,
     board: &Board,
     place: Place,
     handed: Option<ProcNo>,
-) -> Result<String, AllocError> {
+) -> Result<(), AllocError> {
     for waiting in board.waiting.iter() {
         if waiting.place == place && handed != Some(waiting.process) {
-            write!(text, " w{}", waiting.process)?;
+            write!(row, " w{}", waiting.process)?;
         }
     }
-    if let Some(process) = handed {
-        write!(text, " t{process}")?;
+    match handed {
+        Some(process) => write!(row, " t{process}"),
+        None => Ok(()),
     }
-    Ok(text)
+}
+
+/// Fills a column that began here up to its width.
+fn fill(row: &mut String, start: usize, width: usize) -> Result<(), AllocError> {
+    let written = row.len().saturating_sub(start);
+    for _ in written..width {
+        row.push(' ')?;
+    }
+    Ok(())
 }

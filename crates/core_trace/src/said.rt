@@ -1,7 +1,7 @@
 use crate::event::Told;
 use batch_procs::Action;
 use solo_base::{Cause, Feed, Ident, Item, Line, Outcome, ProcNo};
-use std::alloc::{AllocError, Global};
+use std::alloc::AllocError;
 
 /// How many characters of a card or a line are shown.
 const SHOWN: usize = 10;
@@ -17,74 +17,82 @@ pub fn name_of(process: ProcNo) -> &'static str {
     }
 }
 
-/// What a line buffer hands over.
-pub fn feed_text(alloc: Global, feed: &Feed) -> Result<String, AllocError> {
+/// Writes what a line buffer hands over.
+pub fn write_feed(text: &mut String, feed: &Feed) -> Result<(), AllocError> {
     match feed {
-        Feed::Item(Item::Line(line)) => line_text(alloc, line),
-        Feed::Item(Item::Spoiled) => String::from_str(alloc, "(spoiled)"),
-        Feed::End => String::from_str(alloc, "(end)"),
+        Feed::Item(Item::Line(line)) => write_line(text, line),
+        Feed::Item(Item::Spoiled) => text.push_str("(spoiled)"),
+        Feed::End => text.push_str("(end)"),
     }
 }
 
-/// The first characters of a line.
-fn line_text(alloc: Global, line: &Line) -> Result<String, AllocError> {
+/// Writes the first characters of a line.
+fn write_line(text: &mut String, line: &Line) -> Result<(), AllocError> {
     if line.is_empty() {
-        return String::from_str(alloc, "(blank)");
+        return text.push_str("(blank)");
     }
-    let mut text = String::new(alloc);
     for byte in line.bytes().iter().take(SHOWN) {
         text.push(char::from(*byte))?;
     }
     if line.len() > SHOWN {
-        text.push_str("..")?;
+        return text.push_str("..");
     }
-    Ok(text)
+    Ok(())
 }
 
-/// The characters of a name.
-fn name_text(alloc: Global, name: &Ident) -> Result<String, AllocError> {
-    let mut text = String::new(alloc);
+/// Writes the characters of a name.
+pub fn write_name(text: &mut String, name: &Ident) -> Result<(), AllocError> {
     for byte in name.name() {
         text.push(char::from(*byte))?;
     }
-    Ok(text)
+    Ok(())
 }
 
-/// What a process does.
-pub fn action_of(alloc: Global, action: &Action) -> Result<String, AllocError> {
+/// Writes what a process does.
+pub fn write_action(text: &mut String, action: &Action) -> Result<(), AllocError> {
+    text.push_str(words_of(action))?;
     match action {
-        Action::ReadCard => String::from_str(alloc, "reads a card"),
-        Action::PutFeed(feed) => format!(in alloc; "puts {}", feed_text(alloc, feed)?),
-        Action::TakeFeed => String::from_str(alloc, "takes"),
-        Action::AwaitRoom => String::from_str(alloc, "awaits room"),
-        Action::AwaitItem => String::from_str(alloc, "awaits a page"),
-        Action::Request => String::from_str(alloc, "requests the disk"),
-        Action::PutPage(page) if page.last() => String::from_str(alloc, "puts the last page"),
-        Action::PutPage(_) => String::from_str(alloc, "puts a page"),
-        Action::TakePage => String::from_str(alloc, "takes a page"),
-        Action::Load(file) => format!(in alloc; "loads {}", name_text(alloc, file)?),
-        Action::Release => String::from_str(alloc, "releases the disk"),
-        Action::Local => String::from_str(alloc, "works"),
-        Action::Print(line) => format!(in alloc; "prints {}", line_text(alloc, line)?),
-        Action::Stop(buffer) => format!(in alloc; "stops buffer {buffer}"),
-        Action::Ended(_) => String::from_str(alloc, "ends"),
+        Action::PutFeed(feed) => write_feed(text, feed),
+        Action::Load(file) => write_name(text, file),
+        Action::Print(line) => write_line(text, line),
+        Action::Stop(buffer) => write!(text, "{buffer}"),
+        _ => Ok(()),
     }
 }
 
-/// What came of an action.
-pub fn told_of(alloc: Global, told: &Told) -> Result<String, AllocError> {
+/// The words of what a process does, in front of what it does it with.
+fn words_of(action: &Action) -> &'static str {
+    match action {
+        Action::ReadCard => "reads a card",
+        Action::PutFeed(_) => "puts ",
+        Action::TakeFeed => "takes",
+        Action::AwaitRoom => "awaits room",
+        Action::AwaitItem => "awaits a page",
+        Action::Request => "requests the disk",
+        Action::PutPage(page) if page.last() => "puts the last page",
+        Action::PutPage(_) => "puts a page",
+        Action::TakePage => "takes a page",
+        Action::Load(_) => "loads ",
+        Action::Release => "releases the disk",
+        Action::Local => "works",
+        Action::Print(_) => "prints ",
+        Action::Stop(_) => "stops buffer ",
+        Action::Ended(_) => "ends",
+    }
+}
+
+/// Writes what came of an action.
+pub fn write_told(text: &mut String, told: &Told) -> Result<(), AllocError> {
     match told {
-        Told::Waits => String::from_str(alloc, "waits"),
-        Told::Done => String::from_str(alloc, "done"),
-        Told::Fed(feed) => feed_text(alloc, feed),
-        Told::Closes(outcome) | Told::Ends(outcome) => String::from_str(
-            alloc,
-            outcome_of(*outcome),
-        ),
+        Told::Waits => text.push_str("waits"),
+        Told::Done => text.push_str("done"),
+        Told::Fed(feed) => write_feed(text, feed),
+        Told::Closes(outcome) | Told::Ends(outcome) => text.push_str(outcome_of(*outcome)),
     }
 }
 
-fn outcome_of(outcome: Outcome) -> &'static str {
+/// The words of an outcome.
+pub fn outcome_of(outcome: Outcome) -> &'static str {
     match outcome {
         Outcome::Done => "done",
         Outcome::Stopped => "stopped",

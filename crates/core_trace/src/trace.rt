@@ -1,71 +1,150 @@
 ghost use Rattle.core_net.specs.Net.{IsPlaced, the_keeps};
 ghost use Rattle.core_net.specs.Shared.{telling};
 
-use crate::board::Board;
+use crate::board::{Board, Waiting};
 use crate::event::{Event, Told, happen};
-use crate::row::row_of;
-use crate::words::Asked;
-use anyhow::Result;
+use crate::fault::Fault;
+use crate::frame::print_picture;
+use crate::picture::Picture;
+use crate::row::{HEAD, row_of};
+use crate::words::{Asked, Form};
 use batch_procs::Action;
-use core_net::Net;
+use core_net::{Net, Shared};
 use network_run::{Counts, Rule, next_by};
 use solo_devices::{Area, Sink, Source};
+use std::alloc::Global;
 
-/// A run so far.
-#[derive(Debug, Drop)]
+/// A run so far, and what is drawn of it where a picture is asked for.
+#[derive(Drop)]
 struct Run {
     rule: Rule,
     board: Board,
     counts: Counts,
+    picture: Picture,
 }
 
-/// Runs the network to its end by the rule that was asked for, and prints a line for each event that is
-/// shown.
+impl Run {
+    fn new(alloc: Global, asked: Asked) -> Run {
+        Run {
+            rule: asked.rule,
+            board: Board::new(alloc),
+            counts: Counts {
+                events: 0,
+                delays: 0,
+                grants: 0,
+            },
+            picture: Picture::new(alloc, asked),
+        }
+    }
+}
+
+/// Runs the network to its end by the rule that was asked for, and shows it.
 pub fn trace<S: Source, K: Sink, A: Area, B: Area, F: Area>(
     rt: &(impl Print + AllocGlobal),
     net: &mut Net<S, K, A, B, F>,
     asked: Asked,
-) -> Result<Counts>
+) -> Result<(), Fault>
     requires { IsPlaced the_keeps (telling S.left S.taken K.given A.pages B.pages F.pages) net.old }
 {
-    let mut run = Run {
-        rule: asked.rule,
-        board: Board::new(rt.alloc()),
-        counts: Counts {
-            events: 0,
-            delays: 0,
-            grants: 0,
-        },
-    };
-    'running: for number in 1..u64::MAX {
-        if !go_on(rt, net, asked, &mut run, number)? {
+    let mut run = Run::new(rt.alloc(), asked);
+    match asked.form {
+        Form::Table => print_table(rt, net, asked, &mut run),
+        Form::Picture => draw(rt, net, asked, &mut run),
+    }
+}
+
+/// Prints a line for each event that is shown, and the counts behind them.
+fn print_table<S: Source, K: Sink, A: Area, B: Area, F: Area>(
+    rt: &(impl Print + AllocGlobal),
+    net: &mut Net<S, K, A, B, F>,
+    asked: Asked,
+    run: &mut Run,
+) -> Result<(), Fault>
+    requires { IsPlaced the_keeps (telling S.left S.taken K.given A.pages B.pages F.pages) net.old }
+{
+    println!(rt; "{HEAD}")?;
+    go_through(rt, net, asked, run)?;
+    let Counts {
+        events,
+        delays,
+        grants,
+    } = run.counts;
+    println!(rt; "{events} events, {delays} delays, {grants} grants")?;
+    Ok(())
+}
+
+/// Draws the events that are shown, and prints the picture.
+fn draw<S: Source, K: Sink, A: Area, B: Area, F: Area>(
+    rt: &(impl Print + AllocGlobal),
+    net: &mut Net<S, K, A, B, F>,
+    asked: Asked,
+    run: &mut Run,
+) -> Result<(), Fault>
+    requires { IsPlaced the_keeps (telling S.left S.taken K.given A.pages B.pages F.pages) net.old }
+{
+    go_through(rt, net, asked, run)?;
+    run.picture.finish(&run.board, run.counts.events)?;
+    print_picture(rt, &run.picture, asked.rule, run.counts.events)
+}
+
+/// Runs the network to its end.
+fn go_through<S: Source, K: Sink, A: Area, B: Area, F: Area>(
+    rt: &(impl Print + AllocGlobal),
+    net: &mut Net<S, K, A, B, F>,
+    asked: Asked,
+    run: &mut Run,
+) -> Result<(), Fault>
+    requires { IsPlaced the_keeps (telling S.left S.taken K.given A.pages B.pages F.pages) net.old }
+{
+    'running: for _ in 0..u64::MAX {
+        if !go_on(rt, net, asked, run)? {
             break;
         }
     }
-    Ok(run.counts)
+    Ok(())
 }
 
-/// Lets the next event happen, which has this number, and prints its line where it is shown. Answers whether
-/// there was one.
+/// Lets the next event happen, and shows it. Answers whether there was one.
 fn go_on<S: Source, K: Sink, A: Area, B: Area, F: Area>(
     rt: &(impl Print + AllocGlobal),
     net: &mut Net<S, K, A, B, F>,
     asked: Asked,
     run: &mut Run,
-    number: u64,
-) -> Result<bool>
+) -> Result<bool, Fault>
     requires { IsPlaced the_keeps (telling S.left S.taken K.given A.pages B.pages F.pages) net.old }
     ensures { IsPlaced the_keeps (telling S.left S.taken K.given A.pages B.pages F.pages) net.new }
 {
     let Some(process) = next_by(net, &mut run.rule) else {
         return Ok(false);
     };
+    let waited = run.board.goes_on(process);
     let event = happen(net, process, &mut run.board);
     run.counts = counted(run.counts, &event);
-    run.board.note(&event)?;
-    if asked.from <= number && number <= asked.to {
-        let row = row_of(rt.alloc(), number, &event, &run.board, &net.shared)?;
-        println!(rt; "{row}")?;
+    show(rt, asked, run, &event, waited, &net.shared)
+}
+
+/// Notes an event and shows it, where it is one of those that are shown. Its process waited so far, if it
+/// did. Answers true.
+fn show<S: Source, K: Sink, A: Area, B: Area, F: Area>(
+    rt: &(impl Print + AllocGlobal),
+    asked: Asked,
+    run: &mut Run,
+    event: &Event,
+    waited: Option<Waiting>,
+    shared: &Shared<S, K, A, B, F>,
+) -> Result<bool, Fault> {
+    let number = run.counts.events;
+    run.board.note(event, number)?;
+    match asked.form {
+        Form::Table if asked.from <= number && number <= asked.to => {
+            let row = row_of(rt.alloc(), number, event, &run.board, shared)?;
+            println!(rt; "{row}")?;
+        }
+        Form::Table => {}
+        Form::Picture => {
+            run.picture
+                .add(event, number, waited, shared.desk.holder())?;
+        }
     }
     Ok(true)
 }

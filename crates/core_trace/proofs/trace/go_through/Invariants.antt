@@ -1,6 +1,6 @@
 use Rattle.core_net.specs.Net.{IsPlaced, the_keeps}
 use Rattle.core_net.specs.Shared.{telling}
-use Rattle.core_trace.proofs.trace.trace.Given as goal
+use Rattle.core_trace.proofs.trace.go_through.Given as goal
 
 -- the network stands for a state that was reached
 abbrev pub invariant-running : goal.invariant-running
