@@ -194,7 +194,7 @@ module _ {L : Type 0} (J : Jobs L) where
       → next_by p cause h ≡ Some (act.Ended how) → EndsRightly p h how
   ends-by p None h how relay follows not_done next =
       let is = aimed-end p.takes (p.wants (taken h)) (due p h) (is_ended (taken h)) (unworked p h) how relay.takes
-          (working-end (newest h) (aim p h) how next) in
+      (working-end (newest h) (aim p h) how next) in
       record {
         done =
             λ e. (

@@ -290,12 +290,12 @@ module _ {L : Type 0} (J : Jobs L) where
         ];
     input = λ h c follows e. elim (fault-here input IsAPage h c (input-relay L) (λ all. pages-kind first_page (feeds all)) follows e) as
         (λ _. c ≡ cause.DiskFault) [
-      | inl made ↦ input-by made.0 c made.1.0 made.1.1
-      | inr lacks ↦ absurd (idle (input {L = L}).works refl lacks.0)
-    ];
+          | inl made ↦ input-by made.0 c made.1.0 made.1.1
+          | inr lacks ↦ absurd (idle (input {L = L}).works refl lacks.0)
+        ];
     job =
         λ h c follows e. elim (fault-here (job J) IsAPage h c (job-relay jobs)
-            (λ all. pages-kind first_page (job_lines J (unpacked 0 all) (loads all))) follows e) as (λ _. (c
+        (λ all. pages-kind first_page (job_lines J (unpacked 0 all) (loads all))) follows e) as (λ _. (c
         ≡ cause.DiskFault) ⊎ (IsDamaged c ⊎ (c ≡ cause.NoMemory))) [
           | inl made ↦ job-by made.0 c made.1.0 made.1.1
           | inr lacks ↦ inr (inr lacks.1)

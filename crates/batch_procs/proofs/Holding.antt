@@ -90,7 +90,7 @@ module _ {L : Type 0} (J : Jobs L) where
   puts-awaited p h page relay follows next =
       let none = open-next J p h (act.PutPage page) next tt in
       puts-by (newest h) (aim p h) (holds h) (AwaitedRoom h) (AwaitedItem h) page (kept J p h relay follows none)
-          (works-next J p h (act.PutPage page) next none)
+      (works-next J p h (act.PutPage page) next none)
 
   holds-on : (newest : Option Action) (aim : Action) (held : Bool) (room item : Type 0) → KeptBy newest aim held room item → held ≡ true
       → HoldsOn (working newest aim)

@@ -269,7 +269,7 @@ module _ {L : Type 0} (J : Jobs L) where
   pub gives-done : {W X : Type 0} (p : Process L) (keeps : W → List (Parcel L) → List (Parcel L) → Bool
       → Type 0) (m : Machine X W) (work : W) (said : Action) (r : Reply L) (given : Option Outcome) (at : Step) (caused_now : Option Outcome) (n : ℕ) →
       IsRelay p → Answers J p keeps m.work said r (Ok given) work → ((h : List (Entry L)) → StandsFor J p keeps m h → NextIs (next_action p h) said)
-          → at ≡ step_of said
+      → at ≡ step_of said
       → caused_now ≡ or_new m.cause given → n ≡ stops_after m.stops said →
       (h : List (Entry L)) (a : Action) → StandsFor J p keeps m h → next_action p h ≡ Some a → Fits J a r
       → StandsFor J p keeps record { work = work; step = at; cause = caused_now; stops = n; of = m.of } (Does a r ∷ h)
@@ -287,7 +287,10 @@ module _ {L : Type 0} (J : Jobs L) where
       → StandsFor J p keeps record { work = work; step = at; cause = caused_now; stops = n; of = m.of } (LacksMemory a r ∷ h)
   gives-lacking p keeps m work said r refused at caused_now n answers says stepped caused_is stopped h a st next fits =
       let same : said ≡ a = next-same p h a said (says h st) next in
-      let lacks : (p.works ≡ true) × MayLack a r = (answers.lacks.0, subst (λ a. MayLack a r) same
-          (answers.lacks.1 (subst (λ a. Fits J a r) (sym same) fits))) in
+      let lacks : (p.works ≡ true) × MayLack a r = (
+        answers.lacks.0,
+        subst (λ a. MayLack a r) same
+            (answers.lacks.1 (subst (λ a. Fits J a r) (sym same) fits)),
+      ) in
       let stands = stands-lacking p keeps m h a r work st next lacks in
       rw (stepped ∙ ap step_of same, caused_is, stopped ∙ ap (stops_after m.stops) same) stands

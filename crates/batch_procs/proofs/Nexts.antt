@@ -153,7 +153,7 @@ module _ {L : Type 0} (J : Jobs L) where
   pub next-putting : (p : Process L) (h : List (Entry L)) (a : Action) → IsRelay p → Follows J p h → next_action p h ≡ Some a → IsPut a → IsPutting p h a
   next-putting p h a relay follows next put =
       let is = aimed-put J p.takes (p.wants (taken h)) (due p h) (is_ended (taken h)) (unworked p h) a relay.takes
-          (next-put J p (caused h) h a next put).1 put in
+      (next-put J p (caused h) h a next put).1 put in
       let worked = due-worked (unworked p h) (sent h) (p.sends (taken h)) is.first is.more is.due_is in
       let left : drop (length (sent h)) (p.sends (taken h)) ≡ is.first
       ∷ is.more = ap (λ t. drop (length (sent h)) (if t then sent h else p.sends (taken h))) (sym worked) ∙ is.due_is in

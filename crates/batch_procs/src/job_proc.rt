@@ -82,7 +82,7 @@ impl<J: JobWork> Work<J> for JobProcWork<J> {
         ensures ok { (taken sent : List (Parcel J.Load)) → job_keeps J.jobs J.keeps self.old taken sent false
             → MayTake (job J.jobs) taken sent reply →
             IfOk result (λ cause.
-                Takes (job J.jobs) (job_keeps J.jobs J.keeps self.new) taken sent reply cause) }
+            Takes (job J.jobs) (job_keeps J.jobs J.keeps self.new) taken sent reply cause) }
         ensures err { OnErr result (((job J.jobs).works ≡ true) × MayLack act.TakePage reply) }
     {
         let Reply::Page { page, last } = reply else {

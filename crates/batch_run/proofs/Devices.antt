@@ -129,7 +129,7 @@ pub deck-reads : (h : List (Entry Loaded)) (items rest : List Item) (deck : Opti
 deck-reads h items rest deck follows now parts last =
     let all = cards-taken h follows in
     let whole : item_parcels (cards_read h) ++ deck_parcels deck_are_jobs rest ≡ deck_parcels deck_are_jobs items = deck-append (cards_read h) rest
-        ∙ ap (deck_parcels deck_are_jobs) (sym parts) in
+    ∙ ap (deck_parcels deck_are_jobs) (sym parts) in
     record {
       left = rest;
       left_is = now;
@@ -155,7 +155,7 @@ module _ (p : Process Loaded) (relay : IsRelay p) where
       → text_tried h ≡ text_of deck_are_jobs (sent h ++ put_by a r)
   tried-other a r h is before =
       before ∙ sym (text-more deck_are_jobs (sent h) (put_by a r) ∙ ap (λ more. text_of deck_are_jobs (sent h) ++ more)
-          (entry-no_text deck_are_jobs (Does a r) is) ∙ append-nil (text_of deck_are_jobs (sent h)))
+      (entry-no_text deck_are_jobs (Does a r) is) ∙ append-nil (text_of deck_are_jobs (sent h)))
 
   pub tried-sent : (h : List (Entry Loaded)) → Follows deck_jobs p h → caused h ≡ None → text_tried h ≡ text_of deck_are_jobs (sent h)
   tried-sent [] follows none = refl
@@ -182,7 +182,7 @@ module _ (p : Process Loaded) (relay : IsRelay p) where
       (sent-is-part deck_jobs p (Does (act.Print line) reply.Done ∷ h) relay (next, tt, follows)) in
       subst (λ text. IsPrefixOf text (text_of deck_are_jobs (p.sends (taken h ++ taken_by r)))) (sym now)
       (prefix-longer _ _ _ (subst (λ all. IsPrefixOf (text_of deck_are_jobs (sent h ++ OfLine line ∷ [])) (text_of deck_are_jobs (p.sends all)))
-          (append-nil (taken h)) whole)
+      (append-nil (taken h)) whole)
       (text-part deck_are_jobs _ _ (relay.monotone (taken h) (taken_by r))))
 
   pub tried-part : (h : List (Entry Loaded)) → Follows deck_jobs p h → IsPrefixOf (text_tried h) (text_of deck_are_jobs (p.sends (taken h)))

@@ -115,7 +115,7 @@ module _ (p : Process Loaded) {does : Action → Type 0} (only : DoesOnly p does
   told-by (Does a r) is gives =
       let stopped = given-stopped deck_are_jobs a r before gives in
       let here = subst (λ r. Follows deck_jobs p (Does a r ∷ before)) stopped (follows-behind p later (Does a r ∷ before)
-          (subst (Follows deck_jobs p) is follows)) in
+      (subst (Follows deck_jobs p) is follows)) in
       record {
         action = a;
         later = later;
@@ -201,7 +201,7 @@ module _ (p : Process Loaded) {does : Action → Type 0} (only : DoesOnly p does
   failed-by (Does a r) is gives =
       let failed = given-failed c a r before of_device gives in
       let here = subst (λ r. Follows deck_jobs p (Does a r ∷ before)) failed (follows-behind p later (Does a r ∷ before)
-          (subst (Follows deck_jobs p) is follows)) in
+      (subst (Follows deck_jobs p) is follows)) in
       record {
         action = a;
         later = later;
@@ -347,4 +347,4 @@ pub load-failed : (h later before : List (Entry Loaded)) (file : List ℕ) → F
 load-failed h later before file follows is =
     let (how, e) = some-cause (caused before) (outcome.Fault cause.DiskFault) in
     ap newest_load is ∙ load-before (job deck_jobs) (Does (act.Load file) reply.Failed ∷ before) how e later
-        (subst (Follows deck_jobs (job deck_jobs)) is follows)
+    (subst (Follows deck_jobs (job deck_jobs)) is follows)

@@ -222,7 +222,7 @@ module _ {S K A B F : Type 0} (left : S → Option (List ℕ)) (taken source_fau
     all-done e =
         let free = λ (b : ℕ) (at : IsBuffer b). ap (λ all. stopped_at all b) e ∙ none-at b at in
         let done = λ (p : ℕ) (one : IsProcess p). none-done deck_are_jobs (the-five deck_are_jobs) (histories five) (follows five) first
-            (are-first five) free p (outcome_at outcomes p) one
+        (are-first five) free p (outcome_at outcomes p) one
         (ended-at p one) in
         all-done-by outcomes.card outcomes.input outcomes.job outcomes.output outcomes.printer (done 1 (lit≤ tt, lit≤ tt)) (done 2 (lit≤ tt, lit≤ tt))
         (done 3 (lit≤ tt, lit≤ tt)) (done 4 (lit≤ tt, lit≤ tt)) (done 5 (lit≤ tt, lit≤ tt))

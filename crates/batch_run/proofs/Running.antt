@@ -74,10 +74,10 @@ module _ {W X : Type 0} {p : Process Loaded} {keeps : W → List (Parcel Loaded)
         → Performs q Stands Then a r
         → end_of a ≡ None
         → OnOk result ((h : List (Entry Loaded)) (action : Action) → StandsFor deck_jobs p keeps machine h → next_action p h ≡ Some action
-            → Fits deck_jobs action r
+        → Fits deck_jobs action r
         → StandsFor deck_jobs p keeps new (Does action r ∷ h))
         → OnErr result ((h : List (Entry Loaded)) (action : Action) → StandsFor deck_jobs p keeps machine h → next_action p h ≡ Some action
-            → Fits deck_jobs action r
+        → Fits deck_jobs action r
         → StandsFor deck_jobs p keeps new (LacksMemory action r ∷ h))
         → Going p keeps new Then
     going-on {Then} {r} (Ok done) fits performs end ok err = record {

@@ -120,7 +120,7 @@ module _ (p : Process Loaded) (b : ℕ) where
       ap as_parcels (flat-then line.item_taken (line_calls Receiver b h) more)
       ∙ as_parcels-append (line.taken_of (line_calls Receiver b h)) (line.taken_of more)
       ∙ ap (λ front. front ++ as_parcels (line.taken_of more)) before ∙ ap (λ rest. handed (taken h) ++ rest) is
-          ∙ sym (handed-append deck_are_jobs (taken h) by)
+      ∙ sym (handed-append deck_are_jobs (taken h) by)
 
   pub line-taken : {does : Action → Type 0} → DoesOnly p does → ((a : Action) → does a → TakesFeeds a) → (h : List (Entry Loaded)) → Follows deck_jobs p h
       → as_parcels (line.taken_of (line_calls Receiver b h)) ≡ handed (taken h)

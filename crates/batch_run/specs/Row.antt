@@ -38,7 +38,7 @@ abbrev pub JobsCame : {A B F : Type 0} → (A → ℕ) → (B → ℕ) → (F �
 JobsCame from_size to_size pages faults start here all jobs ended =
     Came start here all
     (EndsSo (job deck_jobs) (JobRan from_size to_size pages faults (job_connected jobs)
-        (job_connected ended.0)) ended.1)
+    (job_connected ended.0)) ended.1)
     (ended.0 ≡ jobs)
 
 abbrev pub LinesCame : {B : Type 0} → (B → ℕ) → ℕ → ℕ → Bool

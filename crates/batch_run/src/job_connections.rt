@@ -55,7 +55,12 @@ impl<'a, A: Area + Send, B: Area + Send, F: Area> JobConnections<'a, A, B, F> {
 
     /// Performs an action of the process, and waits where the other side of a buffer isn't ready.
     #[inline(always)]
-    fn perform<R: Threads + Wait + Sync>(&mut self, action: Action, rt: &R, alloc: Global) -> Reply<Loaded>
+    fn perform<R: Threads + Wait + Sync>(
+        &mut self,
+        action: Action,
+        rt: &R,
+        alloc: Global,
+    ) -> Reply<Loaded>
         requires does { does_job action }
         requires comes { (start : JobConnections A B F)
             × Comes (job deck_jobs) (JobRan A.size B.size F.pages F.faults start self.old) action }

@@ -109,7 +109,11 @@ const JOB: [(Trouble, &str); 5] = [
 
 #[test]
 fn the_job_process_works_behind_each_page(rt: HostRuntime) -> Result<(), Fail> {
-    let other = first_other::<JobProcWork<DeckWork>>(rt.alloc(), &[b"#LIST A", b"HELLO", b"#END"], &JOB)?;
+    let other = first_other::<JobProcWork<DeckWork>>(
+        rt.alloc(),
+        &[b"#LIST A", b"HELLO", b"#END"],
+        &JOB,
+    )?;
     assert_eq!(rt; other, None);
     Ok(())
 }

@@ -200,7 +200,10 @@ pub fn first_other<W: Work<DeckWork> + Drop>(
 }
 
 /// All actions of a process that takes a listing of two pages.
-pub fn listing_actions<W: Work<DeckWork> + Drop>(alloc: Global, columns: usize) -> Result<Vec<u8>, Fail> {
+pub fn listing_actions<W: Work<DeckWork> + Drop>(
+    alloc: Global,
+    columns: usize,
+) -> Result<Vec<u8>, Fail> {
     let supply = Supply {
         cards: &[],
         pages: listing(alloc, columns)?,

@@ -65,7 +65,7 @@ pub the-run : (spools : Spools) (items : List Item) (paper : Option (List ℕ)) 
 the-run spools items paper files found rule good are bounds told valid =
     let o = opening_of spools items paper files good bounds valid in
     some-run (the_law deck_jobs) (sound deck_are_jobs) (sure deck_are_jobs) o (tells-all spools items paper files found good bounds valid are told) rule
-        (first_state o) (opening-reached deck_are_jobs o)
+    (first_state o) (opening-reached deck_are_jobs o)
 
 pub some-counts : (spools : Spools) (items : List Item) (paper : Option (List ℕ)) (files : Option Loads) (found : Loads) (rule : Rule)
     → AreGoodFiles deck_jobs files → AreFound files found items → AreInBounds spools → AreTold spools → AreItems items

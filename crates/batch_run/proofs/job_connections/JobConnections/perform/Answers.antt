@@ -14,13 +14,13 @@ pub await_item-requires-clause-not_stopped : goal.await_item-requires-clause-not
 await_item-requires-clause-not_stopped g c κs within =
     let (start, comes) = c.requires.comes in
     spools.not-stopped (job deck_jobs) Receiver 2 comes.history _ _ (job-relay deck_are_jobs) comes.follows
-        (comes.next ∙ ap Some c.in-AwaitItem.is) tt comes.stands.from_calls
+    (comes.next ∙ ap Some c.in-AwaitItem.is) tt comes.stands.from_calls
 
 pub await_room-requires-clause-not_stopped : goal.await_room-requires-clause-not_stopped
 await_room-requires-clause-not_stopped g c κs within =
     let (start, comes) = c.requires.comes in
     spools.not-stopped (job deck_jobs) Sender 3 comes.history _ _ (job-relay deck_are_jobs) comes.follows
-        (comes.next ∙ ap Some c.in-AwaitRoom.is) tt comes.stands.to_calls
+    (comes.next ∙ ap Some c.in-AwaitRoom.is) tt comes.stands.to_calls
 
 pub request-requires-after_bounds : goal.request-requires-after_bounds
 request-requires-after_bounds g c κs within =
@@ -38,7 +38,7 @@ pub take-requires-clause-not_stopped : goal.take-requires-clause-not_stopped
 take-requires-clause-not_stopped g c κs within =
     let (start, comes) = c.requires.comes in
     spools.not-stopped (job deck_jobs) Receiver 2 comes.history _ _ (job-relay deck_are_jobs) comes.follows
-        (comes.next ∙ ap Some c.in-TakePage.is) tt comes.stands.from_calls
+    (comes.next ∙ ap Some c.in-TakePage.is) tt comes.stands.from_calls
 
 pub take-requires-clause-ready : goal.take-requires-clause-ready
 take-requires-clause-ready g c κs within =
@@ -55,13 +55,13 @@ pub put-requires-clause-not_stopped : goal.put-requires-clause-not_stopped
 put-requires-clause-not_stopped g c κs within =
     let (start, comes) = c.requires.comes in
     spools.not-stopped (job deck_jobs) Sender 3 comes.history _ _ (job-relay deck_are_jobs) comes.follows
-        (comes.next ∙ ap Some c.in-PutPage.is) tt comes.stands.to_calls
+    (comes.next ∙ ap Some c.in-PutPage.is) tt comes.stands.to_calls
 
 pub put-requires-clause-ready : goal.put-requires-clause-ready
 put-requires-clause-ready g c κs within =
     let (start, comes) = c.requires.comes in
     spools.may-put (job deck_jobs) 3 comes.history c.in-PutPage.page _ (job-relay deck_are_jobs) comes.follows
-        (comes.next ∙ ap Some c.in-PutPage.is) comes.stands.to_calls
+    (comes.next ∙ ap Some c.in-PutPage.is) comes.stands.to_calls
 
 pub release-requires-after_bounds : goal.release-requires-after_bounds
 release-requires-after_bounds g c κs within =

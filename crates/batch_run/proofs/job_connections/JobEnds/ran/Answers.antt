@@ -10,4 +10,4 @@ pub into_parts-seat-requires : goal.into_parts-seat-requires
 into_parts-seat-requires g c =
     let ran = c.run-how.ensures in
     subst (λ has. IsAt c.run-how.new.self.desk has) (ended-holds_not deck_jobs (job deck_jobs) ran.history _
-        (job-relay deck_are_jobs) ran.follows ran.ended) ran.stands.desk.at
+    (job-relay deck_are_jobs) ran.follows ran.ended) ran.stands.desk.at

@@ -13,7 +13,8 @@ use Rattle.deck_work.specs.DeckJobs.{deck_jobs}
 pub await_item-requires-clause-not_stopped : goal.await_item-requires-clause-not_stopped
 await_item-requires-clause-not_stopped g c κs within =
     let (start, comes) = c.requires.comes in
-    spools.not-stopped output Receiver 3 comes.history _ _ (output-relay Loaded) comes.follows (comes.next ∙ ap Some c.in-AwaitItem.is) tt comes.stands.from_calls
+    spools.not-stopped output Receiver 3 comes.history _ _ (output-relay Loaded) comes.follows
+        (comes.next ∙ ap Some c.in-AwaitItem.is) tt comes.stands.from_calls
 
 pub request-requires-after_bounds : goal.request-requires-after_bounds
 request-requires-after_bounds g c κs within =
@@ -30,7 +31,8 @@ pass-requires g c =
 pub take-requires-clause-not_stopped : goal.take-requires-clause-not_stopped
 take-requires-clause-not_stopped g c κs within =
     let (start, comes) = c.requires.comes in
-    spools.not-stopped output Receiver 3 comes.history _ _ (output-relay Loaded) comes.follows (comes.next ∙ ap Some c.in-TakePage.is) tt comes.stands.from_calls
+    spools.not-stopped output Receiver 3 comes.history _ _ (output-relay Loaded) comes.follows
+        (comes.next ∙ ap Some c.in-TakePage.is) tt comes.stands.from_calls
 
 pub take-requires-clause-ready : goal.take-requires-clause-ready
 take-requires-clause-ready g c κs within =

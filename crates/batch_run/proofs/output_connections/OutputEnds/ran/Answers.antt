@@ -10,4 +10,5 @@ use Rattle.deck_work.specs.DeckJobs.{deck_jobs}
 pub into_parts-seat-requires : goal.into_parts-seat-requires
 into_parts-seat-requires g c =
     let ran = c.run-how.ensures in
-    subst (λ has. IsAt c.run-how.new.self.desk has) (ended-holds_not deck_jobs output ran.history _ (output-relay Loaded) ran.follows ran.ended) ran.stands.desk.at
+    subst (λ has. IsAt c.run-how.new.self.desk has) (ended-holds_not deck_jobs output ran.history _
+        (output-relay Loaded) ran.follows ran.ended) ran.stands.desk.at
