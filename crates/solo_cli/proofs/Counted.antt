@@ -28,7 +28,7 @@ pub known-files : (files : Option Loads) (found : Loads) (items : List Item) →
 known-files files found items (inl told) = inl (ap is_some told)
 known-files files found items (inr none) = inr none
 
-told-items : (items : List Item) → AreItems items → AreCards (Some items)
+pub told-items : (items : List Item) → AreItems items → AreCards (Some items)
 told-items items valid all e = subst AreItems (some-same items all e) valid
 
 -- what an opening over told devices is
