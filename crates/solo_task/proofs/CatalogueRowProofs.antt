@@ -137,7 +137,8 @@ copy-rows = record {
   no_room = λ all file e f full.
       copied all file None (refused all (codes "COPY: DISK FULL")) e f (in-room all file (Err DiskFull) (refused all (codes "COPY: DISK FULL")) full refl);
   no_name_left = λ all file e f full.
-      copied all file None (refused all (codes "COPY: CATALOG FULL")) e f (in-room all file (Err CatalogFull) (refused all (codes "COPY: CATALOG FULL")) full refl);
+      copied all file None (refused all (codes "COPY: CATALOG FULL")) e f
+      (in-room all file (Err CatalogFull) (refused all (codes "COPY: CATALOG FULL")) full refl);
   too_many_pages = λ all file e f full.
       copied all file None (refused all (codes "COPY: FILE FULL")) e f (in-room all file (Err FileFull) (refused all (codes "COPY: FILE FULL")) full refl);
   exists = λ all file other e f. copied all file (Some other) (refused all (codes "COPY: FILE EXISTS")) e f refl;
