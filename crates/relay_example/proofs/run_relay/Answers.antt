@@ -1,5 +1,6 @@
-use Rattle.std.proofs.Common.{◌≡◌, ℕ, Bool, false, true, List, ◌++◌, Option, Result, Ok, Err, refl, sym, ap, ◌∙◌, rules}
+use Rattle.std.proofs.Common.{◌≡◌, ℕ, false, true, List, ◌++◌, Option, Result, Ok, Err, sym, ap, ◌∙◌, rules}
 use Rattle.std.specs.Prelude.{option_to_list, IfOk}
+use Rattle.std.proofs.lemmas.Bool.{false_from_ne_true}
 use Rattle.std.proofs.lemmas.List.{append-nil}
 use Rattle.solo_base.specs.declared.outcome.Side.{Side}
 use Rattle.solo_base.specs.declared.outcome.Side.TheVariants.{Sender, Receiver}
@@ -9,17 +10,14 @@ use Rattle.slot_buffer.specs.Calls.{has_stop, sent_of, taken_of, was_refused}
 use Rattle.slot_buffer.specs.Ends.{Meets}
 use Rattle.relay_example.proofs.run_relay.Goals as goal
 
-not-true : (b : Bool) → (b ≡ true → ⊥) → b ≡ false
-not-true true never = absurd (never refl)
-not-true false never = refl
-
 -- A receiver that was told of a stop, and didn't stop itself, took all that was put; and the sender wasn't told of one.
 all-taken : (calls : Side → List (SlotCall ℕ)) (rest : Option ℕ) (first : Option Side) → Meets calls rest first
     → (was_refused (calls Receiver) ≡ true) × (has_stop (calls Receiver) ≡ false)
     → (taken_of (calls Receiver) ≡ sent_of (calls Sender)) × (was_refused (calls Sender) ≡ false)
 all-taken calls rest first met told = (
   sym (append-nil (taken_of (calls Receiver))) ∙ ap (λ r. taken_of (calls Receiver) ++ option_to_list r) (sym (met.nothing_left told.0)) ∙ met.in_order,
-  not-true (was_refused (calls Sender)) (λ refused. (let did = met.stopped.did Receiver (met.stopped.told Sender refused) in let runs = told.1 in absurd cc)),
+  false_from_ne_true (was_refused (calls Sender)) (λ refused. (
+      let did = met.stopped.did Receiver (met.stopped.told Sender refused) in let runs = told.1 in absurd cc)),
 )
 
 then-ok : {A E : Type 0} {P Q : A → Type 0} (r : Result A E) → ((x : A) → P x → Q x) → IfOk r P → IfOk r Q
