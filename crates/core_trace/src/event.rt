@@ -2,6 +2,7 @@ ghost use Rattle.network_run.specs.Law.{MayStep};
 ghost use Rattle.core_law.specs.TheLaw.{the_law};
 ghost use Rattle.core_net.specs.Net.{IsPlaced, StandsWithin, the_keeps};
 ghost use Rattle.core_net.specs.Shared.{telling};
+ghost use Rattle.deck_work.specs.DeckJobs.{deck_jobs};
 
 use crate::board::Board;
 use batch_procs::Action;
@@ -39,7 +40,7 @@ pub fn happen<S: Source, K: Sink, A: Area, B: Area, F: Area>(
     process: ProcNo,
     board: &mut Board,
 ) -> Event
-    requires { MayStep the_law
+    requires { MayStep (the_law deck_jobs)
         (StandsWithin the_keeps (telling S.left S.taken K.given A.pages B.pages F.pages) net.old) process }
     ensures { IsPlaced the_keeps
         (telling S.left S.taken K.given A.pages B.pages F.pages) net.new }
