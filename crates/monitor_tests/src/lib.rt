@@ -8,6 +8,8 @@ mod levels;
 #[cfg(test)]
 mod queues;
 #[cfg(test)]
+mod relays;
+#[cfg(test)]
 mod resources;
 #[cfg(test)]
 mod running_resources;
