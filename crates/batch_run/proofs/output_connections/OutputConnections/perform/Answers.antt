@@ -14,7 +14,7 @@ pub await_item-requires-clause-not_stopped : goal.await_item-requires-clause-not
 await_item-requires-clause-not_stopped g c κs within =
     let (start, comes) = c.requires.comes in
     spools.not-stopped output Receiver 3 comes.history _ _ (output-relay Loaded) comes.follows
-        (comes.next ∙ ap Some c.in-AwaitItem.is) tt comes.stands.from_calls
+    (comes.next ∙ ap Some c.in-AwaitItem.is) tt comes.stands.from_calls
 
 pub request-requires-after_bounds : goal.request-requires-after_bounds
 request-requires-after_bounds g c κs within =
@@ -32,7 +32,7 @@ pub take-requires-clause-not_stopped : goal.take-requires-clause-not_stopped
 take-requires-clause-not_stopped g c κs within =
     let (start, comes) = c.requires.comes in
     spools.not-stopped output Receiver 3 comes.history _ _ (output-relay Loaded) comes.follows
-        (comes.next ∙ ap Some c.in-TakePage.is) tt comes.stands.from_calls
+    (comes.next ∙ ap Some c.in-TakePage.is) tt comes.stands.from_calls
 
 pub take-requires-clause-ready : goal.take-requires-clause-ready
 take-requires-clause-ready g c κs within =

@@ -11,4 +11,4 @@ pub into_parts-seat-requires : goal.into_parts-seat-requires
 into_parts-seat-requires g c =
     let ran = c.run-how.ensures in
     subst (λ has. IsAt c.run-how.new.self.desk has) (ended-holds_not deck_jobs output ran.history _
-        (output-relay Loaded) ran.follows ran.ended) ran.stands.desk.at
+    (output-relay Loaded) ran.follows ran.ended) ran.stands.desk.at
