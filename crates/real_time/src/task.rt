@@ -39,6 +39,13 @@ impl Task {
         }
     }
 
+    /// Its name.
+    pub fn name(&self) -> &Ident
+        ensures { result.now ≡ self.now.name }
+    {
+        &self.name
+    }
+
     /// Whether this is its name.
     pub fn has_name(&self, name: &Ident) -> bool
         ensures { result ≡ has_name name.now self.now }

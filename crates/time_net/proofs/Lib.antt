@@ -1,0 +1,12 @@
+mod Ticking
+mod Typing
+mod Operating
+mod SeenFew
+mod TaskMoves
+mod TaskKeeps
+mod OperatorMoves
+mod NetSteps
+mod Enabling
+mod Opened
+mod Ending
+mod WholeRuns
