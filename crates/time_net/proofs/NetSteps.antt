@@ -231,10 +231,10 @@ module _ {Y T : Type 0} (tells : Tellers Y T) (old : TimeNet Y T) (o : Opening) 
         → Steps timing (TimesStand tells) (TimesMoves tells) old (record old { typewriter = t; operator = operator }) s 1 stepped.Acted
     shown-steps all ok gains live at =
         let new : TimeNet Y T = record old { typewriter = t; operator = operator } in
-        let happens = gains-where (tells.given old.typewriter.console.sink) (tells.given t.console.sink) (line_text line) all (None {A = PrintFault} ≡ None)
+        let happens = gains-where (tells.given old.typewriter.console.sink) (tells.given t.console.sink) (line_text line) all (◌≡◌ {A = Option PrintFault} None None)
             (λ e. ok) gains in
         step-of new (Displays None (tells.given t.console.sink)) 1 stepped.Acted refl refl
-        (line, asks, subst (λ before. Gains before (tells.given t.console.sink) (line_text line) (None {A = PrintFault} ≡ None)) (sym stands.is.console) happens)
+        (line, asks, subst (λ before. Gains before (tells.given t.console.sink) (line_text line) (◌≡◌ {A = Option PrintFault} None None)) (sym stands.is.console) happens)
         record {
           keys = stands.is.keys ∙ ap (λ keys. items_ahead (tells.left keys.source) keys.pending) (sym keys);
           console = refl;
@@ -273,10 +273,10 @@ module _ {Y T : Type 0} (tells : Tellers Y T) (old : TimeNet Y T) (o : Opening) 
         → Steps timing (TimesStand tells) (TimesMoves tells) old (record old { typewriter = t; operator = operator }) s 1 stepped.Acted
     failed-steps all fault gains rose at =
         let new : TimeNet Y T = record old { typewriter = t; operator = operator } in
-        let happens = gains-where (tells.given old.typewriter.console.sink) (tells.given t.console.sink) (line_text line) all (Some fault ≡ None)
+        let happens = gains-where (tells.given old.typewriter.console.sink) (tells.given t.console.sink) (line_text line) all (◌≡◌ {A = Option PrintFault} (Some fault) None)
             (λ e. absurd cc) gains in
         step-of new (Displays (Some fault) (tells.given t.console.sink)) 1 stepped.Acted refl refl
-        (line, asks, subst (λ before. Gains before (tells.given t.console.sink) (line_text line) (Some fault ≡ None)) (sym stands.is.console) happens)
+        (line, asks, subst (λ before. Gains before (tells.given t.console.sink) (line_text line) (◌≡◌ {A = Option PrintFault} (Some fault) None)) (sym stands.is.console) happens)
         record {
           keys = stands.is.keys ∙ ap (λ keys. items_ahead (tells.left keys.source) keys.pending) (sym keys);
           console = refl;

@@ -201,7 +201,7 @@ module _ (s : TimeState) (h : Holds s) where
   returning place second due deeds false held is may =
       absurd (let turn = (fits-at (Works (Returns ∷ deeds)) is).1 in let waits = h.table.handed_operator turn in cc)
   returning place second due deeds true held is may =
-      goes-at (call.Wakes place second due) true (Works (Returns ∷ deeds)) is (subst IsSome (sym held) tt) (returns place second due deeds)
+      goes-at (call.Wakes place second due) true (Works (Returns ∷ deeds)) is (subst IsSome (sym held) refl) (returns place second due deeds)
 
   join-move : (operator : Option ℕ) → s.table.operator ≡ operator → join_move s.table.operator s ≡ join_move operator s
   join-move operator is = ap (λ operator. join_move operator s) is
@@ -212,7 +212,7 @@ module _ (s : TimeState) (h : Holds s) where
       (subst (λ m. CallMoved s Joins (called_how call.Joins false s.table) (called_table call.Joins false s.table) m) (sym (join-move None held))
       (joining (all_left s.table) stepped.Acted s.table (λ e. cc) held refl refl))
   joins true held is =
-      goes-at call.Joins true Joins is (subst IsSome (sym held) tt)
+      goes-at call.Joins true Joins is (subst IsSome (sym held) refl)
       (subst (λ m. CallMoved s Joins (called_how call.Joins true s.table) (called_table call.Joins true s.table) m) (sym (join-move (Some 1) held))
       (joining (all_left s.table) stepped.Resumed (operator_resumed s.table) (λ e. cc) refl refl refl))
 

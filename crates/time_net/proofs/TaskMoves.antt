@@ -118,7 +118,7 @@ module _ (s : TimeState) (h : Holds s) (place : ℕ) (task : TaskProc) (below : 
   sleeps stage not_ended here = record {
     task_is = record {
       runs_are = st.runs_are;
-      phase_is = (not_ended, here, subst IsSome (sym (own s.table.queues place (Some (place + 2)) None long-queues)) tt);
+      phase_is = (not_ended, here, subst IsSome (sym (own s.table.queues place (Some (place + 2)) None long-queues)) refl);
     };
     same = λ q differ. record {
       seen = refl;
@@ -138,7 +138,7 @@ module _ (s : TimeState) (h : Holds s) (place : ℕ) (task : TaskProc) (below : 
 
   some-held : (held : Option ℕ) → IsSome held → task_move false held s place ≡ goes_on s place
   some-held (Some p) is = refl
-  some-held None is = absurd is
+  some-held None is = absurd cc
 
   moves-waits : has_left s.table place ≡ false → IsSome (sleeper_at s.table.queues place) → moves ≡ goes_on s place
   moves-waits left held = ap (λ l. task_move l (sleeper_at s.table.queues place) s place) left ∙ some-held (sleeper_at s.table.queues place) held
@@ -191,7 +191,8 @@ outside s place h none (inl free) = free.1
 outside s place h none (inr handed) = absurd (let there = h.table.handed place handed in cc)
 
 inside-queue : (held : Option ℕ) → IsSome held → held ≡ None → ⊥
-inside-queue held is none = subst IsSome none is
+inside-queue None is none = cc
+inside-queue (Some p) is none = cc
 
 handed-on : (s : TimeState) (place : ℕ) → IsSome (sleeper_at s.table.queues place) → MayComeIn s.table (Task place) → s.table.turn ≡ Handed (Task place)
 handed-on s place held (inl free) = absurd (inside-queue (sleeper_at s.table.queues place) held free.0)

@@ -227,9 +227,10 @@ fn task_enabled(tasks: &[TaskProc], table: &TimeTable, p: ProcNo) -> bool
         return false;
     }
     let place = task_place(p);
-    let Some(task) = tasks.get(place) else {
+    if place >= tasks.len() {
         return false;
-    };
+    }
+    let task = &tasks[place];
     match task.place() {
         Phase::Runs | Phase::Waits => table.may_enter(Seat::Task(place)),
         Phase::Left => true,
@@ -241,8 +242,10 @@ fn task_enabled(tasks: &[TaskProc], table: &TimeTable, p: ProcNo) -> bool
 fn task_ended(tasks: &[TaskProc], p: ProcNo) -> bool
     ensures { (s : TimeState) → TasksStand tasks.now s → 2 ≤ p → p ≤ 9 → IsTrue result ↔ HasEnded s p }
 {
-    let Some(task) = tasks.get(task_place(p)) else {
+    let place = task_place(p);
+    if place >= tasks.len() {
         return true;
-    };
+    }
+    let task = &tasks[place];
     matches!(task.place(), Phase::Ended)
 }

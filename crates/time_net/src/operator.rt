@@ -113,10 +113,12 @@ impl Operator {
             IsStarting self.now.tasks.items place second left s.stage s.script s.fault →
             ActsAt result s.stage s.seen }
     {
-        match self.tasks.as_slice().get(place) {
-            Some(task) => Action::Displays(start_line(second, task.name())),
-            None => Action::Rests,
+        let rows = self.tasks.as_slice();
+        if place >= rows.len() {
+            return Action::Rests;
         }
+        let row = &rows[place];
+        Action::Displays(start_line(second, row.name()))
     }
 
     // It displays how often the task at a place has started.
@@ -124,13 +126,13 @@ impl Operator {
         ensures { (s : TimeState) → TellsRuns self.now.tasks.items place s.stage s.script s.fault →
             TasksStand tasks.now s → ActsAt result s.stage s.seen }
     {
-        let Some(task) = self.tasks.as_slice().get(place) else {
+        let rows = self.tasks.as_slice();
+        if place >= rows.len() || place >= tasks.len() {
             return Action::Rests;
-        };
-        let Some(counted) = tasks.get(place) else {
-            return Action::Rests;
-        };
-        Action::Displays(runs_line(task.name(), counted.runs()))
+        }
+        let row = &rows[place];
+        let task = &tasks[place];
+        Action::Displays(runs_line(row.name(), task.runs()))
     }
 
     /// Whether it has ended.

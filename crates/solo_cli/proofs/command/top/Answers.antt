@@ -80,11 +80,11 @@ returns-clause-broken g c = λ reads pages told page bad.
     ]
 
 pub returns-clause-complete : goal.returns-clause-complete
-returns-clause-complete g c = λ input_told output_told within can deck paper files input output words.
+returns-clause-complete g c = λ input_told output_told within keys_within keys_stayed can deck paper files input output words.
     let e = c.run_command-cause.ensures in
     let asked = form (map (λ word. string_bytes word) c.args.words.now) in
     subst (λ status. (status ≡ 0) ⊎ ((status ≡ 9) ⊎ ((status ≡ 10) × (asked ≡ Some Migrate)))) (sym c.status_of.ensures)
-    (ends_well asked c.run_command-cause.result.cause e.refusals (λ is. words (e.usage.0 is))
+    (ends_well asked c.run_command-cause.result.cause never e.refusals (λ is. words (e.usage.0 is))
     (λ is. (let rose = e.caused.read is in omega (arith, rose, deck)))
     (λ is. elim (e.caused.disk is) [
       | inl rose ↦ omega (arith, rose, input)
@@ -94,7 +94,7 @@ returns-clause-complete g c = λ input_told output_told within can deck paper fi
     (λ is. (let rose = e.caused.print is in omega (arith, rose, paper)))
     (no_limit asked c.run_command-cause.result.cause
     (g.S.Source.taken c.run_command-cause.result.deck) (g.S.Source.taken c.args.deck) (g.S.Source.left c.run_command-cause.result.deck)
-    (g.S.Source.left c.args.deck) words within c.requires.deck e.caused.total e.caused.limit e.refusals)
+    (g.S.Source.left c.args.deck) never words within c.requires.deck e.caused.total e.caused.limit e.refusals)
     (λ page is. usable asked (g.F.Area.pages c.args.files) (g.F.Area.pages c.run_command-cause.result.files) c.run_command-cause.result.cause
     page e.refusals can (λ reads pages told. (e.not_solo reads page is).0 pages told) e.migrated is)
     (e.undamaged input_told output_told (λ reads. told_within (g.S.Source.left c.args.deck) (within reads))))
@@ -128,5 +128,4 @@ returns-clause-damaged g c = λ input_told output_told told at.
 
 pub returns-clause-known : goal.returns-clause-known
 returns-clause-known g c =
-    known_status (form (map (λ word. string_bytes word) c.args.words.now)) c.run_command-cause.result.cause
-    c.run_command-cause.ensures.refusals c.status_of.result c.status_of.ensures
+    known_status c.run_command-cause.result.cause c.status_of.result c.status_of.ensures
