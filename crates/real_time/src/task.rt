@@ -26,6 +26,16 @@ impl Model for Task {
     ghost invariant = { λ task. task.period ≤ 1000000 };
 }
 
+impl Default for Task {
+    /// The row in a place of a table that no task has.
+    fn default() -> Task {
+        match Ident::of(b"T") {
+            Some(name) => Task::new(name),
+            None => unreachable!(),
+        }
+    }
+}
+
 impl Task {
     /// A task without a plan.
     pub fn new(name: Ident) -> Task

@@ -22,3 +22,4 @@ mod UncountedRuns
 mod Reading
 mod ReadingItems
 mod Checks
+mod Scripts

@@ -3,7 +3,7 @@ use Rattle.std.proofs.Common.{◌≡◌, ◌≢◌, ◌↔◌, ◌⊎◌, inl, i
 use Rattle.std.specs.Prelude.{◌-◌, IsSome, IsTrue}
 use Rattle.real_time.specs.declared.table.Seat.TheVariants.{Operator, Task}
 use Rattle.real_time.specs.Table.{MayComeIn, Table, has_left, sleeper_at}
-use Rattle.real_time.specs.Typed.{Typed}
+use Rattle.real_time.specs.declared.typed_line.Typed.{Typed}
 use Rattle.real_time.specs.Deeds.{Deed, Enters, Shows, Wakes, Returns}
 use Rattle.real_time.specs.States.{Stage, Works, Closes, Joins, Tells, Ended, HasEnded, MayMove, OperatorMay, TaskMay, TimeState, action_at, ended_at}
 use Rattle.time_net.specs.declared.calling.Call.{Call}
@@ -57,10 +57,12 @@ module _ (s : TimeState) (tasks : List TaskProc) (st : TasksStand tasks s) (plac
   )
 
   pub runs-may : (get_or tasks place d).phase ≡ phase.Runs → MayMove s (suc (suc place)) ↔ MayComeIn s.table (Task place)
-  runs-may is = (let at : (ended_at s place ≡ false) × (has_left s.table place ≡ false) × (sleeper_at s.table.queues place ≡ None) = stands phase.Runs is in calling at.0 at.1)
+  runs-may is = (let at : (ended_at s place ≡ false) × (has_left s.table place ≡ false) × (sleeper_at s.table.queues place ≡ None) = stands phase.Runs is
+      in calling at.0 at.1)
 
   pub waits-may : (get_or tasks place d).phase ≡ phase.Waits → MayMove s (suc (suc place)) ↔ MayComeIn s.table (Task place)
-  waits-may is = (let at : (ended_at s place ≡ false) × (has_left s.table place ≡ false) × IsSome (sleeper_at s.table.queues place) = stands phase.Waits is in calling at.0 at.1)
+  waits-may is = (let at : (ended_at s place ≡ false) × (has_left s.table place ≡ false) × IsSome (sleeper_at s.table.queues place) = stands phase.Waits is
+      in calling at.0 at.1)
 
   pub left-may : (get_or tasks place d).phase ≡ phase.Left → MayMove s (suc (suc place))
   left-may is =
@@ -77,11 +79,19 @@ module _ (s : TimeState) (tasks : List TaskProc) (st : TasksStand tasks s) (plac
   not-ended never = by (get_or tasks place d).phase refl
     where
       by : (ph : Phase) → (get_or tasks place d).phase ≡ ph → HasEnded s (suc (suc place)) → ⊥
-      by phase.Runs is ended = (let at : (ended_at s place ≡ false) × (has_left s.table place ≡ false) × (sleeper_at s.table.queues place ≡ None) = stands phase.Runs is in let not_yet = at.0 in cc)
-      by phase.Waits is ended = (let at : (ended_at s place ≡ false) × (has_left s.table place ≡ false) × IsSome (sleeper_at s.table.queues place) = stands phase.Waits is in let not_yet = at.0 in cc)
+      by phase.Runs is ended = (let at : (ended_at s place ≡ false) × (has_left s.table place ≡ false) ×
+          (sleeper_at s.table.queues place ≡ None) = stands phase.Runs is in let not_yet = at.0 in cc)
+      by phase.Waits is ended = (let at : (ended_at s place ≡ false) × (has_left s.table place ≡ false) × IsSome
+          (sleeper_at s.table.queues place) = stands phase.Waits is in let not_yet = at.0 in cc)
       by phase.Left is ended = (let at : (ended_at s place ≡ false) × (has_left s.table place ≡ true) = stands phase.Left is in let not_yet = at.0 in cc)
       by phase.Ended is ended = never is
 
 -- no other number is a task
 pub none-may : (s : TimeState) (place : ℕ) → 8 ≤ place → MayMove s (suc (suc place)) → ⊥
 none-may s place past may = (let small = may.0 in omega (arith, small, past))
+
+-- the number of a task that may go on, by its place
+pub task-number-of : (s : TimeState) (p : ℕ) → (p ≡ 1 → ⊥) → MayMove s p → p ≡ suc (suc (p - 2))
+task-number-of s zero other may = absurd may
+task-number-of s (suc zero) other may = absurd (other refl)
+task-number-of s (suc (suc place)) other may = omega arith

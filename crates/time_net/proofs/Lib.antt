@@ -8,5 +8,5 @@ mod OperatorMoves
 mod NetSteps
 mod Enabling
 mod Opened
-mod Ending
+mod Finishing
 mod WholeRuns

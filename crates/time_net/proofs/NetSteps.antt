@@ -231,10 +231,12 @@ module _ {Y T : Type 0} (tells : Tellers Y T) (old : TimeNet Y T) (o : Opening) 
         → Steps timing (TimesStand tells) (TimesMoves tells) old (record old { typewriter = t; operator = operator }) s 1 stepped.Acted
     shown-steps all ok gains live at =
         let new : TimeNet Y T = record old { typewriter = t; operator = operator } in
-        let happens = gains-where (tells.given old.typewriter.console.sink) (tells.given t.console.sink) (line_text line) all (◌≡◌ {A = Option PrintFault} None None)
+        let happens = gains-where (tells.given old.typewriter.console.sink) (tells.given t.console.sink) (line_text line) all
+            (◌≡◌ {A = Option PrintFault} None None)
             (λ e. ok) gains in
         step-of new (Displays None (tells.given t.console.sink)) 1 stepped.Acted refl refl
-        (line, asks, subst (λ before. Gains before (tells.given t.console.sink) (line_text line) (◌≡◌ {A = Option PrintFault} None None)) (sym stands.is.console) happens)
+        (line, asks, subst (λ before. Gains before (tells.given t.console.sink) (line_text line) (◌≡◌ {A = Option PrintFault} None None))
+            (sym stands.is.console) happens)
         record {
           keys = stands.is.keys ∙ ap (λ keys. items_ahead (tells.left keys.source) keys.pending) (sym keys);
           console = refl;
@@ -273,10 +275,12 @@ module _ {Y T : Type 0} (tells : Tellers Y T) (old : TimeNet Y T) (o : Opening) 
         → Steps timing (TimesStand tells) (TimesMoves tells) old (record old { typewriter = t; operator = operator }) s 1 stepped.Acted
     failed-steps all fault gains rose at =
         let new : TimeNet Y T = record old { typewriter = t; operator = operator } in
-        let happens = gains-where (tells.given old.typewriter.console.sink) (tells.given t.console.sink) (line_text line) all (◌≡◌ {A = Option PrintFault} (Some fault) None)
+        let happens = gains-where (tells.given old.typewriter.console.sink) (tells.given t.console.sink) (line_text line) all (◌≡◌ {A = Option PrintFault}
+            (Some fault) None)
             (λ e. absurd cc) gains in
         step-of new (Displays (Some fault) (tells.given t.console.sink)) 1 stepped.Acted refl refl
-        (line, asks, subst (λ before. Gains before (tells.given t.console.sink) (line_text line) (◌≡◌ {A = Option PrintFault} (Some fault) None)) (sym stands.is.console) happens)
+        (line, asks, subst (λ before. Gains before (tells.given t.console.sink) (line_text line) (◌≡◌ {A = Option PrintFault} (Some fault) None))
+            (sym stands.is.console) happens)
         record {
           keys = stands.is.keys ∙ ap (λ keys. items_ahead (tells.left keys.source) keys.pending) (sym keys);
           console = refl;
@@ -359,7 +363,8 @@ module _ {Y T : Type 0} (tells : Tellers Y T) (old : TimeNet Y T) (o : Opening) 
       → OperatorStands operator stage s.script s.fault → OperatorIsAt operator m.to
   at-now operator m stage stage_is script fault at =
       subst (λ stage. OperatorStands operator stage m.to.script m.to.fault) (sym stage_is)
-      (subst (λ script. OperatorStands operator stage script m.to.fault) (sym script) (subst (λ fault. OperatorStands operator stage s.script fault) (sym fault) at))
+      (subst (λ script. OperatorStands operator stage script m.to.fault) (sym script) (subst (λ fault. OperatorStands operator stage s.script fault)
+          (sym fault) at))
 
   out-now : (m : Moved) (stage : Stage) (left : Option (List ℕ)) → m.to.stage ≡ stage → m.to.fault ≡ s.fault → IsReadOut stage s.fault left
       → IsReadOut m.to.stage m.to.fault left
@@ -463,7 +468,7 @@ module _ {Y T : Type 0} (tells : Tellers Y T) (old : TimeNet Y T) (o : Opening) 
         console_live = λ none. stands.is.console_live (sym kept.fault ∙ none);
         table = table_is ∙ ap (λ t. stepped_table task.phase t place) stands.is.table ∙ moved.table;
         held = kept.held ∙ stands.is.held;
-        operator = kept.operator;
+        operator = kept.at;
         tasks = subst (λ tasks. TasksStand tasks (move_of s (suc (suc place))).to)
             (sym (tasks_are ∙ ap (λ t. slice_set old.tasks place (stepped_task task t place)) stands.is.table))
             (tasks-moved s (move_of s (suc (suc place))).to place old.tasks (stepped_task task s.table place) may.0 moved.one stands.is.tasks);

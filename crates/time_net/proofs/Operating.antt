@@ -1,9 +1,11 @@
 -- What the operator does, and the stage that it is at.
 use Rattle.std.proofs.Common.{◌≡◌, ◌≢◌, ◌⊎◌, ◌↔◌, inl, inr, ℕ, zero, suc, ◌+◌, ◌<◌, ◌≤◌, Bool, true, false, Option, None, Some, List, [], ◌∷◌, ◌++◌, get_or, length, drop, refl, sym, ◌∙◌, ap, subst, arith}
-use Rattle.std.specs.Prelude.{IsTrue, map, slice_index_or}
+use Rattle.std.specs.Prelude.{Err, IsErrOf, Result, is_some, map}
+use Rattle.solo_devices.specs.declared.printer_unit.PrintFault.{PrintFault}
+use Rattle.solo_devices.specs.declared.printer_unit.PrintFault.TheVariants as print
 use Rattle.std.proofs.lemmas.List.{drop_more, drop_all}
 use Rattle.solo_base.specs.declared.outcome.Cause.{Cause}
-use Rattle.real_time.specs.Typed.{Typed}
+use Rattle.real_time.specs.declared.typed_line.Typed.{Typed}
 use Rattle.real_time.specs.Starts.{Script, opening, start_line}
 use Rattle.real_time.specs.Awaiting.{Row}
 use Rattle.real_time.specs.Deeds.{Deed, Enters, Shows, Wakes, Returns, shows_start}
@@ -16,17 +18,17 @@ use Rattle.time_net.specs.declared.operator.Doing.{Doing}
 use Rattle.time_net.specs.declared.operator.Doing.TheVariants as doing
 use Rattle.time_net.specs.declared.operator.Operator.{Operator}
 use Rattle.time_net.specs.declared.task_proc.TaskProc.{TaskProc}
-use Rattle.time_net.specs.Standing.{AreNamed, ActsAt, CallsFor, Does, IsCall, IsPassing, IsBetweenLines, IsStarting, TellsRuns, IsWaking, MayFail, OperatorStands, OperatorIsAt, answer_text, behind_call, behind_this, is_behind, name_at, runs_text, ticks_from}
+use Rattle.time_net.specs.Standing.{AreNamed, ActsAt, CallsFor, Does, IsCall, IsPassing, IsBetweenLines, IsStarting, TellsRuns, IsWaking, MayFail, OperatorStands, OperatorIsAt, answer_text, behind_call, behind_this, doing_failed, name_at, runs_text, ticks_from}
 use Rattle.time_net.specs.TaskSteps.{TasksStand}
 use Rattle.time_net.proofs.Ticking.{as-many}
 
 -- ---- what it does, where that is known
 pub does-so : (o : Operator) (d : Doing) (stage : Stage) (script : Script) (fault : Option Cause) → o.doing ≡ d → OperatorStands o stage script fault
-    → Does d o.tasks.items o.now stage script fault
-does-so o d stage script fault is st = subst (λ d. Does d o.tasks.items o.now stage script fault) is st.does
+    → Does d o.tasks.items o.clock stage script fault
+does-so o d stage script fault is st = subst (λ d. Does d o.tasks.items o.clock stage script fault) is st.does
 
 pub first-ready : (rows : List Row) → rows ≡ [] → Does doing.Reads rows 0 (Works []) opening None
-first-ready [] is = (refl, record { rows = record { names = refl; await = tt; known = tt }; now_is = refl; clock = omega arith; well = refl })
+first-ready [] is = (refl, record { stand = record { names = refl; await = tt; known = tt }; now_is = refl; clock = omega arith; well = refl })
 first-ready (row ∷ rows) is = absurd cc
 
 -- the name of the task at a place
@@ -62,14 +64,14 @@ at-reads doing.Ends rows now stage script fault does is = absurd (let other = do
 at-reads doing.Ended rows now stage script fault does is = absurd (let other = does in cc)
 
 pub is-ready : (o : Operator) (stage : Stage) (script : Script) (fault : Option Cause) → OperatorStands o stage script fault → stage ≡ Works []
-    → IsBetweenLines o.tasks.items o.now script o.fault × (fault ≡ None)
+    → IsBetweenLines o.tasks.items o.clock script o.fault × (fault ≡ None)
 is-ready o stage script fault st is =
-    let ready = at-reads o.doing o.tasks.items o.now stage script fault st.does is in
-    (subst (λ fault. IsBetweenLines o.tasks.items o.now script fault) (sym st.fault_is) ready, ready.well)
+    let ready = at-reads o.doing o.tasks.items o.clock stage script fault st.does is in
+    (subst (λ fault. IsBetweenLines o.tasks.items o.clock script fault) (sym st.fault_is) ready, ready.well)
 
 pub closes-named : (rows : List Row) (now : ℕ) (script : Script) (fault : Option Cause) → IsBetweenLines rows now script fault
     → AreNamed rows script fault
-closes-named rows now script fault ready = λ none. ready.rows.names
+closes-named rows now script fault ready = λ none. ready.stand.names
 
 -- ---- what it asks for
 pub asks-answer : (it : Answer) (line : List ℕ) (stage : Stage) (seen : List (List ℕ)) → line ≡ answer_text it → stage ≡ Works (Shows (answer_text it) ∷ [])
@@ -84,7 +86,7 @@ pub asks-start : (rows : List Row) (place second left : ℕ) (stage : Stage) (sc
     (d : Row) → IsStarting rows place second left stage script fault → (place < length rows → line ≡ start_line second (get_or rows place d).name)
     → action_at stage seen ≡ Prints line
 asks-start rows place second left stage script fault seen line d w line_is =
-    let (inside, name) = named-at rows w.s.tasks place d w.passing.rows.names w.inside in
+    let (inside, name) = named-at rows w.s.tasks place d w.passing.within.names w.inside in
     rw (w.stage_is) (ap Prints (ap (start_line second) (sym name) ∙ sym (line_is inside)))
 
 pub asks-runs : (rows : List Row) (place : ℕ) (script : Script) (fault : Option Cause) (s : TimeState) (line : List ℕ) (d : Row) (runs : ℕ)
@@ -138,52 +140,28 @@ never-shown doing.Ends rows now stage script fault seen text a b c does prints =
 never-shown doing.Ended rows now stage script fault seen text a b c does prints = (let is = does in cc)
 
 -- ---- something failed
--- whether it tells the runs of a task
-abbrev pub tells_runs : Doing → Bool
-tells_runs doing.Reads = false
-tells_runs (doing.Enters it) = false
-tells_runs (doing.Answers it) = false
-tells_runs (doing.Wakes place second due left) = false
-tells_runs (doing.Starts place second left) = false
-tells_runs doing.Closes = false
-tells_runs doing.Joins = false
-tells_runs (doing.Tells place) = true
-tells_runs doing.Ends = false
-tells_runs doing.Ended = false
+works-failed : (rows : List Row) (now : ℕ) (stage : Stage) (deeds : List Deed) (script : Script) (c : Cause) → stage ≡ Works deeds
+    → Does doing.Closes rows now (behind_fault stage) script (Some c)
+works-failed rows now stage deeds script c is = (ap behind_fault is, λ none. absurd cc)
 
-pub is-telling : (d : Doing) (rows : List Row) (now : ℕ) (stage : Stage) (script : Script) (fault : Option Cause) → Does d rows now stage script fault
-    → MayFail stage → tells_runs d ≡ is_behind stage
-is-telling doing.Reads rows now stage script fault does may = sym (ap is_behind does.0)
-is-telling (doing.Enters it) rows now stage script fault does may = sym (ap is_behind does.0.1)
-is-telling (doing.Answers it) rows now stage script fault does may = sym (ap is_behind does.0)
-is-telling (doing.Wakes place second due left) rows now stage script fault does may = by does.stage_is
+pub failed : (d : Doing) (rows : List Row) (now : ℕ) (stage : Stage) (script : Script) (fault : Option Cause) (c : Cause) → MayFail stage
+    → Does d rows now stage script fault → Does (doing_failed d) rows now (behind_fault stage) script (Some c)
+failed doing.Reads rows now stage script fault c may does = works-failed rows now stage [] script c does.0
+failed (doing.Enters it) rows now stage script fault c may does = works-failed rows now stage _ script c does.0.1
+failed (doing.Answers it) rows now stage script fault c may does = works-failed rows now stage _ script c does.0
+failed (doing.Wakes place second due left) rows now stage script fault c may does = by does.stage_is
   where
     by : ((stage ≡ Works (Wakes place second due ∷ shows_start due second (name_at does.s place) ++ ticks_from does.s (place + 1) left))
-        ⊎ (stage ≡ Works (Returns ∷ shows_start due second (name_at does.s place) ++ ticks_from does.s (place + 1) left))) → false ≡ is_behind stage
-    by (inl is) = sym (ap is_behind is)
-    by (inr is) = sym (ap is_behind is)
-is-telling (doing.Starts place second left) rows now stage script fault does may = sym (ap is_behind does.stage_is)
-is-telling doing.Closes rows now stage script fault does may = absurd (subst MayFail does.0 may)
-is-telling doing.Joins rows now stage script fault does may = absurd (subst MayFail does.0 may)
-is-telling (doing.Tells place) rows now stage script fault does may = sym (ap is_behind does.stage_is)
-is-telling doing.Ends rows now stage script fault does may = absurd (subst MayFail does.1 may)
-is-telling doing.Ended rows now stage script fault does may = absurd (subst MayFail does may)
-
-pub failed-behind : (rows : List Row) (now : ℕ) (stage : Stage) (script : Script) (c : Cause) → MayFail stage → is_behind stage ≡ true
-    → Does doing.Ends rows now (behind_fault stage) script (Some c)
-failed-behind rows now (Works deeds) script c may is = absurd cc
-failed-behind rows now Closes script c may is = absurd may
-failed-behind rows now Joins script c may is = absurd may
-failed-behind rows now (Tells place names) script c may is = (place, refl)
-failed-behind rows now Ended script c may is = absurd may
-
-pub failed-before : (rows : List Row) (now : ℕ) (stage : Stage) (script : Script) (c : Cause) → MayFail stage → is_behind stage ≡ false
-    → Does doing.Closes rows now (behind_fault stage) script (Some c)
-failed-before rows now (Works deeds) script c may is = (refl, λ none. absurd cc)
-failed-before rows now Closes script c may is = absurd may
-failed-before rows now Joins script c may is = absurd may
-failed-before rows now (Tells place names) script c may is = absurd cc
-failed-before rows now Ended script c may is = absurd may
+        ⊎ (stage ≡ Works (Returns ∷ shows_start due second (name_at does.s place) ++ ticks_from does.s (place + 1) left)))
+        → Does doing.Closes rows now (behind_fault stage) script (Some c)
+    by (inl is) = works-failed rows now stage _ script c is
+    by (inr is) = works-failed rows now stage _ script c is
+failed (doing.Starts place second left) rows now stage script fault c may does = works-failed rows now stage _ script c does.stage_is
+failed doing.Closes rows now stage script fault c may does = absurd (subst MayFail does.0 may)
+failed doing.Joins rows now stage script fault c may does = absurd (subst MayFail does.0 may)
+failed (doing.Tells place) rows now stage script fault c may does = (place, ap behind_fault does.stage_is)
+failed doing.Ends rows now stage script fault c may does = absurd (subst MayFail does.1 may)
+failed doing.Ended rows now stage script fault c may does = absurd (subst MayFail does may)
 
 -- ---- a call is done
 pub done-entry : (it : Answer) (rows : List Row) (now : ℕ) (stage : Stage) (script : Script) (fault : Option Cause)
@@ -313,3 +291,14 @@ may-fail Joins seen text prints = absurd cc
 may-fail (Tells place []) seen text prints = absurd cc
 may-fail (Tells place (name ∷ names)) seen text prints = tt
 may-fail Ended seen text prints = absurd cc
+
+pub some-fault : (fault : Option Cause) → fault ≡ None → is_some fault ≡ true → ⊥
+some-fault None none is = cc
+some-fault (Some c) none is = cc
+
+pub failed-of : (result : Result (Unit {0}) PrintFault) (fault : PrintFault) → result ≡ Err fault → fault ≡ print.Failed → IsErrOf result print.Failed
+failed-of result fault is failed = rw (is, failed) refl
+
+pub none-fault : (fault : Option Cause) → is_some fault ≡ false → fault ≡ None
+none-fault None is = refl
+none-fault (Some c) is = absurd cc

@@ -6,7 +6,7 @@ use Rattle.network_run.specs.declared.stepped.Stepped.{Stepped}
 use Rattle.network_run.specs.declared.stepped.Stepped.TheVariants as stepped
 use Rattle.real_time.specs.declared.table.Seat.TheVariants.{Operator, Task}
 use Rattle.real_time.specs.Table.{MayComeIn, Table, after_wake, all_left, operator_resumed, sleeper_at, woken_by}
-use Rattle.real_time.specs.Typed.{Typed}
+use Rattle.real_time.specs.declared.typed_line.Typed.{Typed}
 use Rattle.real_time.specs.Deeds.{Deed, Enters, Shows, Wakes, Returns}
 use Rattle.real_time.specs.States.{Stage, Works, Closes, Joins, Tells, Ended, IsMove, MayMove, Moved, OperatorMay, TimeState, action_at, after_woken, join_move, joined_by, operator_move}
 use Rattle.real_time.specs.Reaching.{Fits, Holds, is-outside}

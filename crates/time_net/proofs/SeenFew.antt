@@ -15,7 +15,10 @@ use Rattle.real_time.specs.declared.table.Woken.TheVariants as woken
 use Rattle.real_time.specs.declared.table.Waited.{Waited}
 use Rattle.real_time.specs.declared.table.Waited.TheVariants as waited
 use Rattle.real_time.specs.Table.{Table, all_left, has_left, operator_resumed, sleeper_at, waited_by, woken_by}
-use Rattle.real_time.specs.Typed.{Typed, Blank, Names, Plans, Stops, Passes, Bad, typed}
+use Rattle.real_time.specs.declared.typed_line.Typed.{Typed}
+use Rattle.real_time.specs.declared.typed_line.Typed.TheVariants.{Blank, Names, Plans, Stops, Passes, Bad}
+use Rattle.real_time.specs.Typed.{typed}
+use Rattle.real_time.specs.declared.plan.Plan.TheVariants.{Never, First}
 use Rattle.real_time.specs.Starts.{Change, Script, behind_line, behind_seconds, is_due, is_task, may_name, may_plan, next_second, opening, plan_of, within_clock}
 use Rattle.real_time.specs.Deeds.{Deed, Enters, Shows, Wakes, Returns, starts, starts_from, starts_in_second, starts_named, starts_of_line, starts_of_seconds}
 use Rattle.real_time.specs.States.{Stage, Works, Closes, Joins, Tells, Ended, Opening, TimeState, TimeEvent, Accepts, Displays, Moves, Moved, after_woken, behind_display, behind_fault, join_move, joined_by, move_of, occurs, opened, operator_move, seen_at, stage_told, task_move, MayHappen}
@@ -41,20 +44,22 @@ few-seconds place (suc seconds) s =
     let rest = few-seconds place seconds (next_second s) in
     omega (arith, one, sum, rest)
 
-same-now : (may : Bool) (yes s : Script) → yes.now ≡ s.now → (if may then yes else s).now ≡ s.now
-same-now true yes s is = is
-same-now false yes s is = refl
+same-now : (may : Bool) (changed s : Script) → changed.now ≡ s.now → (if may then changed else s).now ≡ s.now
+same-now true changed s is = is
+same-now false changed s is = refl
 
 -- a line leaves the clock within its limit, and starts a task in as many seconds as it lets pass at most
 few-line : (place : ℕ) (s : Script) (line : Typed) → s.now ≤ 1000000
     → ((behind_line s line).now ≤ 1000000) × (length (starts_of_line place s line) + s.now ≤ (behind_line s line).now)
 few-line place s Blank few = (few, omega arith)
 few-line place s (Names name) few =
-    let same = same-now (may_name s name) _ s refl in (omega (arith, few, same), omega (arith, same))
+    let same = same-now (may_name s name) (record s { tasks = s.tasks ++ name ∷ [] }) s refl in (omega (arith, few, same), omega (arith, same))
 few-line place s (Plans name time period) few =
-    let same = same-now (may_plan s name time) _ s refl in (omega (arith, few, same), omega (arith, same))
+    let same = same-now (may_plan s name time) (record s { accepted = record { name = name; plan = First time period } ∷ s.accepted }) s refl in (omega
+        (arith, few, same), omega (arith, same))
 few-line place s (Stops name) few =
-    let same = same-now (is_task s name) _ s refl in (omega (arith, few, same), omega (arith, same))
+    let same = same-now (is_task s name) (record s { accepted = record { name = name; plan = Never } ∷ s.accepted }) s refl in (omega
+        (arith, few, same), omega (arith, same))
 few-line place s (Passes seconds) few = by (within_clock s seconds) refl
   where
     by : (within : Bool) → within_clock s seconds ≡ within

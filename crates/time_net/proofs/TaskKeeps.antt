@@ -22,7 +22,7 @@ pub record Keeps (s : TimeState) (operator : Operator) (m : Moved) : Type 0 wher
   pub console : m.to.console ≡ s.console
   pub fault : m.to.fault ≡ s.fault
   pub held : m.to.table.operator ≡ s.table.operator
-  pub operator : OperatorIsAt operator m.to
+  pub at : OperatorIsAt operator m.to
   pub out : (left : Option (List ℕ)) → IsReadOut s.stage s.fault left → IsReadOut m.to.stage m.to.fault left
 
 -- ---- the wake in which the operator waits is done
@@ -59,13 +59,13 @@ returns-does doing.Ended rows now stage script fault q second due deeds is does 
 
 module _ (s : TimeState) (h : Holds s) (place : ℕ) (operator : Operator) (st : OperatorIsAt operator s) where
   told-does : (stage : Stage) → s.stage ≡ stage → Fits stage s.table → s.table.awaited ≡ Some place
-      → Does operator.doing operator.tasks.items operator.now (stage_told (waited.Starts s.table.second) stage) s.script s.fault
+      → Does operator.doing operator.tasks.items operator.clock (stage_told (waited.Starts s.table.second) stage) s.script s.fault
       × ((left : Option (List ℕ)) → IsReadOut (stage_told (waited.Starts s.table.second) stage) s.fault left)
   told-does (Works []) is fits awaited = absurd (let none = fits.1 in let waits = (h.table.awaits place awaited).operator in cc)
   told-does (Works (Enters line ∷ deeds)) is fits awaited = absurd (let none = fits.1 in let waits = (h.table.awaits place awaited).operator in cc)
   told-does (Works (Shows text ∷ deeds)) is fits awaited = absurd (let none = fits.1 in let waits = (h.table.awaits place awaited).operator in cc)
   told-does (Works (Wakes q second due ∷ deeds)) is fits awaited =
-      (returns-does operator.doing operator.tasks.items operator.now s.stage s.script s.fault q second due deeds is st.does, λ left. tt)
+      (returns-does operator.doing operator.tasks.items operator.clock s.stage s.script s.fault q second due deeds is st.does, λ left. tt)
   told-does (Works (Returns ∷ deeds)) is fits awaited =
       absurd (let handed = fits.1 in let free = (h.table.awaits place awaited).free in cc)
   told-does Closes is fits awaited = absurd (let none = fits.1 in let waits = (h.table.awaits place awaited).operator in cc)
@@ -80,7 +80,7 @@ module _ (s : TimeState) (h : Holds s) (place : ℕ) (operator : Operator) (st :
     console = refl;
     fault = refl;
     held = refl;
-    operator = record { does = st.does; fault_is = st.fault_is };
+    at = record { does = st.does; fault_is = st.fault_is };
     out = λ left out. out;
   }
   waits-keeps false true is =
@@ -89,7 +89,7 @@ module _ (s : TimeState) (h : Holds s) (place : ℕ) (operator : Operator) (st :
         console = refl;
         fault = refl;
         held = refl;
-        operator = record { does = told.0; fault_is = st.fault_is };
+        at = record { does = told.0; fault_is = st.fault_is };
         out = λ left out. told.1 left;
       }
   waits-keeps false false is = record {
@@ -97,7 +97,7 @@ module _ (s : TimeState) (h : Holds s) (place : ℕ) (operator : Operator) (st :
     console = refl;
     fault = refl;
     held = refl;
-    operator = record { does = st.does; fault_is = st.fault_is };
+    at = record { does = st.does; fault_is = st.fault_is };
     out = λ left out. out;
   }
 
@@ -112,7 +112,7 @@ module _ (s : TimeState) (h : Holds s) (place : ℕ) (operator : Operator) (st :
     console = refl;
     fault = refl;
     held = refl;
-    operator = record { does = st.does; fault_is = st.fault_is };
+    at = record { does = st.does; fault_is = st.fault_is };
     out = λ left out. out;
   }
   keeps-by false (Some p) = record {
@@ -120,7 +120,7 @@ module _ (s : TimeState) (h : Holds s) (place : ℕ) (operator : Operator) (st :
     console = refl;
     fault = refl;
     held = resumed-held s.table.closed;
-    operator = record { does = st.does; fault_is = st.fault_is };
+    at = record { does = st.does; fault_is = st.fault_is };
     out = λ left out. out;
   }
   keeps-by false None = waits-keeps s.table.closed (is_awaited s.table.awaited place) refl

@@ -85,7 +85,8 @@ module _ (s : TimeState) (h : Holds s) (place : ℕ) (task : TaskProc) (below : 
         (told task (waited.Starts second))
     has-started stage = record {
       task_is = record {
-        runs_are = counted task.runs (seen_at s place) second st.runs_are few ∙ ap length (sym (own s.seen place (seen_at s place ++ second ∷ []) [] long-seen));
+        runs_are = counted task.runs (seen_at s place) second st.runs_are few ∙ ap length (sym (own s.seen place
+            (seen_at s place ++ second ∷ []) [] long-seen));
         phase_is = (not_ended, left, awake);
       };
       same = λ q differ. record {

@@ -1,6 +1,7 @@
 -- Seconds pass: what the operator has still to do of them, and the rows at each place.
 use Rattle.std.proofs.Common.{◌≡◌, ◌⊎◌, inl, inr, ℕ, zero, suc, ◌+◌, ◌<◌, ◌≤◌, Bool, Option, None, List, [], ◌∷◌, ◌++◌, append_assoc, length, take, drop, refl, sym, ◌∙◌, ap, subst, arith}
-use Rattle.std.specs.Prelude.{map, min}
+use Rattle.std.specs.Prelude.{map}
+use Rattle.std.specs.List.{refill}
 use Rattle.std.proofs.lemmas.List.{drop_more, drop_all, length-map, take_all}
 use Rattle.solo_base.specs.declared.outcome.Cause.{Cause}
 use Rattle.real_time.specs.Starts.{Script, Change, behind_seconds, next_second}
@@ -10,11 +11,12 @@ use Rattle.real_time.specs.Deeds.{Deed, Shows, Wakes, deeds_of_seconds, shows_st
 use Rattle.real_time.specs.States.{Works}
 use Rattle.time_net.specs.declared.answering.Answer.TheVariants as answer
 use Rattle.time_net.specs.declared.operator.Doing.TheVariants as doing
-use Rattle.time_net.specs.Standing.{Does, IsPassing, IsBetweenLines, IsWaking, behind_this, name_at, ticks, ticks_from, time_text}
+use Rattle.time_net.specs.declared.operator.Operator.{Operator}
+use Rattle.time_net.specs.Standing.{Does, IsBetweenLines, IsPassing, IsWaking, OperatorStands, behind_this, name_at, ticks, ticks_from, time_text}
 
 -- ---- names and rows
 pub as-many : (rows : List Row) (names : List (List ℕ)) → map (λ row. row.name) rows ≡ names → length names ≡ length rows
-as-many rows names same = ap length (sym same) ∙ length-map (λ row. row.name) rows
+as-many rows names same = ap length (sym same) ∙ length-map rows (λ row. row.name)
 
 -- ---- without a task nothing is done in a second
 no-deeds : (left : ℕ) (s : Script) → s.tasks ≡ [] → deeds_of_seconds left s ≡ []
@@ -50,17 +52,17 @@ pub all-passed : (rows : List Row) (now left time : ℕ) (s : Script) (fault : O
 all-passed rows now zero time s fault ready over clock is =
     let now_is = ready.now_is in (
       time-shown (s.now + 0) time (omega (arith, is, now_is)),
-      record { rows = ready.rows; now_is = omega (arith, is, now_is); clock = ready.clock; well = refl },
+      record { stand = ready.stand; now_is = omega (arith, is, now_is); clock = ready.clock; well = refl },
     )
 all-passed rows now (suc left) time s fault ready (inl none) clock is = absurd (omega (arith, none))
 all-passed rows now (suc left) time s fault ready (inr none) clock is =
     let now_is = ready.now_is in
-    let names : s.tasks ≡ [] = sym ready.rows.names ∙ ap (map (λ row. row.name)) none in
+    let names : s.tasks ≡ [] = sym ready.stand.names ∙ ap (map (λ row. row.name)) none in
     let behind = time-behind (suc left) s in (
       ap (λ deeds. Works (deeds ++ Shows (time_text (s.now + suc left)) ∷ [])) (no-deeds (suc left) s names)
           ∙ time-shown (s.now + suc left) time (omega (arith, is, now_is)),
       record {
-        rows = stands-behind (suc left) s rows none ready.rows;
+        stand = stands-behind (suc left) s rows none ready.stand;
         now_is = omega (arith, is, now_is, behind);
         clock = omega (arith, clock, behind);
         well = refl;
@@ -72,7 +74,7 @@ pub second-begins : (rows : List Row) (now left : ℕ) (s : Script) (fault : Opt
     → IsPassing rows s 0 (now + 1) left
 second-begins rows now left s fault ready clock =
     let now_is = ready.now_is in record {
-      rows = record { names = ready.rows.names; front = tt; back = ready.rows.await; known = ready.rows.known };
+      within = record { names = ready.stand.names; front = tt; back = ready.stand.await; known = ready.stand.known };
       second_is = omega (arith, now_is);
       clock = omega (arith, clock, now_is);
     }
@@ -97,11 +99,11 @@ pub woken : (rows now_rows : List Row) (s : Script) (place second left : ℕ) (d
     → due ≡ starts_at s place → StandsWithin s (place + 1) now_rows
     → IsWaking now_rows place second due left (Works (ticks_from s place left)) (behind_this left s) None
 woken rows now_rows s place second left due passing inside due_is within =
-    let many = as-many rows s.tasks passing.rows.names in
+    let many = as-many rows s.tasks passing.within.names in
     let below : place < length s.tasks = omega (arith, many, inside) in
     let second_is = passing.second_is in record {
       s = s;
-      passing = record { rows = within; second_is = second_is; clock = passing.clock };
+      passing = record { within = within; second_is = second_is; clock = passing.clock };
       inside = below;
       script_is = refl;
       due_is = due_is;
@@ -113,14 +115,14 @@ woken rows now_rows s place second left due passing inside due_is within =
 pub second-over : (rows : List Row) (s : Script) (place second left : ℕ) → IsPassing rows s place second left → place ≡ length rows
     → IsBetweenLines rows second (next_second s) None × (ticks_from s place left ≡ ticks left (next_second s))
 second-over rows s place second left passing last =
-    let many = as-many rows s.tasks passing.rows.names in
+    let many = as-many rows s.tasks passing.within.names in
     let second_is = passing.second_is in
     let clock = passing.clock in (
       record {
-        rows = record {
-          names = passing.rows.names;
-          await = subst (AllAwait s.accepted (s.now + 1)) (take-whole rows place last) passing.rows.front;
-          known = passing.rows.known;
+        stand = record {
+          names = passing.within.names;
+          await = subst (AllAwait s.accepted (s.now + 1)) (take-whole rows place last) passing.within.front;
+          known = passing.within.known;
         };
         now_is = second_is;
         clock = omega (arith, clock, second_is);
@@ -131,3 +133,28 @@ second-over rows s place second left passing last =
   where
     take-whole : (rows : List Row) (place : ℕ) → place ≡ length rows → take place rows ≡ rows
     take-whole rows place last = take_all place rows (omega (arith, last))
+
+-- ---- rows that were written over
+pub refilled : (old new : List Row) → length new ≡ length old → refill (length old) old new ≡ new
+refilled old new same =
+    ap (λ n. take n (new ++ drop (length new) old)) (sym same) ∙ taken new (drop (length new) old)
+  where
+    taken : (front back : List Row) → take (length front) (front ++ back) ≡ front
+    taken [] back = refl
+    taken (row ∷ front) back = ap (λ rows. row ∷ rows) (taken front back)
+
+-- ---- the first of so many seconds
+pub ticks-begin : (operator : Operator) (left rest : ℕ) (s : Script) → left ≡ suc rest
+    → OperatorStands operator (Works (ticks_from s 0 rest)) (behind_this rest s) None → OperatorStands operator (Works (ticks left s))
+        (behind_seconds left s) None
+ticks-begin operator left rest s is st =
+    subst (λ left. OperatorStands operator (Works (ticks left s)) (behind_seconds left s) None) (sym is)
+    (subst (λ deeds. OperatorStands operator (Works deeds) (behind_this rest s) None) same st)
+  where
+    time : (n : ℕ) → s.now + 1 + n ≡ s.now + suc n
+    time n = omega arith
+
+    same : ticks_from s 0 rest ≡ ticks (suc rest) s
+    same =
+        sym (append_assoc (wakes_of s.accepted (s.now + 1) 0 s.tasks) (deeds_of_seconds rest (next_second s)) (Shows (time_text (s.now + 1 + rest)) ∷ []))
+        ∙ ap (λ t. (wakes_of s.accepted (s.now + 1) 0 s.tasks ++ deeds_of_seconds rest (next_second s)) ++ Shows (time_text t) ∷ []) (time rest)

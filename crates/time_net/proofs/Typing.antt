@@ -10,7 +10,9 @@ use Rattle.solo_base.specs.Words.{spells, words}
 use Rattle.solo_base.specs.declared.item.Item.{Item}
 use Rattle.solo_base.specs.declared.item.Item.TheVariants as item
 use Rattle.solo_base.specs.declared.outcome.Cause.{Cause}
-use Rattle.real_time.specs.Typed.{Typed, Blank, Names, Plans, Stops, Passes, Bad, naming, of_four, of_two, passing, planning, stopping, typed, typed_words}
+use Rattle.real_time.specs.declared.typed_line.Typed.{Typed}
+use Rattle.real_time.specs.declared.typed_line.Typed.TheVariants.{Blank, Names, Plans, Stops, Passes, Bad}
+use Rattle.real_time.specs.Typed.{naming, of_four, of_two, passing, planning, stopping, typed, typed_words}
 use Rattle.real_time.specs.Starts.{Script, answer as answer_of, behind_line, behind_seconds, is_task, may_name, may_plan, within_clock}
 use Rattle.real_time.specs.Awaiting.{Row}
 use Rattle.real_time.specs.Answers.{AnswersLine}
@@ -82,9 +84,9 @@ typed-short (item.Line text) = short-words (words text)
 typed-short item.Spoiled = tt
 
 -- ---- entries
-same-now : (may : Bool) (yes s : Script) → yes.now ≡ s.now → (if may then yes else s).now ≡ s.now
-same-now true yes s is = is
-same-now false yes s is = refl
+same-now : (may : Bool) (changed s : Script) → changed.now ≡ s.now → (if may then changed else s).now ≡ s.now
+same-now true changed s is = is
+same-now false changed s is = refl
 
 now-named : (s : Script) (name : List ℕ) → (behind_line s (Names name)).now ≡ s.now
 now-named s name = same-now (may_name s name) _ s refl
@@ -101,7 +103,7 @@ entered : (s : Script) (line : Typed) (it : Answer) (rows : List Row) (now : ℕ
     → Does (doing.Enters it) rows now (Works (deeds_of s line)) (behind_line s line) None
 entered s line it rows now answers deeds same now_is clock = (
   (line, ap Works (deeds ∙ ap (λ texts. Enters line ∷ map Shows texts) answers.shows)),
-  record { rows = answers.stands; now_is = now_is ∙ sym same; clock = omega (arith, same, clock); well = refl },
+  record { stand = answers.stands; now_is = now_is ∙ sym same; clock = omega (arith, same, clock); well = refl },
 )
 
 pub entered-name : (s : Script) (name : List ℕ) (it : Answer) (old rows : List Row) (now : ℕ) (fault : Option Cause) → IsBetweenLines old now s fault
@@ -119,13 +121,15 @@ pub entered-stop : (s : Script) (name : List ℕ) (it : Answer) (old rows : List
 entered-stop s name it old rows now fault ready answers = entered s (Stops name) it rows now answers refl (now-stopped s name) ready.now_is ready.clock
 
 -- ---- other lines
-pub read-blank : (s : Script) (rows : List Row) (now : ℕ) (fault : Option Cause) → IsBetweenLines rows now s fault
-    → Does doing.Reads rows now (Works (deeds_of s Blank)) (behind_line s Blank) None
-read-blank s rows now fault ready = (refl, record { rows = ready.rows; now_is = ready.now_is; clock = ready.clock; well = refl })
+pub read-blank : (s : Script) (line : Typed) (rows : List Row) (now : ℕ) (fault : Option Cause) → line ≡ Blank → IsBetweenLines rows now s fault
+    → Does doing.Reads rows now (Works (deeds_of s line)) (behind_line s line) None
+read-blank s line rows now fault is ready =
+    rw is (refl, record { stand = ready.stand; now_is = ready.now_is; clock = ready.clock; well = refl })
 
-pub read-bad : (s : Script) (rows : List Row) (now : ℕ) (fault : Option Cause) → IsBetweenLines rows now s fault
-    → Does (doing.Answers answer.Bad) rows now (Works (deeds_of s Bad)) (behind_line s Bad) None
-read-bad s rows now fault ready = (refl, record { rows = ready.rows; now_is = ready.now_is; clock = ready.clock; well = refl })
+pub read-bad : (s : Script) (line : Typed) (rows : List Row) (now : ℕ) (fault : Option Cause) → line ≡ Bad → IsBetweenLines rows now s fault
+    → Does (doing.Answers answer.Bad) rows now (Works (deeds_of s line)) (behind_line s line) None
+read-bad s line rows now fault is ready =
+    rw is (refl, record { stand = ready.stand; now_is = ready.now_is; clock = ready.clock; well = refl })
 
 -- ---- seconds pass, where the clock runs so long
 not-within : (a : ℕ) → 1000000 < a → nat_le a 1000000 ≡ false
@@ -143,7 +147,7 @@ pub over-limit : (s : Script) (rows : List Row) (now seconds : ℕ) (fault : Opt
 over-limit s rows now seconds fault ready over =
     let now_is = ready.now_is in
     let is : within_clock s seconds ≡ false = not-within (s.now + seconds) (omega (arith, now_is, over)) in
-    rw is (refl, record { rows = ready.rows; now_is = ready.now_is; clock = ready.clock; well = refl })
+    rw is (refl, record { stand = ready.stand; now_is = ready.now_is; clock = ready.clock; well = refl })
 
 -- the deeds of seconds that may pass, and the script behind them
 pub within-limit : (s : Script) (seconds : ℕ) → s.now + seconds ≤ 1000000

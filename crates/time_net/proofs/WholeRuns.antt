@@ -101,6 +101,10 @@ fault-of o (Some c) is = ap fault_told is
 pub the-fault : (o : Outcome) (fault : Option Cause) → o ≡ outcome_with fault → fault ≡ fault_told o
 the-fault o fault is = sym (fault-of o fault is)
 
+pub outcome-told : (o : Outcome) (fault : Option Cause) → o ≡ outcome_with fault → o ≡ outcome_with (fault_told o)
+outcome-told o None is = rw is refl
+outcome-told o (Some c) is = rw is refl
+
 module _ {Y T : Type 0} (tells : Tellers Y T) (net : TimeNet Y T) (keys : Y) (console : T) where
   -- ---- at the opening nothing has failed
   pub counted-first : OpensOver tells net keys console → tells.taken keys ≡ 0 → IsCounted tells keys console net.operator.fault net.typewriter
@@ -118,7 +122,7 @@ module _ {Y T : Type 0} (tells : Tellers Y T) (net : TimeNet Y T) (keys : Y) (co
       }
     where
       never : (taken : ℕ) → taken ≡ 0 → byte_limit < taken → ⊥
-      never taken zero over = omega (arith, zero, over)
+      never taken none over = omega (arith, none, over)
 
   pub known-first : OpensOver tells net keys console → IsFaultOfTimes net.operator.fault
   known-first opens = subst IsFaultOfTimes (sym opens.well) tt

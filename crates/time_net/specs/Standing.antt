@@ -1,9 +1,11 @@
--- What the operator stands for: where it is in a script, and what it has still to do of the line that it read.
-use Rattle.std.specs.Prelude.{◌≡◌, ◌⊎◌, ◌<◌, ◌≤◌, ◌+◌, ℕ, Bool, true, false, List, [], ◌∷◌, ◌++◌, Option, None, Some, codes, length, map, drop, slice_index_or}
+-- What the operator stands for: where it is in a script, and what it has still to do of the line that it
+-- read.
+use Rattle.std.specs.Prelude.{◌≡◌, ◌⊎◌, ◌<◌, ◌≤◌, ◌+◌, ℕ, Bool, List, [], ◌∷◌, ◌++◌, Option, None, Some, codes, length, map, drop, slice_index_or}
 use Rattle.std.specs.Fmt.{decimal}
 use Rattle.solo_base.specs.Blanks.{trimmed}
 use Rattle.solo_base.specs.declared.outcome.Cause.{Cause}
-use Rattle.real_time.specs.Typed.{Typed, Blank, Names, Plans, Stops, Passes, Bad}
+use Rattle.real_time.specs.declared.typed_line.Typed.{Typed}
+use Rattle.real_time.specs.declared.typed_line.Typed.TheVariants.{Blank, Names, Plans, Stops, Passes, Bad}
 use Rattle.real_time.specs.Starts.{Script, behind_seconds, next_second, start_line}
 use Rattle.real_time.specs.Awaiting.{Row}
 use Rattle.real_time.specs.Answers.{StandsForScript, StandsWithin, name_text, start_text, stop_text, starts_at}
@@ -64,20 +66,20 @@ name_at s place = slice_index_or s.tasks place []
 -- ---- between lines
 -- The rows of the operator and its clock are those of the script, and nothing has failed.
 pub record IsBetweenLines (rows : List Row) (now : ℕ) (script : Script) (fault : Option Cause) : Type 0 where
-  pub rows : StandsForScript script rows
+  pub stand : StandsForScript script rows
   pub now_is : now ≡ script.now
   pub clock : script.now ≤ 1000000
   pub well : fault ≡ None
 
 -- In a second that passes: the rows in front of a place are done.
 pub record IsPassing (rows : List Row) (s : Script) (place second left : ℕ) : Type 0 where
-  pub rows : StandsWithin s place rows
+  pub within : StandsWithin s place rows
   pub second_is : second ≡ s.now + 1
   pub clock : second + left ≤ 1000000
 
 -- The operator wakes the task at a place; or it goes on in this wake, in which it waited.
-pub record IsWaking (rows : List Row) (place second : ℕ) (due : Bool) (left : ℕ) (stage : Stage) (script : Script)
-    (fault : Option Cause) : Type 0 where
+pub record IsWaking (rows : List Row) (place second : ℕ) (due : Bool) (left : ℕ) (stage : Stage)
+    (script : Script) (fault : Option Cause) : Type 0 where
   pub s : Script
   pub passing : IsPassing rows s (place + 1) second left
   pub inside : place < length s.tasks
@@ -115,7 +117,8 @@ pub record TellsRuns (rows : List Row) (place : ℕ) (stage : Stage) (script : S
 abbrev pub Does : Doing → List Row → ℕ → Stage → Script → Option Cause → Type 0
 Does doing.Reads rows now stage script fault = (stage ≡ Works []) × IsBetweenLines rows now script fault
 Does (doing.Enters it) rows now stage script fault =
-    ((line : Typed) × (stage ≡ Works (Enters line ∷ Shows (answer_text it) ∷ []))) × IsBetweenLines rows now script fault
+    ((line : Typed) × (stage ≡ Works (Enters line ∷ Shows (answer_text it) ∷ [])))
+    × IsBetweenLines rows now script fault
 Does (doing.Answers it) rows now stage script fault =
     (stage ≡ Works (Shows (answer_text it) ∷ [])) × IsBetweenLines rows now script fault
 Does (doing.Wakes place second due left) rows now stage script fault =
@@ -129,8 +132,9 @@ Does doing.Ends rows now stage script fault = (place : ℕ) × (stage ≡ Tells 
 Does doing.Ended rows now stage script fault = stage ≡ Ended
 
 -- What the operator does is at this stage, behind lines that make this script.
-pub record OperatorStands (operator : Operator) (stage : Stage) (script : Script) (fault : Option Cause) : Type 0 where
-  pub does : Does operator.doing operator.tasks.items operator.now stage script fault
+pub record OperatorStands (operator : Operator) (stage : Stage) (script : Script) (fault : Option Cause)
+    : Type 0 where
+  pub does : Does operator.doing operator.tasks.items operator.clock stage script fault
   pub fault_is : operator.fault ≡ fault
 
 abbrev pub OperatorIsAt : Operator → TimeState → Type 0
@@ -141,7 +145,8 @@ OperatorIsAt operator s = OperatorStands operator s.stage s.script s.fault
 abbrev pub CallsFor : Call → Stage → Type 0
 CallsFor call.Enters stage = (line : Typed) × (deeds : List Deed) × (stage ≡ Works (Enters line ∷ deeds))
 CallsFor (call.Wakes place second due) stage =
-    (deeds : List Deed) × ((stage ≡ Works (Wakes place second due ∷ deeds)) ⊎ (stage ≡ Works (Returns ∷ deeds)))
+    (deeds : List Deed)
+    × ((stage ≡ Works (Wakes place second due ∷ deeds)) ⊎ (stage ≡ Works (Returns ∷ deeds)))
 CallsFor call.Closes stage = stage ≡ Closes
 CallsFor call.Joins stage = stage ≡ Joins
 
@@ -185,10 +190,15 @@ MayFail (Tells place []) = ⊥
 MayFail (Tells place (name ∷ names)) = Unit {0}
 MayFail Ended = ⊥
 
--- behind the keys, where the table is closed already
-abbrev pub is_behind : Stage → Bool
-is_behind (Works deeds) = false
-is_behind Closes = true
-is_behind Joins = true
-is_behind (Tells place names) = true
-is_behind Ended = true
+-- what it does then: behind the keys, where the table is closed already, it ends
+abbrev pub doing_failed : Doing → Doing
+doing_failed doing.Reads = doing.Closes
+doing_failed (doing.Enters it) = doing.Closes
+doing_failed (doing.Answers it) = doing.Closes
+doing_failed (doing.Wakes place second due left) = doing.Closes
+doing_failed (doing.Starts place second left) = doing.Closes
+doing_failed doing.Closes = doing.Closes
+doing_failed doing.Joins = doing.Closes
+doing_failed (doing.Tells place) = doing.Ends
+doing_failed doing.Ends = doing.Closes
+doing_failed doing.Ended = doing.Closes

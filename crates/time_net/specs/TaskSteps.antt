@@ -1,5 +1,5 @@
 -- What a step of a task is, by where it is and by the table.
-use Rattle.std.specs.Prelude.{◌≡◌, ◌<◌, ◌+◌, ℕ, Bool, true, false, List, length, min, None, Option, IsSome, slice_get, slice_index_or, Some}
+use Rattle.std.specs.Prelude.{◌≡◌, ◌<◌, ◌+◌, ℕ, Bool, true, false, List, length, min, None, Option, IsSome, slice_index_or}
 use Rattle.queue_var.specs.declared.turn.Turn.TheVariants.{Free, Handed}
 use Rattle.network_run.specs.declared.stepped.Stepped.{Stepped}
 use Rattle.network_run.specs.declared.stepped.Stepped.TheVariants as stepped
@@ -64,7 +64,8 @@ PhaseFits Ended ended left held = ended ≡ true
 
 pub record TaskStands (task : TaskProc) (place : ℕ) (s : TimeState) : Type 0 where
   pub runs_are : task.runs ≡ length (seen_at s place)
-  pub phase_is : PhaseFits task.phase (ended_at s place) (has_left s.table place) (sleeper_at s.table.queues place)
+  pub phase_is : PhaseFits task.phase (ended_at s place) (has_left s.table place)
+      (sleeper_at s.table.queues place)
 
 -- each of the eight tasks
 pub record TasksStand (tasks : List TaskProc) (s : TimeState) : Type 0 where

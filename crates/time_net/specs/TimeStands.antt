@@ -25,8 +25,8 @@ pub record Tellers (Y T : Type 0) : Type 0 where
   pub given : T → Option (List ℕ)
   pub shown_faults : T → ℕ
 
-abbrev pub tellers : {Y T : Type 0} → (Y → Option (List ℕ)) → (Y → ℕ) → (Y → ℕ) → (T → Option (List ℕ)) → (T → ℕ)
-    → Tellers Y T
+abbrev pub tellers : {Y T : Type 0} → (Y → Option (List ℕ)) → (Y → ℕ) → (Y → ℕ) → (T → Option (List ℕ))
+    → (T → ℕ) → Tellers Y T
 tellers left taken read_faults given shown_faults = record {
   left = left;
   taken = taken;
@@ -126,8 +126,8 @@ LeavesLines (Accepts answer) before now = 0 < length (item_of answer) → now < 
 LeavesLines (Displays fault console) before now = now ≡ before
 LeavesLines (Moves p how) before now = now ≡ before
 
-pub record TimesMoves {Y T : Type 0} (tells : Tellers Y T) (old : TimeNet Y T) (event : TimeEvent) (new : TimeNet Y T)
-    : Type 0 where
+pub record TimesMoves {Y T : Type 0} (tells : Tellers Y T) (old : TimeNet Y T) (event : TimeEvent)
+    (new : TimeNet Y T) : Type 0 where
   pub lines : LeavesLines event (keys_ahead tells old.typewriter) (keys_ahead tells new.typewriter)
   pub keeps : KeepsCounts tells old new
 

@@ -12,8 +12,8 @@ use Rattle.network_run.specs.Runs.{AreByRule}
 use Rattle.real_time.specs.States.{TimeEvent, TimeState}
 use Rattle.real_time.specs.TimesLaw.{timing}
 
--- Enabled events by the rule, which come to these counts. Behind them all nine have ended, this is left of the
--- keys, and the console has this, where they tell it.
+-- Enabled events by the rule, which come to these counts. Behind them all nine have ended, this is left of
+-- the keys, and the console has this, where they tell it.
 pub record TimesRun (rule : Rule) (s : TimeState) (counts : Counts) (keys : Option (List Item))
     (console : Option (List ℕ)) : Type 0 where
   pub events : List TimeEvent

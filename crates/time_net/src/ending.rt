@@ -1,15 +1,12 @@
-ghost use Rattle.std.specs.Prelude.{◌≡◌, ℕ, List, [], Some, None};
+ghost use Rattle.std.specs.Prelude.{◌≡◌, List, [], Some};
 ghost use Rattle.solo_base.specs.declared.item.Item.{Item};
-ghost use Rattle.solo_base.specs.Prefixes.{IsPrefixOf};
 ghost use Rattle.solo_base.specs.Text.{text};
 ghost use Rattle.solo_devices.specs.CardUnit.{IsAllTaken, items_ahead};
 ghost use Rattle.solo_devices.specs.PrinterUnit.{Gains};
 ghost use Rattle.network_run.specs.Law.{Placed};
-ghost use Rattle.real_time.specs.Deeds.{starts};
 ghost use Rattle.real_time.specs.Starts.{times};
-ghost use Rattle.real_time.specs.States.{seen_at};
 ghost use Rattle.real_time.specs.TimesLaw.{timing};
-ghost use Rattle.time_net.specs.TimeStands.{NineHaveEnded, IsCounted, IsFaultOfTimes, TimesStand, all_runs, outcome_with, tellers};
+ghost use Rattle.time_net.specs.TimeStands.{NineHaveEnded, TimesStand, all_runs, outcome_with, tellers};
 
 use crate::TimeNet;
 use real_time::MOST_TASKS;
@@ -29,8 +26,8 @@ impl<Y: Source, T: Sink> TimeNet<Y, T> {
     pub fn finish(self) -> TimeRan<Y, T>
         requires ended { NineHaveEnded (tellers Y.left Y.taken Y.faults T.given T.faults) self }
 
-        // For each place where it stands: the console gained a part of the lines of what was typed, and all of
-        // them where the outcome is Done; then nothing is left of the keys.
+        // For each place where it stands: the console gained a part of the lines of what was typed, and all
+        // of them where the outcome is Done; then nothing is left of the keys.
         ensures shows { (at : Placed timing
             (TimesStand (tellers Y.left Y.taken Y.faults T.given T.faults) self)) →
             (items : List Item) → at.opening.keys ≡ Some items →
@@ -40,10 +37,11 @@ impl<Y: Source, T: Sink> TimeNet<Y, T> {
             (TimesStand (tellers Y.left Y.taken Y.faults T.given T.faults) self)) →
             (items : List Item) → at.opening.keys ≡ Some items → result.outcome ≡ Outcome.Done →
             items_ahead (Y.left result.typewriter.keys.source) result.typewriter.keys.pending ≡ Some [] }
-        ensures all_taken { result.outcome ≡ Outcome.Done → IsAllTaken (Y.left result.typewriter.keys.source) }
+        ensures all_taken { result.outcome ≡ Outcome.Done →
+            IsAllTaken (Y.left result.typewriter.keys.source) }
 
-        // Each task counted the starts that it saw: a first part of those of the script, all of them where the
-        // outcome is Done.
+        // Each task counted the starts that it saw: a first part of those of the script, all of them where
+        // the outcome is Done.
         ensures runs { (at : Placed timing
             (TimesStand (tellers Y.left Y.taken Y.faults T.given T.faults) self)) →
             result.runs ≡ all_runs at.state }

@@ -1,5 +1,5 @@
-//! The real-time scheduler as a network that is stepped: an operator and eight tasks at their time table, each
-//! step as the law of these nine processes has it.
+//! The real-time scheduler as a network that is stepped: an operator and eight tasks at their time table,
+//! each step as the law of these nine processes has it.
 #![tactic(auto)]
 
 mod answering;

@@ -20,12 +20,12 @@ use solo_devices::{PrintFault, Sink, Source, Typewriter};
 /// histories: contracts say which states they stand for.
 #[derive(Drop)]
 pub struct TimeNet<Y: Source, T: Sink> {
-    typewriter: Typewriter<Y, T>,
-    table: TimeTable,
-    operator: Operator,
+    pub typewriter: Typewriter<Y, T>,
+    pub table: TimeTable,
+    pub operator: Operator,
     /// Whether the operator waits in its call.
-    waits: bool,
-    tasks: [TaskProc; MOST_TASKS],
+    pub waits: bool,
+    pub tasks: [TaskProc; MOST_TASKS],
 }
 
 impl<Y: Source, T: Sink> TimeNet<Y, T> {
@@ -51,7 +51,8 @@ impl<Y: Source, T: Sink> TimeNet<Y, T> {
             (TimesStand (tellers Y.left Y.taken Y.faults T.given T.faults) self.old)) →
             MayMove at.state 1 →
             Steps timing (TimesStand (tellers Y.left Y.taken Y.faults T.given T.faults))
-            (TimesMoves (tellers Y.left Y.taken Y.faults T.given T.faults)) self.old self.new at.state 1 result }
+            (TimesMoves (tellers Y.left Y.taken Y.faults T.given T.faults))
+            self.old self.new at.state 1 result }
     {
         match self.operator.next(&self.tasks) {
             Action::Reads => self.read(),
@@ -68,7 +69,8 @@ impl<Y: Source, T: Sink> TimeNet<Y, T> {
             (TimesStand (tellers Y.left Y.taken Y.faults T.given T.faults) self.old)) →
             at.state.stage ≡ Works [] →
             Steps timing (TimesStand (tellers Y.left Y.taken Y.faults T.given T.faults))
-            (TimesMoves (tellers Y.left Y.taken Y.faults T.given T.faults)) self.old self.new at.state 1 result }
+            (TimesMoves (tellers Y.left Y.taken Y.faults T.given T.faults))
+            self.old self.new at.state 1 result }
     {
         let answer = self.typewriter.accept();
         self.operator.read(answer);
@@ -81,7 +83,8 @@ impl<Y: Source, T: Sink> TimeNet<Y, T> {
             (TimesStand (tellers Y.left Y.taken Y.faults T.given T.faults) self.old)) →
             action_at at.state.stage at.state.seen ≡ Prints line.now →
             Steps timing (TimesStand (tellers Y.left Y.taken Y.faults T.given T.faults))
-            (TimesMoves (tellers Y.left Y.taken Y.faults T.given T.faults)) self.old self.new at.state 1 result }
+            (TimesMoves (tellers Y.left Y.taken Y.faults T.given T.faults))
+            self.old self.new at.state 1 result }
     {
         match self.typewriter.display(line) {
             Ok(()) => {
@@ -105,7 +108,8 @@ impl<Y: Source, T: Sink> TimeNet<Y, T> {
             (TimesStand (tellers Y.left Y.taken Y.faults T.given T.faults) self.old)) →
             CallsFor call at.state.stage → MayMove at.state 1 →
             Steps timing (TimesStand (tellers Y.left Y.taken Y.faults T.given T.faults))
-            (TimesMoves (tellers Y.left Y.taken Y.faults T.given T.faults)) self.old self.new at.state 1 result }
+            (TimesMoves (tellers Y.left Y.taken Y.faults T.given T.faults))
+            self.old self.new at.state 1 result }
     {
         match call_table(&mut self.table, self.waits, call) {
             Stepped::Delayed => {
@@ -125,7 +129,8 @@ impl<Y: Source, T: Sink> TimeNet<Y, T> {
             (TimesStand (tellers Y.left Y.taken Y.faults T.given T.faults) self.old)) →
             (place : ℕ) → at.state.stage ≡ Tells place [] →
             Steps timing (TimesStand (tellers Y.left Y.taken Y.faults T.given T.faults))
-            (TimesMoves (tellers Y.left Y.taken Y.faults T.given T.faults)) self.old self.new at.state 1 result }
+            (TimesMoves (tellers Y.left Y.taken Y.faults T.given T.faults))
+            self.old self.new at.state 1 result }
     {
         self.operator.go_on();
         Stepped::Ended
@@ -185,8 +190,8 @@ impl<Y: Source, T: Sink> Network for TimeNet<Y, T> {
 
 impl<Y: Source, T: Sink> Falling for TimeNet<Y, T> {
     ghost falls = { λ old new at event is stands moves.
-        net-falls (tellers Y.left Y.taken Y.faults T.given T.faults) old new at.opening at.state event at.reached
-        is moves.lines };
+        net-falls (tellers Y.left Y.taken Y.faults T.given T.faults) old new at.opening at.state event
+        at.reached is moves.lines };
 
     ghost few = { λ net at. at.stands.within };
 

@@ -1,11 +1,11 @@
-ghost use Rattle.std.specs.Prelude.{◌≡◌, ◌↔◌, ◌<◌, ◌≤◌, ◌+◌, ℕ, List, [], ◌∷◌, None, Some, Option as OptionOf, IsTrue, length, drop};
+ghost use Rattle.std.specs.Prelude.{◌≡◌, ◌⊎◌, ◌↔◌, ◌<◌, ◌≤◌, ◌+◌, ℕ, List, [], ◌∷◌, None, Some, Option as OptionOf, IsTrue, length, drop};
 ghost use Rattle.solo_base.specs.declared.outcome.Cause.{Cause as CauseOf};
-ghost use Rattle.real_time.specs.Typed.{Names, Plans, Stops, Passes};
+ghost use Rattle.real_time.specs.declared.typed_line.Typed.TheVariants.{Names, Plans, Stops, Passes};
 ghost use Rattle.real_time.specs.Starts.{Script, behind_line, behind_seconds, opening};
 ghost use Rattle.real_time.specs.Deeds.{Deed, deeds_of};
-ghost use Rattle.real_time.specs.States.{Stage, Works, Tells, Ended, TimeState, Prints, action_at, after_answer, after_item, behind_display, behind_fault, names_by};
+ghost use Rattle.real_time.specs.States.{Stage, Works, Closes, Tells, Ended, TimeState, Prints, action_at, after_answer, after_item, behind_display, behind_fault, names_by};
 ghost use Rattle.time_net.specs.TaskSteps.{TasksStand};
-ghost use Rattle.time_net.specs.Standing.{AreNamed, ActsAt, IsCall, IsPassing, IsBetweenLines, IsShortLine, IsStarting, TellsRuns, IsWaking, MayFail, OperatorStands, OperatorIsAt, behind_call, behind_this, is_behind, ticks, ticks_from};
+ghost use Rattle.time_net.specs.Standing.{AreNamed, ActsAt, IsCall, IsPassing, IsBetweenLines, IsShortLine, IsStarting, TellsRuns, IsWaking, MayFail, OperatorStands, OperatorIsAt, behind_call, behind_this, doing_failed, ticks, ticks_from};
 
 use crate::{Answer, Call, TaskProc, answer_line};
 use arrayvec::ArrayVec;
@@ -68,7 +68,7 @@ pub enum Doing {
 #[derive(Debug, Drop)]
 pub struct Operator {
     tasks: ArrayVec<Task, MOST_TASKS>,
-    now: u32,
+    clock: u32,
     doing: Doing,
     fault: Option<Cause>,
 }
@@ -80,7 +80,7 @@ impl Operator {
     {
         Operator {
             tasks: ArrayVec::new(),
-            now: 0,
+            clock: 0,
             doing: Doing::Reads,
             fault: None,
         }
@@ -158,10 +158,18 @@ impl Operator {
         match answer {
             CardRead::Card(line) => self.obey_item(&Item::Line(line)),
             CardRead::Spoiled => self.obey_item(&Item::Spoiled),
-            CardRead::End => self.doing = Doing::Closes,
+            CardRead::End => self.reach_end(),
             CardRead::Failed => self.fail(Cause::ReadFault),
             CardRead::Limit => self.fail(Cause::DeckLimit),
         }
+    }
+
+    // Behind the keys it closes the table.
+    fn reach_end(&mut self)
+        ensures { (s : TimeState) → OperatorIsAt self.old s → s.stage ≡ Works [] →
+            OperatorStands self.new Closes s.script s.fault }
+    {
+        self.doing = Doing::Closes;
     }
 
     // It does what a typed line says.
@@ -175,7 +183,7 @@ impl Operator {
 
     fn obey(&mut self, line: &Typed)
         requires short { IsShortLine line.now }
-        ensures { (s : Script) → IsBetweenLines self.old.tasks.items self.old.now s self.old.fault →
+        ensures { (s : Script) → IsBetweenLines self.old.tasks.items self.old.clock s self.old.fault →
             OperatorStands self.new (Works (deeds_of s line.now)) (behind_line s line.now) None }
     {
         match line {
@@ -189,8 +197,9 @@ impl Operator {
     }
 
     fn name_task(&mut self, task: &Ident)
-        ensures { (s : Script) → IsBetweenLines self.old.tasks.items self.old.now s self.old.fault →
-            OperatorStands self.new (Works (deeds_of s (Names task.now))) (behind_line s (Names task.now)) None }
+        ensures { (s : Script) → IsBetweenLines self.old.tasks.items self.old.clock s self.old.fault →
+            OperatorStands self.new (Works (deeds_of s (Names task.now)))
+            (behind_line s (Names task.now)) None }
     {
         let named = name(&mut self.tasks, *task);
         self.doing = Doing::Enters(Answer::Names(named));
@@ -198,17 +207,18 @@ impl Operator {
 
     fn plan_task(&mut self, task: &Ident, time: u32, period: u32)
         requires { period ≤ 1000000 }
-        ensures { (s : Script) → IsBetweenLines self.old.tasks.items self.old.now s self.old.fault →
+        ensures { (s : Script) → IsBetweenLines self.old.tasks.items self.old.clock s self.old.fault →
             OperatorStands self.new (Works (deeds_of s (Plans task.now time period)))
             (behind_line s (Plans task.now time period)) None }
     {
-        let planned = start(self.tasks.as_mut_slice(), task, time, period, self.now);
+        let planned = start(self.tasks.as_mut_slice(), task, time, period, self.clock);
         self.doing = Doing::Enters(Answer::Plans(planned));
     }
 
     fn stop_task(&mut self, task: &Ident)
-        ensures { (s : Script) → IsBetweenLines self.old.tasks.items self.old.now s self.old.fault →
-            OperatorStands self.new (Works (deeds_of s (Stops task.now))) (behind_line s (Stops task.now)) None }
+        ensures { (s : Script) → IsBetweenLines self.old.tasks.items self.old.clock s self.old.fault →
+            OperatorStands self.new (Works (deeds_of s (Stops task.now)))
+            (behind_line s (Stops task.now)) None }
     {
         let stopped = stop(self.tasks.as_mut_slice(), task);
         self.doing = Doing::Enters(Answer::Stops(stopped));
@@ -216,10 +226,11 @@ impl Operator {
 
     // So many seconds pass, where the clock runs so long.
     fn pass_seconds(&mut self, seconds: u32)
-        ensures { (s : Script) → IsBetweenLines self.old.tasks.items self.old.now s self.old.fault →
-            OperatorStands self.new (Works (deeds_of s (Passes seconds))) (behind_line s (Passes seconds)) None }
+        ensures { (s : Script) → IsBetweenLines self.old.tasks.items self.old.clock s self.old.fault →
+            OperatorStands self.new (Works (deeds_of s (Passes seconds)))
+            (behind_line s (Passes seconds)) None }
     {
-        if self.now.saturating_add(seconds) > LAST_SECOND {
+        if self.clock.saturating_add(seconds) > LAST_SECOND {
             self.doing = Doing::Answers(Answer::ClockLimit);
         } else {
             self.advance(seconds);
@@ -228,25 +239,40 @@ impl Operator {
 
     // So many seconds are left to pass.
     fn advance(&mut self, left: u32)
-        ensures { (s : Script) → IsBetweenLines self.old.tasks.items self.old.now s self.old.fault →
-            s.now + left ≤ 1000000 → OperatorStands self.new (Works (ticks left s)) (behind_seconds left s) None }
+        ensures { (s : Script) → IsBetweenLines self.old.tasks.items self.old.clock s self.old.fault →
+            s.now + left ≤ 1000000 →
+            OperatorStands self.new (Works (ticks left s)) (behind_seconds left s) None }
     {
-        if left == 0 || self.tasks.is_empty() || self.now >= LAST_SECOND {
-            self.now = self.now.saturating_add(left);
-            self.doing = Doing::Answers(Answer::Time(self.now));
+        if left == 0 {
+            self.tell_time(left);
+        } else if self.tasks.is_empty() {
+            self.tell_time(left);
         } else {
-            self.wake_at(0, self.now + 1, left - 1);
+            self.wake_at(0, self.clock.saturating_add(1), left - 1);
         }
+    }
+
+    // So many seconds pass without a task, or none is left.
+    fn tell_time(&mut self, left: u32)
+        ensures { (s : Script) → IsBetweenLines self.old.tasks.items self.old.clock s self.old.fault →
+            s.now + left ≤ 1000000 → (left ≡ 0) ⊎ (self.old.tasks.items ≡ []) →
+            OperatorStands self.new (Works (ticks left s)) (behind_seconds left s) None }
+    {
+        let time = self.clock.saturating_add(left);
+        self.clock = time;
+        self.doing = Doing::Answers(Answer::Time(time));
     }
 
     // It wakes the task at a place.
     fn wake_at(&mut self, place: usize, second: u32, left: u32)
-        requires inside { place < length self.old.tasks.items }
-        requires second { second ≤ 1000000 }
+        requires { place < length self.old.tasks.items }
         ensures { (s : Script) → IsPassing self.old.tasks.items s place second left →
             self.old.fault ≡ None →
             OperatorStands self.new (Works (ticks_from s place left)) (behind_this left s) None }
     {
+        if second > LAST_SECOND {
+            return;
+        }
         let due = pass(self.tasks.as_mut_slice(), place, second);
         self.doing = Doing::Wakes {
             place,
@@ -263,10 +289,10 @@ impl Operator {
             OperatorStands self.new (Works (ticks_from s (place + 1) left)) (behind_this left s) None }
     {
         let next = place.saturating_add(1);
-        if next < self.tasks.len() && second <= LAST_SECOND {
+        if next < self.tasks.len() {
             self.wake_at(next, second, left);
         } else {
-            self.now = second;
+            self.clock = second;
             self.advance(left);
         }
     }
@@ -289,25 +315,24 @@ impl Operator {
         }
     }
 
-    /// Its line wasn't displayed, or none could be read. Behind the keys it ends, and else it closes the table.
+    /// Its line wasn't displayed, or none could be read. Behind the keys it ends, and else it closes the
+    /// table.
     pub fn fail(&mut self, cause: Cause)
         ensures { (s : TimeState) → OperatorIsAt self.old s → MayFail s.stage →
             OperatorStands self.new (behind_fault s.stage) s.script (Some cause) }
     {
+        self.doing = self.behind_fault();
         self.fault = Some(cause);
-        if self.is_telling() {
-            self.doing = Doing::Ends;
-        } else {
-            self.doing = Doing::Closes;
-        }
     }
 
-    // Whether it tells the runs of a task.
-    fn is_telling(&self) -> bool
-        ensures { (stage : Stage) (script : Script) (fault : OptionOf CauseOf) →
-            OperatorStands self.now stage script fault → MayFail stage → result ≡ is_behind stage }
+    // What it does behind a fault.
+    fn behind_fault(&self) -> Doing
+        ensures { result ≡ doing_failed self.now.doing }
     {
-        matches!(self.doing, Doing::Tells { .. })
+        match self.doing {
+            Doing::Tells { .. } => Doing::Ends,
+            _ => Doing::Closes,
+        }
     }
 
     /// Its call of the table is done, or its end.
@@ -353,7 +378,9 @@ impl Operator {
             OperatorStands self.new (Tells place (names_by self.old.fault (drop place script.tasks))) script
             self.old.fault }
     {
-        if self.fault.is_none() && place < self.tasks.len() {
+        if self.fault.is_some() {
+            self.doing = Doing::Ends;
+        } else if place < self.tasks.len() {
             self.doing = Doing::Tells { place };
         } else {
             self.doing = Doing::Ends;

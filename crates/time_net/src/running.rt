@@ -7,7 +7,7 @@ ghost use Rattle.network_run.specs.OneRun.{AreItsCounts};
 ghost use Rattle.real_time.specs.Starts.{times};
 ghost use Rattle.real_time.specs.States.{opened};
 ghost use Rattle.real_time.specs.TimesLaw.{timing};
-ghost use Rattle.time_net.specs.TimeStands.{IsCounted, IsFaultOfTimes, tellers};
+ghost use Rattle.time_net.specs.TimeStands.{IsCounted, IsFaultOfTimes, outcome_with, tellers};
 ghost use Rattle.time_net.specs.TimesRuns.{TimesRun, fault_told};
 
 use crate::{TimeNet, TimeRan};
@@ -35,9 +35,11 @@ pub fn run_times<Y: Source, T: Sink>(source: Y, sink: T, rule: Rule) -> (TimeRan
     ensures shows { (items : List Item) → items_ahead (Y.left source) [] ≡ Some items →
         Gains (T.given sink) (T.given result.0.typewriter.console.sink) (text (times items))
         (result.0.outcome ≡ Outcome.Done) }
-    ensures all_taken { result.0.outcome ≡ Outcome.Done → IsAllTaken (Y.left result.0.typewriter.keys.source) }
+    ensures all_taken { result.0.outcome ≡ Outcome.Done →
+        IsAllTaken (Y.left result.0.typewriter.keys.source) }
 
-    // Where a fault comes from.
+    // The operator is never stopped. Where a fault comes from.
+    ensures ends { result.0.outcome ≡ outcome_with (fault_told result.0.outcome) }
     ensures counted { IsCounted (tellers Y.left Y.taken Y.faults T.given T.faults) source sink
         (fault_told result.0.outcome) result.0.typewriter }
     ensures known { IsFaultOfTimes (fault_told result.0.outcome) }

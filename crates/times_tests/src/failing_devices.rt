@@ -1,5 +1,5 @@
 // Keys and a console whose calls fail in turn: the console has the beginning of what it would have.
-use crate::running::came;
+use crate::running::run;
 use solo_base::{Cause, Outcome};
 use std::alloc::Global;
 
@@ -15,7 +15,7 @@ const CONSOLE_CALLS: u64 = 8;
 
 // Whether the run with this call of the keys failing ends with a read fault, and has shown a beginning.
 fn key_fails(alloc: Global, call: u64, schedule: u32) -> bool {
-    match came(alloc, SCRIPT, schedule, call, 0) {
+    match run(alloc, SCRIPT, schedule, call, 0) {
         Some(came) => {
             came.outcome == Outcome::Fault(Cause::ReadFault)
                 && came.keys_failed
@@ -36,7 +36,7 @@ fn each_call_of_the_keys_fails_in_turn(rt: HostRuntime) {
 
 // Whether the run with these calls failing, which it doesn't make, is done.
 fn is_done(alloc: Global, key_call: u64, console_call: u64) -> bool {
-    match came(alloc, SCRIPT, 3, key_call, console_call) {
+    match run(alloc, SCRIPT, 3, key_call, console_call) {
         Some(came) => came.outcome == Outcome::Done && came.console.as_slice() == SHOWN,
         None => false,
     }
@@ -45,7 +45,7 @@ fn is_done(alloc: Global, key_call: u64, console_call: u64) -> bool {
 // Whether the run with this call of the console failing ends with a console fault, the lines in front of it
 // shown and no other.
 fn line_fails(alloc: Global, call: u64, schedule: u32) -> bool {
-    match came(alloc, SCRIPT, schedule, 0, call) {
+    match run(alloc, SCRIPT, schedule, 0, call) {
         Some(came) => {
             came.outcome == Outcome::Fault(Cause::ConsoleFault)
                 && came.console_failed

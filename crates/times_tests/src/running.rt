@@ -16,9 +16,9 @@ pub struct Came {
     pub console_failed: bool,
 }
 
-/// The script under the schedule of a number, its bytes in pieces of 7, where the calls of the keys and of the
-/// console with these numbers fail; no call has the number 0. None: memory was refused.
-pub fn came(
+/// The script under the schedule of a number, its bytes in pieces of 7, where the calls of the keys and of
+/// the console with these numbers fail; no call has the number 0. None: memory was refused.
+pub fn run(
     alloc: Global,
     script: &[u8],
     schedule: u32,
@@ -64,7 +64,7 @@ pub fn shows(alloc: Global, script: &[u8], console: &[u8]) -> bool {
 }
 
 fn shows_under(alloc: Global, script: &[u8], console: &[u8], schedule: u32) -> bool {
-    match came(alloc, script, schedule, 0, 0) {
+    match run(alloc, script, schedule, 0, 0) {
         Some(came) => came.outcome == Outcome::Done && came.console.as_slice() == console,
         None => false,
     }
@@ -77,7 +77,7 @@ pub fn counts(alloc: Global, script: &[u8], schedule: u32, events: u64, delays: 
         delays,
         grants: 0,
     };
-    match came(alloc, script, schedule, 0, 0) {
+    match run(alloc, script, schedule, 0, 0) {
         Some(came) => came.counts == expected,
         None => false,
     }

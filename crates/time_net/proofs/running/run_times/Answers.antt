@@ -2,9 +2,10 @@ use Rattle.std.proofs.Common.{None, ◌∙◌, ap, refl, sym, subst}
 use Rattle.solo_devices.specs.Typewriter.{Typing}
 use Rattle.network_run.proofs.Along.{place-behind}
 use Rattle.real_time.specs.TimesLaw.{timing}
-use Rattle.time_net.specs.TimeStands.{IsCounted, IsFaultOfTimes, times_place}
-use Rattle.time_net.proofs.Ending.{well-done}
-use Rattle.time_net.proofs.WholeRuns.{counted-first, known-first, none-granted, the-counts, the-fault, to-end}
+use Rattle.time_net.specs.TimeStands.{IsCounted, IsFaultOfTimes, tellers, times_place}
+use Rattle.time_net.specs.TimesRuns.{fault_told}
+use Rattle.time_net.proofs.Finishing.{well-done}
+use Rattle.time_net.proofs.WholeRuns.{counted-first, known-first, none-granted, outcome-told, the-counts, the-fault, to-end}
 use Rattle.time_net.proofs.running.run_times.Goals as goal
 
 pub run_by-counts-requires : goal.run_by-counts-requires
@@ -15,16 +16,18 @@ finish-requires g c = (let run = c.run_by-counts.ensures in record { ended = rec
 
 pub returns-clause-runs : goal.returns-clause-runs
 returns-clause-runs g c =
+    let tells = tellers g.Y.Source.left g.Y.Source.taken g.Y.Source.faults g.T.Sink.given g.T.Sink.faults in
     let at = times_place c.make-net.ensures in
     let ran = c.run_by-counts.ensures.runs at in
-    to-end _ c.make-net.result c.run_by-counts.new.self c.args.rule at c.run_by-counts.result ran
+    to-end tells c.make-net.result c.run_by-counts.new.self c.args.rule at c.run_by-counts.result ran
     (c.run_by-counts.ensures.ended (place-behind timing _ _ at ran.events ran.enabled ran.stands)) c.finish.result.typewriter c.finish.ensures.typewriter
 
 pub returns-clause-counts : goal.returns-clause-counts
-returns-clause-counts g c = λ items told done.
+returns-clause-counts g c =
+    let tells = tellers g.Y.Source.left g.Y.Source.taken g.Y.Source.faults g.T.Sink.given g.T.Sink.faults in λ items told done.
     let at = times_place c.make-net.ensures in
     let ran = c.run_by-counts.ensures.runs at in
-    the-counts _ c.make-net.result c.run_by-counts.new.self c.args.rule at c.run_by-counts.result ran
+    the-counts tells c.make-net.result c.run_by-counts.new.self c.args.rule at c.run_by-counts.result ran
     (c.run_by-counts.ensures.ended (place-behind timing _ _ at ran.events ran.enabled ran.stands)) items told
     (well-done c.run_by-counts.new.self.operator.fault (sym c.finish.ensures.outcome ∙ done))
 
@@ -41,11 +44,18 @@ returns-clause-shows g c = λ items told.
 
 pub returns-clause-counted : goal.returns-clause-counted
 returns-clause-counted g c =
-    subst (λ (t : Typing _ _). IsCounted _ c.args.source c.args.sink _ t) (sym c.finish.ensures.typewriter)
-    (subst (λ f. IsCounted _ c.args.source c.args.sink f c.run_by-counts.new.self.typewriter) (the-fault _ _ c.finish.ensures.outcome)
-    (c.run_by-counts.ensures.keeps.counted c.args.source c.args.sink (counted-first _ c.make-net.result c.args.source c.args.sink c.make-net.ensures c.requires)))
+    let tells = tellers g.Y.Source.left g.Y.Source.taken g.Y.Source.faults g.T.Sink.given g.T.Sink.faults in
+    subst (λ (t : Typing _ _). IsCounted tells c.args.source c.args.sink (fault_told c.finish.result.outcome) t) (sym c.finish.ensures.typewriter)
+    (subst (λ f. IsCounted tells c.args.source c.args.sink f c.run_by-counts.new.self.typewriter) (the-fault c.finish.result.outcome
+        c.run_by-counts.new.self.operator.fault c.finish.ensures.outcome)
+    (c.run_by-counts.ensures.keeps.counted c.args.source c.args.sink (counted-first tells c.make-net.result c.args.source c.args.sink c.make-net.ensures
+        c.requires)))
 
 pub returns-clause-known : goal.returns-clause-known
 returns-clause-known g c =
-    subst IsFaultOfTimes (the-fault _ _ c.finish.ensures.outcome)
-    (c.run_by-counts.ensures.keeps.known (known-first _ c.make-net.result c.args.source c.args.sink c.make-net.ensures))
+    let tells = tellers g.Y.Source.left g.Y.Source.taken g.Y.Source.faults g.T.Sink.given g.T.Sink.faults in
+    subst IsFaultOfTimes (the-fault c.finish.result.outcome c.run_by-counts.new.self.operator.fault c.finish.ensures.outcome)
+    (c.run_by-counts.ensures.keeps.known (known-first tells c.make-net.result c.args.source c.args.sink c.make-net.ensures))
+
+pub returns-clause-ends : goal.returns-clause-ends
+returns-clause-ends g c = outcome-told c.finish.result.outcome c.run_by-counts.new.self.operator.fault c.finish.ensures.outcome

@@ -16,7 +16,8 @@ pub display-requires : goal.display-requires
 display-requires g c =
     let at = c.requires.may.at in
     let asks = subst (λ a. ActsAt a at.state.stage at.state.seen) c.in-Displays.is (c.next.ensures at.state at.stands.is.operator at.stands.is.tasks) in
-    record { live = at.stands.is.console_live (prints-well _ _ _ at.state.stage at.state.script at.state.fault at.state.seen _ at.stands.is.operator.does asks) }
+    record { live = at.stands.is.console_live (prints-well _ _ _ at.state.stage at.state.script at.state.fault at.state.seen _ at.stands.is.operator.does
+        asks) }
 
 pub call-requires : goal.call-requires
 call-requires g c =
@@ -30,7 +31,8 @@ returns-in-Reads g c = λ at may.
 
 pub returns-in-Displays : goal.returns-in-Displays
 returns-in-Displays g c = λ at may.
-    c.display.ensures at (subst (λ a. ActsAt a at.state.stage at.state.seen) c.in-Displays.is (c.next.ensures at.state at.stands.is.operator at.stands.is.tasks))
+    c.display.ensures at (subst (λ a. ActsAt a at.state.stage at.state.seen) c.in-Displays.is (c.next.ensures at.state at.stands.is.operator
+        at.stands.is.tasks))
 
 pub returns-in-Calls : goal.returns-in-Calls
 returns-in-Calls g c = λ at may.

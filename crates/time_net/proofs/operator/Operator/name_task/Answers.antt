@@ -5,7 +5,7 @@ use Rattle.time_net.proofs.operator.Operator.name_task.Goals as goal
 
 pub returns : goal.returns
 returns c = λ s ready. record {
-  does = entered-name s c.args.task.now (answer.Names c.name-named.result) c.args.self.now.tasks.items c.name-named.new.tasks.items c.args.self.now.now
-      c.args.self.now.fault ready (c.name-named.ensures s ready.rows);
+  does = entered-name s c.args.task.now (answer.Names c.name-named.result) c.args.self.now.tasks.items c.name-named.new.tasks.items c.args.self.now.clock
+      c.args.self.now.fault ready (c.name-named.ensures s ready.stand);
   fault_is = ready.well;
 }

@@ -2,6 +2,7 @@ use Rattle.std.proofs.Common.{None, sym, subst}
 use Rattle.real_time.specs.Deeds.{deeds_of}
 use Rattle.real_time.specs.Starts.{behind_line}
 use Rattle.real_time.specs.States.{Works}
+use Rattle.real_time.specs.Typed.{typed}
 use Rattle.time_net.specs.Standing.{IsShortLine, OperatorStands}
 use Rattle.time_net.proofs.Operating.{is-ready}
 use Rattle.time_net.proofs.Typing.{typed-short}
@@ -13,6 +14,7 @@ obey-requires c = record { short = subst IsShortLine (sym c.line_says-line.ensur
 pub returns : goal.returns
 returns c = λ s st at.
     let (ready, well) = is-ready c.args.self.now s.stage s.script s.fault st at in
-    subst (λ fault. OperatorStands c.obey.new.self _ _ fault) (sym well)
+    subst (λ fault. OperatorStands c.obey.new.self (Works (deeds_of s.script (typed c.args.item.now))) (behind_line s.script
+        (typed c.args.item.now)) fault) (sym well)
     (subst (λ line. OperatorStands c.obey.new.self (Works (deeds_of s.script line)) (behind_line s.script line) None) c.line_says-line.ensures
     (c.obey.ensures s.script ready))

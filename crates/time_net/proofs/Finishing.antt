@@ -23,6 +23,21 @@ use Rattle.time_net.specs.Standing.{Does, name_at, ticks_from}
 use Rattle.time_net.specs.TaskSteps.{TasksStand}
 use Rattle.time_net.specs.TimeStands.{NineHaveEnded, IsReadOut, TimesStand, Tellers, all_runs, outcome_with}
 
+-- ---- a list of eight
+pub eight-of : {A : Type 0} (f : A → ℕ) (d : A) (list : List A) → length list ≡ 8
+    → f (get_or list 0 d) ∷ f (get_or list 1 d) ∷ f (get_or list 2 d) ∷ f (get_or list 3 d) ∷ f (get_or list 4 d) ∷ f (get_or list 5 d)
+    ∷ f (get_or list 6 d) ∷ f (get_or list 7 d) ∷ [] ≡ map f list
+eight-of f d [] long = absurd (omega (arith, long))
+eight-of f d (a ∷ []) long = absurd (omega (arith, long))
+eight-of f d (a ∷ b ∷ []) long = absurd (omega (arith, long))
+eight-of f d (a ∷ b ∷ c ∷ []) long = absurd (omega (arith, long))
+eight-of f d (a ∷ b ∷ c ∷ e ∷ []) long = absurd (omega (arith, long))
+eight-of f d (a ∷ b ∷ c ∷ e ∷ g ∷ []) long = absurd (omega (arith, long))
+eight-of f d (a ∷ b ∷ c ∷ e ∷ g ∷ h ∷ []) long = absurd (omega (arith, long))
+eight-of f d (a ∷ b ∷ c ∷ e ∷ g ∷ h ∷ i ∷ []) long = absurd (omega (arith, long))
+eight-of f d (a ∷ b ∷ c ∷ e ∷ g ∷ h ∷ i ∷ j ∷ []) long = refl
+eight-of f d (a ∷ b ∷ c ∷ e ∷ g ∷ h ∷ i ∷ j ∷ k ∷ more) long = absurd (omega (arith, long))
+
 -- ---- where it has ended at one place it has at each
 doing-ended : (d : Doing) (rows : List Row) (now : ℕ) (stage : Stage) (script : Script) (fault : Option Cause) → Does d rows now stage script fault
     → stage ≡ Ended → d ≡ doing.Ended
@@ -50,13 +65,13 @@ module _ {Y T : Type 0} (tells : Tellers Y T) (net : TimeNet Y T) (have : NineHa
   has-ended : net.operator.doing ≡ doing.Ended
   has-ended =
       let s = have.at.state in
-      doing-ended net.operator.doing net.operator.tasks.items net.operator.now s.stage s.script s.fault have.at.stands.is.operator.does
+      doing-ended net.operator.doing net.operator.tasks.items net.operator.clock s.stage s.script s.fault have.at.stands.is.operator.does
       (have.ended 1 (omega arith, omega arith))
 
   module _ (at : Placed timing (TimesStand tells net)) where
     pub ended-stage : at.state.stage ≡ Ended
     ended-stage =
-        subst (λ d. Does d net.operator.tasks.items net.operator.now at.state.stage at.state.script at.state.fault) has-ended at.stands.is.operator.does
+        subst (λ d. Does d net.operator.tasks.items net.operator.clock at.state.stage at.state.script at.state.fault) has-ended at.stands.is.operator.does
 
     pub well : outcome_with net.operator.fault ≡ outcome.Done → at.state.fault ≡ None
     well done = sym at.stands.is.operator.fault_is ∙ well-done net.operator.fault done
@@ -87,7 +102,8 @@ module _ {Y T : Type 0} (tells : Tellers Y T) (net : TimeNet Y T) (have : NineHa
         let st = at.stands.is.tasks in
         ap (map (λ task. task.runs)) are
         ∙ by net.tasks at.state.seen (st.eight ∙ sym h.lists.0) (λ place d e below.
-            (let eight = st.eight in (st.each place d (omega (arith, below, eight))).runs_are ∙ ap length (default at.state.seen place e (below-seen place below))))
+            (let eight = st.eight in (st.each place d (omega (arith, below, eight))).runs_are ∙ ap length (default at.state.seen place e
+                (below-seen place below))))
       where
         below-seen : (place : ℕ) → place < length net.tasks → place < length at.state.seen
         below-seen place below =
