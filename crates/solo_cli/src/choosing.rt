@@ -53,7 +53,7 @@ pub fn run_command<
     input: I,
     output: O,
 ) -> Used<S, K, F, I, O>
-    requires words { UsesKeys (form (map (λ word. string_bytes word) words.now)) → ⊥ }
+    requires command { UsesKeys (form (map (λ word. string_bytes word) words.now)) → ⊥ }
     requires deck { S.taken deck ≡ 0 }
     requires files { F.size files ≡ 4288 }
     requires input { (0 < I.size input) × (I.size input ≤ 256) }
