@@ -23,3 +23,4 @@ mod Reading
 mod ReadingItems
 mod Checks
 mod Scripts
+mod Keyed
