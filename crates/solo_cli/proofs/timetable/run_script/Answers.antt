@@ -20,10 +20,12 @@ returns-in-None-clause-output g c = λ bytes told.
     let keys = ap (λ left. items_ahead left []) told in
     let rule = Numbered c.args.schedule in
     let console = g.T.Sink.given c.args.console in
+    let left = items_ahead (g.Y.Source.left ran.typewriter.keys.source) ran.typewriter.keys.pending in
+    let shown = g.T.Sink.given ran.typewriter.console.sink in
     let done = done-of ran.outcome e.ends (sym c.fault_told.ensures ∙ c.in-None.is) in
     with-counts rule (cards bytes) console (g.T.Sink.given c.into_inner-keys.result.1) (g.T.Sink.given c.show_counts-cause.result.1)
-    c.run_times-ran.result.1 _ _ ran.outcome c.show_counts-cause.result.0
-    (subst (λ ahead. TimesRun rule (opened record { keys = ahead; console = console }) c.run_times-ran.result.1 _ _) keys e.runs) e.grants
+    c.run_times-ran.result.1 left shown ran.outcome c.show_counts-cause.result.0
+    (subst (λ ahead. TimesRun rule (opened record { keys = ahead; console = console }) c.run_times-ran.result.1 left shown) keys e.runs) e.grants
     (λ done. subst (λ ahead. AreItsCounts timing rule (opened record { keys = ahead; console = console }) c.run_times-ran.result.1) keys
     (e.counts (cards bytes) keys done)) done
     (gains-same _ _ _ _ _ _ _ _ refl (ap g.T.Sink.given (sym c.into_inner-keys.ensures.console)) refl (λ done. done) (e.shows (cards bytes) keys))
@@ -36,9 +38,11 @@ returns-in-Some-clause-output g c = λ bytes told.
     let keys = ap (λ left. items_ahead left []) told in
     let rule = Numbered c.args.schedule in
     let console = g.T.Sink.given c.args.console in
+    let left = items_ahead (g.Y.Source.left ran.typewriter.keys.source) ran.typewriter.keys.pending in
+    let shown = g.T.Sink.given ran.typewriter.console.sink in
     without-counts rule (cards bytes) console console (g.T.Sink.given c.into_inner-keys.result.1)
-    c.run_times-ran.result.1 _ _ ran.outcome (Some c.in-Some.cause)
-    (subst (λ ahead. TimesRun rule (opened record { keys = ahead; console = console }) c.run_times-ran.result.1 _ _) keys e.runs) e.grants
+    c.run_times-ran.result.1 left shown ran.outcome (Some c.in-Some.cause)
+    (subst (λ ahead. TimesRun rule (opened record { keys = ahead; console = console }) c.run_times-ran.result.1 left shown) keys e.runs) e.grants
     (λ done. subst (λ ahead. AreItsCounts timing rule (opened record { keys = ahead; console = console }) c.run_times-ran.result.1) keys
     (e.counts (cards bytes) keys done)) (λ none. absurd cc) (λ none. cc)
     (gains-same _ _ _ _ _ _ _ _ refl (ap g.T.Sink.given (sym c.into_inner-keys.ensures.console)) refl (λ done. done) (e.shows (cards bytes) keys))
