@@ -152,8 +152,8 @@ fn no_bytes(rt: &impl AllocGlobal) -> SureSource
     SureSource::new(Vec::new(rt.alloc()), 1)
 }
 
-/// Runs the command of the words over these devices and the drive at this path. The paper and the console come
-/// back.
+/// Runs the command of the words over these devices and the drive at this path. The paper and the console
+/// come back.
 fn over_drive<
     R: Files<File = File> + AllocGlobal + Threads + Wait + Sync,
     S: Source + Send + Drop,

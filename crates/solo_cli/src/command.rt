@@ -57,8 +57,8 @@ pub struct Finished<S, Y, K, T, F, I, O> {
 /// counted. `make` makes the deck of a number, runs it in memory under the schedule of this number, and
 /// prints the numbers of both. `format` makes the area of the files one without a file, and `migrate` makes
 /// one of format 1 one of format 2 with the same files. `check` judges the deck as a description of access
-/// rights, and prints the line of its judgement. `times` runs what is typed at the keys, under the schedule of
-/// a number, and displays its lines on the console. Where the words are no command, nothing is done.
+/// rights, and prints the line of its judgement. `times` runs what is typed at the keys, under the schedule
+/// of a number, and displays its lines on the console. Where the words are no command, nothing is done.
 pub fn top<
     S: Source + Drop + Send,
     Y: Source,

@@ -12,12 +12,12 @@ use Rattle.core_net.specs.Openings.{spools_over}
 use Rattle.deck_work.specs.DeckJobs.{files_found}
 use Rattle.solo_cli.specs.declared.words.Command.TheVariants.{Batch, Check, Core, Format, Make, Migrate, Times}
 use Rattle.solo_cli.specs.TimesConsole.{GainsTimes}
-use Rattle.solo_cli.specs.Uses.{MountsFiles, ReadsDeck, UsesFilesAlone, UsesKeys, times_number}
+use Rattle.solo_cli.specs.Uses.{MountsFiles, ReadsDeck, UsesFilesAlone, UsesKeys}
 use Rattle.solo_cli.specs.Words.{form}
 use Rattle.solo_cli.specs.Status.{status_of}
 use Rattle.solo_cli.specs.Refusals.{MayBeRefused}
 use Rattle.solo_cli.proofs.Complete.{emptied, ends_well, known_status, not_eight, taken_of}
-use Rattle.solo_cli.proofs.Keyed.{keys-end, keys-status, never-times, times-is}
+use Rattle.solo_cli.proofs.Keyed.{keys-end, keys-status, is-times, no-times}
 use Rattle.solo_cli.proofs.Gaining.{gains_where, counted_where, numbers_where}
 use Rattle.solo_cli.proofs.Migrations.{unless_fault, usable}
 use Rattle.solo_cli.proofs.Mounts.{no_solo}
@@ -87,7 +87,7 @@ pub returns-clause-complete : goal.returns-clause-complete
 returns-clause-complete g c = λ input_told output_told within keys_within keys_stayed can deck paper files input output words.
     let e = c.run_command-cause.ensures in
     let asked = form (map (λ word. string_bytes word) c.args.words.now) in
-    let never = (never-times (form (map (λ word. string_bytes word) c.args.words.now)) (ap times_number (sym c.command_of.ensures) ∙ sym c.schedule_of.ensures ∙ c.in_default.is)) in
+    let never = (no-times c.command_of.ensures c.schedule_of.ensures c.in_default.is) in
     subst (λ status. (status ≡ 0) ⊎ ((status ≡ 9) ⊎ ((status ≡ 10) × (asked ≡ Some Migrate)))) (sym c.status_of.ensures)
     (ends_well asked c.run_command-cause.result.cause never e.refusals (λ is. words (e.usage.0 is))
     (λ is. (let rose = e.caused.read is in omega (arith, rose, deck)))
@@ -137,39 +137,39 @@ returns-clause-known g c =
 
 pub returns-in-Some-clause-output : goal.returns-in-Some-clause-output
 returns-in-Some-clause-output g c = λ bytes found told files input_told output_told is.
-    absurd (let no : Some (Times c.in-Some.schedule) ≡ Some Batch = sym (times-is (form (map (λ word. string_bytes word) c.args.words.now)) c.in-Some.schedule (ap times_number (sym c.command_of.ensures) ∙ sym c.schedule_of.ensures ∙ c.in-Some.is)) ∙ is in cc)
+    absurd (let no : Some (Times c.in-Some.schedule) ≡ Some Batch = sym (is-times c.command_of.ensures c.schedule_of.ensures c.in-Some.is) ∙ is in cc)
 
 pub returns-in-Some-clause-core_output : goal.returns-in-Some-clause-core_output
 returns-in-Some-clause-core_output g c = λ bytes found told files input_told output_told schedule is.
-    absurd (let no : Some (Times c.in-Some.schedule) ≡ Some (Core schedule) = sym (times-is (form (map (λ word. string_bytes word) c.args.words.now)) c.in-Some.schedule (ap times_number (sym c.command_of.ensures) ∙ sym c.schedule_of.ensures ∙ c.in-Some.is)) ∙ is in cc)
+    absurd (let no : Some (Times c.in-Some.schedule) ≡ Some (Core schedule) = sym (is-times c.command_of.ensures c.schedule_of.ensures c.in-Some.is) ∙ is in cc)
 
 pub returns-in-Some-clause-emptied : goal.returns-in-Some-clause-emptied
 returns-in-Some-clause-emptied g c = λ reads bytes told zero.
-    absurd (subst ReadsDeck (times-is (form (map (λ word. string_bytes word) c.args.words.now)) c.in-Some.schedule (ap times_number (sym c.command_of.ensures) ∙ sym c.schedule_of.ensures ∙ c.in-Some.is)) reads)
+    absurd (subst ReadsDeck (is-times c.command_of.ensures c.schedule_of.ensures c.in-Some.is) reads)
 
 pub returns-in-Some-clause-make_output : goal.returns-in-Some-clause-make_output
 returns-in-Some-clause-make_output g c = λ number is input_told output_told.
-    absurd (let no : Some (Times c.in-Some.schedule) ≡ Some (Make number) = sym (times-is (form (map (λ word. string_bytes word) c.args.words.now)) c.in-Some.schedule (ap times_number (sym c.command_of.ensures) ∙ sym c.schedule_of.ensures ∙ c.in-Some.is)) ∙ is in cc)
+    absurd (let no : Some (Times c.in-Some.schedule) ≡ Some (Make number) = sym (is-times c.command_of.ensures c.schedule_of.ensures c.in-Some.is) ∙ is in cc)
 
 pub returns-in-Some-clause-make_unread : goal.returns-in-Some-clause-make_unread
 returns-in-Some-clause-make_unread g c = λ number is.
-    absurd (let no : Some (Times c.in-Some.schedule) ≡ Some (Make number) = sym (times-is (form (map (λ word. string_bytes word) c.args.words.now)) c.in-Some.schedule (ap times_number (sym c.command_of.ensures) ∙ sym c.schedule_of.ensures ∙ c.in-Some.is)) ∙ is in cc)
+    absurd (let no : Some (Times c.in-Some.schedule) ≡ Some (Make number) = sym (is-times c.command_of.ensures c.schedule_of.ensures c.in-Some.is) ∙ is in cc)
 
 pub returns-in-Some-clause-make_unprinted : goal.returns-in-Some-clause-make_unprinted
 returns-in-Some-clause-make_unprinted g c = λ number is why.
-    absurd (let no : Some (Times c.in-Some.schedule) ≡ Some (Make number) = sym (times-is (form (map (λ word. string_bytes word) c.args.words.now)) c.in-Some.schedule (ap times_number (sym c.command_of.ensures) ∙ sym c.schedule_of.ensures ∙ c.in-Some.is)) ∙ is in cc)
+    absurd (let no : Some (Times c.in-Some.schedule) ≡ Some (Make number) = sym (is-times c.command_of.ensures c.schedule_of.ensures c.in-Some.is) ∙ is in cc)
 
 pub returns-in-Some-clause-check_output : goal.returns-in-Some-clause-check_output
 returns-in-Some-clause-check_output g c = λ bytes told is.
-    absurd (let no : Some (Times c.in-Some.schedule) ≡ Some Check = sym (times-is (form (map (λ word. string_bytes word) c.args.words.now)) c.in-Some.schedule (ap times_number (sym c.command_of.ensures) ∙ sym c.schedule_of.ensures ∙ c.in-Some.is)) ∙ is in cc)
+    absurd (let no : Some (Times c.in-Some.schedule) ≡ Some Check = sym (is-times c.command_of.ensures c.schedule_of.ensures c.in-Some.is) ∙ is in cc)
 
 pub returns-in-Some-clause-no_area : goal.returns-in-Some-clause-no_area
 returns-in-Some-clause-no_area g c = λ is.
-    absurd (let no : Some (Times c.in-Some.schedule) ≡ Some Check = sym (times-is (form (map (λ word. string_bytes word) c.args.words.now)) c.in-Some.schedule (ap times_number (sym c.command_of.ensures) ∙ sym c.schedule_of.ensures ∙ c.in-Some.is)) ∙ is in cc)
+    absurd (let no : Some (Times c.in-Some.schedule) ≡ Some Check = sym (is-times c.command_of.ensures c.schedule_of.ensures c.in-Some.is) ∙ is in cc)
 
 pub returns-in-Some-clause-times_output : goal.returns-in-Some-clause-times_output
 returns-in-Some-clause-times_output g c = λ schedule is bytes told.
-    let both : Some (Times c.in-Some.schedule) ≡ Some (Times schedule) = sym (times-is (form (map (λ word. string_bytes word) c.args.words.now)) c.in-Some.schedule (ap times_number (sym c.command_of.ensures) ∙ sym c.schedule_of.ensures ∙ c.in-Some.is)) ∙ is in
+    let both : Some (Times c.in-Some.schedule) ≡ Some (Times schedule) = sym (is-times c.command_of.ensures c.schedule_of.ensures c.in-Some.is) ∙ is in
     let same : c.in-Some.schedule ≡ schedule = cc in
     subst (λ n. GainsTimes (Numbered n) (cards bytes) (g.T.Sink.given c.args.console) (g.T.Sink.given c.run_keys.result.console)
     (c.run_keys.result.status ≡ 0)) same (c.run_keys.ensures.output bytes told)
@@ -181,41 +181,42 @@ returns-in-Some-clause-keys_emptied g c = λ uses bytes told zero.
 
 pub returns-in-Some-clause-formatted : goal.returns-in-Some-clause-formatted
 returns-in-Some-clause-formatted g c = λ is pages told zero.
-    absurd (let no : Some (Times c.in-Some.schedule) ≡ Some Format = sym (times-is (form (map (λ word. string_bytes word) c.args.words.now)) c.in-Some.schedule (ap times_number (sym c.command_of.ensures) ∙ sym c.schedule_of.ensures ∙ c.in-Some.is)) ∙ is in cc)
+    absurd (let no : Some (Times c.in-Some.schedule) ≡ Some Format = sym (is-times c.command_of.ensures c.schedule_of.ensures c.in-Some.is) ∙ is in cc)
 
 pub returns-in-Some-clause-file_pages : goal.returns-in-Some-clause-file_pages
 returns-in-Some-clause-file_pages g c = λ is.
-    absurd (let no : Some (Times c.in-Some.schedule) ≡ Some Format = sym (times-is (form (map (λ word. string_bytes word) c.args.words.now)) c.in-Some.schedule (ap times_number (sym c.command_of.ensures) ∙ sym c.schedule_of.ensures ∙ c.in-Some.is)) ∙ is in cc)
+    absurd (let no : Some (Times c.in-Some.schedule) ≡ Some Format = sym (is-times c.command_of.ensures c.schedule_of.ensures c.in-Some.is) ∙ is in cc)
 
 pub returns-in-Some-clause-migrated : goal.returns-in-Some-clause-migrated
 returns-in-Some-clause-migrated g c = λ is pages told.
-    absurd (let no : Some (Times c.in-Some.schedule) ≡ Some Migrate = sym (times-is (form (map (λ word. string_bytes word) c.args.words.now)) c.in-Some.schedule (ap times_number (sym c.command_of.ensures) ∙ sym c.schedule_of.ensures ∙ c.in-Some.is)) ∙ is in cc)
+    absurd (let no : Some (Times c.in-Some.schedule) ≡ Some Migrate = sym (is-times c.command_of.ensures c.schedule_of.ensures c.in-Some.is) ∙ is in cc)
 
 pub returns-in-Some-clause-unmigrated : goal.returns-in-Some-clause-unmigrated
 returns-in-Some-clause-unmigrated g c = λ is done disk.
-    absurd (let no : Some (Times c.in-Some.schedule) ≡ Some Migrate = sym (times-is (form (map (λ word. string_bytes word) c.args.words.now)) c.in-Some.schedule (ap times_number (sym c.command_of.ensures) ∙ sym c.schedule_of.ensures ∙ c.in-Some.is)) ∙ is in cc)
+    absurd (let no : Some (Times c.in-Some.schedule) ≡ Some Migrate = sym (is-times c.command_of.ensures c.schedule_of.ensures c.in-Some.is) ∙ is in cc)
 
 pub returns-in-Some-clause-left : goal.returns-in-Some-clause-left
 returns-in-Some-clause-left g c = λ mounts.
-    absurd (subst MountsFiles (times-is (form (map (λ word. string_bytes word) c.args.words.now)) c.in-Some.schedule (ap times_number (sym c.command_of.ensures) ∙ sym c.schedule_of.ensures ∙ c.in-Some.is)) mounts)
+    absurd (subst MountsFiles (is-times c.command_of.ensures c.schedule_of.ensures c.in-Some.is) mounts)
 
 pub returns-in-Some-clause-broken : goal.returns-in-Some-clause-broken
 returns-in-Some-clause-broken g c = λ mounts pages told page bad.
-    absurd (subst MountsFiles (times-is (form (map (λ word. string_bytes word) c.args.words.now)) c.in-Some.schedule (ap times_number (sym c.command_of.ensures) ∙ sym c.schedule_of.ensures ∙ c.in-Some.is)) mounts)
+    absurd (subst MountsFiles (is-times c.command_of.ensures c.schedule_of.ensures c.in-Some.is) mounts)
 
 pub returns-in-Some-clause-not_solo : goal.returns-in-Some-clause-not_solo
 returns-in-Some-clause-not_solo g c = λ mounts page is.
-    absurd (subst MountsFiles (times-is (form (map (λ word. string_bytes word) c.args.words.now)) c.in-Some.schedule (ap times_number (sym c.command_of.ensures) ∙ sym c.schedule_of.ensures ∙ c.in-Some.is)) mounts)
+    absurd (subst MountsFiles (is-times c.command_of.ensures c.schedule_of.ensures c.in-Some.is) mounts)
 
 pub returns-in-Some-clause-complete : goal.returns-in-Some-clause-complete
 returns-in-Some-clause-complete g c = λ input_told output_told within keys_within keys_stayed can deck paper files input output words.
     let e = c.run_keys.ensures in
-    let uses = (subst UsesKeys (sym (times-is (form (map (λ word. string_bytes word) c.args.words.now)) c.in-Some.schedule (ap times_number (sym c.command_of.ensures) ∙ sym c.schedule_of.ensures ∙ c.in-Some.is))) tt) in
+    let uses = (subst UsesKeys (sym (is-times c.command_of.ensures c.schedule_of.ensures c.in-Some.is)) tt) in
     let stayed = keys_stayed uses in
-    elim (keys-end c.run_keys.result.cause c.run_keys.result.status e.status e.known (λ two. (let rose = e.read two in let stay = stayed.0 in omega (arith, rose, stay)))
+    elim (keys-end c.run_keys.result.cause c.run_keys.result.status e.status e.known
+    (λ two. (let rose = e.read two in let stay = stayed.0 in omega (arith, rose, stay)))
     (λ five. (let rose = e.shown five in let stay = stayed.1 in omega (arith, rose, stay)))
     (λ six. none_beyond (g.Y.Source.taken c.run_keys.result.keys) (g.Y.Source.taken c.args.keys) (g.Y.Source.left c.run_keys.result.keys)
-    (g.Y.Source.left c.args.keys) (keys_within uses) c.requires.keys e.total (e.limit.0 six))) [ | inl zero ↦ inl zero | inr nine ↦ inr (inl nine) ]
+    (g.Y.Source.left c.args.keys) (keys_within uses) c.requires.keys e.total (e.limit.0 six))) [ inl zero ↦ inl zero | inr nine ↦ inr (inl nine) ]
 
 pub returns-in-Some-clause-keys_longer : goal.returns-in-Some-clause-keys_longer
 returns-in-Some-clause-keys_longer g c = λ uses bytes told long zero.
@@ -226,25 +227,25 @@ returns-in-Some-clause-keys_longer g c = λ uses bytes told long zero.
 
 pub returns-in-Some-clause-longer : goal.returns-in-Some-clause-longer
 returns-in-Some-clause-longer g c = λ reads bytes told long.
-    absurd (subst ReadsDeck (times-is (form (map (λ word. string_bytes word) c.args.words.now)) c.in-Some.schedule (ap times_number (sym c.command_of.ensures) ∙ sym c.schedule_of.ensures ∙ c.in-Some.is)) reads)
+    absurd (subst ReadsDeck (is-times c.command_of.ensures c.schedule_of.ensures c.in-Some.is) reads)
 
 pub returns-in-Some-clause-usage : goal.returns-in-Some-clause-usage
 returns-in-Some-clause-usage g c = (
   λ one. absurd ((keys-status c.run_keys.result.cause c.run_keys.result.status c.run_keys.ensures.status c.run_keys.ensures.known).0 one),
-  λ is. absurd (let no : Some (Times c.in-Some.schedule) ≡ None = sym (times-is (form (map (λ word. string_bytes word) c.args.words.now)) c.in-Some.schedule (ap times_number (sym c.command_of.ensures) ∙ sym c.schedule_of.ensures ∙ c.in-Some.is)) ∙ is in cc),
+  λ is. absurd (let no : Some (Times c.in-Some.schedule) ≡ None = sym (is-times c.command_of.ensures c.schedule_of.ensures c.in-Some.is) ∙ is in cc),
 )
 
 pub returns-in-Some-clause-unasked : goal.returns-in-Some-clause-unasked
 returns-in-Some-clause-unasked g c = λ is.
-    absurd (let no : Some (Times c.in-Some.schedule) ≡ None = sym (times-is (form (map (λ word. string_bytes word) c.args.words.now)) c.in-Some.schedule (ap times_number (sym c.command_of.ensures) ∙ sym c.schedule_of.ensures ∙ c.in-Some.is)) ∙ is in cc)
+    absurd (let no : Some (Times c.in-Some.schedule) ≡ None = sym (is-times c.command_of.ensures c.schedule_of.ensures c.in-Some.is) ∙ is in cc)
 
 pub returns-in-Some-clause-files_unasked : goal.returns-in-Some-clause-files_unasked
 returns-in-Some-clause-files_unasked g c = λ is.
-    absurd (let no : Some (Times c.in-Some.schedule) ≡ None = sym (times-is (form (map (λ word. string_bytes word) c.args.words.now)) c.in-Some.schedule (ap times_number (sym c.command_of.ensures) ∙ sym c.schedule_of.ensures ∙ c.in-Some.is)) ∙ is in cc)
+    absurd (let no : Some (Times c.in-Some.schedule) ≡ None = sym (is-times c.command_of.ensures c.schedule_of.ensures c.in-Some.is) ∙ is in cc)
 
 pub returns-in-Some-clause-read : goal.returns-in-Some-clause-read
 returns-in-Some-clause-read g c = λ never two.
-    absurd (never (subst UsesKeys (sym (times-is (form (map (λ word. string_bytes word) c.args.words.now)) c.in-Some.schedule (ap times_number (sym c.command_of.ensures) ∙ sym c.schedule_of.ensures ∙ c.in-Some.is))) tt))
+    absurd (never (subst UsesKeys (sym (is-times c.command_of.ensures c.schedule_of.ensures c.in-Some.is)) tt))
 
 pub returns-in-Some-clause-keys_read : goal.returns-in-Some-clause-keys_read
 returns-in-Some-clause-keys_read g c = λ uses.
@@ -252,7 +253,7 @@ returns-in-Some-clause-keys_read g c = λ uses.
 
 pub returns-in-Some-clause-shown : goal.returns-in-Some-clause-shown
 returns-in-Some-clause-shown g c = λ five.
-    ((subst UsesKeys (sym (times-is (form (map (λ word. string_bytes word) c.args.words.now)) c.in-Some.schedule (ap times_number (sym c.command_of.ensures) ∙ sym c.schedule_of.ensures ∙ c.in-Some.is))) tt), c.run_keys.ensures.shown five)
+    ((subst UsesKeys (sym (is-times c.command_of.ensures c.schedule_of.ensures c.in-Some.is)) tt), c.run_keys.ensures.shown five)
 
 pub returns-in-Some-clause-disk : goal.returns-in-Some-clause-disk
 returns-in-Some-clause-disk g c = λ three.
@@ -264,7 +265,7 @@ returns-in-Some-clause-print g c = λ four.
 
 pub returns-in-Some-clause-limit : goal.returns-in-Some-clause-limit
 returns-in-Some-clause-limit g c = λ never six.
-    absurd (never (subst UsesKeys (sym (times-is (form (map (λ word. string_bytes word) c.args.words.now)) c.in-Some.schedule (ap times_number (sym c.command_of.ensures) ∙ sym c.schedule_of.ensures ∙ c.in-Some.is))) tt))
+    absurd (never (subst UsesKeys (sym (is-times c.command_of.ensures c.schedule_of.ensures c.in-Some.is)) tt))
 
 pub returns-in-Some-clause-keys_limit : goal.returns-in-Some-clause-keys_limit
 returns-in-Some-clause-keys_limit g c = λ uses.
@@ -282,11 +283,13 @@ pub returns-in-Some-clause-known : goal.returns-in-Some-clause-known
 returns-in-Some-clause-known g c = known_status c.run_keys.result.cause c.run_keys.result.status c.run_keys.ensures.status
 
 pub returns-in-Some-clause-refusals : goal.returns-in-Some-clause-refusals
-returns-in-Some-clause-refusals g c = subst (λ asked. IfSome c.run_keys.result.cause (MayBeRefused asked)) (sym (times-is (form (map (λ word. string_bytes word) c.args.words.now)) c.in-Some.schedule (ap times_number (sym c.command_of.ensures) ∙ sym c.schedule_of.ensures ∙ c.in-Some.is))) c.run_keys.ensures.known
+returns-in-Some-clause-refusals g c =
+    subst (λ asked. IfSome c.run_keys.result.cause (MayBeRefused asked))
+    (sym (is-times c.command_of.ensures c.schedule_of.ensures c.in-Some.is)) c.run_keys.ensures.known
 
 pub returns-in-Some-clause-unused : goal.returns-in-Some-clause-unused
 returns-in-Some-clause-unused g c = λ never.
-    absurd (never (subst UsesKeys (sym (times-is (form (map (λ word. string_bytes word) c.args.words.now)) c.in-Some.schedule (ap times_number (sym c.command_of.ensures) ∙ sym c.schedule_of.ensures ∙ c.in-Some.is))) tt))
+    absurd (never (subst UsesKeys (sym (is-times c.command_of.ensures c.schedule_of.ensures c.in-Some.is)) tt))
 
 pub returns-in-Some-clause-keys_alone : goal.returns-in-Some-clause-keys_alone
 returns-in-Some-clause-keys_alone g c = λ uses.
@@ -294,34 +297,34 @@ returns-in-Some-clause-keys_alone g c = λ uses.
 
 pub returns-in-Some-clause-files_alone : goal.returns-in-Some-clause-files_alone
 returns-in-Some-clause-files_alone g c = λ alone.
-    absurd (subst UsesFilesAlone (times-is (form (map (λ word. string_bytes word) c.args.words.now)) c.in-Some.schedule (ap times_number (sym c.command_of.ensures) ∙ sym c.schedule_of.ensures ∙ c.in-Some.is)) alone)
+    absurd (subst UsesFilesAlone (is-times c.command_of.ensures c.schedule_of.ensures c.in-Some.is) alone)
 
 pub returns-in-Some-clause-files_size : goal.returns-in-Some-clause-files_size
 returns-in-Some-clause-files_size g c = ap g.F.Area.size c.run_keys.ensures.others.2
 
 pub returns-clause-times_output : goal.returns-clause-times_output
 returns-clause-times_output g c = λ schedule is bytes told.
-    absurd ((never-times (form (map (λ word. string_bytes word) c.args.words.now)) (ap times_number (sym c.command_of.ensures) ∙ sym c.schedule_of.ensures ∙ c.in_default.is)) (subst UsesKeys (sym is) tt))
+    absurd ((no-times c.command_of.ensures c.schedule_of.ensures c.in_default.is) (subst UsesKeys (sym is) tt))
 
 pub returns-clause-keys_emptied : goal.returns-clause-keys_emptied
 returns-clause-keys_emptied g c = λ uses bytes told zero.
-    absurd ((never-times (form (map (λ word. string_bytes word) c.args.words.now)) (ap times_number (sym c.command_of.ensures) ∙ sym c.schedule_of.ensures ∙ c.in_default.is)) uses)
+    absurd ((no-times c.command_of.ensures c.schedule_of.ensures c.in_default.is) uses)
 
 pub returns-clause-keys_longer : goal.returns-clause-keys_longer
 returns-clause-keys_longer g c = λ uses bytes told long.
-    absurd ((never-times (form (map (λ word. string_bytes word) c.args.words.now)) (ap times_number (sym c.command_of.ensures) ∙ sym c.schedule_of.ensures ∙ c.in_default.is)) uses)
+    absurd ((no-times c.command_of.ensures c.schedule_of.ensures c.in_default.is) uses)
 
 pub returns-clause-keys_read : goal.returns-clause-keys_read
 returns-clause-keys_read g c = λ uses.
-    absurd ((never-times (form (map (λ word. string_bytes word) c.args.words.now)) (ap times_number (sym c.command_of.ensures) ∙ sym c.schedule_of.ensures ∙ c.in_default.is)) uses)
+    absurd ((no-times c.command_of.ensures c.schedule_of.ensures c.in_default.is) uses)
 
 pub returns-clause-keys_limit : goal.returns-clause-keys_limit
 returns-clause-keys_limit g c = λ uses.
-    absurd ((never-times (form (map (λ word. string_bytes word) c.args.words.now)) (ap times_number (sym c.command_of.ensures) ∙ sym c.schedule_of.ensures ∙ c.in_default.is)) uses)
+    absurd ((no-times c.command_of.ensures c.schedule_of.ensures c.in_default.is) uses)
 
 pub returns-clause-keys_alone : goal.returns-clause-keys_alone
 returns-clause-keys_alone g c = λ uses.
-    absurd ((never-times (form (map (λ word. string_bytes word) c.args.words.now)) (ap times_number (sym c.command_of.ensures) ∙ sym c.schedule_of.ensures ∙ c.in_default.is)) uses)
+    absurd ((no-times c.command_of.ensures c.schedule_of.ensures c.in_default.is) uses)
 
 pub run_command-cause-requires-clause-command : goal.run_command-cause-requires-clause-command
-run_command-cause-requires-clause-command g c = (never-times (form (map (λ word. string_bytes word) c.args.words.now)) (ap times_number (sym c.command_of.ensures) ∙ sym c.schedule_of.ensures ∙ c.in_default.is))
+run_command-cause-requires-clause-command g c = λ lives outlives. no-times c.command_of.ensures c.schedule_of.ensures c.in_default.is
