@@ -1,5 +1,5 @@
 -- What the console gains of a script that is run and counted.
-use Rattle.std.specs.Prelude.{◌≡◌, ℕ, List, [], ◌∷◌, ◌++◌, Option, Some}
+use Rattle.std.specs.Prelude.{ℕ, List, [], ◌∷◌, ◌++◌, Option, Some}
 use Rattle.solo_base.specs.Text.{text}
 use Rattle.solo_base.specs.declared.item.Item.{Item}
 use Rattle.solo_devices.specs.PrinterUnit.{Gains}
