@@ -95,8 +95,10 @@ fn finish_drive<R: Files<File = File> + AllocGlobal + Threads + Wait + Sync>(
 ) -> Result<Ended, NoMemory> {
     let mut words = Vec::new(rt.alloc());
     words.push(String::from_str(rt.alloc(), "format")?)?;
-    let deck = SureSource::new(Vec::new(rt.alloc()), 1);
-    let (_, ended) = over_drive(rt, Some(NEW_DRIVE), &words, deck, SureSink::new(rt.alloc()));
+    let paper = SureSink::new(rt.alloc());
+    let console = SureSink::new(rt.alloc());
+    let (deck, keys) = (no_bytes(rt), no_bytes(rt));
+    let (_, _, ended) = over_drive(rt, Some(NEW_DRIVE), &words, deck, keys, paper, console);
     if ended.status == 0 && fs::rename(rt, NEW_DRIVE, DRIVE).is_err() {
         return Ok(Ended::with(3, Fault::Disk));
     }
@@ -124,29 +126,51 @@ where
         None => None,
     };
     let by_line = on_terminal || !reads_file(rt);
-    let paper = WriterSink::new(paper_over(rt.alloc(), io::writer(rt), by_line)?);
-    let deck = ReaderSource::new(rt.reader());
-    let (mut paper, ended) = over_drive(rt, path, words, deck, paper);
+    let output = WriterSink::new(paper_over(rt.alloc(), io::writer(rt), by_line)?);
+    let input = ReaderSource::new(rt.reader());
+    let memory = SureSink::new(rt.alloc());
     // What was printed so far goes out whatever the status, and the lowest status decides.
+    if words.iter().any(|word| word.as_str() == "times") {
+        let deck = no_bytes(rt);
+        let (_, mut console, ended) = over_drive(rt, path, words, deck, input, memory, output);
+        if console.flush().is_err() && (ended.status == 0 || ended.status > 5) {
+            return Ok(Ended::with(5, Fault::Console));
+        }
+        return Ok(ended);
+    }
+    let (mut paper, _, ended) = over_drive(rt, path, words, input, no_bytes(rt), output, memory);
     if paper.flush().is_err() && (ended.status == 0 || ended.status > 4) {
         return Ok(Ended::with(4, Fault::Print));
     }
     Ok(ended)
 }
 
-/// Runs the command of the words over a deck, a paper and the drive at this path, with no keys and a console
-/// in memory. The paper comes back.
-fn over_drive<R: Files<File = File> + AllocGlobal + Threads + Wait + Sync, S: Source, K: Sink>(
+/// A deck of no cards, or keys on which nothing is typed.
+fn no_bytes(rt: &impl AllocGlobal) -> SureSource
+    ensures { ⟦<SureSource as Source>⟧.taken result ≡ 0 }
+{
+    SureSource::new(Vec::new(rt.alloc()), 1)
+}
+
+/// Runs the command of the words over these devices and the drive at this path. The paper and the console
+/// come back.
+fn over_drive<
+    R: Files<File = File> + AllocGlobal + Threads + Wait + Sync,
+    S: Source + Send + Drop,
+    Y: Source + Drop,
+    K: Sink + Send + Drop,
+    T: Sink,
+>(
     rt: &R,
     path: Option<&str>,
     words: &[String],
     deck: S,
+    keys: Y,
     paper: K,
-) -> (K, Ended)
-where
-    S: Send + Drop,
-    K: Send + Drop,
-    requires { S.taken deck ≡ 0 }
+    console: T,
+) -> (K, T, Ended)
+    requires deck { S.taken deck ≡ 0 }
+    requires keys { Y.taken keys ≡ 0 }
 {
     let Finished {
         status,
@@ -154,7 +178,7 @@ where
         deck: _,
         keys: _,
         paper,
-        console: _,
+        console,
         files: _,
         input: _,
         output: _,
@@ -163,15 +187,15 @@ where
         rt.alloc(),
         words,
         deck,
-        SureSource::new(Vec::new(rt.alloc()), 1),
+        keys,
         paper,
-        SureSink::new(rt.alloc()),
+        console,
         area(rt, path, 0, FILE_PAGES),
         area(rt, path, FILE_PAGES, SPOOL_PAGES),
         area(rt, path, FILE_PAGES + SPOOL_PAGES, SPOOL_PAGES),
     );
     let fault = cause.map(Fault::of);
-    (paper, Ended { status, fault })
+    (paper, console, Ended { status, fault })
 }
 
 /// The area of so many pages of the drive at this path, from page `first` on. Each area opens the file for

@@ -1,5 +1,5 @@
 -- What is left to say of the status where no count rose, and of a deck that is too long.
-use Rattle.std.proofs.Common.{◌≡◌, ◌≢◌, ◌⊎◌, ◌≤◌, ◌+◌, ℕ, List, [], length, Option, Some, None, refl, ◌∙◌, ap, subst, inl, inr, arith}
+use Rattle.std.proofs.Common.{◌≡◌, ◌≢◌, ◌⊎◌, ◌≤◌, ◌+◌, ℕ, List, [], length, Option, Some, None, refl, ◌∙◌, ap, inl, inr, arith}
 use Rattle.std.specs.Prelude.{IfSome, IsSome}
 use Rattle.solo_base.specs.declared.outcome.Cause.{Cause}
 use Rattle.solo_base.specs.declared.outcome.Cause.TheVariants.{Usage, ReadFault, DiskFault, PrintFault, ConsoleFault, DeckLimit, NotSolo, Damaged, NoMemory}
@@ -11,6 +11,7 @@ use Rattle.solo_cli.specs.declared.words.Command.{Command}
 use Rattle.solo_cli.specs.declared.words.Command.TheVariants as command
 use Rattle.solo_cli.specs.Status.{number_of, status_of}
 use Rattle.solo_cli.specs.Causes.{IsMakeCause, IsCheckCause}
+use Rattle.solo_cli.specs.Uses.{UsesKeys}
 use Rattle.solo_cli.specs.Refusals.{IsDeckCause, IsMadeDeckCause, IsMigrateCause, IsNotSolo, MayBeRefused, OfFault}
 
 -- a command that there is has one of these causes
@@ -38,14 +39,15 @@ among-check why (inr (inr (inr is))) = inl (inr (inr (inr (inr (inr is)))))
 fault-of : {a b : Cause} → Fault a ≡ Fault b → a ≡ b
 fault-of same = cc
 
-among : (asked : Option Command) (why : Cause) → MayBeRefused asked (Fault why) → (why ≡ Usage) ⊎ IsDeckCause why
-among None why is = inl (fault-of is)
-among (Some command.Batch) why is = inr is
-among (Some (command.Core schedule)) why is = inr is
-among (Some (command.Make number)) why is = inr (among-made why is)
-among (Some command.Format) why is = inr (inl (inr (inl (fault-of is))))
-among (Some command.Migrate) why is = inr (among-migrate why is)
-among (Some command.Check) why is = inr (among-check why is)
+among : (asked : Option Command) (why : Cause) → (UsesKeys asked → ⊥) → MayBeRefused asked (Fault why) → (why ≡ Usage) ⊎ IsDeckCause why
+among None why never is = inl (fault-of is)
+among (Some command.Batch) why never is = inr is
+among (Some (command.Core schedule)) why never is = inr is
+among (Some (command.Make number)) why never is = inr (among-made why is)
+among (Some command.Format) why never is = inr (inl (inr (inl (fault-of is))))
+among (Some command.Migrate) why never is = inr (among-migrate why is)
+among (Some command.Check) why never is = inr (among-check why is)
+among (Some (command.Times schedule)) why never is = absurd (never tt)
 
 -- want of room is a migration's
 pub room_is : (asked : Option Command) (needed free : ℕ) → MayBeRefused asked (NoRoom needed free) → asked ≡ Some command.Migrate
@@ -56,6 +58,7 @@ room_is (Some (command.Make number)) needed free is = absurd is
 room_is (Some command.Format) needed free is = cc
 room_is (Some command.Migrate) needed free is = refl
 room_is (Some command.Check) needed free is = absurd is
+room_is (Some (command.Times schedule)) needed free is = absurd is
 
 -- all causes but want of memory are shut out, and for a migration want of room
 ends-of : (asked : Option Command) (why : Cause) → (why ≡ Usage) ⊎ IsDeckCause why →
@@ -70,16 +73,16 @@ ends-of asked why (inr (inl (inr (inr (inr (inr (inl is))))))) words deck disk p
 ends-of asked why (inr (inl (inr (inr (inr (inr (inr is))))))) words deck disk paper limit solo whole = ap number_of is
 ends-of asked why (inr (inr is)) words deck disk paper limit solo whole = absurd (solo is)
 
-pub ends_well : (asked : Option Command) (answer : Option Refusal) → IfSome answer (MayBeRefused asked) →
+pub ends_well : (asked : Option Command) (answer : Option Refusal) → (UsesKeys asked → ⊥) → IfSome answer (MayBeRefused asked) →
     answer ≢ Some (Fault Usage) → answer ≢ Some (Fault ReadFault) → answer ≢ Some (Fault DiskFault) →
     answer ≢ Some (Fault PrintFault) → answer ≢ Some (Fault DeckLimit) →
     ((page : ℕ) → answer ≢ Some (Fault (NotSolo page))) → IfSome answer (λ it. OfFault IsDamaged it → ⊥) →
     (status_of answer ≡ 0) ⊎ ((status_of answer ≡ 9) ⊎ ((status_of answer ≡ 10) × (asked ≡ Some command.Migrate)))
-ends_well asked None known words deck disk paper limit solo whole = inl refl
-ends_well asked (Some (NoRoom needed free)) known words deck disk paper limit solo whole =
+ends_well asked None never known words deck disk paper limit solo whole = inl refl
+ends_well asked (Some (NoRoom needed free)) never known words deck disk paper limit solo whole =
     inr (inr (refl, room_is asked needed free known))
-ends_well asked (Some (Fault why)) known words deck disk paper limit solo whole =
-    inr (inl (ends-of asked why (among asked why known) (λ is. words (told is)) (λ is. deck (told is)) (λ is. disk (told is))
+ends_well asked (Some (Fault why)) never known words deck disk paper limit solo whole =
+    inr (inl (ends-of asked why (among asked why never known) (λ is. words (told is)) (λ is. deck (told is)) (λ is. disk (told is))
     (λ is. paper (told is)) (λ is. limit (told is)) (λ is. solo is.0 (told is.1)) whole))
   where
     told : {it : Cause} → why ≡ it → Some (Fault why) ≡ Some (Fault it)
@@ -88,37 +91,24 @@ ends_well asked (Some (Fault why)) known words deck disk paper limit solo whole 
 -- the statuses that there are
 abbrev IsStatus : ℕ → Type 0
 IsStatus status =
-    (status ≡ 0) ⊎ ((status ≡ 1) ⊎ ((status ≡ 2) ⊎ ((status ≡ 3) ⊎ ((status ≡ 4) ⊎ ((status ≡ 6) ⊎ ((status ≡ 7)
-    ⊎ ((status ≡ 8) ⊎ ((status ≡ 9) ⊎ (status ≡ 10)))))))))
+    (status ≡ 0) ⊎ ((status ≡ 1) ⊎ ((status ≡ 2) ⊎ ((status ≡ 3) ⊎ ((status ≡ 4) ⊎ ((status ≡ 5) ⊎ ((status ≡ 6)
+    ⊎ ((status ≡ 7) ⊎ ((status ≡ 8) ⊎ ((status ≡ 9) ⊎ (status ≡ 10))))))))))
 
-known-number : (why : Cause) → why ≢ ConsoleFault → (status : ℕ) → status ≡ number_of why → IsStatus status
-known-number Usage console status is = inr (inl is)
-known-number ReadFault console status is = inr (inr (inl is))
-known-number DiskFault console status is = inr (inr (inr (inl is)))
-known-number PrintFault console status is = inr (inr (inr (inr (inl is))))
-known-number ConsoleFault console status is = absurd (console refl)
-known-number DeckLimit console status is = inr (inr (inr (inr (inr (inl is)))))
-known-number (NotSolo page) console status is = inr (inr (inr (inr (inr (inr (inl is))))))
-known-number (Damaged expected found at) console status is = inr (inr (inr (inr (inr (inr (inr (inl is)))))))
-known-number NoMemory console status is = inr (inr (inr (inr (inr (inr (inr (inr (inl is))))))))
+known-number : (why : Cause) (status : ℕ) → status ≡ number_of why → IsStatus status
+known-number Usage status is = inr (inl is)
+known-number ReadFault status is = inr (inr (inl is))
+known-number DiskFault status is = inr (inr (inr (inl is)))
+known-number PrintFault status is = inr (inr (inr (inr (inl is))))
+known-number ConsoleFault status is = inr (inr (inr (inr (inr (inl is)))))
+known-number DeckLimit status is = inr (inr (inr (inr (inr (inr (inl is))))))
+known-number (NotSolo page) status is = inr (inr (inr (inr (inr (inr (inr (inl is)))))))
+known-number (Damaged expected found at) status is = inr (inr (inr (inr (inr (inr (inr (inr (inl is))))))))
+known-number NoMemory status is = inr (inr (inr (inr (inr (inr (inr (inr (inr (inl is)))))))))
 
-no-console : (why : Cause) → (why ≡ Usage) ⊎ IsDeckCause why → why ≢ ConsoleFault
-no-console why (inl is) at = cc
-no-console why (inr (inl (inl is))) at = cc
-no-console why (inr (inl (inr (inl is)))) at = cc
-no-console why (inr (inl (inr (inr (inl is))))) at = cc
-no-console why (inr (inl (inr (inr (inr (inl is)))))) at = cc
-no-console why (inr (inl (inr (inr (inr (inr (inl is))))))) at = subst IsDamaged at is
-no-console why (inr (inl (inr (inr (inr (inr (inr is))))))) at = cc
-no-console why (inr (inr is)) at = let page = is.1 in cc
-
-pub known_status : (asked : Option Command) (answer : Option Refusal) → IfSome answer (MayBeRefused asked) → (status : ℕ) →
-    status ≡ status_of answer → IsStatus status
-known_status asked None known status is = inl is
-known_status asked (Some (Fault why)) known status is =
-    known-number why (no-console why (among asked why known)) status is
-known_status asked (Some (NoRoom needed free)) known status is =
-    inr (inr (inr (inr (inr (inr (inr (inr (inr is))))))))
+pub known_status : (answer : Option Refusal) (status : ℕ) → status ≡ status_of answer → IsStatus status
+known_status None status is = inl is
+known_status (Some (Fault why)) status is = known-number why status is
+known_status (Some (NoRoom needed free)) status is = inr (inr (inr (inr (inr (inr (inr (inr (inr (inr is)))))))))
 
 -- status 8 comes of a damaged page alone
 pub not_eight : (answer : Option Refusal) → IfSome answer (λ it. OfFault IsDamaged it → ⊥) → status_of answer ≢ 8

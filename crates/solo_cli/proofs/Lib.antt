@@ -21,3 +21,5 @@ mod UncountedRuns
 mod Reading
 mod ReadingItems
 mod Checks
+mod Scripts
+mod Keyed

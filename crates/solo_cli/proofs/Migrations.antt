@@ -77,3 +77,5 @@ usable (Some command.Migrate) told now answer page known (pages, is, keeps) moun
     neither pages now page keeps (subst (MigratesTo pages now) at (migrates refl pages is))
 usable (Some command.Check) told now answer page known can mounts migrates at =
     no_page page (subst (λ it. IfSome it (MayBeRefused (Some command.Check))) at known)
+usable (Some (command.Times schedule)) told now answer page known can mounts migrates at =
+    subst (λ it. IfSome it (MayBeRefused (Some (command.Times schedule)))) at known

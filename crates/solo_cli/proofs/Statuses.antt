@@ -90,6 +90,22 @@ by_four None is = cc
 by_four (Some (Fault why)) is = ap (λ it. Some (Fault it)) (four-is why is)
 by_four (Some (NoRoom needed free)) is = cc
 
+five-is : (why : Cause) → number_of why ≡ 5 → why ≡ ConsoleFault
+five-is Usage is = cc
+five-is ReadFault is = cc
+five-is DiskFault is = cc
+five-is PrintFault is = cc
+five-is ConsoleFault is = refl
+five-is DeckLimit is = cc
+five-is (NotSolo page) is = cc
+five-is (Damaged expected found at) is = cc
+five-is NoMemory is = cc
+
+pub by_five : (answer : Option Refusal) → status_of answer ≡ 5 → answer ≡ Some (Fault ConsoleFault)
+by_five None is = cc
+by_five (Some (Fault why)) is = ap (λ it. Some (Fault it)) (five-is why is)
+by_five (Some (NoRoom needed free)) is = cc
+
 six-is : (why : Cause) → number_of why ≡ 6 → why ≡ DeckLimit
 six-is Usage is = cc
 six-is ReadFault is = cc

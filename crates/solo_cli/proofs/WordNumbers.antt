@@ -47,6 +47,8 @@ with-kind numbered.Core None n few = λ is. cc
 with-kind numbered.Core (Some m) n few = λ is. cc
 with-kind numbered.Make None n few = λ is. cc
 with-kind numbered.Make (Some m) n few = λ is. (let same = make-is is in omega (arith, few, same))
+with-kind numbered.Times None n few = λ is. cc
+with-kind numbered.Times (Some m) n few = λ is. cc
 
 if-option : (test : Bool) (found : Option Command) (n : ℕ) → IsMadeOf n found → IsMadeOf n (if test then found else None)
 if-option true found n is = is

@@ -22,3 +22,4 @@ pub mod FileCommands
 pub mod CountsPaper
 pub mod MadePaper
 pub mod AccessLines
+pub mod TimesConsole

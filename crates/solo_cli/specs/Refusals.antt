@@ -15,6 +15,7 @@ use Rattle.solo_cli.specs.declared.refusal.Refusal.TheVariants.{Fault, NoRoom}
 use Rattle.solo_cli.specs.declared.words.Command.{Command}
 use Rattle.solo_cli.specs.declared.words.Command.TheVariants as command
 use Rattle.solo_cli.specs.Causes.{IsRunCause, IsMakeCause, IsCheckCause}
+use Rattle.time_net.specs.TimeStands.{IsTimesCause}
 
 -- the end of a run as that of a command
 abbrev pub as_refusal : Option Cause → Option Refusal
@@ -74,6 +75,7 @@ MayBeRefused (Some (command.Make number)) refusal = OfFault IsMadeDeckCause refu
 MayBeRefused (Some command.Format) refusal = refusal ≡ Fault cause.DiskFault
 MayBeRefused (Some command.Migrate) refusal = MayRefuseMigration refusal
 MayBeRefused (Some command.Check) refusal = OfFault IsCheckCause refusal
+MayBeRefused (Some (command.Times schedule)) refusal = OfFault IsTimesCause refusal
 
 -- Each cause has its reason, as in a run.
 pub record HasItsReason {S K A B F : Type 0} (counts : Counts S K A B F) (left : S → Option (List ℕ))

@@ -20,22 +20,26 @@ alone word =
 abbrev pub takes_number : List ℕ → Option Numbered
 takes_number word =
     if bytes_eq word (codes "core") then Some numbered.Core
-    else if bytes_eq word (codes "make") then Some numbered.Make else None
+    else if bytes_eq word (codes "make") then Some numbered.Make
+    else if bytes_eq word (codes "times") then Some numbered.Times else None
 
 -- the option that names the number
 abbrev pub option_of : Numbered → List ℕ
 option_of numbered.Core = codes "--schedule"
 option_of numbered.Make = codes "--number"
+option_of numbered.Times = codes "--schedule"
 
 -- the greatest number
 abbrev pub greatest_number : Numbered → ℕ
 greatest_number numbered.Core = 2147483647
 greatest_number numbered.Make = 50000
+greatest_number numbered.Times = 2147483647
 
 -- the command with its number
 abbrev pub with_number : Numbered → ℕ → Command
 with_number numbered.Core schedule = command.Core schedule
 with_number numbered.Make number = command.Make number
+with_number numbered.Times schedule = command.Times schedule
 
 -- a number of one to ten digits behind a beginning of a word: behind `--schedule=`, `--schedule=07` has 7
 abbrev pub number_behind : List ℕ → ℕ → List ℕ → Option ℕ

@@ -21,7 +21,7 @@ ghost use Rattle.solo_cli.specs.CountsPaper.{GainsCounted};
 ghost use Rattle.solo_cli.specs.MadePaper.{GainsNumbers};
 ghost use Rattle.solo_cli.specs.FileCommands.{FormatsTo, MigratesTo, RefusesFiles};
 ghost use Rattle.solo_cli.specs.Refusals.{HasItsReason, MayBeRefused, OfFault};
-ghost use Rattle.solo_cli.specs.Uses.{MountsFiles, ReadsDeck, UsesFilesAlone};
+ghost use Rattle.solo_cli.specs.Uses.{MountsFiles, ReadsDeck, UsesFilesAlone, UsesKeys};
 
 use crate::checking::run_check;
 use crate::file_commands::{format_files, migrate_files};
@@ -35,7 +35,7 @@ use std::alloc::Global;
 use std::sync::Wait;
 use std::thread::Threads;
 
-/// Runs the command that the words are.
+/// Runs the command that the words are, which doesn't read the keys.
 pub fn run_command<
     S: Source + Drop + Send,
     K: Sink + Drop + Send,
@@ -53,6 +53,7 @@ pub fn run_command<
     input: I,
     output: O,
 ) -> Used<S, K, F, I, O>
+    requires command { UsesKeys (form (map (λ word. string_bytes word) words.now)) → ⊥ }
     requires deck { S.taken deck ≡ 0 }
     requires files { F.size files ≡ 4288 }
     requires input { (0 < I.size input) × (I.size input ≤ 256) }
@@ -192,5 +193,6 @@ pub fn run_command<
             }
         }
         Some(Command::Check) => run_check(alloc, deck, paper, files, input, output),
+        Some(Command::Times { schedule: _ }) => unreachable!(),
     }
 }

@@ -19,7 +19,8 @@ ghost use Rattle.solo_cli.specs.Status.{status_of};
 ghost use Rattle.solo_cli.specs.Causes.{IsWithinLimit};
 ghost use Rattle.solo_cli.specs.CountsPaper.{GainsCounted};
 ghost use Rattle.solo_cli.specs.MadePaper.{GainsNumbers};
-ghost use Rattle.solo_cli.specs.Uses.{MountsFiles, ReadsDeck, UsesFilesAlone};
+ghost use Rattle.solo_cli.specs.TimesConsole.{GainsTimes};
+ghost use Rattle.solo_cli.specs.Uses.{MountsFiles, ReadsDeck, UsesFilesAlone, UsesKeys};
 ghost use Rattle.solo_cli.specs.FileCommands.{CanUse, FormatsTo, MigratesTo, RefusesFiles};
 ghost use Rattle.solo_cli.specs.Refusals.{MayBeRefused};
 
@@ -27,7 +28,8 @@ use crate::choosing::run_command;
 use crate::mounting::Used;
 use crate::refusal::Refusal;
 use crate::status::status_of;
-use crate::words::Command;
+use crate::timetable::run_keys;
+use crate::words::{Command, command_of, schedule_of};
 use network_run::Rule;
 use solo_base::Cause;
 use solo_devices::{Area, Sink, Source};
@@ -55,7 +57,8 @@ pub struct Finished<S, Y, K, T, F, I, O> {
 /// counted. `make` makes the deck of a number, runs it in memory under the schedule of this number, and
 /// prints the numbers of both. `format` makes the area of the files one without a file, and `migrate` makes
 /// one of format 1 one of format 2 with the same files. `check` judges the deck as a description of access
-/// rights, and prints the line of its judgement. Where the words are no command, nothing is done.
+/// rights, and prints the line of its judgement. `times` runs what is typed at the keys, under the schedule
+/// of a number, and displays its lines on the console. Where the words are no command, nothing is done.
 pub fn top<
     S: Source + Drop + Send,
     Y: Source,
@@ -129,6 +132,17 @@ pub fn top<
     ensures no_area { form (map (λ word. string_bytes word) words.now) ≡ Some Command.Check →
         (result.files ≡ files) × (result.input ≡ input) × (result.output ≡ output) }
 
+    // `times` runs what is typed at the keys. The console gains the lines of the script and behind them the
+    // counts of the run of its schedule, or a prefix of them; all of them at status 0, and then nothing is
+    // left of the keys.
+    ensures times_output { (schedule : ℕ) →
+        form (map (λ word. string_bytes word) words.now) ≡ Some (Command.Times schedule) →
+        (bytes : List ℕ) → Y.left keys ≡ Some bytes →
+        GainsTimes (Rule.Numbered schedule) (cards bytes) (T.given console) (T.given result.console)
+        (result.status ≡ 0) }
+    ensures keys_emptied { UsesKeys (form (map (λ word. string_bytes word) words.now)) →
+        (bytes : List ℕ) → Y.left keys ≡ Some bytes → result.status ≡ 0 → Y.left result.keys ≡ Some [] }
+
     // `format` leaves an area without a file, and whatever fails the pages of files.
     ensures formatted { form (map (λ word. string_bytes word) words.now) ≡ Some Command.Format →
         (pages : List (List ℕ)) → F.pages files ≡ Some pages → result.status ≡ 0 →
@@ -163,6 +177,9 @@ pub fn top<
     // longer one never. A migration may find too little room.
     ensures complete { IsSome (I.pages input) → IsSome (O.pages output) →
         (ReadsDeck (form (map (λ word. string_bytes word) words.now)) → IsWithinLimit (S.left deck)) →
+        (UsesKeys (form (map (λ word. string_bytes word) words.now)) → IsWithinLimit (Y.left keys)) →
+        (UsesKeys (form (map (λ word. string_bytes word) words.now)) →
+        Stayed (Y.faults keys) (Y.faults result.keys) × Stayed (T.faults console) (T.faults result.console)) →
         CanUse (form (map (λ word. string_bytes word) words.now)) (F.pages files) →
         Stayed (S.faults deck) (S.faults result.deck) → Stayed (K.faults paper) (K.faults result.paper) →
         Stayed (F.faults files) (F.faults result.files) →
@@ -171,6 +188,8 @@ pub fn top<
         form (map (λ word. string_bytes word) words.now) ≢ None →
         (result.status ≡ 0) ⊎ (result.status ≡ 9) ⊎ ((result.status ≡ 10)
         × (form (map (λ word. string_bytes word) words.now) ≡ Some Command.Migrate)) }
+    ensures keys_longer { UsesKeys (form (map (λ word. string_bytes word) words.now)) →
+        (bytes : List ℕ) → Y.left keys ≡ Some bytes → byte_limit < length bytes → result.status ≢ 0 }
     ensures longer { ReadsDeck (form (map (λ word. string_bytes word) words.now)) →
         (bytes : List ℕ) → S.left deck ≡ Some bytes → byte_limit < length bytes → result.status ≢ 0 }
 
@@ -181,29 +200,46 @@ pub fn top<
     ensures files_unasked { form (map (λ word. string_bytes word) words.now) ≡ None → result.files ≡ files }
 
     // Each fault has its cause, and each command its own faults.
-    ensures read { result.status ≡ 2 → Rose (S.faults deck) (S.faults result.deck) }
+    ensures read { (UsesKeys (form (map (λ word. string_bytes word) words.now)) → ⊥) →
+        result.status ≡ 2 → Rose (S.faults deck) (S.faults result.deck) }
+    ensures keys_read { UsesKeys (form (map (λ word. string_bytes word) words.now)) →
+        result.status ≡ 2 → Rose (Y.faults keys) (Y.faults result.keys) }
+    ensures shown { result.status ≡ 5 → UsesKeys (form (map (λ word. string_bytes word) words.now))
+        × Rose (T.faults console) (T.faults result.console) }
     ensures disk { result.status ≡ 3 →
         Rose (I.faults input) (I.faults result.input) ⊎ Rose (O.faults output) (O.faults result.output)
         ⊎ Rose (F.faults files) (F.faults result.files) }
     ensures print { result.status ≡ 4 → Rose (K.faults paper) (K.faults result.paper) }
-    ensures limit { result.status ≡ 6 → byte_limit < S.taken result.deck }
+    ensures limit { (UsesKeys (form (map (λ word. string_bytes word) words.now)) → ⊥) →
+        result.status ≡ 6 → byte_limit < S.taken result.deck }
+    ensures keys_limit { UsesKeys (form (map (λ word. string_bytes word) words.now)) →
+        (result.status ≡ 6) ↔ (byte_limit < Y.taken result.keys) }
     ensures beyond { byte_limit < S.taken result.deck →
         (result.status ≡ 3) ⊎ (result.status ≡ 4) ⊎ (result.status ≡ 6) }
     ensures damaged { IsSome (I.pages input) → IsSome (O.pages output) →
         (ReadsDeck (form (map (λ word. string_bytes word) words.now)) → IsSome (S.left deck)) →
         result.status ≢ 8 }
     ensures known { (result.status ≡ 0) ⊎ (result.status ≡ 1) ⊎ (result.status ≡ 2) ⊎ (result.status ≡ 3)
-        ⊎ (result.status ≡ 4) ⊎ (result.status ≡ 6) ⊎ (result.status ≡ 7) ⊎ (result.status ≡ 8)
+        ⊎ (result.status ≡ 4) ⊎ (result.status ≡ 5) ⊎ (result.status ≡ 6) ⊎ (result.status ≡ 7)
+        ⊎ (result.status ≡ 8)
         ⊎ (result.status ≡ 9) ⊎ (result.status ≡ 10) }
     ensures refusals { IfSome result.cause (MayBeRefused (form (map (λ word. string_bytes word) words.now))) }
     ensures status { result.status ≡ status_of result.cause }
 
-    // What a command doesn't use comes back as it came. No command uses the keys or the console yet.
-    ensures unused { (result.keys ≡ keys) × (result.console ≡ console) }
+    // What a command doesn't use comes back as it came: `times` alone uses the keys and the console, and
+    // nothing else.
+    ensures unused { (UsesKeys (form (map (λ word. string_bytes word) words.now)) → ⊥) →
+        (result.keys ≡ keys) × (result.console ≡ console) }
+    ensures keys_alone { UsesKeys (form (map (λ word. string_bytes word) words.now)) →
+        (result.deck ≡ deck) × (result.paper ≡ paper) × (result.files ≡ files) × (result.input ≡ input)
+        × (result.output ≡ output) }
     ensures files_alone { UsesFilesAlone (form (map (λ word. string_bytes word) words.now)) →
         (result.deck ≡ deck) × (result.paper ≡ paper) × (result.input ≡ input) × (result.output ≡ output) }
     ensures files_size { F.size result.files ≡ F.size files }
 {
+    if let Some(schedule) = schedule_of(command_of(words)) {
+        return run_keys(schedule, deck, keys, paper, console, files, input, output);
+    }
     let Used {
         cause,
         deck,

@@ -14,6 +14,7 @@ mod mounting;
 mod refusal;
 mod runs;
 mod status;
+mod timetable;
 mod words;
 
 pub use command::{Finished, top};

@@ -1,4 +1,5 @@
 ghost use Rattle.std.specs.Prelude.{◌≡◌, ◌++◌, ◌∷◌, [], length, map, string_bytes};
+ghost use Rattle.solo_cli.specs.Uses.{times_number};
 ghost use Rattle.solo_cli.specs.Words.{form, alone, takes_number, option_of, greatest_number, with_number, number_behind, apart, joined};
 
 use deck_format::number_within;
@@ -19,6 +20,8 @@ pub enum Command {
     Migrate,
     /// Judges a description of access rights.
     Check,
+    /// Runs a script of the real-time scheduler, under the schedule of a number.
+    Times { schedule: u32 },
 }
 
 /// A command that takes a number.
@@ -26,6 +29,7 @@ pub enum Command {
 pub enum Numbered {
     Core,
     Make,
+    Times,
 }
 
 /// How many digits a number has at most.
@@ -45,6 +49,16 @@ pub fn command_of(words: &[String]) -> Option<Command>
             let (first, second, third) = (first.as_str(), second.as_str(), third.as_str());
             apart(first, second, third).or(apart(third, first, second))
         }
+        _ => None,
+    }
+}
+
+/// The number of the schedule of a command that reads the keys.
+pub fn schedule_of(command: Option<Command>) -> Option<u32>
+    ensures { result ≡ times_number command }
+{
+    match command {
+        Some(Command::Times { schedule }) => Some(schedule),
         _ => None,
     }
 }
@@ -95,6 +109,8 @@ fn takes_number(word: &str) -> Option<Numbered>
         Some(Numbered::Core)
     } else if word == "make" {
         Some(Numbered::Make)
+    } else if word == "times" {
+        Some(Numbered::Times)
     } else {
         None
     }
@@ -119,7 +135,7 @@ impl Numbered {
         ensures { result.now ≡ option_of self }
     {
         match self {
-            Numbered::Core => "--schedule",
+            Numbered::Core | Numbered::Times => "--schedule",
             Numbered::Make => "--number",
         }
     }
@@ -129,7 +145,7 @@ impl Numbered {
         ensures { result.now ≡ option_of self ++ 61 ∷ [] }
     {
         match self {
-            Numbered::Core => b"--schedule=",
+            Numbered::Core | Numbered::Times => b"--schedule=",
             Numbered::Make => b"--number=",
         }
     }
@@ -139,7 +155,7 @@ impl Numbered {
         ensures { result ≡ greatest_number self }
     {
         match self {
-            Numbered::Core => 2_147_483_647,
+            Numbered::Core | Numbered::Times => 2_147_483_647,
             Numbered::Make => LAST_NUMBER,
         }
     }
@@ -151,6 +167,7 @@ impl Numbered {
         match self {
             Numbered::Core => Command::Core { schedule: number },
             Numbered::Make => Command::Make { number },
+            Numbered::Times => Command::Times { schedule: number },
         }
     }
 }
