@@ -29,4 +29,6 @@ mod running;
 #[cfg(test)]
 mod tests;
 #[cfg(test)]
+mod times_tests;
+#[cfg(test)]
 mod word_tests;

@@ -58,6 +58,11 @@ fn each_written_form_is_a_command(rt: HostRuntime) -> Result<(), Fail> {
             is_each_form(alloc, "core", "--schedule", digits, asked)?,
             "{digits}"
         );
+        let asked = Command::Times { schedule };
+        assert!(rt;
+            is_each_form(alloc, "times", "--schedule", digits, asked)?,
+            "{digits}"
+        );
     }
     for (digits, number) in NUMBERS {
         let asked = Command::Make { number };
@@ -70,7 +75,7 @@ fn each_written_form_is_a_command(rt: HostRuntime) -> Result<(), Fail> {
 }
 
 /// Words that are no written form.
-const OTHERS: [&[&str]; 61] = [
+const OTHERS: [&[&str]; 64] = [
     &[],
     &[""],
     &["BATCH"],
@@ -105,6 +110,9 @@ const OTHERS: [&[&str]; 61] = [
     &["core", "--schedule", "=7"],
     &["core", "--schedule", "7", "7"],
     &["core", "--schedule=7", "--schedule=7"],
+    &["times"],
+    &["times", "--number", "7"],
+    &["times", "--schedule", "2147483648"],
     &["make"],
     &["MAKE", "--number", "7"],
     &["make", "7"],
