@@ -133,7 +133,7 @@ ghost use Rattle.solo_law.specs.Replies.{fault_read};
 ghost use Rattle.solo_procs.specs.Said.{fault_said, is_end};
 ghost use Rattle.solo_procs.specs.Machine.{Answers};
 
-/// IsUsedSo the reply to an action, and says which cause it gives.
+/// Uses the reply to an action, and says which cause it gives.
 #[inline(always)]
 fn answer<P: Proc>(
     process: &mut P,
