@@ -1,5 +1,5 @@
 -- Both ends of a buffer meet.
-use Rattle.std.proofs.Common.{◌≡◌, Option, None, Some, List, [], ◌∷◌, ◌++◌, option_to_list, true, refl, sym, ap, ◌∙◌, subst}
+use Rattle.std.proofs.Common.{◌≡◌, Option, None, Some, List, [], ◌++◌, option_to_list, refl, sym, ap, ◌∙◌, subst}
 use Rattle.std.specs.declared.snapshot.Snapshot.{Snapshot}
 use Rattle.solo_base.specs.declared.outcome.Side.{Side}
 use Rattle.solo_base.specs.declared.outcome.Side.TheVariants.{Receiver}

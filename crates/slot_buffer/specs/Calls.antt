@@ -1,5 +1,5 @@
 -- The calls of a running buffer, and what they have to do with its state.
-use Rattle.std.specs.Prelude.{◌≡◌, ℕ, Bool, true, false, Option, List, [], ◌∷◌}
+use Rattle.std.specs.Prelude.{◌≡◌, ℕ, Bool, true, false, Option, List, [], ◌∷◌, ◌++◌}
 use Rattle.std.specs.List.{flat_map, list_any}
 use Rattle.std.specs.declared.snapshot.Snapshot.{Snapshot}
 use Rattle.solo_base.specs.declared.outcome.Side.{Side}
@@ -48,6 +48,21 @@ has_stop calls = list_any is_stop calls
 
 abbrev pub was_refused : {T : Type 0} → List (SlotCall T) → Bool
 was_refused calls = list_any is_refusal calls
+
+-- The receiver took until it was told that no more comes.
+abbrev pub TookAll : {T : Type 0} → List (SlotCall T) → Type 0
+TookAll calls = (was_refused calls ≡ true) × (has_stop calls ≡ false)
+
+-- The sender put all of these items behind those of before, and then stopped.
+abbrev pub PutAll : {T : Type 0} → List T → List (SlotCall T) → List (SlotCall T) → Type 0
+PutAll items before after = (sent_of after ≡ sent_of before ++ items) × (has_stop after ≡ true)
+
+-- It put the first of these items, behind those of before.
+pub record PutFirst {T : Type 0} (items : List T) (before after : List (SlotCall T)) : Type 0 where
+  pub put : List T
+  pub later : List T
+  pub first_are : items ≡ put ++ later
+  pub sent : sent_of after ≡ sent_of before ++ put
 
 -- ---- the tie
 -- The buffer stands where it does after the calls of both ends: what was taken, and then what is inside, is what

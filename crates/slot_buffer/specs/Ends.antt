@@ -1,5 +1,8 @@
 -- What contracts see of the ends of a running buffer, and of its gate.
-use Rattle.std.specs.Prelude.{◌≡◌, true, false, Option, None, Some, Result, Ok, Err, List, [], ◌∷◌, ◌++◌, option_to_list}
+use Rattle.std.specs.Prelude.{◌≡◌, true, false, Option, None, Result, Ok, Err, List, [], ◌++◌, option_to_list}
+use Rattle.std.proofs.Common.{sym, ap, ◌∙◌}
+use Rattle.std.proofs.lemmas.Bool.{false_from_ne_true}
+use Rattle.std.proofs.lemmas.List.{append-nil}
 use Rattle.solo_base.specs.declared.outcome.Side.{Side}
 use Rattle.solo_base.specs.declared.outcome.Side.TheVariants.{Sender, Receiver}
 use Rattle.queue_var.specs.Sides.{nobody}
@@ -11,7 +14,7 @@ use Rattle.slot_buffer.specs.declared.answers.Ended.{Ended}
 use Rattle.slot_buffer.specs.declared.call.SlotCall.{SlotCall}
 use Rattle.slot_buffer.specs.declared.call.SlotCall.TheVariants as call
 use Rattle.slot_buffer.specs.Slot.{Slot}
-use Rattle.slot_buffer.specs.Calls.{IsTied, sent_of, taken_of, has_stop, was_refused}
+use Rattle.slot_buffer.specs.Calls.{IsTied, sent_of, taken_of, has_stop, was_refused, TookAll}
 
 -- an empty buffer at which nobody waits
 abbrev pub empty_slot : {T : Type 0} → Slot T
@@ -50,3 +53,12 @@ pub record Meets {T : Type 0} (calls : Side → List (SlotCall T)) (rest : Optio
   pub in_order : taken_of (calls Receiver) ++ option_to_list rest ≡ sent_of (calls Sender)
   pub stopped : WhoStopped (λ side. has_stop (calls side)) (λ side. was_refused (calls side)) stopped_by
   pub nothing_left : was_refused (calls Receiver) ≡ true → rest ≡ None
+
+-- Who took until it was told that no more comes took all that was put, and its sender was refused nothing.
+pub took_all : {T : Type 0} (calls : Side → List (SlotCall T)) (rest : Option T) (stopped_by : Option Side) → Meets calls rest stopped_by
+    → TookAll (calls Receiver) → (taken_of (calls Receiver) ≡ sent_of (calls Sender)) × (was_refused (calls Sender) ≡ false)
+took_all calls rest stopped_by met all = (
+  sym (append-nil (taken_of (calls Receiver))) ∙ ap (λ left. taken_of (calls Receiver) ++ option_to_list left) (sym (met.nothing_left all.0)) ∙ met.in_order,
+  false_from_ne_true (was_refused (calls Sender)) (λ refused. (
+      let did = met.stopped.did Receiver (met.stopped.told Sender refused) in let runs = all.1 in absurd cc)),
+)

@@ -1,9 +1,9 @@
 // The receiver's end of a running buffer.
-ghost use Rattle.std.specs.Prelude.{◌≡◌, false, [], Some};
+ghost use Rattle.std.specs.Prelude.{◌≡◌, ◌++◌, true, false, [], Some, IfErr, IfOk};
 ghost use Rattle.solo_base.specs.declared.outcome.Side.TheVariants.{Receiver};
 ghost use Rattle.slot_buffer.specs.declared.call.SlotCall.TheVariants as call;
 ghost use Rattle.slot_buffer.specs.Slot.{Slot, take_answer};
-ghost use Rattle.slot_buffer.specs.Calls.{has_stop, value};
+ghost use Rattle.slot_buffer.specs.Calls.{TookAll, has_stop, taken_of, value};
 ghost use Rattle.monitor_gate.specs.declared.view.Stage.TheVariants.{Outside};
 ghost use Rattle.monitor_gate.specs.Calls.{IsEndOf, HasCalled, after_call, calls_in};
 ghost use Rattle.slot_buffer.specs.Ends.{Finds, empty_slot, take_call, take_given};
@@ -12,7 +12,8 @@ use crate::gate::{SlotGate, SlotPass};
 use crate::send_end::stop;
 use crate::{Ended, SlotCall, SlotKind, Take};
 use monitor_gate::Gate;
-use solo_base::Side;
+use solo_base::{NoMemory, Side};
+use std::alloc::Global;
 use std::marker::Model;
 use std::snapshot::Snapshot;
 use std::sync::Wait;
@@ -49,6 +50,36 @@ impl<T: Send> RecvEnd<T> {
         ensures answer { (state : Slot T) × Finds Receiver self.old.calls state × (take_given result ≡ take_answer state) }
     {
         take(&gate.gate, &mut self.pass, rt)
+    }
+
+    /// Takes items out until none is left and the sender has stopped. Where memory is refused for one, it
+    /// stops.
+    pub fn take_all<R: Threads + Wait + Sync>(
+        &mut self,
+        gate: &SlotGate<T>,
+        alloc: Global,
+        rt: &R,
+    ) -> Result<Vec<T>, NoMemory>
+    where
+        T: Drop,
+        requires gate { self.old.gate ≡ gate.now }
+        requires not_stopped { has_stop self.old.calls ≡ false }
+        ensures gate { self.new.gate ≡ self.old.gate }
+        ensures all { IfOk result (λ out. TookAll self.new.calls
+            × (taken_of self.new.calls ≡ taken_of self.old.calls ++ out.items)) }
+        ensures stopped { IfErr result (λ refused. has_stop self.new.calls ≡ true) }
+    {
+        let mut out = Vec::new(alloc);
+        for _ in rt.forever() {
+            let Ok(item) = self.take(gate, rt) else {
+                return Ok(out);
+            };
+            if out.push(item).is_err() {
+                self.stop(gate, rt);
+                return Err(NoMemory);
+            }
+        }
+        unreachable!()
     }
 
     /// Stops for good. A sender that waits is let know.

@@ -3,7 +3,7 @@ ghost use Rattle.std.specs.Prelude.{◌≡◌, false, [], Some, IfErr};
 ghost use Rattle.solo_base.specs.declared.outcome.Side.TheVariants.{Sender};
 ghost use Rattle.slot_buffer.specs.declared.call.SlotCall.TheVariants as call;
 ghost use Rattle.slot_buffer.specs.Slot.{Slot, put_answer};
-ghost use Rattle.slot_buffer.specs.Calls.{has_stop, value};
+ghost use Rattle.slot_buffer.specs.Calls.{PutAll, PutFirst, has_stop, value, was_refused};
 ghost use Rattle.queue_var.specs.BetweenTwo.{process_at};
 ghost use Rattle.monitor_gate.specs.declared.view.Stage.TheVariants.{Outside};
 ghost use Rattle.monitor_gate.specs.Calls.{IsEndOf, HasCalled, after_call, calls_in};
@@ -55,6 +55,25 @@ impl<T: Send> SendEnd<T> {
         ensures answer { (state : Slot T) × Finds Sender self.old.calls state × (put_given item result ≡ put_answer state item) }
     {
         put(&gate.gate, &mut self.pass, item, rt)
+    }
+
+    /// Puts these items in, one after the other, and stops behind the last. It ends at the first that the
+    /// receiver takes no more.
+    pub fn put_all<R: Threads + Wait + Sync>(&mut self, gate: &SlotGate<T>, items: &[T], rt: &R)
+    where
+        T: Copy,
+        requires gate { self.old.gate ≡ gate.now }
+        requires not_stopped { has_stop self.old.calls ≡ false }
+        ensures gate { self.new.gate ≡ self.old.gate }
+        ensures all { was_refused self.new.calls ≡ false → PutAll items.now self.old.calls self.new.calls }
+        ensures first { PutFirst items.now self.old.calls self.new.calls }
+    {
+        for item in items {
+            if self.put(gate, *item, rt).is_err() {
+                return;
+            }
+        }
+        self.stop(gate, rt);
     }
 
     /// Stops for good. A receiver that waits is let know.
