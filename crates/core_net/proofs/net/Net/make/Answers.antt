@@ -1,12 +1,10 @@
 use Rattle.std.proofs.Common.{◌≤◌, [], sym, subst, refl, ◌∙◌, ap}
 use Rattle.solo_devices.specs.CardUnit.{items_ahead}
-use Rattle.disk_files.specs.Answers.{FileTable}
-use Rattle.core_net.specs.Openings.{spools_over}
-use Rattle.deck_work.specs.DeckJobs.{files_found}
-use Rattle.core_net.specs.Shared.{cards_left}
 use Rattle.core_net.proofs.GoodFiles.{are-good, told-cards}
 use Rattle.core_net.proofs.Within.{opening-within, fresh-few}
 use Rattle.core_net.proofs.net.Net.make.Goals as goal
+use Rattle.batch_ends.specs.Devices.{cards_left}
+use Rattle.batch_ends.specs.Openings.{spools_over}
 
 pub returns-clause-opens : goal.returns-clause-opens
 returns-clause-opens g c = record {
