@@ -1,0 +1,2 @@
+mod DeviceVisits
+pub mod ToldCards
