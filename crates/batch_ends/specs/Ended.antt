@@ -1,5 +1,5 @@
 -- How a run of the five ended, once all have.
-use Rattle.std.specs.Prelude.{◌≡◌, ◌↔◌, ◌==◌, ◌-◌, ◌⊎◌, ℕ, List, [], ◌∷◌, Option, None, Some, if◌then◌else◌}
+use Rattle.std.specs.Prelude.{◌≡◌, ◌≢◌, ◌↔◌, ◌==◌, ◌-◌, ◌⊎◌, ℕ, List, [], ◌∷◌, Option, None, Some, if◌then◌else◌}
 use Rattle.solo_base.specs.declared.outcome.Side.{Side}
 use Rattle.solo_base.specs.declared.outcome.Outcome.{Outcome}
 use Rattle.solo_base.specs.declared.outcome.Outcome.TheVariants as outcome
@@ -66,7 +66,13 @@ abbrev pub NoneDamaged : Outcomes → Type 0
 NoneDamaged outcomes =
     (p : ℕ) (c : Cause) → IsProcess p → outcome_at outcomes p ≡ outcome.Fault c → IsDamaged c → ⊥
 
--- Each process has only faults of its own.
+-- The numbers of a damaged page: it has another place in its stream exactly where the first of its bytes is the
+-- first that is wrong.
+abbrev pub TellsWhere : Cause → Type 0
+TellsWhere (cause.Damaged expected found at) = (found ≢ expected) ↔ (at ≡ 0)
+TellsWhere other = Unit {0}
+
+-- Each process has only faults of its own, and the numbers of a damaged page agree.
 pub record FaultsAre (outcomes : Outcomes) : Type 0 where
   pub card : (c : Cause) → outcomes.card ≡ outcome.Fault c → (c ≡ cause.ReadFault) ⊎ (c ≡ cause.DeckLimit)
   pub input : (c : Cause) → outcomes.input ≡ outcome.Fault c → c ≡ cause.DiskFault
@@ -75,3 +81,4 @@ pub record FaultsAre (outcomes : Outcomes) : Type 0 where
   pub output : (c : Cause) → outcomes.output ≡ outcome.Fault c → (c ≡ cause.DiskFault) ⊎ IsDamaged c
   pub printer : (c : Cause) → outcomes.printer ≡ outcome.Fault c
       → (c ≡ cause.PrintFault) ⊎ (c ≡ cause.NoMemory)
+  pub numbers : (p : ℕ) (c : Cause) → IsProcess p → outcome_at outcomes p ≡ outcome.Fault c → TellsWhere c
