@@ -4,3 +4,4 @@ pub mod Ended
 pub mod Faults
 pub mod Openings
 pub mod Spools
+pub mod Tells

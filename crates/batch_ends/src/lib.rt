@@ -4,8 +4,10 @@
 
 mod device_calls;
 mod ends;
+mod peripherals;
 mod units;
 
 pub use device_calls::{is_item, print, read_card};
 pub use ends::{Outcomes, Ran};
+pub use peripherals::Peripherals;
 pub use units::Units;

@@ -93,12 +93,9 @@ same-five : (a b c d e x y z v w : Outcome) → a ≡ x → b ≡ y → c ≡ z 
     → the_five ≡ record { card = x; input = y; job = z; output = v; printer = w }
 same-five a b c d e x y z v w i j k l m the_five is = cc
 
-abbrev these : {X S K F A B : Type 0} → S → K → A → B → F → Units S K F A B
-these source sink input output files = record { source = source; sink = sink; input = input; output = output; files = files }
-
-pub same-devices : {X S K F A B : Type 0} (source : S) (sink : K) (a c : A) (b d : B) (files : F) → a ≡ c → b ≡ d
-    → these source sink a b files ≡ these source sink c d files
-same-devices source sink a c b d files x y = cc
+pub same-devices : {S K F A B : Type 0} (units : Units S K F A B) (a : A) (b : B) → a ≡ units.input → b ≡ units.output
+    → record units { input = a; output = b } ≡ units
+same-devices units a b x y = rw (x, y) refl
 
 module _ {L : Type 0} {J : Jobs L} (jobs : AreJobs J) where
   abbrev Told : Cause → Action → Option (Reply L) → Type 0

@@ -33,11 +33,14 @@ use Rattle.core_law.proofs.Row.{each-buffer, each-process}
 use Rattle.core_net.specs.declared.net.Net.{Net}
 use Rattle.core_net.specs.declared.shared.Shared.{Shared}
 use Rattle.core_net.specs.Shared.{SharedStands}
-use Rattle.core_net.specs.Net.{Keeps, NetStands}
+use Rattle.core_net.specs.Net.{Keeps, NetStands, StandsWithin}
+use Rattle.network_run.specs.Law.{Placed}
+use Rattle.core_law.specs.TheLaw.{the_law}
+use Rattle.batch_ends.proofs.DamagedPages.{tells-where}
 use Rattle.core_net.specs.Ended.{HaveEnded, sides_of, EndsSo}
 use Rattle.batch_procs.specs.Jobs.{Jobs, AreJobs, FilesAs, one_thread}
-use Rattle.batch_ends.specs.Ended.{outcome_at, all_done, none_stopped, stopped_at, StoppedBeside, SomeFault, EndTogether, FaultsAre, NoneDamaged}
-use Rattle.batch_ends.specs.Tells.{Tells}
+use Rattle.batch_ends.specs.Ended.{TellsWhere, outcome_at, all_done, none_stopped, stopped_at, StoppedBeside, SomeFault, EndTogether, FaultsAre, NoneDamaged}
+use Rattle.batch_ends.specs.Tells.{Tells, deck_ahead}
 use Rattle.batch_ends.specs.declared.ends.Outcomes.{Outcomes}
 
 -- ---- one process
@@ -101,6 +104,9 @@ module _ {L : Type 0} {J : Jobs L} (jobs : AreJobs J) where
     given-so : (found : Outcome) → how ≡ found → IsNotDone (Some found) → GivenBy h found
     given-so found e not = each_cause_is_given J h found (cause-is (caused h) found (sym (is h st) ∙ e) not)
 
+    number-so : (c : Cause) → how ≡ outcome.Fault c → TellsWhere c
+    number-so c e = tells-where c J h (cause-is (caused h) (outcome.Fault c) (sym (is h st) ∙ e) tt)
+
     fault-so : (Fault : Cause → Type 0) → FaultsOf J p Fault → (c : Cause) → how ≡ outcome.Fault c → Fault c
     fault-so Fault faults c e = faults h c st.follows (cause-is (caused h) (outcome.Fault c) (sym (is h st) ∙ e) tt)
 
@@ -117,7 +123,7 @@ module _ {L : Type 0} {J : Jobs L} (jobs : AreJobs J) where
   stopped-so s b is = each-buffer (λ b. stopped_at (sides_of s) b ≡ stopped_by (s.buffers b).sides) b is refl refl refl refl
 
   module _ {X S K F A B : Type 0} (keeps : Keeps L X) (tells : Tells L S K F A B) (net : Net X S K F A B) (outcomes : Outcomes) (stops : List (Option Side))
-      (some : HaveEnded J keeps tells net)
+      (some : HaveEnded J (StandsWithin J keeps tells net))
       (card-is : (h : List (Entry L)) → StandsFor J card keeps.card net.card h → outcomes.card ≡ outcome_by (caused h))
       (input-is : (h : List (Entry L)) → StandsFor J input keeps.input net.input h → outcomes.input ≡ outcome_by (caused h))
       (job-is : (h : List (Entry L)) → StandsFor J (job J) keeps.job net.job h → outcomes.job ≡ outcome_by (caused h))
@@ -161,6 +167,15 @@ module _ {L : Type 0} {J : Jobs L} (jobs : AreJobs J) where
     pub ends : (s : CoreState L) → NetStands J keeps tells net s → EndsSo s outcomes stops
     ends s st = record { ended = ended s st; given = given s st; first = stops-are s st }
 
+    numbers : (p : ℕ) (c : Cause) → IsProcess p → outcome_at outcomes p ≡ outcome.Fault c → TellsWhere c
+    numbers p c one =
+        each-process (λ p. outcome_at outcomes p ≡ outcome.Fault c → TellsWhere c) p one
+        (number-so card keeps.card net.card outcomes.card card-is (first.histories 1) stood.card c)
+        (number-so input keeps.input net.input outcomes.input input-is (first.histories 2) stood.input c)
+        (number-so (job J) keeps.job net.job outcomes.job job-is (first.histories 3) stood.job c)
+        (number-so output keeps.output net.output outcomes.output output-is (first.histories 4) stood.output c)
+        (number-so printer keeps.printer net.printer outcomes.printer printer-is (first.histories 5) stood.printer c)
+
     pub faults : FaultsAre outcomes
     faults = record {
       card = fault-so card keeps.card net.card outcomes.card card-is (first.histories 1) stood.card _ (faults_of_the_five J jobs).card;
@@ -170,6 +185,7 @@ module _ {L : Type 0} {J : Jobs L} (jobs : AreJobs J) where
           (faults_of_the_five J jobs).output;
       printer = fault-so printer keeps.printer net.printer outcomes.printer printer-is (first.histories 5) stood.printer _
           (faults_of_the_five J jobs).printer;
+      numbers = numbers;
     }
 
     -- ---- together
@@ -218,7 +234,7 @@ module _ {L : Type 0} {J : Jobs L} (jobs : AreJobs J) where
     together = record { done = (done-none, none-done); stopped = beside }
 
     -- ---- for an opening
-    module _ (at : IsPlaced J keeps tells net) where
+    module _ (at : Placed (the_law J) (StandsWithin J keeps tells net)) where
       holds : Holds at.opening at.state
       holds = reached-holds jobs at.opening at.state at.reached
 
@@ -227,12 +243,10 @@ module _ {L : Type 0} {J : Jobs L} (jobs : AreJobs J) where
           → Gains at.opening.paper (tells.given net.shared.paper.sink) (text (one_thread J items found)) (outcomes ≡ all_done)
       prints told items found is are_found =
           subst (λ now. Gains at.opening.paper now (text (one_thread J items found)) (outcomes ≡ all_done)) at.stands.is.shared.paper
-          (gains-where at.opening.paper at.state.devices.paper _ _ _ (all-are at.state at.stands.is)
-          (subst (λ lines. Gains at.opening.paper at.state.devices.paper (text lines) (AllDone at.state)) (one_thread_is items found)
-          (holds.prints told items found is are_found)))
+          (gains-where at.opening.paper at.state.devices.paper _ _ _ (all-are at.state at.stands.is) (holds.prints told items found is are_found))
 
       pub reads : (items : List Item) → at.opening.deck ≡ Some items → outcomes ≡ all_done
-          → items_ahead (tells.left net.shared.deck.source) net.shared.deck.pending ≡ Some []
+          → deck_ahead tells net.shared.deck ≡ Some []
       reads items is e = sym at.stands.is.shared.deck ∙ holds.reads items is (all-are at.state at.stands.is e)
 
       pub undamaged : AreTold at.opening.spools → NoneDamaged outcomes

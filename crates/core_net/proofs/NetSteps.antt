@@ -144,7 +144,7 @@ module _ {L : Type 0} {J : Jobs L} (jobs : AreJobs J) where
     follows : (p : ℕ) → Follows J (process J p) (s.histories p)
     follows p = follows-of jobs (process J) p (s.histories p) (centre.stands.follows p)
 
-    pub may-now : (p : ℕ) (action : Action) → MayStepIn J s p action → MayPerform net.shared p action
+    pub may-now : (p : ℕ) (action : Action) → MayStepIn J s p action → MayPerform tells net.shared p action
     may-now p action step =
         may-perform jobs tells (first_state o) s centre.stands net.shared stands.shared p step.one stands.deck_live stands.paper_live
         stands.files_sound
@@ -405,7 +405,7 @@ module _ {L : Type 0} {J : Jobs L} (jobs : AreJobs J) where
   -- that a machine may step
   pub may-step : {X S K F A B : Type 0} (keeps : Keeps L X) (tells : Tells L S K F A B) (net : Net X S K F A B) (p q : ℕ) (Stands : List (Entry L) → Type 0) → p ≡ q
       → (m : law.MayStep (the_law J) (StandsWithin J keeps tells net) p) → Stands (m.at.state.histories q)
-      → MayStep (process J q) Stands net.shared p
+      → MayStep tells (process J q) Stands net.shared p
   may-step keeps tells net p q Stands e m stands = record {
     history = m.at.state.histories q;
     action = m.may.action;

@@ -49,14 +49,14 @@ last-none (x ∷ front) rest e = absurd cc
 some-none : (items : List Item) → Some items ≡ Some [] → items ≡ []
 some-none items e = cc
 
-pub all-taken : (before now : Option (List ℕ)) (taken_before taken_now : ℕ) (pending : List ℕ)
+pub all-taken : (before now : Option (List ℕ)) (taken_before taken_now : ℕ) (first pending : List ℕ) → first ≡ []
     → bytes_total taken_now now ≡ bytes_total taken_before before
-    → ((items : List Item) → items_ahead before [] ≡ Some items → items_ahead now pending ≡ Some []) → IsAllTaken now
-all-taken None None taken_before taken_now pending total reads = λ rest is. absurd cc
-all-taken None (Some bytes) taken_before taken_now pending total reads = absurd cc
-all-taken (Some bytes) now taken_before taken_now pending total reads = λ rest is.
-    let none : Some (cards (pending ++ rest)) ≡ Some [] = subst (λ now. items_ahead now pending ≡ Some []) is (reads (cards bytes) refl) in
-    last-none pending rest (lines-none (pending ++ rest) (map-none card_of (lines (pending ++ rest)) (some-none (cards (pending ++ rest)) none)))
+    → ((items : List Item) → items_ahead before first ≡ Some items → items_ahead now pending ≡ Some []) → IsAllTaken now
+all-taken None None taken_before taken_now first pending none total reads = λ rest is. absurd cc
+all-taken None (Some bytes) taken_before taken_now first pending none total reads = absurd cc
+all-taken (Some bytes) now taken_before taken_now first pending none total reads = λ rest is.
+    let gone : Some (cards (pending ++ rest)) ≡ Some [] = subst (λ now. items_ahead now pending ≡ Some []) is (reads (cards bytes) (ap (λ first. Some (cards (first ++ bytes))) none)) in
+    last-none pending rest (lines-none (pending ++ rest) (map-none card_of (lines (pending ++ rest)) (some-none (cards (pending ++ rest)) gone)))
 
 module _ {L : Type 0} {J : Jobs L} (jobs : AreJobs J) where
   same-told : (devices : Devices L) (deck : Option (List Item)) (paper : Option (List ℕ)) (files : Option (FilesAs L)) → devices.deck ≡ deck

@@ -16,7 +16,7 @@ ghost use Rattle.batch_ends.specs.Faults.{FaultsAreCounted};
 ghost use Rattle.batch_ends.specs.Tells.{deck_ahead};
 ghost use Rattle.core_net.specs.Ended.{HaveEnded, EndsSo};
 ghost use Rattle.core_net.specs.Faults.{CausesAreCounted, units_of};
-ghost use Rattle.core_net.specs.Net.{the_keeps};
+ghost use Rattle.core_net.specs.Net.{NetStands, the_keeps};
 
 use crate::{Net, Shared};
 use batch_ends::{Outcomes, Peripherals, Ran, Units};
@@ -31,7 +31,8 @@ impl<J: JobWork, S: Source, K: Sink, F: Loader<J>, A: Area, B: Area> Net<J, S, K
         requires ended { HaveEnded J.jobs (⟦<Net<J, S, K, F, A, B> as Network>⟧.Stands self) }
 
         // In every state that it stands for.
-        ensures ends { (s : CoreState J.Load) → ⟦<Net<J, S, K, F, A, B> as Network>⟧.Stands self s →
+        ensures ends { (s : CoreState J.Load) →
+            NetStands J.jobs (the_keeps J.jobs J.keeps) ⟦<Units<S, K, F, A, B> as Peripherals<J>>⟧.tells self s →
             EndsSo s result.outcomes result.stopped_by }
         ensures together { EndTogether result.outcomes result.stopped_by }
         ensures faults { FaultsAre result.outcomes }
