@@ -45,7 +45,7 @@ module _ (expected : ℕ) (last : Bool) (bytes : List ℕ) where
       subst TellsWhere (fault-same (cause.Damaged expected (number_at bytes 0) at) c e) (least-first at wrong, first-wrong at wrong.wrong)
 
 -- ---- the cause
-module _ {L : Type 0} (c : Cause) where
+module _ (c : Cause) where
   other-fault : (d : Cause) → TellsWhere d → Some (outcome.Fault d) ≡ Some (outcome.Fault c) → TellsWhere c
   other-fault d tells e = subst TellsWhere (fault-same d c e) tells
 
@@ -53,16 +53,17 @@ module _ {L : Type 0} (c : Cause) where
   device-fault (act.Print line) = tt
   device-fault other = tt
 
+module _ {L : Type 0} (c : Cause) where
   given-tells : (a : Action) (r : Reply L) (before : List (Entry L)) → given_cause a r before ≡ Some (outcome.Fault c) → TellsWhere c
   given-tells a reply.Done before e = absurd cc
   given-tells a reply.Stopped before e = absurd cc
-  given-tells a reply.Failed before e = other-fault (fault_at a) (device-fault a) e
-  given-tells a reply.NoMemory before e = other-fault cause.NoMemory tt e
+  given-tells a reply.Failed before e = other-fault c (fault_at a) (device-fault c a) e
+  given-tells a reply.NoMemory before e = other-fault c cause.NoMemory tt e
   given-tells a (reply.Card (read.Card line)) before e = absurd cc
   given-tells a (reply.Card read.Spoiled) before e = absurd cc
   given-tells a (reply.Card read.End) before e = absurd cc
-  given-tells a (reply.Card read.Failed) before e = other-fault cause.ReadFault tt e
-  given-tells a (reply.Card read.Limit) before e = other-fault cause.DeckLimit tt e
+  given-tells a (reply.Card read.Failed) before e = other-fault c cause.ReadFault tt e
+  given-tells a (reply.Card read.Limit) before e = other-fault c cause.DeckLimit tt e
   given-tells a (reply.Feed f) before e = absurd cc
   given-tells a (reply.Page page last) before e =
       page-tells (place before) last page.0 (bad_place (place before) last page.0) c (least_wrong (place before) last page.0) e
@@ -70,7 +71,7 @@ module _ {L : Type 0} (c : Cause) where
 
   entry-tells : (entry : Entry L) (before : List (Entry L)) → cause_by entry before ≡ Some (outcome.Fault c) → TellsWhere c
   entry-tells (Does a r) before e = given-tells a r before e
-  entry-tells (LacksMemory a r) before e = other-fault cause.NoMemory tt e
+  entry-tells (LacksMemory a r) before e = other-fault c cause.NoMemory tt e
   entry-tells (Delays a) before e = absurd cc
 
   pub tells-where : (J : Jobs L) (h : List (Entry L)) → caused h ≡ Some (outcome.Fault c) → TellsWhere c
