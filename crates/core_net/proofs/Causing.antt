@@ -1,5 +1,5 @@
 -- The causes of what is performed.
-use Rattle.std.proofs.Common.{◌≡◌, ◌≢◌, ◌≤◌, ◌<◌, ◌↔◌, ℕ, List, true, Option, Some, refl, ◌∙◌, ap, subst, arith}
+use Rattle.std.proofs.Common.{◌≡◌, ◌≢◌, ◌≤◌, ◌<◌, ◌↔◌, ℕ, List, true, Option, Some, refl, sym, ◌∙◌, ap, subst, arith}
 use Rattle.solo_devices.specs.Count.{Rose}
 use Rattle.solo_devices.specs.CardUnit.{Held, byte_limit}
 use Rattle.solo_devices.specs.PrinterUnit.{Printing}

@@ -28,7 +28,7 @@ use Rattle.core_net.specs.Shared.{Choice, AtNumbers, StopsAt, Performs, deck_tot
 use Rattle.batch_procs.specs.Jobs.{Jobs, AreJobs, FilesAs}
 use Rattle.batch_procs.specs.Loads.{AnswersLoad}
 use Rattle.batch_ends.specs.Devices.{ReadsCard, PrintsLine, cards_left}
-use Rattle.batch_ends.specs.Tells.{Tells}
+use Rattle.batch_ends.specs.Tells.{Tells, deck_ahead}
 
 -- ---- numbers
 chosen : (t : Bool) (X Y : Type 0) → t ≡ true → Choice t X Y → X

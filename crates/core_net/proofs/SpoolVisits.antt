@@ -90,7 +90,7 @@ module _ {L : Type 0} {J : Jobs L} (jobs : AreJobs J) where
         → Writes before now n Moved.Done page
         → ((all : List (List ℕ)) → before ≡ Some all → map received_page taken ++ pages_inside all ring ≡ sent)
         → ((all : List (List ℕ)) → now ≡ Some all → map received_page taken ++ pages_inside all ring' ≡ sent ++ page ∷ [])
-        → option_map (λ inside. inside ++ page_parcel page ∷ []) (told_inside before ring) ≡ told_inside now ring'
+        → option_map (λ inside. inside ++ page_parcel page ∷ []) (told_inside {L = L} before ring) ≡ told_inside now ring'
     put-told None now n page ring ring' sent taken w old after = rw (w.untold refl) refl
     put-told (Some all) now n page ring ring' sent taken w old after =
         let now_is = w.told all refl in
@@ -128,7 +128,7 @@ module _ {L : Type 0} {J : Jobs L} (jobs : AreJobs J) where
         → Writes before now n Moved.Failed page
         → ((all : List (List ℕ)) → before ≡ Some all → map received_page taken ++ pages_inside all ring ≡ sent)
         → ((all : List (List ℕ)) → now ≡ Some all → map received_page taken ++ pages_inside all ring ≡ sent)
-        → told_inside before ring ≡ told_inside now ring
+        → told_inside {L = L} before ring ≡ told_inside now ring
     failed-told None now n page ring sent taken w old after = rw (w.untold refl) refl
     failed-told (Some all) now n page ring sent taken w old after =
         let wrote = w.told all refl in
@@ -163,7 +163,7 @@ module _ {L : Type 0} {J : Jobs L} (jobs : AreJobs J) where
         → map received_mark taken ++ marks ≡ map mark sent → marks ≡ received_mark got ∷ drop 1 marks
         → ((all : List (List ℕ)) → before ≡ Some all → map received_page taken ++ pages_inside all ring ≡ sent)
         → ((all : List (List ℕ)) → now ≡ Some all → map received_page (taken ++ got ∷ []) ++ pages_inside all ring' ≡ sent)
-        → (option_map (drop 1) (told_inside before ring) ≡ told_inside now ring')
+        → (option_map (drop 1) (told_inside {L = L} before ring) ≡ told_inside now ring')
         × ((inside : List (Parcel L)) → told_inside before ring ≡ Some inside → inside ≡ OfPage record { 0 = got.page } got.last ∷ drop 1 inside)
     take-told None now ring ring' marks sent taken got left in_order first old after = (rw left refl, λ inside e. absurd cc)
     take-told (Some all) now ring ring' marks sent taken got left in_order first old after =

@@ -1,5 +1,6 @@
 use Rattle.std.proofs.Common.{◌≤◌, sym, subst, refl, ◌∙◌, ap}
-use Rattle.solo_devices.specs.CardUnit.{Held}
+use Rattle.solo_devices.specs.CardUnit.{items_ahead}
+use Rattle.batch_ends.specs.Openings.{spools_over}
 use Rattle.batch_ends.specs.Devices.{cards_left}
 use Rattle.batch_ends.specs.declared.units.Units.{Units}
 use Rattle.batch_ends.proofs.ToldCards.{told-cards}
@@ -36,7 +37,11 @@ returns-clause-opens g c = record {
       paper_live = λ free. ap (λ (u : Units _ _ _ _ _). u.paper.live) c.make.ensures.units ∙ c.requires.paper;
       files_sound = λ free. subst (λ (u : Units _ _ _ _ _). g.F.Loader.sound u.files) (sym c.make.ensures.units) c.requires.sound;
     };
-    within = opening-within g.met.J.JobWork.are_jobs (cards_left g.S.Source.taken c.make.result.deck) _ _ _ _
+    within = opening-within g.met.J.JobWork.are_jobs (cards_left g.S.Source.taken c.make.result.deck)
+        (spools_over (g.A.Area.size c.args.units.input) (g.A.Area.pages c.args.units.input)
+        (g.B.Area.size c.args.units.output) (g.B.Area.pages c.args.units.output))
+        (items_ahead (g.S.Source.left c.args.units.deck.source) c.args.units.deck.pending)
+        (g.K.Sink.given c.args.units.paper.sink) (g.F.Loader.found c.args.units.files)
         (subst (λ (u : Units _ _ _ _ _). cards_left g.S.Source.taken u.deck ≤ 33555457) (sym c.make.ensures.units)
         (fresh-few g.S.Source.taken c.args.units.deck c.requires.unread c.requires.deck.1));
   };
