@@ -15,7 +15,7 @@ ghost use Rattle.batch_ends.specs.Ended.{EndTogether, FaultsAre, NoneDamaged, al
 ghost use Rattle.batch_ends.specs.Faults.{FaultsAreCounted};
 ghost use Rattle.batch_ends.specs.Tells.{deck_ahead};
 ghost use Rattle.core_net.specs.Ended.{HaveEnded, EndsSo};
-ghost use Rattle.core_net.specs.Faults.{CausesAreCounted, units_of};
+ghost use Rattle.core_net.specs.Faults.{CausesAreCounted, JobFaultIsOwn, units_of};
 ghost use Rattle.core_net.specs.Net.{NetStands, the_keeps};
 
 use crate::{Net, Shared};
@@ -41,6 +41,12 @@ impl<J: JobWork, S: Source, K: Sink, F: Loader<J>, A: Area, B: Area> Net<J, S, K
             ⟦<Units<S, K, F, A, B> as Peripherals<J>>⟧.tells
             ⟦<Units<S, K, F, A, B> as Peripherals<J>>⟧.counts before self →
             FaultsAreCounted ⟦<Units<S, K, F, A, B> as Peripherals<J>>⟧.counts before result }
+        ensures own { (before : Units S K F A B) →
+            CausesAreCounted J.jobs (the_keeps J.jobs J.keeps)
+            ⟦<Units<S, K, F, A, B> as Peripherals<J>>⟧.tells
+            ⟦<Units<S, K, F, A, B> as Peripherals<J>>⟧.counts before self →
+            JobFaultIsOwn ⟦<Units<S, K, F, A, B> as Peripherals<J>>⟧.counts before result.units
+            result.outcomes }
 
         // For each place where it stands: the paper gained what one thread prints or a part of it, all of it
         // where all are done, and then nothing is left of the deck.
