@@ -35,7 +35,7 @@ use Rattle.core_net.specs.Faults.{disk_fault, JobFaultIsOwn, AreMet, units_of, o
 use Rattle.core_net.specs.Net.{Keeps, NetStands}
 use Rattle.core_net.specs.Steps.{reply_of}
 use Rattle.core_law.proofs.Askers.{moves-page, takes-page, reads-deck, loads-files}
-use Rattle.batch_procs.specs.Jobs.{Jobs, AreJobs, FilesAs, one_thread}
+use Rattle.batch_procs.specs.Jobs.{Jobs, AreJobs}
 use Rattle.batch_ends.specs.Causes.{Counts}
 use Rattle.batch_ends.specs.Faults.{AreCounted}
 use Rattle.batch_ends.specs.Tells.{Tells}

@@ -33,7 +33,7 @@ use Rattle.core_law.proofs.Places.{call-buffer}
 use Rattle.core_net.specs.declared.shared.Shared.{Shared}
 use Rattle.core_net.specs.Shared.{SharedStands, Choice, AtNumbers, WaitsAt, PutsAt, TakesAt, StopsAt, MayPerform}
 use Rattle.core_law.proofs.Askers.{feed-puts, room-waits, moves-page, takes-feed, takes-page, item-waits, reads-deck, prints-paper, loads-files}
-use Rattle.batch_procs.specs.Jobs.{Jobs, AreJobs, FilesAs, one_thread}
+use Rattle.batch_procs.specs.Jobs.{Jobs, AreJobs}
 use Rattle.batch_ends.specs.Tells.{Tells}
 
 -- ---- numbers

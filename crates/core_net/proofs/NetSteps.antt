@@ -46,7 +46,7 @@ use Rattle.core_law.proofs.Askers.{reads-deck, prints-paper, loads-files}
 use Rattle.core_net.proofs.MayPerforming.{may-perform}
 use Rattle.core_law.proofs.DeskRoom.{desk-room}
 use Rattle.core_net.proofs.Entering.{is-event}
-use Rattle.batch_procs.specs.Jobs.{Jobs, AreJobs, FilesAs, one_thread}
+use Rattle.batch_procs.specs.Jobs.{Jobs, AreJobs}
 use Rattle.batch_ends.specs.Causes.{Counts}
 use Rattle.batch_ends.specs.Devices.{cards_left}
 use Rattle.batch_ends.specs.Tells.{Tells}

@@ -4,7 +4,7 @@ use Rattle.std.proofs.lemmas.Bool.{eqb-true, eq-eqb}
 use Rattle.std.proofs.lemmas.List.{append-nil}
 use Rattle.solo_base.specs.declared.item.Feed.{Feed}
 use Rattle.solo_base.specs.declared.outcome.Side.{Side}
-use Rattle.solo_devices.specs.CardUnit.{Held, items_ahead}
+use Rattle.solo_devices.specs.CardUnit.{Held}
 use Rattle.solo_devices.specs.PrinterUnit.{Printing}
 use Rattle.queue_var.specs.Sides.{MayStop}
 use Rattle.resource_mon.specs.Claims.{Claims}

@@ -16,7 +16,7 @@ use Rattle.network_law.specs.Acts.{Moves, Stops}
 use Rattle.network_law.specs.Buffer.{Buffer, after_stop, moved_through}
 use Rattle.core_net.specs.Calls.{Visited}
 use Rattle.core_net.specs.Spools.{told_inside, spool_buffer, SpoolStands}
-use Rattle.batch_procs.specs.Jobs.{Jobs, AreJobs, FilesAs, one_thread}
+use Rattle.batch_procs.specs.Jobs.{Jobs, AreJobs}
 use Rattle.batch_ends.specs.Spools.{page_parcel}
 
 -- ---- lists

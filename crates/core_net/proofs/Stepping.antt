@@ -19,7 +19,7 @@ use Rattle.core_net.specs.Causes.{HasCauses}
 use Rattle.core_net.specs.Shared.{SharedStands, Performs}
 use Rattle.core_net.specs.Steps.{is_end, Enters, Steps}
 use Rattle.core_net.specs.Turns.{HasPlace}
-use Rattle.batch_procs.specs.Jobs.{Jobs, AreJobs, FilesAs, one_thread}
+use Rattle.batch_procs.specs.Jobs.{Jobs, AreJobs}
 use Rattle.batch_ends.specs.Causes.{Counts}
 use Rattle.batch_ends.specs.Tells.{Tells}
 

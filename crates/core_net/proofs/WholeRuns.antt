@@ -3,8 +3,7 @@ use Rattle.std.proofs.Common.{◌≡◌, ◌≤◌, ◌==◌, if◌then◌else�
 use Rattle.solo_base.specs.Card.{lines, before_lines, card_of, cards}
 use Rattle.solo_base.specs.declared.item.Item.{Item}
 use Rattle.solo_base.specs.declared.outcome.Side.{Side}
-use Rattle.solo_devices.specs.CardUnit.{Held, items_ahead, bytes_total, IsAllTaken}
-use Rattle.solo_devices.specs.PrinterUnit.{Printing}
+use Rattle.solo_devices.specs.CardUnit.{items_ahead, bytes_total, IsAllTaken}
 use Rattle.network_run.specs.declared.counts.Counts.{Counts}
 use Rattle.network_run.specs.declared.rules.Rule.{Rule}
 use Rattle.network_run.specs.Counting.{raised}
@@ -21,7 +20,7 @@ use Rattle.core_net.specs.declared.net.Net.{Net}
 use Rattle.core_net.specs.Ended.{EndsSo}
 use Rattle.core_net.specs.Net.{Keeps, NetStands, StandsWithin}
 use Rattle.core_net.specs.WholeRuns.{RunsToEnd}
-use Rattle.batch_procs.specs.Jobs.{Jobs, AreJobs, FilesAs, one_thread}
+use Rattle.batch_procs.specs.Jobs.{Jobs, AreJobs, FilesAs}
 use Rattle.batch_ends.specs.Tells.{Tells, devices_of}
 use Rattle.batch_ends.specs.declared.units.Units.{Units}
 use Rattle.core_net.specs.Faults.{units_of}

@@ -1,4 +1,3 @@
-use Rattle.std.proofs.Common.{refl}
 use Rattle.core_net.specs.Faults.{units_of}
 use Rattle.core_net.proofs.Finishing.{sides-are, ends, faults, together, prints, reads, undamaged}
 use Rattle.core_net.proofs.FaultsCounted.{ended-met, same-devices}
