@@ -1,13 +1,10 @@
 -- A reply that fits has room where the program asked, and leaves less to run.
-use Rattle.std.proofs.Common.{◌≡◌, ℕ, ◌+◌, ◌-◌, ◌*◌, ◌<◌, ◌≤◌, ◌^◌, Option, Some, None, ◌++◌, length, drop, refl, sym, ap, arith, subst, ◌⊎◌, inl, inr}
+use Rattle.std.proofs.Common.{◌≡◌, ℕ, ◌+◌, ◌-◌, ◌*◌, ◌<◌, ◌≤◌, ◌^◌, Option, Some, None, ◌++◌, drop, refl, sym, arith, subst, ◌⊎◌, inl, inr}
 use Rattle.std.proofs.Math.Nat.{mul-le-mul_right}
 use Rattle.solo_base.specs.declared.system_call.SysCall.{SysCall}
 use Rattle.solo_base.specs.declared.system_call.SysReply.{SysReply}
 use Rattle.solo_base.specs.declared.system_call.SysReply.TheVariants as replies
-use Rattle.std.proofs.lemmas.Bool.{leb-true, and_parts, cases_lt}
-use Rattle.std.proofs.lemmas.List.{get_or_past}
-use Rattle.stack_code.specs.declared.instr.RoutineInfo.{RoutineInfo}
-use Rattle.stack_code.specs.CodeLists.{CodeLists, routine_at, instr_at, no_routine}
+use Rattle.stack_code.specs.CodeLists.{CodeLists, routine_at, instr_at}
 use Rattle.stack_code.specs.Rules.{IsGood, pops}
 use Rattle.stack_machine.specs.States.{State}
 use Rattle.stack_machine.specs.declared.state.Finish.{Finish}

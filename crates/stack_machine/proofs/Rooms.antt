@@ -1,15 +1,12 @@
 -- A store that holds its code.
-use Rattle.std.proofs.Common.{◌≡◌, ℕ, ◌+◌, ◌<◌, ◌≤◌, true, length, max, sym, ap, arith, subst, inl, inr}
-use Rattle.std.proofs.lemmas.Bool.{cases_eq, leb-true, ltb-true, and_parts, cases_lt}
+use Rattle.std.proofs.Common.{◌≡◌, ℕ, ◌+◌, ◌<◌, ◌≤◌, true, length, max, sym, arith, subst, inl, inr}
+use Rattle.std.proofs.lemmas.Bool.{leb-true, ltb-true, and_parts, cases_lt}
 use Rattle.std.specs.Prelude.{nat_le, nat_lt, slice_get, Some}
 use Rattle.std.proofs.lemmas.Option.{get_or_from_slice_get, slice_get_within}
-use Rattle.std.proofs.lemmas.List.{get_or_past}
 use Rattle.stack_code.specs.declared.instr.Instr.{Instr}
-use Rattle.stack_code.specs.declared.instr.RoutineInfo.{RoutineInfo}
 use Rattle.stack_code.specs.declared.table.Op.TheVariants as op
-use Rattle.stack_code.specs.CodeLists.{CodeLists, IsCode, routine_at, instr_at, no_instr, no_routine}
+use Rattle.stack_code.specs.CodeLists.{CodeLists, routine_at, no_instr}
 use Rattle.stack_code.specs.Rules.{IsGood, operands_fit}
-use Rattle.stack_machine.specs.declared.room.Room.{Room}
 use Rattle.stack_machine.specs.declared.state.Store.{Store}
 use Rattle.stack_machine.specs.Shown.{rooms, IsRoomy}
 use Rattle.stack_machine.proofs.Obedience.{obeys}

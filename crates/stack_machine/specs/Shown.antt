@@ -2,11 +2,10 @@
 use Rattle.std.specs.Prelude.{◌≡◌, ℕ}
 use Rattle.stack_code.specs.CodeLists.{CodeLists}
 use Rattle.stack_machine.specs.declared.room.Room.{Room}
-use Rattle.stack_machine.specs.declared.slot.Slot.{Slot}
 use Rattle.stack_machine.specs.declared.state.Store.{Store}
-use Rattle.stack_machine.specs.States.{Activation, State}
+use Rattle.stack_machine.specs.States.{State}
 use Rattle.stack_machine.specs.Slots.{shown_slot}
-use Rattle.stack_machine.specs.Store.{HoldsCode}
+use Rattle.stack_machine.specs.Store.{Needs}
 
 abbrev pub shown : Store → State
 shown s = record {
@@ -20,9 +19,9 @@ shown s = record {
 abbrev pub rooms : Store → Room × ℕ × ℕ
 rooms s = (s.below.room, s.current.words.room, s.current.operands.room)
 
--- the store holds the code: each activation has the same room, and may take the place of any other
+-- the store is as large as the code needs: each activation has the same room, and may take the place of any other
 abbrev pub IsRoomy : CodeLists → Room × ℕ × ℕ → Type 0
-IsRoomy c r = HoldsCode c r.0 × (r.1 ≡ r.0.words) × (r.2 ≡ r.0.height)
+IsRoomy c r = Needs c r.0 × (r.1 ≡ r.0.words) × (r.2 ≡ r.0.height)
 
 -- another state in the same store
 abbrev pub in_store : Store → State → Store

@@ -14,8 +14,12 @@ pub record Waiters : Type 0 where
   pub waiting : List Activation
   pub room : Room
 
--- the room holds each frame and each operand stack of the code, and 63 that wait if there is a routine to call
-pub record HoldsCode (c : CodeLists) (room : Room) : Type 0 where
+-- The code needs this room and no more: it holds the largest frame and the highest operand stack, and 63
+-- activations that wait if there is a routine to call, else none.
+pub record Needs (c : CodeLists) (room : Room) : Type 0 where
   pub words : (k : ℕ) → (routine_at c k).words ≤ room.words
+  pub no_more_words : (n : ℕ) → ((k : ℕ) → (routine_at c k).words ≤ n) → room.words ≤ n
   pub height : (k : ℕ) → (routine_at c k).height ≤ room.height
+  pub no_higher : (n : ℕ) → ((k : ℕ) → (routine_at c k).height ≤ n) → room.height ≤ n
   pub waiting : 1 < length c.routines → room.waiting ≡ 63
+  pub nobody_waits : length c.routines ≤ 1 → room.waiting ≡ 0

@@ -5,7 +5,7 @@ ghost use Rattle.stack_machine.specs.Effects.{replace, unary, binary, index, chr
 ghost use Rattle.stack_machine.specs.Operators.{binary_of, unary_of};
 ghost use Rattle.stack_machine.specs.Shown.{shown, rooms};
 
-use crate::state::{Store, Step};
+use crate::state::{Step, Store};
 use solo_base::ProgResult;
 use stack_code::Op;
 

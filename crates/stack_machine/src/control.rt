@@ -4,7 +4,7 @@ ghost use Rattle.stack_machine.specs.Effects.{jump_false, index, chr, tick, call
 ghost use Rattle.stack_machine.specs.Shown.{shown, rooms, IsRoomy};
 
 use crate::arithmetic::difference;
-use crate::state::{Store, Step};
+use crate::state::{Step, Store};
 use crate::words::routine_at;
 use solo_base::ProgResult;
 use stack_code::Verified;

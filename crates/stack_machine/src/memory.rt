@@ -3,7 +3,7 @@ ghost use Rattle.stack_machine.specs.State.{outcome, push};
 ghost use Rattle.stack_machine.specs.Effects.{load, store, load_at, store_at, index_in};
 ghost use Rattle.stack_machine.specs.Shown.{shown, rooms, IsRoomy};
 
-use crate::state::{Store, Step};
+use crate::state::{Step, Store};
 use solo_base::ProgResult;
 use stack_code::Verified;
 

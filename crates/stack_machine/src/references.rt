@@ -3,7 +3,7 @@ ghost use Rattle.stack_machine.specs.State.{outcome};
 ghost use Rattle.stack_machine.specs.Effects.{refer, load_reference, store_reference, write_named, word_named, words_named};
 ghost use Rattle.stack_machine.specs.Shown.{shown, rooms, IsRoomy};
 
-use crate::state::{Store, Step};
+use crate::state::{Step, Store};
 use crate::words::routine_at;
 use solo_base::ProgResult;
 use stack_code::Verified;

@@ -1,6 +1,5 @@
-ghost use Rattle.std.specs.Prelude.{◌≡◌, ◌<◌, ◌≤◌, ℕ, length, nat_lt, if◌then◌else◌};
-ghost use Rattle.stack_code.specs.CodeLists.{routine_at};
-ghost use Rattle.stack_machine.specs.Store.{HoldsCode};
+ghost use Rattle.std.specs.Prelude.{◌≤◌};
+ghost use Rattle.stack_machine.specs.Store.{Needs};
 
 use crate::words::routine_at;
 use stack_code::Verified;
@@ -20,10 +19,7 @@ pub struct Room {
 impl Room {
     /// The room that the code needs, and no more.
     pub(crate) fn of(code: &Verified) -> Room
-        ensures holds { HoldsCode code.now result }
-        ensures no_more_words { (n : ℕ) → ((k : ℕ) → (routine_at code.now k).words ≤ n) → result.words ≤ n }
-        ensures no_higher { (n : ℕ) → ((k : ℕ) → (routine_at code.now k).height ≤ n) → result.height ≤ n }
-        ensures waiting { result.waiting ≡ (if nat_lt 1 (length code.now.routines) then 63 else 0) }
+        ensures needs { Needs code.now result }
         ensures small { result.words ≤ 4352 }
         ensures low { result.height ≤ 1536 }
     {

@@ -3,7 +3,7 @@ ghost use Rattle.stack_machine.specs.Safe.{IsSound};
 ghost use Rattle.stack_machine.specs.Run.{Pauses};
 ghost use Rattle.stack_machine.specs.Shown.{shown, rooms, IsRoomy};
 
-use crate::state::{Ask, Finish, Store, Step};
+use crate::state::{Ask, Finish, Step, Store};
 use crate::step::calls;
 use solo_base::{ProgResult, SysCall};
 use stack_code::Verified;

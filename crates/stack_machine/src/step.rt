@@ -4,7 +4,7 @@ ghost use Rattle.stack_machine.specs.State.{outcome, asked};
 ghost use Rattle.stack_machine.specs.Machine.{effect, calls, uses_program, array_start};
 ghost use Rattle.stack_machine.specs.Shown.{shown, rooms, IsRoomy};
 
-use crate::state::{Ask, Store, Step};
+use crate::state::{Ask, Step, Store};
 use solo_base::ProgResult;
 use stack_code::{Instr, Op, Verified};
 

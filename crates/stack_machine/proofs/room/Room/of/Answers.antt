@@ -1,4 +1,4 @@
-use Rattle.std.proofs.Common.{◌≡◌, max, ◌∙◌, ap, arith}
+use Rattle.std.proofs.Common.{max, ◌∙◌, ap, arith}
 use Rattle.stack_code.specs.declared.instr.RoutineInfo.{RoutineInfo}
 use Rattle.stack_code.specs.CodeLists.{routine_at}
 use Rattle.stack_machine.proofs.Rooms.{more_covered}

@@ -15,8 +15,7 @@ pub invariant_of-self : goal.invariant_of-self
 invariant_of-self c =
     let few = seen_count c.self.inside.slots.items c.self.inside.count (omega (arith, c.self.invariant.0, c.self.invariant.2)) in
     let there = slot_room c.self.inside.room c.self.inside.slots.items c.args.number c.index_mut.result.now c.self.invariant.3
-        (omega (arith, few, c.self.invariant.0, c.self.invariant.2, c.requires.waits, ap (λ (w : Waiters). length w.waiting) c.self.view_is)) c.index_mut.ensures.value in
-    (
+    (omega (arith, few, c.self.invariant.0, c.self.invariant.2, c.requires.waits, ap (λ (w : Waiters). length w.waiting) c.self.view_is)) c.index_mut.ensures.value in (
       c.self.invariant.0,
       c.self.invariant.1,
       length-set c.self.inside.slots.items c.args.number _ ∙ c.self.invariant.2,
