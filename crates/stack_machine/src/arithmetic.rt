@@ -30,7 +30,8 @@ impl Store {
               };
         }) }
         ensures none { IfNone result (length self.old.current.operands.words < 2) }
-        ensures room { IfSome result (λ _. length self.new.current.operands.words < self.new.current.operands.room) }
+        ensures room { IfSome result (λ _.
+            length self.new.current.operands.words < self.new.current.operands.room) }
         ensures same { rooms self.new ≡ rooms self.old }
     {
         let right = self.current.operands.pop()?;
@@ -42,7 +43,8 @@ impl Store {
     fn replace(&mut self, value: Option<i16>) -> Step
         requires place { self.old.current.place < 8192 }
         requires room { length self.old.current.operands.words < self.old.current.operands.room }
-        ensures does { outcome result (shown self.new) ≡ replace (shown self.old) self.old.current.operands.words value }
+        ensures does { outcome result (shown self.new)
+            ≡ replace (shown self.old) self.old.current.operands.words value }
         ensures room { rooms self.new ≡ rooms self.old }
     {
         match value {
@@ -58,7 +60,8 @@ impl Store {
     /// An instruction of one operand and one result.
     pub(crate) fn unary(&mut self, op: Op) -> Step
         requires { self.old.current.place < 8192 }
-        ensures does { outcome result (shown self.new) ≡ unary (unary_of op) (shown self.old) self.old.current.operands.words }
+        ensures does { outcome result (shown self.new)
+            ≡ unary (unary_of op) (shown self.old) self.old.current.operands.words }
         ensures room { rooms self.new ≡ rooms self.old }
     {
         let Some(value) = self.current.operands.pop() else {
@@ -70,7 +73,8 @@ impl Store {
     /// An instruction of two operands and one result.
     pub(crate) fn binary(&mut self, op: Op) -> Step
         requires { self.old.current.place < 8192 }
-        ensures does { outcome result (shown self.new) ≡ binary (binary_of op) (shown self.old) self.old.current.operands.words }
+        ensures does { outcome result (shown self.new)
+            ≡ binary (binary_of op) (shown self.old) self.old.current.operands.words }
         ensures room { rooms self.new ≡ rooms self.old }
     {
         let Some((left, right)) = self.pop_two() else {

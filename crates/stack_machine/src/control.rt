@@ -16,7 +16,8 @@ impl Store {
     /// INDEX.
     pub(crate) fn index(&mut self, a: u16, b: u16) -> Step
         requires { self.old.current.place < 8192 }
-        ensures does { outcome result (shown self.new) ≡ index (shown self.old) a b self.old.current.operands.words }
+        ensures does { outcome result (shown self.new)
+            ≡ index (shown self.old) a b self.old.current.operands.words }
         ensures room { rooms self.new ≡ rooms self.old }
     {
         let Some(value) = self.current.operands.pop() else {
@@ -37,7 +38,8 @@ impl Store {
     /// CHR.
     pub(crate) fn chr(&mut self) -> Step
         requires { self.old.current.place < 8192 }
-        ensures does { outcome result (shown self.new) ≡ chr (shown self.old) self.old.current.operands.words }
+        ensures does { outcome result (shown self.new)
+            ≡ chr (shown self.old) self.old.current.operands.words }
         ensures room { rooms self.new ≡ rooms self.old }
     {
         let Some(value) = self.current.operands.pop() else {
@@ -53,7 +55,8 @@ impl Store {
 
     /// JUMP.
     pub(crate) fn jump(&mut self, a: u16) -> Step
-        ensures does { outcome result (shown self.new) ≡ Goes (jump_to (shown self.old) a self.old.current.operands.words) }
+        ensures does { outcome result (shown self.new)
+            ≡ Goes (jump_to (shown self.old) a self.old.current.operands.words) }
         ensures room { rooms self.new ≡ rooms self.old }
     {
         self.current.place = a;
@@ -63,7 +66,8 @@ impl Store {
     /// JUMPF.
     pub(crate) fn jump_false(&mut self, a: u16) -> Step
         requires { self.old.current.place < 8192 }
-        ensures does { outcome result (shown self.new) ≡ jump_false (shown self.old) a self.old.current.operands.words }
+        ensures does { outcome result (shown self.new)
+            ≡ jump_false (shown self.old) a self.old.current.operands.words }
         ensures room { rooms self.new ≡ rooms self.old }
     {
         let Some(value) = self.current.operands.pop() else {

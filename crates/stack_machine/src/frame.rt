@@ -23,7 +23,8 @@ impl Model for Frame {
       room = length frame.words.items;
     } };
 
-    ghost invariant = { λ frame. (frame.len ≤ length frame.words.items) × (length frame.words.items ≤ FRAME_WORDS) };
+    ghost invariant = { λ frame. (frame.len ≤ length frame.words.items)
+        × (length frame.words.items ≤ FRAME_WORDS) };
 }
 
 impl Frame {

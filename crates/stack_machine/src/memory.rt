@@ -39,7 +39,8 @@ impl Store {
     /// STOREG, STOREL.
     pub(crate) fn store(&mut self, program: bool, a: usize) -> Step
         requires { self.old.current.place < 8192 }
-        ensures does { outcome result (shown self.new) ≡ store program (shown self.old) a self.old.current.operands.words }
+        ensures does { outcome result (shown self.new)
+            ≡ store program (shown self.old) a self.old.current.operands.words }
         ensures room { rooms self.new ≡ rooms self.old }
     {
         let Some(word) = self.current.operands.pop() else {
@@ -56,7 +57,8 @@ impl Store {
     /// LOADGX, LOADLX.
     pub(crate) fn load_at(&mut self, program: bool, a: u16, b: u16) -> Step
         requires { self.old.current.place < 8192 }
-        ensures does { outcome result (shown self.new) ≡ load_at program (shown self.old) a b self.old.current.operands.words }
+        ensures does { outcome result (shown self.new)
+            ≡ load_at program (shown self.old) a b self.old.current.operands.words }
         ensures room { rooms self.new ≡ rooms self.old }
     {
         let Some(i) = self.current.operands.pop() else {
@@ -76,7 +78,8 @@ impl Store {
     /// STOREGX, STORELX.
     pub(crate) fn store_at(&mut self, program: bool, a: u16, b: u16) -> Step
         requires { self.old.current.place < 8192 }
-        ensures does { outcome result (shown self.new) ≡ store_at program (shown self.old) a b self.old.current.operands.words }
+        ensures does { outcome result (shown self.new)
+            ≡ store_at program (shown self.old) a b self.old.current.operands.words }
         ensures room { rooms self.new ≡ rooms self.old }
     {
         let Some((i, word)) = self.pop_two() else {

@@ -24,7 +24,8 @@ impl Model for Operands {
       room = length operands.words.items;
     } };
 
-    ghost invariant = { λ operands. (operands.height ≤ length operands.words.items) × (length operands.words.items ≤ HEIGHT) };
+    ghost invariant = { λ operands. (operands.height ≤ length operands.words.items)
+        × (length operands.words.items ≤ HEIGHT) };
 }
 
 impl Operands {
@@ -58,7 +59,8 @@ impl Operands {
 
     /// Takes the topmost word, if there is one.
     pub(crate) fn pop(&mut self) -> Option<i16>
-        ensures some { IfSome result (λ word. self.old ≡ record self.new { words = word ∷ self.new.words }) }
+        ensures some { IfSome result (λ word.
+            self.old ≡ record self.new { words = word ∷ self.new.words }) }
         ensures none { IfNone result ((self.old.words ≡ []) × (self.new ≡ self.old)) }
         ensures room { IfSome result (λ _. length self.new.words < self.new.room) }
     {

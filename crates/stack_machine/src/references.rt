@@ -31,7 +31,8 @@ impl Store {
     pub(crate) fn load_reference(&mut self, code: &Verified, a: u16) -> Step
         requires place { self.old.current.place < 8192 }
         requires roomy { IsRoomy code.now (rooms self.old) }
-        ensures does { outcome result (shown self.new) ≡ load_reference code.now (shown self.old) a }
+        ensures does { outcome result (shown self.new)
+            ≡ load_reference code.now (shown self.old) a }
         ensures room { rooms self.new ≡ rooms self.old }
     {
         let a = a as usize;
@@ -60,7 +61,8 @@ impl Store {
     /// STORER.
     pub(crate) fn store_reference(&mut self, a: u16) -> Step
         requires { self.old.current.place < 8192 }
-        ensures does { outcome result (shown self.new) ≡ store_reference (shown self.old) a self.old.current.operands.words }
+        ensures does { outcome result (shown self.new)
+            ≡ store_reference (shown self.old) a self.old.current.operands.words }
         ensures room { rooms self.new ≡ rooms self.old }
     {
         let a = a as usize;
@@ -79,7 +81,8 @@ impl Store {
     // Makes the word that a number and a place name this one, and goes on.
     fn write_named(&mut self, number: i16, place: i16, word: i16) -> Step
         requires { self.old.current.place < 8192 }
-        ensures does { outcome result (shown self.new) ≡ write_named (shown self.old) number place word self.old.current.operands.words }
+        ensures does { outcome result (shown self.new)
+            ≡ write_named (shown self.old) number place word self.old.current.operands.words }
         ensures room { rooms self.new ≡ rooms self.old }
     {
         let (Ok(number), Ok(place)) = (usize::try_from(number), usize::try_from(place)) else {

@@ -47,9 +47,11 @@ impl Store {
     // Sets the array that the reply gives.
     fn set_array(&mut self, program: bool, start: usize, reply: &SysReply)
         requires low { start < 2 ^ 16 }
-        requires inside { start + length (array_in reply.now) ≤ length (words_of program (shown self.old)) }
+        requires inside { start + length (array_in reply.now)
+            ≤ length (words_of program (shown self.old)) }
         ensures { self.new ≡ in_store self.old
-            (with_words program (shown self.old) (set_array (words_of program (shown self.old)) start (array_in reply.now))) }
+            (with_words program (shown self.old)
+            (set_array (words_of program (shown self.old)) start (array_in reply.now))) }
     {
         match reply {
             SysReply::Page(page) => self.set_bytes(program, start, &page.0),
@@ -63,7 +65,8 @@ impl Store {
         requires low { start < 2 ^ 16 }
         requires inside { start + length bytes.now ≤ length (words_of program (shown self.old)) }
         ensures { self.new ≡ in_store self.old
-            (with_words program (shown self.old) (set_array (words_of program (shown self.old)) start (map pos bytes.now))) }
+            (with_words program (shown self.old)
+            (set_array (words_of program (shown self.old)) start (map pos bytes.now))) }
     {
         for place in 0..bytes.len() {
             self.set_word(program, start + place, i16::from(bytes[place]));
@@ -84,7 +87,8 @@ fn values_of(row: u16) -> usize
 // Pushes the words that the reply gives.
 fn push_results(operands: &mut Operands, reply: &SysReply)
     requires { length operands.old.words + length (results_in reply.now) ≤ operands.old.room }
-    ensures { operands.new ≡ record operands.old { words = results_in reply.now ++ operands.old.words } }
+    ensures { operands.new
+        ≡ record operands.old { words = results_in reply.now ++ operands.old.words } }
 {
     match reply {
         SysReply::Char(byte) => operands.push(i16::from(*byte)),

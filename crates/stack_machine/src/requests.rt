@@ -41,9 +41,11 @@ impl Store {
     fn request(&self, procedure: Procedure, program: bool, b: usize, left: u32) -> Ask
         requires low { b < 2 ^ 16 }
         requires values { (call_row_of procedure).values ≤ length self.now.current.operands.words }
-        requires array { b + (call_row_of procedure).array ≤ length (words_of program (shown self.now)) }
+        requires array { b + (call_row_of procedure).array
+            ≤ length (words_of program (shown self.now)) }
         ensures { asked result (shown self.now)
-            ≡ made (shown self.now) (request procedure self.now.current.operands.words (take (call_row_of procedure).array (drop b (words_of program (shown self.now)))) left) }
+            ≡ made (shown self.now) (request procedure self.now.current.operands.words
+            (take (call_row_of procedure).array (drop b (words_of program (shown self.now)))) left) }
     {
         let top = self.operand(0);
         let second = self.operand(1);
@@ -119,10 +121,11 @@ impl Store {
     fn page_at(&self, program: bool, start: usize) -> Option<Page>
         requires low { start < 2 ^ 16 }
         requires inside { start + 512 ≤ length (words_of program (shown self.now)) }
-        ensures bytes { IfSome result (λ page. (are_bytes (take 512 (drop start (words_of program (shown self.now))))
-            ≡ true) × (page.0 ≡ map unsigned_abs (take 512 (drop start (words_of program (shown self.now)))))) }
-        ensures other { IfNone result (are_bytes (take 512 (drop start (words_of program (shown self.now))))
-            ≡ false) }
+        ensures bytes { IfSome result (λ page.
+            (are_bytes (take 512 (drop start (words_of program (shown self.now)))) ≡ true)
+            × (page.0 ≡ map unsigned_abs (take 512 (drop start (words_of program (shown self.now)))))) }
+        ensures other { IfNone result
+            (are_bytes (take 512 (drop start (words_of program (shown self.now)))) ≡ false) }
     {
         let mut bytes = [0; PAGE_LENGTH];
         for k in 0..PAGE_LENGTH {

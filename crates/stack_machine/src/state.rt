@@ -10,8 +10,9 @@ pub struct Finish {
     pub ticks: u32,
 }
 
-/// The store of a program, and where it stands: the activations that wait for a call to return, by their numbers (the
-/// program's is 0), the current one, the ticks that were taken, and how the program ended.
+/// The store of a program, and where it stands: the activations that wait for a call to return, by
+/// their numbers (the program's is 0), the current one, the ticks that were taken, and how the
+/// program ended.
 #[derive(Debug, Drop)]
 pub struct Store {
     pub(crate) below: Waiting,

@@ -21,7 +21,8 @@ impl Store {
     /// The call of an instruction that makes one.
     pub(crate) fn ask(&self, code: &Verified, limit: u32, instr: Instr) -> Ask
         requires { calls instr.op ≡ true }
-        ensures { asked result (shown self.now) ≡ effect code.now limit (shown self.now) instr.op instr.a instr.b }
+        ensures { asked result (shown self.now)
+            ≡ effect code.now limit (shown self.now) instr.op instr.a instr.b }
     {
         self.sys(
             code,
@@ -39,7 +40,8 @@ impl Store {
         requires plain { calls instr.op ≡ false }
         requires some { instr.op ≡ Call → 1 < length code.now.routines }
         requires roomy { IsRoomy code.now (rooms self.old) }
-        ensures does { outcome result (shown self.new) ≡ effect code.now limit (shown self.old) instr.op instr.a instr.b }
+        ensures does { outcome result (shown self.new)
+            ≡ effect code.now limit (shown self.old) instr.op instr.a instr.b }
         ensures room { rooms self.new ≡ rooms self.old }
     {
         let Instr { op, a, b } = instr;

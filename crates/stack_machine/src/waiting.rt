@@ -27,8 +27,10 @@ impl Model for Waiting {
       room = waiting.room;
     } };
 
-    ghost invariant = { λ waiting. (waiting.count ≤ waiting.room.waiting) × (waiting.room.waiting ≤ 63)
-        × (length waiting.slots.items ≡ waiting.room.waiting) × HaveRoomOf waiting.room waiting.slots.items };
+    ghost invariant = { λ waiting.
+        (waiting.count ≤ waiting.room.waiting) × (waiting.room.waiting ≤ 63)
+        × (length waiting.slots.items ≡ waiting.room.waiting)
+        × HaveRoomOf waiting.room waiting.slots.items };
 }
 
 impl Waiting {
@@ -127,10 +129,11 @@ impl Waiting {
     pub(crate) fn set_word(&mut self, number: usize, place: usize, word: i16)
         requires waits { number < length self.old.waiting }
         requires inside { place < length (slice_index_or self.old.waiting number nobody).words }
-        ensures { (a : Activation) → slice_get self.old.waiting number ≡ Some a → self.new ≡ record self.old {
-          waiting =
-              slice_set self.old.waiting number (record a { words = slice_set a.words place word });
-        } }
+        ensures { (a : Activation) → slice_get self.old.waiting number ≡ Some a
+            → self.new ≡ record self.old {
+              waiting =
+                  slice_set self.old.waiting number (record a { words = slice_set a.words place word });
+            } }
     {
         self.slots[number].words.set(place, word);
     }

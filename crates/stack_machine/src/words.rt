@@ -34,7 +34,8 @@ impl Store {
     pub(crate) fn has_room(&self, code: &Verified) -> bool
         requires { IsRoomy code.now (rooms self.now) }
         ensures room { result ≡ has_room code.now (shown self.now).current }
-        ensures bound { IsTrue result → length self.now.current.operands.words < self.now.current.operands.room }
+        ensures bound { IsTrue result
+            → length self.now.current.operands.words < self.now.current.operands.room }
     {
         self.current.operands.len() < routine_at(code, self.current.routine).height as usize
     }
@@ -69,7 +70,8 @@ impl Store {
     /// Changes a word of the frame of the activation with this number.
     pub(crate) fn set_word_at(&mut self, number: usize, place: usize, word: i16)
         requires { place < length (words_at (shown self.old) number) }
-        ensures { self.new ≡ in_store self.old (with_words_at (shown self.old) number (slice_set (words_at (shown self.old) number) place word)) }
+        ensures { self.new ≡ in_store self.old (with_words_at (shown self.old) number
+            (slice_set (words_at (shown self.old) number) place word)) }
     {
         if number < self.below.len() {
             self.below.set_word(number, place, word);
@@ -104,7 +106,8 @@ impl Store {
     /// Changes a word of the program's frame, or of the current activation's own.
     pub(crate) fn set_word(&mut self, program: bool, place: usize, word: i16)
         requires { place < length (words_of program (shown self.old)) }
-        ensures { self.new ≡ in_store self.old (with_words program (shown self.old) (slice_set (words_of program (shown self.old)) place word)) }
+        ensures { self.new ≡ in_store self.old (with_words program (shown self.old)
+            (slice_set (words_of program (shown self.old)) place word)) }
     {
         if program {
             self.set_word_at(0, place, word);

@@ -35,8 +35,10 @@ impl Store {
     ) -> Result<Finish, W::Fault>
         requires sound { IsSound code.now limit (shown self.old) }
         requires roomy { IsRoomy code.now (rooms self.old) }
-        ensures ends { IfOk result (λ finish. RanToEnd W.answers code.now limit (shown self.old) world.old finish (shown self.new) world.new) }
-        ensures broke_off { IfErr result (λ fault. BrokeOff W.answers code.now limit (shown self.old) world.old fault (shown self.new) world.new) }
+        ensures ends { IfOk result (λ finish. RanToEnd W.answers code.now limit
+            (shown self.old) world.old finish (shown self.new) world.new) }
+        ensures broke_off { IfErr result (λ fault. BrokeOff W.answers code.now limit
+            (shown self.old) world.old fault (shown self.new) world.new) }
         ensures sound { IsSound code.now limit (shown self.new) }
         ensures room { rooms self.new ≡ rooms self.old }
     {
