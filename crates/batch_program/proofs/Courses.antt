@@ -6,7 +6,7 @@ use Rattle.solo_base.specs.declared.system_call.SysCall.{SysCall}
 use Rattle.solo_base.specs.declared.system_call.SysReply.{SysReply}
 use Rattle.solo_base.specs.RunOutcome.{RunOutcome, Ends, Waits}
 use Rattle.stack_code.specs.CodeLists.{CodeLists}
-use Rattle.stack_machine.specs.declared.state.State.{State}
+use Rattle.stack_machine.specs.States.{State}
 use Rattle.stack_machine.specs.Machine.{start_state, answered}
 use Rattle.stack_machine.specs.Run.{LeadsToCall, LeadsToEnd, Replied}
 use Rattle.stack_machine.proofs.Pauses.{one_call, one_end, no_call_at_end}

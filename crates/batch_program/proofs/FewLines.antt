@@ -14,7 +14,7 @@ use Rattle.solo_base.specs.Text.{text}
 use Rattle.stack_code.specs.declared.instr.Instr.{Instr}
 use Rattle.stack_code.specs.CodeLists.{CodeLists, IsCode, routine_at, instr_at}
 use Rattle.stack_code.specs.Rules.{IsGood, pops}
-use Rattle.stack_machine.specs.declared.state.State.{State}
+use Rattle.stack_machine.specs.States.{State}
 use Rattle.stack_machine.specs.State.{words_of, with_words}
 use Rattle.stack_machine.specs.Machine.{start_state, answered, reply_at, set_array, array_start, uses_program}
 use Rattle.stack_machine.specs.Run.{Moves, LeadsToCall, Replied}

@@ -15,8 +15,7 @@ use Rattle.stack_code.specs.declared.table.Op.TheVariants as op
 use Rattle.stack_code.specs.declared.instr.Instr.{Instr}
 use Rattle.stack_code.specs.declared.instr.RoutineInfo.{RoutineInfo}
 use Rattle.stack_code.specs.CodeLists.{CodeLists, routine_at}
-use Rattle.stack_machine.specs.declared.activation.Activation.{Activation}
-use Rattle.stack_machine.specs.declared.state.State.{State}
+use Rattle.stack_machine.specs.States.{Activation, State}
 use Rattle.stack_machine.specs.declared.state.Finish.{Finish}
 use Rattle.stack_machine.specs.Activations.{opened, waiting_caller, words_from, waiting_with, own_with}
 use Rattle.stack_machine.specs.State.{Next, Goes, Asks, Stops, Lacks, stop, advance, jump_to, has_room, push, words_at, with_words_at, words_of, with_words}

@@ -4,7 +4,7 @@ use Rattle.std.specs.Prelude.{slice_get, slice_set, if◌then◌else◌, ◌==�
 use Rattle.std.proofs.lemmas.Bool.{eqb-true, eqb-false}
 use Rattle.std.proofs.lemmas.List.{length-append, length-take-le}
 use Rattle.std.proofs.lemmas.Option.{same_Some, slice_get_within}
-use Rattle.stack_machine.specs.declared.activation.Activation.{Activation}
+use Rattle.stack_machine.specs.States.{Activation}
 use Rattle.stack_machine.specs.Activations.{words_from, waiting_with, own_with}
 use Rattle.stack_machine.proofs.Frames.{as_many_wait, waiting_stay, own_written}
 use Rattle.pascal_mean.specs.Situation.{Place, Map}

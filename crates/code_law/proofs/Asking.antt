@@ -12,7 +12,7 @@ use Rattle.solo_base.specs.Replies.{results_in, array_in, ticks_in}
 use Rattle.stack_code.specs.declared.table.Op.TheVariants as op
 use Rattle.stack_code.specs.declared.instr.Instr.{Instr}
 use Rattle.stack_code.specs.CodeLists.{CodeLists, instr_at, no_instr, routine_at}
-use Rattle.stack_machine.specs.declared.state.State.{State}
+use Rattle.stack_machine.specs.States.{State}
 use Rattle.stack_machine.specs.Activations.{words_from, waiting_with, own_with}
 use Rattle.stack_machine.specs.State.{Next, Asks, Lacks}
 use Rattle.stack_machine.specs.Calls.{made, request, ask_row}

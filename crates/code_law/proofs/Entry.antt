@@ -9,8 +9,7 @@ use Rattle.solo_base.specs.declared.system_call.SysReply.{SysReply}
 use Rattle.solo_base.specs.RunOutcome.{Ends}
 use Rattle.stack_code.specs.declared.table.Op.TheVariants as op
 use Rattle.stack_code.specs.CodeLists.{CodeLists, routine_at}
-use Rattle.stack_machine.specs.declared.activation.Activation.{Activation}
-use Rattle.stack_machine.specs.declared.state.State.{State}
+use Rattle.stack_machine.specs.States.{Activation, State}
 use Rattle.stack_machine.specs.State.{has_room, Lacks, Goes, stop}
 use Rattle.stack_machine.specs.Effects.{enter, give_back}
 use Rattle.stack_machine.specs.Machine.{effect, next}

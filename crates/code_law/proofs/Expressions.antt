@@ -5,7 +5,7 @@ use Rattle.solo_base.specs.declared.system_call.SysReply.{SysReply}
 use Rattle.solo_base.specs.Arithmetic.{fit, truth, holds}
 use Rattle.stack_code.specs.declared.table.Op.TheVariants as op
 use Rattle.stack_code.specs.CodeLists.{CodeLists}
-use Rattle.stack_machine.specs.declared.activation.Activation.{Activation}
+use Rattle.stack_machine.specs.States.{Activation}
 use Rattle.stack_machine.specs.Activations.{words_from}
 use Rattle.stack_machine.specs.Effects.{replace}
 use Rattle.stack_machine.specs.Machine.{effect}

@@ -7,7 +7,7 @@ use Rattle.solo_base.specs.Fits.{Fits}
 use Rattle.solo_base.specs.RunOutcome.{Waits}
 use Rattle.stack_code.specs.CodeLists.{CodeLists, IsCode}
 use Rattle.stack_code.specs.Rules.{IsGood}
-use Rattle.stack_machine.specs.declared.state.State.{State}
+use Rattle.stack_machine.specs.States.{State}
 use Rattle.stack_machine.specs.Machine.{start_state, answered}
 use Rattle.stack_machine.specs.Run.{LeadsToCall, Replied, Runs, AreFitting}
 use Rattle.stack_machine.proofs.Pauses.{one_call}

@@ -3,8 +3,7 @@ use Rattle.std.proofs.Common.{◌≡◌, ℕ, ◌≤◌, ◌<◌, Some, None, Li
 use Rattle.std.proofs.lemmas.List.{length-map}
 use Rattle.solo_base.specs.declared.system_call.SysReply.{SysReply}
 use Rattle.stack_code.specs.CodeLists.{CodeLists}
-use Rattle.stack_machine.specs.declared.activation.Activation.{Activation}
-use Rattle.stack_machine.specs.declared.state.State.{State}
+use Rattle.stack_machine.specs.States.{Activation, State}
 use Rattle.stack_machine.specs.Run.{Runs}
 use Rattle.pascal_mean.specs.Situation.{Situation, Place, Course, Gives, Over, and_then}
 use Rattle.pascal_mean.specs.Variables.{map_at}

@@ -1,7 +1,7 @@
 -- The activations by their numbers: maps, frames and words of each, where one changes, one comes and one goes.
 use Rattle.std.proofs.Common.{◌≡◌, ℕ, zero, suc, ◌<◌, ◌≤◌, List, [], ◌∷◌, ◌++◌, length, take, ℤ, Some, None, refl, ap, arith}
 use Rattle.std.specs.Prelude.{slice_get}
-use Rattle.stack_machine.specs.declared.activation.Activation.{Activation}
+use Rattle.stack_machine.specs.States.{Activation}
 use Rattle.stack_machine.specs.Activations.{words_from, waiting_with, own_with}
 use Rattle.pascal_mean.specs.Situation.{Map}
 use Rattle.pascal_mean.specs.Variables.{map_at, with_map}

@@ -5,7 +5,7 @@ use Rattle.std.specs.Int.{w16, cast_signed}
 use Rattle.solo_base.specs.declared.system_call.SysReply.{SysReply}
 use Rattle.stack_code.specs.declared.table.Op.TheVariants as op
 use Rattle.stack_code.specs.CodeLists.{CodeLists, routine_at}
-use Rattle.stack_machine.specs.declared.state.State.{State}
+use Rattle.stack_machine.specs.States.{State}
 use Rattle.stack_machine.specs.Activations.{words_from}
 use Rattle.stack_machine.specs.State.{Goes, Lacks}
 use Rattle.stack_machine.specs.Effects.{push_found, push_named, load_named}

@@ -12,7 +12,7 @@ use Rattle.solo_base.specs.RunOutcome.{Ends, Waits}
 use Rattle.stack_code.specs.declared.instr.Instr.{Instr}
 use Rattle.stack_code.specs.CodeLists.{CodeLists}
 use Rattle.stack_code.specs.Rules.{IsGood}
-use Rattle.stack_machine.specs.declared.state.State.{State}
+use Rattle.stack_machine.specs.States.{State}
 use Rattle.stack_machine.specs.State.{Goes, Asks, Stops, Lacks}
 use Rattle.stack_machine.specs.Machine.{effect, next, next_by, next_of, start_state, answered, fail_call}
 use Rattle.stack_machine.specs.Safe.{IsRunning}

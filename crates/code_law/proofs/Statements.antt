@@ -10,7 +10,7 @@ use Rattle.solo_base.specs.Arithmetic.{truth, holds}
 use Rattle.stack_code.specs.declared.table.Op.TheVariants as op
 use Rattle.stack_code.specs.declared.instr.Instr.{Instr}
 use Rattle.stack_code.specs.CodeLists.{CodeLists}
-use Rattle.stack_machine.specs.declared.activation.Activation.{Activation}
+use Rattle.stack_machine.specs.States.{Activation}
 use Rattle.stack_machine.specs.Activations.{words_from}
 use Rattle.stack_machine.specs.Effects.{replace}
 use Rattle.stack_machine.specs.Machine.{effect}

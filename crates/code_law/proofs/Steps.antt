@@ -10,7 +10,7 @@ use Rattle.solo_base.specs.Arithmetic.{holds}
 use Rattle.stack_code.specs.declared.table.Op.TheVariants as op
 use Rattle.stack_code.specs.declared.instr.Instr.{Instr}
 use Rattle.stack_code.specs.CodeLists.{CodeLists}
-use Rattle.stack_machine.specs.declared.state.State.{State}
+use Rattle.stack_machine.specs.States.{State}
 use Rattle.stack_machine.specs.State.{Goes, Stops, push, has_room}
 use Rattle.stack_machine.specs.Effects.{replace}
 use Rattle.stack_machine.specs.Machine.{effect, next}

@@ -1,6 +1,6 @@
 -- What the words of the open activations hold, told by the maps of a meaning.
 use Rattle.std.specs.Prelude.{◌≡◌, ℕ, ◌+◌, ◌<◌, List, length, slice_get, Option, Some, ℤ, pos, ◌+ℤ◌}
-use Rattle.stack_machine.specs.declared.activation.Activation.{Activation}
+use Rattle.stack_machine.specs.States.{Activation}
 use Rattle.stack_machine.specs.Activations.{words_from}
 use Rattle.pascal_mean.specs.Means.{Owner, Bounds}
 use Rattle.pascal_mean.specs.Situation.{Place, Map}

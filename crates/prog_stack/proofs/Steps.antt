@@ -10,7 +10,7 @@ use Rattle.stack_code.specs.CodeLists.{CodeLists}
 use Rattle.stack_code.specs.Rules.{IsGood}
 use Rattle.stack_machine.specs.declared.running.Pause.TheVariants as pause
 use Rattle.stack_machine.specs.declared.state.Finish.{Finish}
-use Rattle.stack_machine.specs.declared.state.State.{State}
+use Rattle.stack_machine.specs.States.{State}
 use Rattle.stack_machine.specs.State.{Goes, Asks, Stops}
 use Rattle.stack_machine.specs.Machine.{next, next_of, start_state}
 use Rattle.stack_machine.specs.Run.{Moves}

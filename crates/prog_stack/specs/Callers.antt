@@ -4,7 +4,7 @@ use Rattle.solo_base.specs.declared.system_call.SysCall.{SysCall}
 use Rattle.solo_base.specs.declared.system_call.SysCall.TheVariants as calls
 use Rattle.solo_base.specs.declared.system_call.SysReply.{SysReply}
 use Rattle.stack_machine.specs.declared.running.Pause.{Pause}
-use Rattle.stack_machine.specs.declared.state.State.{State}
+use Rattle.stack_machine.specs.States.{State}
 use Rattle.stack_machine.specs.Run.{Pauses}
 use Rattle.stack_machine.specs.Standing.{Standing, StandsWell, Awaits}
 use Rattle.prog_stack.specs.declared.frame.Frame.{Frame}

@@ -7,7 +7,7 @@ use Rattle.disk_layout.specs.Files.{files}
 use Rattle.stack_code.specs.CodeLists.{CodeLists}
 use Rattle.stack_machine.specs.declared.running.Pause.{Pause}
 use Rattle.stack_machine.specs.declared.state.Finish.{Finish}
-use Rattle.stack_machine.specs.declared.state.State.{State}
+use Rattle.stack_machine.specs.States.{State}
 use Rattle.stack_machine.specs.Run.{Pauses}
 use Rattle.stack_machine.specs.Standing.{StandsWell}
 use Rattle.program_task.specs.Task.{Task, and_then, Gives, Changes}

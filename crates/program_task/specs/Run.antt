@@ -3,7 +3,7 @@ use Rattle.std.specs.Prelude.{ℕ, zero, suc, ◌+◌, Option, Some, None}
 use Rattle.solo_base.specs.declared.outcome.ProgResult.{ProgResult}
 use Rattle.solo_base.specs.declared.outcome.ProgResult.TheVariants as result
 use Rattle.stack_code.specs.CodeLists.{CodeLists}
-use Rattle.stack_machine.specs.declared.state.State.{State}
+use Rattle.stack_machine.specs.States.{State}
 use Rattle.stack_machine.specs.State.{Next, Goes, Asks, Stops, Lacks}
 use Rattle.stack_machine.specs.Machine.{next, start_state, answered}
 use Rattle.stack_machine.specs.Left.{left_until_end}

@@ -9,7 +9,7 @@ use Rattle.disk_layout.specs.Files.{Files}
 use Rattle.disk_system.specs.Loading.{program_of}
 use Rattle.disk_system.specs.declared.loading.Loaded.{Loaded}
 use Rattle.disk_system.specs.declared.loading.Loaded.TheVariants.{Code}
-use Rattle.stack_machine.specs.declared.state.State.{State}
+use Rattle.stack_machine.specs.States.{State}
 use Rattle.stack_machine.specs.State.{Asks}
 use Rattle.stack_machine.specs.Machine.{effect, next, answered, start_state}
 use Rattle.stack_machine.specs.Left.{left_until_end}

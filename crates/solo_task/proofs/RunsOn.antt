@@ -2,7 +2,7 @@
 use Rattle.std.proofs.Common.{◌≡◌, ℕ, zero, suc, ◌+◌, ◌-◌, ◌≤◌, Bool, true, false, ◌&&◌, refl, ◌∙◌, ap, arith, Option}
 use Rattle.solo_base.specs.declared.system_call.SysCall.{SysCall}
 use Rattle.stack_code.specs.CodeLists.{CodeLists}
-use Rattle.stack_machine.specs.declared.state.State.{State}
+use Rattle.stack_machine.specs.States.{State}
 use Rattle.stack_machine.specs.State.{Next, Goes, Asks, Stops, Lacks}
 use Rattle.stack_machine.specs.Machine.{next, answered}
 use Rattle.program_task.specs.Task.{Task, and_then}

@@ -12,7 +12,9 @@ use Rattle.stack_code.specs.declared.instr.Instr.{Instr}
 use Rattle.solo_base.specs.Interface.{values_of}
 use Rattle.stack_code.specs.Rules.{pops}
 use Rattle.stack_code.specs.CodeLists.{CodeLists, instr_at, no_instr}
-use Rattle.stack_machine.specs.declared.state.State.{State}
+use Rattle.stack_machine.specs.declared.state.Store.{Store}
+use Rattle.stack_machine.specs.States.{State}
+use Rattle.stack_machine.specs.Shown.{shown, in_store}
 use Rattle.stack_machine.specs.State.{words_of, with_words}
 use Rattle.stack_machine.specs.Machine.{set_array, reply_at, answered}
 use Rattle.stack_machine.specs.Room.{TakesReply, HasRoomFor}
@@ -76,42 +78,56 @@ one_byte_more words start n bytes below room =
     ∙ ap (set_array words start) (sym (map-append pos (take n bytes) (get_or bytes n 0 ∷ [])) ∙ ap (map pos) (sym (take_more bytes n 0 below)))
 
 -- a frame's word that is there, in a frame of which a part is set
-pub still_inside : (program : Bool) (s t : State) (start n : ℕ) (bytes : List ℕ) → t ≡ with_words program s (part_set (words_of program s) start bytes n) → n < length bytes
+inside_still : (program : Bool) (s t : State) (start n : ℕ) (bytes : List ℕ) → t ≡ with_words program s (part_set (words_of program s) start bytes n) → n < length bytes
     → start + length bytes ≤ length (words_of program s) → start + n < length (words_of program t)
-still_inside program s t start n bytes is below room =
+inside_still program s t start n bytes is below room =
     let few = length_part bytes n (omega arith) in
     let same = ap (words_of program) is ∙ words_back program s (part_set (words_of program s) start bytes n) in
     let long = length_set (words_of program s) start (map pos (take n bytes)) (omega (arith, few, room)) in
     rw same (omega (arith, long, room, below))
 
-pub byte_is_set : (program : Bool) (s t u : State) (start n : ℕ) (bytes : List ℕ) (word : ℤ) → t ≡ with_words program s (part_set (words_of program s) start bytes n) → n < length bytes
+pub still_inside : (program : Bool) (s t : Store) (start n : ℕ) (bytes : List ℕ) → t ≡ in_store s (with_words program (shown s) (part_set (words_of program (shown s)) start bytes n)) → n < length bytes
+    → start + length bytes ≤ length (words_of program (shown s)) → start + n < length (words_of program (shown t))
+still_inside program s t start n bytes is below room = inside_still program (shown s) (shown t) start n bytes (ap shown is) below room
+
+byte_set : (program : Bool) (s t : State) (start n : ℕ) (bytes : List ℕ) (word : ℤ) → t ≡ with_words program s (part_set (words_of program s) start bytes n) → n < length bytes
     → start + length bytes ≤ length (words_of program s) → word ≡ pos (get_or bytes n 0) → Fits w8 (get_or bytes n 0)
-    → u ≡ with_words program t (set (words_of program t) (start + n) (to_z w16 (of_z w16 word)))
-    → u ≡ with_words program s (part_set (words_of program s) start bytes (n + 1))
-byte_is_set program s t u start n bytes word is below room byte small set_now =
+    → with_words program t (set (words_of program t) (start + n) (to_z w16 (of_z w16 word))) ≡ with_words program s (part_set (words_of program s) start bytes (n + 1))
+byte_set program s t start n bytes word is below room byte small =
     let words = words_of program s in
     let back = words_back program s (part_set words start bytes n) in
-    set_now
-    ∙ ap (λ z. with_words program t (set (words_of program t) (start + n) z)) (to_z-of_z w16 word (fits_signed_from_abs w16 word (omega (arith, small.fits, ap unsigned_abs byte))))
+    ap (λ z. with_words program t (set (words_of program t) (start + n) z)) (to_z-of_z w16 word (fits_signed_from_abs w16 word (omega (arith, small.fits, ap unsigned_abs byte))))
     ∙ ap (λ v. with_words program v (set (words_of program v) (start + n) word)) is
     ∙ ap (λ (l : List ℤ). with_words program (with_words program s (part_set words start bytes n)) (set l (start + n) word)) back
     ∙ written_again program s (part_set words start bytes n) (set (part_set words start bytes n) (start + n) word)
     ∙ ap (with_words program s) (ap (set (part_set words start bytes n) (start + n)) byte ∙ one_byte_more words start n bytes below room)
 
-pub all_bytes_set : (program : Bool) (s t : State) (start n : ℕ) (bytes : List ℕ) → t ≡ with_words program s (part_set (words_of program s) start bytes n) → n ≡ length bytes
-    → t ≡ with_words program s (set_array (words_of program s) start (map pos bytes))
-all_bytes_set program s t start n bytes is all =
-    is ∙ ap (λ (l : List ℕ). with_words program s (set_array (words_of program s) start (map pos l))) (take_all n bytes (omega (arith, all)))
+pub byte_is_set : (program : Bool) (s t u : Store) (start n : ℕ) (bytes : List ℕ) (word : ℤ) → t ≡ in_store s (with_words program (shown s) (part_set (words_of program (shown s)) start bytes n)) → n < length bytes
+    → start + length bytes ≤ length (words_of program (shown s)) → word ≡ pos (get_or bytes n 0) → Fits w8 (get_or bytes n 0)
+    → u ≡ in_store t (with_words program (shown t) (set (words_of program (shown t)) (start + n) (to_z w16 (of_z w16 word))))
+    → u ≡ in_store s (with_words program (shown s) (part_set (words_of program (shown s)) start bytes (n + 1)))
+byte_is_set program s t u start n bytes word is below room byte small set_now =
+    let written = with_words program (shown t) (set (words_of program (shown t)) (start + n) (to_z w16 (of_z w16 word))) in
+    set_now ∙ ap (λ (v : Store). in_store v written) is
+    ∙ ap (in_store s) (byte_set program (shown s) (shown t) start n bytes word (ap shown is) below room byte small)
 
-pub no_bytes_set : (program : Bool) (s : State) (start : ℕ) (array : List ℤ) → array ≡ [] → s ≡ with_words program s (set_array (words_of program s) start array)
-no_bytes_set program s start array none =
+pub all_bytes_set : (program : Bool) (s t : Store) (start n : ℕ) (bytes : List ℕ) → t ≡ in_store s (with_words program (shown s) (part_set (words_of program (shown s)) start bytes n)) → n ≡ length bytes
+    → t ≡ in_store s (with_words program (shown s) (set_array (words_of program (shown s)) start (map pos bytes)))
+all_bytes_set program s t start n bytes is all =
+    is ∙ ap (λ (l : List ℕ). in_store s (with_words program (shown s) (set_array (words_of program (shown s)) start (map pos l)))) (take_all n bytes (omega (arith, all)))
+
+nothing_set : (program : Bool) (s : State) (start : ℕ) (array : List ℤ) → array ≡ [] → s ≡ with_words program s (set_array (words_of program s) start array)
+nothing_set program s start array none =
     sym (ap (λ (l : List ℤ). with_words program s (set_array (words_of program s) start l)) none ∙ ap (with_words program s) (no_array (words_of program s) start) ∙ words_same program s)
+
+pub no_bytes_set : (program : Bool) (s : Store) (start : ℕ) (array : List ℤ) → array ≡ [] → s ≡ in_store s (with_words program (shown s) (set_array (words_of program (shown s)) start array))
+no_bytes_set program s start array none = ap (in_store s) (nothing_set program (shown s) start array none)
 
 -- ---- The whole answer
 
-takes : (c : CodeLists) (s : State) (reply : SysReply) → (reply ≡ replies.CallError → ⊥) → HasRoomFor c s reply → TakesReply c s reply
-takes c s replies.CallError other room = absurd (other refl)
-takes c s reply other room = room
+takes : (c : CodeLists) (s : State) (most : ℕ) (reply : SysReply) → (reply ≡ replies.CallError → ⊥) → HasRoomFor c s most reply → TakesReply c s most reply
+takes c s most replies.CallError other room = absurd (other refl)
+takes c s most reply other room = room
 
 completes : (c : CodeLists) (s : State) (reply : SysReply) → (reply ≡ replies.CallError → ⊥) → reply_at c s (instr_at c s.current.place) reply ≡ answered c s reply
 unfolding answered
@@ -119,11 +135,12 @@ completes c s replies.CallError other = absurd (other refl)
 completes c s reply other = refl
 
 -- the instruction that was found in the code, whatever stands past its end
-pub completed : (c : CodeLists) (s t : State) (reply : SysReply) (instrs : List Instr) (past : Instr) → instrs ≡ c.instrs → (reply ≡ replies.CallError → ⊥) → HasRoomFor c s reply
-    → ((d : CodeLists) → pops d (get_or instrs s.current.place past).op (get_or instrs s.current.place past).a ≡ values_of (get_or instrs s.current.place past).a → t ≡ reply_at d s (get_or instrs s.current.place past) reply)
-    → t ≡ answered c s reply
+pub completed : (c : CodeLists) (s t : Store) (reply : SysReply) (instrs : List Instr) (past : Instr) → instrs ≡ c.instrs → (reply ≡ replies.CallError → ⊥)
+    → HasRoomFor c (shown s) s.current.operands.room reply
+    → ((d : CodeLists) → pops d (get_or instrs s.current.place past).op (get_or instrs s.current.place past).a ≡ values_of (get_or instrs s.current.place past).a → t ≡ in_store s (reply_at d (shown s) (get_or instrs s.current.place past) reply))
+    → t ≡ in_store s (answered c (shown s) reply)
 completed c s t reply instrs past same other room done =
-    let here = takes c s reply other room in
+    let here = takes c (shown s) s.current.operands.room reply other room in
     let found : get_or instrs s.current.place past ≡ instr_at c s.current.place = ap (λ (l : List Instr). get_or l s.current.place past) same ∙ get_or_default c.instrs s.current.place past no_instr here.inside in
     let P : Instr → Type 0 = λ i. pops c i.op i.a ≡ values_of i.a in
-    done c (subst P (sym found) here.pops_values) ∙ ap (λ i. reply_at c s i reply) found ∙ completes c s reply other
+    done c (subst P (sym found) here.pops_values) ∙ ap (λ i. in_store s (reply_at c (shown s) i reply)) found ∙ ap (in_store s) (completes c (shown s) reply other)

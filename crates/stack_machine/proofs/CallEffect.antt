@@ -4,7 +4,7 @@ use Rattle.std.proofs.lemmas.Bool.{false≢true}
 use Rattle.stack_code.specs.declared.table.Op.{Op}
 use Rattle.stack_code.specs.declared.table.Op.TheVariants as op
 use Rattle.stack_code.specs.CodeLists.{CodeLists}
-use Rattle.stack_machine.specs.declared.state.State.{State}
+use Rattle.stack_machine.specs.States.{State}
 use Rattle.stack_machine.specs.Calls.{sys}
 use Rattle.stack_machine.specs.Machine.{effect, calls, uses_program, array_start}
 

@@ -1,13 +1,13 @@
 -- The words of any open activation: what a write to them changes, and what it leaves.
-use Rattle.std.proofs.Common.{◌≡◌, ◌≢◌, ℕ, zero, suc, ◌<◌, ◌≤◌, List, [], ◌∷◌, length, take, get_or, ℤ, Some, refl, sym, ◌∙◌, ap, arith}
+use Rattle.std.proofs.Common.{◌≡◌, ◌≢◌, ℕ, zero, suc, ◌<◌, ◌≤◌, List, [], ◌∷◌, length, ℤ, Some, refl, sym, ◌∙◌, ap, arith}
 use Rattle.std.specs.Prelude.{slice_get, slice_index_or, slice_set}
-use Rattle.std.proofs.Math.Seq.{take-set-lt}
-use Rattle.std.proofs.lemmas.List.{length-take, get_or-take}
-use Rattle.std.proofs.lemmas.Option.{slice_get-get_or, get_or_from_slice_get}
-use Rattle.stack_machine.specs.declared.activation.Activation.{Activation}
-use Rattle.stack_machine.specs.declared.state.State.{State}
+use Rattle.std.proofs.lemmas.Option.{slice_get-get_or}
+use Rattle.stack_machine.specs.States.{Activation, State}
 use Rattle.stack_machine.specs.Activations.{nobody, words_from, waiting_with, own_with}
 use Rattle.stack_machine.specs.Laws.{WordsAreKept}
+use Rattle.stack_machine.specs.declared.state.Store.{Store}
+use Rattle.stack_machine.specs.Store.{Bounded, Waiters}
+use Rattle.stack_machine.specs.Shown.{shown, in_store}
 use Rattle.stack_machine.specs.State.{words_at, with_words_at}
 
 pub as_many_wait : (below : List Activation) (number : ℕ) (words : List ℤ) → length (waiting_with below number words) ≡ length below
@@ -135,11 +135,11 @@ waiting_set (a ∷ above) zero words waits = refl
 waiting_set (a ∷ above) (suc number) words waits = ap (λ (b : List Activation). a ∷ b) (waiting_set above number words (omega arith))
 
 -- the state once a word of an activation that waits was changed
-pub word_set_waiting : (s : State) (number place : ℕ) (word : ℤ) (new : List Activation) → number < length s.below
+set_waiting : (s : State) (number place : ℕ) (word : ℤ) (new : List Activation) → number < length s.below
     → ((a : Activation) → slice_get s.below number ≡ Some a → new ≡ slice_set s.below number (record a { words = slice_set a.words place word }))
     → record s { below = new } ≡ with_words_at s number (slice_set (words_at s number) place word)
 unfolding with_parts
-word_set_waiting s number place word new waits changed =
+set_waiting s number place word new waits changed =
     let a = slice_index_or s.below number nobody in
     let words = slice_set (words_at s number) place word in
     let same : slice_set a.words place word ≡ words = ap (λ (w : List ℤ). slice_set w place word) (sym (words_waiting s.below s.current.words number waits)) in
@@ -149,15 +149,31 @@ word_set_waiting s number place word new waits changed =
     both_parts s new (waiting_with s.below number words) s.current.words (own_with s.below s.current.words number words) below (sym (own_stays s.below s.current.words number words waits))
 
 -- and once an own one was
-pub word_set_own : (s : State) (number place : ℕ) (word : ℤ) (new : List ℤ) → number ≡ length s.below → new ≡ slice_set s.current.words place word
+set_own : (s : State) (number place : ℕ) (word : ℤ) (new : List ℤ) → number ≡ length s.below → new ≡ slice_set s.current.words place word
     → record s { current = record s.current { words = new } } ≡ with_words_at s number (slice_set (words_at s number) place word)
 unfolding with_parts
-word_set_own s number place word new last changed =
+set_own s number place word new last changed =
     let words = slice_set (words_at s number) place word in
     let own : new ≡ own_with s.below s.current.words number words =
     changed ∙ ap (λ (w : List ℤ). slice_set w place word) (sym (words_own s.below s.current.words number last))
     ∙ sym (own_written s.below s.current.words number words last) in
     both_parts s s.below (waiting_with s.below number words) new (own_with s.below s.current.words number words) (sym (waiting_stay s.below number words (omega (arith, last)))) own
+
+-- the same, in a store
+pub word_set_waiting : (s : Store) (number place : ℕ) (word : ℤ) (new : Waiters) → number < length s.below.waiting
+    → ((a : Activation) → slice_get s.below.waiting number ≡ Some a → new ≡ record s.below { waiting = slice_set s.below.waiting number (record a { words = slice_set a.words place word }) })
+    → record s { below = new } ≡ in_store s (with_words_at (shown s) number (slice_set (words_at (shown s) number) place word))
+word_set_waiting s number place word new waits changed =
+    let is = changed (slice_index_or s.below.waiting number nobody) (slice_get-get_or s.below.waiting number nobody waits) in
+    ap (λ (b : Waiters). record s { below = b }) is
+    ∙ ap (in_store s) (set_waiting (shown s) number place word _ waits (λ a found. ap (λ (w : Waiters). w.waiting) (sym is ∙ changed a found)))
+
+pub word_set_own : (s : Store) (number place : ℕ) (word : ℤ) (new : Bounded) → number ≡ length s.below.waiting
+    → new ≡ record s.current.words { words = slice_set s.current.words.words place word }
+    → record s { current = record s.current { words = new } } ≡ in_store s (with_words_at (shown s) number (slice_set (words_at (shown s) number) place word))
+word_set_own s number place word new last changed =
+    ap (λ (b : Bounded). record s { current = record s.current { words = b } }) changed
+    ∙ ap (in_store s) (set_own (shown s) number place word (slice_set s.current.words.words place word) last refl)
 
 -- an activation that doesn't wait and has a word is the current one
 pub last_is_open : (below : List Activation) (own : List ℤ) (number place : ℕ) → place < length (words_from below own number) → length below ≤ number
@@ -166,22 +182,6 @@ last_is_open [] own zero place inside past = refl
 last_is_open [] own (suc number) place inside past = absurd (omega arith)
 last_is_open (a ∷ above) own zero place inside past = absurd (omega arith)
 last_is_open (a ∷ above) own (suc number) place inside past = ap suc (last_is_open above own number place inside (omega arith))
-
--- ---- The slots in which activations wait: those up to a count are seen
-
-pub slot_set : (slots seen : List Activation) (count number place : ℕ) (word : ℤ) (slot a : Activation) (words : List ℤ) → take count slots ≡ seen
-    → number < length seen
-    → slot ≡ get_or slots number slot → slice_get seen number ≡ Some a → words ≡ slice_set slot.words place word
-    → take count (slice_set slots number (record slot { words = words })) ≡ slice_set seen number (record a { words = slice_set a.words place word })
-slot_set slots seen count number place word slot a words view waits value found changed =
-    let below : number < count = omega (arith, ap length view, length-take count slots) in
-    let same : a ≡ slot =
-    sym (get_or_from_slice_get seen number a slot found) ∙ ap (λ (l : List Activation). get_or l number slot) (sym view)
-    ∙ get_or-take count slots number slot below ∙ sym value in
-    take-set-lt count slots number (record slot { words = words }) below
-    ∙ ap (λ (l : List Activation). slice_set l number (record slot { words = words })) view
-    ∙ ap (λ (w : List ℤ). slice_set seen number (record slot { words = w })) changed
-    ∙ ap (λ (b : Activation). slice_set seen number (record b { words = slice_set b.words place word })) (sym same)
 
 -- ---- The law
 

@@ -5,14 +5,22 @@ use Rattle.std.specs.Int.{w16}
 use Rattle.std.specs.Prelude.{FitsSigned}
 use Rattle.std.proofs.Math.Seq.{take-set-lt}
 use Rattle.std.proofs.lemmas.Int.{to_z-of_z}
-use Rattle.std.proofs.lemmas.List.{ext_get_or, get_or-reverse, get_or-take, get_or-drop, length-take, length-drop, length-reverse, length-append, length-replicate, drop-take}
+use Rattle.std.proofs.lemmas.List.{ext_get_or, get_or-reverse, get_or-take, get_or-drop, length-take, length-drop, length-reverse, length-append, length-replicate, length-set, drop-take}
 use mir.Val.{to_z, of_z}
+use Rattle.stack_machine.specs.Store.{Bounded}
+
+abbrev bounded : List ℤ → ℕ → Bounded
+bounded words room = record { words = words; room = room }
 
 -- a write to a word of the front
-pub set_front : (words now : List ℤ) (len place : ℕ) (word : ℤ) → take len words ≡ now → place < length now → FitsSigned w16 word → take len (set words place (to_z w16 (of_z w16 word))) ≡ set now place word
+pub set_front : (words : List ℤ) (now : Bounded) (len place : ℕ) (word : ℤ) → bounded (take len words) (length words) ≡ now → place < length now.words → FitsSigned w16 word
+    → bounded (take len (set words place (to_z w16 (of_z w16 word)))) (length (set words place (to_z w16 (of_z w16 word)))) ≡ record now { words = set now.words place word }
 set_front words now len place word view below fits =
-    let inside : place < len = omega (arith, ap length view, length-take len words) in
-    ap (λ z. take len (set words place z)) (to_z-of_z w16 word fits) ∙ take-set-lt len words place word inside ∙ ap (λ (l : List ℤ). set l place word) view
+    let inside : place < len = omega (arith, ap (λ (b : Bounded). length b.words) view, length-take len words) in
+    ap (λ z. bounded (take len (set words place z)) (length (set words place z))) (to_z-of_z w16 word fits)
+    ∙ ap (λ (l : List ℤ). bounded l (length (set words place word))) (take-set-lt len words place word inside)
+    ∙ ap (bounded (set (take len words) place word)) (length-set words place word)
+    ∙ ap (λ (b : Bounded). record b { words = set b.words place word }) view
 
 -- the top of a stack that is kept with its lowest word first
 pub drop_reverse : (words : List ℤ) (height count : ℕ) → height ≤ length words → count ≤ height → reverse (take (height - count) words) ≡ drop count (reverse (take height words))
@@ -56,24 +64,28 @@ top_reverse words height count room few =
     ap (λ n. take n (drop (height - count) words)) back ∙ sym cut ∙ sym (take_reverse (take height words) count (omega (arith, long)) ∙ ap (λ n. drop n (take height words)) same)
 
 -- the same, for what the stack is seen as
-pub drop_front : (words now : List ℤ) (height count : ℕ) → height ≤ length words → reverse (take height words) ≡ now → count ≤ length now → reverse (take (height - count) words) ≡ drop count now
+pub drop_front : (words : List ℤ) (now : Bounded) (height count : ℕ) → height ≤ length words → bounded (reverse (take height words)) (length words) ≡ now → count ≤ length now.words
+    → bounded (reverse (take (height - count) words)) (length words) ≡ record now { words = drop count now.words }
 drop_front words now height count room view few =
-    let inside : count ≤ height = omega (arith, few, ap length view, length-reverse (take height words), length-take height words) in
-    drop_reverse words height count room inside ∙ ap (drop count) view
+    let inside : count ≤ height = omega (arith, few, ap (λ (b : Bounded). length b.words) view, length-reverse (take height words), length-take height words) in
+    ap (λ (l : List ℤ). bounded l (length words)) (drop_reverse words height count room inside)
+    ∙ ap (λ (b : Bounded). record b { words = drop count b.words }) view
 
-pub top_front : (words now kept : List ℤ) (height count : ℕ) → height ≤ length words → reverse (take height words) ≡ now → kept ≡ words → count ≤ length now → take (height - (height - count)) (drop (height - count) kept) ≡ reverse (take count now)
-top_front words now kept height count room view same few =
-    let inside : count ≤ height = omega (arith, few, ap length view, length-reverse (take height words), length-take height words) in
-    ap (λ l. take (height - (height - count)) (drop (height - count) l)) same ∙ top_reverse words height count room inside ∙ ap (λ l. reverse (take count l)) view
+pub top_front : (words kept : List ℤ) (now : Bounded) (height count : ℕ) → height ≤ length words → bounded (reverse (take height words)) (length words) ≡ now → kept ≡ words → count ≤ length now.words
+    → take (height - (height - count)) (drop (height - count) kept) ≡ reverse (take count now.words)
+top_front words kept now height count room view same few =
+    let inside : count ≤ height = omega (arith, few, ap (λ (b : Bounded). length b.words) view, length-reverse (take height words), length-take height words) in
+    ap (λ l. take (height - (height - count)) (drop (height - count) l)) same ∙ top_reverse words height count room inside ∙ ap (λ (b : Bounded). reverse (take count b.words)) view
 
 -- a frame that was written word by word
-pub begun : (words arguments : List ℤ) (len place : ℕ) → len ≤ length words → len ≤ place → length arguments ≤ len
+pub begun : (words arguments : List ℤ) (most len place : ℕ) → length words ≡ most → len ≤ most → len ≤ place → length arguments ≤ len
     → ((k : ℕ) → k < place → get_or words k (pos 0) ≡ get_or (arguments ++ replicate (len - length arguments) (pos 0)) k (pos 0))
-    → take len words ≡ arguments ++ replicate (len - length arguments) (pos 0)
-begun words arguments len place room all few same =
+    → bounded (take len words) (length words) ≡ bounded (arguments ++ replicate (len - length arguments) (pos 0)) most
+begun words arguments most len place whole room all few same =
     let want = arguments ++ replicate (len - length arguments) (pos 0) in
     let long : length want ≡ len = omega (arith, length-append arguments (replicate (len - length arguments) (pos 0)), length-replicate (len - length arguments) (pos 0)) in
-    ext_get_or (pos 0) (take len words) want (omega (arith, length-take len words, long))
+    ap (bounded (take len words)) whole ∙ ap (λ (l : List ℤ). bounded l most)
+    (ext_get_or (pos 0) (take len words) want (omega (arith, length-take len words, long, whole))
     (λ k below.
     let inside : k < len = omega (arith, below, length-take len words) in
-    get_or-take len words k (pos 0) inside ∙ same k (omega (arith, inside, all)))
+    get_or-take len words k (pos 0) inside ∙ same k (omega (arith, inside, all))))

@@ -6,8 +6,7 @@ use Rattle.solo_base.specs.declared.outcome.ProgResult.TheVariants as result
 use Rattle.solo_base.specs.declared.interface.Procedure.{Procedure}
 use Rattle.solo_base.specs.Interface.{procedure_at, call_row_of}
 use Rattle.stack_code.specs.CodeLists.{CodeLists, routine_at}
-use Rattle.stack_machine.specs.declared.activation.Activation.{Activation}
-use Rattle.stack_machine.specs.declared.state.State.{State}
+use Rattle.stack_machine.specs.States.{Activation, State}
 use Rattle.stack_machine.specs.Activations.{waiting_with}
 use Rattle.stack_machine.specs.State.{Next, Goes, Asks, Lacks, push, has_room, words_at, with_words_at, words_of, with_words, advance, stop}
 use Rattle.solo_base.specs.Arithmetic.{difference}

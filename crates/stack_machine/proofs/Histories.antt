@@ -9,8 +9,7 @@ use Rattle.stack_code.specs.CodeLists.{CodeLists, routine_at}
 use Rattle.stack_machine.specs.declared.running.Pause.{Pause}
 use Rattle.stack_machine.specs.declared.running.Pause.TheVariants as pause
 use Rattle.stack_machine.specs.declared.state.Finish.{Finish}
-use Rattle.stack_machine.specs.declared.activation.Activation.{Activation}
-use Rattle.stack_machine.specs.declared.state.State.{State}
+use Rattle.stack_machine.specs.States.{Activation, State}
 use Rattle.stack_machine.specs.State.{Asks}
 use Rattle.stack_machine.specs.Machine.{next, start_state, answered}
 use Rattle.stack_machine.specs.Run.{Moves, LeadsToCall, LeadsToEnd, Pauses, Replied, RunsFrom, Runs}

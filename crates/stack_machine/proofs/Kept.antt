@@ -5,8 +5,7 @@ use Rattle.std.proofs.lemmas.List.{length-append, length-take, length-drop, leng
 use Rattle.stack_code.specs.CodeFile.{mark}
 use Rattle.stack_code.specs.CodeLists.{CodeLists, routine_at}
 use Rattle.stack_code.specs.Rules.{IsGood, routine_of, height_at, program_words}
-use Rattle.stack_machine.specs.declared.activation.Activation.{Activation}
-use Rattle.stack_machine.specs.declared.state.State.{State}
+use Rattle.stack_machine.specs.States.{Activation, State}
 use Rattle.stack_machine.specs.State.{advance, jump_to, words_at, with_words_at, words_of, with_words}
 use Rattle.stack_machine.specs.Activations.{opened, waiting_caller, words_from, waiting_with, own_with}
 use Rattle.stack_machine.specs.Safe.{IsAtPlace, Waits, lowest_routine, AreWaiting, IsRunning}

@@ -4,8 +4,7 @@ use Rattle.std.specs.Prelude.{slice_get}
 use Rattle.std.proofs.lemmas.List.{length-append, take_at, get_or_push}
 use Rattle.std.proofs.lemmas.Option.{slice_get-get_or}
 use Rattle.stack_code.specs.CodeLists.{CodeLists}
-use Rattle.stack_machine.specs.declared.activation.Activation.{Activation}
-use Rattle.stack_machine.specs.declared.state.State.{State}
+use Rattle.stack_machine.specs.States.{Activation, State}
 use Rattle.stack_machine.specs.Effects.{return_to, leave}
 
 count_of : (xs : List Activation) (x : Activation) → length (xs ++ x ∷ []) - 1 ≡ length xs

@@ -6,6 +6,8 @@ pub mod Pages
 pub mod Routines
 pub mod Obedience
 pub mod Frames
+pub mod Slots
+pub mod Rooms
 pub mod Kept
 pub mod Standing
 pub mod Shapes

@@ -6,8 +6,7 @@ use Rattle.stack_code.specs.declared.instr.Instr.{Instr}
 use Rattle.solo_base.specs.declared.system_call.SysCall.{SysCall}
 use Rattle.stack_code.specs.CodeLists.{CodeLists, IsCode, routine_at}
 use Rattle.stack_code.specs.Rules.{IsGood}
-use Rattle.stack_machine.specs.declared.activation.Activation.{Activation}
-use Rattle.stack_machine.specs.declared.state.State.{State}
+use Rattle.stack_machine.specs.States.{Activation, State}
 use Rattle.stack_machine.specs.declared.state.Finish.{Finish}
 use Rattle.stack_machine.specs.State.{Goes, Asks, Stops, Lacks}
 use Rattle.stack_machine.specs.Machine.{effect, next, next_by, next_of}

@@ -1,15 +1,12 @@
 -- A reply that fits has room where the program asked, and leaves less to run.
-use Rattle.std.proofs.Common.{◌≡◌, ℕ, ◌+◌, ◌-◌, ◌*◌, ◌<◌, ◌≤◌, ◌^◌, Option, Some, None, ◌++◌, length, drop, refl, sym, ap, arith, subst, ◌⊎◌, inl, inr}
+use Rattle.std.proofs.Common.{◌≡◌, ℕ, ◌+◌, ◌-◌, ◌*◌, ◌<◌, ◌≤◌, ◌^◌, Option, Some, None, ◌++◌, drop, refl, sym, arith, subst, ◌⊎◌, inl, inr}
 use Rattle.std.proofs.Math.Nat.{mul-le-mul_right}
 use Rattle.solo_base.specs.declared.system_call.SysCall.{SysCall}
 use Rattle.solo_base.specs.declared.system_call.SysReply.{SysReply}
 use Rattle.solo_base.specs.declared.system_call.SysReply.TheVariants as replies
-use Rattle.std.proofs.lemmas.Bool.{leb-true, and_parts, cases_lt}
-use Rattle.std.proofs.lemmas.List.{get_or_past}
-use Rattle.stack_code.specs.declared.instr.RoutineInfo.{RoutineInfo}
-use Rattle.stack_code.specs.CodeLists.{CodeLists, routine_at, instr_at, no_routine}
+use Rattle.stack_code.specs.CodeLists.{CodeLists, routine_at, instr_at}
 use Rattle.stack_code.specs.Rules.{IsGood, pops}
-use Rattle.stack_machine.specs.declared.state.State.{State}
+use Rattle.stack_machine.specs.States.{State}
 use Rattle.stack_machine.specs.declared.state.Finish.{Finish}
 use Rattle.stack_machine.specs.State.{Next, Goes, Asks, Stops, words_of}
 use Rattle.solo_base.specs.Replies.{results_in, array_in, ticks_in}
@@ -24,13 +21,6 @@ use Rattle.stack_machine.proofs.Goes.{written}
 use Rattle.stack_machine.proofs.Measure.{IsNoTick, asks_here}
 use Rattle.stack_machine.proofs.Standing.{HasPlaceFor}
 use Rattle.stack_machine.proofs.Safety.{reply_finds_place, answered_is_sound}
-
-height_of_good : (c : CodeLists) (k : ℕ) → IsGood c → (k < length c.routines) ⊎ (length c.routines ≤ k) → (routine_at c k).height ≤ 1536
-height_of_good c k good (inl inside) = leb-true (routine_at c k).height 1536 (and_parts _ _ (good.routines k inside)).1
-height_of_good c k good (inr past) = omega (arith, ap (λ (r : RoutineInfo). r.height) (get_or_past c.routines k no_routine past))
-
-height_is_small : (c : CodeLists) (k : ℕ) → IsGood c → (routine_at c k).height ≤ 1536
-height_is_small c k good = height_of_good c k good (cases_lt k (length c.routines))
 
 -- ---- A program that asks or goes on hasn't ended
 
@@ -50,36 +40,37 @@ goes_running c limit s t goes = elim (end_is_told c limit s s.ended refl) [ inl 
 pub asks_running : (c : CodeLists) (limit : ℕ) (s : State) (call : SysCall) (t : State) → next c limit s ≡ Asks call t → s.ended ≡ None
 asks_running c limit s call t asks = elim (end_is_told c limit s s.ended refl) [ inl runs ↦ runs | inr end ↦ absurd (subst IsEnd asks end) ]
 
-takes_fitting : (c : CodeLists) (limit : ℕ) (s : State) (reply : SysReply) → IsSound c limit s → s.ended ≡ None → limit < 2 ^ 32 → HasPlaceFor c limit s (instr_at c s.current.place) reply → TakesReply c s reply
-takes_fitting c limit s reply sound runs few place =
-    let low = height_is_small c s.current.routine sound.good in
+takes_fitting : (c : CodeLists) (limit : ℕ) (s : State) (most : ℕ) (reply : SysReply) → IsSound c limit s → (routine_at c s.current.routine).height ≤ most → s.ended ≡ None → limit < 2 ^ 32
+    → HasPlaceFor c limit s (instr_at c s.current.place) reply → TakesReply c s most reply
+takes_fitting c limit s most reply sound high runs few place =
     record {
       inside = (sound.safe runs).current.inside;
       pops_values = place.pops;
       room = record {
         values = place.values;
         array = place.array;
-        results = omega (arith, place.results, low);
+        results = omega (arith, place.results, high);
         ticks = omega (arith, place.ticks, few);
       };
     }
 
-has_room : (c : CodeLists) (s : State) (reply : SysReply) → ((reply ≡ replies.CallError → ⊥) → TakesReply c s reply) → HasRoomFor c s reply
-has_room c s replies.CallError takes = tt
-has_room c s replies.Done takes = takes (λ e. cc)
-has_room c s (replies.Char byte) takes = takes (λ e. cc)
-has_room c s (replies.Opened found) takes = takes (λ e. cc)
-has_room c s (replies.Page page) takes = takes (λ e. cc)
-has_room c s (replies.Length pages) takes = takes (λ e. cc)
-has_room c s (replies.Found kind found) takes = takes (λ e. cc)
-has_room c s (replies.Argument tag number name) takes = takes (λ e. cc)
-has_room c s (replies.Ran line number ticks) takes = takes (λ e. cc)
+has_room : (c : CodeLists) (s : State) (most : ℕ) (reply : SysReply) → ((reply ≡ replies.CallError → ⊥) → TakesReply c s most reply) → HasRoomFor c s most reply
+has_room c s most replies.CallError takes = tt
+has_room c s most replies.Done takes = takes (λ e. cc)
+has_room c s most (replies.Char byte) takes = takes (λ e. cc)
+has_room c s most (replies.Opened found) takes = takes (λ e. cc)
+has_room c s most (replies.Page page) takes = takes (λ e. cc)
+has_room c s most (replies.Length pages) takes = takes (λ e. cc)
+has_room c s most (replies.Found kind found) takes = takes (λ e. cc)
+has_room c s most (replies.Argument tag number name) takes = takes (λ e. cc)
+has_room c s most (replies.Ran line number ticks) takes = takes (λ e. cc)
 
 -- the room that answer needs
-pub room_for_fitting : (c : CodeLists) (limit : ℕ) (s : State) (call : SysCall) (reply : SysReply) → IsSound c limit s → limit < 2 ^ 32 → next c limit s ≡ Asks call s → Fits call reply → HasRoomFor c s reply
-room_for_fitting c limit s call reply sound few asks fits =
+pub room_for_fitting : (c : CodeLists) (limit : ℕ) (s : State) (most : ℕ) (call : SysCall) (reply : SysReply) → IsSound c limit s → (routine_at c s.current.routine).height ≤ most → limit < 2 ^ 32
+    → next c limit s ≡ Asks call s → Fits call reply → HasRoomFor c s most reply
+room_for_fitting c limit s most call reply sound high few asks fits =
     let runs = asks_running c limit s call s asks in
-    has_room c s reply (λ other. takes_fitting c limit s reply sound runs few (reply_finds_place c limit s call reply s sound.good runs (sound.safe runs) asks fits other))
+    has_room c s most reply (λ other. takes_fitting c limit s most reply sound high runs few (reply_finds_place c limit s call reply s sound.good runs (sound.safe runs) asks fits other))
 
 -- ---- What is left to run
 
@@ -109,8 +100,8 @@ answered_less c limit s call reply good asks = replied_any c limit s reply (asks
 
 -- ---- A machine that awaits a reply
 
-pub room_in : (m : Standing) (reply : SysReply) → StandsWell m → m.limit < 2 ^ 32 → Awaits m reply → HasRoomFor m.code m.state reply
-room_in m reply well few (call, asks, fits) = room_for_fitting m.code m.limit m.state call reply well few asks fits
+pub room_in : (m : Standing) (most : ℕ) (reply : SysReply) → StandsWell m → (routine_at m.code m.state.current.routine).height ≤ most → m.limit < 2 ^ 32 → Awaits m reply → HasRoomFor m.code m.state most reply
+room_in m most reply well high few (call, asks, fits) = room_for_fitting m.code m.limit m.state most call reply well high few asks fits
 
 pub stands_on : (m : Standing) (reply : SysReply) (t : State) → StandsWell m → Awaits m reply → t ≡ answered m.code m.state reply → IsSound m.code m.limit t
 stands_on m reply t well (call, asks, fits) same =

@@ -3,10 +3,10 @@ use Rattle.std.proofs.Common.{◌≡◌, ℕ, zero, suc, ◌+◌, ◌<◌, ◌�
 use Rattle.std.proofs.lemmas.List.{append-nil}
 use Rattle.solo_base.specs.declared.system_call.SysCall.{SysCall}
 use Rattle.solo_base.specs.declared.system_call.SysReply.{SysReply}
-use Rattle.stack_code.specs.CodeLists.{CodeLists}
+use Rattle.stack_code.specs.CodeLists.{CodeLists, routine_at}
 use Rattle.stack_code.specs.Rules.{IsGood}
 use Rattle.stack_machine.specs.declared.state.Finish.{Finish}
-use Rattle.stack_machine.specs.declared.state.State.{State}
+use Rattle.stack_machine.specs.States.{State}
 use Rattle.stack_machine.specs.Machine.{answered}
 use Rattle.solo_base.specs.Fits.{Fits}
 use Rattle.stack_machine.specs.Room.{HasRoomFor}
@@ -67,8 +67,9 @@ pub record IsSoFar {W F : Type 0} (answers : W → SysCall → Result SysReply F
 pub so_far_begins : {W F : Type 0} (answers : W → SysCall → Result SysReply F → W → Type 0) (c : CodeLists) (limit : ℕ) (s : State) (w : W) → IsSound c limit s → IsSoFar answers c limit s w s w
 so_far_begins answers c limit s w sound = record { calls = []; replies = []; replied = refl; gave = refl; sound = sound }
 
-pub room_in_round : (c : CodeLists) (limit : ℕ) (s t : State) (call : SysCall) (reply : SysReply) → LeadsToCall c limit s call t → IsSound c limit t → limit < 2 ^ 32 → Fits call reply → HasRoomFor c t reply
-room_in_round c limit s t call reply leads sound few fits = room_for_fitting c limit t call reply sound few leads.asks fits
+pub room_in_round : (c : CodeLists) (limit : ℕ) (s t : State) (most : ℕ) (call : SysCall) (reply : SysReply) → LeadsToCall c limit s call t → IsSound c limit t → (routine_at c t.current.routine).height ≤ most
+    → limit < 2 ^ 32 → Fits call reply → HasRoomFor c t most reply
+room_in_round c limit s t most call reply leads sound high few fits = room_for_fitting c limit t most call reply sound high few leads.asks fits
 
 pub so_far_more : {W F : Type 0} (answers : W → SysCall → Result SysReply F → W → Type 0) (c : CodeLists) (limit : ℕ) (s : State) (w : W) (t u x : State) (v z : W) (call : SysCall) (reply : SysReply)
     → IsSoFar answers c limit s w t v → LeadsToCall c limit t call u → IsSound c limit u → answers v call (Ok reply) z → Fits call reply → x ≡ answered c u reply → IsSoFar answers c limit s w x z

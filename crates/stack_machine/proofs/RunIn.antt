@@ -6,7 +6,7 @@ use Rattle.solo_base.specs.declared.system_call.SysReply.{SysReply}
 use Rattle.stack_code.specs.CodeLists.{CodeLists}
 use Rattle.stack_machine.specs.declared.running.Pause.TheVariants as pause
 use Rattle.stack_machine.specs.declared.state.Finish.{Finish}
-use Rattle.stack_machine.specs.declared.state.State.{State}
+use Rattle.stack_machine.specs.States.{State}
 use Rattle.stack_machine.specs.State.{Next, Goes, Asks, Stops, Lacks}
 use Rattle.stack_machine.specs.Machine.{next, next_of, start_state, answered}
 use Rattle.stack_machine.specs.Safe.{IsSound}

@@ -15,7 +15,7 @@ use Rattle.stack_code.specs.declared.instr.Instr.{Instr}
 use Rattle.stack_code.specs.CodeLists.{CodeLists, IsCode, routine_at, instr_at, no_instr}
 use Rattle.stack_code.specs.Rules.{IsGood, routine_of, height_at, array_fits}
 use Rattle.stack_machine.specs.declared.state.Finish.{Finish}
-use Rattle.stack_machine.specs.declared.state.State.{State}
+use Rattle.stack_machine.specs.States.{State}
 use Rattle.stack_machine.specs.State.{Goes, Asks, Stops, Lacks}
 use Rattle.stack_machine.specs.Operators.{unary_of, binary_of}
 use Rattle.stack_machine.specs.Machine.{effect, next_by, next_of, next, start_state, answered}

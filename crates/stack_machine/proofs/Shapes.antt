@@ -8,7 +8,7 @@ use Rattle.std.proofs.lemmas.List.{length-set}
 use Rattle.solo_base.specs.declared.outcome.ProgResult.TheVariants as result
 use Rattle.stack_code.specs.declared.table.Op.{Op}
 use Rattle.stack_code.specs.CodeLists.{CodeLists, routine_at}
-use Rattle.stack_machine.specs.declared.state.State.{State}
+use Rattle.stack_machine.specs.States.{State}
 use Rattle.stack_machine.specs.State.{Next, Goes, Lacks, push, has_room, words_at, with_words_at, words_of, with_words, advance, stop}
 use Rattle.stack_machine.specs.Effects.{replace, unary, binary, store, load, load_at, store_at, load_element, store_element, replace_found, push_found, index_in, chr, refer, words_named, word_named, push_named, load_named, load_reference, write_named, store_named, store_reference}
 use Rattle.stack_machine.proofs.Standing.{IsSafeNext, Stands, Takes, stopped, enough, room, onward, onward_with, onward_at}

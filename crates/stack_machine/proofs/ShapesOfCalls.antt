@@ -16,7 +16,7 @@ use Rattle.solo_base.specs.Interface.{procedure_at, call_row_of, call_row, value
 use Rattle.stack_code.specs.CodeLists.{CodeLists, routine_at, instr_at}
 use Rattle.stack_code.specs.Rules.{pops, program_words, own_words}
 use Rattle.stack_machine.specs.declared.state.Finish.{Finish}
-use Rattle.stack_machine.specs.declared.state.State.{State}
+use Rattle.stack_machine.specs.States.{State}
 use Rattle.stack_machine.specs.State.{Lacks, advance, words_of, with_words}
 use Rattle.solo_base.specs.Replies.{results_in, array_in, ticks_in}
 use Rattle.stack_machine.specs.Calls.{Request, Makes, OutOfRange, LacksValue, request, made, ask, ask_row, sys}

@@ -14,8 +14,7 @@ use Rattle.stack_code.specs.declared.instr.RoutineInfo.{RoutineInfo}
 use Rattle.stack_code.specs.CodeFile.{mark}
 use Rattle.stack_code.specs.CodeLists.{CodeLists, routine_at}
 use Rattle.stack_code.specs.Rules.{routine_of, bounds_fit, jump_fits}
-use Rattle.stack_machine.specs.declared.activation.Activation.{Activation}
-use Rattle.stack_machine.specs.declared.state.State.{State}
+use Rattle.stack_machine.specs.States.{Activation, State}
 use Rattle.stack_machine.specs.State.{Goes, Stops, Lacks, has_room, advance, jump_to, stop}
 use Rattle.solo_base.specs.Arithmetic.{difference}
 use Rattle.stack_machine.specs.Effects.{replace_found, index, jump_false, tick, enter, call, give_back, return_to, leave}

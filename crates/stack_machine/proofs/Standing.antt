@@ -9,7 +9,7 @@ use Rattle.solo_base.specs.Interface.{values_of}
 use Rattle.stack_code.specs.CodeLists.{CodeLists, routine_at, instr_at}
 use Rattle.stack_code.specs.Rules.{IsGood, height_at, may_be_last, pops, pushes, program_words, own_words}
 use Rattle.stack_machine.specs.declared.state.Finish.{Finish}
-use Rattle.stack_machine.specs.declared.state.State.{State}
+use Rattle.stack_machine.specs.States.{State}
 use Rattle.stack_machine.specs.State.{Next, Goes, Asks, Stops, Lacks, stop, advance, words_at, with_words_at, words_of, with_words}
 use Rattle.solo_base.specs.Replies.{results_in, array_in, ticks_in}
 use Rattle.stack_machine.specs.Machine.{answered, uses_program, array_start}

@@ -1,7 +1,7 @@
 -- Open activations: what a CALL makes of the caller's and of the called routine's, and the words of each.
 use Rattle.std.specs.Prelude.{ℕ, zero, suc, ◌+◌, ◌-◌, List, [], ◌∷◌, ◌++◌, take, drop, reverse, replicate, ℤ, pos}
 use Rattle.stack_code.specs.declared.instr.RoutineInfo.{RoutineInfo}
-use Rattle.stack_machine.specs.declared.activation.Activation.{Activation}
+use Rattle.stack_machine.specs.States.{Activation}
 
 -- the activation of a routine: its parameters are on top of the caller's operands, the last one topmost
 abbrev pub opened : RoutineInfo → ℕ → List ℤ → Activation

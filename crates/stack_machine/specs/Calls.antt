@@ -8,7 +8,7 @@ use Rattle.solo_base.specs.declared.interface.Procedure.{Procedure}
 use Rattle.solo_base.specs.declared.interface.Procedure.TheVariants as row
 use Rattle.solo_base.specs.Interface.{procedure_at, call_row_of}
 use Rattle.stack_code.specs.CodeLists.{CodeLists, routine_at}
-use Rattle.stack_machine.specs.declared.state.State.{State}
+use Rattle.stack_machine.specs.States.{State}
 use Rattle.stack_machine.specs.State.{Next, Asks, Lacks, stop, words_of}
 
 -- what a procedure asks for, by its values (the last one topmost), its array and the ticks that are left. Out

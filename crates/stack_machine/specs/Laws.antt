@@ -3,7 +3,7 @@ use Rattle.std.specs.Prelude.{◌≡◌, ◌≢◌, ℕ, ◌≤◌, List, length
 use Rattle.solo_base.specs.declared.system_call.SysReply.{SysReply}
 use Rattle.stack_code.specs.CodeLists.{CodeLists, IsCode}
 use Rattle.stack_code.specs.Rules.{IsGood}
-use Rattle.stack_machine.specs.declared.state.State.{State}
+use Rattle.stack_machine.specs.States.{State}
 use Rattle.stack_machine.specs.State.{words_at, with_words_at}
 use Rattle.stack_machine.specs.Machine.{start_state}
 use Rattle.solo_base.specs.RunOutcome.{RunOutcome}

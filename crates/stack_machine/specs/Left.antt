@@ -2,9 +2,8 @@
 use Rattle.std.specs.Prelude.{ℕ, ◌+◌, ◌-◌, ◌*◌, Bool, true, false, List, [], ◌∷◌, length, Option, Some, None}
 use Rattle.stack_code.specs.CodeLists.{CodeLists, instr_at}
 use Rattle.stack_code.specs.Rules.{is_tick, is_behind_tick}
-use Rattle.stack_machine.specs.declared.activation.Activation.{Activation}
+use Rattle.stack_machine.specs.States.{Activation, State}
 use Rattle.stack_machine.specs.declared.state.Finish.{Finish}
-use Rattle.stack_machine.specs.declared.state.State.{State}
 
 abbrev pub instr_count : CodeLists → ℕ
 instr_count c = length c.instrs

@@ -1,3 +1,7 @@
+pub mod States
+pub mod Slots
+pub mod Store
+pub mod Shown
 pub mod Activations
 pub mod State
 pub mod Effects

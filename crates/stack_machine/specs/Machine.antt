@@ -10,7 +10,7 @@ use Rattle.stack_code.specs.declared.instr.Instr.{Instr}
 use Rattle.stack_code.specs.CodeLists.{CodeLists, routine_at, instr_at}
 use Rattle.stack_code.specs.Rules.{pops}
 use Rattle.stack_machine.specs.declared.state.Finish.{Finish}
-use Rattle.stack_machine.specs.declared.state.State.{State}
+use Rattle.stack_machine.specs.States.{State}
 use Rattle.stack_machine.specs.State.{Next, Goes, Stops, Lacks, stop, advance, jump_to, push, words_of, with_words}
 use Rattle.stack_machine.specs.Effects.{load, store, load_at, store_at, refer, load_reference, store_reference, unary, binary, index, chr, jump_false, tick, call, leave}
 use Rattle.stack_machine.specs.Operators.{unary_of, binary_of}

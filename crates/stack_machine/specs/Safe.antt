@@ -3,9 +3,8 @@ use Rattle.std.specs.Prelude.{◌≡◌, ℕ, ◌+◌, ◌≤◌, ◌<◌, List,
 use Rattle.stack_code.specs.CodeLists.{CodeLists, routine_at}
 use Rattle.stack_code.specs.CodeFile.{mark}
 use Rattle.stack_code.specs.Rules.{IsGood, routine_of, height_at}
-use Rattle.stack_machine.specs.declared.activation.Activation.{Activation}
+use Rattle.stack_machine.specs.States.{Activation, State}
 use Rattle.stack_machine.specs.declared.state.Finish.{Finish}
-use Rattle.stack_machine.specs.declared.state.State.{State}
 
 -- An activation stands at a place of its routine, with the words of its frame. With so many words more
 -- it has as many operands as the straight line gives there, and they don't pass the routine's height.

@@ -3,9 +3,8 @@ use Rattle.std.specs.Prelude.{ℕ, ◌+◌, Bool, true, false, List, ◌∷◌, 
 use Rattle.solo_base.specs.declared.outcome.ProgResult.{ProgResult}
 use Rattle.solo_base.specs.declared.system_call.SysCall.{SysCall}
 use Rattle.stack_code.specs.CodeLists.{CodeLists, routine_at}
-use Rattle.stack_machine.specs.declared.activation.Activation.{Activation}
+use Rattle.stack_machine.specs.States.{Activation, State}
 use Rattle.stack_machine.specs.Activations.{words_from, waiting_with, own_with}
-use Rattle.stack_machine.specs.declared.state.State.{State}
 use Rattle.stack_machine.specs.declared.state.Step.{Step}
 use Rattle.stack_machine.specs.declared.state.Step.TheVariants as step
 use Rattle.stack_machine.specs.declared.state.Ask.{Ask}

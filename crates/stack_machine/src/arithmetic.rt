@@ -3,15 +3,16 @@ ghost use Rattle.stack_machine.specs.State.{outcome, stop};
 ghost use Rattle.solo_base.specs.Arithmetic.{fit, sum, difference, product, quotient, remainder, truth, holds};
 ghost use Rattle.stack_machine.specs.Effects.{replace, unary, binary, index, chr};
 ghost use Rattle.stack_machine.specs.Operators.{binary_of, unary_of};
+ghost use Rattle.stack_machine.specs.Shown.{shown, rooms};
 
-use crate::state::{State, Step};
+use crate::state::{Step, Store};
 use solo_base::ProgResult;
 use stack_code::Op;
 
-impl State {
+impl Store {
     /// Ends the program with this result, in the activation's line.
     pub(crate) fn stop(&self, result_of: ProgResult) -> Step
-        ensures { outcome result self.now ≡ stop self.now result_of }
+        ensures { outcome result (shown self.now) ≡ stop (shown self.now) result_of }
     {
         Step::Stopped(result_of, self.current.line)
     }
@@ -20,10 +21,18 @@ impl State {
     pub(crate) fn pop_two(&mut self) -> Option<(i16, i16)>
         ensures some { IfSome result (λ x. self.old ≡ record self.new {
           current =
-              record self.new.current { operands = x.1 ∷ x.0 ∷ self.new.current.operands };
+              record self.new.current {
+                operands =
+                    record self.new.current.operands {
+                      words =
+                          x.1 ∷ x.0 ∷ self.new.current.operands.words;
+                    };
+              };
         }) }
-        ensures none { IfNone result (length self.old.current.operands < 2) }
-        ensures room { length self.new.current.operands < 1536 }
+        ensures none { IfNone result (length self.old.current.operands.words < 2) }
+        ensures room { IfSome result (λ _.
+            length self.new.current.operands.words < self.new.current.operands.room) }
+        ensures same { rooms self.new ≡ rooms self.old }
     {
         let right = self.current.operands.pop()?;
         let left = self.current.operands.pop()?;
@@ -33,8 +42,10 @@ impl State {
     // Pushes a value in the place of the operands that gave it; none is an overflow.
     fn replace(&mut self, value: Option<i16>) -> Step
         requires place { self.old.current.place < 8192 }
-        requires room { length self.old.current.operands < 1536 }
-        ensures { outcome result self.new ≡ replace self.old self.old.current.operands value }
+        requires room { length self.old.current.operands.words < self.old.current.operands.room }
+        ensures does { outcome result (shown self.new)
+            ≡ replace (shown self.old) self.old.current.operands.words value }
+        ensures room { rooms self.new ≡ rooms self.old }
     {
         match value {
             Some(word) => {
@@ -49,7 +60,9 @@ impl State {
     /// An instruction of one operand and one result.
     pub(crate) fn unary(&mut self, op: Op) -> Step
         requires { self.old.current.place < 8192 }
-        ensures { outcome result self.new ≡ unary (unary_of op) self.old self.old.current.operands }
+        ensures does { outcome result (shown self.new)
+            ≡ unary (unary_of op) (shown self.old) self.old.current.operands.words }
+        ensures room { rooms self.new ≡ rooms self.old }
     {
         let Some(value) = self.current.operands.pop() else {
             return Step::Stuck;
@@ -60,7 +73,9 @@ impl State {
     /// An instruction of two operands and one result.
     pub(crate) fn binary(&mut self, op: Op) -> Step
         requires { self.old.current.place < 8192 }
-        ensures { outcome result self.new ≡ binary (binary_of op) self.old self.old.current.operands }
+        ensures does { outcome result (shown self.new)
+            ≡ binary (binary_of op) (shown self.old) self.old.current.operands.words }
+        ensures room { rooms self.new ≡ rooms self.old }
     {
         let Some((left, right)) = self.pop_two() else {
             return Step::Stuck;

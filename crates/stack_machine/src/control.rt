@@ -1,21 +1,24 @@
-ghost use Rattle.std.specs.Prelude.{◌≡◌, ◌<◌};
+ghost use Rattle.std.specs.Prelude.{◌≡◌, ◌<◌, length};
 ghost use Rattle.stack_machine.specs.State.{outcome, jump_to, Goes};
 ghost use Rattle.stack_machine.specs.Effects.{jump_false, index, chr, tick, call, leave};
+ghost use Rattle.stack_machine.specs.Shown.{shown, rooms, IsRoomy};
 
 use crate::arithmetic::difference;
-use crate::state::{State, Step};
-use crate::words::{has_room, routine_at};
+use crate::state::{Step, Store};
+use crate::words::routine_at;
 use solo_base::ProgResult;
 use stack_code::Verified;
 
 /// How many activations are open at most.
 const ACTIVATIONS: usize = 64;
 
-impl State {
+impl Store {
     /// INDEX.
     pub(crate) fn index(&mut self, a: u16, b: u16) -> Step
         requires { self.old.current.place < 8192 }
-        ensures { outcome result self.new ≡ index self.old a b self.old.current.operands }
+        ensures does { outcome result (shown self.new)
+            ≡ index (shown self.old) a b self.old.current.operands.words }
+        ensures room { rooms self.new ≡ rooms self.old }
     {
         let Some(value) = self.current.operands.pop() else {
             return Step::Stuck;
@@ -35,7 +38,9 @@ impl State {
     /// CHR.
     pub(crate) fn chr(&mut self) -> Step
         requires { self.old.current.place < 8192 }
-        ensures { outcome result self.new ≡ chr self.old self.old.current.operands }
+        ensures does { outcome result (shown self.new)
+            ≡ chr (shown self.old) self.old.current.operands.words }
+        ensures room { rooms self.new ≡ rooms self.old }
     {
         let Some(value) = self.current.operands.pop() else {
             return Step::Stuck;
@@ -50,7 +55,9 @@ impl State {
 
     /// JUMP.
     pub(crate) fn jump(&mut self, a: u16) -> Step
-        ensures { outcome result self.new ≡ Goes (jump_to self.old a self.old.current.operands) }
+        ensures does { outcome result (shown self.new)
+            ≡ Goes (jump_to (shown self.old) a self.old.current.operands.words) }
+        ensures room { rooms self.new ≡ rooms self.old }
     {
         self.current.place = a;
         Step::Moved
@@ -59,7 +66,9 @@ impl State {
     /// JUMPF.
     pub(crate) fn jump_false(&mut self, a: u16) -> Step
         requires { self.old.current.place < 8192 }
-        ensures { outcome result self.new ≡ jump_false self.old a self.old.current.operands }
+        ensures does { outcome result (shown self.new)
+            ≡ jump_false (shown self.old) a self.old.current.operands.words }
+        ensures room { rooms self.new ≡ rooms self.old }
     {
         let Some(value) = self.current.operands.pop() else {
             return Step::Stuck;
@@ -75,7 +84,8 @@ impl State {
     /// TICK.
     pub(crate) fn tick(&mut self, limit: u32, a: u16, b: u16) -> Step
         requires { self.old.current.place < 8192 }
-        ensures { outcome result self.new ≡ tick limit self.old a b }
+        ensures does { outcome result (shown self.new) ≡ tick limit (shown self.old) a b }
+        ensures room { rooms self.new ≡ rooms self.old }
     {
         let line = u32::from(a) * 65536 + u32::from(b);
         if self.ticks >= limit {
@@ -89,8 +99,11 @@ impl State {
 
     /// CALL.
     pub(crate) fn call(&mut self, code: &Verified, a: u16) -> Step
-        requires { self.old.current.place < 8192 }
-        ensures { outcome result self.new ≡ call code.now self.old a }
+        requires some { 1 < length code.now.routines }
+        requires place { self.old.current.place < 8192 }
+        requires roomy { IsRoomy code.now (rooms self.old) }
+        ensures does { outcome result (shown self.new) ≡ call code.now (shown self.old) a }
+        ensures room { rooms self.new ≡ rooms self.old }
     {
         if self.below.len() + 1 >= ACTIVATIONS {
             return self.stop(ProgResult::StackLimit);
@@ -105,7 +118,9 @@ impl State {
 
     /// RETURN.
     pub(crate) fn leave(&mut self, code: &Verified) -> Step
-        ensures { outcome result self.new ≡ leave code.now self.old }
+        requires roomy { IsRoomy code.now (rooms self.old) }
+        ensures does { outcome result (shown self.new) ≡ leave code.now (shown self.old) }
+        ensures room { rooms self.new ≡ rooms self.old }
     {
         if self.below.len() == 0 {
             return Step::Stuck;
@@ -119,7 +134,7 @@ impl State {
             return Step::Stuck;
         };
         self.below.resume(&mut self.current);
-        if !has_room(code, &self.current) {
+        if !self.has_room(code) {
             return Step::Stuck;
         }
         self.current.operands.push(word);

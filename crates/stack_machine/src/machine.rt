@@ -8,9 +8,10 @@ ghost use Rattle.stack_machine.specs.Machine.{next, start_state, answered};
 ghost use Rattle.stack_machine.specs.Run.{Pauses, Runs};
 ghost use Rattle.stack_machine.specs.World.{RanToEnd, BrokeOff};
 
-use crate::activation::Activation;
+use crate::room::Room;
 use crate::running::Pause;
-use crate::state::{Finish, State};
+use crate::slot::Slot;
+use crate::state::{Finish, Store};
 use crate::waiting::Waiting;
 use crate::words::routine_at;
 use crate::world::World;
@@ -20,28 +21,34 @@ use stack_code::Verified;
 use std::alloc::Global;
 use std::marker::Model;
 
-/// The stack machine: a program that runs under a limit of ticks. Its whole store is taken when it
-/// is made.
+/// The stack machine: a program that runs under a limit of ticks. Its whole store, as large as the
+/// code needs, is taken when it is made.
 #[derive(Debug, Drop)]
 pub struct Machine {
     code: Verified,
     limit: u32,
-    state: State,
+    store: Store,
 }
 
 impl Model for Machine {
     ghost use Rattle.stack_machine.specs.Standing.{Standing, StandsWell};
+    ghost use Rattle.stack_machine.specs.Shown.{shown, rooms, IsRoomy};
 
     ghost Value = { Standing };
 
-    ghost view = { λ machine. record { code = machine.code; limit = machine.limit; state = machine.state } };
+    ghost view = { λ machine. record {
+      code =
+          machine.code;
+      limit = machine.limit;
+      state = shown machine.store;
+    } };
 
     ghost invariant = { λ machine. StandsWell (record {
       code =
           machine.code;
       limit = machine.limit;
-      state = machine.state;
-    }) };
+      state = shown machine.store;
+    }) × IsRoomy machine.code (rooms machine.store) };
 }
 
 impl Machine {
@@ -59,22 +66,23 @@ impl Machine {
         ensures history { IfOk result (λ machine. StandsFor machine [] []) }
         ensures well { IfOk result (λ machine. StandsWell machine) }
     {
-        let mut words = Frame::new(alloc)?;
+        let room = Room::of(&code);
+        let mut words = Frame::new(alloc, room.words)?;
         words.begin(&[], routine_at(&code, 0).words as usize);
-        let current = Activation {
+        let current = Slot {
             routine: 0,
             place: 0,
             line: 0,
             words,
-            operands: Operands::new(alloc)?,
+            operands: Operands::new(alloc, room.height)?,
         };
-        let state = State {
-            below: Waiting::new(alloc)?,
+        let store = Store {
+            below: Waiting::new(alloc, room)?,
             current,
             ticks: 0,
             ended: None,
         };
-        Ok(Machine { code, limit, state })
+        Ok(Machine { code, limit, store })
     }
 
     /// Runs on until the program asks for a call or ends. A program that asked asks again, and one
@@ -90,7 +98,7 @@ impl Machine {
         ensures ticks { (finish : Finish) → result ≡ Finished finish → finish.ticks ≤ self.new.limit }
         ensures well { StandsWell self.new }
     {
-        self.state.go(&self.code, self.limit)
+        self.store.go(&self.code, self.limit)
     }
 
     /// How the program ended, if it has.
@@ -98,7 +106,7 @@ impl Machine {
         ensures ended { result ≡ self.now.state.ended }
         ensures ticks { IfSome result (λ finish. finish.ticks ≤ self.now.limit) }
     {
-        self.state.ended
+        self.store.ended
     }
 
     /// Gives the reply to the call at which the program paused.
@@ -114,7 +122,7 @@ impl Machine {
             → StandsFor self.new (replies ++ reply ∷ []) (calls ++ call ∷ []) }
         ensures well { StandsWell self.new }
     {
-        self.state.answer(&self.code, reply);
+        self.store.answer(&self.code, reply);
     }
 
     /// Runs to the end, with a world that answers the calls. Where the world can't answer one, the
@@ -130,6 +138,6 @@ impl Machine {
         ensures limit { self.new.limit ≡ self.old.limit }
         ensures well { StandsWell self.new }
     {
-        self.state.run(&self.code, self.limit, world)
+        self.store.run(&self.code, self.limit, world)
     }
 }

@@ -1,19 +1,21 @@
 ghost use Rattle.std.specs.Prelude.{◌≡◌, ◌<◌};
 ghost use Rattle.stack_machine.specs.State.{outcome, push};
 ghost use Rattle.stack_machine.specs.Effects.{load, store, load_at, store_at, index_in};
+ghost use Rattle.stack_machine.specs.Shown.{shown, rooms, IsRoomy};
 
-use crate::state::{State, Step};
-use crate::words::has_room;
+use crate::state::{Step, Store};
 use solo_base::ProgResult;
 use stack_code::Verified;
 
-impl State {
+impl Store {
     /// Pushes a word, and goes on.
     pub(crate) fn push(&mut self, code: &Verified, word: i16) -> Step
-        requires { self.old.current.place < 8192 }
-        ensures { outcome result self.new ≡ push code.now self.old word }
+        requires place { self.old.current.place < 8192 }
+        requires roomy { IsRoomy code.now (rooms self.old) }
+        ensures does { outcome result (shown self.new) ≡ push code.now (shown self.old) word }
+        ensures room { rooms self.new ≡ rooms self.old }
     {
-        if !has_room(code, &self.current) {
+        if !self.has_room(code) {
             return Step::Stuck;
         }
         self.current.operands.push(word);
@@ -23,8 +25,10 @@ impl State {
 
     /// LOADG, LOADL.
     pub(crate) fn load(&mut self, code: &Verified, program: bool, a: u16) -> Step
-        requires { self.old.current.place < 8192 }
-        ensures { outcome result self.new ≡ load code.now program self.old a }
+        requires place { self.old.current.place < 8192 }
+        requires roomy { IsRoomy code.now (rooms self.old) }
+        ensures does { outcome result (shown self.new) ≡ load code.now program (shown self.old) a }
+        ensures room { rooms self.new ≡ rooms self.old }
     {
         match self.word(program, a as usize) {
             Some(word) => self.push(code, word),
@@ -35,7 +39,9 @@ impl State {
     /// STOREG, STOREL.
     pub(crate) fn store(&mut self, program: bool, a: usize) -> Step
         requires { self.old.current.place < 8192 }
-        ensures { outcome result self.new ≡ store program self.old a self.old.current.operands }
+        ensures does { outcome result (shown self.new)
+            ≡ store program (shown self.old) a self.old.current.operands.words }
+        ensures room { rooms self.new ≡ rooms self.old }
     {
         let Some(word) = self.current.operands.pop() else {
             return Step::Stuck;
@@ -51,7 +57,9 @@ impl State {
     /// LOADGX, LOADLX.
     pub(crate) fn load_at(&mut self, program: bool, a: u16, b: u16) -> Step
         requires { self.old.current.place < 8192 }
-        ensures { outcome result self.new ≡ load_at program self.old a b self.old.current.operands }
+        ensures does { outcome result (shown self.new)
+            ≡ load_at program (shown self.old) a b self.old.current.operands.words }
+        ensures room { rooms self.new ≡ rooms self.old }
     {
         let Some(i) = self.current.operands.pop() else {
             return Step::Stuck;
@@ -70,7 +78,9 @@ impl State {
     /// STOREGX, STORELX.
     pub(crate) fn store_at(&mut self, program: bool, a: u16, b: u16) -> Step
         requires { self.old.current.place < 8192 }
-        ensures { outcome result self.new ≡ store_at program self.old a b self.old.current.operands }
+        ensures does { outcome result (shown self.new)
+            ≡ store_at program (shown self.old) a b self.old.current.operands.words }
+        ensures room { rooms self.new ≡ rooms self.old }
     {
         let Some((i, word)) = self.pop_two() else {
             return Step::Stuck;

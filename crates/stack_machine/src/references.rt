@@ -1,18 +1,21 @@
 ghost use Rattle.std.specs.Prelude.{◌≡◌, ◌<◌, ◌≤◌, pos, length};
 ghost use Rattle.stack_machine.specs.State.{outcome};
 ghost use Rattle.stack_machine.specs.Effects.{refer, load_reference, store_reference, write_named, word_named, words_named};
+ghost use Rattle.stack_machine.specs.Shown.{shown, rooms, IsRoomy};
 
-use crate::state::{State, Step};
+use crate::state::{Step, Store};
 use crate::words::routine_at;
 use solo_base::ProgResult;
 use stack_code::Verified;
 
-impl State {
+impl Store {
     /// REFG, REFL: pushes the number of an activation and the place of a word.
     pub(crate) fn refer(&mut self, code: &Verified, number: usize, a: u16) -> Step
         requires place { self.old.current.place < 8192 }
         requires number { number ≤ 63 }
-        ensures { outcome result self.new ≡ refer code.now self.old number a }
+        requires roomy { IsRoomy code.now (rooms self.old) }
+        ensures does { outcome result (shown self.new) ≡ refer code.now (shown self.old) number a }
+        ensures room { rooms self.new ≡ rooms self.old }
     {
         let height = routine_at(code, self.current.routine).height as usize;
         if self.current.operands.len() + 1 >= height {
@@ -26,8 +29,11 @@ impl State {
 
     /// LOADR.
     pub(crate) fn load_reference(&mut self, code: &Verified, a: u16) -> Step
-        requires { self.old.current.place < 8192 }
-        ensures { outcome result self.new ≡ load_reference code.now self.old a }
+        requires place { self.old.current.place < 8192 }
+        requires roomy { IsRoomy code.now (rooms self.old) }
+        ensures does { outcome result (shown self.new)
+            ≡ load_reference code.now (shown self.old) a }
+        ensures room { rooms self.new ≡ rooms self.old }
     {
         let a = a as usize;
         let Some(number) = self.current.words.get(a) else {
@@ -44,7 +50,7 @@ impl State {
 
     // The word that a number and a place name, if it is there.
     fn word_named(&self, number: i16, place: i16) -> Option<i16>
-        ensures { result ≡ word_named (words_named self.now number) place }
+        ensures { result ≡ word_named (words_named (shown self.now) number) place }
     {
         match (usize::try_from(number), usize::try_from(place)) {
             (Ok(number), Ok(place)) => self.word_at(number, place),
@@ -55,7 +61,9 @@ impl State {
     /// STORER.
     pub(crate) fn store_reference(&mut self, a: u16) -> Step
         requires { self.old.current.place < 8192 }
-        ensures { outcome result self.new ≡ store_reference self.old a self.old.current.operands }
+        ensures does { outcome result (shown self.new)
+            ≡ store_reference (shown self.old) a self.old.current.operands.words }
+        ensures room { rooms self.new ≡ rooms self.old }
     {
         let a = a as usize;
         let Some(word) = self.current.operands.pop() else {
@@ -73,7 +81,9 @@ impl State {
     // Makes the word that a number and a place name this one, and goes on.
     fn write_named(&mut self, number: i16, place: i16, word: i16) -> Step
         requires { self.old.current.place < 8192 }
-        ensures { outcome result self.new ≡ write_named self.old number place word self.old.current.operands }
+        ensures does { outcome result (shown self.new)
+            ≡ write_named (shown self.old) number place word self.old.current.operands.words }
+        ensures room { rooms self.new ≡ rooms self.old }
     {
         let (Ok(number), Ok(place)) = (usize::try_from(number), usize::try_from(place)) else {
             return self.stop(ProgResult::RangeError);

@@ -6,19 +6,20 @@ ghost use Rattle.stack_machine.specs.State.{words_of, with_words};
 ghost use Rattle.solo_base.specs.Replies.{results_in, array_in, ticks_in};
 ghost use Rattle.stack_machine.specs.Machine.{answered, fail_call, reply_at, set_array, uses_program, array_start};
 ghost use Rattle.stack_machine.specs.Room.{HasRoom, HasRoomFor};
+ghost use Rattle.stack_machine.specs.Shown.{shown, in_store};
 
 use crate::operands::Operands;
-use crate::state::State;
+use crate::state::Store;
 use crate::step::{array_start, uses_program};
 use solo_base::{ProgResult, SysReply, call_row};
 use stack_code::{Instr, Verified};
 
-impl State {
+impl Store {
     /// Completes the instruction whose call got this reply, or ends the program.
     #[tactic(auto, unfolding(crate::specs::Machine::answered))]
     pub(crate) fn answer(&mut self, code: &Verified, reply: SysReply)
-        requires { HasRoomFor code.now self.old reply }
-        ensures { self.new ≡ answered code.now self.old reply }
+        requires { HasRoomFor code.now (shown self.old) self.old.current.operands.room reply }
+        ensures { self.new ≡ in_store self.old (answered code.now (shown self.old) reply) }
     {
         if let SysReply::CallError = reply {
             self.end(ProgResult::CallError, self.current.line);
@@ -31,9 +32,9 @@ impl State {
     // Pops the values of the call, sets its array and pushes its results.
     fn complete(&mut self, instr: Instr, reply: &SysReply)
         requires place { self.old.current.place < 8192 }
-        requires room { HasRoom self.old instr reply.now }
+        requires room { HasRoom (shown self.old) self.old.current.operands.room instr reply.now }
         ensures { (c : CodeLists) → pops c instr.op instr.a ≡ values_of instr.a
-            → self.new ≡ reply_at c self.old instr reply.now }
+            → self.new ≡ in_store self.old (reply_at c (shown self.old) instr reply.now) }
     {
         let program = uses_program(instr.op);
         self.set_array(program, array_start(instr) as usize, reply);
@@ -46,9 +47,11 @@ impl State {
     // Sets the array that the reply gives.
     fn set_array(&mut self, program: bool, start: usize, reply: &SysReply)
         requires low { start < 2 ^ 16 }
-        requires inside { start + length (array_in reply.now) ≤ length (words_of program self.old) }
-        ensures { self.new
-            ≡ with_words program self.old (set_array (words_of program self.old) start (array_in reply.now)) }
+        requires inside { start + length (array_in reply.now)
+            ≤ length (words_of program (shown self.old)) }
+        ensures { self.new ≡ in_store self.old
+            (with_words program (shown self.old)
+            (set_array (words_of program (shown self.old)) start (array_in reply.now))) }
     {
         match reply {
             SysReply::Page(page) => self.set_bytes(program, start, &page.0),
@@ -60,9 +63,10 @@ impl State {
     // Sets the words of a frame from a place on to these bytes.
     fn set_bytes(&mut self, program: bool, start: usize, bytes: &[u8])
         requires low { start < 2 ^ 16 }
-        requires inside { start + length bytes.now ≤ length (words_of program self.old) }
-        ensures { self.new
-            ≡ with_words program self.old (set_array (words_of program self.old) start (map pos bytes.now)) }
+        requires inside { start + length bytes.now ≤ length (words_of program (shown self.old)) }
+        ensures { self.new ≡ in_store self.old
+            (with_words program (shown self.old)
+            (set_array (words_of program (shown self.old)) start (map pos bytes.now))) }
     {
         for place in 0..bytes.len() {
             self.set_word(program, start + place, i16::from(bytes[place]));
@@ -82,8 +86,9 @@ fn values_of(row: u16) -> usize
 
 // Pushes the words that the reply gives.
 fn push_results(operands: &mut Operands, reply: &SysReply)
-    requires { length operands.old + length (results_in reply.now) ≤ 1536 }
-    ensures { operands.new ≡ results_in reply.now ++ operands.old }
+    requires { length operands.old.words + length (results_in reply.now) ≤ operands.old.room }
+    ensures { operands.new
+        ≡ record operands.old { words = results_in reply.now ++ operands.old.words } }
 {
     match reply {
         SysReply::Char(byte) => operands.push(i16::from(*byte)),
@@ -101,8 +106,8 @@ fn push_results(operands: &mut Operands, reply: &SysReply)
 }
 
 fn push_two(operands: &mut Operands, lower: i16, upper: i16)
-    requires { length operands.old + 2 ≤ 1536 }
-    ensures { operands.new ≡ upper ∷ lower ∷ operands.old }
+    requires { length operands.old.words + 2 ≤ operands.old.room }
+    ensures { operands.new ≡ record operands.old { words = upper ∷ lower ∷ operands.old.words } }
 {
     operands.push(lower);
     operands.push(upper);

@@ -4,17 +4,18 @@ ghost use Rattle.solo_base.specs.Interface.{call_row_of};
 ghost use Rattle.stack_machine.specs.State.{asked, stop, words_of};
 ghost use Rattle.solo_base.specs.Arithmetic.{byte_of, are_bytes};
 ghost use Rattle.stack_machine.specs.Calls.{sys, ask, made, request};
+ghost use Rattle.stack_machine.specs.Shown.{shown};
 
-use crate::state::{Ask, State};
+use crate::state::{Ask, Store};
 use crate::words::routine_at;
 use solo_base::{IDENT_LENGTH, PAGE_LENGTH, Page, Procedure, ProgResult, SysCall};
 use stack_code::Verified;
 
-impl State {
+impl Store {
     /// SYS, SYSG, SYSL: the call of a row of the interface, with the array from word b. The program
     /// stays at the instruction until the call is answered.
     pub(crate) fn sys(&self, code: &Verified, limit: u32, program: bool, a: u16, b: u16) -> Ask
-        ensures { asked result self.now ≡ sys code.now limit self.now program a b }
+        ensures { asked result (shown self.now) ≡ sys code.now limit (shown self.now) program a b }
     {
         let Some(procedure) = Procedure::at(a) else {
             return Ask::Stuck;
@@ -39,10 +40,12 @@ impl State {
     // What a procedure asks for, whose values are there and whose array lies in the frame.
     fn request(&self, procedure: Procedure, program: bool, b: usize, left: u32) -> Ask
         requires low { b < 2 ^ 16 }
-        requires values { (call_row_of procedure).values ≤ length self.now.current.operands }
-        requires array { b + (call_row_of procedure).array ≤ length (words_of program self.now) }
-        ensures { asked result self.now
-            ≡ made self.now (request procedure self.now.current.operands (take (call_row_of procedure).array (drop b (words_of program self.now))) left) }
+        requires values { (call_row_of procedure).values ≤ length self.now.current.operands.words }
+        requires array { b + (call_row_of procedure).array
+            ≤ length (words_of program (shown self.now)) }
+        ensures { asked result (shown self.now)
+            ≡ made (shown self.now) (request procedure self.now.current.operands.words
+            (take (call_row_of procedure).array (drop b (words_of program (shown self.now)))) left) }
     {
         let top = self.operand(0);
         let second = self.operand(1);
@@ -89,14 +92,14 @@ impl State {
 
     // Ends the program in the activation's line.
     fn out_of_range(&self) -> Ask
-        ensures { asked result self.now ≡ stop self.now RangeError }
+        ensures { asked result (shown self.now) ≡ stop (shown self.now) RangeError }
     {
         Ask::Stopped(ProgResult::RangeError, self.current.line)
     }
 
     // The operand at a depth, the topmost at 0, or 0 where there is none.
     fn operand(&self, depth: usize) -> i16
-        ensures { result ≡ slice_index_or self.now.current.operands depth (pos 0) }
+        ensures { result ≡ slice_index_or self.now.current.operands.words depth (pos 0) }
     {
         self.current.operands.get(depth).unwrap_or(0)
     }
@@ -104,8 +107,8 @@ impl State {
     // The name in twelve words of a frame.
     fn name_at(&self, program: bool, start: usize) -> [i16; 12]
         requires low { start < 2 ^ 16 }
-        requires inside { start + 12 ≤ length (words_of program self.now) }
-        ensures { result ≡ take 12 (drop start (words_of program self.now)) }
+        requires inside { start + 12 ≤ length (words_of program (shown self.now)) }
+        ensures { result ≡ take 12 (drop start (words_of program (shown self.now))) }
     {
         let mut name = [0; IDENT_LENGTH];
         for k in 0..IDENT_LENGTH {
@@ -117,11 +120,12 @@ impl State {
     // The page in 512 words of a frame, if each is a byte.
     fn page_at(&self, program: bool, start: usize) -> Option<Page>
         requires low { start < 2 ^ 16 }
-        requires inside { start + 512 ≤ length (words_of program self.now) }
-        ensures bytes { IfSome result (λ page. (are_bytes (take 512 (drop start (words_of program self.now)))
-            ≡ true) × (page.0 ≡ map unsigned_abs (take 512 (drop start (words_of program self.now))))) }
-        ensures other { IfNone result (are_bytes (take 512 (drop start (words_of program self.now)))
-            ≡ false) }
+        requires inside { start + 512 ≤ length (words_of program (shown self.now)) }
+        ensures bytes { IfSome result (λ page.
+            (are_bytes (take 512 (drop start (words_of program (shown self.now)))) ≡ true)
+            × (page.0 ≡ map unsigned_abs (take 512 (drop start (words_of program (shown self.now)))))) }
+        ensures other { IfNone result
+            (are_bytes (take 512 (drop start (words_of program (shown self.now)))) ≡ false) }
     {
         let mut bytes = [0; PAGE_LENGTH];
         for k in 0..PAGE_LENGTH {

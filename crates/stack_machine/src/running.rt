@@ -1,8 +1,9 @@
 ghost use Rattle.std.specs.Prelude.{◌≡◌, Some};
 ghost use Rattle.stack_machine.specs.Safe.{IsSound};
 ghost use Rattle.stack_machine.specs.Run.{Pauses};
+ghost use Rattle.stack_machine.specs.Shown.{shown, rooms, IsRoomy};
 
-use crate::state::{Ask, Finish, State, Step};
+use crate::state::{Ask, Finish, Step, Store};
 use crate::step::calls;
 use solo_base::{ProgResult, SysCall};
 use stack_code::Verified;
@@ -16,12 +17,14 @@ pub enum Pause {
     Finished(Finish),
 }
 
-impl State {
+impl Store {
     /// Runs on until the program asks for a call or ends.
     pub(crate) fn go(&mut self, code: &Verified, limit: u32) -> Pause
-        requires sound { IsSound code.now limit self.old }
-        ensures pauses { Pauses code.now limit self.old result self.new }
-        ensures sound { IsSound code.now limit self.new }
+        requires sound { IsSound code.now limit (shown self.old) }
+        requires roomy { IsRoomy code.now (rooms self.old) }
+        ensures pauses { Pauses code.now limit (shown self.old) result (shown self.new) }
+        ensures sound { IsSound code.now limit (shown self.new) }
+        ensures room { rooms self.new ≡ rooms self.old }
     {
         if let Some(finish) = self.ended {
             return Pause::Finished(finish);

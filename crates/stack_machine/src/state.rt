@@ -1,4 +1,4 @@
-use crate::activation::Activation;
+use crate::slot::Slot;
 use crate::waiting::Waiting;
 use solo_base::{ProgResult, SysCall};
 
@@ -10,12 +10,13 @@ pub struct Finish {
     pub ticks: u32,
 }
 
-/// Where a program stands: the activations that wait for a call to return, by their numbers (the
-/// program's is 0), the current one, the ticks that were taken, and how the program ended.
+/// The store of a program, and where it stands: the activations that wait for a call to return, by
+/// their numbers (the program's is 0), the current one, the ticks that were taken, and how the
+/// program ended.
 #[derive(Debug, Drop)]
-pub struct State {
+pub struct Store {
     pub(crate) below: Waiting,
-    pub(crate) current: Activation,
+    pub(crate) current: Slot,
     pub(crate) ticks: u32,
     pub(crate) ended: Option<Finish>,
 }

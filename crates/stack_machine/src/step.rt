@@ -1,12 +1,14 @@
 ghost use Rattle.std.specs.Prelude.{◌≡◌, ◌<◌, true, false, length, slice_get, Some};
+ghost use Rattle.stack_code.specs.declared.table.Op.TheVariants.{Call};
 ghost use Rattle.stack_machine.specs.State.{outcome, asked};
 ghost use Rattle.stack_machine.specs.Machine.{effect, calls, uses_program, array_start};
+ghost use Rattle.stack_machine.specs.Shown.{shown, rooms, IsRoomy};
 
-use crate::state::{Ask, State, Step};
+use crate::state::{Ask, Step, Store};
 use solo_base::ProgResult;
 use stack_code::{Instr, Op, Verified};
 
-impl State {
+impl Store {
     /// The instruction at which the program stands.
     pub(crate) fn instr(&self, code: &Verified) -> Instr
         requires { self.now.current.place < length code.now.instrs }
@@ -19,7 +21,8 @@ impl State {
     /// The call of an instruction that makes one.
     pub(crate) fn ask(&self, code: &Verified, limit: u32, instr: Instr) -> Ask
         requires { calls instr.op ≡ true }
-        ensures { asked result self.now ≡ effect code.now limit self.now instr.op instr.a instr.b }
+        ensures { asked result (shown self.now)
+            ≡ effect code.now limit (shown self.now) instr.op instr.a instr.b }
     {
         self.sys(
             code,
@@ -35,7 +38,11 @@ impl State {
     pub(crate) fn perform(&mut self, code: &Verified, limit: u32, instr: Instr) -> Step
         requires place { self.old.current.place < 8192 }
         requires plain { calls instr.op ≡ false }
-        ensures { outcome result self.new ≡ effect code.now limit self.old instr.op instr.a instr.b }
+        requires some { instr.op ≡ Call → 1 < length code.now.routines }
+        requires roomy { IsRoomy code.now (rooms self.old) }
+        ensures does { outcome result (shown self.new)
+            ≡ effect code.now limit (shown self.old) instr.op instr.a instr.b }
+        ensures room { rooms self.new ≡ rooms self.old }
     {
         let Instr { op, a, b } = instr;
         match op {

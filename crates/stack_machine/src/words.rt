@@ -2,9 +2,9 @@ ghost use Rattle.std.specs.Prelude.{◌≡◌, ◌<◌, ◌≤◌, ◌∷◌, �
 ghost use Rattle.stack_code.specs.CodeLists.{IsCode, routine_at};
 ghost use Rattle.stack_code.specs.Rules.{IsGood};
 ghost use Rattle.stack_machine.specs.State.{has_room, words_at, with_words_at, words_of, with_words};
+ghost use Rattle.stack_machine.specs.Shown.{shown, rooms, IsRoomy, in_store};
 
-use crate::activation::Activation;
-use crate::state::State;
+use crate::state::Store;
 use stack_code::{RoutineInfo, Verified};
 
 /// The routine with this number, or an empty one where there is none.
@@ -29,18 +29,20 @@ pub(crate) fn routine_at(code: &Verified, number: u16) -> RoutineInfo
         })
 }
 
-/// Whether the activation's routine has room for one more operand.
-pub(crate) fn has_room(code: &Verified, activation: &Activation) -> bool
-    ensures room { result ≡ has_room code.now activation.now }
-    ensures bound { IsTrue result → length activation.now.operands < 1536 }
-{
-    activation.operands.len() < routine_at(code, activation.routine).height as usize
-}
+impl Store {
+    /// Whether the current activation's routine has room for one more operand.
+    pub(crate) fn has_room(&self, code: &Verified) -> bool
+        requires { IsRoomy code.now (rooms self.now) }
+        ensures room { result ≡ has_room code.now (shown self.now).current }
+        ensures bound { IsTrue result
+            → length self.now.current.operands.words < self.now.current.operands.room }
+    {
+        self.current.operands.len() < routine_at(code, self.current.routine).height as usize
+    }
 
-impl State {
     /// How many words the frame of the activation with this number has; 0 where none is open.
     pub(crate) fn words_len_at(&self, number: usize) -> usize
-        ensures count { result ≡ length (words_at self.now number) }
+        ensures count { result ≡ length (words_at (shown self.now) number) }
         ensures bound { result ≤ 4352 }
     {
         if number < self.below.len() {
@@ -54,7 +56,7 @@ impl State {
 
     /// A word of the frame of the activation with this number, if both are there.
     pub(crate) fn word_at(&self, number: usize, place: usize) -> Option<i16>
-        ensures { result ≡ slice_get (words_at self.now number) place }
+        ensures { result ≡ slice_get (words_at (shown self.now) number) place }
     {
         if number < self.below.len() {
             self.below.word(number, place)
@@ -67,8 +69,9 @@ impl State {
 
     /// Changes a word of the frame of the activation with this number.
     pub(crate) fn set_word_at(&mut self, number: usize, place: usize, word: i16)
-        requires { place < length (words_at self.old number) }
-        ensures { self.new ≡ with_words_at self.old number (slice_set (words_at self.old number) place word) }
+        requires { place < length (words_at (shown self.old) number) }
+        ensures { self.new ≡ in_store self.old (with_words_at (shown self.old) number
+            (slice_set (words_at (shown self.old) number) place word)) }
     {
         if number < self.below.len() {
             self.below.set_word(number, place, word);
@@ -79,7 +82,7 @@ impl State {
 
     /// How many words the program's frame, or the current activation's own, has.
     pub(crate) fn words_len(&self, program: bool) -> usize
-        ensures count { result ≡ length (words_of program self.now) }
+        ensures count { result ≡ length (words_of program (shown self.now)) }
         ensures bound { result ≤ 4352 }
     {
         if program {
@@ -91,7 +94,7 @@ impl State {
 
     /// A word of the program's frame, or of the current activation's own.
     pub(crate) fn word(&self, program: bool, place: usize) -> Option<i16>
-        ensures { result ≡ slice_get (words_of program self.now) place }
+        ensures { result ≡ slice_get (words_of program (shown self.now)) place }
     {
         if program {
             self.word_at(0, place)
@@ -102,8 +105,9 @@ impl State {
 
     /// Changes a word of the program's frame, or of the current activation's own.
     pub(crate) fn set_word(&mut self, program: bool, place: usize, word: i16)
-        requires { place < length (words_of program self.old) }
-        ensures { self.new ≡ with_words program self.old (slice_set (words_of program self.old) place word) }
+        requires { place < length (words_of program (shown self.old)) }
+        ensures { self.new ≡ in_store self.old (with_words program (shown self.old)
+            (slice_set (words_of program (shown self.old)) place word)) }
     {
         if program {
             self.set_word_at(0, place, word);

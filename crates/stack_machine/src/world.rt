@@ -4,9 +4,10 @@ ghost use Rattle.solo_base.specs.declared.system_call.SysReply.{SysReply};
 ghost use Rattle.solo_base.specs.Fits.{Fits};
 ghost use Rattle.stack_machine.specs.Safe.{IsSound};
 ghost use Rattle.stack_machine.specs.World.{RanToEnd, BrokeOff};
+ghost use Rattle.stack_machine.specs.Shown.{shown, rooms, IsRoomy};
 
 use crate::running::Pause;
-use crate::state::{Finish, State};
+use crate::state::{Finish, Store};
 use solo_base::{SysCall, SysReply};
 use stack_code::Verified;
 
@@ -24,7 +25,7 @@ pub trait World {
         ensures answers { answers self.old call result self.new };
 }
 
-impl State {
+impl Store {
     /// Runs to the end, with a world that answers the calls.
     pub(crate) fn run<W: World>(
         &mut self,
@@ -32,10 +33,14 @@ impl State {
         limit: u32,
         world: &mut W,
     ) -> Result<Finish, W::Fault>
-        requires sound { IsSound code.now limit self.old }
-        ensures ends { IfOk result (λ finish. RanToEnd W.answers code.now limit self.old world.old finish self.new world.new) }
-        ensures broke_off { IfErr result (λ fault. BrokeOff W.answers code.now limit self.old world.old fault self.new world.new) }
-        ensures sound { IsSound code.now limit self.new }
+        requires sound { IsSound code.now limit (shown self.old) }
+        requires roomy { IsRoomy code.now (rooms self.old) }
+        ensures ends { IfOk result (λ finish. RanToEnd W.answers code.now limit
+            (shown self.old) world.old finish (shown self.new) world.new) }
+        ensures broke_off { IfErr result (λ fault. BrokeOff W.answers code.now limit
+            (shown self.old) world.old fault (shown self.new) world.new) }
+        ensures sound { IsSound code.now limit (shown self.new) }
+        ensures room { rooms self.new ≡ rooms self.old }
     {
         loop {
             match self.go(code, limit) {

@@ -5,6 +5,6 @@ use Rattle.stack_machine.proofs.frame.Frame.begin.Given as goal
 
 abbrev pub invariant-loop-place : goal.invariant-loop-place
 invariant-loop-place l = record {
-  long : length l.self-inside.words.items ≡ 4352;
+  long : length l.self-inside.words.items ≡ l.fn.self.room;
   same : (k : ℕ) → k < l.place → get_or l.self-inside.words.items k (pos 0) ≡ get_or (l.arguments ++ replicate (l.len - length l.arguments) (pos 0)) k (pos 0);
 }
