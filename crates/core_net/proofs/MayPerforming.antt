@@ -73,7 +73,8 @@ module _ {L : Type 0} {J : Jobs L} (jobs : AreJobs J) where
         ∙ subst (λ q. stopped_it b (s.histories q) ≡ false) (sym seated) (unstopped-by jobs (the-five jobs) p
         (s.histories p) one.0 follows a b side visit next e)
 
-    at-turn : (a : Action) (b : ℕ) (side : Side) (visit : Visit) → MayCall s p (call p a) → call p a ≡ At b side visit → MayVisit (s.buffers b).sides side p visit
+    at-turn : (a : Action) (b : ℕ) (side : Side) (visit : Visit) → MayCall s p (call p a) → call p a ≡ At b side visit
+        → MayVisit (s.buffers b).sides side p visit
     at-turn a b side visit may e = subst (MayCall s p) e may
 
     -- who awaits or passes

@@ -158,7 +158,8 @@ module _ {L : Type 0} {J : Jobs L} (jobs : AreJobs J) where
     }
 
     -- ---- a take
-    pub take-told : (before now : Option (List (List ℕ))) (ring ring' : Ring) (marks : List Bool) (sent : List (List ℕ)) (taken : List Received) (got : Received)
+    pub take-told : (before now : Option (List (List ℕ))) (ring ring' : Ring) (marks : List Bool) (sent : List (List ℕ)) (taken : List Received)
+        (got : Received)
         → now ≡ before
         → map received_mark taken ++ marks ≡ map mark sent → marks ≡ received_mark got ∷ drop 1 marks
         → ((all : List (List ℕ)) → before ≡ Some all → map received_page taken ++ pages_inside all ring ≡ sent)

@@ -54,7 +54,8 @@ module _ {L : Type 0} {J : Jobs L} (jobs : AreJobs J) where
         record { gained = is.gained; deck = is.deck; total = is.total; files = is.files; fits = is.fits; allowed = is.allowed; after = is.after }
     enters-lacking action r may is = absurd may
 
-  module _ {X S K F A B : Type 0} (Stands : List (Entry L) → Type 0) (tells : Tells L S K F A B) (counts : Counts S K F A B) (old new : Shared X S K F A B) (p : ℕ)
+  module _ {X S K F A B : Type 0} (Stands : List (Entry L) → Type 0) (tells : Tells L S K F A B) (counts : Counts S K F A B) (old new : Shared X S K F A B)
+      (p : ℕ)
       (a r : Action)
       (h : List (Entry L)) (same : a ≡ r) where
     same-action : (result : Option (Reply L)) → Performs J tells old new p r result → Performs J tells old new p a result

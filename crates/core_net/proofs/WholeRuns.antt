@@ -54,7 +54,8 @@ pub all-taken : (before now : Option (List ℕ)) (taken_before taken_now : ℕ) 
 all-taken None None taken_before taken_now first pending none total reads = λ rest is. absurd cc
 all-taken None (Some bytes) taken_before taken_now first pending none total reads = absurd cc
 all-taken (Some bytes) now taken_before taken_now first pending none total reads = λ rest is.
-    let gone : Some (cards (pending ++ rest)) ≡ Some [] = subst (λ now. items_ahead now pending ≡ Some []) is (reads (cards bytes) (ap (λ first. Some (cards (first ++ bytes))) none)) in
+    let gone : Some (cards (pending ++ rest)) ≡ Some [] = subst (λ now. items_ahead now pending ≡ Some []) is
+    (reads (cards bytes) (ap (λ first. Some (cards (first ++ bytes))) none)) in
     last-none pending rest (lines-none (pending ++ rest) (map-none card_of (lines (pending ++ rest)) (some-none (cards (pending ++ rest)) gone)))
 
 module _ {L : Type 0} {J : Jobs L} (jobs : AreJobs J) where

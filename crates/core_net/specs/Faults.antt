@@ -39,7 +39,8 @@ abbrev pub JobFaultIsOwn : {S K F A B : Type 0} → Counts S K F A B → Units S
     → Outcomes → Type 0
 JobFaultIsOwn counts before now outcomes =
     outcomes.job ≡ outcome.Fault cause.DiskFault
-    → (raised (counts.input_faults before.input) (disk_fault outcomes.input + 1) ≤ counts.input_faults now.input)
+    → (raised (counts.input_faults before.input) (disk_fault outcomes.input + 1)
+    ≤ counts.input_faults now.input)
     ⊎ (raised (counts.output_faults before.output) (disk_fault outcomes.output + 1)
     ≤ counts.output_faults now.output)
     ⊎ Rose (counts.file_faults before.files) (counts.file_faults now.files)

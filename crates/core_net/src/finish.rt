@@ -32,7 +32,8 @@ impl<J: JobWork, S: Source, K: Sink, F: Loader<J>, A: Area, B: Area> Net<J, S, K
 
         // In every state that it stands for.
         ensures ends { (s : CoreState J.Load) →
-            NetStands J.jobs (the_keeps J.jobs J.keeps) ⟦<Units<S, K, F, A, B> as Peripherals<J>>⟧.tells self s →
+            NetStands J.jobs (the_keeps J.jobs J.keeps)
+            ⟦<Units<S, K, F, A, B> as Peripherals<J>>⟧.tells self s →
             EndsSo s result.outcomes result.stopped_by }
         ensures together { EndTogether result.outcomes result.stopped_by }
         ensures faults { FaultsAre result.outcomes }
@@ -59,7 +60,8 @@ impl<J: JobWork, S: Source, K: Sink, F: Loader<J>, A: Area, B: Area> Net<J, S, K
             (items : List Item) → at.opening.deck ≡ Some items → result.outcomes ≡ all_done →
             deck_ahead ⟦<Units<S, K, F, A, B> as Peripherals<J>>⟧.tells result.units.deck ≡ Some [] }
         // and no page was damaged
-        ensures undamaged { (at : Placed (the_law J.jobs) (⟦<Net<J, S, K, F, A, B> as Network>⟧.Stands self)) →
+        ensures undamaged { (at : Placed (the_law J.jobs)
+            (⟦<Net<J, S, K, F, A, B> as Network>⟧.Stands self)) →
             AreTold at.opening.spools → NoneDamaged result.outcomes }
         ensures units { result.units ≡ units_of self.shared }
     {

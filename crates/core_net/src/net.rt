@@ -21,8 +21,8 @@ use solo_base::ProcNo;
 use solo_devices::{Area, Sink, Source};
 use std::alloc::Global;
 
-/// The network of the Job Stream System over jobs of this kind, which is stepped one event at a time. It keeps
-/// no histories: contracts say which states of the core it stands for.
+/// The network of the Job Stream System over jobs of this kind, which is stepped one event at a time. It
+/// keeps no histories: contracts say which states of the core it stands for.
 #[derive(Drop)]
 pub struct Net<J, S: Source, K: Sink, F, A: Area, B: Area> {
     pub card: CardProc<J>,

@@ -157,7 +157,8 @@ impl<J: JobWork, S: Source, K: Sink, F: Loader<J>, A: Area, B: Area> Shared<J, S
         ensures performs { Performs J.jobs ⟦<Units<S, K, F, A, B> as Peripherals<J>>⟧.tells
             self.old self.new p (act.PutPage page) (Some result) }
         ensures causes { HasCauses ⟦<Units<S, K, F, A, B> as Peripherals<J>>⟧.tells
-            ⟦<Units<S, K, F, A, B> as Peripherals<J>>⟧.counts self.old self.new p (act.PutPage page) (Some result) }
+            ⟦<Units<S, K, F, A, B> as Peripherals<J>>⟧.counts
+            self.old self.new p (act.PutPage page) (Some result) }
     {
         if p == 2 {
             put_page::<J, A>(&mut self.input, page)
@@ -186,7 +187,8 @@ impl<J: JobWork, S: Source, K: Sink, F: Loader<J>, A: Area, B: Area> Shared<J, S
         ensures performs { Performs J.jobs ⟦<Units<S, K, F, A, B> as Peripherals<J>>⟧.tells
             self.old self.new p (act.Load file) (Some result) }
         ensures causes { HasCauses ⟦<Units<S, K, F, A, B> as Peripherals<J>>⟧.tells
-            ⟦<Units<S, K, F, A, B> as Peripherals<J>>⟧.counts self.old self.new p (act.Load file) (Some result) }
+            ⟦<Units<S, K, F, A, B> as Peripherals<J>>⟧.counts
+            self.old self.new p (act.Load file) (Some result) }
     {
         let _ = p;
         self.files.load(self.alloc, &file)
@@ -198,7 +200,8 @@ impl<J: JobWork, S: Source, K: Sink, F: Loader<J>, A: Area, B: Area> Shared<J, S
         ensures performs { Performs J.jobs ⟦<Units<S, K, F, A, B> as Peripherals<J>>⟧.tells
             self.old self.new p (act.Print line) (Some result) }
         ensures causes { HasCauses ⟦<Units<S, K, F, A, B> as Peripherals<J>>⟧.tells
-            ⟦<Units<S, K, F, A, B> as Peripherals<J>>⟧.counts self.old self.new p (act.Print line) (Some result) }
+            ⟦<Units<S, K, F, A, B> as Peripherals<J>>⟧.counts
+            self.old self.new p (act.Print line) (Some result) }
     {
         let _ = p;
         print::<J, K>(&mut self.paper, &line)
@@ -210,7 +213,8 @@ impl<J: JobWork, S: Source, K: Sink, F: Loader<J>, A: Area, B: Area> Shared<J, S
         ensures performs { Performs J.jobs ⟦<Units<S, K, F, A, B> as Peripherals<J>>⟧.tells
             self.old self.new p (act.Stop buffer) (Some result) }
         ensures causes { HasCauses ⟦<Units<S, K, F, A, B> as Peripherals<J>>⟧.tells
-            ⟦<Units<S, K, F, A, B> as Peripherals<J>>⟧.counts self.old self.new p (act.Stop buffer) (Some result) }
+            ⟦<Units<S, K, F, A, B> as Peripherals<J>>⟧.counts
+            self.old self.new p (act.Stop buffer) (Some result) }
     {
         let side = side_at(p, buffer);
         if buffer == 1 {

@@ -48,7 +48,8 @@ returns-clause-undamaged g c = λ told.
 pub returns-clause-bound : goal.returns-clause-bound
 returns-clause-bound g c = λ items found is are_found told.
     let at = first_place c.make-net.ensures.opens in
-    run-bounded g.met.J.JobWork.are_jobs _ _ c.args.rule c.run_by-counts.new.self at.opening at.state c.run_by-counts.result items found at.reached told is are_found
+    run-bounded g.met.J.JobWork.are_jobs _ _ c.args.rule c.run_by-counts.new.self at.opening at.state c.run_by-counts.result items found at.reached told is
+    are_found
     (c.run_by-counts.ensures.runs at)
 
 pub returns-clause-total : goal.returns-clause-total

@@ -5,23 +5,35 @@ use Rattle.core_net.proofs.net.Net.finish.Goals as goal
 
 pub returns : goal.returns
 returns g c = record {
-  ends = ends g.met.J.JobWork.are_jobs _ _ c.args.self _ _ c.requires.ended c.outcome.ensures c.outcome-2.ensures c.outcome-3.ensures c.outcome-4.ensures c.outcome-5.ensures
-      (λ s st. sides-are g.met.J.JobWork.are_jobs _ c.args.self.shared s st.shared _ _ _ _ c.stopped_by.ensures.marked c.stopped_by-2.ensures.marked c.stopped_by-3.ensures.marked
+  ends = ends g.met.J.JobWork.are_jobs _ _ c.args.self _ _ c.requires.ended c.outcome.ensures c.outcome-2.ensures c.outcome-3.ensures c.outcome-4.ensures
+      c.outcome-5.ensures
+      (λ s st. sides-are g.met.J.JobWork.are_jobs _ c.args.self.shared s st.shared _ _ _ _ c.stopped_by.ensures.marked c.stopped_by-2.ensures.marked
+      c.stopped_by-3.ensures.marked
       c.stopped_by-4.ensures.marked);
-  together = together g.met.J.JobWork.are_jobs _ _ c.args.self _ _ c.requires.ended c.outcome.ensures c.outcome-2.ensures c.outcome-3.ensures c.outcome-4.ensures c.outcome-5.ensures
-      (λ s st. sides-are g.met.J.JobWork.are_jobs _ c.args.self.shared s st.shared _ _ _ _ c.stopped_by.ensures.marked c.stopped_by-2.ensures.marked c.stopped_by-3.ensures.marked
+  together = together g.met.J.JobWork.are_jobs _ _ c.args.self _ _ c.requires.ended c.outcome.ensures c.outcome-2.ensures c.outcome-3.ensures
+      c.outcome-4.ensures c.outcome-5.ensures
+      (λ s st. sides-are g.met.J.JobWork.are_jobs _ c.args.self.shared s st.shared _ _ _ _ c.stopped_by.ensures.marked c.stopped_by-2.ensures.marked
+      c.stopped_by-3.ensures.marked
       c.stopped_by-4.ensures.marked);
-  faults = faults g.met.J.JobWork.are_jobs _ _ c.args.self _ _ c.requires.ended c.outcome.ensures c.outcome-2.ensures c.outcome-3.ensures c.outcome-4.ensures c.outcome-5.ensures
-      (λ s st. sides-are g.met.J.JobWork.are_jobs _ c.args.self.shared s st.shared _ _ _ _ c.stopped_by.ensures.marked c.stopped_by-2.ensures.marked c.stopped_by-3.ensures.marked
+  faults = faults g.met.J.JobWork.are_jobs _ _ c.args.self _ _ c.requires.ended c.outcome.ensures c.outcome-2.ensures c.outcome-3.ensures c.outcome-4.ensures
+      c.outcome-5.ensures
+      (λ s st. sides-are g.met.J.JobWork.are_jobs _ c.args.self.shared s st.shared _ _ _ _ c.stopped_by.ensures.marked c.stopped_by-2.ensures.marked
+      c.stopped_by-3.ensures.marked
       c.stopped_by-4.ensures.marked);
-  prints = prints g.met.J.JobWork.are_jobs _ _ c.args.self _ _ c.requires.ended c.outcome.ensures c.outcome-2.ensures c.outcome-3.ensures c.outcome-4.ensures c.outcome-5.ensures
-      (λ s st. sides-are g.met.J.JobWork.are_jobs _ c.args.self.shared s st.shared _ _ _ _ c.stopped_by.ensures.marked c.stopped_by-2.ensures.marked c.stopped_by-3.ensures.marked
+  prints = prints g.met.J.JobWork.are_jobs _ _ c.args.self _ _ c.requires.ended c.outcome.ensures c.outcome-2.ensures c.outcome-3.ensures c.outcome-4.ensures
+      c.outcome-5.ensures
+      (λ s st. sides-are g.met.J.JobWork.are_jobs _ c.args.self.shared s st.shared _ _ _ _ c.stopped_by.ensures.marked c.stopped_by-2.ensures.marked
+      c.stopped_by-3.ensures.marked
       c.stopped_by-4.ensures.marked);
-  reads = reads g.met.J.JobWork.are_jobs _ _ c.args.self _ _ c.requires.ended c.outcome.ensures c.outcome-2.ensures c.outcome-3.ensures c.outcome-4.ensures c.outcome-5.ensures
-      (λ s st. sides-are g.met.J.JobWork.are_jobs _ c.args.self.shared s st.shared _ _ _ _ c.stopped_by.ensures.marked c.stopped_by-2.ensures.marked c.stopped_by-3.ensures.marked
+  reads = reads g.met.J.JobWork.are_jobs _ _ c.args.self _ _ c.requires.ended c.outcome.ensures c.outcome-2.ensures c.outcome-3.ensures c.outcome-4.ensures
+      c.outcome-5.ensures
+      (λ s st. sides-are g.met.J.JobWork.are_jobs _ c.args.self.shared s st.shared _ _ _ _ c.stopped_by.ensures.marked c.stopped_by-2.ensures.marked
+      c.stopped_by-3.ensures.marked
       c.stopped_by-4.ensures.marked);
-  undamaged = undamaged g.met.J.JobWork.are_jobs _ _ c.args.self _ _ c.requires.ended c.outcome.ensures c.outcome-2.ensures c.outcome-3.ensures c.outcome-4.ensures c.outcome-5.ensures
-      (λ s st. sides-are g.met.J.JobWork.are_jobs _ c.args.self.shared s st.shared _ _ _ _ c.stopped_by.ensures.marked c.stopped_by-2.ensures.marked c.stopped_by-3.ensures.marked
+  undamaged = undamaged g.met.J.JobWork.are_jobs _ _ c.args.self _ _ c.requires.ended c.outcome.ensures c.outcome-2.ensures c.outcome-3.ensures
+      c.outcome-4.ensures c.outcome-5.ensures
+      (λ s st. sides-are g.met.J.JobWork.are_jobs _ c.args.self.shared s st.shared _ _ _ _ c.stopped_by.ensures.marked c.stopped_by-2.ensures.marked
+      c.stopped_by-3.ensures.marked
       c.stopped_by-4.ensures.marked);
   counted = λ before were.
       let some = c.requires.ended.at in
