@@ -19,13 +19,17 @@ refused-none item (Ok done) e = absurd cc
 refused-none item (Err back) e = refl
 
 -- behind the first so many of these items
-first-of : {T : Type 0} (n : ℕ) (items : List T) (before after : List (SlotCall T)) → sent_of after ≡ sent_of before ++ take n items → PutFirst items before after
+first-of : {T : Type 0} (n : ℕ) (items : List T) (before after : List (SlotCall T)) → sent_of after ≡ sent_of before ++ take n items
+    → PutFirst items before after
 first-of n items before after sent = record { put = take n items; later = drop n items; first_are = sym (take-append-drop n items); sent = sent }
 
 pub returns-then-is_err-clause-first : goal.returns-then-is_err-clause-first
 returns-then-is_err-clause-first g c =
     first-of c.loop-item.item-index c.args.items.now c.args.self.now.calls c.put.new.self.calls
-    (ap (λ end. sent_of end.calls) c.put.ensures.call ∙ no-more c.loop-item.self.calls (put_call c.item-item.result c.put.result) (refused-none c.item-item.result c.put.result (sym c.is_err.ensures.value ∙ c.if-is_err.true)) ∙ c.loop-item.invariant.2)
+    (ap (λ end. sent_of end.calls) c.put.ensures.call
+    ∙ no-more c.loop-item.self.calls (put_call c.item-item.result c.put.result)
+    (refused-none c.item-item.result c.put.result (sym c.is_err.ensures.value ∙ c.if-is_err.true))
+    ∙ c.loop-item.invariant.2)
 
 pub returns-clause-first : goal.returns-clause-first
 returns-clause-first g c =
