@@ -1,4 +1,5 @@
--- How the three processes of Solo end together, as their outcomes and the first stops of the six buffers tell.
+-- How the three processes of Solo end together, as their outcomes and the first stops of the six buffers
+-- tell.
 use Rattle.std.specs.Prelude.{◌≡◌, ◌↔◌, ◌==◌, ◌-◌, ℕ, List, [], ◌∷◌, Option, None, Some, if◌then◌else◌}
 use Rattle.solo_base.specs.declared.outcome.Side.{Side}
 use Rattle.solo_base.specs.declared.outcome.Outcome.{Outcome}

@@ -54,7 +54,8 @@ pub record AreCounted {S Y K T F : Type 0} (counts : Counts S Y K T F) (before n
     (outcomes : List Outcome) : Type 0 where
   pub read : outcome_at outcomes 1 ≡ outcome.Fault cause.ReadFault
       → Rose (counts.card_faults before.source) (counts.card_faults now.source)
-  pub limit : outcome_at outcomes 1 ≡ outcome.Fault cause.DeckLimit → byte_limit < counts.cards_taken now.source
+  pub limit : outcome_at outcomes 1 ≡ outcome.Fault cause.DeckLimit
+      → byte_limit < counts.cards_taken now.source
   pub longer : counts.cards_taken before.source ≤ byte_limit → byte_limit < counts.cards_taken now.source
       → outcome_at outcomes 1 ≡ outcome.Fault cause.DeckLimit
   pub typed : outcome_at outcomes 2 ≡ outcome.Fault cause.ReadFault

@@ -109,7 +109,8 @@ module _ (devices : Devices) (H : ℕ → List SoloEntry) (D : ℕ → Devices) 
 
   pair : (p q : ℕ) (r : Resting H s p) (u : Resting H s q) → on p r ≡ q → on q u ≡ p → BothLack p q → BothTold p q → ⊥
   pair p q (Lacking b side at lacks more) (Lacking c of there lacking also) e f both told = both b side at lacks c of there lacking e
-  pair p q (Lacking b side at lacks more) (Awaiting c of there empty still was waits) e f both told = more-not q (seat b (other side)) b (other side) e still more
+  pair p q (Lacking b side at lacks more) (Awaiting c of there empty still was waits) e f both told =
+      more-not q (seat b (other side)) b (other side) e still more
   pair p q (Lacking b side at lacks more) (Holding c seated still also) e f both told = more-not q (seat b (other side)) b (other side) e still more
   pair p q (Awaiting b side at empty still was waits) (Lacking c of there lacking also) e f both told =
       more-not p (seat c (other of)) c (other of) f still also
@@ -333,4 +334,5 @@ module _ (devices : Devices) (H : ℕ → List SoloEntry) (D : ℕ → Devices) 
 
   pub progress : Progress
   progress =
-      by-status (status devices H D by met s dev todo cut 2 is-2) (status devices H D by met s dev todo cut 1 is-1) (status devices H D by met s dev todo cut 3 is-3)
+      by-status (status devices H D by met s dev todo cut 2 is-2) (status devices H D by met s dev todo cut 1 is-1)
+      (status devices H D by met s dev todo cut 3 is-3)

@@ -120,7 +120,8 @@ told-entry p h entry b side one next suits answered e =
           (ap (λ c. told_at b side c (went view entry)) (sym (ap (process p).calls end.is ∙ placed.ends p end.why one)) ∙ e))
     ]
 
-told-buffer : (p b : ℕ) (side : Side) (h : List SoloEntry) → IsProcess p → Follows solo p h → AllByRecursion IsAnswered h → was_told b side (acts solo p h) ≡ true
+told-buffer : (p b : ℕ) (side : Side) (h : List SoloEntry) → IsProcess p → Follows solo p h → AllByRecursion IsAnswered h
+    → was_told b side (acts solo p h) ≡ true
     → IsBuffer b
 told-buffer p b side [] one follows answered e = absurd cc
 told-buffer p b side (entry ∷ h) one follows answered e =

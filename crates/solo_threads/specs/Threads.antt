@@ -1,4 +1,5 @@
--- What Solo's three processes did on threads of their own, and what the meeting of both ends of each buffer tells.
+-- What Solo's three processes did on threads of their own, and what the meeting of both ends of each buffer
+-- tells.
 use Rattle.std.specs.Prelude.{◌≡◌, ◌≤◌, ℕ, true, List, [], ◌∷◌, ◌++◌, length, Option, Some}
 use Rattle.std.specs.List.{AllByRecursion}
 use Rattle.solo_base.specs.declared.outcome.Side.{Side}
@@ -53,11 +54,12 @@ pub record IsThread (p : ℕ) (devices : Devices) (deeds : List Deed) : Type 0 w
 abbrev pub acts_by : (ℕ → List SoloEntry) → ℕ → Side → List (Act Parcel)
 acts_by histories b side = acts solo (seat b side) (histories (seat b side))
 
--- Both ends have met: what was taken, and then what rests, is what was put; it is known who stopped first, and
--- only the other side was told so, a receiver only where nothing rests.
+-- Both ends have met: what was taken, and then what rests, is what was put; it is known who stopped first,
+-- and only the other side was told so, a receiver only where nothing rests.
 pub record HaveMet (histories : ℕ → List SoloEntry) (b : ℕ) (by : Option Side) : Type 0 where
   pub rest : List Parcel
-  pub in_order : moved b Receiver (acts_by histories b Receiver) ++ rest ≡ moved b Sender (acts_by histories b Sender)
+  pub in_order : moved b Receiver (acts_by histories b Receiver) ++ rest
+      ≡ moved b Sender (acts_by histories b Sender)
   pub within : length rest ≤ 1
   pub stopped : WhoStopped (λ side. made_stop b side (acts_by histories b side))
       (λ side. was_told b side (acts_by histories b side)) by
@@ -71,8 +73,8 @@ pub record SideBySide (devices : Devices) (deeds : ℕ → List Deed) (by : ℕ 
   pub threads : (p : ℕ) → IsProcess p → IsThread p devices (deeds p)
   pub met : (b : ℕ) → IsBuffer b → HaveMet (λ p. entries (deeds p)) b (by b)
 
--- A state with these three histories and these devices is reached: the cards are the input process's; the keys,
--- the console and the work are the job process's; the paper is the output process's.
+-- A state with these three histories and these devices is reached: the cards are the input process's; the
+-- keys, the console and the work are the job process's; the paper is the output process's.
 pub record IsOneRun (devices : Devices) (deeds : ℕ → List Deed) : Type 0 where
   pub state : SoloState
   pub reached : IsReached devices state
