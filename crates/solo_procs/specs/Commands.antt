@@ -81,6 +81,8 @@ LeadsSo (Err NoMemory) Follows Passes = Passes
 
 -- At the beginning the commands stand for what all work on any files comes to, and they led to no others.
 pub record Begins {C Files : Type 0} (opens : Files → Plan → Type 0) (plans : C → Files → Plan → Type 0)
-    (follows : C → Files → List law.Given → Files → Type 0) (commands : C) : Type 0 where
+    (follows : C → Files → List law.Given → Files → Type 0) (passes : Files → List law.Given → Files → Type 0)
+    (commands : C) : Type 0 where
   pub planned : (files : Files) (plan : Plan) → opens files plan → plans commands files plan
   pub followed : (files : Files) → follows commands files [] files
+  pub passed : (files : Files) → passes files [] files

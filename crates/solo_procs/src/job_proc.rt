@@ -71,7 +71,7 @@ impl<C: Commands> Proc for JobProc<C> {
 
     ghost kept = { λ proc. proc.commands };
 
-    ghost fresh = { Begins C.opens C.plans C.follows };
+    ghost fresh = { Begins C.opens C.plans C.follows C.passes };
 
     ghost stands = { λ proc at kept. kept.place };
 
