@@ -1,0 +1,8 @@
+//! Processes side by side, each on a thread of its own: all begin, or none does.
+#![tactic(auto)]
+
+mod pair;
+mod start;
+
+pub use pair::beside;
+pub use start::{Start, Told};

@@ -1,0 +1,13 @@
+pub mod Parts
+pub mod Forward
+pub mod Owned
+pub mod Growing
+pub mod Calls
+pub mod Meets
+pub mod Cut
+pub mod Passing
+pub mod Statuses
+pub mod Deadlock
+pub mod Schedule
+pub mod Together
+pub mod Gained
