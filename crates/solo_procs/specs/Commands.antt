@@ -1,5 +1,5 @@
 -- What the commands of Solo are to the job process.
-use Rattle.std.specs.Prelude.{◌≡◌, ℕ, zero, suc, true, false, List, [], Option, None, Some}
+use Rattle.std.specs.Prelude.{◌≡◌, ℕ, zero, suc, true, false, List, [], Option, None, Some, Result, Ok, Err}
 use Rattle.solo_base.specs.declared.page.Page.{Page}
 use Rattle.exchange_law.specs.Pages.{page_with}
 use Rattle.solo_law.specs.Work.{Plan, NeedFits}
@@ -9,6 +9,8 @@ use Rattle.solo_procs.specs.declared.commands.Given.{Given}
 use Rattle.solo_procs.specs.declared.commands.Given.TheVariants as gives
 use Rattle.solo_procs.specs.declared.commands.Need.{Need}
 use Rattle.solo_procs.specs.declared.commands.Need.TheVariants as needs
+use Rattle.solo_procs.specs.declared.commands.WorkFault.{WorkFault}
+use Rattle.solo_procs.specs.declared.commands.WorkFault.TheVariants.{Failed, NoMemory}
 
 -- ---- what a piece of work begins with
 abbrev pub given_of : Given → law.Given
@@ -68,3 +70,19 @@ pub record Comes (pages : ℕ) (given : law.Given) (awaits : ℕ → Kind → Ty
   pub awaited : awaits (pages_behind needed pages) (kind_behind needed)
   pub planned : (plan : Plan) → old_plans plan
       → (needed ≡ plan [] given) × new_plans (plan_behind given plan)
+
+-- ---- and to which files
+-- Work that is done leads on. Where memory was refused, it has come to some of its files by then; where the
+-- files failed, nothing is said.
+abbrev pub LeadsSo : Result Need WorkFault → Type 0 → Type 0 → Type 0
+LeadsSo (Ok need) Follows Passes = Follows × Passes
+LeadsSo (Err Failed) Follows Passes = Unit {0}
+LeadsSo (Err NoMemory) Follows Passes = Passes
+
+-- At the beginning the commands stand for what all work on any files comes to, and they led to no others.
+pub record Begins {C Files : Type 0} (opens : Files → Plan → Type 0) (plans : C → Files → Plan → Type 0)
+    (follows : C → Files → List law.Given → Files → Type 0) (passes : Files → List law.Given → Files → Type 0)
+    (commands : C) : Type 0 where
+  pub planned : (files : Files) (plan : Plan) → opens files plan → plans commands files plan
+  pub followed : (files : Files) → follows commands files [] files
+  pub passed : (files : Files) → passes files [] files

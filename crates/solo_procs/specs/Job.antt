@@ -153,6 +153,13 @@ WorkedSo awaits old_plans new_plans j work hear.Failed = Unit {0}
 WorkedSo awaits old_plans new_plans j work hear.NoMemory = Unit {0}
 WorkedSo awaits old_plans new_plans j work other = ⊥
 
+-- By what is answered, too: where it is done it leads on, and where memory was refused it has come to some of
+-- its files.
+abbrev pub LedSo : SoloReply → Type 0 → Type 0 → Type 0
+LedSo hear.Done Follows Passes = Follows × Passes
+LedSo hear.NoMemory Follows Passes = Passes
+LedSo other Follows Passes = Unit {0}
+
 -- The machine is where it was, and its answer is one to the work.
 pub record HasWorked {C : Type 0} (awaits : C → ℕ → Kind → Type 0) (old_plans new_plans : Plan → Type 0)
     (machine : Machine (JobProc C)) (h : List (Entry Action Reply)) (work : Work) (reply : SoloReply)

@@ -1,7 +1,7 @@
-ghost use Rattle.std.specs.Prelude.{◌≡◌, ◌≤◌, ℕ, Err, IfOk};
+ghost use Rattle.std.specs.Prelude.{◌≡◌, ◌≤◌, ℕ, List, [], ◌∷◌, ◌++◌, Err, IfOk};
 ghost use Rattle.solo_devices.specs.Count.{Rose};
-ghost use Rattle.solo_law.specs.Work.{Plan};
-ghost use Rattle.solo_procs.specs.Commands.{Kind, AtLine, given_of, kind_given, Comes};
+ghost use Rattle.solo_law.specs.Work.{Plan, Given as GivenOf};
+ghost use Rattle.solo_procs.specs.Commands.{Kind, AtLine, given_of, kind_given, Comes, LeadsSo};
 
 use solo_base::{Feed, Item, Line, LineList, Page};
 use std::alloc::Global;
@@ -67,10 +67,20 @@ pub trait Commands {
     /// What all work from now on comes to.
     ghost plans: { Self → Self.Files → Plan → Type 0 };
 
+    /// From these opening files all work so far, which began so, led to these files and to where the
+    /// commands stand.
+    ghost follows: { Self → Self.Files → List GivenOf → Self.Files → Type 0 };
+
+    /// From these opening files work that began so comes to these files: behind its last piece, or in the
+    /// middle of that.
+    ghost passes: { Self.Files → List GivenOf → Self.Files → Type 0 };
+
     /// No command is under way.
     fn begin(alloc: Global) -> Self
         ensures awaits { awaits result 0 AtLine }
-        ensures plans { (files : Self.Files) (plan : Plan) → opens files plan → plans result files plan };
+        ensures plans { (files : Self.Files) (plan : Plan) → opens files plan → plans result files plan }
+        ensures follows { (files : Self.Files) → follows result files [] files }
+        ensures passes { (files : Self.Files) → passes files [] files };
 
     /// Works up to the next need.
     fn work(&mut self, given: Given, files: &mut Self::Files) -> Result<Need, WorkFault>
@@ -78,6 +88,10 @@ pub trait Commands {
         ensures comes { (pages : ℕ) → awaits self.old pages (kind_given (given_of given)) →
             IfOk result (λ need. Comes pages (given_of given) (awaits self.new)
             (plans self.old files.old) (plans self.new files.new) need) }
+        // Where the files counted no fault they are some to which the work comes.
+        ensures follows { (opening : Self.Files) (before : List GivenOf) → follows self.old opening before files.old
+            → LeadsSo result (follows self.new opening (before ++ given_of given ∷ []) files.new)
+            (passes opening (before ++ given_of given ∷ []) files.new) }
         ensures sound { IfOk result (λ need. sound files.new) }
         ensures failed { result ≡ Err WorkFault.Failed → Rose (faults files.old) (faults files.new) }
         ensures counts { faults files.old ≤ faults files.new };

@@ -54,6 +54,8 @@ impl Proc for InputProc {
 
     ghost kept = { λ proc. tt };
 
+    ghost fresh = { λ kept. Unit {0} };
+
     ghost stands = { λ proc at there. there };
 
     ghost closes = { input-closes };

@@ -57,6 +57,7 @@ impl<C: Commands> Proc for JobProc<C> {
     ghost use Rattle.solo_law.specs.JobPlaces.{job};
     ghost use Rattle.solo_procs.specs.Job.{job_at, JobStands, job_came};
     ghost use Rattle.solo_procs.specs.Closing.{job-closes};
+    ghost use Rattle.solo_procs.specs.Commands.{Begins};
 
     ghost process = { job };
 
@@ -69,6 +70,8 @@ impl<C: Commands> Proc for JobProc<C> {
     ghost Kept = { C };
 
     ghost kept = { λ proc. proc.commands };
+
+    ghost fresh = { Begins C.opens C.plans C.follows C.passes };
 
     ghost stands = { λ proc at kept. kept.place };
 

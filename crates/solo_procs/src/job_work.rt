@@ -1,14 +1,14 @@
 // The job process's own work.
-ghost use Rattle.std.specs.Prelude.{◌≡◌, ◌≤◌, List, Some};
+ghost use Rattle.std.specs.Prelude.{◌≡◌, ◌≤◌, List, [], ◌∷◌, ◌++◌, Some};
 ghost use Rattle.solo_devices.specs.Count.{Rose};
 ghost use Rattle.place_law.specs.Process.{Entry, next_action};
-ghost use Rattle.solo_law.specs.Work.{Work};
+ghost use Rattle.solo_law.specs.Work.{Work, Given as GivenOf};
 ghost use Rattle.solo_law.specs.Actions.{Action, Reply, Works};
 ghost use Rattle.solo_law.specs.Replies.{view};
 ghost use Rattle.solo_law.specs.JobPlaces.{job, Toils};
 ghost use Rattle.solo_procs.specs.declared.actions.SoloReply.TheVariants as hear;
 ghost use Rattle.solo_procs.specs.Machine.{StandsFor};
-ghost use Rattle.solo_procs.specs.Job.{job_at, JobStands, WorkedSo, HasWorked};
+ghost use Rattle.solo_procs.specs.Job.{job_at, JobStands, WorkedSo, HasWorked, LedSo};
 
 use crate::SoloReply;
 use crate::commands::{Commands, Given, WorkFault};
@@ -26,6 +26,14 @@ impl<C: Commands> Machine<JobProc<C>> {
             → next_action view job h ≡ Some (Works work)
             → HasWorked C.awaits (C.plans self.old.process.commands files.old)
             (C.plans self.new.process.commands files.new) self.new h work result }
+        // Where the files counted no fault they are some to which all work so far comes.
+        ensures follows { (h : List (Entry Action Reply)) (work : Work)
+            → StandsFor job job_at (JobStands C.awaits) self.old h
+            → next_action view job h ≡ Some (Works work)
+            → (opening : C.Files) (before : List GivenOf)
+            → C.follows self.old.process.commands opening before files.old
+            → LedSo result (C.follows self.new.process.commands opening (before ++ work.given ∷ []) files.new)
+            (C.passes opening (before ++ work.given ∷ []) files.new) }
         ensures sound { result ≡ hear.Done → C.sound files.new }
         ensures failed { result ≡ hear.Failed → Rose (C.faults files.old) (C.faults files.new) }
         ensures counts { C.faults files.old ≤ C.faults files.new }
@@ -40,6 +48,10 @@ impl<C: Commands> JobProc<C> {
         ensures works { (work : Work) → JobStands C.awaits self.old (Toils work)
             → WorkedSo C.awaits (C.plans self.old.commands files.old) (C.plans self.new.commands files.new)
             self.new work result }
+        ensures follows { (work : Work) → JobStands C.awaits self.old (Toils work)
+            → (opening : C.Files) (before : List GivenOf) → C.follows self.old.commands opening before files.old
+            → LedSo result (C.follows self.new.commands opening (before ++ work.given ∷ []) files.new)
+            (C.passes opening (before ++ work.given ∷ []) files.new) }
         ensures place { self.new.place ≡ self.old.place }
         ensures sound { result ≡ hear.Done → C.sound files.new }
         ensures failed { result ≡ hear.Failed → Rose (C.faults files.old) (C.faults files.new) }

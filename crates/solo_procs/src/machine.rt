@@ -22,7 +22,8 @@ pub struct Machine<P: Proc> {
 impl<P: Proc> Machine<P> {
     /// The machine of a process that has done nothing.
     pub fn new(alloc: Global) -> Machine<P>
-        ensures { StandsFor P.process P.is_at P.ready result [] }
+        ensures stands { StandsFor P.process P.is_at P.ready result [] }
+        ensures fresh { P.fresh (P.kept result.process) }
     {
         Machine {
             process: P::begin(alloc),

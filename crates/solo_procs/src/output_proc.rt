@@ -53,6 +53,8 @@ impl Proc for OutputProc {
 
     ghost kept = { λ proc. tt };
 
+    ghost fresh = { λ kept. Unit {0} };
+
     ghost stands = { λ proc at there. there };
 
     ghost closes = { output-closes };

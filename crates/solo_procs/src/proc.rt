@@ -31,9 +31,13 @@ pub trait Proc {
 
     ghost kept: { Self → Kept };
 
+    /// What holds of it at the beginning.
+    ghost fresh: { Kept → Type 0 };
+
     /// The process at the place where it begins.
     fn begin(alloc: Global) -> Self
-        ensures { ready result process.start };
+        ensures ready { ready result process.start }
+        ensures fresh { fresh (kept result) };
 
     /// The buffer at a place in the order in which they are stopped.
     fn buffer(place: u8) -> Option<BufferNo>
