@@ -18,18 +18,29 @@ use Rattle.solo_needs.specs.Handing.{Ahead, hands, no_command, HandsOn}
 use Rattle.solo_law.specs.Work.{Plan}
 use Rattle.solo_law.specs.Replies.{view}
 use Rattle.solo_law.specs.Devices.{Devices}
-use Rattle.solo_law.specs.Told.{on_console, on_paper, lines_of_all, needs_of}
-use Rattle.solo_law.specs.Solo.{process, table, solo, SoloState, IsProcess, the_law}
+use Rattle.solo_law.specs.Told.{on_console, on_paper, lines_of_all, needs_of, begun}
+use Rattle.solo_law.specs.Solo.{process, table, solo, SoloState, SoloEntry, IsProcess, the_law}
 use Rattle.solo_law.specs.Holds.{IsBuffer}
-use Rattle.solo_net.specs.declared.ends.SoloRan.{SoloRan}
+use Rattle.solo_ends.specs.declared.units.SoloRan.{SoloRan}
+use Rattle.solo_ends.specs.Ends.{outcome_at, stopped_at}
 use Rattle.solo_net.specs.declared.net.SoloNet.{SoloNet}
 use Rattle.solo_net.specs.Telling.{Tells}
-use Rattle.solo_net.specs.Ends.{outcome_at, stopped_at, JobDone, BothDone}
-use Rattle.solo_net.specs.Net.{CommandsOf, NetStands}
+use Rattle.solo_net.specs.Net.{CommandsOf, NetStands, AreSome}
+
+abbrev pub JobDone : List Outcome → Type 0
+JobDone outcomes = outcome_at outcomes 2 ≡ outcome.Done
+
+abbrev pub BothDone : List Outcome → Type 0
+BothDone outcomes = JobDone outcomes × (outcome_at outcomes 3 ≡ outcome.Done)
+
+-- The files are some to which the work comes, where no call on them failed.
+abbrev pub AreLedTo : {F S Y K T : Type 0} → (List Given → F → Type 0) → List SoloEntry → SoloRan S Y K T F
+    → Type 0
+AreLedTo passes h ran = AreSome passes (begun h) ran.units.files (Some (outcome_at ran.outcomes 2))
 
 -- It stands for some reached state in which all three have ended.
 pub record HaveEnded {C F S Y K T : Type 0} (commands : CommandsOf C F) (tells : Tells S Y K T)
-    (net : SoloNet C F S Y K T) : Type 0 where
+    (net : SoloNet C S Y K T F) : Type 0 where
   pub at : Placed the_law (NetStands commands tells net)
   pub all : AllEnded the_law at.state
 
@@ -49,15 +60,15 @@ pub record EndsSo (s : SoloState) (outcomes : List Outcome) (stops : List (Optio
 -- too. Where the job process is done nothing is handed on any more, and no typed line is left.
 pub record TellsPlan {F S Y K T : Type 0} (tells : Tells S Y K T) (cards keys : List Item) (plan : Plan)
     (devices : Devices) (ran : SoloRan S Y K T F) : Type 0 where
-  pub begun : List Given
+  pub givens : List Given
   pub last : Need
   pub ahead : Ahead
-  pub handed : HandsOn no_command (record { cards = cards; keys = keys }) begun (needs_of plan begun) last
+  pub handed : HandsOn no_command (record { cards = cards; keys = keys }) givens (needs_of plan givens) last
       ahead
   pub console : Gains devices.console (tells.console.given ran.units.typewriter.console.sink)
-      (text (lines_of_all on_console (needs_of plan begun))) (JobDone ran.outcomes)
+      (text (lines_of_all on_console (needs_of plan givens))) (JobDone ran.outcomes)
   pub paper : Gains devices.paper (tells.paper.given ran.units.paper.sink)
-      (text (lines_of_all on_paper (needs_of plan begun))) (BothDone ran.outcomes)
+      (text (lines_of_all on_paper (needs_of plan givens))) (BothDone ran.outcomes)
   pub all_handed : JobDone ran.outcomes → hands last ahead ≡ None
   pub none_left : JobDone ran.outcomes
       → items_ahead (tells.keys.left ran.units.typewriter.keys.source) ran.units.typewriter.keys.pending

@@ -5,6 +5,5 @@ pub mod Telling
 pub mod Sharing
 pub mod Turns
 pub mod Steps
-pub mod Ends
 pub mod Net
 pub mod Ended

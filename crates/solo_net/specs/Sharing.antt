@@ -15,7 +15,7 @@ use Rattle.solo_law.specs.Devices.{Devices, Allows, given}
 use Rattle.solo_law.specs.Solo.{SoloState, SoloEntry}
 use Rattle.solo_law.specs.Holds.{IsBuffer}
 use Rattle.solo_procs.specs.declared.actions.SoloReply.{SoloReply}
-use Rattle.solo_net.specs.declared.ends.SoloUnits.{SoloUnits}
+use Rattle.solo_ends.specs.declared.units.SoloUnits.{SoloUnits}
 use Rattle.solo_net.specs.declared.shared.Shared.{Shared}
 use Rattle.solo_net.specs.Actions.{IsArgBuffer, IsPageBuffer}
 use Rattle.solo_net.specs.Replies.{entry_of, ReplyFits, reply_of}

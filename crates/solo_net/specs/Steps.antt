@@ -1,11 +1,11 @@
 -- What a step of a process is to the law.
-use Rattle.std.specs.Prelude.{◌≡◌, ◌≤◌, ℕ, List, [], ◌∷◌, Some}
+use Rattle.std.specs.Prelude.{◌≡◌, ◌≤◌, ℕ, List, [], ◌∷◌, ◌++◌, Some}
 use Rattle.solo_devices.specs.Count.{Rose}
 use Rattle.network_run.specs.declared.stepped.Stepped.{Stepped}
 use Rattle.network_law.specs.Acts.{is_delayed}
 use Rattle.network_law.specs.Stepping.{stepped_so, is_again}
 use Rattle.place_law.specs.Process.{Process, Does, action_of, next_action, went}
-use Rattle.solo_law.specs.Work.{Work, Plan, NeedFits}
+use Rattle.solo_law.specs.Work.{Given, Work, Plan}
 use Rattle.solo_law.specs.Actions.{Action, Reply}
 use Rattle.solo_law.specs.Actions as act
 use Rattle.solo_law.specs.Buffers.{call}
@@ -59,11 +59,22 @@ ComesTo sound faults old_plans new_plans old new work (act.Found need) = sound n
 ComesTo sound faults old_plans new_plans old new work act.Failed = Rose (faults old) (faults new)
 ComesTo sound faults old_plans new_plans old new work reply = Unit {0}
 
-pub record WorkSteps {F : Type 0} (Stands : List SoloEntry → Type 0) (sound : F → Type 0) (faults : F → ℕ)
-    (old_plans new_plans : Plan → Type 0) (old new : F) (history : List SoloEntry) (work : Work)
-    : Type 0 where
+-- Where it came to a need it led on; where memory was refused, it has come to some of its files.
+abbrev pub LedTo : Reply → Type 0 → Type 0 → Type 0
+LedTo (act.Found need) Follows Passes = Follows × Passes
+LedTo act.NoMemory Follows Passes = Passes
+LedTo reply Follows Passes = Unit {0}
+
+pub record WorkSteps {C F : Type 0} (Stands : List SoloEntry → Type 0) (sound : F → Type 0) (faults : F → ℕ)
+    (plans : C → F → Plan → Type 0) (follows : C → F → List Given → F → Type 0)
+    (passes : F → List Given → F → Type 0) (was now : C) (old new : F) (history : List SoloEntry)
+    (work : Work) : Type 0 where
   pub reply : Reply
   pub fits : Fits (act.Works work) reply
   pub stands : Stands (Does (act.Works work) reply ∷ history)
-  pub comes : ComesTo sound faults old_plans new_plans old new work reply
+  pub comes : ComesTo sound faults (plans was old) (plans now new) old new work reply
   pub counts : faults old ≤ faults new
+  -- from whichever files it began
+  pub led : (opening : F) (before : List Given) → follows was opening before old
+      → LedTo reply (follows now opening (before ++ work.given ∷ []) new)
+      (passes opening (before ++ work.given ∷ []) new)

@@ -6,7 +6,8 @@ use Rattle.solo_devices.specs.PrinterUnit.{Printing}
 use Rattle.solo_devices.specs.declared.card_read.CardRead.TheVariants as read
 use Rattle.solo_law.specs.Actions.{Action, Reply}
 use Rattle.solo_law.specs.Actions as act
-use Rattle.solo_net.specs.declared.ends.SoloUnits.{SoloUnits}
+use Rattle.solo_ends.specs.declared.units.SoloUnits.{SoloUnits}
+use Rattle.solo_ends.specs.Faults.{Counts}
 
 -- what a source tells: what is left of it, how many bytes were taken of it, and how often it failed
 pub record SourceTells (S : Type 0) : Type 0 where
@@ -36,6 +37,22 @@ telling cards_left cards_taken cards_faults keys_left keys_taken keys_faults pap
   console = record { given = console_given; faults = console_faults };
 }
 
+-- what they count, with what the files do
+abbrev pub counts_of : {S Y K T F : Type 0} → Tells S Y K T → (F → ℕ) → Counts S Y K T F
+counts_of tells file_faults = record {
+  card_faults = tells.cards.faults;
+  cards_taken = tells.cards.taken;
+  key_faults = tells.keys.faults;
+  keys_taken = tells.keys.taken;
+  print_faults = tells.paper.faults;
+  show_faults = tells.console.faults;
+  file_faults = file_faults;
+}
+
+-- how many bytes a source that tells them had in all
+abbrev pub total_of : {S : Type 0} → SourceTells S → Held S → Option ℕ
+total_of tells held = bytes_total (tells.taken held.source) (tells.left held.source)
+
 -- ---- a card or a typed line is read
 -- A failure was counted, and the limit is told exactly where too many bytes were taken. No byte is lost, and
 -- at the end none is left. Who failed or told the limit isn't asked again.
@@ -44,8 +61,7 @@ pub record ReadSo {S : Type 0} (tells : SourceTells S) (old new : Held S) (reply
   pub failed : reply ≡ Some (act.OfCard read.Failed) → Rose (tells.faults old.source) (tells.faults new.source)
   pub counts : tells.faults old.source ≤ tells.faults new.source
   pub limit : (reply ≡ Some (act.OfCard read.Limit)) ↔ (byte_limit < tells.taken new.source)
-  pub total : bytes_total (tells.taken new.source) (tells.left new.source)
-      ≡ bytes_total (tells.taken old.source) (tells.left old.source)
+  pub total : total_of tells new ≡ total_of tells old
   pub all_taken : reply ≡ Some (act.OfCard read.End) → IsAllTaken (tells.left new.source)
   pub live : reply ≢ Some (act.OfCard read.Failed) → reply ≢ Some (act.OfCard read.Limit) → new.live ≡ true
 

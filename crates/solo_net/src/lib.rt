@@ -3,7 +3,6 @@
 #![tactic(auto)]
 
 mod buffers;
-mod ends;
 mod finish;
 mod net;
 mod replies;
@@ -12,7 +11,6 @@ mod step;
 mod turns;
 
 pub use buffers::Buffers;
-pub use ends::{SoloRan, SoloUnits};
 pub use net::SoloNet;
 pub use replies::{arg_reply, page_reply, print_reply, put_reply};
 pub use shared::Shared;

@@ -8,14 +8,15 @@ ghost use Rattle.solo_net.specs.Telling.{telling};
 ghost use Rattle.solo_net.specs.Actions.{unsaid};
 ghost use Rattle.solo_net.specs.Sharing.{MayPerform, Performs};
 
-use crate::{Buffers, SoloUnits, print_reply};
+use crate::{Buffers, print_reply};
 use solo_base::{Line, ProcNo};
 use solo_devices::{CardRead, Sink, Source};
+use solo_ends::SoloUnits;
 use solo_procs::{SoloAction, SoloReply};
 
 /// What the three processes share: what Solo works with, and the six buffers.
 #[derive(Drop)]
-pub struct Shared<S: Source, Y: Source, K, T, F> {
+pub struct Shared<S: Source, Y: Source, K: Sink, T: Sink, F> {
     pub units: SoloUnits<S, Y, K, T, F>,
     pub buffers: Buffers,
 }

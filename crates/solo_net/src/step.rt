@@ -47,18 +47,17 @@ pub fn step_machine<P: Proc, S: Source, Y: Source, K: Sink, T: Sink, F>(
 }
 
 /// Does the piece of work that is next for the job process.
-pub fn step_work<C: Commands>(job: &mut SoloJob<C>, files: &mut C::Files) -> Stepped
+pub fn step_work<C: Commands>(machine: &mut SoloJob<C>, files: &mut C::Files) -> Stepped
     requires sound { C.sound files.old }
-    requires at { IsAtWork (StandsFor job job_at (JobStands C.awaits) job.old) }
+    requires at { IsAtWork (StandsFor job job_at (JobStands C.awaits) machine.old) }
     ensures steps { (h : List (Entry Action Reply)) (work : Work) →
-        StandsFor job job_at (JobStands C.awaits) job.old h → next_action view job h ≡ Some (Works work) →
-        WorkSteps (StandsFor job job_at (JobStands C.awaits) job.new) C.sound C.faults
-        (C.plans job.old.process.commands files.old) (C.plans job.new.process.commands files.new)
-        files.old files.new h work }
+        StandsFor job job_at (JobStands C.awaits) machine.old h → next_action view job h ≡ Some (Works work) →
+        WorkSteps (StandsFor job job_at (JobStands C.awaits) machine.new) C.sound C.faults C.plans C.follows
+        C.passes machine.old.process.commands machine.new.process.commands files.old files.new h work }
     ensures acted { result ≡ Acted }
 {
-    let reply = job.work(files);
-    match job.give(reply) {
+    let reply = machine.work(files);
+    match machine.give(reply) {
         Ok(()) => Stepped::Acted,
         Err(_) => Stepped::Acted,
     }
