@@ -84,7 +84,8 @@ event-keeps s event n how e =
     let q = event.process in
     let P : Bool → Type 0 = λ t. caused view (process n) (if t then event.entry ∷ s.histories q else s.histories n) ≡ Some how in
     elim (eqb_tells n q) as (λ _. P (n == q)) [
-      | inl is ↦ subst P (sym is.0) (entry-keeps (process n) event.entry (s.histories q) how (subst (λ m. caused view (process n) (s.histories m) ≡ Some how) is.1 e))
+      | inl is ↦ subst P (sym is.0) (entry-keeps (process n) event.entry (s.histories q) how (subst (λ m. caused view (process n)
+          (s.histories m) ≡ Some how) is.1 e))
       | inr not ↦ subst P (sym not.0) e
     ]
 

@@ -119,7 +119,8 @@ module _ {S Y K T F : Type 0} (Stands : List SoloEntry → Type 0) (tells : Tell
           enters = is.enters;
         }
 
-    pub steps-lacking : (reply : SoloReply) → Performs tells old new p (unsaid r) (Some reply) → (Fits a (heard reply) → Stands (LacksMemory a (heard reply) ∷ h))
+    pub steps-lacking : (reply : SoloReply) → Performs tells old new p (unsaid r) (Some reply) → (Fits a (heard reply)
+        → Stands (LacksMemory a (heard reply) ∷ h))
         → (Stands (LacksMemory a (heard reply) ∷ h) → MayLack a (heard reply)) → Steps Stands tells old new p a h result
     steps-lacking reply is stands lack =
         let is = own (Some reply) is in

@@ -58,7 +58,8 @@ total_of tells held = bytes_total (tells.taken held.source) (tells.left held.sou
 -- at the end none is left. Who failed or told the limit isn't asked again.
 pub record ReadSo {S : Type 0} (tells : SourceTells S) (old new : Held S) (reply : Option Reply)
     : Type 0 where
-  pub failed : reply ≡ Some (act.OfCard read.Failed) → Rose (tells.faults old.source) (tells.faults new.source)
+  pub failed : reply ≡ Some (act.OfCard read.Failed)
+      → Rose (tells.faults old.source) (tells.faults new.source)
   pub counts : tells.faults old.source ≤ tells.faults new.source
   pub limit : (reply ≡ Some (act.OfCard read.Limit)) ↔ (byte_limit < tells.taken new.source)
   pub total : total_of tells new ≡ total_of tells old

@@ -16,8 +16,9 @@ use slot_buffer::{ArgBuffer, PageBuffer, SlotBuffer};
 use solo_base::{Arg, BufferNo, Page, ProcNo, Side};
 use solo_procs::SoloReply;
 
-/// The six buffers of one place: 1 to 3 between the input and the job process, with the orders, the pages
-/// and the reports of card files, and 4 to 6 between the job and the output process, with those of printing.
+/// The six buffers of one place: 1 to 3 between the input and the job process, with the orders, the
+/// pages and the reports of card files, and 4 to 6 between the job and the output process, with those
+/// of printing.
 #[derive(Drop)]
 pub struct Buffers {
     pub card_orders: ArgBuffer,

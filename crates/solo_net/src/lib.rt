@@ -1,5 +1,5 @@
-//! Solo as a network that is stepped: its three processes over their six buffers and the devices, each step
-//! as the law of Solo has it.
+//! Solo as a network that is stepped: its three processes over their six buffers and the devices, each
+//! step as the law of Solo has it.
 #![tactic(auto)]
 
 mod buffers;

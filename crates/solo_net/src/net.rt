@@ -19,8 +19,8 @@ use solo_procs::{Commands, Machine, SoloInput, SoloJob, SoloOutput};
 use std::alloc::Global;
 use std::snapshot::Snapshot;
 
-/// Solo: its three processes over what they share, which are stepped one event at a time. They keep no
-/// histories: contracts say which states of Solo they stand for.
+/// Solo: its three processes over what they share, which are stepped one event at a time. They keep
+/// no histories: contracts say which states of Solo they stand for.
 pub struct SoloNet<C: Commands, S: Source, Y: Source, K: Sink, T: Sink> {
     pub input: SoloInput,
     pub job: SoloJob<C>,
@@ -39,14 +39,18 @@ impl<C: Commands, S: Source, Y: Source, K: Sink, T: Sink> SoloNet<C, S, Y, K, T>
         requires paper { units.paper.live ≡ true }
         requires sound { C.sound units.files }
 
-        // It stands for the opening state over what these units tell, whatever plan the files open with.
+        // It stands for the opening state over what these units tell, whatever plan the files open
+        // with.
         ensures opens { (plan : Option Plan) → IsOpenedBy (C.opens units.files) plan →
             OpensOver (commands_of C.awaits C.plans C.sound C.faults C.follows C.passes)
-            (telling S.left S.taken S.faults Y.left Y.taken Y.faults K.given K.faults T.given T.faults)
+            (telling S.left S.taken S.faults Y.left Y.taken Y.faults
+            K.given K.faults T.given T.faults)
             result units plan }
         ensures units { (result.shared.units ≡ units) × (result.first_files.value ≡ units.files) }
-        ensures counted { IsCounted (commands_of C.awaits C.plans C.sound C.faults C.follows C.passes)
-            (telling S.left S.taken S.faults Y.left Y.taken Y.faults K.given K.faults T.given T.faults)
+        ensures counted { IsCounted
+            (commands_of C.awaits C.plans C.sound C.faults C.follows C.passes)
+            (telling S.left S.taken S.faults Y.left Y.taken Y.faults
+            K.given K.faults T.given T.faults)
             (devices_of units) result }
     {
         let first_files = Snapshot::of(&units.files);
@@ -64,16 +68,23 @@ impl<C: Commands, S: Source, Y: Source, K: Sink, T: Sink> SoloNet<C, S, Y, K, T>
 
     /// The next action of the job process.
     fn step_job(&mut self) -> Stepped
-        requires may { MayStep the_law (NetStands (commands_of C.awaits C.plans C.sound C.faults C.follows C.passes)
-            (telling S.left S.taken S.faults Y.left Y.taken Y.faults K.given K.faults T.given T.faults)
+        requires may { MayStep the_law (NetStands
+            (commands_of C.awaits C.plans C.sound C.faults C.follows C.passes)
+            (telling S.left S.taken S.faults Y.left Y.taken Y.faults
+            K.given K.faults T.given T.faults)
             self.old) 2 }
-        ensures steps { (at : Placed the_law (NetStands (commands_of C.awaits C.plans C.sound C.faults C.follows C.passes)
-            (telling S.left S.taken S.faults Y.left Y.taken Y.faults K.given K.faults T.given T.faults)
+        ensures steps { (at : Placed the_law (NetStands
+            (commands_of C.awaits C.plans C.sound C.faults C.follows C.passes)
+            (telling S.left S.taken S.faults Y.left Y.taken Y.faults
+            K.given K.faults T.given T.faults)
             self.old)) → the_law.MayGo at.state 2 →
-            Steps the_law (NetStands (commands_of C.awaits C.plans C.sound C.faults C.follows C.passes)
-            (telling S.left S.taken S.faults Y.left Y.taken Y.faults K.given K.faults T.given T.faults))
+            Steps the_law (NetStands
+            (commands_of C.awaits C.plans C.sound C.faults C.follows C.passes)
+            (telling S.left S.taken S.faults Y.left Y.taken Y.faults
+            K.given K.faults T.given T.faults))
             (MovesSo (commands_of C.awaits C.plans C.sound C.faults C.follows C.passes)
-            (telling S.left S.taken S.faults Y.left Y.taken Y.faults K.given K.faults T.given T.faults))
+            (telling S.left S.taken S.faults Y.left Y.taken Y.faults
+            K.given K.faults T.given T.faults))
             self.old self.new at.state 2 result }
     {
         let action = self.job.next();
@@ -88,15 +99,20 @@ impl<C: Commands, S: Source, Y: Source, K: Sink, T: Sink> SoloNet<C, S, Y, K, T>
 impl<C: Commands, S: Source, Y: Source, K: Sink, T: Sink> Network for SoloNet<C, S, Y, K, T> {
     ghost law = { the_law };
 
-    ghost Stands = { λ net s. NetStands (commands_of C.awaits C.plans C.sound C.faults C.follows C.passes)
-        (telling S.left S.taken S.faults Y.left Y.taken Y.faults K.given K.faults T.given T.faults) net s };
+    ghost Stands = { λ net s. NetStands
+            (commands_of C.awaits C.plans C.sound C.faults C.follows C.passes)
+            (telling S.left S.taken S.faults Y.left Y.taken Y.faults
+            K.given K.faults T.given T.faults) net s };
 
-    ghost Moves = { λ old event new. MovesSo (commands_of C.awaits C.plans C.sound C.faults C.follows C.passes)
+    ghost Moves = { λ old event new. MovesSo
+            (commands_of C.awaits C.plans C.sound C.faults C.follows C.passes)
         (telling S.left S.taken S.faults Y.left Y.taken Y.faults K.given K.faults T.given T.faults)
         old event new };
 
-    ghost Keeps = { λ old new. KeepsSo (commands_of C.awaits C.plans C.sound C.faults C.follows C.passes)
-        (telling S.left S.taken S.faults Y.left Y.taken Y.faults K.given K.faults T.given T.faults) old new };
+    ghost Keeps = { λ old new. KeepsSo
+            (commands_of C.awaits C.plans C.sound C.faults C.follows C.passes)
+            (telling S.left S.taken S.faults Y.left Y.taken Y.faults
+            K.given K.faults T.given T.faults) old new };
 
     ghost left = { λ net s. 0 };
 

@@ -26,7 +26,8 @@ impl<S: Source, Y: Source, K: Sink, T: Sink, F> Shared<S, Y, K, T, F> {
     pub fn perform(&mut self, p: ProcNo, action: SoloAction) -> Option<SoloReply>
         requires may { MayPerform self.old p (unsaid action) }
         ensures performs { Performs
-            (telling S.left S.taken S.faults Y.left Y.taken Y.faults K.given K.faults T.given T.faults)
+            (telling S.left S.taken S.faults Y.left Y.taken Y.faults
+            K.given K.faults T.given T.faults)
             self.old self.new p (unsaid action) result }
     {
         match action {
@@ -50,7 +51,8 @@ impl<S: Source, Y: Source, K: Sink, T: Sink, F> Shared<S, Y, K, T, F> {
     fn read_card(&mut self, p: ProcNo) -> SoloReply
         requires may { MayPerform self.old p act.ReadCard }
         ensures performs { Performs
-            (telling S.left S.taken S.faults Y.left Y.taken Y.faults K.given K.faults T.given T.faults)
+            (telling S.left S.taken S.faults Y.left Y.taken Y.faults
+            K.given K.faults T.given T.faults)
             self.old self.new p act.ReadCard (Some result) }
     {
         let _ = p;
@@ -62,7 +64,8 @@ impl<S: Source, Y: Source, K: Sink, T: Sink, F> Shared<S, Y, K, T, F> {
     fn accept(&mut self, p: ProcNo) -> SoloReply
         requires may { MayPerform self.old p act.Accept }
         ensures performs { Performs
-            (telling S.left S.taken S.faults Y.left Y.taken Y.faults K.given K.faults T.given T.faults)
+            (telling S.left S.taken S.faults Y.left Y.taken Y.faults
+            K.given K.faults T.given T.faults)
             self.old self.new p act.Accept (Some result) }
     {
         let _ = p;
@@ -74,7 +77,8 @@ impl<S: Source, Y: Source, K: Sink, T: Sink, F> Shared<S, Y, K, T, F> {
     fn display(&mut self, p: ProcNo, line: Line) -> SoloReply
         requires may { MayPerform self.old p (act.Display line) }
         ensures performs { Performs
-            (telling S.left S.taken S.faults Y.left Y.taken Y.faults K.given K.faults T.given T.faults)
+            (telling S.left S.taken S.faults Y.left Y.taken Y.faults
+            K.given K.faults T.given T.faults)
             self.old self.new p (act.Display line) (Some result) }
     {
         let _ = p;
@@ -84,7 +88,8 @@ impl<S: Source, Y: Source, K: Sink, T: Sink, F> Shared<S, Y, K, T, F> {
     fn print(&mut self, p: ProcNo, line: Line) -> SoloReply
         requires may { MayPerform self.old p (act.Print line) }
         ensures performs { Performs
-            (telling S.left S.taken S.faults Y.left Y.taken Y.faults K.given K.faults T.given T.faults)
+            (telling S.left S.taken S.faults Y.left Y.taken Y.faults
+            K.given K.faults T.given T.faults)
             self.old self.new p (act.Print line) (Some result) }
     {
         let _ = p;

@@ -26,9 +26,11 @@ pub fn step_machine<P: Proc, S: Source, Y: Source, K: Sink, T: Sink, F>(
     p: ProcNo,
     shared: &mut Shared<S, Y, K, T, F>,
 ) -> Stepped
-    requires may { MayStep P.process (StandsFor P.process P.is_at P.ready machine.old) shared.old p }
+    requires may { MayStep P.process (StandsFor P.process P.is_at P.ready machine.old)
+        shared.old p }
     ensures steps { (h : List (Entry Action Reply)) (action : Action) → IsNoWork action →
-        StandsFor P.process P.is_at P.ready machine.old h → next_action view P.process h ≡ Some action →
+        StandsFor P.process P.is_at P.ready machine.old h →
+        next_action view P.process h ≡ Some action →
         Steps (StandsFor P.process P.is_at P.ready machine.new)
         (telling S.left S.taken S.faults Y.left Y.taken Y.faults K.given K.faults T.given T.faults)
         shared.old shared.new p action h result }
@@ -51,9 +53,11 @@ pub fn step_work<C: Commands>(machine: &mut SoloJob<C>, files: &mut C::Files) ->
     requires sound { C.sound files.old }
     requires at { IsAtWork (StandsFor job job_at (JobStands C.awaits) machine.old) }
     ensures steps { (h : List (Entry Action Reply)) (work : Work) →
-        StandsFor job job_at (JobStands C.awaits) machine.old h → next_action view job h ≡ Some (Works work) →
-        WorkSteps (StandsFor job job_at (JobStands C.awaits) machine.new) C.sound C.faults C.plans C.follows
-        C.passes machine.old.process.commands machine.new.process.commands files.old files.new h work }
+        StandsFor job job_at (JobStands C.awaits) machine.old h →
+        next_action view job h ≡ Some (Works work) →
+        WorkSteps (StandsFor job job_at (JobStands C.awaits) machine.new) C.sound C.faults C.plans
+        C.follows C.passes machine.old.process.commands machine.new.process.commands
+        files.old files.new h work }
     ensures acted { result ≡ Acted }
 {
     let reply = machine.work(files);

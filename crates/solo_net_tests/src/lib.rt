@@ -1,5 +1,6 @@
-//! Tests of Solo's network, over commands that answer by the first letter of a line. They show what no clause
-//! says: that the three end, what was displayed and printed in all, and what a device that fails ends.
+//! Tests of Solo's network, over commands that answer by the first letter of a line. They show what no
+//! clause says: that the three end, what was displayed and printed in all, and what a device that fails
+//! ends.
 #![tactic(auto)]
 
 mod running;

@@ -4,7 +4,8 @@ ghost use Rattle.network_run.specs.Law.{Placed, AllEnded};
 
 use network_run::{Network, Rule, Stepped, next_by};
 
-/// How a run went: whether all have ended, how many events it had, and how many of them ended in a delay.
+/// How a run went: whether all have ended, how many events it had, and how many of them ended in a
+/// delay.
 #[derive(Clone, Copy, Debug)]
 pub struct Turns {
     pub ended: bool,
@@ -16,7 +17,8 @@ pub struct Turns {
 pub fn run_to_end<N: Network>(net: &mut N, rule: Rule, most: u32) -> Turns
     requires before { Placed N.law (N.Stands net.old) }
     ensures after { Placed N.law (N.Stands net.new) }
-    ensures ended { IsTrue result.ended → (at : Placed N.law (N.Stands net.new)) → AllEnded N.law at.state }
+    ensures ended { IsTrue result.ended → (at : Placed N.law (N.Stands net.new)) →
+        AllEnded N.law at.state }
 {
     let mut now = rule;
     let mut events: u64 = 0;

@@ -48,7 +48,8 @@ fn source(alloc: Global, text: &[u8], call: u64) -> Option<MemSource> {
     Some(MemSource::new(bytes, 7, one(alloc, call)?))
 }
 
-/// The session of these cards and typed lines under a rule. None: memory was refused, or it didn't end.
+/// The session of these cards and typed lines under a rule. None: memory was refused, or it didn't
+/// end.
 pub fn run(alloc: Global, cards: &[u8], keys: &[u8], rule: Rule, failing: Failing) -> Option<Came> {
     let deck = source(alloc, cards, failing.cards)?;
     let typed = source(alloc, keys, failing.keys)?;
@@ -128,12 +129,14 @@ fn a_session_is_told_whole_under_each_rule(rt: HostRuntime) {
     }
 }
 
+const BROKEN: &[u8] = b"HELLO\n";
+
 // Whether the session that types this last line ends with this fault of the job process.
 fn breaks(alloc: Global, keys: &[u8], fault: Cause) -> bool {
     match run(alloc, CARDS, keys, Rule::Least, NONE_FAILS) {
         Some(came) => {
-            came.console.as_slice() == b"HELLO\n"
-                && came.paper.as_slice() == b""
+            came.console.as_slice() == BROKEN
+                && came.paper.as_slice().is_empty()
                 && came.outcomes == [Outcome::Stopped, Outcome::Fault(fault), Outcome::Stopped]
         }
         None => false,

@@ -2,7 +2,7 @@
 ghost use Rattle.std.specs.Prelude.{◌≡◌, ℕ, true, List, [], ◌∷◌, ◌≤◌, length, IsTrue, IfOk, Err};
 ghost use Rattle.std.specs.List.{list_all};
 ghost use Rattle.solo_devices.specs.Count.{Rose};
-ghost use Rattle.solo_base.specs.Line.{is_printable};
+ghost use Rattle.solo_base.specs.Line.{IsLine, is_printable};
 ghost use Rattle.solo_net_tests.specs.ToyNeeds.{IsToyNeed};
 ghost use Rattle.exchange_law.specs.Pages.{page_with};
 
@@ -17,8 +17,8 @@ pub struct ToyFiles {
     pub faults: u64,
 }
 
-/// Commands by the first letter of their line: A needs a typed line, C a card file, D that the line is
-/// displayed; P prints the line, F fails and M lacks memory. Any other is answered by itself.
+/// Commands by the first letter of their line: A needs a typed line, C a card file, D that the line
+/// is displayed; P prints the line, F fails and M lacks memory. Any other is answered by itself.
 #[derive(Debug, Drop)]
 pub struct Toy {
     alloc: Global,
@@ -135,8 +135,10 @@ impl Toy {
 
 // The last page with one line.
 fn page_of(line: Line) -> Page
-    ensures { result ≡ page_with 0 true (line ∷ []) }
+    ensures page { result ≡ page_with 0 true (line ∷ []) }
+    ensures line { IsLine line }
 {
+    let _ = line.bytes();
     let mut packer = Packer::new();
     let _ = packer.push(&Item::Line(line));
     packer.finish()

@@ -8,5 +8,6 @@ returns-then-b-eq2 c =
 
 pub returns-else-b-eq2 : goal.returns-else-b-eq2
 returns-else-b-eq2 c =
-    put-5 c.args.self.now c.args.p c.args.b c.put_reply-else-b-eq2.result c.args.page c.put-else-b-eq2.result c.put-else-b-eq2.new.self c.put_reply-else-b-eq2.ensures
+    put-5 c.args.self.now c.args.p c.args.b c.put_reply-else-b-eq2.result c.args.page c.put-else-b-eq2.result c.put-else-b-eq2.new.self
+    c.put_reply-else-b-eq2.ensures
     c.put-else-b-eq2.ensures.answer c.put-else-b-eq2.ensures.after (last-page c.args.b c.requires.one c.if-b-eq2.false)

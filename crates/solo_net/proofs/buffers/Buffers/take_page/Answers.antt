@@ -8,5 +8,6 @@ returns-then-b-eq2 c =
 
 pub returns-else-b-eq2 : goal.returns-else-b-eq2
 returns-else-b-eq2 c =
-    take-5 c.args.self.now c.args.p c.args.b c.page_reply-else-b-eq2.result c.take-else-b-eq2.result c.take-else-b-eq2.new.self c.page_reply-else-b-eq2.ensures
+    take-5 c.args.self.now c.args.p c.args.b c.page_reply-else-b-eq2.result c.take-else-b-eq2.result c.take-else-b-eq2.new.self
+    c.page_reply-else-b-eq2.ensures
     c.take-else-b-eq2.ensures.answer c.take-else-b-eq2.ensures.after (last-page c.args.b c.requires.one c.if-b-eq2.false)
