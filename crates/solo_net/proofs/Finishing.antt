@@ -127,7 +127,6 @@ stopped-buffer opening s st b side e =
 
 -- ---- the three
 
-
 done-so : (a b c : Outcome) → a ≡ outcome.Done → b ≡ outcome.Done → c ≡ outcome.Done → (a ∷ b ∷ c ∷ []) ≡ all_done
 done-so a b c x y z = cc
 

@@ -38,9 +38,9 @@ no-cause p a r h none = or-none (reply_cause a r) _ (or-new (caused view p h) _ 
 pub free-of : (p : Process Action Reply) (entry : SoloEntry) (h : List SoloEntry) → caused view p (entry ∷ h) ≡ None → IsFree p entry h
 free-of p (Does a r) h none = record {
   before = or-none (caused view p h) _ none;
-  no_failed = λ e. 
+  no_failed = λ e.
       (let no : reply_cause a (act.OfCard read.Failed) ≡ None = subst (λ r. reply_cause a r ≡ None) (some-reply r _ e) (no-cause p a r h none) in cc);
-  no_limit = λ e. 
+  no_limit = λ e.
       (let no : reply_cause a (act.OfCard read.Limit) ≡ None = subst (λ r. reply_cause a r ≡ None) (some-reply r _ e) (no-cause p a r h none) in cc);
   no_failure = λ e. (let no : reply_cause a act.Failed ≡ None = subst (λ r. reply_cause a r ≡ None) (some-reply r _ e) (no-cause p a r h none) in cc);
   no_memory = λ e. (let no : reply_cause a act.NoMemory ≡ None = subst (λ r. reply_cause a r ≡ None) (some-reply r _ e) (no-cause p a r h none) in cc);

@@ -164,19 +164,19 @@ module _ {C F S Y K T : Type 0} (commands : CommandsOf C F) (tells : Tells S Y K
   keeps-so event behind enabled suits causes files first now = record {
     counted = λ before were.
         subst (AreCounted (counts_of tells commands.faults) before (devices_of behind.shared.units)) (sym (outcomes-are commands tells behind
-            (next_state s event) now))
+        (next_state s event) now))
         (counted tells commands.faults net.shared.units behind.shared.units s event enabled suits causes files before
         (subst (AreCounted (counts_of tells commands.faults) before (devices_of net.shared.units)) (outcomes-are commands tells net s stands) were));
     cards_total = elim (cards-or-not (action_of event.entry)) as
         (λ _. total_of tells.cards behind.shared.units.cards ≡ total_of tells.cards net.shared.units.cards) [
-      | inl is ↦ (causes.reads is).total
-      | inr not ↦ ap (total_of tells.cards) (causes.cards_stay not)
-    ];
+          | inl is ↦ (causes.reads is).total
+          | inr not ↦ ap (total_of tells.cards) (causes.cards_stay not)
+        ];
     keys_total = elim (keys-or-not (action_of event.entry)) as (λ _. total_of tells.keys behind.shared.units.typewriter.keys
         ≡ total_of tells.keys net.shared.units.typewriter.keys) [
-      | inl is ↦ (causes.accepts is).total
-      | inr not ↦ ap (total_of tells.keys) (causes.keys_stay not)
-    ];
+          | inl is ↦ (causes.accepts is).total
+          | inr not ↦ ap (total_of tells.keys) (causes.keys_stay not)
+        ];
     first_files = first;
   }
 

@@ -108,5 +108,5 @@ module _ {X : Type 0} (of : X → Parcel) where
       fits = λ b st. refl;
       after = λ b st. subst (λ new. SlotStands of new (after_visit mark Stops side p Done b)) (sym now)
           (subst (λ b. SlotStands of (slots.after_stop slot side) (after_visit mark Stops side p Done b)) (sym st.is)
-              (record { is = refl; within = st.within }));
+          (record { is = refl; within = st.within }));
     }

@@ -166,7 +166,7 @@ at-5 old new p action result side visit e suits v = record {
 at-6 : (old : Buffers) (new : Slot Arg) (p : ℕ) (action : Action) (result : Option SoloReply) (side : Side) (visit : Visit)
     → call p action ≡ At 6 side visit → ReplyFits action result
     → SlotVisited OfArg old.print_reports new side visit p (went view (entry_of action result)) → Visited old
-        (record old { print_reports = new }) p action result
+    (record old { print_reports = new }) p action result
 at-6 old new p action result side visit e suits v = record {
   suits = suits;
   fits = λ s st. rw e (v.fits (s.buffers 6) st.print_reports);

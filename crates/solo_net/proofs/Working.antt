@@ -69,7 +69,7 @@ module _ {C F : Type 0} (awaits : C → ℕ → Kind → Type 0) (sound : F → 
       → (reply ≡ hear.Done → sound new) → (reply ≡ hear.Failed → Rose (faults old) (faults new)) → faults old ≤ faults new → Leads reply
       → ((answer : Reply) → Tracks job job_at machine h → Fits (act.Works work) answer
       → IsTold job (JobStands awaits) (job_came awaits) machine h reply answer → StandsFor job job_at (JobStands awaits) behind (Does
-          (act.Works work) answer ∷ h))
+      (act.Works work) answer ∷ h))
       → WorkSteps (StandsFor job job_at (JobStands awaits) behind) sound faults plans follows passes was now old new h work
   work-steps reply behind has is_sound failed counts led gives =
       let is = is-answer reply has.worked is_sound failed led in

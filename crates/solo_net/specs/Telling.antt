@@ -31,11 +31,11 @@ abbrev pub telling : {S Y K T : Type 0} → (S → Option (List ℕ)) → (S →
     → (T → Option (List ℕ)) → (T → ℕ) → Tells S Y K T
 telling cards_left cards_taken cards_faults keys_left keys_taken keys_faults paper_given paper_faults
     console_given console_faults = record {
-  cards = record { left = cards_left; taken = cards_taken; faults = cards_faults };
-  keys = record { left = keys_left; taken = keys_taken; faults = keys_faults };
-  paper = record { given = paper_given; faults = paper_faults };
-  console = record { given = console_given; faults = console_faults };
-}
+      cards = record { left = cards_left; taken = cards_taken; faults = cards_faults };
+      keys = record { left = keys_left; taken = keys_taken; faults = keys_faults };
+      paper = record { given = paper_given; faults = paper_faults };
+      console = record { given = console_given; faults = console_faults };
+    }
 
 -- what they count, with what the files do
 abbrev pub counts_of : {S Y K T F : Type 0} → Tells S Y K T → (F → ℕ) → Counts S Y K T F

@@ -100,19 +100,19 @@ impl<C: Commands, S: Source, Y: Source, K: Sink, T: Sink> Network for SoloNet<C,
     ghost law = { the_law };
 
     ghost Stands = { λ net s. NetStands
-            (commands_of C.awaits C.plans C.sound C.faults C.follows C.passes)
-            (telling S.left S.taken S.faults Y.left Y.taken Y.faults
-            K.given K.faults T.given T.faults) net s };
+        (commands_of C.awaits C.plans C.sound C.faults C.follows C.passes)
+        (telling S.left S.taken S.faults Y.left Y.taken Y.faults
+        K.given K.faults T.given T.faults) net s };
 
     ghost Moves = { λ old event new. MovesSo
-            (commands_of C.awaits C.plans C.sound C.faults C.follows C.passes)
+        (commands_of C.awaits C.plans C.sound C.faults C.follows C.passes)
         (telling S.left S.taken S.faults Y.left Y.taken Y.faults K.given K.faults T.given T.faults)
         old event new };
 
     ghost Keeps = { λ old new. KeepsSo
-            (commands_of C.awaits C.plans C.sound C.faults C.follows C.passes)
-            (telling S.left S.taken S.faults Y.left Y.taken Y.faults
-            K.given K.faults T.given T.faults) old new };
+        (commands_of C.awaits C.plans C.sound C.faults C.follows C.passes)
+        (telling S.left S.taken S.faults Y.left Y.taken Y.faults
+        K.given K.faults T.given T.faults) old new };
 
     ghost left = { λ net s. 0 };
 
