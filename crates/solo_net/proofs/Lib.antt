@@ -1,0 +1,15 @@
+mod SlotCalls
+mod Visiting
+mod Placing
+mod DeviceCalls
+mod Performing
+mod Stepping
+mod Working
+mod Freed
+mod Counted
+mod Turning
+mod NetSteps
+mod WorkStep
+mod Stepped
+mod Finishing
+mod Opened

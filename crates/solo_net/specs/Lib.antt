@@ -1,0 +1,9 @@
+pub mod Replies
+pub mod Actions
+pub mod SixBuffers
+pub mod Telling
+pub mod Sharing
+pub mod Turns
+pub mod Steps
+pub mod Net
+pub mod Ended
