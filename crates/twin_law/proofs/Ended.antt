@@ -3,33 +3,38 @@ use Rattle.std.proofs.Common.{◌≡◌, ◌⊎◌, inl, inr, ℕ, ◌==◌, ◌
 use Rattle.std.specs.List.{AllByRecursion}
 use Rattle.std.proofs.lemmas.Bool.{eqb-true}
 use Rattle.std.proofs.lemmas.Bool.Decides.{eqb_tells}
-use Rattle.solo_base.specs.declared.outcome.Side.{Side}
-use Rattle.solo_base.specs.declared.outcome.Side.TheVariants.{Sender, Receiver}
-use Rattle.solo_base.specs.declared.outcome.Outcome.{Outcome}
-use Rattle.solo_base.specs.declared.outcome.Outcome.TheVariants as outcome
 use Rattle.queue_var.specs.Sides.{same_side}
 use Rattle.network_law.specs.Acts.{Call, At, Visit, Awaits, Passes, Moves, Stops, made_stop}
 use Rattle.network_law.specs.Acts as go
 use Rattle.network_law.specs.Network.{IsOne, acts}
 use Rattle.network_law.specs.Network as law
 use Rattle.network_law.specs.Kept.{CanWait}
-use Rattle.twin_law.specs.Units.{Kit}
-use Rattle.twin_law.specs.Process.{Action, AwaitRoom, AwaitItem, Request, PutPage, TakePage, Load, Release, Stop, Ended, Reply, Done, Entry, Does, LacksMemory, Delays, Aim, Reads, PutsFeed, TakesFeed, PutsPage, TakesPage, Loads, Works, Prints, Finishes, Process, place, aim, caused, or_new, given_cause, holds, stops_at, has_stopped, is_end, has_ended, newest, begins, moves, working, stops_next, closes, Closing, closing_by, closing, next_by, unless_ended, next_action}
-use Rattle.twin_law.specs.Places.{process}
-use Rattle.twin_law.specs.Twin.{twin, call, side_at, Fits}
+use Rattle.solo_base.specs.declared.outcome.Side.{Side}
+use Rattle.solo_base.specs.declared.outcome.Side.TheVariants.{Sender, Receiver}
+use Rattle.solo_base.specs.declared.outcome.Outcome.{Outcome}
+use Rattle.page_codec.specs.Packing.{fits}
+use Rattle.batch_procs.specs.declared.actions.Reply.{Reply}
+use Rattle.batch_procs.specs.Jobs.{Jobs}
+use Rattle.place_law.specs.Process.{Does, LacksMemory, Delays, or_new}
+use Rattle.solo_base.specs.declared.outcome.Outcome.TheVariants as outcome
+use Rattle.batch_procs.specs.declared.actions.Reply.TheVariants as reply
+use Rattle.twin_law.specs.Process.{Action, AwaitRoom, AwaitItem, Request, PutPage, TakePage, Load, Release, Stop, Ended, Entry, Aim, Reads, PutsFeed, TakesFeed, PutsPage, TakesPage, Loads, Works, Prints, Finishes, Process, place, aim, given_cause, caused, holds, stops_at, has_stopped, is_end, has_ended, newest, begins, moves, working, stops_next, closes, Closing, closing_by, closing, next_by, unless_ended, next_action}
+use Rattle.twin_law.specs.Sides.{other}
+use Rattle.twin_law.specs.Table.{process}
+use Rattle.twin_law.specs.Twin.{side_at, call, Fits, twin}
 use Rattle.twin_law.proofs.Lawful.{Shape, Closes, SeatedAt, next-shape, unless-some, not-both}
 
 -- ---- an end comes where all of the buffers in question are stopped
-abbrev pub AllStopped : List Entry → List ℕ → Type 0
+abbrev pub AllStopped : {L : Type 0} → List (Entry L) → List ℕ → Type 0
 AllStopped h buffers = AllByRecursion (λ b. has_stopped b h ≡ true) buffers
 
-stops-all : (buffers : List ℕ) (how : Outcome) (h : List Entry) → is_end (stops_next buffers how h) ≡ true → AllStopped h buffers
+stops-all : {L : Type 0} (buffers : List ℕ) (how : Outcome) (h : List (Entry L)) → is_end (stops_next buffers how h) ≡ true → AllStopped h buffers
 stops-all [] how h e = tt
 stops-all (b ∷ later) how h e =
     let P : Bool → Type 0 = λ t. has_stopped b h ≡ t → is_end (if t then stops_next later how h else Stop b) ≡ true → AllStopped h (b ∷ later) in
     elim (has_stopped b h) as P [ true ↦ (λ is e. (is, stops-all later how h e)) | false ↦ (λ is e. absurd cc) ] refl e
 
-closes-all : (buffers : List ℕ) (how : Outcome) (h : List Entry) → is_end (closes buffers how h) ≡ true → AllStopped h buffers
+closes-all : {L : Type 0} (buffers : List ℕ) (how : Outcome) (h : List (Entry L)) → is_end (closes buffers how h) ≡ true → AllStopped h buffers
 closes-all buffers how h e =
     let P : Bool → Type 0 = λ t. is_end (if t then Release else stops_next buffers how h) ≡ true → AllStopped h buffers in
     elim (holds h) as P [ true ↦ (λ e. absurd cc) | false ↦ (λ e. stops-all buffers how h e) ] e
@@ -38,7 +43,7 @@ or-here : (t u : Bool) → u ≡ true → (t || u) ≡ true
 or-here true u e = refl
 or-here false u e = e
 
-still-stopped : (buffers : List ℕ) (a : Action) (r : Reply) (h : List Entry) → AllStopped h buffers → AllStopped (Does a r ∷ h) buffers
+still-stopped : {L : Type 0} (buffers : List ℕ) (a : Action) (r : Reply L) (h : List (Entry L)) → AllStopped h buffers → AllStopped (Does a r ∷ h) buffers
 still-stopped [] a r h all = tt
 still-stopped (b ∷ later) a r h all = (or-here (stops_at b a) (has_stopped b h) all.0, still-stopped later a r h all.1)
 
@@ -68,7 +73,7 @@ working-end (Some (TakePage b)) m e = absurd cc
 working-end (Some (Load file)) m e = absurd cc
 working-end other m e = begins-end m e
 
-finishes-closing : (p : Process) (cause : Option Outcome) (m : Aim) → closing_by p cause m ≡ None → m ≡ Finishes → ⊥
+finishes-closing : {L : Type 0} (p : Process L) (cause : Option Outcome) (m : Aim) → closing_by p cause m ≡ None → m ≡ Finishes → ⊥
 finishes-closing p (Some how) m e f = cc
 finishes-closing p None Finishes e f = cc
 finishes-closing p None Reads e f = cc
@@ -81,12 +86,12 @@ finishes-closing p None Works e f = cc
 finishes-closing p None (Prints line) e f = cc
 
 -- with all work done and its spools stopped, or with a cause and all of its buffers stopped
-pub data EndedAs (p : Process) (h : List Entry) : Type 0 where
+pub data EndedAs {L : Type 0} (p : Process L) (h : List (Entry L)) : Type 0 where
   Finished : caused p h ≡ None → aim p h ≡ Finishes → AllStopped h p.spools → EndedAs p h
   Closed : AllStopped h p.buffers → EndedAs p h
 
-ended-closing : (p : Process) (h : List Entry) (how : Outcome) (r : Reply) (cause : Option Outcome) (m : Aim) (c : Closing) → caused p h ≡ cause → aim p h ≡ m
-    → closing_by p cause m ≡ Some c → is_end (closes c.stops c.how h) ≡ true → r ≡ Done → EndedAs p (Does (Ended how) r ∷ h)
+ended-closing : {L : Type 0} (p : Process L) (h : List (Entry L)) (how : Outcome) (r : Reply L) (cause : Option Outcome) (m : Aim) (c : Closing) → caused p h ≡ cause → aim p h ≡ m
+    → closing_by p cause m ≡ Some c → is_end (closes c.stops c.how h) ≡ true → r ≡ reply.Done → EndedAs p (Does (Ended how) r ∷ h)
 ended-closing p h how r (Some cause) m c ec em e is done =
     let same : record { stops = p.buffers; how = cause } ≡ c = cc in
     Closed (still-stopped p.buffers (Ended how) r h (subst (λ (c : Closing). AllStopped h c.stops) (sym same) (closes-all c.stops c.how h is)))
@@ -96,11 +101,11 @@ ended-closing p h how r None Finishes c ec em e is done =
     (still-stopped p.spools (Ended how) r h (subst (λ (c : Closing). AllStopped h c.stops) (sym same) (closes-all c.stops c.how h is)))
 ended-closing p h how r None other c ec em e is done = absurd cc
 
-done-end : (how : Outcome) (r : Reply) → Fits (Ended how) r → r ≡ Done
-done-end how Done fits = refl
+done-end : {L : Type 0} (how : Outcome) (r : Reply L) → Fits (Ended how) r → r ≡ reply.Done
+done-end how reply.Done fits = refl
 done-end how r fits = absurd fits
 
-ended-here : (p : Process) (x : Action) (r : Reply) (h : List Entry) (c : Option Closing) → closing p h ≡ c → Fits x r → next_by p c h ≡ x → is_end x ≡ true
+ended-here : {L : Type 0} (p : Process L) (x : Action) (r : Reply L) (h : List (Entry L)) (c : Option Closing) → closing p h ≡ c → Fits x r → next_by p c h ≡ x → is_end x ≡ true
     → EndedAs p (Does x r ∷ h)
 ended-here p (Ended how) r h None e fits next is =
     absurd (finishes-closing p (caused p h) (aim p h) e (working-end (newest h) (aim p h) (ap is_end next)))
@@ -112,10 +117,10 @@ end-here : (t u : Bool) → u ≡ false → (t || u) ≡ true → t ≡ true
 end-here true u none e = refl
 end-here false u none e = absurd (not-both u e none)
 
-not-after : (p : Process) (h : List Entry) (a : Action) → has_ended h ≡ true → next_action p h ≡ Some a → ⊥
+not-after : {L : Type 0} (p : Process L) (h : List (Entry L)) (a : Action) → has_ended h ≡ true → next_action p h ≡ Some a → ⊥
 not-after p h a e next = (let no = sym (ap (λ t. unless_ended t (next_by p (closing p h) h)) e) ∙ next in cc)
 
-pub none-ended : (p : Process) (h : List Entry) → next_action p h ≡ None → has_ended h ≡ true
+pub none-ended : {L : Type 0} (p : Process L) (h : List (Entry L)) → next_action p h ≡ None → has_ended h ≡ true
 none-ended p h e = by-test (has_ended h) (next_by p (closing p h) h) e where
   by-test : (t : Bool) (a : Action) → unless_ended t a ≡ None → t ≡ true
   by-test true a e = refl
@@ -181,35 +186,35 @@ working-waits p (Some (TakePage c)) m b side visit can e = absurd cc
 working-waits p (Some (Load file)) m b side visit can e = absurd cc
 working-waits p other m b side visit can e = begins-waits p m b side visit e
 
-closes-waits : (p : ℕ) (Is : ℕ → Type 0) (h : List Entry) (a : Action) (b : ℕ) (side : Side) (visit : Visit) → CanWait visit → Closes Is h a → call p a ≡ At b side visit → ⊥
+closes-waits : {L : Type 0} (p : ℕ) (Is : ℕ → Type 0) (h : List (Entry L)) (a : Action) (b : ℕ) (side : Side) (visit : Visit) → CanWait visit → Closes Is h a → call p a ≡ At b side visit → ⊥
 closes-waits p Is h (Stop c) b side visit can is e = (let same : Stops ≡ visit = cc in subst CanWait (sym same) can)
 closes-waits p Is h (Ended how) b side visit can is e = cc
 closes-waits p Is h Release b side visit can is e = cc
 closes-waits p Is h other b side visit can is e = is
 
-free-closing : (p : Process) (cause : Option Outcome) (m : Aim) → closing_by p cause m ≡ None → cause ≡ None
+free-closing : {L : Type 0} (p : Process L) (cause : Option Outcome) (m : Aim) → closing_by p cause m ≡ None → cause ≡ None
 free-closing p None m e = refl
 free-closing p (Some how) m e = absurd cc
 
-module _ (kit : Kit) where
-  pub ended-as : (p : ℕ) (h : List Entry) → law.Follows (twin kit) p h → has_ended h ≡ true → EndedAs (process kit p) h
+module _ {L : Type 0} (J : Jobs L) where
+  pub ended-as : (p : ℕ) (h : List (Entry L)) → law.Follows (twin J) p h → has_ended h ≡ true → EndedAs (process J p) h
   ended-as p [] follows e = absurd cc
   ended-as p (Does x r ∷ h) follows e =
-      let P : Bool → Type 0 = λ t. has_ended h ≡ t → EndedAs (process kit p) (Does x r ∷ h) in
+      let P : Bool → Type 0 = λ t. has_ended h ≡ t → EndedAs (process J p) (Does x r ∷ h) in
       elim (has_ended h) as P [
-        | true ↦ (λ before. absurd (not-after (process kit p) h x before follows.0))
+        | true ↦ (λ before. absurd (not-after (process J p) h x before follows.0))
         | false ↦ (λ before.
-            let c = closing (process kit p) h in
-            let next = (unless-some (has_ended h) (next_by (process kit p) c h) x follows.0).1 in
-            ended-here (process kit p) x r h c refl follows.1 next (end-here (is_end x) (has_ended h) before e))
+            let c = closing (process J p) h in
+            let next = (unless-some (has_ended h) (next_by (process J p) c h) x follows.0).1 in
+            ended-here (process J p) x r h c refl follows.1.0 next (end-here (is_end x) (has_ended h) before e))
       ] refl
-  ended-as p (LacksMemory x r ∷ h) follows e = absurd (not-after (process kit p) h x e follows.0)
-  ended-as p (Delays x ∷ h) follows e = absurd (not-after (process kit p) h x e follows.0)
+  ended-as p (LacksMemory x r ∷ h) follows e = absurd (not-after (process J p) h x e follows.0)
+  ended-as p (Delays x ∷ h) follows e = absurd (not-after (process J p) h x e follows.0)
 
-  pub made : (p b : ℕ) (h : List Entry) → has_stopped b h ≡ true → made_stop b (side_at p b) (acts (twin kit) p h) ≡ true
+  pub made : (p b : ℕ) (h : List (Entry L)) → has_stopped b h ≡ true → made_stop b (side_at p b) (acts (twin J) p h) ≡ true
   made p b [] e = absurd cc
   made p b (Does a r ∷ h) e =
-      elim (or-either (stops_at b a) (has_stopped b h) e) as (λ _. (go.stops_at b (side_at p b) (call p a) || made_stop b (side_at p b) (acts (twin kit) p h)) ≡ true) [
+      elim (or-either (stops_at b a) (has_stopped b h) e) as (λ _. (go.stops_at b (side_at p b) (call p a) || made_stop b (side_at p b) (acts (twin J) p h)) ≡ true) [
         | inl now ↦ or-front _ _ (made-here p b a now)
         | inr old ↦ or-here (go.stops_at b (side_at p b) (call p a)) _ (made p b h old)
       ]
@@ -217,16 +222,16 @@ module _ (kit : Kit) where
   made p b (Delays a ∷ h) e = or-here (go.stops_at b (side_at p b) (call p a)) _ (made p b h e)
 
   -- who waits has no cause, and waits where it aims
-  pub record Waits (p : ℕ) (h : List Entry) (b : ℕ) (side : Side) : Type 0 where
-    pub free : caused (process kit p) h ≡ None
-    pub aims : AimsAt (aim (process kit p) h) b side
+  pub record Waits (p : ℕ) (h : List (Entry L)) (b : ℕ) (side : Side) : Type 0 where
+    pub free : caused (process J p) h ≡ None
+    pub aims : AimsAt (aim (process J p) h) b side
 
-  pub waits-by : (p : ℕ) (h : List Entry) (a : Action) (b : ℕ) (side : Side) (visit : Visit) → IsOne (twin kit) p → CanWait visit
-      → next_action (process kit p) h ≡ Some a → call p a ≡ At b side visit → Waits p h b side
-  waits-by p h a b side visit one can next e = by-closing (closing (process kit p) h) refl (next-shape kit p h a one next) where
-    by-closing : (c : Option Closing) → closing (process kit p) h ≡ c → Shape kit p h c a → Waits p h b side
+  pub waits-by : (p : ℕ) (h : List (Entry L)) (a : Action) (b : ℕ) (side : Side) (visit : Visit) → IsOne (twin J) p → CanWait visit
+      → next_action (process J p) h ≡ Some a → call p a ≡ At b side visit → Waits p h b side
+  waits-by p h a b side visit one can next e = by-closing (closing (process J p) h) refl (next-shape J p h a one next) where
+    by-closing : (c : Option Closing) → closing (process J p) h ≡ c → Shape J p h c a → Waits p h b side
     by-closing None is shape = record {
-      free = free-closing (process kit p) (caused (process kit p) h) (aim (process kit p) h) is;
-      aims = working-waits p (newest h) (aim (process kit p) h) b side visit can (ap (call p) (sym shape.0) ∙ e);
+      free = free-closing (process J p) (caused (process J p) h) (aim (process J p) h) is;
+      aims = working-waits p (newest h) (aim (process J p) h) b side visit can (ap (call p) (sym shape.0) ∙ e);
     }
-    by-closing (Some c) is shape = absurd (closes-waits p (SeatedAt kit p) h a b side visit can shape e)
+    by-closing (Some c) is shape = absurd (closes-waits p (SeatedAt J p) h a b side visit can shape e)

@@ -4,9 +4,6 @@ use Rattle.std.proofs.Common.{◌≡◌, ◌⊎◌, inl, inr, ℕ, zero, suc, �
 use Rattle.std.proofs.lemmas.List.{append_assoc, append-nil}
 use Rattle.std.proofs.lemmas.Bool.{eqb-true}
 use Rattle.std.proofs.lemmas.Bool.Decides.{eqb_tells}
-use Rattle.solo_base.specs.declared.outcome.Side.{Side}
-use Rattle.solo_base.specs.declared.outcome.Side.TheVariants.{Sender, Receiver}
-use Rattle.solo_base.specs.declared.outcome.Outcome.{Outcome}
 use Rattle.queue_var.specs.Sides.{same_side}
 use Rattle.network_law.specs.Acts.{Call, Alone, At, Asks, Gives, Visit, Went, Delayed, Told, Moved, moved, moved_by, if_at}
 use Rattle.network_law.specs.Acts as go
@@ -14,196 +11,229 @@ use Rattle.network_law.specs.Network.{IsOne, acts}
 use Rattle.network_law.specs.Network as law
 use Rattle.network_law.specs.Kept.{IsTold, Stands, passed}
 use Rattle.network_law.specs.Processes.{CallsNext}
-use Rattle.twin_law.specs.Units.{Kit}
-use Rattle.twin_law.specs.Process.{Parcel, Action, ReadCard, PutFeed, TakeFeed, AwaitRoom, AwaitItem, Request, PutPage, TakePage, Load, Release, Local, Print, Stop, Ended, Reply, Done, Stopped, Failed, NoMemory, OfCard, Gave, Entry, Does, LacksMemory, Delays, action_of, Process, Reads, place, aim, caused, closing_by, closing, Closing, next_action}
-use Rattle.twin_law.specs.Places.{Twin, A, B, InputPlace, JobPlace, OutputPlace, PrinterPlace, input_aims, job_aims, output_aims, printer_aims, input, job, output, printer, process}
-use Rattle.twin_law.specs.Places as at
-use Rattle.twin_law.specs.Twin.{twin, call, seat, went, went_by, Fits, Suits, MayLack, TwinState}
-use Rattle.twin_law.specs.Alone.{Put, alone, put_at, puts, puts_by, before_entry, before_all, steps_more}
+use Rattle.solo_base.specs.declared.outcome.Side.{Side}
+use Rattle.solo_base.specs.declared.outcome.Side.TheVariants.{Sender, Receiver}
+use Rattle.solo_base.specs.declared.outcome.Outcome.{Outcome}
+use Rattle.solo_base.specs.Prefixes.{IsPrefixOf}
+use Rattle.page_codec.specs.Packing.{fits}
+use Rattle.batch_procs.specs.declared.actions.Reply.{Reply}
+use Rattle.batch_procs.specs.Jobs.{Jobs, FilesAs}
+use Rattle.batch_procs.specs.Parcels.{Parcel, OfFeed, OfPage, OfLine, mark}
+use Rattle.place_law.specs.Process.{Does, LacksMemory, Delays, action_of}
+use Rattle.batch_procs.specs.declared.actions.Reply.TheVariants as reply
+use Rattle.twin_law.specs.Process.{Action, ReadCard, PutFeed, TakeFeed, AwaitRoom, AwaitItem, Request, PutPage, TakePage, Load, Release, Local, Print, Stop, Ended, Entry, Reads, place, aim, caused, closing_by, next_action}
+use Rattle.twin_law.specs.Sides.{Twin, A, B}
+use Rattle.twin_law.specs.Ends.{PrinterPlace, TakesLine, PrintsLine, HasPrinted, printer_aims, printer_behind, printer}
+use Rattle.twin_law.specs.Input.{InputPlace, Takes, PutsFull, PutsLast, PutsEmptyA, PutsEmptyB, HasDealt, input_aims, input_behind, input}
+use Rattle.twin_law.specs.Job.{JobPlace, TakesItems, LoadsFile, Toils, PutsLines, PutsLastLines, HasWorked, job_aims, job_behind, job}
+use Rattle.twin_law.specs.Output.{OutputPlace, TakesLines, PutsLine, PutsOver, HasGathered, output_aims, output_behind, output}
+use Rattle.twin_law.specs.Table.{process}
+use Rattle.twin_law.specs.Twin.{seat, call, went_by, went, Fits, MayLack, twin, TwinState}
+use Rattle.twin_law.specs.Alone.{Put, alone, put_at, AreLoadedSo, puts_by, puts, before_entry, before_all, steps_more}
 use Rattle.twin_law.proofs.Lawful.{Shape, Closes, SeatedAt, next-shape, lawful, or-none, not-lacking}
-use Rattle.twin_law.proofs.Counts.{IsAround, made-closes, none-delayed}
+use Rattle.twin_law.proofs.Marks.{IsAround, made-closes, none-delayed}
 use Rattle.twin_law.proofs.Tells.{Same, IsBad, IsQuiet, alone-same, tells}
-use Rattle.twin_law.proofs.Gathers.{IsPrefixOf}
 
--- ---- the four that take and put
-input-stays : (kit : Kit) (x : InputPlace) (r : Reply) → IsBad (input kit) r → at.input_behind kit x r ≡ x
-input-stays kit (at.Takes side inside hand) Stopped is = refl
-input-stays kit (at.Takes side inside hand) Failed is = refl
-input-stays kit (at.Takes side inside hand) NoMemory is = refl
-input-stays kit (at.PutsFull side inside full hand) Stopped is = refl
-input-stays kit (at.PutsFull side inside full hand) Failed is = refl
-input-stays kit (at.PutsFull side inside full hand) NoMemory is = refl
-input-stays kit (at.PutsLast side last opener) Stopped is = refl
-input-stays kit (at.PutsLast side last opener) Failed is = refl
-input-stays kit (at.PutsLast side last opener) NoMemory is = refl
-input-stays kit (at.PutsEmptyA side) Stopped is = refl
-input-stays kit (at.PutsEmptyA side) Failed is = refl
-input-stays kit (at.PutsEmptyA side) NoMemory is = refl
-input-stays kit (at.PutsEmptyB side) Stopped is = refl
-input-stays kit (at.PutsEmptyB side) Failed is = refl
-input-stays kit (at.PutsEmptyB side) NoMemory is = refl
-input-stays kit at.HasDealt r is = refl
-input-stays kit x r is = absurd is
+-- ---- the four that take and put, and the one that takes and prints
+input-stays : {L : Type 0} (x : InputPlace) (r : Reply L) → IsBad r → input_behind x r ≡ x
+input-stays (Takes side inside hand) reply.Stopped is = refl
+input-stays (Takes side inside hand) reply.Failed is = refl
+input-stays (Takes side inside hand) reply.NoMemory is = refl
+input-stays (PutsFull side inside page hand) reply.Stopped is = refl
+input-stays (PutsFull side inside page hand) reply.Failed is = refl
+input-stays (PutsFull side inside page hand) reply.NoMemory is = refl
+input-stays (PutsLast side page opener) reply.Stopped is = refl
+input-stays (PutsLast side page opener) reply.Failed is = refl
+input-stays (PutsLast side page opener) reply.NoMemory is = refl
+input-stays (PutsEmptyA side) reply.Stopped is = refl
+input-stays (PutsEmptyA side) reply.Failed is = refl
+input-stays (PutsEmptyA side) reply.NoMemory is = refl
+input-stays (PutsEmptyB side) reply.Stopped is = refl
+input-stays (PutsEmptyB side) reply.Failed is = refl
+input-stays (PutsEmptyB side) reply.NoMemory is = refl
+input-stays HasDealt r is = refl
+input-stays x r is = absurd is
 
-job-stays : (kit : Kit) (side : Twin) (x : JobPlace) (r : Reply) → IsBad (job kit side) r → at.job_behind kit x r ≡ x
-job-stays kit side (at.TakesItems s) Stopped is = refl
-job-stays kit side (at.TakesItems s) Failed is = refl
-job-stays kit side (at.TakesItems s) NoMemory is = refl
-job-stays kit side (at.LoadsFile file later s last) Stopped is = refl
-job-stays kit side (at.LoadsFile file later s last) Failed is = refl
-job-stays kit side (at.LoadsFile file later s last) NoMemory is = refl
-job-stays kit side (at.Toils s last) Stopped is = refl
-job-stays kit side (at.Toils s last) Failed is = refl
-job-stays kit side (at.Toils s last) NoMemory is = refl
-job-stays kit side (at.PutsLines first later s last) Stopped is = refl
-job-stays kit side (at.PutsLines first later s last) Failed is = refl
-job-stays kit side (at.PutsLines first later s last) NoMemory is = refl
-job-stays kit side at.HasWorked r is = refl
-job-stays kit side x r is = absurd is
+job-stays : {L : Type 0} (J : Jobs L) (x : JobPlace L) (r : Reply L) → IsBad r → job_behind J x r ≡ x
+job-stays J (TakesItems s) reply.Stopped is = refl
+job-stays J (TakesItems s) reply.Failed is = refl
+job-stays J (TakesItems s) reply.NoMemory is = refl
+job-stays J (LoadsFile file s last) reply.Stopped is = refl
+job-stays J (LoadsFile file s last) reply.Failed is = refl
+job-stays J (LoadsFile file s last) reply.NoMemory is = refl
+job-stays J (Toils s last) reply.Stopped is = refl
+job-stays J (Toils s last) reply.Failed is = refl
+job-stays J (Toils s last) reply.NoMemory is = refl
+job-stays J (PutsLines page s last) reply.Stopped is = refl
+job-stays J (PutsLines page s last) reply.Failed is = refl
+job-stays J (PutsLines page s last) reply.NoMemory is = refl
+job-stays J (PutsLastLines page some) reply.Stopped is = refl
+job-stays J (PutsLastLines page some) reply.Failed is = refl
+job-stays J (PutsLastLines page some) reply.NoMemory is = refl
+job-stays J HasWorked r is = refl
+job-stays J x r is = absurd is
 
-output-stays : (x : OutputPlace) (r : Reply) → IsBad output r → at.output_behind x r ≡ x
-output-stays (at.TakesLines t) Stopped is = refl
-output-stays (at.TakesLines t) Failed is = refl
-output-stays (at.TakesLines t) NoMemory is = refl
-output-stays (at.PutsLine line later t over) Stopped is = refl
-output-stays (at.PutsLine line later t over) Failed is = refl
-output-stays (at.PutsLine line later t over) NoMemory is = refl
-output-stays at.PutsOver Stopped is = refl
-output-stays at.PutsOver Failed is = refl
-output-stays at.PutsOver NoMemory is = refl
-output-stays at.HasGathered r is = refl
+output-stays : {L : Type 0} (x : OutputPlace) (r : Reply L) → IsBad r → output_behind x r ≡ x
+output-stays (TakesLines t) reply.Stopped is = refl
+output-stays (TakesLines t) reply.Failed is = refl
+output-stays (TakesLines t) reply.NoMemory is = refl
+output-stays (PutsLine line later t over) reply.Stopped is = refl
+output-stays (PutsLine line later t over) reply.Failed is = refl
+output-stays (PutsLine line later t over) reply.NoMemory is = refl
+output-stays PutsOver reply.Stopped is = refl
+output-stays PutsOver reply.Failed is = refl
+output-stays PutsOver reply.NoMemory is = refl
+output-stays HasGathered r is = refl
 output-stays x r is = absurd is
 
-input-reads : (x : InputPlace) → input_aims x ≡ Reads → ⊥
-input-reads (at.Takes side inside hand) e = cc
-input-reads (at.PutsFull side inside full hand) e = cc
-input-reads (at.PutsLast side last opener) e = cc
-input-reads (at.PutsEmptyA side) e = cc
-input-reads (at.PutsEmptyB side) e = cc
-input-reads at.HasDealt e = cc
+printer-stays : {L : Type 0} (x : PrinterPlace) (r : Reply L) → IsBad r → printer_behind x r ≡ x
+printer-stays TakesLine reply.Stopped is = refl
+printer-stays TakesLine reply.Failed is = refl
+printer-stays TakesLine reply.NoMemory is = refl
+printer-stays (PrintsLine line) reply.Stopped is = refl
+printer-stays (PrintsLine line) reply.Failed is = refl
+printer-stays (PrintsLine line) reply.NoMemory is = refl
+printer-stays HasPrinted r is = refl
+printer-stays x r is = absurd is
 
-job-reads : (side : Twin) (x : JobPlace) → job_aims side x ≡ Reads → ⊥
-job-reads side (at.TakesItems s) e = cc
-job-reads side (at.LoadsFile file later s last) e = cc
-job-reads side (at.Toils s last) e = cc
-job-reads side (at.PutsLines first later s last) e = cc
-job-reads side at.HasWorked e = cc
+printer-reads : (x : PrinterPlace) → printer_aims x ≡ Reads → ⊥
+printer-reads TakesLine e = cc
+printer-reads (PrintsLine line) e = cc
+printer-reads HasPrinted e = cc
+
+input-reads : (x : InputPlace) → input_aims x ≡ Reads → ⊥
+input-reads (Takes side inside hand) e = cc
+input-reads (PutsFull side inside full hand) e = cc
+input-reads (PutsLast side last opener) e = cc
+input-reads (PutsEmptyA side) e = cc
+input-reads (PutsEmptyB side) e = cc
+input-reads HasDealt e = cc
+
+job-reads : {L : Type 0} (side : Twin) (x : JobPlace L) → job_aims side x ≡ Reads → ⊥
+job-reads side (TakesItems s) e = cc
+job-reads side (LoadsFile file s last) e = cc
+job-reads side (Toils s last) e = cc
+job-reads side (PutsLines page s last) e = cc
+job-reads side (PutsLastLines page some) e = cc
+job-reads side HasWorked e = cc
 
 output-reads : (x : OutputPlace) → output_aims x ≡ Reads → ⊥
-output-reads (at.TakesLines t) e = cc
-output-reads (at.PutsLine line later t over) e = cc
-output-reads at.PutsOver e = cc
-output-reads at.HasGathered e = cc
+output-reads (TakesLines t) e = cc
+output-reads (PutsLine line later t over) e = cc
+output-reads PutsOver e = cc
+output-reads HasGathered e = cc
 
-pub input-quiet : (kit : Kit) → IsQuiet (input kit)
-input-quiet kit = record { reads_not = input-reads; stays = input-stays kit }
+pub input-quiet : {L : Type 0} → IsQuiet (input {L = L})
+input-quiet = record { reads_not = input-reads; stays = input-stays }
 
-pub job-quiet : (kit : Kit) (side : Twin) → IsQuiet (job kit side)
-job-quiet kit side = record { reads_not = job-reads side; stays = job-stays kit side }
+pub job-quiet : {L : Type 0} (J : Jobs L) (side : Twin) → IsQuiet (job J side)
+job-quiet J side = record { reads_not = job-reads side; stays = job-stays J }
 
-pub output-quiet : IsQuiet output
+pub output-quiet : {L : Type 0} → IsQuiet (output {L = L})
 output-quiet = record { reads_not = output-reads; stays = output-stays }
 
+pub printer-quiet : {L : Type 0} → IsQuiet (printer {L = L})
+printer-quiet = record { reads_not = printer-reads; stays = printer-stays }
+
 -- ---- what was put, as the acts tell it
-if-put : (t : Bool) (x : Parcel) → (if t then x ∷ [] else []) ++ [] ≡ if_at (t && true) x
+if-put : {L : Type 0} (t : Bool) (x : Parcel L) → (if t then x ∷ [] else []) ++ [] ≡ if_at (t && true) x
 if-put true x = refl
 if-put false x = refl
 
-pub put-append : (b : ℕ) (some more : List Put) → put_at b (some ++ more) ≡ put_at b some ++ put_at b more
+pub put-append : {L : Type 0} (b : ℕ) (some more : List (Put L)) → put_at b (some ++ more) ≡ put_at b some ++ put_at b more
 put-append b [] more = refl
 put-append b (put ∷ some) more =
     ap (λ rest. (if b == put.at then put.parcel ∷ [] else []) ++ rest) (put-append b some more)
     ∙ sym (append_assoc (if b == put.at then put.parcel ∷ [] else []) (put_at b some) (put_at b more))
 
-and-not : (t : Bool) (x : Parcel) → [] ≡ if_at (t && false) x
+and-not : {L : Type 0} (t : Bool) (x : Parcel L) → [] ≡ if_at (t && false) x
 and-not true x = refl
 and-not false x = refl
 
-put-now : (p b : ℕ) (a : Action) (r : Reply) → (b == 0) ≡ false → Fits a r → put_at b (puts_by a r) ≡ moved_by b Sender (call p a) (went_by a r)
-put-now p b (PutFeed c f) Done some fits = if-put (b == c) f
-put-now p b (PutFeed c f) Stopped some fits = refl
-put-now p b (PutPage c page) Done some fits = if-put (b == c) page
-put-now p b (PutPage c page) Failed some fits = refl
-put-now p b (Print line) Done some fits = ap (λ t. (if t then at.item_feed line ∷ [] else []) ++ []) some
-put-now p b (Print line) Failed some fits = refl
-put-now p b (Print line) NoMemory some fits = refl
-put-now p b (TakeFeed c) (Gave x) some fits = and-not (b == c) x
-put-now p b (TakeFeed c) Stopped some fits = refl
-put-now p b (TakePage c) (Gave x) some fits = and-not (b == c) x
-put-now p b (TakePage c) Failed some fits = refl
-put-now p b ReadCard (OfCard answer) some fits = refl
-put-now p b (AwaitRoom c) Done some fits = refl
-put-now p b (AwaitRoom c) Stopped some fits = refl
-put-now p b (AwaitItem c) Done some fits = refl
-put-now p b (AwaitItem c) Stopped some fits = refl
-put-now p b Request Done some fits = refl
-put-now p b Release Done some fits = refl
-put-now p b (Load file) Done some fits = refl
-put-now p b (Load file) Failed some fits = refl
-put-now p b (Load file) NoMemory some fits = refl
-put-now p b Local Done some fits = refl
-put-now p b Local NoMemory some fits = refl
-put-now p b (Stop c) Done some fits = refl
-put-now p b (Ended how) Done some fits = refl
+put-now : {L : Type 0} (p b : ℕ) (a : Action) (r : Reply L) → (b == 0) ≡ false → Fits a r → put_at b (puts_by a r) ≡ moved_by b Sender (call p a) (went_by a r)
+put-now p b (PutFeed c f) reply.Done some fits = if-put (b == c) (OfFeed f)
+put-now p b (PutFeed c f) reply.Stopped some fits = refl
+put-now p b (PutPage c page) reply.Done some fits = if-put (b == c) (OfPage page (mark page))
+put-now p b (PutPage c page) reply.Failed some fits = refl
+put-now p b (Print line) reply.Done some fits = ap (λ t. (if t then OfLine line ∷ [] else []) ++ []) some
+put-now p b (Print line) reply.Failed some fits = refl
+put-now p b (Print line) reply.NoMemory some fits = refl
+put-now p b (TakeFeed c) (reply.Feed f) some fits = and-not (b == c) (OfFeed f)
+put-now p b (TakeFeed c) reply.Stopped some fits = refl
+put-now p b (TakePage c) (reply.Page page last) some fits = and-not (b == c) (OfPage page last)
+put-now p b (TakePage c) reply.Failed some fits = refl
+put-now p b ReadCard (reply.Card answer) some fits = refl
+put-now p b (AwaitRoom c) reply.Done some fits = refl
+put-now p b (AwaitRoom c) reply.Stopped some fits = refl
+put-now p b (AwaitItem c) reply.Done some fits = refl
+put-now p b (AwaitItem c) reply.Stopped some fits = refl
+put-now p b Request reply.Done some fits = refl
+put-now p b Release reply.Done some fits = refl
+put-now p b (Load file) (reply.Loaded load) some fits = refl
+put-now p b (Load file) reply.Failed some fits = refl
+put-now p b (Load file) reply.NoMemory some fits = refl
+put-now p b Local reply.Done some fits = refl
+put-now p b (Stop c) reply.Done some fits = refl
+put-now p b (Ended how) reply.Done some fits = refl
 put-now p b a r some fits = absurd fits
 
-put-lacking : (p b : ℕ) (a : Action) (r : Reply) → MayLack a r → [] ≡ moved_by b Sender (call p a) (went_by a r)
-put-lacking p b (TakePage c) (Gave x) may = and-not (b == c) x
+put-lacking : {L : Type 0} (p b : ℕ) (a : Action) (r : Reply L) → MayLack a r → [] ≡ moved_by b Sender (call p a) (went_by a r)
+put-lacking p b (TakePage c) (reply.Page page last) may = and-not (b == c) (OfPage page last)
+put-lacking p b Local reply.Done may = refl
 put-lacking p b a r may = absurd may
 
-abbrev seen_by : ℕ → Action → Reply → List Parcel
-seen_by b (TakeFeed c) (Gave x) = if b == c then x ∷ [] else []
-seen_by b (TakePage c) (Gave x) = if b == c then x ∷ [] else []
+abbrev seen_by : {L : Type 0} → ℕ → Action → Reply L → List (Parcel L)
+seen_by b (TakeFeed c) (reply.Feed f) = if b == c then OfFeed f ∷ [] else []
+seen_by b (TakePage c) (reply.Page page last) = if b == c then OfPage page last ∷ [] else []
 seen_by b action reply = []
 
-abbrev seen : ℕ → List Entry → List Parcel
+abbrev seen : {L : Type 0} → ℕ → List (Entry L) → List (Parcel L)
 seen b [] = []
 seen b (Does action reply ∷ before) = seen b before ++ seen_by b action reply
 seen b (LacksMemory action reply ∷ before) = seen b before
 seen b (Delays action ∷ before) = seen b before
 
-if-ahead : (t : Bool) (x : Parcel) (ahead : List Parcel) → (if t then x ∷ ahead else ahead) ≡ (if t then x ∷ [] else []) ++ ahead
+if-ahead : {L : Type 0} (t : Bool) (x : Parcel L) (ahead : List (Parcel L)) → (if t then x ∷ ahead else ahead) ≡ (if t then x ∷ [] else []) ++ ahead
 if-ahead true x ahead = refl
 if-ahead false x ahead = refl
 
-entry-seen : (b : ℕ) (a : Action) (r : Reply) (ahead : ℕ → List Parcel) → Fits a r → before_entry a r ahead b ≡ seen_by b a r ++ ahead b
-entry-seen b (TakeFeed c) (Gave x) ahead fits = if-ahead (b == c) x (ahead b)
-entry-seen b (TakePage c) (Gave x) ahead fits = if-ahead (b == c) x (ahead b)
+entry-seen : {L : Type 0} (b : ℕ) (a : Action) (r : Reply L) (ahead : ℕ → List (Parcel L)) → Fits a r → before_entry a r ahead b ≡ seen_by b a r ++ ahead b
+entry-seen b (TakeFeed c) (reply.Feed f) ahead fits = if-ahead (b == c) (OfFeed f) (ahead b)
+entry-seen b (TakePage c) (reply.Page page last) ahead fits = if-ahead (b == c) (OfPage page last) (ahead b)
 entry-seen b a r ahead fits = refl
 
-if-got : (t : Bool) (x : Parcel) → (if t then x ∷ [] else []) ≡ if_at (t && true) x
+if-got : {L : Type 0} (t : Bool) (x : Parcel L) → (if t then x ∷ [] else []) ≡ if_at (t && true) x
 if-got true x = refl
 if-got false x = refl
 
-seen-now : (p b : ℕ) (a : Action) (r : Reply) → Fits a r → seen_by b a r ≡ moved_by b Receiver (call p a) (went_by a r)
-seen-now p b (TakeFeed c) (Gave x) fits = if-got (b == c) x
-seen-now p b (TakePage c) (Gave x) fits = if-got (b == c) x
-seen-now p b (TakeFeed c) Stopped fits = refl
-seen-now p b (TakePage c) Failed fits = refl
-seen-now p b (PutFeed c x) Done fits = and-not (b == c) x
-seen-now p b (PutFeed c x) Stopped fits = refl
-seen-now p b (PutPage c x) Done fits = and-not (b == c) x
-seen-now p b (PutPage c x) Failed fits = refl
-seen-now p b (Print line) Done fits = refl
-seen-now p b (Print line) Failed fits = refl
-seen-now p b (Print line) NoMemory fits = refl
-seen-now p b ReadCard (OfCard answer) fits = refl
-seen-now p b (AwaitRoom c) Done fits = refl
-seen-now p b (AwaitRoom c) Stopped fits = refl
-seen-now p b (AwaitItem c) Done fits = refl
-seen-now p b (AwaitItem c) Stopped fits = refl
-seen-now p b Request Done fits = refl
-seen-now p b Release Done fits = refl
-seen-now p b (Load file) Done fits = refl
-seen-now p b (Load file) Failed fits = refl
-seen-now p b (Load file) NoMemory fits = refl
-seen-now p b Local Done fits = refl
-seen-now p b Local NoMemory fits = refl
-seen-now p b (Stop c) Done fits = refl
-seen-now p b (Ended how) Done fits = refl
+seen-now : {L : Type 0} (p b : ℕ) (a : Action) (r : Reply L) → Fits a r → seen_by b a r ≡ moved_by b Receiver (call p a) (went_by a r)
+seen-now p b (TakeFeed c) (reply.Feed f) fits = if-got (b == c) (OfFeed f)
+seen-now p b (TakePage c) (reply.Page page last) fits = if-got (b == c) (OfPage page last)
+seen-now p b (TakeFeed c) reply.Stopped fits = refl
+seen-now p b (TakePage c) reply.Failed fits = refl
+seen-now p b (PutFeed c f) reply.Done fits = and-not (b == c) (OfFeed f)
+seen-now p b (PutFeed c f) reply.Stopped fits = refl
+seen-now p b (PutPage c page) reply.Done fits = and-not (b == c) (OfPage page (mark page))
+seen-now p b (PutPage c page) reply.Failed fits = refl
+seen-now p b (Print line) reply.Done fits = refl
+seen-now p b (Print line) reply.Failed fits = refl
+seen-now p b (Print line) reply.NoMemory fits = refl
+seen-now p b ReadCard (reply.Card answer) fits = refl
+seen-now p b (AwaitRoom c) reply.Done fits = refl
+seen-now p b (AwaitRoom c) reply.Stopped fits = refl
+seen-now p b (AwaitItem c) reply.Done fits = refl
+seen-now p b (AwaitItem c) reply.Stopped fits = refl
+seen-now p b Request reply.Done fits = refl
+seen-now p b Release reply.Done fits = refl
+seen-now p b (Load file) (reply.Loaded load) fits = refl
+seen-now p b (Load file) reply.Failed fits = refl
+seen-now p b (Load file) reply.NoMemory fits = refl
+seen-now p b Local reply.Done fits = refl
+seen-now p b (Stop c) reply.Done fits = refl
+seen-now p b (Ended how) reply.Done fits = refl
 seen-now p b a r fits = absurd fits
 
-around-unseen : (b : ℕ) (a : Action) (r : Reply) → IsAround a → seen_by b a r ≡ []
+around-unseen : {L : Type 0} (b : ℕ) (a : Action) (r : Reply L) → IsAround a → seen_by b a r ≡ []
 around-unseen b (AwaitRoom c) r is = refl
 around-unseen b (AwaitItem c) r is = refl
 around-unseen b Request r is = refl
@@ -219,73 +249,73 @@ prefix-more a b c d (rest, e) none = (rest ++ d, ap (λ c. (a ++ c) ++ (rest ++ 
 pub prefix-trans : {T : Type 0} (a b c : List T) → IsPrefixOf a b → IsPrefixOf b c → IsPrefixOf a c
 prefix-trans a b c (r, e) (q, f) = (r ++ q, sym (append_assoc a r q) ∙ ap (λ b. b ++ q) e ∙ f)
 
-module _ (kit : Kit) (p : ℕ) (one : IsOne (twin kit) p) where
-  put-sent : (b : ℕ) (h : List Entry) → (b == 0) ≡ false → law.Follows (twin kit) p h → put_at b (puts h) ≡ moved b Sender (acts (twin kit) p h)
+module _ {L : Type 0} (J : Jobs L) (p : ℕ) (one : IsOne (twin J) p) where
+  put-sent : (b : ℕ) (h : List (Entry L)) → (b == 0) ≡ false → law.Follows (twin J) p h → put_at b (puts h) ≡ moved b Sender (acts (twin J) p h)
   put-sent b [] some follows = refl
   put-sent b (Does a r ∷ h) some follows =
-      put-append b (puts h) (puts_by a r) ∙ ap (λ now. put_at b (puts h) ++ now) (put-now p b a r some follows.1)
+      put-append b (puts h) (puts_by a r) ∙ ap (λ now. put_at b (puts h) ++ now) (put-now p b a r some follows.1.0)
       ∙ ap (λ old. old ++ moved_by b Sender (call p a) (went_by a r)) (put-sent b h some follows.2)
   put-sent b (LacksMemory a r ∷ h) some follows =
-      put-sent b h some follows.2 ∙ sym (append-nil (moved b Sender (acts (twin kit) p h)))
-      ∙ ap (λ now. moved b Sender (acts (twin kit) p h) ++ now) (put-lacking p b a r follows.1.1)
+      put-sent b h some follows.2 ∙ sym (append-nil (moved b Sender (acts (twin J) p h)))
+      ∙ ap (λ now. moved b Sender (acts (twin J) p h) ++ now) (put-lacking p b a r follows.1.1)
   put-sent b (Delays a ∷ h) some follows =
-      put-sent b h some follows.2 ∙ sym (append-nil (moved b Sender (acts (twin kit) p h)))
-      ∙ ap (λ now. moved b Sender (acts (twin kit) p h) ++ now) (sym (none-delayed b Sender (call p a)))
+      put-sent b h some follows.2 ∙ sym (append-nil (moved b Sender (acts (twin J) p h)))
+      ∙ ap (λ now. moved b Sender (acts (twin J) p h) ++ now) (sym (none-delayed b Sender (call p a)))
 
-  before-seen : (b : ℕ) (h : List Entry) (ahead : ℕ → List Parcel) → law.Follows (twin kit) p h → before_all h ahead b ≡ seen b h ++ ahead b
+  before-seen : (b : ℕ) (h : List (Entry L)) (ahead : ℕ → List (Parcel L)) → law.Follows (twin J) p h → before_all h ahead b ≡ seen b h ++ ahead b
   before-seen b [] ahead follows = refl
   before-seen b (Does a r ∷ h) ahead follows =
-      before-seen b h (before_entry a r ahead) follows.2 ∙ ap (λ now. seen b h ++ now) (entry-seen b a r ahead follows.1)
+      before-seen b h (before_entry a r ahead) follows.2 ∙ ap (λ now. seen b h ++ now) (entry-seen b a r ahead follows.1.0)
       ∙ sym (append_assoc (seen b h) (seen_by b a r) (ahead b))
   before-seen b (LacksMemory a r ∷ h) ahead follows = before-seen b h ahead follows.2
   before-seen b (Delays a ∷ h) ahead follows = before-seen b h ahead follows.2
 
   -- with a cause nothing more is taken
-  caused-around : (h : List Entry) (a : Action) (how : Outcome) → caused (process kit p) h ≡ Some how → next_action (process kit p) h ≡ Some a → IsAround a
+  caused-around : (h : List (Entry L)) (a : Action) (how : Outcome) → caused (process J p) h ≡ Some how → next_action (process J p) h ≡ Some a → IsAround a
   caused-around h a how some next =
-      made-closes (SeatedAt kit p) h a
-      (subst (λ cause. Shape kit p h (closing_by (process kit p) cause (aim (process kit p) h)) a) some (next-shape kit p h a one next))
+      made-closes (SeatedAt J p) h a
+      (subst (λ cause. Shape J p h (closing_by (process J p) cause (aim (process J p) h)) a) some (next-shape J p h a one next))
 
-  abbrev Tied : ℕ → List Entry → Type 0
-  Tied b h = (caused (process kit p) h ≡ None → seen b h ≡ moved b Receiver (acts (twin kit) p h)) × IsPrefixOf (seen b h) (moved b Receiver (acts (twin kit) p h))
+  abbrev Tied : ℕ → List (Entry L) → Type 0
+  Tied b h = (caused (process J p) h ≡ None → seen b h ≡ moved b Receiver (acts (twin J) p h)) × IsPrefixOf (seen b h) (moved b Receiver (acts (twin J) p h))
 
-  tied : (b : ℕ) (h : List Entry) → law.Follows (twin kit) p h → Tied b h
+  tied : (b : ℕ) (h : List (Entry L)) → law.Follows (twin J) p h → Tied b h
   tied b [] follows = ((λ none. refl), ([], refl))
-  tied b (Does a r ∷ h) follows = by-cause (caused (process kit p) h) refl (tied b h follows.2) where
-    by-cause : (cause : Option Outcome) → caused (process kit p) h ≡ cause → Tied b h → Tied b (Does a r ∷ h)
+  tied b (Does a r ∷ h) follows = by-cause (caused (process J p) h) refl (tied b h follows.2) where
+    by-cause : (cause : Option Outcome) → caused (process J p) h ≡ cause → Tied b h → Tied b (Does a r ∷ h)
     by-cause None is was =
-        let same : seen b (Does a r ∷ h) ≡ moved b Receiver (acts (twin kit) p (Does a r ∷ h)) =
-            ap (λ old. old ++ seen_by b a r) (was.0 is) ∙ ap (λ now. moved b Receiver (acts (twin kit) p h) ++ now) (seen-now p b a r follows.1) in
+        let same : seen b (Does a r ∷ h) ≡ moved b Receiver (acts (twin J) p (Does a r ∷ h)) =
+            ap (λ old. old ++ seen_by b a r) (was.0 is) ∙ ap (λ now. moved b Receiver (acts (twin J) p h) ++ now) (seen-now p b a r follows.1.0) in
         ((λ none. same), ([], append-nil (seen b (Does a r ∷ h)) ∙ same))
     by-cause (Some how) is was =
-        ((λ none. absurd (let old = or-none (caused (process kit p) h) _ none in let no = sym old ∙ is in cc)),
-        prefix-more (seen b h) (moved b Receiver (acts (twin kit) p h)) (seen_by b a r) (moved_by b Receiver (call p a) (went_by a r)) was.1
+        ((λ none. absurd (let old = or-none (caused (process J p) h) _ none in let no = sym old ∙ is in cc)),
+        prefix-more (seen b h) (moved b Receiver (acts (twin J) p h)) (seen_by b a r) (moved_by b Receiver (call p a) (went_by a r)) was.1
         (around-unseen b a r (caused-around h a how is follows.0)))
   tied b (LacksMemory a r ∷ h) follows =
       let was = tied b h follows.2 in
-      ((λ none. absurd (not-lacking (caused (process kit p) h) _ none)),
-      subst (λ ms. IsPrefixOf ms (moved b Receiver (acts (twin kit) p h) ++ moved_by b Receiver (call p a) (went_by a r))) (append-nil (seen b h))
-      (prefix-more (seen b h) (moved b Receiver (acts (twin kit) p h)) [] (moved_by b Receiver (call p a) (went_by a r)) was.1 refl))
+      ((λ none. absurd (not-lacking (caused (process J p) h) _ none)),
+      subst (λ ms. IsPrefixOf ms (moved b Receiver (acts (twin J) p h) ++ moved_by b Receiver (call p a) (went_by a r))) (append-nil (seen b h))
+      (prefix-more (seen b h) (moved b Receiver (acts (twin J) p h)) [] (moved_by b Receiver (call p a) (went_by a r)) was.1 refl))
   tied b (Delays a ∷ h) follows =
       let was = tied b h follows.2 in
-      let same : moved b Receiver (acts (twin kit) p h) ≡ moved b Receiver (acts (twin kit) p (Delays a ∷ h)) =
-          sym (append-nil (moved b Receiver (acts (twin kit) p h))) ∙ ap (λ now. moved b Receiver (acts (twin kit) p h) ++ now) (sym (none-delayed b Receiver (call p a))) in
+      let same : moved b Receiver (acts (twin J) p h) ≡ moved b Receiver (acts (twin J) p (Delays a ∷ h)) =
+          sym (append-nil (moved b Receiver (acts (twin J) p h))) ∙ ap (λ now. moved b Receiver (acts (twin J) p h) ++ now) (sym (none-delayed b Receiver (call p a))) in
       ((λ none. was.0 none ∙ same), subst (IsPrefixOf (seen b h)) same was.1)
 
   -- what it took is the first of these lists; then what it put is the first of what it puts alone for them
-  pub put-alone : (quiet : IsQuiet (process kit p)) (all : ℕ → List Parcel) (h : List Entry) → law.Follows (twin kit) p h
-      → ((b : ℕ) → IsPrefixOf (moved b Receiver (acts (twin kit) p h)) (all b)) → (c n : ℕ) → (c == 0) ≡ false
-      → IsPrefixOf (moved c Sender (acts (twin kit) p h)) (put_at c (alone (process kit p) (steps_more h n) (process kit p).start all))
-  put-alone quiet all h follows took c n some =
+  pub put-alone : (F : FilesAs L) (quiet : IsQuiet (process J p)) (all : ℕ → List (Parcel L)) (h : List (Entry L)) → law.Follows (twin J) p h → AreLoadedSo F h
+      → ((b : ℕ) → IsPrefixOf (moved b Receiver (acts (twin J) p h)) (all b)) → (c n : ℕ) → (c == 0) ≡ false
+      → IsPrefixOf (moved c Sender (acts (twin J) p h)) (put_at c (alone F (process J p) (steps_more h n) (process J p).start all))
+  put-alone F quiet all h follows so took c n some =
       let first : (b : ℕ) → IsPrefixOf (seen b h) (all b) =
-          λ b. prefix-trans (seen b h) (moved b Receiver (acts (twin kit) p h)) (all b) (tied b h follows).1 (took b) in
-      let ahead : ℕ → List Parcel = λ b. (first b).0 in
+          λ b. prefix-trans (seen b h) (moved b Receiver (acts (twin J) p h)) (all b) (tied b h follows).1 (took b) in
+      let ahead : ℕ → List (Parcel L) = λ b. (first b).0 in
       let same : Same (before_all h ahead) all = λ b. before-seen b h ahead follows ∙ (first b).1 in
-      let whole = tells kit p one quiet h n ahead follows
-          ∙ alone-same (process kit p) (steps_more h n) (process kit p).start (before_all h ahead) all same in
-      (put_at c (alone (process kit p) n (place (process kit p) h) ahead),
-      ap (λ ms. ms ++ put_at c (alone (process kit p) n (place (process kit p) h) ahead)) (sym (put-sent c h some follows))
-      ∙ sym (put-append c (puts h) (alone (process kit p) n (place (process kit p) h) ahead)) ∙ ap (put_at c) whole)
+      let whole = tells J F p one quiet h n ahead follows so
+          ∙ alone-same F (process J p) (steps_more h n) (process J p).start (before_all h ahead) all same in
+      (put_at c (alone F (process J p) n (place (process J p) h) ahead),
+      ap (λ ms. ms ++ put_at c (alone F (process J p) n (place (process J p) h) ahead)) (sym (put-sent c h some follows))
+      ∙ sym (put-append c (puts h) (alone F (process J p) n (place (process J p) h) ahead)) ∙ ap (put_at c) whole)
 
 -- ---- who doesn't sit at a side moves nothing there
 same-or : (side of : Side) → (same_side side of ≡ false) ⊎ (side ≡ of)
@@ -298,7 +328,7 @@ and-false : (t u : Bool) → u ≡ false → (t && u) ≡ false
 and-false true u e = e
 and-false false u e = refl
 
-moved-elsewhere : (b : ℕ) (side : Side) (c : Call) (w : Went Parcel) → ((visit : Visit) → c ≡ At b side visit → ⊥) → moved_by b side c w ≡ []
+moved-elsewhere : {L : Type 0} (b : ℕ) (side : Side) (c : Call) (w : Went (Parcel L)) → ((visit : Visit) → c ≡ At b side visit → ⊥) → moved_by b side c w ≡ []
 moved-elsewhere b side (At d of visit) (Moved x) not =
     elim (same-or side of) as (λ _. if_at ((b == d) && same_side side of) x ≡ []) [
       | inl apart ↦ ap (λ t. if_at t x) (and-false (b == d) (same_side side of) apart)
@@ -334,45 +364,46 @@ seat-of b P one two three four five six =
       ] refl)
     ] refl
 
-module _ (kit : Kit) (opening s : TwinState) (st : Stands (twin kit) opening s) (told : (b : ℕ) → IsTold (s.buffers b)) where
-  not-there : (p b : ℕ) (h : List Entry) → IsOne (twin kit) p → law.Follows (twin kit) p h → (seat b Receiver ≡ p → ⊥) → moved b Receiver (acts (twin kit) p h) ≡ []
+module _ {L : Type 0} (J : Jobs L) (opening s : TwinState L) (st : Stands (twin J) opening s) (told : (b : ℕ) → IsTold (s.buffers b)) (F : FilesAs L)
+    (so : (p : ℕ) → AreLoadedSo F (s.histories p)) where
+  not-there : (p b : ℕ) (h : List (Entry L)) → IsOne (twin J) p → law.Follows (twin J) p h → (seat b Receiver ≡ p → ⊥) → moved b Receiver (acts (twin J) p h) ≡ []
   not-there p b [] one follows not = refl
   not-there p b (entry ∷ h) one follows not =
       let old = not-there p b h one follows.2 not in
       let now : moved_by b Receiver (call p (action_of entry)) (went entry) ≡ [] =
-          moved-elsewhere b Receiver (call p (action_of entry)) (went entry) (λ visit e. not ((lawful kit).seated p h b Receiver visit one follows.2
+          moved-elsewhere b Receiver (call p (action_of entry)) (went entry) (λ visit e. not ((lawful J).seated p h b Receiver visit one follows.2
           record { action = action_of entry; next = follows.0; call = e })) in
       ap (λ ms. ms ++ moved_by b Receiver (call p (action_of entry)) (went entry)) old ∙ now
 
-  handed : (b : ℕ) → IsPrefixOf (passed (twin kit) s b Receiver) (passed (twin kit) s b Sender)
+  handed : (b : ℕ) → IsPrefixOf (passed (twin J) s b Receiver) (passed (twin J) s b Sender)
   handed b = (let (inside, is) = told b in (inside, (st.buffers.hand_over b).parcels inside is))
 
-  module _ (all : ℕ → List Parcel) where
+  module _ (all : ℕ → List (Parcel L)) where
     -- all that went into a buffer is the first of its list
     abbrev pub Within : ℕ → Type 0
-    Within b = IsPrefixOf (passed (twin kit) s b Sender) (all b)
+    Within b = IsPrefixOf (passed (twin J) s b Sender) (all b)
 
-    took : (p : ℕ) → IsOne (twin kit) p → ((b : ℕ) → seat b Receiver ≡ p → Within b) → (b : ℕ) → IsPrefixOf (moved b Receiver (acts (twin kit) p (s.histories p))) (all b)
+    took : (p : ℕ) → IsOne (twin J) p → ((b : ℕ) → seat b Receiver ≡ p → Within b) → (b : ℕ) → IsPrefixOf (moved b Receiver (acts (twin J) p (s.histories p))) (all b)
     took p one within b =
-        elim (eqb_tells (seat b Receiver) p) as (λ _. IsPrefixOf (moved b Receiver (acts (twin kit) p (s.histories p))) (all b)) [
-          | inl e ↦ prefix-trans (moved b Receiver (acts (twin kit) p (s.histories p))) (passed (twin kit) s b Sender) (all b)
-              (subst (λ p. IsPrefixOf (moved b Receiver (acts (twin kit) p (s.histories p))) (passed (twin kit) s b Sender)) e.1 (handed b)) (within b e.1)
+        elim (eqb_tells (seat b Receiver) p) as (λ _. IsPrefixOf (moved b Receiver (acts (twin J) p (s.histories p))) (all b)) [
+          | inl e ↦ prefix-trans (moved b Receiver (acts (twin J) p (s.histories p))) (passed (twin J) s b Sender) (all b)
+              (subst (λ p. IsPrefixOf (moved b Receiver (acts (twin J) p (s.histories p))) (passed (twin J) s b Sender)) e.1 (handed b)) (within b e.1)
           | inr e ↦ subst (λ ms. IsPrefixOf ms (all b)) (sym (not-there p b (s.histories p) one (st.follows p) e.1)) (all b, refl)
         ]
 
     -- what a process puts alone for these lists, in however many steps, is the first of them
     abbrev pub IsClosed : Type 0
-    IsClosed = (c n : ℕ) → 2 ≤ c → c ≤ 6 → IsPrefixOf (put_at c (alone (process kit (seat c Sender)) n (process kit (seat c Sender)).start all)) (all c)
+    IsClosed = (c n : ℕ) → 2 ≤ c → c ≤ 6 → IsPrefixOf (put_at c (alone F (process J (seat c Sender)) n (process J (seat c Sender)).start all)) (all c)
 
-    within-by : (p c : ℕ) → IsOne (twin kit) p → IsQuiet (process kit p) → seat c Sender ≡ p → (c == 0) ≡ false → 2 ≤ c → c ≤ 6 → IsClosed
+    within-by : (p c : ℕ) → IsOne (twin J) p → IsQuiet (process J p) → seat c Sender ≡ p → (c == 0) ≡ false → 2 ≤ c → c ≤ 6 → IsClosed
         → ((b : ℕ) → seat b Receiver ≡ p → Within b) → Within c
     within-by p c one quiet seated some low high closed within =
-        let first = put-alone kit p one quiet all (s.histories p) (st.follows p) (took p one within) c 0 some in
+        let first = put-alone J p one F quiet all (s.histories p) (st.follows p) (so p) (took p one within) c 0 some in
         let second = closed c (steps_more (s.histories p) 0) low high in
-        let here : IsPrefixOf (put_at c (alone (process kit p) (steps_more (s.histories p) 0) (process kit p).start all)) (all c) =
-            subst (λ q. IsPrefixOf (put_at c (alone (process kit q) (steps_more (s.histories p) 0) (process kit q).start all)) (all c)) seated second in
-        subst (λ q. IsPrefixOf (moved c Sender (acts (twin kit) q (s.histories q))) (all c)) (sym seated)
-        (prefix-trans (moved c Sender (acts (twin kit) p (s.histories p))) _ (all c) first here)
+        let here : IsPrefixOf (put_at c (alone F (process J p) (steps_more (s.histories p) 0) (process J p).start all)) (all c) =
+            subst (λ q. IsPrefixOf (put_at c (alone F (process J q) (steps_more (s.histories p) 0) (process J q).start all)) (all c)) seated second in
+        subst (λ q. IsPrefixOf (moved c Sender (acts (twin J) q (s.histories q))) (all c)) (sym seated)
+        (prefix-trans (moved c Sender (acts (twin J) p (s.histories p))) _ (all c) first here)
 
     pub record AllWithin : Type 0 where
       pub to_a : Within 2
@@ -385,11 +416,11 @@ module _ (kit : Kit) (opening s : TwinState) (st : Stands (twin kit) opening s) 
     kahn first closed =
         let for_input : (b : ℕ) → seat b Receiver ≡ 2 → Within b =
             λ b. seat-of b (λ b q. q ≡ 2 → Within b) (λ e. first) (λ e. absurd cc) (λ e. absurd cc) (λ e. absurd cc) (λ e. absurd cc) (λ e. absurd cc) in
-        let two = within-by 2 2 (omega arith, omega arith) (input-quiet kit) refl refl (omega arith) (omega arith) closed for_input in
-        let three = within-by 2 3 (omega arith, omega arith) (input-quiet kit) refl refl (omega arith) (omega arith) closed for_input in
-        let four = within-by 3 4 (omega arith, omega arith) (job-quiet kit A) refl refl (omega arith) (omega arith) closed
+        let two = within-by 2 2 (omega arith, omega arith) input-quiet refl refl (omega arith) (omega arith) closed for_input in
+        let three = within-by 2 3 (omega arith, omega arith) input-quiet refl refl (omega arith) (omega arith) closed for_input in
+        let four = within-by 3 4 (omega arith, omega arith) (job-quiet J A) refl refl (omega arith) (omega arith) closed
             (λ b. seat-of b (λ b q. q ≡ 3 → Within b) (λ e. absurd cc) (λ e. two) (λ e. absurd cc) (λ e. absurd cc) (λ e. absurd cc) (λ e. absurd cc)) in
-        let five = within-by 4 5 (omega arith, omega arith) (job-quiet kit B) refl refl (omega arith) (omega arith) closed
+        let five = within-by 4 5 (omega arith, omega arith) (job-quiet J B) refl refl (omega arith) (omega arith) closed
             (λ b. seat-of b (λ b q. q ≡ 4 → Within b) (λ e. absurd cc) (λ e. absurd cc) (λ e. three) (λ e. absurd cc) (λ e. absurd cc) (λ e. absurd cc)) in
         let six = within-by 5 6 (omega arith, omega arith) output-quiet refl refl (omega arith) (omega arith) closed
             (λ b. seat-of b (λ b q. q ≡ 5 → Within b) (λ e. absurd cc) (λ e. absurd cc) (λ e. absurd cc) (λ e. four) (λ e. five) (λ e. absurd cc)) in

@@ -2,8 +2,6 @@
 -- waits. The one circle that is left, from the output process round to the input process, is against the counts of whole streams.
 use Rattle.std.proofs.Common.{◌≡◌, ◌⊎◌, inl, inr, ℕ, ◌+◌, ◌≤◌, Bool, true, false, List, [], ◌∷◌, ◌++◌, length, map, None, Some, refl, sym, ◌∙◌, ap, subst, arith}
 use Rattle.std.proofs.lemmas.List.{append-nil}
-use Rattle.solo_base.specs.declared.outcome.Side.{Side}
-use Rattle.solo_base.specs.declared.outcome.Side.TheVariants.{Sender, Receiver}
 use Rattle.queue_var.specs.declared.stops.Stops.{Stops as Marks}
 use Rattle.queue_var.specs.declared.stops.Stops.TheVariants as marks
 use Rattle.queue_var.specs.HandsOver.{Lacks}
@@ -15,14 +13,27 @@ use Rattle.network_law.specs.Processes.{CallsNext}
 use Rattle.network_law.specs.Kept.{CanWait, Stands, passed}
 use Rattle.network_law.proofs.Reached.{reached-stands}
 use Rattle.network_law.proofs.Rests.{IsBlocked, rests}
-use Rattle.twin_law.specs.Units.{Kit}
-use Rattle.twin_law.specs.Process.{Parcel, Entry, Process, Finishes, place, aim, caused, has_stopped, next_action}
-use Rattle.twin_law.specs.Places.{Twin, A, B, other, to_job, from_job, CardPlace, InputPlace, JobPlace, OutputPlace, PrinterPlace, card_aims, input_aims, job_aims, output_aims, printer_aims, card, input, job, output, printer, process}
-use Rattle.twin_law.specs.Places as at
-use Rattle.twin_law.specs.Twin.{twin, opened, call, seat, side_at, Devices, Spools, AreInBounds, TwinState, TwinEvent, IsStuck, IsSmooth, HasEnded, the_openings, NeverStuck, mark}
+use Rattle.solo_base.specs.declared.outcome.Side.{Side}
+use Rattle.solo_base.specs.declared.outcome.Side.TheVariants.{Sender, Receiver}
+use Rattle.batch_procs.specs.Jobs.{Jobs, AreJobs}
+use Rattle.batch_procs.specs.Parcels.{is_last}
+use Rattle.twin_law.specs.Process.{Finishes, place, aim, caused, has_stopped, next_action}
+use Rattle.twin_law.specs.Sides.{Twin, A, B, other, to_job, from_job}
+use Rattle.twin_law.specs.Ends.{CardPlace, ReadsCard, PutsCard, PutsEnd, HasPut, card_aims, card, PrinterPlace, TakesLine, PrintsLine, HasPrinted, printer_aims, printer}
+use Rattle.twin_law.specs.Input.{InputPlace, Takes, PutsFull, PutsLast, PutsEmptyA, PutsEmptyB, HasDealt, input_aims, input}
+use Rattle.twin_law.specs.Job.{JobPlace, TakesItems, LoadsFile, Toils, PutsLines, PutsLastLines, HasWorked, job_aims, job}
+use Rattle.twin_law.specs.Output.{OutputPlace, TakesLines, PutsLine, PutsOver, HasGathered, output_aims, output}
+use Rattle.twin_law.specs.Table.{process}
+use Rattle.twin_law.specs.Twin.{seat, side_at, twin, TwinState, TwinEvent}
+use Rattle.twin_law.specs.Opening.{AreGoodFiles, AreCards, IsSmooth}
+use Rattle.twin_law.specs.Alone.{takes, puts}
 use Rattle.twin_law.proofs.Lawful.{lawful, each-process}
 use Rattle.twin_law.proofs.Answers.{smooth-event}
-use Rattle.twin_law.proofs.Counts.{trues, trues-append, whole, whole-none, whole-behind, card_ends, input_ends, output_ends, printer_ends, InTurn, InputIs, OutputIs, JobIs, owed, card-stands, input-ended, input-stands, job-a-stands, job-b-stands, output-stands, output-ended, printer-stands}
+use Rattle.twin_law.proofs.Marks.{trues, trues-append, whole, whole-none, whole-behind}
+use Rattle.twin_law.proofs.EndCounts.{card_ends, input_ends, output_ends, printer_ends, card-stands, printer-stands, input-ended, output-ended}
+use Rattle.twin_law.proofs.DealCounts.{InTurn, InputIs, input-stands}
+use Rattle.twin_law.proofs.JobCounts.{JobIs, owed, job-a-stands, job-b-stands}
+use Rattle.twin_law.proofs.GatherCounts.{OutputIs, output-stands}
 use Rattle.twin_law.proofs.Ended.{EndedAs, Finished, Closed, AimsAt, Waits, ended-as, none-ended, made, waits-by}
 
 -- a side that stopped is told
@@ -41,29 +52,29 @@ Deals x xs ys = InTurn x (trues xs) (trues ys) ⊎ OutOfTurn x xs ys
 
 -- a process that has finished is at its last place
 card-done : (x : CardPlace) → card_aims x ≡ Finishes → card_ends x ≡ 1
-card-done at.HasPut e = refl
-card-done at.ReadsCard e = absurd cc
-card-done (at.PutsCard item) e = absurd cc
-card-done at.PutsEnd e = absurd cc
+card-done HasPut e = refl
+card-done ReadsCard e = absurd cc
+card-done (PutsCard item) e = absurd cc
+card-done PutsEnd e = absurd cc
 
 input-done : (x : InputPlace) → input_aims x ≡ Finishes → input_ends x ≡ 1
-input-done at.HasDealt e = refl
-input-done (at.Takes side inside hand) e = absurd cc
-input-done (at.PutsFull side inside full hand) e = absurd cc
-input-done (at.PutsLast side last opener) e = absurd cc
-input-done (at.PutsEmptyA side) e = absurd cc
-input-done (at.PutsEmptyB side) e = absurd cc
+input-done HasDealt e = refl
+input-done (Takes side inside hand) e = absurd cc
+input-done (PutsFull side inside full hand) e = absurd cc
+input-done (PutsLast side last opener) e = absurd cc
+input-done (PutsEmptyA side) e = absurd cc
+input-done (PutsEmptyB side) e = absurd cc
 
 output-done : (x : OutputPlace) → output_aims x ≡ Finishes → output_ends x ≡ 1
-output-done at.HasGathered e = refl
-output-done (at.TakesLines t) e = absurd cc
-output-done (at.PutsLine line later t over) e = absurd cc
-output-done at.PutsOver e = absurd cc
+output-done HasGathered e = refl
+output-done (TakesLines t) e = absurd cc
+output-done (PutsLine line later t over) e = absurd cc
+output-done PutsOver e = absurd cc
 
 printer-done : (x : PrinterPlace) → printer_aims x ≡ Finishes → printer_ends x ≡ 1
-printer-done at.HasPrinted e = refl
-printer-done at.TakesLine e = absurd cc
-printer-done (at.PrintsLine line) e = absurd cc
+printer-done HasPrinted e = refl
+printer-done TakesLine e = absurd cc
+printer-done (PrintsLine line) e = absurd cc
 
 -- the circle: what was put, taken and left of whole streams at the four spools
 circle-a : (g2 i2 s2 g3 i3 s3 g4 i4 s4 g5 i5 s5 o : ℕ) → g2 + i2 ≡ s2 → g3 + i3 ≡ s3 → g4 + i4 ≡ s4 → g5 + i5 ≡ s5 → i4 ≡ 0 → i2 ≡ 0 → g2 ≡ s4 → g3 ≡ s5 + o → g4 ≡ g5
@@ -78,16 +89,16 @@ none-left : (g2 i2 s2 g3 i3 s3 g4 i4 s4 g5 i5 s5 o : ℕ) → g2 + i2 ≡ s2 →
     → s2 ≡ s3 + 1 → i2 ≡ 0
 none-left g2 i2 s2 g3 i3 s3 g4 i4 s4 g5 i5 s5 o e2 e3 e4 e5 n5 n3 jb ja out same = omega (arith, e2, e3, e4, e5, n5, n3, jb, ja, out, same)
 
-module _ (kit : Kit) (opening s : TwinState) (st : Stands (twin kit) opening s) (some : (b : ℕ) → 1 ≤ (opening.buffers b).capacity)
-    (none : (event : TwinEvent) → IsEnabled (twin kit) s event → IsSmooth event.entry → ⊥) where
+module _ {L : Type 0} {J : Jobs L} (jobs : AreJobs J) (opening s : TwinState L) (st : Stands (twin J) opening s) (some : (b : ℕ) → 1 ≤ (opening.buffers b).capacity)
+    (cards : AreCards s.devices.deck) (good : AreGoodFiles J s.devices.files) (none : (event : TwinEvent L) → IsEnabled (twin J) s event → IsSmooth event.entry → ⊥) where
   abbrev inside : ℕ → List Bool
   inside b = (s.buffers b).marks
 
   abbrev sent : ℕ → List Bool
-  sent b = map mark (passed (twin kit) s b Sender)
+  sent b = map is_last (passed (twin J) s b Sender)
 
   abbrev got : ℕ → List Bool
-  got b = map mark (passed (twin kit) s b Receiver)
+  got b = map is_last (passed (twin J) s b Receiver)
 
   abbrev Open : ℕ → Type 0
   Open b = stopped_by (s.buffers b).sides ≡ None
@@ -95,13 +106,13 @@ module _ (kit : Kit) (opening s : TwinState) (st : Stands (twin kit) opening s) 
   abbrev Full : ℕ → Type 0
   Full b = length (inside b) ≡ (s.buffers b).capacity
 
-  may-not : (p : ℕ) (c : Call) → IsOne (twin kit) p → CallsNext (twin kit) p (s.histories p) c → MayCall s p c → ⊥
+  may-not : (p : ℕ) (c : Call) → IsOne (twin J) p → CallsNext (twin J) p (s.histories p) c → MayCall s p c → ⊥
   may-not p c one calls may =
-      let is = smooth-event kit opening s st p calls.action one calls.next (subst (MayCall s p) (sym calls.call) may) in
+      let is = smooth-event jobs opening s st cards good p calls.action one calls.next (subst (MayCall s p) (sym calls.call) may) in
       none is.event is.enabled is.smooth
 
-  rests-now : (p : ℕ) → IsOne (twin kit) p → (next_action (process kit p) (s.histories p) ≡ None) ⊎ IsBlocked (twin kit) s p
-  rests-now p one = rests (lawful kit) opening s st may-not p one
+  rests-now : (p : ℕ) → IsOne (twin J) p → (next_action (process J p) (s.histories p) ≡ None) ⊎ IsBlocked (twin J) s p
+  rests-now p one = rests (lawful J) opening s st may-not p one
 
   -- ---- buffers
   order : (b : ℕ) → got b ++ inside b ≡ sent b
@@ -118,8 +129,8 @@ module _ (kit : Kit) (opening s : TwinState) (st : Stands (twin kit) opening s) 
   not-stopped p b seated stopped free =
       let side = side_at p b in
       let q = seat b side in
-      let is : made_stop b side (acts (twin kit) q (s.histories q)) ≡ true =
-          subst (λ q. made_stop b side (acts (twin kit) q (s.histories q)) ≡ true) (sym seated) (made kit p b (s.histories p) stopped) in
+      let is : made_stop b side (acts (twin J) q (s.histories q)) ≡ true =
+          subst (λ q. made_stop b side (acts (twin J) q (s.histories q)) ≡ true) (sym seated) (made J p b (s.histories p) stopped) in
       marked-told (s.buffers b).sides.stops side ((st.buffers.hand_over b).stopped_first.each side ∙ st.buffers.stops b side ∙ is) free
 
   -- ---- who waits, and where
@@ -127,38 +138,38 @@ module _ (kit : Kit) (opening s : TwinState) (st : Stands (twin kit) opening s) 
     lacks : Lacks (s.buffers b).capacity (inside b) side
     going : Open b
 
-  record Waiting (p : ℕ) (w : IsBlocked (twin kit) s p) : Type 0 where
-    free : caused (process kit p) (s.histories p) ≡ None
-    aims : AimsAt (aim (process kit p) (s.histories p)) w.buffer w.side
+  record Waiting (p : ℕ) (w : IsBlocked (twin J) s p) : Type 0 where
+    free : caused (process J p) (s.histories p) ≡ None
+    aims : AimsAt (aim (process J p) (s.histories p)) w.buffer w.side
     here : At-buffer w.buffer w.side
 
-  waiting : (p : ℕ) (w : IsBlocked (twin kit) s p) → IsOne (twin kit) p → Waiting p w
+  waiting : (p : ℕ) (w : IsBlocked (twin J) s p) → IsOne (twin J) p → Waiting p w
   waiting p w one =
-      let is = waits-by kit p (s.histories p) w.calls.action w.buffer w.side w.visit one w.can_wait w.calls.next w.calls.call in
+      let is = waits-by J p (s.histories p) w.calls.action w.buffer w.side w.visit one w.can_wait w.calls.next w.calls.call in
       record { free = is.free; aims = is.aims; here = record { lacks = w.lacks; going = w.not_stopped } }
 
   there : (b c : ℕ) (side of : Side) → (c ≡ b) × (of ≡ side) → At-buffer b side → At-buffer c of
   there b c side of e is = subst (λ b. At-buffer b of) (sym e.0) (subst (λ side. At-buffer b side) (sym e.1) is)
 
-  has-ended : (p : ℕ) → next_action (process kit p) (s.histories p) ≡ None → EndedAs (process kit p) (s.histories p)
-  has-ended p e = ended-as kit p (s.histories p) (st.follows p) (none-ended (process kit p) (s.histories p) e)
+  has-ended : (p : ℕ) → next_action (process J p) (s.histories p) ≡ None → EndedAs (process J p) (s.histories p)
+  has-ended p e = ended-as J p (s.histories p) (st.follows p) (none-ended (process J p) (s.histories p) e)
 
-  is-1 : IsOne (twin kit) 1
+  is-1 : IsOne (twin J) 1
   is-1 = (omega arith, omega arith)
 
-  is-2 : IsOne (twin kit) 2
+  is-2 : IsOne (twin J) 2
   is-2 = (omega arith, omega arith)
 
-  is-3 : IsOne (twin kit) 3
+  is-3 : IsOne (twin J) 3
   is-3 = (omega arith, omega arith)
 
-  is-4 : IsOne (twin kit) 4
+  is-4 : IsOne (twin J) 4
   is-4 = (omega arith, omega arith)
 
-  is-5 : IsOne (twin kit) 5
+  is-5 : IsOne (twin J) 5
   is-5 = (omega arith, omega arith)
 
-  is-6 : IsOne (twin kit) 6
+  is-6 : IsOne (twin J) 6
   is-6 = (omega arith, omega arith)
 
   -- ---- 1 card
@@ -168,21 +179,21 @@ module _ (kit : Kit) (opening s : TwinState) (st : Stands (twin kit) opening s) 
     none_put : trues (sent 1) ≡ 0
 
   card-at : (x : CardPlace) (b : ℕ) (side : Side) → AimsAt (card_aims x) b side → At-buffer b side → trues (sent 1) ≡ card_ends x → CardWaits
-  card-at (at.PutsCard item) b side is here e = (let w = there b 1 side Sender is here in record { full = w.lacks; going = w.going; none_put = e })
-  card-at at.PutsEnd b side is here e = (let w = there b 1 side Sender is here in record { full = w.lacks; going = w.going; none_put = e })
-  card-at at.ReadsCard b side is here e = absurd is
-  card-at at.HasPut b side is here e = absurd is
+  card-at (PutsCard item) b side is here e = (let w = there b 1 side Sender is here in record { full = w.lacks; going = w.going; none_put = e })
+  card-at PutsEnd b side is here e = (let w = there b 1 side Sender is here in record { full = w.lacks; going = w.going; none_put = e })
+  card-at ReadsCard b side is here e = absurd is
+  card-at HasPut b side is here e = absurd is
 
-  card-waits : IsBlocked (twin kit) s 1 → CardWaits
+  card-waits : IsBlocked (twin J) s 1 → CardWaits
   card-waits w = (let is = waiting 1 w is-1 in
-      card-at (place card (s.histories 1)) w.buffer w.side is.aims is.here (card-stands kit (s.histories 1) (st.follows 1) is.free))
+      card-at (place card (s.histories 1)) w.buffer w.side is.aims is.here (card-stands J (s.histories 1) (st.follows 1) is.free))
 
   abbrev CardGone : Type 0
   CardGone = Open 1 → trues (sent 1) ≡ 1
 
   card-gone : next_action card (s.histories 1) ≡ None → CardGone
   card-gone e = elim (has-ended 1 e) as (λ _. CardGone) [
-    | Finished free last stops ↦ (λ going. card-stands kit (s.histories 1) (st.follows 1) free ∙ card-done (place card (s.histories 1)) last)
+    | Finished free last stops ↦ (λ going. card-stands J (s.histories 1) (st.follows 1) free ∙ card-done (place card (s.histories 1)) last)
     | Closed all ↦ (λ going. absurd (not-stopped 1 1 refl all.0 going))
   ]
 
@@ -202,21 +213,21 @@ module _ (kit : Kit) (opening s : TwinState) (st : Stands (twin kit) opening s) 
     DealsTo : (x : Twin) → InputDeals x → InputWaits
 
   input-at : (x : InputPlace) (b : ℕ) (side : Side) → AimsAt (input_aims x) b side → At-buffer b side → trues (got 1) ≡ input_ends x → InputIs x (sent 2) (sent 3) → InputWaits
-  input-at (at.Takes to within hand) b side is here e f = (let w = there b 1 side Receiver is here in Reads record { empty = w.lacks; going = w.going; none_got = e })
-  input-at (at.PutsFull to within full hand) b side is here e f =
+  input-at (Takes to within hand) b side is here e f = (let w = there b 1 side Receiver is here in Reads record { empty = w.lacks; going = w.going; none_got = e })
+  input-at (PutsFull to within full hand) b side is here e f =
       (let w = there b (to_job to) side Sender is here in DealsTo to record { full = w.lacks; going = w.going; deals = inl f.0 })
-  input-at (at.PutsLast to last opener) b side is here e f =
+  input-at (PutsLast to last opener) b side is here e f =
       (let w = there b (to_job to) side Sender is here in DealsTo to record { full = w.lacks; going = w.going; deals = inl f.0 })
-  input-at (at.PutsEmptyA A) b side is here e f = (let w = there b 2 side Sender is here in DealsTo A record { full = w.lacks; going = w.going; deals = inl f.0 })
-  input-at (at.PutsEmptyA B) b side is here e f = (let w = there b 2 side Sender is here in DealsTo A record { full = w.lacks; going = w.going; deals = inr f })
-  input-at (at.PutsEmptyB A) b side is here e f = (let w = there b 3 side Sender is here in DealsTo B record { full = w.lacks; going = w.going; deals = inl f })
-  input-at (at.PutsEmptyB B) b side is here e f = (let w = there b 3 side Sender is here in DealsTo B record { full = w.lacks; going = w.going; deals = inr f })
-  input-at at.HasDealt b side is here e f = absurd is
+  input-at (PutsEmptyA A) b side is here e f = (let w = there b 2 side Sender is here in DealsTo A record { full = w.lacks; going = w.going; deals = inl f.0 })
+  input-at (PutsEmptyA B) b side is here e f = (let w = there b 2 side Sender is here in DealsTo A record { full = w.lacks; going = w.going; deals = inr f })
+  input-at (PutsEmptyB A) b side is here e f = (let w = there b 3 side Sender is here in DealsTo B record { full = w.lacks; going = w.going; deals = inl f })
+  input-at (PutsEmptyB B) b side is here e f = (let w = there b 3 side Sender is here in DealsTo B record { full = w.lacks; going = w.going; deals = inr f })
+  input-at HasDealt b side is here e f = absurd is
 
-  input-waits : IsBlocked (twin kit) s 2 → InputWaits
+  input-waits : IsBlocked (twin J) s 2 → InputWaits
   input-waits w = (let is = waiting 2 w is-2 in
-      input-at (place (input kit) (s.histories 2)) w.buffer w.side is.aims is.here (input-ended kit (s.histories 2) (st.follows 2) is.free)
-      (input-stands kit (s.histories 2) (st.follows 2) is.free))
+      input-at (place input (s.histories 2)) w.buffer w.side is.aims is.here (input-ended J (s.histories 2) (st.follows 2) is.free)
+      (input-stands J (s.histories 2) (st.follows 2) is.free))
 
   record InputGone : Type 0 where
     line : Open 1 → trues (got 1) ≡ 1
@@ -226,10 +237,10 @@ module _ (kit : Kit) (opening s : TwinState) (st : Stands (twin kit) opening s) 
   both P a b A = a
   both P a b B = b
 
-  input-gone : next_action (input kit) (s.histories 2) ≡ None → InputGone
+  input-gone : next_action input (s.histories 2) ≡ None → InputGone
   input-gone e = elim (has-ended 2 e) as (λ _. InputGone) [
     | Finished free last stops ↦ record {
-        line = λ going. input-ended kit (s.histories 2) (st.follows 2) free ∙ input-done (place (input kit) (s.histories 2)) last;
+        line = λ going. input-ended J (s.histories 2) (st.follows 2) free ∙ input-done (place input (s.histories 2)) last;
         spools = both (λ x. Open (to_job x) → ⊥) (not-stopped 2 2 refl stops.0) (not-stopped 2 3 refl stops.1.0);
       }
     | Closed all ↦ record {
@@ -253,33 +264,35 @@ module _ (kit : Kit) (opening s : TwinState) (st : Stands (twin kit) opening s) 
   abbrev JobWaits : Twin → Type 0
   JobWaits x = JobTakes x ⊎ JobPuts x
 
-  job-at : (x : Twin) (y : JobPlace) (b : ℕ) (side : Side) → AimsAt (job_aims x y) b side → At-buffer b side → JobIs y (got (to_job x)) (sent (from_job x)) → JobWaits x
-  job-at x (at.TakesItems stream) b side is here f = (let w = there b (to_job x) side Receiver is here in inl record { empty = w.lacks; going = w.going; owes = f })
-  job-at x (at.PutsLines first later stream last) b side is here f =
-      (let w = there b (from_job x) side Sender is here in inr record { full = w.lacks; going = w.going; more = owed (at.PutsLines first later stream last); owes = f })
-  job-at x (at.LoadsFile file later stream last) b side is here f = absurd is
-  job-at x (at.Toils stream last) b side is here f = absurd is
-  job-at x at.HasWorked b side is here f = absurd is
+  job-at : (x : Twin) (y : JobPlace L) (b : ℕ) (side : Side) → AimsAt (job_aims x y) b side → At-buffer b side → JobIs y (got (to_job x)) (sent (from_job x)) → JobWaits x
+  job-at x (TakesItems stream) b side is here f = (let w = there b (to_job x) side Receiver is here in inl record { empty = w.lacks; going = w.going; owes = f.0 })
+  job-at x (PutsLines page stream last) b side is here f =
+      (let w = there b (from_job x) side Sender is here in inr record { full = w.lacks; going = w.going; more = owed (PutsLines page stream last); owes = f.0 })
+  job-at x (PutsLastLines page some) b side is here f =
+      (let w = there b (from_job x) side Sender is here in inr record { full = w.lacks; going = w.going; more = 1; owes = f.0 })
+  job-at x (LoadsFile file stream last) b side is here f = absurd is
+  job-at x (Toils stream last) b side is here f = absurd is
+  job-at x HasWorked b side is here f = absurd is
 
-  job-a-waits : IsBlocked (twin kit) s 3 → JobWaits A
+  job-a-waits : IsBlocked (twin J) s 3 → JobWaits A
   job-a-waits w = (let is = waiting 3 w is-3 in
-      job-at A (place (job kit A) (s.histories 3)) w.buffer w.side is.aims is.here (job-a-stands kit (s.histories 3) (st.follows 3) is.free))
+      job-at A (place (job J A) (s.histories 3)) w.buffer w.side is.aims is.here (job-a-stands J (s.histories 3) (st.follows 3) is.free))
 
-  job-b-waits : IsBlocked (twin kit) s 4 → JobWaits B
+  job-b-waits : IsBlocked (twin J) s 4 → JobWaits B
   job-b-waits w = (let is = waiting 4 w is-4 in
-      job-at B (place (job kit B) (s.histories 4)) w.buffer w.side is.aims is.here (job-b-stands kit (s.histories 4) (st.follows 4) is.free))
+      job-at B (place (job J B) (s.histories 4)) w.buffer w.side is.aims is.here (job-b-stands J (s.histories 4) (st.follows 4) is.free))
 
   record JobGone (x : Twin) : Type 0 where
     taking : Open (to_job x) → ⊥
     putting : Open (from_job x) → ⊥
 
-  job-a-gone : next_action (job kit A) (s.histories 3) ≡ None → JobGone A
+  job-a-gone : next_action (job J A) (s.histories 3) ≡ None → JobGone A
   job-a-gone e = elim (has-ended 3 e) as (λ _. JobGone A) [
     | Finished free last stops ↦ record { taking = not-stopped 3 2 refl stops.0; putting = not-stopped 3 4 refl stops.1.0 }
     | Closed all ↦ record { taking = not-stopped 3 2 refl all.0; putting = not-stopped 3 4 refl all.1.0 }
   ]
 
-  job-b-gone : next_action (job kit B) (s.histories 4) ≡ None → JobGone B
+  job-b-gone : next_action (job J B) (s.histories 4) ≡ None → JobGone B
   job-b-gone e = elim (has-ended 4 e) as (λ _. JobGone B) [
     | Finished free last stops ↦ record { taking = not-stopped 4 3 refl stops.0; putting = not-stopped 4 5 refl stops.1.0 }
     | Closed all ↦ record { taking = not-stopped 4 3 refl all.0; putting = not-stopped 4 5 refl all.1.0 }
@@ -305,16 +318,16 @@ module _ (kit : Kit) (opening s : TwinState) (st : Stands (twin kit) opening s) 
     Puts : OutputPuts → OutputWaits
 
   output-at : (x : OutputPlace) (b : ℕ) (side : Side) → AimsAt (output_aims x) b side → At-buffer b side → trues (sent 6) ≡ output_ends x → OutputIs x (got 4) (got 5) → OutputWaits
-  output-at (at.TakesLines t) b side is here e f =
+  output-at (TakesLines t) b side is here e f =
       (let w = there b (from_job t.side) side Receiver is here in TakesFrom t.side record { empty = w.lacks; going = w.going; turn = f })
-  output-at (at.PutsLine line later t over) b side is here e f = (let w = there b 6 side Sender is here in Puts record { full = w.lacks; going = w.going; none_put = e })
-  output-at at.PutsOver b side is here e f = (let w = there b 6 side Sender is here in Puts record { full = w.lacks; going = w.going; none_put = e })
-  output-at at.HasGathered b side is here e f = absurd is
+  output-at (PutsLine line later t over) b side is here e f = (let w = there b 6 side Sender is here in Puts record { full = w.lacks; going = w.going; none_put = e })
+  output-at PutsOver b side is here e f = (let w = there b 6 side Sender is here in Puts record { full = w.lacks; going = w.going; none_put = e })
+  output-at HasGathered b side is here e f = absurd is
 
-  output-waits : IsBlocked (twin kit) s 5 → OutputWaits
+  output-waits : IsBlocked (twin J) s 5 → OutputWaits
   output-waits w = (let is = waiting 5 w is-5 in
-      output-at (place output (s.histories 5)) w.buffer w.side is.aims is.here (output-ended kit (s.histories 5) (st.follows 5) is.free)
-      (output-stands kit (s.histories 5) (st.follows 5) is.free))
+      output-at (place output (s.histories 5)) w.buffer w.side is.aims is.here (output-ended J (s.histories 5) (st.follows 5) is.free)
+      (output-stands J (s.histories 5) (st.follows 5) is.free))
 
   record OutputGone : Type 0 where
     line : Open 6 → trues (sent 6) ≡ 1
@@ -323,7 +336,7 @@ module _ (kit : Kit) (opening s : TwinState) (st : Stands (twin kit) opening s) 
   output-gone : next_action output (s.histories 5) ≡ None → OutputGone
   output-gone e = elim (has-ended 5 e) as (λ _. OutputGone) [
     | Finished free last stops ↦ record {
-        line = λ going. output-ended kit (s.histories 5) (st.follows 5) free ∙ output-done (place output (s.histories 5)) last;
+        line = λ going. output-ended J (s.histories 5) (st.follows 5) free ∙ output-done (place output (s.histories 5)) last;
         spools = both (λ x. Open (from_job x) → ⊥) (not-stopped 5 4 refl stops.0) (not-stopped 5 5 refl stops.1.0);
       }
     | Closed all ↦ record {
@@ -339,17 +352,17 @@ module _ (kit : Kit) (opening s : TwinState) (st : Stands (twin kit) opening s) 
     none_got : trues (got 6) ≡ 0
 
   printer-at : (x : PrinterPlace) (b : ℕ) (side : Side) → AimsAt (printer_aims x) b side → At-buffer b side → trues (got 6) ≡ printer_ends x → PrinterWaits
-  printer-at at.TakesLine b side is here e = (let w = there b 6 side Receiver is here in record { empty = w.lacks; going = w.going; none_got = e })
-  printer-at (at.PrintsLine line) b side is here e = absurd is
-  printer-at at.HasPrinted b side is here e = absurd is
+  printer-at TakesLine b side is here e = (let w = there b 6 side Receiver is here in record { empty = w.lacks; going = w.going; none_got = e })
+  printer-at (PrintsLine line) b side is here e = absurd is
+  printer-at HasPrinted b side is here e = absurd is
 
-  printer-waits : IsBlocked (twin kit) s 6 → PrinterWaits
+  printer-waits : IsBlocked (twin J) s 6 → PrinterWaits
   printer-waits w = (let is = waiting 6 w is-6 in
-      printer-at (place printer (s.histories 6)) w.buffer w.side is.aims is.here (printer-stands kit (s.histories 6) (st.follows 6) is.free))
+      printer-at (place printer (s.histories 6)) w.buffer w.side is.aims is.here (printer-stands J (s.histories 6) (st.follows 6) is.free))
 
   printer-gone : next_action printer (s.histories 6) ≡ None → Open 6 → trues (got 6) ≡ 1
   printer-gone e = elim (has-ended 6 e) as (λ _. Open 6 → trues (got 6) ≡ 1) [
-    | Finished free last stops ↦ (λ going. printer-stands kit (s.histories 6) (st.follows 6) free ∙ printer-done (place printer (s.histories 6)) last)
+    | Finished free last stops ↦ (λ going. printer-stands J (s.histories 6) (st.follows 6) free ∙ printer-done (place printer (s.histories 6)) last)
     | Closed all ↦ (λ going. absurd (not-stopped 6 6 refl all.0 going))
   ]
 
@@ -473,16 +486,15 @@ module _ (kit : Kit) (opening s : TwinState) (st : Stands (twin kit) opening s) 
   printer-not w =
       (let a = output-over.line w.going in let b = w.none_got in let c = count 6 in let d : trues (inside 6) ≡ 0 = ap trues w.empty in omega (arith, a, b, c, d))
 
-  ended-by : (p : ℕ) → IsOne (twin kit) p → (IsBlocked (twin kit) s p → ⊥) → HasEnded kit s p
-  ended-by p one not = elim (rests-now p one) as (λ _. HasEnded kit s p) [ inl e ↦ e | inr w ↦ absurd (not w) ]
+  abbrev HasNone : ℕ → Type 0
+  HasNone p = next_action (process J p) (s.histories p) ≡ None
 
-  pub ended-all : (p : ℕ) → IsOne (twin kit) p → HasEnded kit s p
+  ended-by : (p : ℕ) → IsOne (twin J) p → (IsBlocked (twin J) s p → ⊥) → HasNone p
+  ended-by p one not = elim (rests-now p one) as (λ _. HasNone p) [ inl e ↦ e | inr w ↦ absurd (not w) ]
+
+  pub ended-all : (p : ℕ) → IsOne (twin J) p → HasNone p
   ended-all p one =
-      each-process kit (HasEnded kit s) p one (ended-by 1 is-1 (λ w. card-not (card-waits w))) (ended-by 2 is-2 (λ w. input-not (input-waits w)))
+      each-process J HasNone p one (ended-by 1 is-1 (λ w. card-not (card-waits w))) (ended-by 2 is-2 (λ w. input-not (input-waits w)))
       (ended-by 3 is-3 (λ w. job-not A (job-a-waits w))) (ended-by 4 is-4 (λ w. job-not B (job-b-waits w)))
       (ended-by 5 is-5 (λ w. output-not (output-waits w))) (ended-by 6 is-6 (λ w. printer-not (printer-waits w)))
 
-pub never-stuck : NeverStuck
-never-stuck kit opening s reached stuck =
-    let st = reached-stands (lawful kit) the_openings opening s reached in
-    stuck.not_ended (λ p low high. ended-all kit (opened opening.spools opening.devices) s st opening.bounds.some stuck.none_enabled p (low, high))

@@ -1,99 +1,64 @@
--- T5.2's prefix: in every reached state of the twin network with told buffers, what went to the printer is the first of what one thread
--- prints for the deck.
-use Rattle.std.proofs.Common.{◌≡◌, ◌⊎◌, inl, inr, ℕ, zero, suc, ◌≤◌, ◌==◌, Bool, true, false, if◌then◌else◌, List, [], ◌∷◌, ◌++◌, map, Option, None, Some, refl, sym, ◌∙◌, ap, subst, arith}
-use Rattle.std.specs.List.{AllByRecursion, flat_map}
+-- In every reached state with told buffers, what went to the printer is the first of what one thread prints for the deck.
+use Rattle.std.proofs.Common.{◌≡◌, ◌⊎◌, inl, inr, ℕ, zero, suc, ◌≤◌, ◌==◌, Bool, true, false, if◌then◌else◌, List, [], ◌∷◌, ◌++◌, length, map, Option, None, Some, refl, sym, ◌∙◌, ap, subst, arith}
+use Rattle.std.specs.Prelude.{flat_map, option_to_list}
+use Rattle.std.specs.List.{AllByRecursion}
 use Rattle.std.proofs.lemmas.List.{append_assoc, append-nil}
+use Rattle.std.proofs.lemmas.Bool.{le-leb}
 use Rattle.std.proofs.lemmas.Bool.Decides.{eqb_tells}
-use Rattle.solo_base.specs.declared.outcome.Side.TheVariants.{Sender}
+use Rattle.page_codec.proofs.Cutting.{item_is_short}
+use Rattle.deck_units.specs.Laws.{IsUnit}
+use Rattle.deck_units.proofs.UnitJobs.{are-units, units-all}
 use Rattle.network_law.specs.Kept.{IsTold, Stands, passed}
-use Rattle.twin_law.specs.Units.{Kit, in_group, is_dropped, unit_of, units_from, units, Dealt, dealt}
-use Rattle.twin_law.specs.Process.{Parcel}
-use Rattle.twin_law.specs.Places.{A, B, Hand, begins_unit, last_of, empty_page, end_feed, item_feed, no_hand, page, is_some, hand_behind, full_pages, process}
-use Rattle.twin_law.specs.Twin.{twin, seat, TwinState}
-use Rattle.twin_law.specs.Alone.{Put, alone, put_at}
-use Rattle.twin_law.specs.Rows.{feeds, one_thread}
-use Rattle.twin_law.proofs.Gathers.{IsPrefixOf, each, dealt-each}
+use Rattle.solo_base.specs.declared.item.Item.{Item}
+use Rattle.solo_base.specs.declared.item.Item.TheVariants.{Line}
+use Rattle.solo_base.specs.declared.page.Page.{Page}
+use Rattle.solo_base.specs.declared.outcome.Side.TheVariants.{Sender}
+use Rattle.solo_base.specs.Prefixes.{IsPrefixOf}
+use Rattle.page_codec.specs.Items.{AreItems, IsItem, item_bytes}
+use Rattle.page_codec.specs.Form.{page_of}
+use Rattle.page_codec.specs.Packing.{first_page, page_given, hand_after}
+use Rattle.page_codec.specs.Stream.{IsStream}
+use Rattle.batch_procs.specs.Sends.{lines_of}
+use Rattle.batch_procs.specs.Jobs.{Jobs, AreJobs, FilesAs, one_thread}
+use Rattle.batch_procs.specs.Parcels.{Parcel, OfFeed}
+use Rattle.deck_units.specs.Units.{units}
+use Rattle.solo_base.specs.declared.item.Feed.TheVariants as feed
+use Rattle.twin_law.specs.Sides.{Twin, A, B, from_job, Dealt, dealt}
+use Rattle.twin_law.specs.Input.{HasDealt, last_of, empty_page}
+use Rattle.twin_law.specs.Job.{HasWorked}
+use Rattle.twin_law.specs.Output.{HasGathered, is_some}
+use Rattle.twin_law.specs.Table.{process}
+use Rattle.twin_law.specs.Twin.{seat, given, twin, TwinState}
+use Rattle.twin_law.specs.Alone.{Put, alone, put_at, AreLoadedSo, puts}
+use Rattle.twin_law.specs.UnitWork.{AreByUnits}
+use Rattle.twin_law.proofs.Dealing.{each, dealt-each}
 use Rattle.twin_law.proofs.Kahn.{IsClosed, kahn, put-append}
-use Rattle.twin_law.proofs.Deals.{unit_pages, streams}
-use Rattle.twin_law.proofs.InputAlone.{input-alone}
-use Rattle.twin_law.proofs.OutputAlone.{Pages, lines_in, lines_of, IsStream, parcels, all_lines, line_puts, end_put, output-alone}
-use Rattle.twin_law.proofs.JobAlone.{IsKit, line_pages, job-alone, made}
+use Rattle.twin_law.proofs.Goes.{first-put}
+use Rattle.twin_law.proofs.Strips.{given_pages, last_hand, all_pages, packed-stream, line-items, as_pages, Strip, IsStrip, parcels, all_put, as-parcels}
+use Rattle.twin_law.proofs.InputAlone.{streams, unit_pages, deck_feeds, input-alone}
+use Rattle.twin_law.proofs.OutputAlone.{all_lines, line_puts, end_put, output-alone}
+use Rattle.twin_law.proofs.JobAlone.{page_puts, put-all, made, job-alone}
 
--- ---- what is packed is in the pages
-lines-packed : (kit : Kit) (hand : Hand) (items : List ℕ) → lines_in (full_pages kit hand items) ++ (hand_behind kit hand items).items ≡ hand.items ++ items
-lines-packed kit hand [] = sym (append-nil hand.items)
-lines-packed kit hand (x ∷ rest) =
-    elim (kit.fits hand.items x) as (λ t. lines_in (if t then full_pages kit record { before = hand.before; items = hand.items ++ x ∷ [] } rest
-    else page hand.before hand.items false ∷ full_pages kit record { before = suc hand.before; items = x ∷ [] } rest)
-    ++ (if t then hand_behind kit record { before = hand.before; items = hand.items ++ x ∷ [] } rest
-    else hand_behind kit record { before = suc hand.before; items = x ∷ [] } rest).items ≡ hand.items ++ x ∷ rest) [
-      | true ↦ lines-packed kit record { before = hand.before; items = hand.items ++ x ∷ [] } rest ∙ append_assoc hand.items (x ∷ []) rest
-      | false ↦ append_assoc hand.items (lines_in (full_pages kit record { before = suc hand.before; items = x ∷ [] } rest))
-          (hand_behind kit record { before = suc hand.before; items = x ∷ [] } rest).items
-          ∙ ap (λ more. hand.items ++ more) (lines-packed kit record { before = suc hand.before; items = x ∷ [] } rest)
-    ]
+-- ---- a unit as a strip
+abbrev unit_strip : List Item → Strip
+unit_strip unit = record { pages = unit_pages unit; items = unit }
 
-full-falses : (kit : Kit) (hand : Hand) (items : List ℕ) → AllByRecursion (λ (x : Parcel). x.last ≡ false) (full_pages kit hand items)
-full-falses kit hand [] = tt
-full-falses kit hand (x ∷ rest) =
-    elim (kit.fits hand.items x) as (λ t. AllByRecursion (λ (x : Parcel). x.last ≡ false) (if t then full_pages kit record { before = hand.before; items = hand.items ++ x ∷ [] } rest
-    else page hand.before hand.items false ∷ full_pages kit record { before = suc hand.before; items = x ∷ [] } rest)) [
-      | true ↦ full-falses kit record { before = hand.before; items = hand.items ++ x ∷ [] } rest
-      | false ↦ (refl, full-falses kit record { before = suc hand.before; items = x ∷ [] } rest)
-    ]
+first-fits : (item : Item) → IsItem item → page_given first_page item ≡ None
+first-fits item is =
+    let short = item_is_short item is in
+    ap (λ t. if t then None else Some (page_of 0 false [])) (le-leb (length (item_bytes item)) 506 (omega (arith, short)))
 
-abbrev unit_stream : Kit → List ℕ → Pages
-unit_stream kit [] = record { full = []; last = empty_page }
-unit_stream kit (item ∷ rest) = record { full = full_pages kit (begins_unit item) rest; last = last_of (hand_behind kit (begins_unit item) rest) }
+pages-same : (unit : List Item) → AreItems unit → is_some unit ≡ true → all_pages unit ≡ unit_pages unit
+pages-same [] are some = absurd cc
+pages-same (item ∷ rest) are some =
+    ap (λ given. (option_to_list given ++ given_pages (hand_after first_page item) rest) ++ last_of (last_hand (hand_after first_page item) rest) ∷ []) (first-fits item are.0)
 
-unit-lines : (kit : Kit) (unit : List ℕ) → lines_of (unit_stream kit unit) ≡ unit
-unit-lines kit [] = refl
-unit-lines kit (item ∷ rest) = lines-packed kit (begins_unit item) rest
+unit-is : (unit : List Item) → AreItems unit → is_some unit ≡ true → IsStrip (unit_strip unit)
+unit-is unit are some = record { stream = subst (λ (pages : List Page). IsStream 0 pages unit) (pages-same unit are some) (packed-stream unit are); some = some }
 
-unit-is : (kit : Kit) (unit : List ℕ) → is_some unit ≡ true → IsStream (unit_stream kit unit)
-unit-is kit [] some = absurd cc
-unit-is kit (item ∷ rest) some = (full-falses kit (begins_unit item) rest, refl, ap is_some (lines-packed kit (begins_unit item) rest))
-
-streams-parcels : (kit : Kit) (us : List (List ℕ)) → streams kit us ++ empty_page ∷ [] ≡ parcels (map (unit_stream kit) us)
-streams-parcels kit [] = refl
-streams-parcels kit ([] ∷ us) = ap (λ rest. empty_page ∷ rest) (streams-parcels kit us)
-streams-parcels kit ((item ∷ rest) ∷ us) =
-    let full = full_pages kit (begins_unit item) rest in
-    let last = last_of (hand_behind kit (begins_unit item) rest) in
-    append_assoc (full ++ last ∷ []) (streams kit us) (empty_page ∷ []) ∙ append_assoc full (last ∷ []) (streams kit us ++ empty_page ∷ [])
-    ∙ ap (λ more. full ++ last ∷ more) (streams-parcels kit us)
-
--- the report of a unit as a stream
-abbrev report_stream : Kit → List ℕ → Pages
-report_stream kit unit = line_pages kit (kit.lines unit true)
-
-report-lines : (kit : Kit) (unit : List ℕ) → lines_of (report_stream kit unit) ≡ kit.lines unit true
-report-lines kit unit = lines-packed kit no_hand (kit.lines unit true)
-
-report-is : (kit : Kit) → IsKit kit → (unit : List ℕ) → is_some unit ≡ true → IsStream (report_stream kit unit)
-report-is kit is [] some = absurd cc
-report-is kit is (item ∷ rest) some = (full-falses kit no_hand (kit.lines (item ∷ rest) true), refl, ap is_some (report-lines kit (item ∷ rest)) ∙ is.some item rest)
-
--- ---- D22: each unit has an item
-
-hand-some : (hand : List ℕ) (us : List (List ℕ)) → AllByRecursion (λ unit. is_some unit ≡ true) us → AllByRecursion (λ unit. is_some unit ≡ true) (unit_of hand ++ us)
-hand-some [] us all = all
-hand-some (item ∷ rest) us all = (refl, all)
-
-units-some : (kit : Kit) (inside : Bool) (hand items : List ℕ) → AllByRecursion (λ unit. is_some unit ≡ true) (units_from kit inside hand items)
-units-some kit inside [] [] = tt
-units-some kit inside (h ∷ hs) [] = (refl, tt)
-units-some kit inside hand (item ∷ rest) =
-    let g = in_group kit inside item in
-    elim (is_dropped kit inside item) as (λ t. AllByRecursion (λ unit. is_some unit ≡ true) (if t then units_from kit g hand rest
-    else if kit.opens item then unit_of hand ++ units_from kit g (item ∷ []) rest else units_from kit g (hand ++ item ∷ []) rest)) [
-      | true ↦ units-some kit g hand rest
-      | false ↦ elim (kit.opens item) as (λ t. AllByRecursion (λ unit. is_some unit ≡ true) (if t then unit_of hand ++ units_from kit g (item ∷ []) rest
-          else units_from kit g (hand ++ item ∷ []) rest)) [
-            | true ↦ hand-some hand (units_from kit g (item ∷ []) rest) (units-some kit g (item ∷ []) rest)
-            | false ↦ units-some kit g (hand ++ item ∷ []) rest
-          ]
-    ]
+streams-put : (us : List (List Item)) → streams us ++ empty_page ∷ [] ≡ all_put (map unit_strip us)
+streams-put [] = refl
+streams-put (unit ∷ us) = append_assoc (unit_pages unit) (streams us) (empty_page ∷ []) ∙ ap (λ rest. unit_pages unit ++ rest) (streams-put us)
 
 -- ---- of all, and of what is dealt
 record BothAll {T : Type 0} (Is : T → Type 0) (d : Dealt T) : Type 0 where
@@ -108,68 +73,127 @@ map-all : {T U : Type 0} (Is : T → Type 0) (Are : U → Type 0) (f : T → U) 
 map-all Is Are f [] so are = tt
 map-all Is Are f (x ∷ all) so are = (so x are.0, map-all Is Are f all so are.1)
 
-module _ (kit : Kit) (is : IsKit kit) where
-  reports-a : (us : List (List ℕ)) → map (made kit is A) (map (unit_stream kit) us) ≡ map (report_stream kit) us
-  reports-a [] = refl
-  reports-a (unit ∷ us) = ap (λ s. s ∷ map (made kit is A) (map (unit_stream kit) us)) (ap (report_stream kit) (unit-lines kit unit))
-      ∙ ap (λ rest. report_stream kit unit ∷ rest) (reports-a us)
+all-pair : {T : Type 0} (Is Are : T → Type 0) (all : List T) → AllByRecursion Is all → AllByRecursion Are all → AllByRecursion (λ x. Is x × Are x) all
+all-pair Is Are [] first second = tt
+all-pair Is Are (x ∷ all) first second = ((first.0, second.0), all-pair Is Are all first.1 second.1)
 
-  reports-b : (us : List (List ℕ)) → map (made kit is B) (map (unit_stream kit) us) ≡ map (report_stream kit) us
-  reports-b [] = refl
-  reports-b (unit ∷ us) = ap (λ s. s ∷ map (made kit is B) (map (unit_stream kit) us)) (ap (report_stream kit) (unit-lines kit unit))
-      ∙ ap (λ rest. report_stream kit unit ∷ rest) (reports-b us)
+some-unit : (unit : List Item) → IsUnit unit → is_some unit ≡ true
+some-unit unit is = ap is_some is.items_are
 
-  lines-all : (us : List (List ℕ)) → all_lines (map (report_stream kit) us) ≡ flat_map (λ unit. kit.lines unit true) us
+some-map : {T U : Type 0} (f : T → U) (xs : List T) → is_some (map f xs) ≡ is_some xs
+some-map f [] = refl
+some-map f (x ∷ xs) = refl
+
+lines-back : (lines : List (List ℕ)) → lines_of (map Line lines) ≡ lines
+lines-back [] = refl
+lines-back (line ∷ rest) = ap (λ ls. line ∷ ls) (lines-back rest)
+
+-- the lines that the printer is given, and the end
+abbrev pub line_feeds : {L : Type 0} → List (List ℕ) → List (Parcel L)
+line_feeds [] = OfFeed feed.End ∷ []
+line_feeds (line ∷ rest) = OfFeed (feed.Item (Line line)) ∷ line_feeds rest
+
+feeds-are : (L : Type 0) (lines : List (List ℕ)) → put_at 6 (line_puts {L = L} lines ++ end_put) ≡ line_feeds lines
+feeds-are L [] = refl
+feeds-are L (line ∷ rest) = ap (λ more. OfFeed (feed.Item (Line line)) ∷ more) (feeds-are L rest)
+
+module _ {L : Type 0} {J : Jobs L} (jobs : AreJobs J) (by : AreByUnits J) (F : FilesAs L) where
+  -- the report of a unit
+  abbrev report : List Item → List (List ℕ)
+  report unit = one_thread J unit F
+
+  abbrev report_strip : List Item → Strip
+  report_strip unit = record { pages = all_pages (map Line (report unit)); items = map Line (report unit) }
+
+  report-is : (unit : List Item) → AreItems unit → is_some (report unit) ≡ true → IsStrip (report_strip unit)
+  report-is unit are some = record {
+    stream = packed-stream (map Line (report unit)) (line-items (report unit) (jobs.are_lines unit (map F (J.named unit)) true are));
+    some = some-map Line (report unit) ∙ some;
+  }
+
+  reports-made : (side : Twin) (us : List (List Item)) → map (made jobs F side) (map unit_strip us) ≡ map report_strip us
+  reports-made side [] = refl
+  reports-made side (unit ∷ us) = ap (λ rest. report_strip unit ∷ rest) (reports-made side us)
+
+  lines-all : (us : List (List Item)) → all_lines (map report_strip us) ≡ flat_map report us
   lines-all [] = refl
-  lines-all (unit ∷ us) = ap (λ lines. lines ++ all_lines (map (report_stream kit) us)) (report-lines kit unit) ∙ ap (λ rest. kit.lines unit true ++ rest) (lines-all us)
+  lines-all (unit ∷ us) = ap (λ lines. lines ++ all_lines (map report_strip us)) (lines-back (report unit)) ∙ ap (λ rest. report unit ++ rest) (lines-all us)
 
-  feeds-are : (lines : List ℕ) → put_at 6 (line_puts lines ++ end_put) ≡ feeds lines
-  feeds-are [] = refl
-  feeds-are (line ∷ rest) = ap (λ more. item_feed line ∷ more) (feeds-are rest)
-
-  module _ (items : List ℕ) where
-    abbrev us : List (List ℕ)
-    us = units kit items
+  module _ (items : List Item) (are : AreItems items) where
+    abbrev us : List (List Item)
+    us = units items
 
     -- all that each buffer is given in the end
-    abbrev whole : ℕ → List Parcel
+    abbrev pub whole : ℕ → List (Parcel L)
     whole c =
-        if c == 1 then feeds items else if c == 2 then parcels (map (unit_stream kit) (dealt us).a) else if c == 3 then parcels (map (unit_stream kit) (dealt us).b)
-        else if c == 4 then parcels (map (report_stream kit) (dealt us).a) else if c == 5 then parcels (map (report_stream kit) (dealt us).b)
-        else feeds (all_lines (map (report_stream kit) us))
+        if c == 1 then deck_feeds items else if c == 2 then parcels (map unit_strip (dealt us).a) else if c == 3 then parcels (map unit_strip (dealt us).b)
+        else if c == 4 then parcels (map report_strip (dealt us).a) else if c == 5 then parcels (map report_strip (dealt us).b)
+        else line_feeds (all_lines (map report_strip us))
 
     abbrev ClosedAt : ℕ → Type 0
-    ClosedAt c = (n : ℕ) → IsPrefixOf (put_at c (alone (process kit (seat c Sender)) n (process kit (seat c Sender)).start whole)) (whole c)
+    ClosedAt c = (n : ℕ) → IsPrefixOf (put_at c (alone F (process J (seat c Sender)) n (process J (seat c Sender)).start whole)) (whole c)
 
-    some-units : AllByRecursion (λ unit. is_some unit ≡ true) us
-    some-units = units-some kit false [] items
+    abbrev IsGoodUnit : List Item → Type 0
+    IsGoodUnit unit = AreItems unit × IsUnit unit
 
-    both-some : BothAll (λ unit. is_some unit ≡ true) (dealt us)
-    both-some = dealt-all (λ unit. is_some unit ≡ true) us some-units
+    good-units : AllByRecursion IsGoodUnit us
+    good-units = all-pair AreItems IsUnit us (units-all IsItem items are) (are-units items).each
+
+    unit-strips : (some : List (List Item)) → AllByRecursion IsGoodUnit some → AllByRecursion IsStrip (map unit_strip some)
+    unit-strips some all = map-all IsGoodUnit IsStrip unit_strip some (λ unit is. unit-is unit is.0 (some-unit unit is.1)) all
+
+    abbrev HasReport : List Item → Type 0
+    HasReport unit = AreItems unit × (is_some (report unit) ≡ true)
+
+    report-strips : AllByRecursion IsStrip (map report_strip us)
+    report-strips =
+        map-all HasReport IsStrip report_strip us (λ unit is. report-is unit is.0 is.1)
+        (all-pair AreItems (λ unit. is_some (report unit) ≡ true) us (units-all IsItem items are) (by.some items F))
+
+    both : BothAll IsGoodUnit (dealt us)
+    both = dealt-all IsGoodUnit us good-units
+
+    dealt-at : (c : ℕ) (puts : List (Put L)) (some : List (List Item)) → put_at c puts ≡ as_pages (streams some ++ empty_page ∷ []) → put_at c puts ≡ parcels (map unit_strip some)
+    dealt-at c puts some e = e ∙ ap as_pages (streams-put some) ∙ as-parcels L (map unit_strip some)
 
     closed-2 : ClosedAt 2
-    closed-2 n = subst (IsPrefixOf (put_at 2 (alone (process kit 2) n (process kit 2).start whole))) (streams-parcels kit (dealt us).a) (input-alone kit items n whole refl).0
+    closed-2 n =
+        let is = input-alone F items whole refl in
+        subst (IsPrefixOf (put_at 2 (alone F (process J 2) n (process J 2).start whole))) (dealt-at 2 is.puts (dealt us).a is.at_a)
+        (first-put F (process J 2) 2 (process J 2).start HasDealt whole is.left is.puts is.goes is.over n)
 
     closed-3 : ClosedAt 3
-    closed-3 n = subst (IsPrefixOf (put_at 3 (alone (process kit 2) n (process kit 2).start whole))) (streams-parcels kit (dealt us).b) (input-alone kit items n whole refl).1
+    closed-3 n =
+        let is = input-alone F items whole refl in
+        subst (IsPrefixOf (put_at 3 (alone F (process J 2) n (process J 2).start whole))) (dealt-at 3 is.puts (dealt us).b is.at_b)
+        (first-put F (process J 2) 3 (process J 2).start HasDealt whole is.left is.puts is.goes is.over n)
+
+    made-at : (side : Twin) (some : List (List Item))
+        → put_at (from_job side) (page_puts {L = L} side (all_put (map (made jobs F side) (map unit_strip some)))) ≡ parcels (map report_strip some)
+    made-at side some =
+        put-all L side (all_put (map (made jobs F side) (map unit_strip some))) ∙ as-parcels L (map (made jobs F side) (map unit_strip some)) ∙ ap parcels (reports-made side some)
 
     closed-4 : ClosedAt 4
-    closed-4 n = subst (λ ss. IsPrefixOf (put_at 4 (alone (process kit 3) n (process kit 3).start whole)) (parcels ss)) (reports-a (dealt us).a)
-        (job-alone kit is A (map (unit_stream kit) (dealt us).a)
-        (map-all (λ unit. is_some unit ≡ true) IsStream (unit_stream kit) (dealt us).a (unit-is kit) both-some.a) n whole refl)
+    closed-4 n =
+        let ss = map unit_strip (dealt us).a in
+        let is = job-alone jobs F A ss (unit-strips (dealt us).a both.a) whole refl in
+        subst (IsPrefixOf (put_at 4 (alone F (process J 3) n (process J 3).start whole))) (made-at A (dealt us).a)
+        (first-put F (process J 3) 4 (process J 3).start HasWorked whole is.left (page_puts A (all_put (map (made jobs F A) ss))) is.goes is.over n)
 
     closed-5 : ClosedAt 5
-    closed-5 n = subst (λ ss. IsPrefixOf (put_at 5 (alone (process kit 4) n (process kit 4).start whole)) (parcels ss)) (reports-b (dealt us).b)
-        (job-alone kit is B (map (unit_stream kit) (dealt us).b)
-        (map-all (λ unit. is_some unit ≡ true) IsStream (unit_stream kit) (dealt us).b (unit-is kit) both-some.b) n whole refl)
+    closed-5 n =
+        let ss = map unit_strip (dealt us).b in
+        let is = job-alone jobs F B ss (unit-strips (dealt us).b both.b) whole refl in
+        subst (IsPrefixOf (put_at 5 (alone F (process J 4) n (process J 4).start whole))) (made-at B (dealt us).b)
+        (first-put F (process J 4) 5 (process J 4).start HasWorked whole is.left (page_puts B (all_put (map (made jobs F B) ss))) is.goes is.over n)
 
     closed-6 : ClosedAt 6
     closed-6 n =
-        let all = map (report_stream kit) us in
-        let first = output-alone all (map-all (λ unit. is_some unit ≡ true) IsStream (report_stream kit) us (report-is kit is) some-units) n whole
-            (ap (λ (d : Dealt Pages). parcels d.a) (sym (dealt-each (report_stream kit) us))) (ap (λ (d : Dealt Pages). parcels d.b) (sym (dealt-each (report_stream kit) us))) in
-        let put = alone (process kit 5) n (process kit 5).start whole in
-        subst (IsPrefixOf (put_at 6 put)) (feeds-are (all_lines all)) (put_at 6 first.0, sym (put-append 6 put first.0) ∙ ap (put_at 6) first.1)
+        let all = map report_strip us in
+        let is = output-alone F all report-strips whole
+            (ap (λ (d : Dealt Strip). parcels d.a) (sym (dealt-each report_strip us))) (ap (λ (d : Dealt Strip). parcels d.b) (sym (dealt-each report_strip us))) in
+        subst (IsPrefixOf (put_at 6 (alone F (process J 5) n (process J 5).start whole))) (feeds-are L (all_lines all))
+        (first-put F (process J 5) 6 (process J 5).start HasGathered whole is.left (line_puts (all_lines all) ++ end_put) is.goes is.over n)
 
     among : (P : ℕ → Type 0) (c : ℕ) → 2 ≤ c → c ≤ 6 → P 2 → P 3 → P 4 → P 5 → P 6 → P c
     among P c low high two three four five six =
@@ -187,12 +211,13 @@ module _ (kit : Kit) (is : IsKit kit) where
           ]
         ]
 
-    pub closed : (opening s : TwinState) (st : Stands (twin kit) opening s) (told : (b : ℕ) → IsTold (s.buffers b)) → IsClosed kit opening s st told whole
-    closed opening s st told c n low high = among ClosedAt c low high closed-2 closed-3 closed-4 closed-5 closed-6 n
+    closed : (opening s : TwinState L) (st : Stands (twin J) opening s) (told : (b : ℕ) → IsTold (s.buffers b)) (so : (p : ℕ) → AreLoadedSo F (s.histories p))
+        → IsClosed J opening s st told F so whole
+    closed opening s st told so c n low high = among ClosedAt c low high closed-2 closed-3 closed-4 closed-5 closed-6 n
 
     -- what went to the printer is the first of what one thread prints, and its end
-    pub prints-first : (opening s : TwinState) (st : Stands (twin kit) opening s) (told : (b : ℕ) → IsTold (s.buffers b))
-        → IsPrefixOf (passed (twin kit) s 1 Sender) (feeds items) → IsPrefixOf (passed (twin kit) s 6 Sender) (feeds (one_thread kit items))
-    prints-first opening s st told first =
-        subst (λ lines. IsPrefixOf (passed (twin kit) s 6 Sender) (feeds lines)) (lines-all us)
-        (kahn kit opening s st told whole first (closed opening s st told)).lines
+    pub prints-first : (opening s : TwinState L) → Stands (twin J) opening s → ((b : ℕ) → IsTold (s.buffers b)) → ((p : ℕ) → AreLoadedSo F (s.histories p))
+        → IsPrefixOf (passed (twin J) s 1 Sender) (deck_feeds items) → IsPrefixOf (passed (twin J) s 6 Sender) (line_feeds (one_thread J items F))
+    prints-first opening s st told so first =
+        subst (λ lines. IsPrefixOf (passed (twin J) s 6 Sender) (line_feeds lines)) (lines-all us ∙ sym (by.lines_are items F))
+        (kahn J opening s st told F so whole first (closed opening s st told so)).lines
