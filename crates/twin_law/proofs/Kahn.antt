@@ -302,17 +302,22 @@ module _ {L : Type 0} (J : Jobs L) (p : ℕ) (one : IsOne (twin J) p) where
           sym (append-nil (moved b Receiver (acts (twin J) p h))) ∙ ap (λ now. moved b Receiver (acts (twin J) p h) ++ now) (sym (none-delayed b Receiver (call p a))) in
       ((λ none. was.0 none ∙ same), subst (IsPrefixOf (seen b h)) same was.1)
 
-  -- what it took is the first of these lists; then what it put is the first of what it puts alone for them
-  pub put-alone : (F : FilesAs L) (quiet : IsQuiet (process J p)) (all : ℕ → List (Parcel L)) (h : List (Entry L)) → law.Follows (twin J) p h → AreLoadedSo F h
-      → ((b : ℕ) → IsPrefixOf (moved b Receiver (acts (twin J) p h)) (all b)) → (c n : ℕ) → (c == 0) ≡ false
-      → IsPrefixOf (moved c Sender (acts (twin J) p h)) (put_at c (alone F (process J p) (steps_more h n) (process J p).start all))
-  put-alone F quiet all h follows so took c n some =
+  -- what it took is the first of these lists; then what it put, followed by what it would put alone, is what it puts alone for them
+  pub puts-alone : (F : FilesAs L) (quiet : IsQuiet (process J p)) (all : ℕ → List (Parcel L)) (h : List (Entry L)) → law.Follows (twin J) p h → AreLoadedSo F h
+      → ((b : ℕ) → IsPrefixOf (moved b Receiver (acts (twin J) p h)) (all b)) → (n : ℕ)
+      → (ahead : ℕ → List (Parcel L)) × (puts h ++ alone F (process J p) n (place (process J p) h) ahead ≡ alone F (process J p) (steps_more h n) (process J p).start all)
+  puts-alone F quiet all h follows so took n =
       let first : (b : ℕ) → IsPrefixOf (seen b h) (all b) =
           λ b. prefix-trans (seen b h) (moved b Receiver (acts (twin J) p h)) (all b) (tied b h follows).1 (took b) in
       let ahead : ℕ → List (Parcel L) = λ b. (first b).0 in
       let same : Same (before_all h ahead) all = λ b. before-seen b h ahead follows ∙ (first b).1 in
-      let whole = tells J F p one quiet h n ahead follows so
-          ∙ alone-same F (process J p) (steps_more h n) (process J p).start (before_all h ahead) all same in
+      (ahead, tells J F p one quiet h n ahead follows so ∙ alone-same F (process J p) (steps_more h n) (process J p).start (before_all h ahead) all same)
+
+  pub put-alone : (F : FilesAs L) (quiet : IsQuiet (process J p)) (all : ℕ → List (Parcel L)) (h : List (Entry L)) → law.Follows (twin J) p h → AreLoadedSo F h
+      → ((b : ℕ) → IsPrefixOf (moved b Receiver (acts (twin J) p h)) (all b)) → (c n : ℕ) → (c == 0) ≡ false
+      → IsPrefixOf (moved c Sender (acts (twin J) p h)) (put_at c (alone F (process J p) (steps_more h n) (process J p).start all))
+  put-alone F quiet all h follows so took c n some =
+      let (ahead, whole) = puts-alone F quiet all h follows so took n in
       (put_at c (alone F (process J p) n (place (process J p) h) ahead),
       ap (λ ms. ms ++ put_at c (alone F (process J p) n (place (process J p) h) ahead)) (sym (put-sent c h some follows))
       ∙ sym (put-append c (puts h) (alone F (process J p) n (place (process J p) h) ahead)) ∙ ap (put_at c) whole)
