@@ -1,1 +1,2 @@
 pub mod UnitJobs
+mod Examples

@@ -104,7 +104,7 @@ module _ {L : Type 0} where
           | inr same ↦ (subst (λ a. Fits a r → CardIs (stands_behind card x a r) (put ++ moved_by 1 Sender (call 1 a) (went_by a r)) (read_all h ++ read_off (Does a r))
               (reads_end (Does a r) || end_read h)) same (λ fits. card-step x r put (read_all h) (end_read h) fits was)) follows.1.0
         ]
-    card-is (LacksMemory a r ∷ h) follows = absurd (let no = follows.1.0 in cc)
+    card-is (LacksMemory a r ∷ h) follows = absurd (let never = follows.1.0 in cc)
     card-is (Delays a ∷ h) follows = delay-still (place (card {L = L}) h) a (moved 1 Sender (acts (twin J) 1 h)) (read_all h) (end_read h) (card-is h follows.2)
 
   -- so what it put is the first of what is read of the whole deck

@@ -34,7 +34,7 @@ stops-all (b ∷ later) how h e =
     let P : Bool → Type 0 = λ t. has_stopped b h ≡ t → is_end (if t then stops_next later how h else Stop b) ≡ true → AllStopped h (b ∷ later) in
     elim (has_stopped b h) as P [ true ↦ (λ is e. (is, stops-all later how h e)) | false ↦ (λ is e. absurd cc) ] refl e
 
-closes-all : {L : Type 0} (buffers : List ℕ) (how : Outcome) (h : List (Entry L)) → is_end (closes buffers how h) ≡ true → AllStopped h buffers
+pub closes-all : {L : Type 0} (buffers : List ℕ) (how : Outcome) (h : List (Entry L)) → is_end (closes buffers how h) ≡ true → AllStopped h buffers
 closes-all buffers how h e =
     let P : Bool → Type 0 = λ t. is_end (if t then Release else stops_next buffers how h) ≡ true → AllStopped h buffers in
     elim (holds h) as P [ true ↦ (λ e. absurd cc) | false ↦ (λ e. stops-all buffers how h e) ] e
@@ -43,7 +43,7 @@ or-here : (t u : Bool) → u ≡ true → (t || u) ≡ true
 or-here true u e = refl
 or-here false u e = e
 
-still-stopped : {L : Type 0} (buffers : List ℕ) (a : Action) (r : Reply L) (h : List (Entry L)) → AllStopped h buffers → AllStopped (Does a r ∷ h) buffers
+pub still-stopped : {L : Type 0} (buffers : List ℕ) (a : Action) (r : Reply L) (h : List (Entry L)) → AllStopped h buffers → AllStopped (Does a r ∷ h) buffers
 still-stopped [] a r h all = tt
 still-stopped (b ∷ later) a r h all = (or-here (stops_at b a) (has_stopped b h) all.0, still-stopped later a r h all.1)
 
@@ -64,7 +64,7 @@ moves-end (TakesPage b) e = cc
 moves-end (Loads file) e = cc
 moves-end other e = cc
 
-working-end : (n : Option Action) (m : Aim) → is_end (working n m) ≡ true → m ≡ Finishes
+pub working-end : (n : Option Action) (m : Aim) → is_end (working n m) ≡ true → m ≡ Finishes
 working-end (Some (AwaitRoom b)) m e = absurd cc
 working-end (Some (AwaitItem b)) m e = absurd cc
 working-end (Some Request) m e = absurd (moves-end m e)
@@ -73,7 +73,7 @@ working-end (Some (TakePage b)) m e = absurd cc
 working-end (Some (Load file)) m e = absurd cc
 working-end other m e = begins-end m e
 
-finishes-closing : {L : Type 0} (p : Process L) (cause : Option Outcome) (m : Aim) → closing_by p cause m ≡ None → m ≡ Finishes → ⊥
+pub finishes-closing : {L : Type 0} (p : Process L) (cause : Option Outcome) (m : Aim) → closing_by p cause m ≡ None → m ≡ Finishes → ⊥
 finishes-closing p (Some how) m e f = cc
 finishes-closing p None Finishes e f = cc
 finishes-closing p None Reads e f = cc
