@@ -1,5 +1,5 @@
 -- The jobs of the units are the jobs of the items; each unit has an item and a job.
-use Rattle.std.proofs.Common.{◌≡◌, inl, inr, ℕ, zero, suc, ◌+◌, ◌≤◌, min, Bool, true, false, not, ◌&&◌, ◌||◌, if◌then◌else◌, cond, List, [], ◌∷◌, ◌++◌, Option, None, Some, refl, sym, ◌∙◌, ap, subst, arith}
+use Rattle.std.proofs.Common.{◌≡◌, inl, inr, ℕ, zero, suc, length, ◌+◌, ◌≤◌, min, Bool, true, false, not, ◌&&◌, ◌||◌, if◌then◌else◌, cond, List, [], ◌∷◌, ◌++◌, Option, None, Some, refl, sym, ◌∙◌, ap, subst, arith}
 use Rattle.std.specs.Prelude.{count_by, flat_map}
 use Rattle.std.specs.List.{AllByRecursion}
 use Rattle.std.proofs.lemmas.List.{append-nil}
@@ -306,3 +306,39 @@ units-all Is items all =
     let is = cut-all Is (kept false items) (kept-all Is false items all) in
     all-both (λ unit. AllByRecursion Is unit) (first_unit (cut_before_openers (kept false items)).front) (cut_before_openers (kept false items)).groups
     (first-all Is (cut_before_openers (kept false items)).front is.front) is.groups
+
+-- ---- the units have no more items than the deck
+abbrev pub lengths : List (List Item) → ℕ
+lengths [] = 0
+lengths (unit ∷ rest) = length unit + lengths rest
+
+few-kept : (inside : Bool) (items : List Item) → length (kept inside items) ≤ length items
+few-kept inside [] = omega arith
+few-kept inside (item ∷ rest) =
+    let few = few-kept (is_inside inside item) rest in
+    elim (is_dropped inside item) as (λ t. length (unless_dropped t item (kept (is_inside inside item) rest)) ≤ suc (length rest)) [
+      | true ↦ omega (arith, few)
+      | false ↦ omega (arith, few)
+    ]
+
+cut-lengths : (items : List Item) → length (cut_before_openers items).front + lengths (cut_before_openers items).groups ≡ length items
+cut-lengths [] = refl
+cut-lengths (item ∷ rest) =
+    let c = cut_before_openers rest in
+    let more = cut-lengths rest in
+    elim (opens item) as (λ t. length (before_cut t item c).front + lengths (before_cut t item c).groups ≡ suc (length rest)) [
+      | true ↦ omega (arith, more)
+      | false ↦ omega (arith, more)
+    ]
+
+first-lengths : (front : List Item) (groups : List (List Item)) → lengths (first_unit front ++ groups) ≡ length front + lengths groups
+first-lengths [] groups = omega arith
+first-lengths (item ∷ front) groups = refl
+
+pub few-items : (items : List Item) → lengths (units items) ≤ length items
+few-items items =
+    let c = cut_before_openers (kept false items) in
+    let first = first-lengths c.front c.groups in
+    let cut = cut-lengths (kept false items) in
+    let few = few-kept false items in
+    omega (arith, first, cut, few)
