@@ -1,5 +1,5 @@
 -- The jobs of the units are the jobs of the items; each unit has an item and a job.
-use Rattle.std.proofs.Common.{◌≡◌, inl, inr, ℕ, zero, suc, length, ◌+◌, ◌≤◌, min, Bool, true, false, not, ◌&&◌, ◌||◌, if◌then◌else◌, cond, List, [], ◌∷◌, ◌++◌, Option, None, Some, refl, sym, ◌∙◌, ap, subst, arith}
+use Rattle.std.proofs.Common.{◌≡◌, inl, inr, ℕ, suc, length, ◌+◌, ◌≤◌, Bool, true, false, not, ◌||◌, if◌then◌else◌, cond, List, [], ◌∷◌, ◌++◌, Option, None, Some, refl, sym, ◌∙◌, ap, subst, arith}
 use Rattle.std.specs.Prelude.{count_by, flat_map}
 use Rattle.std.specs.List.{AllByRecursion}
 use Rattle.std.proofs.lemmas.List.{append-nil}
@@ -45,7 +45,7 @@ opened-jobs : (item : Item) (o : Opener) (items : List Item) → opener_of item 
 opened-jobs item o items e =
     let front = (cut_before_openers items).front in
     let whole : cut (item ∷ front) ≡ record { front = []; groups = (o, front) ∷ [] } =
-        ap (λ o. before_groups item o (cut front)) e ∙ ap (before_groups item (Some o)) (front-plain items) in
+    ap (λ o. before_groups item o (cut front)) e ∙ ap (before_groups item (Some o)) (front-plain items) in
     ap (λ (c : Groups). stretch c.front ++ flat_map group_jobs c.groups) whole ∙ append-nil (group_jobs (o, front))
 
 same-by : (item : Item) (rest : List Item) (o : Option Opener) → opener_of item ≡ o → SameCut rest → SameCut (item ∷ rest)
@@ -72,7 +72,7 @@ first-jobs : (items front : List Item) → (cut_before_openers items).front ≡ 
 first-jobs items [] e = refl
 first-jobs items (item ∷ front) e =
     let plain : cut (item ∷ front) ≡ record { front = item ∷ front; groups = [] } =
-        subst (λ front. cut front ≡ record { front = front; groups = [] }) e (front-plain items) in
+    subst (λ front. cut front ≡ record { front = front; groups = [] }) e (front-plain items) in
     append-nil (jobs (item ∷ front))
     ∙ ap (λ (c : Groups). stretch c.front ++ flat_map group_jobs c.groups) plain ∙ append-nil (stretch (item ∷ front))
 
@@ -164,7 +164,7 @@ module _ (item : Item) (rest : List Item) where
       let now : is_inside false item ≡ false = rw (opens-none item None none refl) refl in
       let all : kept false (item ∷ rest) ≡ kept false rest = goes false (ap not e) ∙ ap (λ t. kept t rest) now in
       let none_more : count_by counts (item ∷ (cut rest).front) ≡ count_by counts (cut rest).front =
-          (let all = count-cons item (cut rest).front in let one : cond {A = ℕ} (counts item) 1 0 ≡ 0 = ap (λ t. cond {A = ℕ} t 1 0) e in omega (arith, all, one)) in
+      (let all = count-cons item (cut rest).front in let one : cond {A = ℕ} (counts item) 1 0 ≡ 0 = ap (λ t. cond {A = ℕ} t 1 0) e in omega (arith, all, one)) in
       subst (λ some. SameJobs false some (item ∷ rest)) (sym all) record {
         front = rw none (is.front ∙ sym none_more);
         groups = rw none is.groups;
@@ -206,14 +206,14 @@ counted-by : (item : Item) (rest : List Item) (t c : Bool) → opens item ≡ t 
 counted-by item rest true false e f all = absurd (blank-opens item e f)
 counted-by item rest false false e f all =
     let now : kept false (item ∷ rest) ≡ kept false rest =
-        ap (λ c. unless_dropped (not c) item (kept (is_inside false item) rest)) f ∙ ap (λ t. kept (t || false) rest) e in
+    ap (λ c. unless_dropped (not c) item (kept (is_inside false item) rest)) f ∙ ap (λ t. kept (t || false) rest) e in
     subst (λ some. Counted (cut_before_openers some).front) (sym now) all
 counted-by item rest true true e f all =
     let now : kept false (item ∷ rest) ≡ item ∷ kept (is_inside false item) rest = ap (λ c. unless_dropped (not c) item (kept (is_inside false item) rest)) f in
     subst (λ some. Counted (cut_before_openers some).front) (sym now) (rw e tt)
 counted-by item rest false true e f all =
     let now : kept false (item ∷ rest) ≡ item ∷ kept false rest =
-        ap (λ c. unless_dropped (not c) item (kept (is_inside false item) rest)) f ∙ ap (λ t. item ∷ kept (t || false) rest) e in
+    ap (λ c. unless_dropped (not c) item (kept (is_inside false item) rest)) f ∙ ap (λ t. item ∷ kept (t || false) rest) e in
     subst (λ some. Counted (cut_before_openers some).front) (sym now) (rw e (f, all))
 
 front-counted : (items : List Item) → FrontCounted items
@@ -234,29 +234,34 @@ first-is : (items front : List Item) → (cut_before_openers items).front ≡ fr
 first-is items [] e all = tt
 first-is items (item ∷ front) e all =
     let plain : cut (item ∷ front) ≡ record { front = item ∷ front; groups = [] } =
-        subst (λ front. cut front ≡ record { front = front; groups = [] }) e (front-plain items) in
+    subst (λ front. cut front ≡ record { front = front; groups = [] }) e (front-plain items) in
     let many : count_by counts (item ∷ front) ≡ 1 + count_by counts front = count-cons item front ∙ ap (λ t. cond t 1 0 + count_by counts front) all.0 in
-    let (job, is) = some-skipped (count_by counts (item ∷ front)) (omega (arith, many)) in
-    (record {
-      item = item;
-      others = front;
-      items_are = refl;
-      job = job;
-      more = [];
-      jobs_are = ap (λ (c : Groups). stretch c.front ++ flat_map group_jobs c.groups) plain ∙ append-nil (stretch (item ∷ front)) ∙ is;
-    }, tt)
+    let (job, is) = some-skipped (count_by counts (item ∷ front)) (omega (arith, many)) in (
+      record {
+        item = item;
+        others = front;
+        items_are = refl;
+        job = job;
+        more = [];
+        jobs_are = ap (λ (c : Groups). stretch c.front ++ flat_map group_jobs c.groups) plain ∙ append-nil (stretch (item ∷ front)) ∙ is;
+      },
+      tt,
+    )
 
 groups-by : (item : Item) (rest : List Item) (o : Option Opener) → opener_of item ≡ o → AllByRecursion IsUnit (cut_before_openers rest).groups
     → AllByRecursion IsUnit (cut_before_openers (item ∷ rest)).groups
 groups-by item rest None e all = rw (opens-none item None e refl) all
-groups-by item rest (Some o) e all = rw (opens-some item o e) (record {
+groups-by item rest (Some o) e all = rw (opens-some item o e) (
+  record {
     item = item;
     others = (cut_before_openers rest).front;
     items_are = refl;
     job = job_of o (before_end (cut_before_openers rest).front);
     more = stretch (after_end (cut_before_openers rest).front);
     jobs_are = opened-jobs item o rest e;
-  }, all)
+  },
+  all,
+)
 
 groups-are : (items : List Item) → AllByRecursion IsUnit (cut_before_openers items).groups
 groups-are [] = tt

@@ -1,5 +1,5 @@
 -- The units of a deck: an opener with all that stands behind it up to the next, each worked on apart.
-use Rattle.std.specs.Prelude.{◌≡◌, Bool, true, false, not, ◌&&◌, ◌||◌, List, [], ◌∷◌, ◌++◌, is_some}
+use Rattle.std.specs.Prelude.{Bool, true, false, not, ◌&&◌, ◌||◌, List, [], ◌∷◌, ◌++◌, is_some}
 use Rattle.solo_base.specs.declared.item.Item.{Item}
 use Rattle.deck_format.specs.Jobs.{opener_of, is_end, counts}
 

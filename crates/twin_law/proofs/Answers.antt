@@ -1,14 +1,12 @@
 -- Whatever a process of the twin network does next, where it may call there is an answer in which nothing fails.
-use Rattle.std.proofs.Common.{◌≡◌, ◌⊎◌, inl, inr, ℕ, zero, suc, ◌<◌, ◌==◌, Bool, true, false, List, [], ◌∷◌, ◌++◌, length, drop, map, Option, None, Some, refl, sym, ◌∙◌, ap, subst, arith}
+use Rattle.std.proofs.Common.{◌≡◌, ℕ, suc, ◌<◌, Bool, true, false, List, [], ◌∷◌, ◌++◌, length, drop, map, Option, None, Some, refl, sym, ◌∙◌, ap, subst, arith}
 use Rattle.queue_var.specs.Sides.{stopped_by}
 use Rattle.network_law.specs.Acts.{Went, Delayed, found_ready}
 use Rattle.network_law.specs.Acts as go
 use Rattle.network_law.specs.Buffer.{Buffer, Found, Ready, Lacking, Closed, found, parcel_found, IsFirst}
 use Rattle.network_law.specs.Desk.{asked}
 use Rattle.network_law.specs.Network.{IsEnabled, IsOne, MayCall, Fits, acts}
-use Rattle.network_law.specs.Network as law
-use Rattle.network_law.specs.Kept.{IsTold, Stands, IsReady, passed}
-use Rattle.network_law.specs.Processes.{CallsNext}
+use Rattle.network_law.specs.Kept.{Stands, passed}
 use Rattle.std.specs.List.{AllByRecursion}
 use Rattle.solo_base.specs.declared.item.Item.{Item}
 use Rattle.solo_base.specs.declared.item.Item.TheVariants.{Line, Spoiled}
@@ -29,7 +27,7 @@ use Rattle.solo_devices.specs.declared.card_read.CardRead.TheVariants as read
 use Rattle.batch_procs.specs.declared.actions.Reply.TheVariants as reply
 use Rattle.twin_law.specs.Process.{Action, ReadCard, PutFeed, TakeFeed, AwaitRoom, AwaitItem, Request, PutPage, TakePage, Load, Release, Local, Print, Stop, Ended, Entry, next_action}
 use Rattle.twin_law.specs.Table.{process}
-use Rattle.twin_law.specs.Twin.{seat, call, went, Suits, DeckGives, Allows, given, twin, TwinState, TwinEvent}
+use Rattle.twin_law.specs.Twin.{seat, call, went, Suits, DeckGives, Allows, twin, TwinState, TwinEvent}
 use Rattle.twin_law.specs.Opening.{is_line, AreGoodFiles, AreCards, IsSmooth}
 use Rattle.twin_law.proofs.Lawful.{good as good-next, lawful}
 use Rattle.twin_law.proofs.Marks.{marks-append}
@@ -144,10 +142,14 @@ module _ {L : Type 0} {J : Jobs L} (jobs : AreJobs J) where
   first-told : (b : ℕ) (buffer : Buffer (Parcel L)) (m : Bool) (ms : List Bool) (inside : List (Parcel L)) → buffer.marks ≡ m ∷ ms → buffer.inside ≡ Some inside
       → buffer.marks ≡ map is_last inside → AllByRecursion (KindAt (is_line b)) inside → First b buffer
   first-told b buffer m ms [] some told marks kinds = absurd (let no = sym some ∙ marks in cc)
-  first-told b buffer m ms (x ∷ rest) some told marks kinds = (x, kinds.0, record {
-    marked = marks ∙ ap (λ ms. is_last x ∷ ms) (ap (drop 1) (sym marks));
-    told = λ inside e. (let same : x ∷ rest ≡ inside = (let both = sym told ∙ e in cc) in sym same ∙ ap (λ ps. x ∷ ps) (ap (drop 1) same));
-  })
+  first-told b buffer m ms (x ∷ rest) some told marks kinds = (
+    x,
+    kinds.0,
+    record {
+      marked = marks ∙ ap (λ ms. is_last x ∷ ms) (ap (drop 1) (sym marks));
+      told = λ inside e. (let same : x ∷ rest ≡ inside = (let both = sym told ∙ e in cc) in sym same ∙ ap (λ ps. x ∷ ps) (ap (drop 1) same));
+    },
+  )
 
   -- where nothing is told, any of its kind may come
   abbrev Some-of : Bool → Bool → Type 0
@@ -161,11 +163,14 @@ module _ {L : Type 0} {J : Jobs L} (jobs : AreJobs J) where
   first-some : (b : ℕ) (buffer : Buffer (Parcel L)) (m : Bool) (ms : List Bool) (inside : Option (List (Parcel L))) → buffer.marks ≡ m ∷ ms → buffer.inside ≡ inside
       → ((inside : List (Parcel L)) → buffer.inside ≡ Some inside → (buffer.marks ≡ map is_last inside) × AllByRecursion (KindAt (is_line b)) inside) → First b buffer
   first-some b buffer m ms None some e known =
-      let (x, kind, last) = some-of (is_line b) m in
-      (x, kind, record {
-        marked = some ∙ ap (λ ms. m ∷ ms) (ap (drop 1) (sym some)) ∙ ap (λ m. m ∷ drop 1 buffer.marks) (sym last);
-        told = λ inside told. absurd (let no = sym e ∙ told in cc);
-      })
+      let (x, kind, last) = some-of (is_line b) m in (
+        x,
+        kind,
+        record {
+          marked = some ∙ ap (λ ms. m ∷ ms) (ap (drop 1) (sym some)) ∙ ap (λ m. m ∷ drop 1 buffer.marks) (sym last);
+          told = λ inside told. absurd (let no = sym e ∙ told in cc);
+        },
+      )
   first-some b buffer m ms (Some inside) some e known = first-told b buffer m ms inside some e (known inside e).0 (known inside e).1
 
   first-of : (b : ℕ) (buffer : Buffer (Parcel L)) (all : List Bool) → buffer.marks ≡ all → 0 < length buffer.marks

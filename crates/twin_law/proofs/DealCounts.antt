@@ -1,7 +1,6 @@
 -- What the input process put of whole streams at both sides, at each of its places.
-use Rattle.std.proofs.Common.{◌≡◌, ◌⊎◌, inl, inr, ℕ, zero, suc, ◌+◌, if◌then◌else◌, Bool, true, false, ◌&&◌, List, [], ◌∷◌, ◌++◌, length, drop, map, Option, None, Some, refl, sym, ◌∙◌, ap, subst, arith}
+use Rattle.std.proofs.Common.{◌≡◌, ℕ, ◌+◌, if◌then◌else◌, Bool, true, false, List, [], ◌∷◌, ◌++◌, Option, None, Some, refl, sym, ◌∙◌, ap, subst, arith}
 use Rattle.std.proofs.lemmas.List.{append-nil}
-use Rattle.network_law.specs.Acts.{Call, Alone, At, Asks, Gives, Moves, Went, Delayed, Moved, moved, moved_by}
 use Rattle.network_law.specs.Network.{IsOne, acts}
 use Rattle.network_law.specs.Network as law
 use Rattle.page_codec.specs.Packing as pack
@@ -21,7 +20,7 @@ use Rattle.twin_law.specs.Process.{Entry, stands_behind, place, given_cause, cau
 use Rattle.twin_law.specs.Sides.{Twin, A, B}
 use Rattle.twin_law.specs.Input.{InputPlace, Takes, PutsFull, PutsLast, PutsEmptyA, PutsEmptyB, HasDealt, last_of, input_aims, pushes, packs, deals, ends_deck, behind_feed, behind_last, input}
 use Rattle.twin_law.specs.Twin.{call, went_by, Fits, twin}
-use Rattle.twin_law.proofs.Marks.{trues, bit, trues-append, trues-one, whole, whole-true, whole-none, whole-behind, marks-append, makes, IsAround, Made, marks_by, none-delayed, marks_at, made, stands, OneSide, plus-none, plus-false, plus-true, plus-bit}
+use Rattle.twin_law.proofs.Marks.{trues, trues-append, whole, whole-true, makes, marks_by, marks_at, stands}
 
 -- ---- 2 input and the two spools
 -- in turn: as many whole streams went to both sides, or one more to A
@@ -162,4 +161,3 @@ module _ {L : Type 0} (J : Jobs L) where
   pub input-stands : (h : List (Entry L)) → law.Follows (twin J) 2 h → caused input h ≡ None
       → InputIs (place input h) (marks_at J 2 2 Sender h) (marks_at J 2 3 Sender h)
   input-stands h follows none = stands J 2 (omega arith, omega arith) 2 3 Sender Sender InputIs (refl, refl) input-step h follows none
-

@@ -1,5 +1,5 @@
 -- What is dealt in turn, each made on its own side.
-use Rattle.std.proofs.Common.{◌≡◌, ℕ, zero, suc, ◌≤◌, List, [], ◌∷◌, ◌++◌, length, map, refl, sym, ◌∙◌, ap, subst, arith}
+use Rattle.std.proofs.Common.{◌≡◌, List, [], ◌∷◌, map, refl, ap}
 use Rattle.twin_law.specs.Sides.{Dealt, dealt}
 
 -- the reports of the units, each made on its own side

@@ -1,9 +1,8 @@
 -- Each enabled event keeps what the deck, the paper and the files tell.
-use Rattle.std.proofs.Common.{◌≡◌, ◌⊎◌, inl, inr, ℕ, zero, suc, ◌||◌, Bool, true, false, List, [], ◌∷◌, ◌++◌, length, drop, Option, None, Some, refl, sym, ◌∙◌, ap, subst, option_map, arith}
+use Rattle.std.proofs.Common.{◌≡◌, inl, inr, ℕ, zero, suc, ◌||◌, true, false, List, [], ◌∷◌, ◌++◌, length, drop, Option, None, Some, refl, sym, ◌∙◌, ap, subst, option_map, arith}
 use Rattle.std.proofs.lemmas.List.{append_assoc, append-nil}
 use Rattle.std.proofs.lemmas.Bool.Decides.{eqb_tells}
 use Rattle.network_run.specs.Law.{AreEnabled, run}
-use Rattle.network_run.specs.Law as driver
 use Rattle.network_law.specs.Network.{IsEnabled, IsOne, happens, opening}
 use Rattle.network_law.specs.Network as law
 use Rattle.network_law.specs.Kept.{Stands}
@@ -27,7 +26,7 @@ use Rattle.twin_law.specs.Alone.{IsLoadedSo, AreLoadedSo}
 use Rattle.twin_law.specs.Told.{read_all, reads_end, end_read}
 use Rattle.twin_law.proofs.Lawful.{lawful}
 use Rattle.twin_law.proofs.Open.{reads-first, prints-last}
-use Rattle.twin_law.proofs.Paper.{Paper, PaperIs, paper-more}
+use Rattle.twin_law.proofs.Paper.{PaperIs, paper-more}
 
 -- ---- the deck
 pub record DeckIs {L : Type 0} (items : List Item) (deck : Option (List Item)) (h : List (Entry L)) : Type 0 where
@@ -197,7 +196,7 @@ module _ {L : Type 0} where
                 (subst (λ q. DeckIs items s.devices.deck (s.histories q)) (sym is.1) (d.deck items told))))
             | inr differ ↦
                 let none = read-nothing event.entry (not-read (action_of event.entry)
-                    (λ e. differ.1 (reads-first J p (s.histories p) enabled.one (enabled.next ∙ ap Some e)))) in
+                (λ e. differ.1 (reads-first J p (s.histories p) enabled.one (enabled.next ∙ ap Some e)))) in
                 subst (λ h. DeckIs items after.devices.deck h) (sym (set-other s.histories p own 1 (λ e. differ.1 (sym e))))
                 (deck-still items s.devices.deck (s.histories 1) event.entry none (d.deck items told))
           ]
@@ -211,13 +210,13 @@ module _ {L : Type 0} where
                 (subst (λ q. Suits J (process J q) event.entry) is.1 enabled.suits) enabled.allowed (d.paper given told))
             | inr differ ↦
                 let none = gains-nothing s.devices event.entry event.gained (not-print (action_of event.entry)
-                    (λ line e. differ.1 (prints-last J p (s.histories p) line enabled.one (enabled.next ∙ ap Some e)))) enabled.allowed in
+                (λ line e. differ.1 (prints-last J p (s.histories p) line enabled.one (enabled.next ∙ ap Some e)))) enabled.allowed in
                 let is = d.paper given told in
                 subst (λ h. PaperIs given after.devices.paper h) (sym (set-other s.histories p own 6 (λ e. differ.1 (sym e))))
                 record { gained = is.gained; now_is = paper-none s.devices.paper given is.gained event.gained none is.now_is; free = is.free; part = is.part }
           ] where
-        six : IsOne (twin J) 6
-        six = (omega arith, omega arith)
+            six : IsOne (twin J) 6
+            six = (omega arith, omega arith)
 
       loaded-after : (found : FilesAs L) → start.devices.files ≡ Some found → (q : ℕ) → AreLoadedSo found (after.histories q)
       loaded-after found told q =

@@ -1,7 +1,6 @@
 -- The end moved once, or not yet, at each place of the four that put it or take it.
-use Rattle.std.proofs.Common.{◌≡◌, ◌⊎◌, inl, inr, ℕ, zero, suc, ◌+◌, if◌then◌else◌, Bool, true, false, ◌&&◌, List, [], ◌∷◌, ◌++◌, length, drop, map, Option, None, Some, refl, sym, ◌∙◌, ap, subst, arith}
-use Rattle.std.proofs.lemmas.List.{append-nil}
-use Rattle.network_law.specs.Acts.{Call, Alone, At, Asks, Gives, Moves, Went, Delayed, Moved, moved, moved_by}
+use Rattle.std.proofs.Common.{◌≡◌, ℕ, ◌+◌, if◌then◌else◌, Bool, true, false, ◌&&◌, List, [], ◌∷◌, ◌++◌, Option, None, Some, refl, sym, ◌∙◌, ap, arith}
+use Rattle.network_law.specs.Acts.{At, Moves, Moved}
 use Rattle.network_law.specs.Network.{IsOne, acts}
 use Rattle.network_law.specs.Network as law
 use Rattle.std.specs.Prelude.{Result, Ok, Err}
@@ -31,7 +30,7 @@ use Rattle.twin_law.specs.Ends.{CardPlace, ReadsCard, PutsCard, PutsEnd, HasPut,
 use Rattle.twin_law.specs.Input.{InputPlace, Takes, PutsFull, PutsLast, PutsEmptyA, PutsEmptyB, HasDealt, last_of, input_aims, pushes, packs, deals, ends_deck, behind_feed, behind_last, input}
 use Rattle.twin_law.specs.Output.{Turn, OutputPlace, TakesLines, PutsLine, PutsOver, HasGathered, output_aims, puts_line, turn_behind, behind_lines, page_due, output}
 use Rattle.twin_law.specs.Twin.{call, went_by, Fits, twin}
-use Rattle.twin_law.proofs.Marks.{trues, bit, trues-append, trues-one, whole, whole-true, whole-none, whole-behind, marks-append, makes, IsAround, Made, marks_by, none-delayed, marks_at, made, stands, OneSide, plus-none, plus-false, plus-true, plus-bit}
+use Rattle.twin_law.proofs.Marks.{trues, bit, makes, marks_by, marks_at, stands, OneSide, plus-none, plus-false, plus-true, plus-bit}
 
 -- ---- 1 card and the line buffer 1: the end was put once
 abbrev pub card_ends : CardPlace → ℕ
@@ -171,7 +170,6 @@ output-ends-step PutsOver reply.Stopped xs ys fits none is = absurd cc
 output-ends-step HasGathered reply.Done xs ys fits none is = plus-none xs 1 is
 output-ends-step x r xs ys fits none is = absurd fits
 
-
 module _ {L : Type 0} (J : Jobs L) where
   none-at-1 : (side : Twin) (parcel : Parcel L) → marks_by 1 Receiver (At (to_job side) Sender Moves) (Moved parcel) ≡ []
   none-at-1 A parcel = refl
@@ -203,7 +201,6 @@ module _ {L : Type 0} (J : Jobs L) where
 
   pub input-ended : (h : List (Entry L)) → law.Follows (twin J) 2 h → caused input h ≡ None → trues (marks_at J 2 1 Receiver h) ≡ input_ends (place input h)
   input-ended h follows none = stands J 2 (omega arith, omega arith) 1 1 Receiver Receiver (OneSide input_ends) refl input-ends-step h follows none
-
 
   pub output-ended : (h : List (Entry L)) → law.Follows (twin J) 5 h → caused output h ≡ None → trues (marks_at J 5 6 Sender h) ≡ output_ends (place output h)
   output-ended h follows none = stands J 5 (omega arith, omega arith) 6 6 Sender Sender (OneSide output_ends) refl output-ends-step h follows none

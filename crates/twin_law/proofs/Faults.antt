@@ -1,6 +1,5 @@
 -- Each fault of a process is one of its own.
-use Rattle.std.proofs.Common.{◌≡◌, ◌⊎◌, inl, inr, ℕ, ◌%◌, ◌^◌, ◌≤◌, arith, Bool, true, false, List, [], ◌∷◌, Option, None, Some, refl, sym, ◌∙◌, ap, subst}
-use Rattle.std.specs.Prelude.{Result, Ok, Err}
+use Rattle.std.proofs.Common.{◌≡◌, ◌⊎◌, inl, inr, ℕ, ◌%◌, ◌^◌, arith, Bool, true, List, [], ◌∷◌, Option, None, Some, refl, sym, subst}
 use Rattle.batch_procs.specs.Faults.{IsDamaged}
 use Rattle.network_law.specs.Network.{IsOne}
 use Rattle.network_law.specs.Network as law

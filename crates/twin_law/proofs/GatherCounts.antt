@@ -1,12 +1,9 @@
 -- What the output process took of whole streams from both sides, at each of its places.
-use Rattle.std.proofs.Common.{◌≡◌, ◌⊎◌, inl, inr, ℕ, zero, suc, ◌+◌, if◌then◌else◌, Bool, true, false, ◌&&◌, List, [], ◌∷◌, ◌++◌, length, drop, map, Option, None, Some, refl, sym, ◌∙◌, ap, subst, arith}
-use Rattle.std.proofs.lemmas.List.{append-nil}
-use Rattle.network_law.specs.Acts.{Call, Alone, At, Asks, Gives, Moves, Went, Delayed, Moved, moved, moved_by}
+use Rattle.std.proofs.Common.{◌≡◌, ℕ, Bool, true, false, ◌&&◌, List, [], ◌∷◌, ◌++◌, None, refl, sym, ◌∙◌, ap, subst, arith}
+use Rattle.network_law.specs.Acts.{At, Moves, Moved}
 use Rattle.network_law.specs.Network.{IsOne, acts}
 use Rattle.network_law.specs.Network as law
-use Rattle.std.specs.Prelude.{Result, Ok, Err, ◌%◌, ◌^◌}
-use Rattle.page_codec.specs.Packing as pack
-use Rattle.batch_procs.specs.Relays.{mark-of}
+use Rattle.std.specs.Prelude.{◌%◌, ◌^◌}
 use Rattle.solo_base.specs.declared.item.Item.{Item}
 use Rattle.solo_base.specs.declared.page.Page.{Page}
 use Rattle.solo_base.specs.declared.outcome.Side.TheVariants.{Receiver}
@@ -24,7 +21,7 @@ use Rattle.twin_law.specs.Output.{Turn, OutputPlace, TakesLines, PutsLine, PutsO
 use Rattle.twin_law.specs.Twin.{call, went_by, Fits, twin}
 use Rattle.twin_law.proofs.PagesRead.{read-either}
 use Rattle.twin_law.proofs.DealCounts.{InTurn, turn-nil, turn-false-a, turn-false-b, turn-true-a, turn-true-b}
-use Rattle.twin_law.proofs.Marks.{trues, bit, trues-append, trues-one, whole, whole-true, whole-none, whole-behind, marks-append, makes, IsAround, Made, marks_by, none-delayed, marks_at, made, stands, OneSide, plus-none, plus-false, plus-true, plus-bit}
+use Rattle.twin_law.proofs.Marks.{trues, makes, marks_by, marks_at, stands}
 
 -- ---- 5 output: whole streams in turn, and the end
 abbrev pub OutputIs : OutputPlace → List Bool → List Bool → Type 0
@@ -88,10 +85,10 @@ taken-is t page last parcel us vs same none is =
     let five : moved5 ≡ got5 t.side last = got-5 t.side parcel ∙ ap (got5 t.side) same in
     read-either (λ result. fault_in (damage result) ≡ None → OutputIs (behind_lines t result) (us ++ moved4) (vs ++ moved5)) (t.pages % 2 ^ 16) last page
     (λ items none. output-puts (lines_of items) (turn_behind t last items) (last && t.ended) (us ++ moved4) (vs ++ moved5)
-      (subst (λ ms. InTurn (turn_behind t last items).side (trues (us ++ ms)) (trues (vs ++ moved5))) (sym four)
-      (subst (λ ms. InTurn (turn_behind t last items).side (trues (us ++ got4 t.side last)) (trues (vs ++ ms))) (sym five)
-      (subst (λ side. InTurn side (trues (us ++ got4 t.side last)) (trues (vs ++ got5 t.side last))) (turned-is t last items)
-      (turn-on t.side last us vs is)))))
+    (subst (λ ms. InTurn (turn_behind t last items).side (trues (us ++ ms)) (trues (vs ++ moved5))) (sym four)
+    (subst (λ ms. InTurn (turn_behind t last items).side (trues (us ++ got4 t.side last)) (trues (vs ++ ms))) (sym five)
+    (subst (λ side. InTurn side (trues (us ++ got4 t.side last)) (trues (vs ++ got5 t.side last))) (turned-is t last items)
+    (turn-on t.side last us vs is)))))
     (λ bad none. absurd cc) none
 
 output-step : {L : Type 0} (x : OutputPlace) (r : Reply L) (us vs : List Bool) → Fits (makes (output_aims x)) r → given_cause output x (makes (output_aims x)) r ≡ None → OutputIs x us vs
@@ -106,7 +103,6 @@ output-step PutsOver reply.Done us vs fits none is = tt
 output-step PutsOver reply.Stopped us vs fits none is = absurd cc
 output-step HasGathered reply.Done us vs fits none is = tt
 output-step x r us vs fits none is = absurd fits
-
 
 module _ {L : Type 0} (J : Jobs L) where
   pub output-stands : (h : List (Entry L)) → law.Follows (twin J) 5 h → caused output h ≡ None

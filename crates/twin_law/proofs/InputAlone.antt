@@ -1,5 +1,5 @@
 -- The input process alone: to each side its units, dealt in turn, each as a stream of pages, and then an empty stream.
-use Rattle.std.proofs.Common.{◌≡◌, ℕ, zero, suc, ◌≤◌, ◌==◌, ◌&&◌, ◌||◌, not, Bool, true, false, if◌then◌else◌, List, [], ◌∷◌, ◌++◌, drop, Option, None, Some, refl, sym, ◌∙◌, ap, subst, arith}
+use Rattle.std.proofs.Common.{◌≡◌, ℕ, zero, suc, ◌&&◌, ◌||◌, not, Bool, true, false, if◌then◌else◌, List, [], ◌∷◌, ◌++◌, drop, Option, None, Some, refl, sym, ◌∙◌, ap, subst, arith}
 use Rattle.std.specs.Prelude.{option_to_list}
 use Rattle.deck_format.specs.Jobs.{is_end}
 use Rattle.std.proofs.lemmas.List.{append_assoc, append-nil}
@@ -124,14 +124,15 @@ module _ (L : Type 0) where
   -- a unit that is whole, and then the others from the other side
   unit-done : (side : Twin) (front : List Page) (last : Page) (unit : List Item) (puts : List (Put L)) (us : List (List Item)) → unit_pages unit ≡ front ++ last ∷ []
       → IsDealt (other side) [] puts us → IsDealt side front (put_to side last ++ puts) (unit ∷ us)
-  unit-done side front last unit puts us whole is =
-      (ap (λ ps. as_pages front ++ ps) (here side last puts)
-      ∙ ap (λ ps. as_pages front ++ OfPage last (mark last) ∷ ps) (sym (ap (λ of. put_at (to_job of) puts) (twice side)) ∙ is.1)
-      ∙ sym (pages-append L front (last ∷ (streams (dealt us).b ++ empty_page ∷ [])))
-      ∙ ap as_pages (sym (append_assoc front (last ∷ []) (streams (dealt us).b ++ empty_page ∷ []))
+  unit-done side front last unit puts us whole is = (
+    ap (λ ps. as_pages front ++ ps) (here side last puts)
+        ∙ ap (λ ps. as_pages front ++ OfPage last (mark last) ∷ ps) (sym (ap (λ of. put_at (to_job of) puts) (twice side)) ∙ is.1)
+        ∙ sym (pages-append L front (last ∷ (streams (dealt us).b ++ empty_page ∷ [])))
+        ∙ ap as_pages (sym (append_assoc front (last ∷ []) (streams (dealt us).b ++ empty_page ∷ []))
         ∙ ap (λ ps. ps ++ (streams (dealt us).b ++ empty_page ∷ [])) (sym whole)
         ∙ sym (append_assoc (unit_pages unit) (streams (dealt us).b) (empty_page ∷ []))),
-      elsewhere side last puts ∙ is.0)
+    elsewhere side last puts ∙ is.0,
+  )
 
   ends-dealt : (side : Twin) → IsDealt side [] empties []
   ends-dealt side = (empties-at side, empties-at (other side))
@@ -186,12 +187,13 @@ module _ (L : Type 0) where
       let next = hand_after (Known h hs) item in
       let front : Front h (hs ++ item ∷ []) ≡ Front h hs ++ page ∷ [] = front-more h hs item ∙ ap (λ given. Front h hs ++ option_to_list given) is in
       let was = subst (λ f. IsDealt side f (gives L side group (Some next) rest) (units_from group (h ∷ (hs ++ item ∷ [])) rest)) front
-          (subst (λ k. IsDealt side (Front h (hs ++ item ∷ [])) (gives L side group (Some k) rest) (units_from group (h ∷ (hs ++ item ∷ [])) rest)) (hand-more h hs item)
-          (right side group h (hs ++ item ∷ []))) in
-      (ap (λ ps. as_pages (Front h hs) ++ ps) (here side page (gives L side group (Some next) rest))
-      ∙ sym (append_assoc (as_pages (Front h hs)) (OfPage page (mark page) ∷ []) (put_at (to_job side) (gives L side group (Some next) rest)))
-      ∙ ap (λ ps. ps ++ put_at (to_job side) (gives L side group (Some next) rest)) (sym (pages-append L (Front h hs) (page ∷ []))) ∙ was.0,
-      elsewhere side page (gives L side group (Some next) rest) ∙ was.1)
+      (subst (λ k. IsDealt side (Front h (hs ++ item ∷ [])) (gives L side group (Some k) rest) (units_from group (h ∷ (hs ++ item ∷ [])) rest)) (hand-more h hs item)
+      (right side group h (hs ++ item ∷ []))) in (
+        ap (λ ps. as_pages (Front h hs) ++ ps) (here side page (gives L side group (Some next) rest))
+            ∙ sym (append_assoc (as_pages (Front h hs)) (OfPage page (mark page) ∷ []) (put_at (to_job side) (gives L side group (Some next) rest)))
+            ∙ ap (λ ps. ps ++ put_at (to_job side) (gives L side group (Some next) rest)) (sym (pages-append L (Front h hs) (page ∷ []))) ∙ was.0,
+        elsewhere side page (gives L side group (Some next) rest) ∙ was.1,
+      )
 
   or-true : (t u : Bool) → t ≡ true → (t || u) ≡ true
   or-true true u e = refl

@@ -1,8 +1,8 @@
 -- A job process alone: for each stream of items the lines of its unit as a stream, and then an empty one.
-use Rattle.std.proofs.Common.{◌≡◌, ℕ, zero, suc, ◌+◌, ◌%◌, ◌^◌, ◌≤◌, ◌==◌, Bool, true, false, if◌then◌else◌, List, [], ◌∷◌, ◌++◌, length, drop, map, Option, None, Some, refl, sym, ◌∙◌, ap, subst, arith}
-use Rattle.std.specs.Prelude.{Result, Ok, Err, option_to_list}
+use Rattle.std.proofs.Common.{◌≡◌, ℕ, zero, suc, ◌+◌, ◌≤◌, Bool, true, false, List, [], ◌∷◌, ◌++◌, length, drop, map, Option, None, Some, refl, sym, ◌∙◌, ap, subst, arith}
+use Rattle.std.specs.Prelude.{option_to_list}
 use Rattle.std.specs.List.{AllByRecursion}
-use Rattle.std.proofs.lemmas.List.{append_assoc, append-nil, length-append, length-map, map-append}
+use Rattle.std.proofs.lemmas.List.{append_assoc, append-nil, length-map, map-append}
 use Rattle.solo_base.specs.declared.item.Item.{Item}
 use Rattle.solo_base.specs.declared.item.Item.TheVariants.{Line}
 use Rattle.solo_base.specs.declared.page.Page.{Page}
@@ -14,13 +14,12 @@ use Rattle.batch_procs.specs.Jobs.{Jobs, AreJobs, FilesAs}
 use Rattle.batch_procs.specs.Parcels.{Parcel, OfPage, mark}
 use Rattle.twin_law.specs.Process.{Process}
 use Rattle.twin_law.specs.Sides.{Twin, A, B, to_job, from_job}
-use Rattle.twin_law.specs.Input.{last_of, empty_page, packs}
+use Rattle.twin_law.specs.Input.{last_of, empty_page}
 use Rattle.twin_law.specs.Job.{Stream, no_stream, JobPlace, TakesItems, LoadsFile, Toils, PutsLines, PutsLastLines, HasWorked, wanted, toils, behind_items, with_page, behind_page, page_taken, with_load, packed_on, packs_lines, with_packed, rests, lines_ahead, behind_work, job_behind, job}
 use Rattle.twin_law.specs.Output.{is_some}
-use Rattle.twin_law.specs.Twin.{given}
 use Rattle.twin_law.specs.Alone.{reply_of, first_parcel, less_one, Put, alone, put_at, puts}
 use Rattle.twin_law.proofs.Goes.{Goes, goes-on, stays-put}
-use Rattle.twin_law.proofs.Strips.{good, read-marked, given_pages, last_hand, hand-append, given-append, all_pages, as_pages, Strip, IsStrip, empty-form, parcels, all_put}
+use Rattle.twin_law.proofs.Strips.{read-marked, given_pages, last_hand, hand-append, given-append, all_pages, as_pages, Strip, IsStrip, empty-form, parcels, all_put}
 
 abbrev pub page_puts : {L : Type 0} → Twin → List Page → List (Put L)
 page_puts side [] = []
@@ -93,7 +92,7 @@ module _ {L : Type 0} {J : Jobs L} (jobs : AreJobs J) (F : FilesAs L) (side : Tw
       let rest = loads-go later now last w less in
       let one : Gets (LoadsFile file s last) w [] (toils (wanted J now) now last) w = λ n. (suc n, omega arith, refl) in
       let here : Gets (toils (wanted J s) s last) w [] (toils (wanted J now) now last) w =
-          subst (λ x. Gets x w [] (toils (wanted J now) now last) w) (sym (ap (λ files. toils files s last) e)) one in
+      subst (λ x. Gets x w [] (toils (wanted J now) now last) w) (sym (ap (λ files. toils files s last) e)) one in
       subst (λ (loads : List L). Gets (toils (wanted J s) s last) w [] (Toils (record s { loads = loads }) last) w) (append_assoc s.loads (F file ∷ []) (map F later))
       (goes-on F P (toils (wanted J s) s last) (toils (wanted J now) now last) (Toils (record now { loads = now.loads ++ map F later }) last) w w w [] [] here rest)
 
@@ -117,9 +116,9 @@ module _ {L : Type 0} {J : Jobs L} (jobs : AreJobs J) (F : FilesAs L) (side : Tw
       let over = rests (with_packed s (length (J.lines s.items s.loads last)) (last_hand hand (map Line rest))) last in
       let put : Gets (PutsLines page now last) w (page_puts side (page ∷ [])) (Toils now last) w = λ n. (suc n, omega arith, refl) in
       let ahead : lines_ahead J now last ≡ rest =
-          ap (λ all. drop (n + 1) all) parts ∙ ap (λ n. drop n ((front ++ line ∷ []) ++ rest)) longer ∙ drop-front (front ++ line ∷ []) rest in
+      ap (λ all. drop (n + 1) all) parts ∙ ap (λ n. drop n ((front ++ line ∷ []) ++ rest)) longer ∙ drop-front (front ++ line ∷ []) rest in
       let work : Gets (Toils now last) w [] (behind_work now last (packs_lines hand (n + 1) rest)) w =
-          subst (λ more. Gets (Toils now last) w [] (behind_work now last (packs_lines hand (n + 1) more)) w) ahead (λ n. (suc n, omega arith, refl)) in
+      subst (λ more. Gets (Toils now last) w [] (behind_work now last (packs_lines hand (n + 1) more)) w) ahead (λ n. (suc n, omega arith, refl)) in
       let more = all s last (front ++ line ∷ []) (n + 1) hand w parts longer in
       goes-on F P (PutsLines page now last) (Toils now last) over w w w (page_puts side (page ∷ [])) (page_puts side (given_pages hand (map Line rest))) put
       (goes-on F P (Toils now last) (behind_work s last (packs_lines hand (n + 1) rest)) over w w w [] (page_puts side (given_pages hand (map Line rest))) work more)
@@ -213,26 +212,26 @@ module _ {L : Type 0} {J : Jobs L} (jobs : AreJobs J) (F : FilesAs L) (side : Tw
       let start = TakesItems (mid n items) in
       let s = with_page (mid n items) more in
       let took : Gets start w [] (toils (wanted J s) s last) v =
-          subst (λ x. Gets start w [] x v) (ap (behind_page J (mid n items)) (read-marked n last more page form) ∙ behind-by last (items ++ more) s some)
-          (take-goes (mid n items) w page (mark page) rest e) in
+      subst (λ x. Gets start w [] x v) (ap (behind_page J (mid n items)) (read-marked n last more page form) ∙ behind-by last (items ++ more) s some)
+      (take-goes (mid n items) w page (mark page) rest e) in
       let want : wanted J s ≡ J.named more =
-          ap (λ k. drop k (J.named (items ++ more))) (length-map (J.named items) F) ∙ ap (drop (length (J.named items))) (jobs.named_add items more)
-          ∙ drop-front (J.named items) (J.named more) in
+      ap (λ k. drop k (J.named (items ++ more))) (length-map (J.named items) F) ∙ ap (drop (length (J.named items))) (jobs.named_add items more)
+      ∙ drop-front (J.named items) (J.named more) in
       let toil = Toils (ready n items more) last in
       let load : Gets (toils (wanted J s) s last) v [] toil v =
-          subst (λ (loads : List L). Gets (toils (wanted J s) s last) v [] (Toils (record s { loads = loads }) last) v) (sym (more-loaded items more))
-          (loads-go (J.named more) s last v want) in
+      subst (λ (loads : List L). Gets (toils (wanted J s) s last) v [] (Toils (record s { loads = loads }) last) v) (sym (more-loaded items more))
+      (loads-go (J.named more) s last v want) in
       let front = lines_so_far items false in
       let added_lines = rest_of items more last in
       let parts : lines_so_far (items ++ more) last ≡ front ++ added_lines = sym (added items more last).1 in
       let ahead : lines_ahead J (ready n items more) last ≡ added_lines = ap (drop (length front)) parts ∙ drop-front front added_lines in
       let hand = last_hand first_page (map Line front) in
       let work : Gets toil v [] (behind_work (ready n items more) last (packs_lines hand (length front) added_lines)) v =
-          subst (λ lines. Gets toil v [] (behind_work (ready n items more) last (packs_lines hand (length front) lines)) v) ahead (λ n. (suc n, omega arith, refl)) in
+      subst (λ lines. Gets toil v [] (behind_work (ready n items more) last (packs_lines hand (length front) lines)) v) ahead (λ n. (suc n, omega arith, refl)) in
       let packs : Gets (behind_work (ready n items more) last (packs_lines hand (length front) added_lines)) v (page_puts side (filled items more last)) (rests (worked n items more last) last) v =
-          subst (λ hand'. Gets (behind_work (ready n items more) last (packs_lines hand (length front) added_lines)) v (page_puts side (filled items more last))
-          (rests (with_packed (ready n items more) (length (lines_so_far (items ++ more) last)) hand') last) v) (hand-is items more last)
-          (packs-all added_lines (ready n items more) last front (length front) hand v parts refl) in
+      subst (λ hand'. Gets (behind_work (ready n items more) last (packs_lines hand (length front) added_lines)) v (page_puts side (filled items more last))
+      (rests (with_packed (ready n items more) (length (lines_so_far (items ++ more) last)) hand') last) v) (hand-is items more last)
+      (packs-all added_lines (ready n items more) last front (length front) hand v parts refl) in
       goes-on F P start (toils (wanted J s) s last) (rests (worked n items more last) last) w v v [] (page_puts side (filled items more last)) took
       (goes-on F P (toils (wanted J s) s last) toil (rests (worked n items more last) last) v v v [] (page_puts side (filled items more last)) load
       (goes-on F P toil (behind_work (ready n items more) last (packs_lines hand (length front) added_lines)) (rests (worked n items more last) last) v v v []
@@ -276,9 +275,9 @@ module _ {L : Type 0} {J : Jobs L} (jobs : AreJobs J) (F : FilesAs L) (side : Tw
       let same : (items ++ front) ++ left ≡ items ++ more = append_assoc items front left ∙ ap (λ more. items ++ more) (sym parts) in
       let later = stream-goes (next ∷ pages) left (n + 1) (items ++ front) rest v is (ap is_some same ∙ some) (less-here side w ∙ ap (drop 1) e) in
       let first : Gets (TakesItems (mid n items)) w (page_puts side (filled items front false)) (TakesItems (mid (n + 1) (items ++ front))) v =
-          page-goes n items front false w page (as_pages (next ∷ pages) ++ rest) e form (λ no. absurd cc) in
+      page-goes n items front false w page (as_pages (next ∷ pages) ++ rest) e form (λ no. absurd cc) in
       let both = goes-on F P (TakesItems (mid n items)) (TakesItems (mid (n + 1) (items ++ front))) (TakesItems no_stream) w v later.left
-          (page_puts side (filled items front false)) (page_puts side later.pages) first later.goes in
+      (page_puts side (filled items front false)) (page_puts side later.pages) first later.goes in
       record {
         pages = filled items front false ++ later.pages;
         left = later.left;
@@ -309,8 +308,8 @@ module _ {L : Type 0} {J : Jobs L} (jobs : AreJobs J) (F : FilesAs L) (side : Tw
   empty-goes w e =
       let v = less_one w (to_job side) in
       let took : Gets (TakesItems no_stream) w [] (PutsLastLines empty_page false) v =
-          subst (λ result. Gets (TakesItems no_stream) w [] (behind_page J no_stream result) v) (read-marked 0 true [] empty_page empty-form)
-          (take-goes no_stream w empty_page (mark empty_page) [] e) in
+      subst (λ result. Gets (TakesItems no_stream) w [] (behind_page J no_stream result) v) (read-marked 0 true [] empty_page empty-form)
+      (take-goes no_stream w empty_page (mark empty_page) [] e) in
       let put : Gets (PutsLastLines empty_page false) v (page_puts side (empty_page ∷ [])) HasWorked v = λ n. (suc n, omega arith, refl) in
       goes-on F P (TakesItems no_stream) (PutsLastLines empty_page false) HasWorked w v v [] (page_puts side (empty_page ∷ [])) took put
 
@@ -324,12 +323,12 @@ module _ {L : Type 0} {J : Jobs L} (jobs : AreJobs J) (F : FilesAs L) (side : Tw
       let first = stream-goes s.pages s.items 0 [] (parcels rest) w are.0.stream are.0.some e in
       let later = job-goes rest are.1 first.left first.here in
       let pages_are : first.pages ≡ report_pages s.items =
-          ap (λ lines. given_pages first_page (map Line lines) ++ first.pages) (sym lines-none) ∙ first.whole in
+      ap (λ lines. given_pages first_page (map Line lines) ++ first.pages) (sym lines-none) ∙ first.whole in
       let start : Gets (TakesItems no_stream) w (page_puts side (report_pages s.items)) (TakesItems no_stream) first.left =
-          subst (λ (stream : Stream L). Gets (TakesItems stream) w (page_puts side (report_pages s.items)) (TakesItems no_stream) first.left) mid-start
-          (subst (λ pages. Gets (TakesItems (mid 0 [])) w (page_puts side pages) (TakesItems no_stream) first.left) pages_are first.goes) in
+      subst (λ (stream : Stream L). Gets (TakesItems stream) w (page_puts side (report_pages s.items)) (TakesItems no_stream) first.left) mid-start
+      (subst (λ pages. Gets (TakesItems (mid 0 [])) w (page_puts side pages) (TakesItems no_stream) first.left) pages_are first.goes) in
       let both = goes-on F P (TakesItems no_stream) (TakesItems no_stream) HasWorked w first.left later.left (page_puts side (report_pages s.items))
-          (page_puts side (all_put (map made rest))) start later.goes in
+      (page_puts side (all_put (map made rest))) start later.goes in
       record {
         left = later.left;
         goes = subst (λ puts. Gets (TakesItems no_stream) w puts HasWorked later.left) (sym (page_puts-append L side (report_pages s.items) (all_put (map made rest)))) both;

@@ -1,10 +1,8 @@
 -- How many whole streams a job process took and put, and still owes, at each of its places.
-use Rattle.std.proofs.Common.{◌≡◌, ◌⊎◌, inl, inr, ℕ, zero, suc, ◌+◌, if◌then◌else◌, Bool, true, false, ◌&&◌, List, [], ◌∷◌, ◌++◌, length, drop, map, Option, None, Some, refl, sym, ◌∙◌, ap, subst, arith}
-use Rattle.std.proofs.lemmas.List.{append-nil}
-use Rattle.network_law.specs.Acts.{Call, Alone, At, Asks, Gives, Moves, Went, Delayed, Moved, moved, moved_by}
+use Rattle.std.proofs.Common.{◌≡◌, ℕ, ◌+◌, if◌then◌else◌, Bool, true, false, List, [], ◌∷◌, ◌++◌, Option, None, Some, refl, ap, arith}
 use Rattle.network_law.specs.Network.{IsOne, acts}
 use Rattle.network_law.specs.Network as law
-use Rattle.std.specs.Prelude.{Result, Ok, Err, ◌%◌, ◌^◌}
+use Rattle.std.specs.Prelude.{◌%◌, ◌^◌}
 use Rattle.page_codec.specs.Packing as pack
 use Rattle.batch_procs.specs.Relays.{mark-of}
 use Rattle.solo_base.specs.declared.item.Item.{Item}
@@ -21,9 +19,9 @@ use Rattle.batch_procs.specs.declared.actions.Reply.TheVariants as reply
 use Rattle.twin_law.specs.Process.{Entry, stands_behind, place, given_cause, caused}
 use Rattle.twin_law.specs.Sides.{A, B}
 use Rattle.twin_law.specs.Job.{Stream, JobPlace, TakesItems, LoadsFile, Toils, PutsLines, PutsLastLines, HasWorked, job_aims, wanted, toils, behind_items, with_page, behind_page, page_taken, with_load, Packed, packed_on, packs_lines, with_packed, rests, behind_packed, lines_ahead, next_stream, damage, job}
-use Rattle.twin_law.specs.Twin.{call, went_by, Fits, given, twin}
+use Rattle.twin_law.specs.Twin.{call, went_by, Fits, twin}
 use Rattle.twin_law.proofs.PagesRead.{read-either}
-use Rattle.twin_law.proofs.Marks.{trues, bit, trues-append, trues-one, whole, whole-true, whole-none, whole-behind, marks-append, makes, IsAround, Made, marks_by, none-delayed, marks_at, made, stands, OneSide, plus-none, plus-false, plus-true, plus-bit}
+use Rattle.twin_law.proofs.Marks.{trues, bit, trues-append, trues-one, makes, marks_by, marks_at, stands}
 
 -- ---- 3 and 4 job: whole streams taken, and still owed
 abbrev pub owed : {L : Type 0} → JobPlace L → ℕ

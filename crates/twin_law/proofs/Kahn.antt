@@ -1,6 +1,6 @@
 -- Whatever the order of the events, what went into each buffer is the first of what the processes give alone: of any lists, one for
 -- each buffer, that are closed under what each process puts alone for them.
-use Rattle.std.proofs.Common.{◌≡◌, ◌⊎◌, inl, inr, ℕ, zero, suc, ◌==◌, ◌&&◌, ◌≤◌, Bool, true, false, if◌then◌else◌, List, [], ◌∷◌, ◌++◌, Option, None, Some, refl, sym, ◌∙◌, ap, subst, arith}
+use Rattle.std.proofs.Common.{◌≡◌, ◌⊎◌, inl, inr, ℕ, ◌==◌, ◌&&◌, ◌≤◌, Bool, true, false, if◌then◌else◌, List, [], ◌∷◌, ◌++◌, Option, None, Some, refl, sym, ◌∙◌, ap, subst, arith}
 use Rattle.std.proofs.lemmas.List.{append_assoc, append-nil}
 use Rattle.std.proofs.lemmas.Bool.{eqb-true}
 use Rattle.std.proofs.lemmas.Bool.Decides.{eqb_tells}
@@ -10,7 +10,6 @@ use Rattle.network_law.specs.Acts as go
 use Rattle.network_law.specs.Network.{IsOne, acts}
 use Rattle.network_law.specs.Network as law
 use Rattle.network_law.specs.Kept.{IsTold, Stands, passed}
-use Rattle.network_law.specs.Processes.{CallsNext}
 use Rattle.solo_base.specs.declared.outcome.Side.{Side}
 use Rattle.solo_base.specs.declared.outcome.Side.TheVariants.{Sender, Receiver}
 use Rattle.solo_base.specs.declared.outcome.Outcome.{Outcome}
@@ -30,7 +29,7 @@ use Rattle.twin_law.specs.Output.{OutputPlace, TakesLines, PutsLine, PutsOver, H
 use Rattle.twin_law.specs.Table.{process}
 use Rattle.twin_law.specs.Twin.{seat, call, went_by, went, Fits, MayLack, twin, TwinState}
 use Rattle.twin_law.specs.Alone.{Put, alone, put_at, AreLoadedSo, puts_by, puts, before_entry, before_all, steps_more}
-use Rattle.twin_law.proofs.Lawful.{Shape, Closes, SeatedAt, next-shape, lawful, or-none, not-lacking}
+use Rattle.twin_law.proofs.Lawful.{Shape, SeatedAt, next-shape, lawful, or-none, not-lacking}
 use Rattle.twin_law.proofs.Marks.{IsAround, made-closes, none-delayed}
 use Rattle.twin_law.proofs.Tells.{Same, IsBad, IsQuiet, alone-same, tells}
 
@@ -243,8 +242,11 @@ around-unseen b (Ended how) r is = refl
 around-unseen b a r is = absurd is
 
 prefix-more : {T : Type 0} (a b c d : List T) → IsPrefixOf a b → c ≡ [] → IsPrefixOf (a ++ c) (b ++ d)
-prefix-more a b c d (rest, e) none = (rest ++ d, ap (λ c. (a ++ c) ++ (rest ++ d)) none ∙ ap (λ a. a ++ (rest ++ d)) (append-nil a)
-    ∙ sym (append_assoc a rest d) ∙ ap (λ b. b ++ d) e)
+prefix-more a b c d (rest, e) none = (
+  rest ++ d,
+  ap (λ c. (a ++ c) ++ (rest ++ d)) none ∙ ap (λ a. a ++ (rest ++ d)) (append-nil a)
+      ∙ sym (append_assoc a rest d) ∙ ap (λ b. b ++ d) e,
+)
 
 pub prefix-trans : {T : Type 0} (a b c : List T) → IsPrefixOf a b → IsPrefixOf b c → IsPrefixOf a c
 prefix-trans a b c (r, e) (q, f) = (r ++ q, sym (append_assoc a r q) ∙ ap (λ b. b ++ q) e ∙ f)
@@ -285,21 +287,23 @@ module _ {L : Type 0} (J : Jobs L) (p : ℕ) (one : IsOne (twin J) p) where
     by-cause : (cause : Option Outcome) → caused (process J p) h ≡ cause → Tied b h → Tied b (Does a r ∷ h)
     by-cause None is was =
         let same : seen b (Does a r ∷ h) ≡ moved b Receiver (acts (twin J) p (Does a r ∷ h)) =
-            ap (λ old. old ++ seen_by b a r) (was.0 is) ∙ ap (λ now. moved b Receiver (acts (twin J) p h) ++ now) (seen-now p b a r follows.1.0) in
+        ap (λ old. old ++ seen_by b a r) (was.0 is) ∙ ap (λ now. moved b Receiver (acts (twin J) p h) ++ now) (seen-now p b a r follows.1.0) in
         ((λ none. same), ([], append-nil (seen b (Does a r ∷ h)) ∙ same))
-    by-cause (Some how) is was =
-        ((λ none. absurd (let old = or-none (caused (process J p) h) _ none in let no = sym old ∙ is in cc)),
-        prefix-more (seen b h) (moved b Receiver (acts (twin J) p h)) (seen_by b a r) (moved_by b Receiver (call p a) (went_by a r)) was.1
-        (around-unseen b a r (caused-around h a how is follows.0)))
+    by-cause (Some how) is was = (
+      (λ none. absurd (let old = or-none (caused (process J p) h) _ none in let no = sym old ∙ is in cc)),
+      prefix-more (seen b h) (moved b Receiver (acts (twin J) p h)) (seen_by b a r) (moved_by b Receiver (call p a) (went_by a r)) was.1
+          (around-unseen b a r (caused-around h a how is follows.0)),
+    )
   tied b (LacksMemory a r ∷ h) follows =
-      let was = tied b h follows.2 in
-      ((λ none. absurd (not-lacking (caused (process J p) h) _ none)),
-      subst (λ ms. IsPrefixOf ms (moved b Receiver (acts (twin J) p h) ++ moved_by b Receiver (call p a) (went_by a r))) (append-nil (seen b h))
-      (prefix-more (seen b h) (moved b Receiver (acts (twin J) p h)) [] (moved_by b Receiver (call p a) (went_by a r)) was.1 refl))
+      let was = tied b h follows.2 in (
+        (λ none. absurd (not-lacking (caused (process J p) h) _ none)),
+        subst (λ ms. IsPrefixOf ms (moved b Receiver (acts (twin J) p h) ++ moved_by b Receiver (call p a) (went_by a r))) (append-nil (seen b h))
+            (prefix-more (seen b h) (moved b Receiver (acts (twin J) p h)) [] (moved_by b Receiver (call p a) (went_by a r)) was.1 refl),
+      )
   tied b (Delays a ∷ h) follows =
       let was = tied b h follows.2 in
       let same : moved b Receiver (acts (twin J) p h) ≡ moved b Receiver (acts (twin J) p (Delays a ∷ h)) =
-          sym (append-nil (moved b Receiver (acts (twin J) p h))) ∙ ap (λ now. moved b Receiver (acts (twin J) p h) ++ now) (sym (none-delayed b Receiver (call p a))) in
+      sym (append-nil (moved b Receiver (acts (twin J) p h))) ∙ ap (λ now. moved b Receiver (acts (twin J) p h) ++ now) (sym (none-delayed b Receiver (call p a))) in
       ((λ none. was.0 none ∙ same), subst (IsPrefixOf (seen b h)) same was.1)
 
   -- what it took is the first of these lists; then what it put, followed by what it would put alone, is what it puts alone for them
@@ -308,7 +312,7 @@ module _ {L : Type 0} (J : Jobs L) (p : ℕ) (one : IsOne (twin J) p) where
       → (ahead : ℕ → List (Parcel L)) × (puts h ++ alone F (process J p) n (place (process J p) h) ahead ≡ alone F (process J p) (steps_more h n) (process J p).start all)
   puts-alone F quiet all h follows so took n =
       let first : (b : ℕ) → IsPrefixOf (seen b h) (all b) =
-          λ b. prefix-trans (seen b h) (moved b Receiver (acts (twin J) p h)) (all b) (tied b h follows).1 (took b) in
+      λ b. prefix-trans (seen b h) (moved b Receiver (acts (twin J) p h)) (all b) (tied b h follows).1 (took b) in
       let ahead : ℕ → List (Parcel L) = λ b. (first b).0 in
       let same : Same (before_all h ahead) all = λ b. before-seen b h ahead follows ∙ (first b).1 in
       (ahead, tells J F p one quiet h n ahead follows so ∙ alone-same F (process J p) (steps_more h n) (process J p).start (before_all h ahead) all same)
@@ -317,10 +321,11 @@ module _ {L : Type 0} (J : Jobs L) (p : ℕ) (one : IsOne (twin J) p) where
       → ((b : ℕ) → IsPrefixOf (moved b Receiver (acts (twin J) p h)) (all b)) → (c n : ℕ) → (c == 0) ≡ false
       → IsPrefixOf (moved c Sender (acts (twin J) p h)) (put_at c (alone F (process J p) (steps_more h n) (process J p).start all))
   put-alone F quiet all h follows so took c n some =
-      let (ahead, whole) = puts-alone F quiet all h follows so took n in
-      (put_at c (alone F (process J p) n (place (process J p) h) ahead),
-      ap (λ ms. ms ++ put_at c (alone F (process J p) n (place (process J p) h) ahead)) (sym (put-sent c h some follows))
-      ∙ sym (put-append c (puts h) (alone F (process J p) n (place (process J p) h) ahead)) ∙ ap (put_at c) whole)
+      let (ahead, whole) = puts-alone F quiet all h follows so took n in (
+        put_at c (alone F (process J p) n (place (process J p) h) ahead),
+        ap (λ ms. ms ++ put_at c (alone F (process J p) n (place (process J p) h) ahead)) (sym (put-sent c h some follows))
+            ∙ sym (put-append c (puts h) (alone F (process J p) n (place (process J p) h) ahead)) ∙ ap (put_at c) whole,
+      )
 
 -- ---- who doesn't sit at a side moves nothing there
 same-or : (side of : Side) → (same_side side of ≡ false) ⊎ (side ≡ of)
@@ -376,8 +381,8 @@ module _ {L : Type 0} (J : Jobs L) (opening s : TwinState L) (st : Stands (twin 
   not-there p b (entry ∷ h) one follows not =
       let old = not-there p b h one follows.2 not in
       let now : moved_by b Receiver (call p (action_of entry)) (went entry) ≡ [] =
-          moved-elsewhere b Receiver (call p (action_of entry)) (went entry) (λ visit e. not ((lawful J).seated p h b Receiver visit one follows.2
-          record { action = action_of entry; next = follows.0; call = e })) in
+      moved-elsewhere b Receiver (call p (action_of entry)) (went entry) (λ visit e. not ((lawful J).seated p h b Receiver visit one follows.2
+      record { action = action_of entry; next = follows.0; call = e })) in
       ap (λ ms. ms ++ moved_by b Receiver (call p (action_of entry)) (went entry)) old ∙ now
 
   handed : (b : ℕ) → IsPrefixOf (passed (twin J) s b Receiver) (passed (twin J) s b Sender)
@@ -406,7 +411,7 @@ module _ {L : Type 0} (J : Jobs L) (opening s : TwinState L) (st : Stands (twin 
         let first = put-alone J p one F quiet all (s.histories p) (st.follows p) (so p) (took p one within) c 0 some in
         let second = closed c (steps_more (s.histories p) 0) low high in
         let here : IsPrefixOf (put_at c (alone F (process J p) (steps_more (s.histories p) 0) (process J p).start all)) (all c) =
-            subst (λ q. IsPrefixOf (put_at c (alone F (process J q) (steps_more (s.histories p) 0) (process J q).start all)) (all c)) seated second in
+        subst (λ q. IsPrefixOf (put_at c (alone F (process J q) (steps_more (s.histories p) 0) (process J q).start all)) (all c)) seated second in
         subst (λ q. IsPrefixOf (moved c Sender (acts (twin J) q (s.histories q))) (all c)) (sym seated)
         (prefix-trans (moved c Sender (acts (twin J) p (s.histories p))) _ (all c) first here)
 
@@ -420,13 +425,13 @@ module _ {L : Type 0} (J : Jobs L) (opening s : TwinState L) (st : Stands (twin 
     pub kahn : Within 1 → IsClosed → AllWithin
     kahn first closed =
         let for_input : (b : ℕ) → seat b Receiver ≡ 2 → Within b =
-            λ b. seat-of b (λ b q. q ≡ 2 → Within b) (λ e. first) (λ e. absurd cc) (λ e. absurd cc) (λ e. absurd cc) (λ e. absurd cc) (λ e. absurd cc) in
+        λ b. seat-of b (λ b q. q ≡ 2 → Within b) (λ e. first) (λ e. absurd cc) (λ e. absurd cc) (λ e. absurd cc) (λ e. absurd cc) (λ e. absurd cc) in
         let two = within-by 2 2 (omega arith, omega arith) input-quiet refl refl (omega arith) (omega arith) closed for_input in
         let three = within-by 2 3 (omega arith, omega arith) input-quiet refl refl (omega arith) (omega arith) closed for_input in
         let four = within-by 3 4 (omega arith, omega arith) (job-quiet J A) refl refl (omega arith) (omega arith) closed
-            (λ b. seat-of b (λ b q. q ≡ 3 → Within b) (λ e. absurd cc) (λ e. two) (λ e. absurd cc) (λ e. absurd cc) (λ e. absurd cc) (λ e. absurd cc)) in
+        (λ b. seat-of b (λ b q. q ≡ 3 → Within b) (λ e. absurd cc) (λ e. two) (λ e. absurd cc) (λ e. absurd cc) (λ e. absurd cc) (λ e. absurd cc)) in
         let five = within-by 4 5 (omega arith, omega arith) (job-quiet J B) refl refl (omega arith) (omega arith) closed
-            (λ b. seat-of b (λ b q. q ≡ 4 → Within b) (λ e. absurd cc) (λ e. absurd cc) (λ e. three) (λ e. absurd cc) (λ e. absurd cc) (λ e. absurd cc)) in
+        (λ b. seat-of b (λ b q. q ≡ 4 → Within b) (λ e. absurd cc) (λ e. absurd cc) (λ e. three) (λ e. absurd cc) (λ e. absurd cc) (λ e. absurd cc)) in
         let six = within-by 5 6 (omega arith, omega arith) output-quiet refl refl (omega arith) (omega arith) closed
-            (λ b. seat-of b (λ b q. q ≡ 5 → Within b) (λ e. absurd cc) (λ e. absurd cc) (λ e. absurd cc) (λ e. four) (λ e. five) (λ e. absurd cc)) in
+        (λ b. seat-of b (λ b q. q ≡ 5 → Within b) (λ e. absurd cc) (λ e. absurd cc) (λ e. absurd cc) (λ e. four) (λ e. five) (λ e. absurd cc)) in
         record { to_a = two; to_b = three; from_a = four; from_b = five; lines = six }

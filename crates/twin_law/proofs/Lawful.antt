@@ -1,5 +1,5 @@
 -- The twin network meets what the law asks of the processes of a network.
-use Rattle.std.proofs.Common.{◌≡◌, inl, inr, ℕ, suc, ◌≤◌, ◌==◌, ◌&&◌, ◌||◌, Bool, true, false, if◌then◌else◌, List, [], ◌∷◌, Option, None, Some, refl, sym, ◌∙◌, ap, subst, arith}
+use Rattle.std.proofs.Common.{◌≡◌, inl, inr, ℕ, ◌==◌, ◌&&◌, ◌||◌, Bool, true, false, if◌then◌else◌, List, [], ◌∷◌, Option, None, Some, refl, sym, ◌∙◌, ap, subst, arith}
 use Rattle.std.specs.List.{AllByRecursion}
 use Rattle.std.proofs.lemmas.Bool.Decides.{eqb_tells}
 use Rattle.queue_var.specs.Sides.{same_side}
@@ -463,7 +463,7 @@ module _ {L : Type 0} (J : Jobs L) where
   still-by p None (Some how) m e = absurd cc
   still-by p (Some old) new m e = absurd cc
 
-  still-with : (p : ℕ) (h : List (Entry L)) (a : Action) (r : Reply L) (c : Option Closing) → closing (process J p) h ≡ c → Shape p h c a
+  pub still-with : (p : ℕ) (h : List (Entry L)) (a : Action) (r : Reply L) (c : Option Closing) → closing (process J p) h ≡ c → Shape p h c a
       → closing (process J p) (Does a r ∷ h) ≡ None → c ≡ None
   still-with p h a r None is shape e = refl
   still-with p h (Stop b) r (Some c) is shape e =
@@ -478,7 +478,7 @@ module _ {L : Type 0} (J : Jobs L) where
   no-stop_seats p b (Stop c) is = absurd is
   no-stop_seats p b other is = refl
 
-  lacks-closing : (p : Process L) (old : Option Outcome) (how : Outcome) (m : Aim) → closing_by p (or_new old (Some how)) m ≡ None → ⊥
+  pub lacks-closing : (p : Process L) (old : Option Outcome) (how : Outcome) (m : Aim) → closing_by p (or_new old (Some how)) m ≡ None → ⊥
   lacks-closing p None how m e = cc
   lacks-closing p (Some old) how m e = cc
 
@@ -642,10 +642,10 @@ module _ {L : Type 0} (J : Jobs L) where
       let held : holds h ≡ true = sym (held-as p h follows) ∙ on in
       let a = next_by (process J p) (closing (process J p) h) h in
       let not_ended : has_ended h ≡ false =
-          elim (has_ended h) as (λ t. has_ended h ≡ t → has_ended h ≡ false) [
-            | true ↦ (λ e. absurd (not-both (holds h) held (ended-free p h one follows e)))
-            | false ↦ (λ e. e)
-          ] refl in
+      elim (has_ended h) as (λ t. has_ended h ≡ t → has_ended h ≡ false) [
+        | true ↦ (λ e. absurd (not-both (holds h) held (ended-free p h one follows e)))
+        | false ↦ (λ e. e)
+      ] refl in
       let next = goes-on (process J p) h not_ended in
       (call p a, prompt p a (aim (process J p) h) (holds h) (acts (twin J) p h) (good p h a one follows next) held, record { action = a; next = next; call = refl })
 

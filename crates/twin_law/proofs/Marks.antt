@@ -1,7 +1,7 @@
 -- How many whole streams a process moved at two sides of buffers, over every history without a cause.
-use Rattle.std.proofs.Common.{◌≡◌, ◌⊎◌, inl, inr, ℕ, zero, suc, ◌+◌, if◌then◌else◌, Bool, true, false, ◌&&◌, List, [], ◌∷◌, ◌++◌, length, drop, map, Option, None, Some, refl, sym, ◌∙◌, ap, subst, arith}
+use Rattle.std.proofs.Common.{◌≡◌, ◌⊎◌, inl, inr, ℕ, ◌+◌, Bool, true, false, List, [], ◌∷◌, ◌++◌, map, Option, None, Some, refl, sym, ◌∙◌, ap, subst, arith}
 use Rattle.std.proofs.lemmas.List.{append-nil}
-use Rattle.network_law.specs.Acts.{Call, Alone, At, Asks, Gives, Moves, Went, Delayed, Moved, moved, moved_by}
+use Rattle.network_law.specs.Acts.{Call, Alone, At, Asks, Gives, Went, Delayed, moved, moved_by}
 use Rattle.network_law.specs.Network.{IsOne, acts}
 use Rattle.network_law.specs.Network as law
 use Rattle.solo_base.specs.declared.outcome.Side.{Side}
@@ -15,8 +15,7 @@ use Rattle.twin_law.specs.Process.{Action, ReadCard, PutFeed, TakeFeed, AwaitRoo
 use Rattle.twin_law.specs.Sides.{other}
 use Rattle.twin_law.specs.Table.{process}
 use Rattle.twin_law.specs.Twin.{call, went_by, Fits, twin}
-use Rattle.twin_law.specs.Alone.{step}
-use Rattle.twin_law.proofs.Lawful.{Mid, Granted, Shape, Closes, SeatedAt, mid, next-shape, or-none, or-new_none, not-lacking}
+use Rattle.twin_law.proofs.Lawful.{Shape, Closes, SeatedAt, next-shape, or-none, or-new_none, not-lacking}
 
 -- ---- counts of marks
 abbrev pub trues : List Bool → ℕ
@@ -240,4 +239,3 @@ plus-true xs n m e more = (let a = trues-append xs (true ∷ []) in omega (arith
 
 pub plus-bit : (t : Bool) (xs : List Bool) (n m : ℕ) → trues xs ≡ n → m ≡ n + bit t → trues (xs ++ t ∷ []) ≡ m
 plus-bit t xs n m e more = (let a = trues-append xs (t ∷ []) in let o = trues-one t in omega (arith, a, e, o, more))
-

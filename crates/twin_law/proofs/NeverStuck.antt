@@ -1,17 +1,14 @@
 -- No reached state of the twin network is stuck. Who has ended has stopped its spools, so who waits at a spool has a neighbour that
 -- waits. The one circle that is left, from the output process round to the input process, is against the counts of whole streams.
-use Rattle.std.proofs.Common.{◌≡◌, ◌⊎◌, inl, inr, ℕ, ◌+◌, ◌≤◌, Bool, true, false, List, [], ◌∷◌, ◌++◌, length, map, None, Some, refl, sym, ◌∙◌, ap, subst, arith}
-use Rattle.std.proofs.lemmas.List.{append-nil}
+use Rattle.std.proofs.Common.{◌≡◌, ◌⊎◌, inl, inr, ℕ, ◌+◌, ◌≤◌, Bool, true, List, [], ◌++◌, length, map, None, refl, sym, ◌∙◌, ap, subst, arith}
 use Rattle.queue_var.specs.declared.stops.Stops.{Stops as Marks}
 use Rattle.queue_var.specs.declared.stops.Stops.TheVariants as marks
 use Rattle.queue_var.specs.HandsOver.{Lacks}
 use Rattle.queue_var.specs.Sides.{stopped_by, is_among, first_of}
-use Rattle.network_law.specs.Acts.{Call, At, Visit, made_stop}
+use Rattle.network_law.specs.Acts.{Call, made_stop}
 use Rattle.network_law.specs.Network.{IsEnabled, IsOne, MayCall, acts}
-use Rattle.network_law.specs.Network as law
 use Rattle.network_law.specs.Processes.{CallsNext}
-use Rattle.network_law.specs.Kept.{CanWait, Stands, passed}
-use Rattle.network_law.proofs.Reached.{reached-stands}
+use Rattle.network_law.specs.Kept.{Stands, passed}
 use Rattle.network_law.proofs.Rests.{IsBlocked, rests}
 use Rattle.solo_base.specs.declared.outcome.Side.{Side}
 use Rattle.solo_base.specs.declared.outcome.Side.TheVariants.{Sender, Receiver}
@@ -34,7 +31,7 @@ use Rattle.twin_law.proofs.EndCounts.{card_ends, input_ends, output_ends, printe
 use Rattle.twin_law.proofs.DealCounts.{InTurn, InputIs, input-stands}
 use Rattle.twin_law.proofs.JobCounts.{JobIs, owed, job-a-stands, job-b-stands}
 use Rattle.twin_law.proofs.GatherCounts.{OutputIs, output-stands}
-use Rattle.twin_law.proofs.Ended.{EndedAs, Finished, Closed, AimsAt, Waits, ended-as, none-ended, made, waits-by}
+use Rattle.twin_law.proofs.Ended.{EndedAs, Finished, Closed, AimsAt, ended-as, none-ended, made, waits-by}
 
 -- a side that stopped is told
 marked-told : (stops : Marks) (side : Side) → is_among side stops ≡ true → first_of stops ≡ None → ⊥
@@ -130,7 +127,7 @@ module _ {L : Type 0} {J : Jobs L} (jobs : AreJobs J) (opening s : TwinState L) 
       let side = side_at p b in
       let q = seat b side in
       let is : made_stop b side (acts (twin J) q (s.histories q)) ≡ true =
-          subst (λ q. made_stop b side (acts (twin J) q (s.histories q)) ≡ true) (sym seated) (made J p b (s.histories p) stopped) in
+      subst (λ q. made_stop b side (acts (twin J) q (s.histories q)) ≡ true) (sym seated) (made J p b (s.histories p) stopped) in
       marked-told (s.buffers b).sides.stops side ((st.buffers.hand_over b).stopped_first.each side ∙ st.buffers.stops b side ∙ is) free
 
   -- ---- who waits, and where
@@ -240,13 +237,13 @@ module _ {L : Type 0} {J : Jobs L} (jobs : AreJobs J) (opening s : TwinState L) 
   input-gone : next_action input (s.histories 2) ≡ None → InputGone
   input-gone e = elim (has-ended 2 e) as (λ _. InputGone) [
     | Finished free last stops ↦ record {
-        line = λ going. input-ended J (s.histories 2) (st.follows 2) free ∙ input-done (place input (s.histories 2)) last;
-        spools = both (λ x. Open (to_job x) → ⊥) (not-stopped 2 2 refl stops.0) (not-stopped 2 3 refl stops.1.0);
-      }
+      line = λ going. input-ended J (s.histories 2) (st.follows 2) free ∙ input-done (place input (s.histories 2)) last;
+      spools = both (λ x. Open (to_job x) → ⊥) (not-stopped 2 2 refl stops.0) (not-stopped 2 3 refl stops.1.0);
+    }
     | Closed all ↦ record {
-        line = λ going. absurd (not-stopped 2 1 refl all.0 going);
-        spools = both (λ x. Open (to_job x) → ⊥) (not-stopped 2 2 refl all.1.0) (not-stopped 2 3 refl all.1.1.0);
-      }
+      line = λ going. absurd (not-stopped 2 1 refl all.0 going);
+      spools = both (λ x. Open (to_job x) → ⊥) (not-stopped 2 2 refl all.1.0) (not-stopped 2 3 refl all.1.1.0);
+    }
   ]
 
   -- ---- 3 and 4 job
@@ -336,13 +333,13 @@ module _ {L : Type 0} {J : Jobs L} (jobs : AreJobs J) (opening s : TwinState L) 
   output-gone : next_action output (s.histories 5) ≡ None → OutputGone
   output-gone e = elim (has-ended 5 e) as (λ _. OutputGone) [
     | Finished free last stops ↦ record {
-        line = λ going. output-ended J (s.histories 5) (st.follows 5) free ∙ output-done (place output (s.histories 5)) last;
-        spools = both (λ x. Open (from_job x) → ⊥) (not-stopped 5 4 refl stops.0) (not-stopped 5 5 refl stops.1.0);
-      }
+      line = λ going. output-ended J (s.histories 5) (st.follows 5) free ∙ output-done (place output (s.histories 5)) last;
+      spools = both (λ x. Open (from_job x) → ⊥) (not-stopped 5 4 refl stops.0) (not-stopped 5 5 refl stops.1.0);
+    }
     | Closed all ↦ record {
-        line = λ going. absurd (not-stopped 5 6 refl all.1.1.0 going);
-        spools = both (λ x. Open (from_job x) → ⊥) (not-stopped 5 4 refl all.0) (not-stopped 5 5 refl all.1.0);
-      }
+      line = λ going. absurd (not-stopped 5 6 refl all.1.1.0 going);
+      spools = both (λ x. Open (from_job x) → ⊥) (not-stopped 5 4 refl all.0) (not-stopped 5 5 refl all.1.0);
+    }
   ]
 
   -- ---- 6 printer
@@ -389,11 +386,11 @@ module _ {L : Type 0} {J : Jobs L} (jobs : AreJobs J) (opening s : TwinState L) 
         | inl turn ↦ round (omega (arith, turn))
         | inr more ↦ round (omega (arith, more))
       ] where
-    round : trues (sent 3) + 1 ≤ trues (sent 2) → ⊥
-    round more =
-        circle-a (trues (got 2)) (trues (inside 2)) (trues (sent 2)) (trues (got 3)) (trues (inside 3)) (trues (sent 3)) (trues (got 4)) (trues (inside 4)) (trues (sent 4))
-        (trues (got 5)) (trues (inside 5)) (trues (sent 5)) puts.more (count 2) (count 3) (count 4) (count 5) (empty-trues 4 out.empty) (empty-trues 2 takes.empty)
-        (let a = takes.owes in omega (arith, a)) puts.owes out.turn more
+        round : trues (sent 3) + 1 ≤ trues (sent 2) → ⊥
+        round more =
+            circle-a (trues (got 2)) (trues (inside 2)) (trues (sent 2)) (trues (got 3)) (trues (inside 3)) (trues (sent 3)) (trues (got 4)) (trues (inside 4)) (trues (sent 4))
+            (trues (got 5)) (trues (inside 5)) (trues (sent 5)) puts.more (count 2) (count 3) (count 4) (count 5) (empty-trues 4 out.empty) (empty-trues 2 takes.empty)
+            (let a = takes.owes in omega (arith, a)) puts.owes out.turn more
   circle B out takes deals puts =
       elim deals.deals as (λ _. ⊥) [
         | inl turn ↦ circle-b (trues (got 2)) (trues (inside 2)) (trues (sent 2)) (trues (got 3)) (trues (inside 3)) (trues (sent 3)) (trues (got 4)) (trues (inside 4)) (trues (sent 4))
@@ -405,12 +402,12 @@ module _ {L : Type 0} {J : Jobs L} (jobs : AreJobs J) (opening s : TwinState L) 
             (let a = takes.owes in omega (arith, a)) puts.owes out.turn more.0 in
             not-full 2 (nothing-left left more.1) deals.full)
       ] where
-    nothing-left : trues (inside 2) ≡ 0 → whole (sent 2) ≡ true → inside 2 ≡ []
-    nothing-left left w =
-        elim (whole-behind (got 2) (inside 2) (ap whole (order 2) ∙ w)) as (λ _. inside 2 ≡ []) [
-          | inl empty ↦ empty
-          | inr is ↦ whole-none (inside 2) is left
-        ]
+        nothing-left : trues (inside 2) ≡ 0 → whole (sent 2) ≡ true → inside 2 ≡ []
+        nothing-left left w =
+            elim (whole-behind (got 2) (inside 2) (ap whole (order 2) ∙ w)) as (λ _. inside 2 ≡ []) [
+              | inl empty ↦ empty
+              | inr is ↦ whole-none (inside 2) is left
+            ]
 
   -- the input process that waits at the other side
   deals-apart : (x y : Twin) → OutputTakes x → JobTakes x → InputDeals y → JobGone y ⊎ JobWaits y → ⊥
@@ -497,4 +494,3 @@ module _ {L : Type 0} {J : Jobs L} (jobs : AreJobs J) (opening s : TwinState L) 
       each-process J HasNone p one (ended-by 1 is-1 (λ w. card-not (card-waits w))) (ended-by 2 is-2 (λ w. input-not (input-waits w)))
       (ended-by 3 is-3 (λ w. job-not A (job-a-waits w))) (ended-by 4 is-4 (λ w. job-not B (job-b-waits w)))
       (ended-by 5 is-5 (λ w. output-not (output-waits w))) (ended-by 6 is-6 (λ w. printer-not (printer-waits w)))
-

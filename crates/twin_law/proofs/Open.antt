@@ -1,6 +1,6 @@
 -- What a process does that isn't a call around a move, nor closing down: it has no cause, and is at the place that aims at it. So the
 -- first alone reads, and the last alone prints.
-use Rattle.std.proofs.Common.{◌≡◌, ◌⊎◌, inl, inr, ℕ, Bool, true, false, List, [], ◌∷◌, Option, None, Some, refl, sym, ◌∙◌, ap, subst}
+use Rattle.std.proofs.Common.{◌≡◌, ◌⊎◌, inl, inr, ℕ, List, Option, None, Some, refl, sym, ap, subst}
 use Rattle.network_law.specs.Network.{IsOne}
 use Rattle.solo_base.specs.declared.outcome.Outcome.{Outcome}
 use Rattle.batch_procs.specs.Jobs.{Jobs}

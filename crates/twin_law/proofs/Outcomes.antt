@@ -1,8 +1,5 @@
 -- How the processes end: each as its cause says, and each cause was given by an entry.
-use Rattle.std.proofs.Common.{◌≡◌, ◌⊎◌, inl, inr, ℕ, ◌||◌, ◌%◌, ◌^◌, Bool, true, false, if◌then◌else◌, List, [], ◌∷◌, Option, None, Some, refl, sym, ◌∙◌, ap, subst}
-use Rattle.std.specs.Prelude.{Result, Ok, Err}
-use Rattle.std.specs.List.{AllByRecursion}
-use Rattle.batch_procs.specs.Faults.{IsDamaged}
+use Rattle.std.proofs.Common.{◌≡◌, ◌⊎◌, inl, inr, ℕ, ◌||◌, Bool, true, false, if◌then◌else◌, List, [], ◌∷◌, Option, None, Some, refl, sym, ◌∙◌, ap, subst}
 use Rattle.network_law.specs.Network.{IsOne}
 use Rattle.network_law.specs.Network as law
 use Rattle.place_law.specs.Ending.{outcome_by}
@@ -23,11 +20,8 @@ use Rattle.twin_law.specs.Sides.{other}
 use Rattle.twin_law.specs.Table.{process}
 use Rattle.twin_law.specs.Twin.{Fits, twin}
 use Rattle.twin_law.specs.Outcomes.{ends_as, how_ended, EndsRightly, GivenBy}
-use Rattle.twin_law.proofs.Lawful.{unless-some, each-process}
-use Rattle.twin_law.proofs.PagesRead.{read-either}
-use Rattle.twin_law.proofs.Marks.{makes, IsAround}
+use Rattle.twin_law.proofs.Lawful.{unless-some}
 use Rattle.twin_law.proofs.Ended.{closes-all, still-stopped, working-end, finishes-closing}
-use Rattle.twin_law.proofs.Open.{made-free}
 
 -- ---- an end is one
 ends-known : (a : Action) (how : Outcome) → ends_as a ≡ Some how → a ≡ Ended how
@@ -186,7 +180,7 @@ module _ {L : Type 0} (p : Process L) where
   pub given-by : (h : List (Entry L)) (how : Outcome) → caused p h ≡ Some how → GivenBy p how h
   given-by [] how e = absurd cc
   given-by (Does a r ∷ h) how e =
-      elim (given-first (caused p h) (given_cause p (place p h) a r) how e) as (λ _. GivenBy p how (Does a r ∷ h)) [ | inl now ↦ inl now | inr old ↦ inr (given-by h how old) ]
+      elim (given-first (caused p h) (given_cause p (place p h) a r) how e) as (λ _. GivenBy p how (Does a r ∷ h)) [ inl now ↦ inl now | inr old ↦ inr (given-by h how old) ]
   given-by (LacksMemory a r ∷ h) how e =
       elim (given-first (caused p h) (Some (outcome.Fault cause.NoMemory)) how e) as (λ _. GivenBy p how (LacksMemory a r ∷ h)) [
         | inl now ↦ inl (now.0, sym (same-some (outcome.Fault cause.NoMemory) how now.1))

@@ -1,9 +1,8 @@
 -- The output process alone: of streams that were dealt in turn, each with an item, and an empty one for each side, it puts the lines in
 -- order, and the end.
-use Rattle.std.proofs.Common.{◌≡◌, ℕ, zero, suc, ◌+◌, ◌%◌, ◌^◌, ◌≤◌, ◌==◌, ◌&&◌, ◌||◌, not, Bool, true, false, if◌then◌else◌, List, [], ◌∷◌, ◌++◌, drop, Option, None, Some, refl, sym, ◌∙◌, ap, subst, arith}
-use Rattle.std.specs.Prelude.{Result, Ok, Err}
+use Rattle.std.proofs.Common.{◌≡◌, ℕ, zero, suc, ◌+◌, ◌&&◌, ◌||◌, not, Bool, true, false, List, [], ◌∷◌, ◌++◌, drop, refl, sym, ◌∙◌, ap, subst, arith}
 use Rattle.std.specs.List.{AllByRecursion}
-use Rattle.std.proofs.lemmas.List.{append_assoc, append-nil}
+use Rattle.std.proofs.lemmas.List.{append_assoc}
 use Rattle.solo_base.specs.declared.item.Item.{Item}
 use Rattle.solo_base.specs.declared.item.Item.TheVariants.{Line, Spoiled}
 use Rattle.solo_base.specs.declared.page.Page.{Page}
@@ -17,7 +16,7 @@ use Rattle.twin_law.specs.Sides.{Twin, A, B, other, from_job, dealt}
 use Rattle.twin_law.specs.Input.{empty_page}
 use Rattle.twin_law.specs.Output.{Turn, OutputPlace, TakesLines, PutsOver, HasGathered, puts_line, is_some, turn_behind, behind_lines, page_due, output_behind, output}
 use Rattle.twin_law.specs.Alone.{reply_of, first_parcel, less_one, Put, alone, puts}
-use Rattle.twin_law.proofs.Goes.{Goes, goes-on, stays-put}
+use Rattle.twin_law.proofs.Goes.{Goes, goes-on}
 use Rattle.twin_law.proofs.Strips.{good, read-marked, as_pages, Strip, IsStrip, empty-form, parcels, some-append}
 
 -- ---- lines
@@ -86,7 +85,7 @@ module _ {L : Type 0} (F : FilesAs L) where
   page-goes t last items w page rest e form =
       let v = less_one w (from_job t.side) in
       let took : Gets (TakesLines t) w [] (behind_lines t (good items last)) v =
-          subst (λ result. Gets (TakesLines t) w [] (behind_lines t result) v) (read-marked t.pages last items page form) (take-goes t w page (mark page) rest e) in
+      subst (λ result. Gets (TakesLines t) w [] (behind_lines t result) v) (read-marked t.pages last items page form) (take-goes t w page (mark page) rest e) in
       goes-on F output (TakesLines t) (puts_line (lines_of items) (turn_behind t last items) (last && t.ended)) (puts_line [] (turn_behind t last items) (last && t.ended)) w v v
       [] (line_puts (lines_of items)) took (lines-go (lines_of items) (turn_behind t last items) (last && t.ended) v)
 
@@ -113,14 +112,14 @@ module _ {L : Type 0} (F : FilesAs L) where
       let v = less_one w (from_job side) in
       let t = turn side n some ended in
       let first : Gets (TakesLines t) w (line_puts (lines_of front)) (TakesLines (turn side (n + 1) (some || is_some front) ended)) v =
-          page-goes t false front w page (as_pages (next ∷ pages) ++ rest) e form in
+      page-goes t false front w page (as_pages (next ∷ pages) ++ rest) e form in
       let is = stream-goes (next ∷ pages) left side (n + 1) (some || is_some front) ended rest v more (less-here side w ∙ ap (drop 1) e) in
       let whole : ((some || is_some front) || is_some left) ≡ (some || is_some items) =
-          or-assoc some (is_some front) (is_some left) ∙ ap (λ t. some || t) (sym (some-append front left)) ∙ ap (λ items. some || is_some items) (sym parts) in
+      or-assoc some (is_some front) (is_some left) ∙ ap (λ t. some || t) (sym (some-append front left)) ∙ ap (λ items. some || is_some items) (sym parts) in
       let lines : line_puts {L = L} (lines_of front) ++ line_puts (lines_of left) ≡ line_puts (lines_of items) =
-          sym (puts-append L (lines_of front) (lines_of left)) ∙ ap line_puts (sym (lines-append front left)) ∙ ap (λ items. line_puts (lines_of items)) (sym parts) in
+      sym (puts-append L (lines_of front) (lines_of left)) ∙ ap line_puts (sym (lines-append front left)) ∙ ap (λ items. line_puts (lines_of items)) (sym parts) in
       let both = goes-on F output (TakesLines t) (TakesLines (turn side (n + 1) (some || is_some front) ended)) (behind_stream side (some || is_some front) ended left) w v is.left
-          (line_puts (lines_of front)) (line_puts (lines_of left)) first is.goes in
+      (line_puts (lines_of front)) (line_puts (lines_of left)) first is.goes in
       record {
         left = is.left;
         here = is.here;
@@ -155,9 +154,9 @@ module _ {L : Type 0} (F : FilesAs L) where
       let first = stream-goes s.pages s.items side 0 false false (parcels (dealt rest).b) w are.0.stream here in
       let later = gathers-all rest are.1 (other side) first.left (first.there ∙ there) (ap (λ side. first.left (from_job side)) (twice side) ∙ first.here) in
       let some : Gets (TakesLines (turn side 0 false false)) w (line_puts (lines_of s.items)) (TakesLines (turn (other side) 0 false false)) first.left =
-          subst (λ t. Gets (TakesLines (turn side 0 false false)) w (line_puts (lines_of s.items)) (TakesLines (turn (other side) 0 false (not t))) first.left) are.0.some first.goes in
+      subst (λ t. Gets (TakesLines (turn side 0 false false)) w (line_puts (lines_of s.items)) (TakesLines (turn (other side) 0 false (not t))) first.left) are.0.some first.goes in
       let both = goes-on F output (TakesLines (turn side 0 false false)) (TakesLines (turn (other side) 0 false false)) HasGathered w first.left later.left
-          (line_puts (lines_of s.items)) (line_puts (all_lines rest) ++ end_put) some later.goes in
+      (line_puts (lines_of s.items)) (line_puts (all_lines rest) ++ end_put) some later.goes in
       record {
         left = later.left;
         goes = subst (λ puts. Gets (TakesLines (turn side 0 false false)) w puts HasGathered later.left)

@@ -1,5 +1,5 @@
 -- A page that is read: it has items and its mark, or it is damaged.
-use Rattle.std.proofs.Common.{◌≡◌, ℕ, Bool, List, Option, None, Some}
+use Rattle.std.proofs.Common.{ℕ, Bool, List, None, Some}
 use Rattle.std.specs.Prelude.{Result, Ok, Err}
 use Rattle.solo_base.specs.declared.item.Item.{Item}
 use Rattle.solo_base.specs.declared.page.Page.{Page}

@@ -1,5 +1,5 @@
 -- What the paper gained is the text of the lines that the printer process printed, and a part of the line in hand.
-use Rattle.std.proofs.Common.{◌≡◌, ◌⊎◌, inl, inr, ℕ, Bool, true, false, List, [], ◌∷◌, ◌++◌, Option, None, Some, refl, sym, ◌∙◌, ap, subst, option_map}
+use Rattle.std.proofs.Common.{◌≡◌, inl, inr, ℕ, List, [], ◌∷◌, ◌++◌, Option, None, Some, refl, sym, ◌∙◌, ap, subst, option_map}
 use Rattle.std.proofs.lemmas.List.{append_assoc, append-nil}
 use Rattle.network_law.specs.Network.{IsOne}
 use Rattle.solo_base.specs.declared.outcome.Outcome.{Outcome}
@@ -79,8 +79,8 @@ line-failed : (given part : List ℕ) (now : Option (List ℕ)) (line : List ℕ
     → (new ≡ None → ⊥) → Paper given now (PrintsLine line) old lines → Paper given (option_map (λ before. before ++ part) now) (PrintsLine line) new (lines ++ [])
 line-failed given part now line old new lines (rest, is) none not p =
     let all : (p.gained ++ part) ++ rest ≡ text ((lines ++ []) ++ line ∷ []) =
-        append_assoc p.gained part rest ∙ ap (λ more. p.gained ++ more) is ∙ ap (λ gained. gained ++ line_text line) (p.free none) ∙ sym (text-line lines line)
-        ∙ ap (λ lines. text (lines ++ line ∷ [])) (sym (append-nil lines)) in
+    append_assoc p.gained part rest ∙ ap (λ more. p.gained ++ more) is ∙ ap (λ gained. gained ++ line_text line) (p.free none) ∙ sym (text-line lines line)
+    ∙ ap (λ lines. text (lines ++ line ∷ [])) (sym (append-nil lines)) in
     record {
       gained = p.gained ++ part;
       now_is = ap (option_map (λ before. before ++ part)) p.now_is ∙ ap Some (append_assoc given p.gained part);

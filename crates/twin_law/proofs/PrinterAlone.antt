@@ -1,7 +1,7 @@
 -- The printer process alone prints the lines that it is given, and whatever else happens it prints the first of them; where it is done,
 -- all of them.
-use Rattle.std.proofs.Common.{◌≡◌, ◌⊎◌, inl, inr, ℕ, zero, suc, ◌+◌, ◌≤◌, ◌==◌, Bool, true, false, if◌then◌else◌, List, [], ◌∷◌, ◌++◌, drop, length, length-append, Option, None, Some, refl, sym, ◌∙◌, ap, subst, arith}
-use Rattle.std.proofs.lemmas.List.{append_assoc, append-nil}
+use Rattle.std.proofs.Common.{◌≡◌, inl, inr, ℕ, zero, suc, ◌≤◌, ◌==◌, if◌then◌else◌, List, [], ◌∷◌, ◌++◌, drop, length, length-append, Some, refl, sym, ◌∙◌, ap, subst, arith}
+use Rattle.std.proofs.lemmas.List.{append-nil}
 use Rattle.network_law.specs.Acts.{moved}
 use Rattle.network_law.specs.Network.{IsOne, acts}
 use Rattle.network_law.specs.Network as law
@@ -23,7 +23,6 @@ use Rattle.twin_law.specs.Table.{process}
 use Rattle.twin_law.specs.Twin.{Fits, twin}
 use Rattle.twin_law.specs.Alone.{reply_of, first_parcel, less_one, Put, alone, put_at, AreLoadedSo, puts_by, puts, step_more, steps_more}
 use Rattle.twin_law.specs.Told.{printed_by, printed}
-use Rattle.twin_law.proofs.Tells.{Same, IsQuiet, alone-same, tells}
 use Rattle.twin_law.proofs.Marks.{makes, IsAround, made}
 use Rattle.twin_law.proofs.Kahn.{put-append, puts-alone, printer-quiet}
 use Rattle.twin_law.proofs.Goes.{Goes, goes-on, first-put, alone-longer}
@@ -188,9 +187,9 @@ module _ {L : Type 0} where
           let done = prints-all lines all refl in
           let first = first-put F P 0 P.start HasPrinted all done.left (print_puts lines) done.goes (λ n. nothing-more n done.left) (steps_more h 1) in
           let here : put_at 0 (alone F P (steps_more h 1) P.start all) ≡ as_printed (printed h ++ due_at (place P h)) =
-              sym (ap (put_at 0) e) ∙ put-append 0 (puts h) (alone F P 1 (place P h) ahead)
-              ∙ ap (λ now. put_at 0 (puts h) ++ now) (due-put (place P h) ahead) ∙ ap (λ old. old ++ as_printed (due_at (place P h))) (put-printed J one h follows)
-              ∙ sym (printed-append L (printed h) (due_at (place P h))) in
+          sym (ap (put_at 0) e) ∙ put-append 0 (puts h) (alone F P 1 (place P h) ahead)
+          ∙ ap (λ now. put_at 0 (puts h) ++ now) (due-put (place P h) ahead) ∙ ap (λ old. old ++ as_printed (due_at (place P h))) (put-printed J one h follows)
+          ∙ sym (printed-append L (printed h) (due_at (place P h))) in
           lines-first L (printed h ++ due_at (place P h)) lines
           (subst (λ all. IsPrefixOf (as_printed (printed h ++ due_at (place P h))) all) (puts-at L lines)
           (subst (λ some. IsPrefixOf some (put_at 0 (print_puts lines))) here first))
@@ -206,7 +205,7 @@ module _ {L : Type 0} where
           let (rest, longer) = alone-longer F P m (steps_more h m) (steps-enough h m) P.start all in
           let parts : print_puts lines ++ rest ≡ puts h = ap (λ some. some ++ rest) (sym (whole ∙ append-nil (print_puts lines))) ∙ longer ∙ sym mine in
           let second : IsPrefixOf (as_printed {L = L} lines) (as_printed (printed h)) =
-              (put_at 0 rest, ap (λ some. some ++ put_at 0 rest) (sym (puts-at L lines)) ∙ sym (put-append 0 (print_puts lines) rest) ∙ ap (put_at 0) parts ∙ put-printed J one h follows) in
+          (put_at 0 rest, ap (λ some. some ++ put_at 0 rest) (sym (puts-at L lines)) ∙ sym (put-append 0 (print_puts lines) rest) ∙ ap (put_at 0) parts ∙ put-printed J one h follows) in
           let first : IsPrefixOf (printed h) lines =
-              subst (λ due. IsPrefixOf due lines) (ap (λ x. printed h ++ due_at x) at ∙ append-nil (printed h)) printed-first in
+          subst (λ due. IsPrefixOf due lines) (ap (λ x. printed h ++ due_at x) at ∙ append-nil (printed h)) printed-first in
           both-first (printed h) lines first (lines-first L lines (printed h) second)

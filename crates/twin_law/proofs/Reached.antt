@@ -1,11 +1,10 @@
 -- What holds of every reached state.
-use Rattle.std.proofs.Common.{◌≡◌, ◌⊎◌, inl, inr, ℕ, ◌≤◌, ◌==◌, ◌||◌, Bool, true, false, List, [], ◌∷◌, ◌++◌, Option, None, Some, refl, sym, ◌∙◌, ap, subst, arith, lit≤}
-use Rattle.std.proofs.lemmas.List.{append_assoc, append-nil}
+use Rattle.std.proofs.Common.{◌≡◌, ℕ, ◌≤◌, ◌==◌, Bool, true, false, List, [], ◌++◌, None, Some, refl, sym, ◌∙◌, ap, subst, arith, lit≤}
 use Rattle.solo_devices.specs.PrinterUnit.{Gains, GainsOf}
 use Rattle.network_run.specs.Law.{NoneGoes, AllEnded}
 use Rattle.network_run.specs.Sound.{IsSoundLaw}
 use Rattle.network_law.specs.Network.{IsOne, IsEnabled}
-use Rattle.network_law.specs.Kept.{IsTold, Stands, passed}
+use Rattle.network_law.specs.Kept.{IsTold, passed}
 use Rattle.network_law.proofs.Goers as goers
 use Rattle.solo_base.specs.declared.item.Item.{Item}
 use Rattle.solo_base.specs.declared.outcome.Side.TheVariants.{Sender, Receiver}
@@ -15,8 +14,6 @@ use Rattle.batch_procs.specs.Jobs.{Jobs, AreJobs, FilesAs, one_thread}
 use Rattle.solo_base.specs.declared.outcome.Outcome.TheVariants as outcome
 use Rattle.twin_law.specs.Process.{Finishes, place, aim, caused, next_action}
 use Rattle.twin_law.specs.Ends.{CardPlace, ReadsCard, PutsCard, PutsEnd, HasPut, card_aims, card, PrinterPlace, TakesLine, PrintsLine, HasPrinted, printer_aims, printer}
-use Rattle.twin_law.specs.Input.{input}
-use Rattle.twin_law.specs.Output.{output}
 use Rattle.twin_law.specs.Table.{process}
 use Rattle.twin_law.specs.Twin.{given, twin, TwinState, TwinEvent, IsProcess}
 use Rattle.twin_law.specs.Opening.{Spools, AreInBounds, AreTold, is_line, one_line, spool_by, size_of, told_of, AreGoodFiles, Opening, IsSmooth}
@@ -30,12 +27,11 @@ use Rattle.twin_law.proofs.Lawful.{lawful}
 use Rattle.twin_law.proofs.Ended.{none-ended}
 use Rattle.twin_law.proofs.NeverStuck.{ended-all}
 use Rattle.twin_law.proofs.Kahn.{prefix-trans}
-use Rattle.twin_law.proofs.InputAlone.{deck_feeds}
 use Rattle.twin_law.proofs.Whole.{line_feeds, prints-first}
 use Rattle.twin_law.proofs.CardReads.{put-first, end-put}
-use Rattle.twin_law.proofs.Paper.{Paper, due_at, text-append}
+use Rattle.twin_law.proofs.Paper.{due_at, text-append}
 use Rattle.twin_law.proofs.PrinterAlone.{printed-first, printed-all}
-use Rattle.twin_law.proofs.Devices.{DeckIs, DevicesStand, Centre, reached-centre}
+use Rattle.twin_law.proofs.Devices.{Centre, reached-centre}
 use Rattle.twin_law.proofs.Outcomes.{ends-rightly, done-where, given-by}
 use Rattle.twin_law.proofs.Faults.{card-faulty, input-faulty, job-a-faulty, job-b-faulty, output-faulty, printer-faulty}
 
@@ -102,7 +98,7 @@ module _ {L : Type 0} {J : Jobs L} (jobs : AreJobs J) where
     abbrev centre : Centre J (first_state o) s
     centre = reached-centre J o s reached
 
-    told-now : AreTold o.spools → (b : ℕ) → IsTold (s.buffers b)
+    pub told-now : AreTold o.spools → (b : ℕ) → IsTold (s.buffers b)
     told-now told b = centre.stands.told b (rw (all-told o.spools told b) ([], refl))
 
     done-at : (p : ℕ) → IsProcess p → AllDone s → (caused (process J p) (s.histories p) ≡ None) × (aim (process J p) (s.histories p) ≡ Finishes)
@@ -122,7 +118,7 @@ module _ {L : Type 0} {J : Jobs L} (jobs : AreJobs J) where
           prints-first jobs by found items (o.cards items deck_is) (first_state o) s centre.stands (told-now told) so
           (put-first J (s.histories 1) items d.left (centre.stands.follows 1) d.parts d.ended)
 
-      taken : IsPrefixOf (passed (twin J) s 6 Receiver) (line_feeds lines)
+      pub taken : IsPrefixOf (passed (twin J) s 6 Receiver) (line_feeds lines)
       taken =
           let (inside, is) = told-now told 6 in
           prefix-trans (passed (twin J) s 6 Receiver) (passed (twin J) s 6 Sender) (line_feeds lines)

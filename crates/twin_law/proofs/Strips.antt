@@ -1,6 +1,6 @@
 -- Items as a stream of pages: what packing gives of them, and that each page is read back at its place.
-use Rattle.std.proofs.Common.{◌≡◌, ℕ, zero, suc, ◌+◌, ◌%◌, ◌^◌, ◌≤◌, ◌<◌, ◌||◌, Bool, true, false, List, [], ◌∷◌, ◌++◌, length, map, Option, None, Some, refl, sym, ◌∙◌, ap, subst, arith}
-use Rattle.std.specs.Prelude.{Result, Ok, Err, option_to_list}
+use Rattle.std.proofs.Common.{◌≡◌, ℕ, ◌%◌, ◌^◌, ◌||◌, Bool, true, List, [], ◌∷◌, ◌++◌, map, refl, sym, ◌∙◌, ap, subst, arith}
+use Rattle.std.specs.Prelude.{Result, Ok, option_to_list}
 use Rattle.std.specs.List.{AllByRecursion}
 use Rattle.std.proofs.lemmas.List.{append_assoc, append-nil}
 use Rattle.solo_base.specs.Line.{IsLine}
@@ -14,20 +14,18 @@ use Rattle.solo_base.specs.declared.page.Page.{Page}
 use Rattle.page_codec.specs.declared.judge.BadPage.{BadPage}
 use Rattle.page_codec.specs.Items.{AreItems, items_bytes}
 use Rattle.page_codec.specs.Form.{IsPage}
-use Rattle.page_codec.specs.Packing.{PageInHand, first_page, page_given, hand_after, HasPacked, fits}
+use Rattle.page_codec.specs.Packing.{PageInHand, first_page, page_given, hand_after, HasPacked}
 use Rattle.page_codec.specs.Reading.{PageContent, page_read}
 use Rattle.page_codec.specs.Stream.{IsStream}
 use Rattle.batch_procs.specs.Parcels.{Parcel, OfPage, mark}
-use Rattle.twin_law.specs.Process.{place}
 use Rattle.twin_law.specs.Input.{last_of, empty_page}
 use Rattle.twin_law.specs.Output.{is_some}
-use Rattle.twin_law.specs.Twin.{given}
 
 -- ---- a page in the form is read back
 abbrev pub good : List Item → Bool → Result PageContent BadPage
 good all last = Ok (record { items = all; last = last })
 
-form-at : (n m : ℕ) (last : Bool) (all : List Item) (page : Page) → n % 65536 ≡ m % 65536 → IsPage n last all page → IsPage m last all page
+pub form-at : (n m : ℕ) (last : Bool) (all : List Item) (page : Page) → n % 65536 ≡ m % 65536 → IsPage n last all page → IsPage m last all page
 form-at n m last all page same form = record {
   valid = form.valid;
   fits = form.fits;

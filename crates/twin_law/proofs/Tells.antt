@@ -1,5 +1,5 @@
 -- What a process put, in whatever order its entries came, is the first of what it puts alone for what stood in its buffers.
-use Rattle.std.proofs.Common.{◌≡◌, ◌⊎◌, inl, inr, ℕ, zero, suc, ◌==◌, Bool, true, false, if◌then◌else◌, List, [], ◌∷◌, ◌++◌, drop, Option, None, Some, refl, sym, ◌∙◌, ap, subst, arith}
+use Rattle.std.proofs.Common.{◌≡◌, inl, inr, ℕ, zero, suc, ◌==◌, true, false, if◌then◌else◌, List, [], ◌∷◌, ◌++◌, drop, Some, refl, sym, ◌∙◌, ap, subst}
 use Rattle.std.proofs.lemmas.List.{append_assoc}
 use Rattle.std.proofs.lemmas.Bool.Decides.{eqb_tells}
 use Rattle.network_law.specs.Network.{IsOne}
@@ -15,7 +15,7 @@ use Rattle.twin_law.specs.Sides.{other}
 use Rattle.twin_law.specs.Table.{process}
 use Rattle.twin_law.specs.Twin.{Fits, twin}
 use Rattle.twin_law.specs.Alone.{reply_of, first_parcel, less_one, Put, Step, step, alone, IsLoadedSo, AreLoadedSo, puts_by, puts, before_entry, before_all, step_more, steps_more}
-use Rattle.twin_law.proofs.Marks.{makes, IsAround, Made, made}
+use Rattle.twin_law.proofs.Marks.{makes, IsAround, made}
 
 abbrev pub Same : {L : Type 0} → (ℕ → List (Parcel L)) → (ℕ → List (Parcel L)) → Type 0
 Same i j = (b : ℕ) → i b ≡ j b

@@ -1,5 +1,5 @@
 -- What goes through a buffer: feeds through the two line buffers, pages through the four spools.
-use Rattle.std.proofs.Common.{◌≡◌, ◌⊎◌, inl, inr, ℕ, ◌==◌, ◌&&◌, Bool, true, false, List, [], ◌∷◌, ◌++◌, Option, None, Some, refl, sym, ◌∙◌, ap, subst, arith}
+use Rattle.std.proofs.Common.{◌≡◌, inl, inr, ℕ, ◌==◌, ◌&&◌, Bool, true, false, List, [], ◌∷◌, ◌++◌, Some, refl, sym, subst}
 use Rattle.std.specs.List.{AllByRecursion}
 use Rattle.std.proofs.lemmas.Bool.Decides.{eqb_tells}
 use Rattle.network_law.specs.Acts.{Delayed, moved, moved_by, if_at}
@@ -23,7 +23,7 @@ use Rattle.twin_law.specs.Table.{process}
 use Rattle.twin_law.specs.Twin.{seat, call, went_by, Fits, MayLack, twin, TwinState}
 use Rattle.twin_law.specs.Opening.{is_line}
 use Rattle.twin_law.proofs.Lawful.{each-process}
-use Rattle.twin_law.proofs.Marks.{makes, IsAround, Made, made, none-delayed}
+use Rattle.twin_law.proofs.Marks.{makes, IsAround, made, none-delayed}
 
 abbrev pub KindAt : {L : Type 0} → Bool → Parcel L → Type 0
 KindAt true x = IsAFeed x
@@ -192,8 +192,8 @@ module _ {L : Type 0} (J : Jobs L) where
   kinds-inside opening s st b inside told =
       let p = seat b Sender in
       let put : AreOf b (passed (twin J) s b Sender) =
-          elim (st.others p) as (λ _. AreOf b (passed (twin J) s b Sender)) [
-            | inl one ↦ put-kinds p b (s.histories p) one (st.follows p)
-            | inr none ↦ rw none tt
-          ] in
+      elim (st.others p) as (λ _. AreOf b (passed (twin J) s b Sender)) [
+        | inl one ↦ put-kinds p b (s.histories p) one (st.follows p)
+        | inr none ↦ rw none tt
+      ] in
       all-behind (KindAt (is_line b)) (passed (twin J) s b Receiver) inside (subst (AreOf b) (sym ((st.buffers.hand_over b).parcels inside told)) put)

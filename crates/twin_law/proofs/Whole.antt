@@ -1,8 +1,8 @@
 -- In every reached state with told buffers, what went to the printer is the first of what one thread prints for the deck.
-use Rattle.std.proofs.Common.{◌≡◌, ◌⊎◌, inl, inr, ℕ, zero, suc, ◌≤◌, ◌==◌, Bool, true, false, if◌then◌else◌, List, [], ◌∷◌, ◌++◌, length, map, Option, None, Some, refl, sym, ◌∙◌, ap, subst, arith}
+use Rattle.std.proofs.Common.{◌≡◌, inl, inr, ℕ, ◌≤◌, ◌==◌, true, false, if◌then◌else◌, List, [], ◌∷◌, ◌++◌, length, map, None, Some, refl, sym, ◌∙◌, ap, subst, arith}
 use Rattle.std.specs.Prelude.{flat_map, option_to_list}
 use Rattle.std.specs.List.{AllByRecursion}
-use Rattle.std.proofs.lemmas.List.{append_assoc, append-nil}
+use Rattle.std.proofs.lemmas.List.{append_assoc}
 use Rattle.std.proofs.lemmas.Bool.{le-leb}
 use Rattle.std.proofs.lemmas.Bool.Decides.{eqb_tells}
 use Rattle.page_codec.proofs.Cutting.{item_is_short}
@@ -28,11 +28,11 @@ use Rattle.twin_law.specs.Input.{HasDealt, last_of, empty_page}
 use Rattle.twin_law.specs.Job.{HasWorked}
 use Rattle.twin_law.specs.Output.{HasGathered, is_some}
 use Rattle.twin_law.specs.Table.{process}
-use Rattle.twin_law.specs.Twin.{seat, given, twin, TwinState}
+use Rattle.twin_law.specs.Twin.{seat, twin, TwinState}
 use Rattle.twin_law.specs.Alone.{Put, alone, put_at, AreLoadedSo, puts}
 use Rattle.twin_law.specs.UnitWork.{AreByUnits}
-use Rattle.twin_law.proofs.Dealing.{each, dealt-each}
-use Rattle.twin_law.proofs.Kahn.{IsClosed, kahn, put-append}
+use Rattle.twin_law.proofs.Dealing.{dealt-each}
+use Rattle.twin_law.proofs.Kahn.{IsClosed, AllWithin, kahn}
 use Rattle.twin_law.proofs.Goes.{first-put}
 use Rattle.twin_law.proofs.Strips.{given_pages, last_hand, all_pages, packed-stream, line-items, as_pages, Strip, IsStrip, parcels, all_put, as-parcels}
 use Rattle.twin_law.proofs.InputAlone.{streams, unit_pages, deck_feeds, input-alone}
@@ -40,7 +40,7 @@ use Rattle.twin_law.proofs.OutputAlone.{all_lines, line_puts, end_put, output-al
 use Rattle.twin_law.proofs.JobAlone.{page_puts, put-all, made, job-alone}
 
 -- ---- a unit as a strip
-abbrev unit_strip : List Item → Strip
+abbrev pub unit_strip : List Item → Strip
 unit_strip unit = record { pages = unit_pages unit; items = unit }
 
 first-fits : (item : Item) → IsItem item → page_given first_page item ≡ None
@@ -61,9 +61,9 @@ streams-put [] = refl
 streams-put (unit ∷ us) = append_assoc (unit_pages unit) (streams us) (empty_page ∷ []) ∙ ap (λ rest. unit_pages unit ++ rest) (streams-put us)
 
 -- ---- of all, and of what is dealt
-record BothAll {T : Type 0} (Is : T → Type 0) (d : Dealt T) : Type 0 where
-  a : AllByRecursion Is d.a
-  b : AllByRecursion Is d.b
+pub record BothAll {T : Type 0} (Is : T → Type 0) (d : Dealt T) : Type 0 where
+  pub a : AllByRecursion Is d.a
+  pub b : AllByRecursion Is d.b
 
 dealt-all : {T : Type 0} (Is : T → Type 0) (all : List T) → AllByRecursion Is all → BothAll Is (dealt all)
 dealt-all Is [] are = record { a = tt; b = tt }
@@ -99,10 +99,10 @@ feeds-are L (line ∷ rest) = ap (λ more. OfFeed (feed.Item (Line line)) ∷ mo
 
 module _ {L : Type 0} {J : Jobs L} (jobs : AreJobs J) (by : AreByUnits J) (F : FilesAs L) where
   -- the report of a unit
-  abbrev report : List Item → List (List ℕ)
+  abbrev pub report : List Item → List (List ℕ)
   report unit = one_thread J unit F
 
-  abbrev report_strip : List Item → Strip
+  abbrev pub report_strip : List Item → Strip
   report_strip unit = record { pages = all_pages (map Line (report unit)); items = map Line (report unit) }
 
   report-is : (unit : List Item) → AreItems unit → is_some (report unit) ≡ true → IsStrip (report_strip unit)
@@ -115,12 +115,12 @@ module _ {L : Type 0} {J : Jobs L} (jobs : AreJobs J) (by : AreByUnits J) (F : F
   reports-made side [] = refl
   reports-made side (unit ∷ us) = ap (λ rest. report_strip unit ∷ rest) (reports-made side us)
 
-  lines-all : (us : List (List Item)) → all_lines (map report_strip us) ≡ flat_map report us
+  pub lines-all : (us : List (List Item)) → all_lines (map report_strip us) ≡ flat_map report us
   lines-all [] = refl
   lines-all (unit ∷ us) = ap (λ lines. lines ++ all_lines (map report_strip us)) (lines-back (report unit)) ∙ ap (λ rest. report unit ++ rest) (lines-all us)
 
   module _ (items : List Item) (are : AreItems items) where
-    abbrev us : List (List Item)
+    abbrev pub us : List (List Item)
     us = units items
 
     -- all that each buffer is given in the end
@@ -133,13 +133,13 @@ module _ {L : Type 0} {J : Jobs L} (jobs : AreJobs J) (by : AreByUnits J) (F : F
     abbrev ClosedAt : ℕ → Type 0
     ClosedAt c = (n : ℕ) → IsPrefixOf (put_at c (alone F (process J (seat c Sender)) n (process J (seat c Sender)).start whole)) (whole c)
 
-    abbrev IsGoodUnit : List Item → Type 0
+    abbrev pub IsGoodUnit : List Item → Type 0
     IsGoodUnit unit = AreItems unit × IsUnit unit
 
     good-units : AllByRecursion IsGoodUnit us
     good-units = all-pair AreItems IsUnit us (units-all IsItem items are) (are-units items).each
 
-    unit-strips : (some : List (List Item)) → AllByRecursion IsGoodUnit some → AllByRecursion IsStrip (map unit_strip some)
+    pub unit-strips : (some : List (List Item)) → AllByRecursion IsGoodUnit some → AllByRecursion IsStrip (map unit_strip some)
     unit-strips some all = map-all IsGoodUnit IsStrip unit_strip some (λ unit is. unit-is unit is.0 (some-unit unit is.1)) all
 
     abbrev HasReport : List Item → Type 0
@@ -150,7 +150,7 @@ module _ {L : Type 0} {J : Jobs L} (jobs : AreJobs J) (by : AreByUnits J) (F : F
         map-all HasReport IsStrip report_strip us (λ unit is. report-is unit is.0 is.1)
         (all-pair AreItems (λ unit. is_some (report unit) ≡ true) us (units-all IsItem items are) (by.some items F))
 
-    both : BothAll IsGoodUnit (dealt us)
+    pub both : BothAll IsGoodUnit (dealt us)
     both = dealt-all IsGoodUnit us good-units
 
     dealt-at : (c : ℕ) (puts : List (Put L)) (some : List (List Item)) → put_at c puts ≡ as_pages (streams some ++ empty_page ∷ []) → put_at c puts ≡ parcels (map unit_strip some)
@@ -191,7 +191,7 @@ module _ {L : Type 0} {J : Jobs L} (jobs : AreJobs J) (by : AreByUnits J) (F : F
     closed-6 n =
         let all = map report_strip us in
         let is = output-alone F all report-strips whole
-            (ap (λ (d : Dealt Strip). parcels d.a) (sym (dealt-each report_strip us))) (ap (λ (d : Dealt Strip). parcels d.b) (sym (dealt-each report_strip us))) in
+        (ap (λ (d : Dealt Strip). parcels d.a) (sym (dealt-each report_strip us))) (ap (λ (d : Dealt Strip). parcels d.b) (sym (dealt-each report_strip us))) in
         subst (IsPrefixOf (put_at 6 (alone F (process J 5) n (process J 5).start whole))) (feeds-are L (all_lines all))
         (first-put F (process J 5) 6 (process J 5).start HasGathered whole is.left (line_puts (all_lines all) ++ end_put) is.goes is.over n)
 
@@ -215,9 +215,14 @@ module _ {L : Type 0} {J : Jobs L} (jobs : AreJobs J) (by : AreByUnits J) (F : F
         → IsClosed J opening s st told F so whole
     closed opening s st told so c n low high = among ClosedAt c low high closed-2 closed-3 closed-4 closed-5 closed-6 n
 
+    -- what went into each buffer is the first of all that it is given
+    pub within : (opening s : TwinState L) (st : Stands (twin J) opening s) (told : (b : ℕ) → IsTold (s.buffers b)) (so : (p : ℕ) → AreLoadedSo F (s.histories p))
+        → IsPrefixOf (passed (twin J) s 1 Sender) (deck_feeds items) → AllWithin J opening s st told F so whole
+    within opening s st told so first = kahn J opening s st told F so whole first (closed opening s st told so)
+
     -- what went to the printer is the first of what one thread prints, and its end
     pub prints-first : (opening s : TwinState L) → Stands (twin J) opening s → ((b : ℕ) → IsTold (s.buffers b)) → ((p : ℕ) → AreLoadedSo F (s.histories p))
         → IsPrefixOf (passed (twin J) s 1 Sender) (deck_feeds items) → IsPrefixOf (passed (twin J) s 6 Sender) (line_feeds (one_thread J items F))
     prints-first opening s st told so first =
         subst (λ lines. IsPrefixOf (passed (twin J) s 6 Sender) (line_feeds lines)) (lines-all us ∙ sym (by.lines_are items F))
-        (kahn J opening s st told F so whole first (closed opening s st told so)).lines
+        (within opening s st told so first).lines

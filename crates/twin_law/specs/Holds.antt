@@ -1,6 +1,6 @@
 -- What holds of every reached state of the twin network, whatever the order of the events, whichever device
 -- fails and wherever memory is refused.
-use Rattle.std.specs.Prelude.{◌≡◌, ℕ, List, [], ◌++◌, Option, Some}
+use Rattle.std.specs.Prelude.{◌≡◌, ℕ, List, [], ◌++◌, Some}
 use Rattle.solo_devices.specs.PrinterUnit.{Gains}
 use Rattle.network_law.specs.Kept.{Stands}
 use Rattle.solo_base.specs.declared.item.Item.{Item}

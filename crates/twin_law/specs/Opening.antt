@@ -1,8 +1,5 @@
 -- The openings of the twin network, its law, and its reached states.
-use Rattle.std.specs.Prelude.{◌≡◌, ◌≤◌, ◌==◌, ◌||◌, ℕ, Bool, true, false, if◌then◌else◌, List, Option, Some}
-use Rattle.network_run.specs.Law as run
-use Rattle.network_law.specs.Network.{IsEnabled, opening}
-use Rattle.network_law.specs.Stepping.{Openings, law_of}
+use Rattle.std.specs.Prelude.{◌≡◌, ◌≤◌, ◌==◌, ◌||◌, ℕ, Bool, true, false, List, Option, Some}
 use Rattle.solo_base.specs.declared.item.Item.{Item}
 use Rattle.page_codec.specs.Items.{AreItems}
 use Rattle.batch_procs.specs.Jobs.{Jobs, FilesAs}

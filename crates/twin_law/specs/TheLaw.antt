@@ -8,14 +8,14 @@ use Rattle.twin_law.specs.Process.{Entry, has_ended}
 use Rattle.twin_law.specs.Twin.{Devices, twin, TwinState, TwinEvent, IsProcess}
 use Rattle.twin_law.specs.Opening.{size_of, told_of, Opening, devices_at, IsSmooth}
 
--- for now: no run is bounded
+-- No opening is taken to tell all, so no run is said to be bounded.
 abbrev pub the_openings : {L : Type 0} → Jobs L → Openings (Devices L) (Entry L)
 the_openings J = record {
   Opening = Opening J;
   devices = λ o. devices_at o;
   sizes = λ o. size_of o.spools;
   told = λ o. told_of o.spools;
-  IsTold = λ o. Unit {0};
+  IsTold = λ o. ⊥;
   longest = λ o. 0;
   IsSmooth = λ entry. IsSmooth entry;
 }

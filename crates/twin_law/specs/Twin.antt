@@ -1,5 +1,5 @@
 -- The twin network: six processes, six buffers, and a desk that four of the processes share.
-use Rattle.std.specs.Prelude.{◌≡◌, ◌≤◌, ℕ, ◌==◌, Bool, true, false, if◌then◌else◌, List, [], ◌∷◌, ◌++◌, length, drop, Option, None, Some}
+use Rattle.std.specs.Prelude.{◌≡◌, ◌≤◌, ℕ, ◌==◌, true, if◌then◌else◌, List, [], ◌++◌, length, drop, Option, Some}
 use Rattle.std.specs.Option.{option_map}
 use Rattle.network_law.specs.Acts.{Call, Alone, At, Asks, Gives, Awaits, Passes, Moves, Stops, Went, Delayed, Told, Moved}
 use Rattle.network_law.specs.Acts as go
