@@ -1,0 +1,2 @@
+pub mod UnitJobs
+mod Examples

@@ -1,0 +1,7 @@
+//! The law of the twin network: six processes of which two work on jobs beside each other, whatever the order
+//! of their events and whichever device fails.
+#![tactic(auto)]
+
+mod laws;
+
+pub use laws::{every_interleaving, law_of_the_twins, no_state_is_stuck};
