@@ -1,0 +1,27 @@
+-- What is printed through a unit is printed on its paper.
+use Rattle.std.proofs.Common.{◌≡◌, ◌≤◌, ℕ, List, Option, Some, None, Result, refl, sym, ◌∙◌, ap, subst}
+use Rattle.std.specs.Prelude.{IfSome, IsOk, IsErrOf}
+use Rattle.solo_base.specs.declared.outcome.Cause.TheVariants as cause
+use Rattle.solo_devices.specs.Count.{Rose}
+use Rattle.solo_devices.specs.PrinterUnit.{Gains}
+use Rattle.solo_devices.specs.declared.printer_unit.PrintFault.{PrintFault}
+use Rattle.solo_devices.specs.declared.printer_unit.PrintFault.TheVariants.{Failed}
+use Rattle.solo_cli.specs.declared.refusal.Refusal.{Refusal}
+use Rattle.solo_cli.specs.declared.refusal.Refusal.TheVariants.{Fault}
+use Rattle.solo_cli.specs.Causes.{IsPrintCause}
+use Rattle.solo_cli.specs.Devices.{Printed}
+use Rattle.solo_cli.specs.Printing.{Prints}
+use Rattle.solo_cli.specs.Refusals.{OfFault}
+use Rattle.solo_cli.proofs.Adding.{gains-same}
+
+pub prints-as : {K T : Type 0} {before after : Printed K} {bytes : List ℕ} {answer : Option Refusal} {printed : Result T PrintFault}
+    {given given' : Option (List ℕ)} {faults faults' : ℕ} → given ≡ before.given → faults ≡ before.faults → given' ≡ after.given → faults' ≡ after.faults
+    → (answer ≡ None → IsOk printed) → IfSome answer (OfFault IsPrintCause)
+    → (answer ≡ Some (Fault cause.PrintFault) → IsErrOf printed Failed)
+    → Gains given given' bytes (IsOk printed) → (IsErrOf printed Failed → Rose faults faults') → faults ≤ faults' → Prints before after bytes answer
+prints-as {faults = faults} {faults' = faults'} b f a n done known failed gains rose counts = record {
+  gains = gains-same _ _ _ _ _ _ _ _ b a refl done gains;
+  known = known;
+  failed = λ is. subst (λ now. Rose _ now) n (subst (λ before. Rose before faults') f (rose (failed is)));
+  counts = subst (λ now. _ ≤ now) n (subst (λ before. before ≤ faults') f counts);
+}

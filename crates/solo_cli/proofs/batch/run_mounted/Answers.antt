@@ -1,0 +1,55 @@
+use Rattle.std.proofs.Common.{[], refl, sym, ◌∙◌, ap, subst, arith}
+use Rattle.solo_base.specs.Card.{cards}
+use Rattle.solo_devices.specs.Count.{Rose}
+use Rattle.solo_devices.specs.CardUnit.{bytes_total, items_ahead}
+use Rattle.solo_cli.specs.Decides.{Nothing}
+use Rattle.solo_cli.specs.Devices.{printing, reading, storing}
+use Rattle.solo_cli.proofs.Adding.{gains-same}
+use Rattle.solo_cli.proofs.DeckRan.{batch-lacks, batch-ran}
+use Rattle.solo_cli.proofs.LowestCause.{lowest-decides}
+use Rattle.solo_cli.proofs.batch.run_mounted.Goals as goal
+
+pub returns-in-Ok-clause-ran : goal.returns-in-Ok-clause-ran
+returns-in-Ok-clause-ran g c =
+    let e = c.in-Ok.ensures in
+    let ran = c.in-Ok.ran in
+    let sized = c.came_to.ensures.size ∙ sym c.requires.ready.files in
+    rw (c.came_to.ensures.devices, c.came_to.ensures.decided)
+    (batch-ran record {
+      five = lowest-decides ran.outcomes ran.stopped_by e.together e.faults Nothing;
+      counted = record {
+        read = λ is. subst (λ unit. Rose (g.S.Source.faults unit.source) (g.S.Source.faults ran.deck.source)) c.new.ensures (e.counted.read is);
+        limit = e.counted.limit;
+        longer = e.longer (let zero = ap (λ unit. g.S.Source.taken unit.source) c.new.ensures ∙ c.requires.ready.deck in omega (arith, zero));
+        input = e.counted.input;
+        job = e.counted.job;
+        output = e.counted.output;
+        print = λ is. subst (λ unit. Rose (g.K.Sink.faults unit.sink) (g.K.Sink.faults ran.paper.sink)) c.new-2.ensures (e.counted.print is);
+      };
+    } c.requires.ready (λ input output. e.undamaged record { input = input; output = output })
+    (e.total ∙ ap (λ unit. bytes_total (g.S.Source.taken unit.source) (g.S.Source.left unit.source)) c.new.ensures)
+    record { deck = tt; keys = refl; paper = tt; console = refl; files = tt; input = tt; output = tt } sized e.all_taken
+    (λ bytes found told files spools.
+    gains-same _ _ _ _ _ _ _ _ (ap (λ unit. g.K.Sink.given unit.sink) c.new-2.ensures) refl refl (λ all. all)
+    (e.prints (cards bytes) found
+    (ap (λ unit. items_ahead (g.S.Source.left unit.source) unit.pending) c.new.ensures ∙ ap (λ left. items_ahead left []) told)
+    files record { input = spools.input; output = spools.output })))
+
+pub returns-in-Ok-clause-left : goal.returns-in-Ok-clause-left
+returns-in-Ok-clause-left g c = rw c.came_to.ensures.devices c.in-Ok.ensures.files
+
+pub returns-in-Err-clause-ran : goal.returns-in-Err-clause-ran
+returns-in-Err-clause-ran g c =
+    let back = c.in-Err.ensures.refused in
+    let deck = ap (λ units. units.deck.source) back ∙ ap (λ unit. unit.source) c.new.ensures in
+    let paper = ap (λ units. units.paper.sink) back ∙ ap (λ unit. unit.sink) c.new-2.ensures in
+    rw (c.given_back.ensures.devices, c.given_back.ensures.cause)
+    (batch-lacks refl record {
+      deck = ap (reading g.S.Source) deck;
+      paper = ap (printing g.K.Sink) paper;
+      input = ap (λ units. storing g.I.Area units.input) back;
+      output = ap (λ units. storing g.O.Area units.output) back;
+    } refl refl (c.given_back.ensures.size ∙ sym c.requires.ready.files) c.requires.ready.deck)
+
+pub returns-in-Err-clause-left : goal.returns-in-Err-clause-left
+returns-in-Err-clause-left g c = rw c.given_back.ensures.devices (ap (λ units. g.F.Area.pages units.files.area) c.in-Err.ensures.refused)

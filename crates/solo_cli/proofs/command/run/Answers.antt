@@ -1,0 +1,1 @@
+use Rattle.solo_cli.proofs.command.run.Goals as goal

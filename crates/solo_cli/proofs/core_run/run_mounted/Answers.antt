@@ -1,0 +1,100 @@
+use Rattle.std.proofs.Common.{◌≤◌, [], Some, None, refl, sym, ◌∙◌, ap, subst, arith}
+use Rattle.solo_base.specs.Card.{cards}
+use Rattle.solo_base.specs.Text.{line_text}
+use Rattle.solo_devices.specs.CardUnit.{byte_limit, items_ahead}
+use Rattle.solo_cli.specs.Decides.{LineBehind, decides, list_of}
+use Rattle.solo_cli.specs.Answers.{AsRun}
+use Rattle.solo_cli.specs.Causes.{IsRunCause}
+use Rattle.solo_cli.specs.CountsLine.{counts_line}
+use Rattle.solo_cli.specs.DeckRuns.{RunsCore}
+use Rattle.solo_cli.specs.Devices.{printing, told, told_of}
+use Rattle.solo_cli.specs.Printing.{Prints}
+use Rattle.solo_cli.specs.Uses.{deck_used}
+use Rattle.solo_cli.proofs.DeckRan.{core-done, core-failed}
+use Rattle.solo_cli.proofs.AllDone.{all-done}
+use Rattle.solo_cli.proofs.DeckAnswers.{later-line}
+use Rattle.solo_cli.proofs.LowestCause.{comes-behind, lowest-decides, none-is}
+use Rattle.solo_cli.proofs.core_run.run_mounted.Goals as goal
+
+pub returns-in-Some-clause-ran : goal.returns-in-Some-clause-ran
+returns-in-Some-clause-ran g c =
+    let e = c.run_core-ran.ensures in
+    let ran = c.run_core-ran.result.0 in
+    let d = c.args.devices in
+    let sized = c.came_to-done.ensures.size ∙ sym c.requires.ready.files in
+    let before = told g.S.Source g.Y.Source g.K.Sink g.T.Sink g.F.Area g.I.Area g.O.Area d.deck d.keys d.paper d.console d.files.area d.input d.output in
+    let after = told g.S.Source g.Y.Source g.K.Sink g.T.Sink g.F.Area g.I.Area g.O.Area ran.deck.source d.keys ran.paper.sink d.console ran.files.area ran.input ran.output in
+    rw (c.came_to-done.ensures.devices, c.came_to-done.ensures.decided)
+    (core-failed c.args.schedule c.requires.ready record {
+      ends = record {
+        five = lowest-decides ran.outcomes ran.stopped_by e.together e.faults (LineBehind before after);
+        counted = record {
+          read = e.counted.read;
+          limit = e.counted.limit;
+          longer = e.counted.longer (let zero = c.requires.ready.deck in omega (arith, zero));
+          input = e.counted.input;
+          job = e.counted.job;
+          output = e.counted.output;
+          print = e.counted.print;
+        };
+      };
+      counts = c.run_core-ran.result.1;
+      devices = _;
+      runs = e.runs;
+    } (λ input output. e.undamaged record { input = input; output = output }) e.total
+    record { deck = tt; keys = refl; paper = tt; console = refl; files = tt; input = tt; output = tt } sized e.all_taken
+    (λ none. (let no : Some c.in-Some.field-0 ≡ None = sym c.in-Some.is ∙ c.came_to-done.ensures.decided ∙ none in cc))
+    (λ bytes found told files spools.
+    e.prints (cards bytes) found (ap (λ left. items_ahead left []) told) files record { input = spools.input; output = spools.output }))
+
+pub returns-in-Some-clause-left : goal.returns-in-Some-clause-left
+returns-in-Some-clause-left g c = rw c.came_to-done.ensures.devices c.run_core-ran.ensures.files
+
+pub returns-in-None-clause-ran : goal.returns-in-None-clause-ran
+returns-in-None-clause-ran g c =
+    let e = c.run_core-ran.ensures in
+    let ran = c.run_core-ran.result.0 in
+    let counts = c.run_core-ran.result.1 in
+    let d = c.args.devices in
+    let last = c.with_counts.result in
+    let none = none-is (decides (list_of ran.outcomes)) (sym c.came_to-done.ensures.decided ∙ c.in-None.is) in
+    let done = all-done ran.outcomes ran.stopped_by e.together none in
+    let sized = c.came_to-done.ensures.size ∙ sym c.requires.ready.files in
+    let stays = c.with_counts.ensures.stays
+    ∙ ap (λ devices. record devices { paper = last.devices.paper }) c.came_to-done.ensures.devices in
+    let before = told g.S.Source g.Y.Source g.K.Sink g.T.Sink g.F.Area g.I.Area g.O.Area d.deck d.keys d.paper d.console d.files.area d.input d.output in
+    let after = told g.S.Source g.Y.Source g.K.Sink g.T.Sink g.F.Area g.I.Area g.O.Area
+    ran.deck.source d.keys last.devices.paper d.console ran.files.area ran.input ran.output in
+    let p = subst (λ devices. Prints (printing g.K.Sink devices.paper) (printing g.K.Sink last.devices.paper)
+    (line_text (counts_line counts.events counts.delays counts.grants)) last.cause) c.came_to-done.ensures.devices c.with_counts.ensures.prints in
+    let on = e.counted.print_on in
+    let counts_on = p.counts in
+    subst (λ devices. AsRun (RunsCore c.args.schedule) deck_used IsRunCause before
+    (told_of g.S.Source g.Y.Source g.K.Sink g.T.Sink g.F.Area g.I.Area g.O.Area devices) last.cause) (sym stays)
+    (core-done {before = before} {after = after} {answer = last.cause} c.args.schedule c.requires.ready record {
+      ends = record {
+        five = comes-behind ran.outcomes ran.stopped_by e.together e.faults (LineBehind before after) last.cause none
+            (later-line last.cause p.known (λ is. (let rose = p.failed is in omega (arith, on, rose))));
+        counted = record {
+          read = e.counted.read;
+          limit = e.counted.limit;
+          longer = e.counted.longer (let zero = c.requires.ready.deck in omega (arith, zero));
+          input = e.counted.input;
+          job = e.counted.job;
+          output = e.counted.output;
+          print = λ is. (let rose = e.counted.print is in omega (arith, rose, counts_on));
+        };
+      };
+      counts = counts;
+      devices = _;
+      runs = e.runs;
+    } (λ input output. e.undamaged record { input = input; output = output }) e.total
+    record { deck = tt; keys = refl; paper = tt; console = refl; files = tt; input = tt; output = tt } sized e.all_taken
+    (g.K.Sink.given ran.paper.sink) done
+    (λ bytes found told files spools.
+    e.prints (cards bytes) found (ap (λ left. items_ahead left []) told) files record { input = spools.input; output = spools.output }) p.gains)
+
+pub returns-in-None-clause-left : goal.returns-in-None-clause-left
+returns-in-None-clause-left g c =
+    ap (λ devices. g.F.Area.pages devices.files) c.with_counts.ensures.stays
+    ∙ ap (λ devices. g.F.Area.pages devices.files) c.came_to-done.ensures.devices ∙ c.run_core-ran.ensures.files
