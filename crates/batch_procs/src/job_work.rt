@@ -10,7 +10,7 @@ use std::alloc::Global;
 /// they name are loaded as, and packs the lines that they print into pages.
 pub trait JobWork: Drop {
     /// What the file of a job is loaded as.
-    type Load: Drop + Send;
+    type Load: Drop;
 
     /// The files that items name, and the lines that they print.
     ghost jobs: { Jobs Self.Load };

@@ -29,16 +29,18 @@ use Rattle.core_law.specs.Opening.{Opening}
 use Rattle.core_law.specs.TheLaw.{IsReached}
 use Rattle.core_law.proofs.Acting.{follows-of}
 use Rattle.core_law.proofs.Reached.{reached-centre}
-use Rattle.core_net.specs.declared.finish.Outcomes.{Outcomes}
 use Rattle.core_net.specs.declared.net.Net.{Net}
-use Rattle.core_net.specs.Causes.{Counts, HasCauses, IsPrint, IsLoad, MovesInput, MovesOutput}
-use Rattle.core_net.specs.Faults.{Peripherals, devices_of, AreCounted, outcomes_in, CausesAreCounted}
+use Rattle.core_net.specs.Causes.{HasCauses, IsPrint, IsLoad, MovesInput, MovesOutput}
+use Rattle.core_net.specs.Faults.{units_of, outcomes_in, CausesAreCounted}
 use Rattle.core_net.specs.Net.{Keeps, NetStands}
-use Rattle.core_net.specs.Shared.{Tells}
 use Rattle.core_net.specs.Steps.{reply_of}
 use Rattle.core_law.proofs.Askers.{moves-page, takes-page, reads-deck, loads-files}
-use Rattle.disk_system.specs.declared.loading.Loaded.{Loaded}
-use Rattle.deck_work.specs.DeckJobs.{deck_jobs, deck_are_jobs}
+use Rattle.batch_procs.specs.Jobs.{Jobs, AreJobs, FilesAs, one_thread}
+use Rattle.batch_ends.specs.Causes.{Counts}
+use Rattle.batch_ends.specs.Faults.{AreCounted}
+use Rattle.batch_ends.specs.Tells.{Tells}
+use Rattle.batch_ends.specs.declared.ends.Outcomes.{Outcomes}
+use Rattle.batch_ends.specs.declared.units.Units.{Units}
 
 -- ---- what an entry that gave a fault was told
 abbrev IsMove : Action → Type 0
@@ -50,52 +52,8 @@ IsMove action = ⊥
 abbrev IsDisk : Action → Type 0
 IsDisk a = IsMove a ⊎ IsLoad a
 
-abbrev Told : Cause → Action → Option (Reply Loaded) → Type 0
-Told cause.ReadFault a r = r ≡ Some (reply.Card card_read.Failed)
-Told cause.DeckLimit a r = r ≡ Some (reply.Card card_read.Limit)
-Told cause.DiskFault a r = IsDisk a × (r ≡ Some reply.Failed)
-Told cause.PrintFault a r = IsPrint a × (r ≡ Some reply.Failed)
-Told other a r = Unit {0}
-
 same-fault : (c d : Cause) → Some (outcome.Fault c) ≡ Some (outcome.Fault d) → c ≡ d
 same-fault c d e = cc
-
-module _ (c : Cause) (a : Action) where
-  told-read : (answer : CardRead) → fault_read answer ≡ Some (outcome.Fault c) → Told c a (Some (reply.Card answer))
-  told-read (card_read.Card line) e = absurd cc
-  told-read card_read.Spoiled e = absurd cc
-  told-read card_read.End e = absurd cc
-  told-read card_read.Failed e = subst (λ c. Told c a (Some (reply.Card card_read.Failed))) (same-fault cause.ReadFault c e) refl
-  told-read card_read.Limit e = subst (λ c. Told c a (Some (reply.Card card_read.Limit))) (same-fault cause.DeckLimit c e) refl
-
-  told-damage : (page : Result PageContent BadPage) (r : Option (Reply Loaded)) → damage page ≡ Some (outcome.Fault c) → Told c a r
-  told-damage (Ok content) r e = absurd cc
-  told-damage (Err bad) r e = subst (λ c. Told c a r) (same-fault (cause.Damaged bad.expected bad.found bad.at) c e) tt
-
-  told-memory : (r : Option (Reply Loaded)) → Some (outcome.Fault cause.NoMemory) ≡ Some (outcome.Fault c) → Told c a r
-  told-memory r e = subst (λ c. Told c a r) (same-fault cause.NoMemory c e) tt
-
-told-failed : (c : Cause) (a : Action) → Fits deck_jobs a reply.Failed → Some (outcome.Fault (fault_at a)) ≡ Some (outcome.Fault c)
-    → Told c a (Some reply.Failed)
-told-failed c (act.PutPage page) fits e = subst (λ c. Told c (act.PutPage page) (Some reply.Failed)) (same-fault cause.DiskFault c e) (inl tt, refl)
-told-failed c act.TakePage fits e = subst (λ c. Told c act.TakePage (Some reply.Failed)) (same-fault cause.DiskFault c e) (inl tt, refl)
-told-failed c (act.Load file) fits e = subst (λ c. Told c (act.Load file) (Some reply.Failed)) (same-fault cause.DiskFault c e) (inr tt, refl)
-told-failed c (act.Print line) fits e = subst (λ c. Told c (act.Print line) (Some reply.Failed)) (same-fault cause.PrintFault c e) (tt, refl)
-told-failed c a fits e = absurd fits
-
-told-so : (p : Process Loaded) (entry : Entry Loaded) (h : List (Entry Loaded)) (c : Cause) → IsFitting deck_jobs p entry → cause_by entry h ≡ Some
-    (outcome.Fault c)
-    → Told c (action_of entry) (reply_of entry)
-told-so p (Does a reply.Done) h c fits e = absurd cc
-told-so p (Does a reply.Stopped) h c fits e = absurd cc
-told-so p (Does a reply.Failed) h c fits e = told-failed c a fits e
-told-so p (Does a reply.NoMemory) h c fits e = told-memory c a (Some reply.NoMemory) e
-told-so p (Does a (reply.Card answer)) h c fits e = told-read c a answer e
-told-so p (Does a (reply.Feed f)) h c fits e = absurd cc
-told-so p (Does a (reply.Page page last)) h c fits e = told-damage c a (page_read (place h) last page) (Some (reply.Page page last)) e
-told-so p (Does a (reply.Loaded load)) h c fits e = absurd cc
-told-so p (LacksMemory a r) h c fits e = told-memory c a (Some r) e
-told-so p (Delays a) h c fits e = absurd cc
 
 -- ---- the fault of one process behind an event: it had it before, or the event is its own and gave it
 fault-of : (how : Option Outcome) (c : Cause) → outcome_by how ≡ outcome.Fault c → how ≡ Some (outcome.Fault c)
@@ -106,80 +64,9 @@ or-gave : (old new : Option Outcome) (how : Outcome) → or_new old new ≡ Some
 or-gave None new how e = inr e
 or-gave (Some before) new how e = inl e
 
-entry-gave : (entry : Entry Loaded) (h : List (Entry Loaded)) (how : Outcome) → caused (entry ∷ h) ≡ Some how → (caused h ≡ Some how) ⊎
-    (cause_by entry h ≡ Some how)
-entry-gave (Does a r) h how e = or-gave (caused h) (given_cause a r h) how e
-entry-gave (LacksMemory a r) h how e = or-gave (caused h) (Some (outcome.Fault cause.NoMemory)) how e
-entry-gave (Delays a) h how e = inl e
-
-event-gave : (s : CoreState Loaded) (event : CoreEvent Loaded) (q : ℕ) (how : Outcome)
-    → caused ((happens (core deck_jobs (process deck_jobs)) s event).histories q) ≡ Some how
-    → (caused (s.histories q) ≡ Some how) ⊎ ((event.process ≡ q) × (cause_by event.entry (s.histories q) ≡ Some how))
-event-gave s event q how =
-    let Goal : Type 0 = (caused (s.histories q) ≡ Some how) ⊎ ((event.process ≡ q) × (cause_by event.entry (s.histories q) ≡ Some how)) in
-    let P : Bool → Type 0 = λ t. caused (if t then event.entry ∷ s.histories event.process else s.histories q) ≡ Some how → Goal in
-    let own : q ≡ event.process → caused (event.entry ∷ s.histories event.process) ≡ Some how → Goal =
-    λ is e. elim (entry-gave event.entry (s.histories q) how (subst (λ p. caused (event.entry ∷ s.histories p) ≡ Some how) (sym is) e)) as (λ _. Goal) [
-      | inl old ↦ inl old
-      | inr new ↦ inr (sym is, new)
-    ] in
-    elim (eqb_tells q event.process) as (λ _. P (q == event.process)) [
-      | inl is ↦ subst P (sym is.0) (own is.1)
-      | inr not ↦ subst P (sym not.0) (λ e. inl e)
-    ]
-
--- a cause stays
-entry-keeps : (entry : Entry Loaded) (h : List (Entry Loaded)) (how : Outcome) → caused h ≡ Some how → caused (entry ∷ h) ≡ Some how
-entry-keeps (Does a r) h how e = rw e refl
-entry-keeps (LacksMemory a r) h how e = rw e refl
-entry-keeps (Delays a) h how e = e
-
-event-keeps : (s : CoreState Loaded) (event : CoreEvent Loaded) (q : ℕ) (how : Outcome) → caused (s.histories q) ≡ Some how
-    → caused ((happens (core deck_jobs (process deck_jobs)) s event).histories q) ≡ Some how
-event-keeps s event q how e =
-    let P : Bool → Type 0 = λ t. caused (if t then event.entry ∷ s.histories event.process else s.histories q) ≡ Some how in
-    elim (eqb_tells q event.process) as (λ _. P (q == event.process)) [
-      | inl is ↦ subst P (sym is.0) (entry-keeps event.entry (s.histories event.process) how (subst (λ p. caused (s.histories p) ≡ Some how) is.1 e))
-      | inr not ↦ subst P (sym not.0) e
-    ]
-
-event-own : (s : CoreState Loaded) (event : CoreEvent Loaded) (q : ℕ) (how : Outcome) → event.process ≡ q → caused (event.entry ∷ s.histories event.process)
-    ≡ Some how
-    → caused ((happens (core deck_jobs (process deck_jobs)) s event).histories q) ≡ Some how
-event-own s event q how own e =
-    let P : Bool → Type 0 = λ t. caused (if t then event.entry ∷ s.histories event.process else s.histories q) ≡ Some how in
-    elim (eqb_tells q event.process) as (λ _. P (q == event.process)) [
-      | inl is ↦ subst P (sym is.0) e
-      | inr not ↦ absurd (not.1 (sym own))
-    ]
-
--- the limit is a cause
-lack-limit : (a : Action) → MayLack {L = Loaded} a (reply.Card card_read.Limit) → ⊥
-lack-limit act.TakePage may = may
-lack-limit act.Local may = may
-lack-limit a may = may
-
-same-reply : (r s : Reply Loaded) → Some r ≡ Some s → r ≡ s
-same-reply r s e = cc
-
-limit-gives : (p : Process Loaded) (entry : Entry Loaded) (h : List (Entry Loaded)) → IsFitting deck_jobs p entry → reply_of entry ≡ Some
-    (reply.Card card_read.Limit) → caused h ≡ None
-    → caused (entry ∷ h) ≡ Some (outcome.Fault cause.DeckLimit)
-limit-gives p (Does a r) h fits told none = let same = same-reply r (reply.Card card_read.Limit) told in rw (none, same) refl
-limit-gives p (LacksMemory a r) h fits told none = absurd (lack-limit a (subst (MayLack a) (same-reply r (reply.Card card_read.Limit) told) fits.1))
-limit-gives p (Delays a) h fits told none = absurd cc
-
 reads-or-not : (a : Action) → (a ≡ act.ReadCard) ⊎ (a ≢ act.ReadCard)
 reads-or-not act.ReadCard = inl refl
 reads-or-not a = inr (λ e. cc)
-
--- ---- who moves a page
-moves-so : (p : ℕ) (h : List (Entry Loaded)) (a : Action) → IsProcess p → Follows deck_jobs (process deck_jobs p) h → next_action (process deck_jobs p) h
-    ≡ Some a → IsMove a
-    → MovesInput p a ⊎ MovesOutput p a
-moves-so p h (act.PutPage page) one follows next is = moves-page deck_are_jobs p h page one follows next
-moves-so p h act.TakePage one follows next is = takes-page deck_are_jobs p h one next
-moves-so p h a one follows next is = absurd is
 
 no-output : (p : ℕ) (a : Action) → p ≡ 2 → MovesOutput p a → ⊥
 no-output p (act.PutPage page) two is = let same = sym two ∙ is in cc
@@ -190,12 +77,6 @@ no-input : (p : ℕ) (a : Action) → p ≡ 4 → MovesInput p a → ⊥
 no-input p (act.PutPage page) four is = let same = sym four ∙ is in cc
 no-input p act.TakePage four is = let same = sym four ∙ is in cc
 no-input p a four is = is
-
--- ---- who loads a file
-loads-so : (p : ℕ) (h : List (Entry Loaded)) (a : Action) → IsProcess p → Follows deck_jobs (process deck_jobs p) h → next_action (process deck_jobs p) h
-    ≡ Some a → IsLoad a → p ≡ 3
-loads-so p h (act.Load file) one follows next is = loads-files deck_are_jobs p h file one follows next
-loads-so p h a one follows next is = absurd is
 
 -- ---- counts that rise
 rose-then : (a b c : ℕ) → Rose a b → b ≤ c → Rose a c
@@ -212,204 +93,323 @@ same-five : (a b c d e x y z v w : Outcome) → a ≡ x → b ≡ y → c ≡ z 
     → the_five ≡ record { card = x; input = y; job = z; output = v; printer = w }
 same-five a b c d e x y z v w i j k l m the_five is = cc
 
-abbrev these : {S K A B F : Type 0} → S → K → A → B → F → Peripherals S K A B F
-these source sink input output files = record { source = source; sink = sink; input = input; output = output; files = files }
+pub same-devices : {S K F A B : Type 0} (units : Units S K F A B) (a : A) (b : B) → a ≡ units.input → b ≡ units.output
+    → record units { input = a; output = b } ≡ units
+same-devices units a b x y = rw (x, y) refl
 
-pub same-devices : {S K A B F : Type 0} (source : S) (sink : K) (a c : A) (b d : B) (files : F) → a ≡ c → b ≡ d
-    → these source sink a b files ≡ these source sink c d files
-same-devices source sink a c b d files x y = cc
+module _ {L : Type 0} {J : Jobs L} (jobs : AreJobs J) where
+  abbrev Told : Cause → Action → Option (Reply L) → Type 0
+  Told cause.ReadFault a r = r ≡ Some (reply.Card card_read.Failed)
+  Told cause.DeckLimit a r = r ≡ Some (reply.Card card_read.Limit)
+  Told cause.DiskFault a r = IsDisk a × (r ≡ Some reply.Failed)
+  Told cause.PrintFault a r = IsPrint a × (r ≡ Some reply.Failed)
+  Told other a r = Unit {0}
 
-module _ {S K A B F : Type 0} (keeps : Keeps) (tells : Tells S K A B F) (counts : Counts S K A B F) where
-  -- a network's processes have the same causes in each state that it stands for
-  same-outcomes : (net : Net S K A B F) (s t : CoreState Loaded) → NetStands keeps tells net s → NetStands keeps tells net t → outcomes_in s ≡ outcomes_in t
-  same-outcomes net s t a b =
-      same-five _ _ _ _ _ _ _ _ _ _ (ap outcome_by (sym a.card.cause ∙ b.card.cause)) (ap outcome_by (sym a.input.cause ∙ b.input.cause))
-      (ap outcome_by (sym a.job.cause ∙ b.job.cause)) (ap outcome_by (sym a.output.cause ∙ b.output.cause))
-      (ap outcome_by (sym a.printer.cause ∙ b.printer.cause)) (outcomes_in s) refl
+  module _ (c : Cause) (a : Action) where
+    told-read : (answer : CardRead) → fault_read answer ≡ Some (outcome.Fault c) → Told c a (Some (reply.Card answer))
+    told-read (card_read.Card line) e = absurd cc
+    told-read card_read.Spoiled e = absurd cc
+    told-read card_read.End e = absurd cc
+    told-read card_read.Failed e = subst (λ c. Told c a (Some (reply.Card card_read.Failed))) (same-fault cause.ReadFault c e) refl
+    told-read card_read.Limit e = subst (λ c. Told c a (Some (reply.Card card_read.Limit))) (same-fault cause.DeckLimit c e) refl
 
-  -- what is counted in one state that it stands for is in each
-  counted-each : (net : Net S K A B F) (before : Peripherals S K A B F) (s : CoreState Loaded) → NetStands keeps tells net s
-      → AreCounted counts before (devices_of net.shared) (outcomes_in s) → CausesAreCounted keeps tells counts before net
-  counted-each net before s stands are = λ t other. subst (AreCounted counts before (devices_of net.shared)) (same-outcomes net s t stands other) are
+    told-damage : (page : Result PageContent BadPage) (r : Option (Reply L)) → damage page ≡ Some (outcome.Fault c) → Told c a r
+    told-damage (Ok content) r e = absurd cc
+    told-damage (Err bad) r e = subst (λ c. Told c a r) (same-fault (cause.Damaged bad.expected bad.found bad.at) c e) tt
 
-  -- ---- one step
-  module _ (old new : Net S K A B F) (o : Opening deck_jobs) (s : CoreState Loaded) (event : CoreEvent Loaded) (reached : IsReached o s)
-      (enabled : IsEnabled (core deck_jobs (process deck_jobs)) s event)
-      (causes : HasCauses counts old.shared new.shared event.process (action_of event.entry) (reply_of event.entry)) where
-    abbrev q : ℕ
-    q = event.process
+    told-memory : (r : Option (Reply L)) → Some (outcome.Fault cause.NoMemory) ≡ Some (outcome.Fault c) → Told c a r
+    told-memory r e = subst (λ c. Told c a r) (same-fault cause.NoMemory c e) tt
 
-    abbrev made : Action
-    made = action_of event.entry
+  told-failed : (c : Cause) (a : Action) → Fits J a reply.Failed → Some (outcome.Fault (fault_at a)) ≡ Some (outcome.Fault c)
+      → Told c a (Some reply.Failed)
+  told-failed c (act.PutPage page) fits e = subst (λ c. Told c (act.PutPage page) (Some reply.Failed)) (same-fault cause.DiskFault c e) (inl tt, refl)
+  told-failed c act.TakePage fits e = subst (λ c. Told c act.TakePage (Some reply.Failed)) (same-fault cause.DiskFault c e) (inl tt, refl)
+  told-failed c (act.Load file) fits e = subst (λ c. Told c (act.Load file) (Some reply.Failed)) (same-fault cause.DiskFault c e) (inr tt, refl)
+  told-failed c (act.Print line) fits e = subst (λ c. Told c (act.Print line) (Some reply.Failed)) (same-fault cause.PrintFault c e) (tt, refl)
+  told-failed c a fits e = absurd fits
 
-    follows : Follows deck_jobs (process deck_jobs q) (s.histories q)
-    follows = follows-of deck_are_jobs (process deck_jobs) q (s.histories q) ((reached-centre deck_are_jobs o s reached).stands.follows q)
+  told-so : (p : Process L) (entry : Entry L) (h : List (Entry L)) (c : Cause) → IsFitting J p entry → cause_by entry h ≡ Some
+      (outcome.Fault c)
+      → Told c (action_of entry) (reply_of entry)
+  told-so p (Does a reply.Done) h c fits e = absurd cc
+  told-so p (Does a reply.Stopped) h c fits e = absurd cc
+  told-so p (Does a reply.Failed) h c fits e = told-failed c a fits e
+  told-so p (Does a reply.NoMemory) h c fits e = told-memory c a (Some reply.NoMemory) e
+  told-so p (Does a (reply.Card answer)) h c fits e = told-read c a answer e
+  told-so p (Does a (reply.Feed f)) h c fits e = absurd cc
+  told-so p (Does a (reply.Page page last)) h c fits e = told-damage c a (page_read (place h) last page) (Some (reply.Page page last)) e
+  told-so p (Does a (reply.Loaded load)) h c fits e = absurd cc
+  told-so p (LacksMemory a r) h c fits e = told-memory c a (Some r) e
+  told-so p (Delays a) h c fits e = absurd cc
 
-    next : next_action (process deck_jobs q) (s.histories q) ≡ Some made
-    next = enabled.next
+  entry-gave : (entry : Entry L) (h : List (Entry L)) (how : Outcome) → caused (entry ∷ h) ≡ Some how → (caused h ≡ Some how) ⊎
+      (cause_by entry h ≡ Some how)
+  entry-gave (Does a r) h how e = or-gave (caused h) (given_cause a r h) how e
+  entry-gave (LacksMemory a r) h how e = or-gave (caused h) (Some (outcome.Fault cause.NoMemory)) how e
+  entry-gave (Delays a) h how e = inl e
 
-    now-or-before : (n : ℕ) (c : Cause) → outcome_by (caused ((happens (core deck_jobs (process deck_jobs)) s event).histories n)) ≡ outcome.Fault c
-        → (outcome_by (caused (s.histories n)) ≡ outcome.Fault c) ⊎ ((q ≡ n) × Told c made (reply_of event.entry))
-    now-or-before n c is =
-        elim (event-gave s event n (outcome.Fault c) (fault-of (caused ((happens (core deck_jobs (process deck_jobs)) s event).histories n)) c is))
-        as (λ _. (outcome_by (caused (s.histories n)) ≡ outcome.Fault c) ⊎ ((q ≡ n) × Told c made (reply_of event.entry))) [
-          | inl before ↦ inl (ap outcome_by before)
-          | inr now ↦ inr (now.0, told-so (process deck_jobs q) event.entry (s.histories n) c enabled.suits now.1)
-        ]
+  event-gave : (s : CoreState L) (event : CoreEvent L) (q : ℕ) (how : Outcome)
+      → caused ((happens (core J (process J)) s event).histories q) ≡ Some how
+      → (caused (s.histories q) ≡ Some how) ⊎ ((event.process ≡ q) × (cause_by event.entry (s.histories q) ≡ Some how))
+  event-gave s event q how =
+      let Goal : Type 0 = (caused (s.histories q) ≡ Some how) ⊎ ((event.process ≡ q) × (cause_by event.entry (s.histories q) ≡ Some how)) in
+      let P : Bool → Type 0 = λ t. caused (if t then event.entry ∷ s.histories event.process else s.histories q) ≡ Some how → Goal in
+      let own : q ≡ event.process → caused (event.entry ∷ s.histories event.process) ≡ Some how → Goal =
+      λ is e. elim (entry-gave event.entry (s.histories q) how (subst (λ p. caused (event.entry ∷ s.histories p) ≡ Some how) (sym is) e)) as (λ _. Goal) [
+        | inl old ↦ inl old
+        | inr new ↦ inr (sym is, new)
+      ] in
+      elim (eqb_tells q event.process) as (λ _. P (q == event.process)) [
+        | inl is ↦ subst P (sym is.0) (own is.1)
+        | inr not ↦ subst P (sym not.0) (λ e. inl e)
+      ]
 
-    -- with a cause the card process reads no more
-    deck-same : (how : Outcome) → caused (s.histories 1) ≡ Some how → new.shared.deck ≡ old.shared.deck
-    deck-same how is =
-        causes.deck_stays (λ reads.
-        let asked : next_action (process deck_jobs q) (s.histories q) ≡ Some act.ReadCard = next ∙ ap Some reads in
-        let none : caused (s.histories q) ≡ None = open-next deck_jobs (process deck_jobs q) (s.histories q) act.ReadCard asked tt in
-        let here : caused (s.histories 1) ≡ None = subst (λ p. caused (s.histories p) ≡ None) (reads-deck deck_are_jobs q (s.histories q) asked) none in
-        let both = sym here ∙ is in cc)
+  -- a cause stays
+  entry-keeps : (entry : Entry L) (h : List (Entry L)) (how : Outcome) → caused h ≡ Some how → caused (entry ∷ h) ≡ Some how
+  entry-keeps (Does a r) h how e = rw e refl
+  entry-keeps (LacksMemory a r) h how e = rw e refl
+  entry-keeps (Delays a) h how e = e
 
-    module _ (before : Peripherals S K A B F) (was : AreCounted counts before (devices_of old.shared) (outcomes_in s)) where
-      moves : IsMove made → MovesInput q made ⊎ MovesOutput q made
-      moves is = moves-so q (s.histories q) made enabled.one follows next is
+  event-keeps : (s : CoreState L) (event : CoreEvent L) (q : ℕ) (how : Outcome) → caused (s.histories q) ≡ Some how
+      → caused ((happens (core J (process J)) s event).histories q) ≡ Some how
+  event-keeps s event q how e =
+      let P : Bool → Type 0 = λ t. caused (if t then event.entry ∷ s.histories event.process else s.histories q) ≡ Some how in
+      elim (eqb_tells q event.process) as (λ _. P (q == event.process)) [
+        | inl is ↦ subst P (sym is.0) (entry-keeps event.entry (s.histories event.process) how (subst (λ p. caused (s.histories p) ≡ Some how) is.1 e))
+        | inr not ↦ subst P (sym not.0) e
+      ]
 
-      input-rose : MovesInput q made → reply_of event.entry ≡ Some reply.Failed
-          → Rose (counts.input_faults before.input) (counts.input_faults new.shared.input.area)
-      input-rose is failed = then-rose _ _ _ was.input_on (causes.input is failed)
+  event-own : (s : CoreState L) (event : CoreEvent L) (q : ℕ) (how : Outcome) → event.process ≡ q → caused (event.entry ∷ s.histories event.process)
+      ≡ Some how
+      → caused ((happens (core J (process J)) s event).histories q) ≡ Some how
+  event-own s event q how own e =
+      let P : Bool → Type 0 = λ t. caused (if t then event.entry ∷ s.histories event.process else s.histories q) ≡ Some how in
+      elim (eqb_tells q event.process) as (λ _. P (q == event.process)) [
+        | inl is ↦ subst P (sym is.0) e
+        | inr not ↦ absurd (not.1 (sym own))
+      ]
 
-      output-rose : MovesOutput q made → reply_of event.entry ≡ Some reply.Failed
-          → Rose (counts.output_faults before.output) (counts.output_faults new.shared.output.area)
-      output-rose is failed = then-rose _ _ _ was.output_on (causes.output is failed)
+  -- the limit is a cause
+  lack-limit : (a : Action) → MayLack {L = L} a (reply.Card card_read.Limit) → ⊥
+  lack-limit act.TakePage may = may
+  lack-limit act.Local may = may
+  lack-limit a may = may
 
-      abbrev InputRose : Type 0
-      InputRose = Rose (counts.input_faults before.input) (counts.input_faults new.shared.input.area)
+  same-reply : (r s : Reply L) → Some r ≡ Some s → r ≡ s
+  same-reply r s e = cc
 
-      abbrev OutputRose : Type 0
-      OutputRose = Rose (counts.output_faults before.output) (counts.output_faults new.shared.output.area)
+  limit-gives : (p : Process L) (entry : Entry L) (h : List (Entry L)) → IsFitting J p entry → reply_of entry ≡ Some
+      (reply.Card card_read.Limit) → caused h ≡ None
+      → caused (entry ∷ h) ≡ Some (outcome.Fault cause.DeckLimit)
+  limit-gives p (Does a r) h fits told none = let same = same-reply r (reply.Card card_read.Limit) told in rw (none, same) refl
+  limit-gives p (LacksMemory a r) h fits told none = absurd (lack-limit a (subst (MayLack a) (same-reply r (reply.Card card_read.Limit) told) fits.1))
+  limit-gives p (Delays a) h fits told none = absurd cc
 
-      abbrev FilesRose : Type 0
-      FilesRose = Rose (counts.file_faults before.files) (counts.file_faults new.shared.files.area)
+  -- ---- who moves a page
+  moves-so : (p : ℕ) (h : List (Entry L)) (a : Action) → IsProcess p → Follows J (process J p) h → next_action (process J p) h
+      ≡ Some a → IsMove a
+      → MovesInput p a ⊎ MovesOutput p a
+  moves-so p h (act.PutPage page) one follows next is = moves-page jobs p h page one follows next
+  moves-so p h act.TakePage one follows next is = takes-page jobs p h one next
+  moves-so p h a one follows next is = absurd is
 
-      loads : IsLoad made → q ≡ 3
-      loads is = loads-so q (s.histories q) made enabled.one follows next is
+  -- ---- who loads a file
+  loads-so : (p : ℕ) (h : List (Entry L)) (a : Action) → IsProcess p → Follows J (process J p) h → next_action (process J p) h
+      ≡ Some a → IsLoad a → p ≡ 3
+  loads-so p h (act.Load file) one follows next is = loads-files jobs p h file one follows next
+  loads-so p h a one follows next is = absurd is
 
-      files-rose : IsLoad made → reply_of event.entry ≡ Some reply.Failed
-          → Rose (counts.file_faults before.files) (counts.file_faults new.shared.files.area)
-      files-rose is failed = then-rose _ _ _ was.files_on (causes.load is failed)
+  module _ {X S K F A B : Type 0} (keeps : Keeps L X) (tells : Tells L S K F A B) (counts : Counts S K F A B) where
+    -- a network's processes have the same causes in each state that it stands for
+    same-outcomes : (net : Net X S K F A B) (s t : CoreState L) → NetStands J keeps tells net s → NetStands J keeps tells net t → outcomes_in s ≡ outcomes_in t
+    same-outcomes net s t a b =
+        same-five _ _ _ _ _ _ _ _ _ _ (ap outcome_by (sym a.card.cause ∙ b.card.cause)) (ap outcome_by (sym a.input.cause ∙ b.input.cause))
+        (ap outcome_by (sym a.job.cause ∙ b.job.cause)) (ap outcome_by (sym a.output.cause ∙ b.output.cause))
+        (ap outcome_by (sym a.printer.cause ∙ b.printer.cause)) (outcomes_in s) refl
 
-      read : outcome_by (caused ((happens (core deck_jobs (process deck_jobs)) s event).histories 1)) ≡ outcome.Fault cause.ReadFault
-          → Rose (counts.read_faults before.source) (counts.read_faults new.shared.deck.source)
-      read is =
-          elim (now-or-before 1 cause.ReadFault is) as (λ _. Rose (counts.read_faults before.source) (counts.read_faults new.shared.deck.source)) [
-            | inl had ↦ rose-then _ _ _ (was.read had) causes.read_on
-            | inr gave ↦ then-rose _ _ _ was.read_on (causes.read gave.1)
+    -- what is counted in one state that it stands for is in each
+    counted-each : (net : Net X S K F A B) (before : Units S K F A B) (s : CoreState L) → NetStands J keeps tells net s
+        → AreCounted counts before (units_of net.shared) (outcomes_in s) → CausesAreCounted J keeps tells counts before net
+    counted-each net before s stands are = λ t other. subst (AreCounted counts before (units_of net.shared)) (same-outcomes net s t stands other) are
+
+    -- ---- one step
+    module _ (old new : Net X S K F A B) (o : Opening J) (s : CoreState L) (event : CoreEvent L) (reached : IsReached o s)
+        (enabled : IsEnabled (core J (process J)) s event)
+        (causes : HasCauses tells counts old.shared new.shared event.process (action_of event.entry) (reply_of event.entry)) where
+      abbrev q : ℕ
+      q = event.process
+
+      abbrev made : Action
+      made = action_of event.entry
+
+      follows : Follows J (process J q) (s.histories q)
+      follows = follows-of jobs (process J) q (s.histories q) ((reached-centre jobs o s reached).stands.follows q)
+
+      next : next_action (process J q) (s.histories q) ≡ Some made
+      next = enabled.next
+
+      now-or-before : (n : ℕ) (c : Cause) → outcome_by (caused ((happens (core J (process J)) s event).histories n)) ≡ outcome.Fault c
+          → (outcome_by (caused (s.histories n)) ≡ outcome.Fault c) ⊎ ((q ≡ n) × Told c made (reply_of event.entry))
+      now-or-before n c is =
+          elim (event-gave s event n (outcome.Fault c) (fault-of (caused ((happens (core J (process J)) s event).histories n)) c is))
+          as (λ _. (outcome_by (caused (s.histories n)) ≡ outcome.Fault c) ⊎ ((q ≡ n) × Told c made (reply_of event.entry))) [
+            | inl before ↦ inl (ap outcome_by before)
+            | inr now ↦ inr (now.0, told-so (process J q) event.entry (s.histories n) c enabled.suits now.1)
           ]
 
-      limit : outcome_by (caused ((happens (core deck_jobs (process deck_jobs)) s event).histories 1)) ≡ outcome.Fault cause.DeckLimit
-          → byte_limit < counts.taken new.shared.deck.source
-      limit is =
-          elim (now-or-before 1 cause.DeckLimit is) as (λ _. byte_limit < counts.taken new.shared.deck.source) [
-            | inl had ↦ subst (λ (d : Held S). byte_limit < counts.taken d.source) (sym (deck-same (outcome.Fault cause.DeckLimit)
-                (fault-of (caused (s.histories 1)) cause.DeckLimit had))) (was.limit had)
-            | inr gave ↦ causes.limit gave.1
-          ]
+      -- with a cause the card process reads no more
+      deck-same : (how : Outcome) → caused (s.histories 1) ≡ Some how → new.shared.deck ≡ old.shared.deck
+      deck-same how is =
+          causes.deck_stays (λ reads.
+          let asked : next_action (process J q) (s.histories q) ≡ Some act.ReadCard = next ∙ ap Some reads in
+          let none : caused (s.histories q) ≡ None = open-next J (process J q) (s.histories q) act.ReadCard asked tt in
+          let here : caused (s.histories 1) ≡ None = subst (λ p. caused (s.histories p) ≡ None) (reads-deck jobs q (s.histories q) asked) none in
+          let both = sym here ∙ is in cc)
 
-      longer : counts.taken before.source ≤ byte_limit → byte_limit < counts.taken new.shared.deck.source
-          → outcome_by (caused ((happens (core deck_jobs (process deck_jobs)) s event).histories 1)) ≡ outcome.Fault cause.DeckLimit
-      longer few over =
-          elim (reads-or-not made) as (λ _. outcome_by (caused ((happens (core deck_jobs (process deck_jobs)) s event).histories 1))
-          ≡ outcome.Fault cause.DeckLimit) [
-            | inl reads ↦ ap outcome_by (event-own s event 1 (outcome.Fault cause.DeckLimit) (reads-deck deck_are_jobs q (s.histories q) (next ∙ ap Some reads))
-                (limit-gives (process deck_jobs q) event.entry (s.histories q) enabled.suits (causes.limit_told reads over)
-                (open-next deck_jobs (process deck_jobs q) (s.histories q) act.ReadCard (next ∙ ap Some reads) tt)))
-            | inr not ↦ ap outcome_by (event-keeps s event 1 (outcome.Fault cause.DeckLimit) (fault-of (caused (s.histories 1)) cause.DeckLimit
-                (was.longer few (subst (λ (d : Held S). byte_limit < counts.taken d.source) (causes.deck_stays not) over))))
-          ]
+      module _ (before : Units S K F A B) (was : AreCounted counts before (units_of old.shared) (outcomes_in s)) where
+        moves : IsMove made → MovesInput q made ⊎ MovesOutput q made
+        moves is = moves-so q (s.histories q) made enabled.one follows next is
 
-      input : outcome_by (caused ((happens (core deck_jobs (process deck_jobs)) s event).histories 2)) ≡ outcome.Fault cause.DiskFault → InputRose
-      input is =
-          elim (now-or-before 2 cause.DiskFault is) as (λ _. InputRose) [
-            | inl had ↦ rose-then _ _ _ (was.input had) causes.input_on
-            | inr gave ↦ elim gave.1.0 as (λ _. InputRose) [
-              | inl page ↦ elim (moves page) as (λ _. InputRose) [
-                | inl there ↦ input-rose there gave.1.1
-                | inr there ↦ absurd (no-output q made gave.0 there)
-              ]
-              | inr file ↦ absurd (let same = sym gave.0 ∙ loads file in cc)
+        input-rose : MovesInput q made → reply_of event.entry ≡ Some reply.Failed
+            → Rose (counts.input_faults before.input) (counts.input_faults new.shared.input.area)
+        input-rose is failed = then-rose _ _ _ was.input_on (causes.input is failed)
+
+        output-rose : MovesOutput q made → reply_of event.entry ≡ Some reply.Failed
+            → Rose (counts.output_faults before.output) (counts.output_faults new.shared.output.area)
+        output-rose is failed = then-rose _ _ _ was.output_on (causes.output is failed)
+
+        abbrev InputRose : Type 0
+        InputRose = Rose (counts.input_faults before.input) (counts.input_faults new.shared.input.area)
+
+        abbrev OutputRose : Type 0
+        OutputRose = Rose (counts.output_faults before.output) (counts.output_faults new.shared.output.area)
+
+        abbrev FilesRose : Type 0
+        FilesRose = Rose (counts.file_faults before.files) (counts.file_faults new.shared.files)
+
+        loads : IsLoad made → q ≡ 3
+        loads is = loads-so q (s.histories q) made enabled.one follows next is
+
+        files-rose : IsLoad made → reply_of event.entry ≡ Some reply.Failed
+            → Rose (counts.file_faults before.files) (counts.file_faults new.shared.files)
+        files-rose is failed = then-rose _ _ _ was.files_on (causes.load is failed)
+
+        read : outcome_by (caused ((happens (core J (process J)) s event).histories 1)) ≡ outcome.Fault cause.ReadFault
+            → Rose (counts.read_faults before.deck.source) (counts.read_faults new.shared.deck.source)
+        read is =
+            elim (now-or-before 1 cause.ReadFault is) as (λ _. Rose (counts.read_faults before.deck.source) (counts.read_faults new.shared.deck.source)) [
+              | inl had ↦ rose-then _ _ _ (was.read had) causes.read_on
+              | inr gave ↦ then-rose _ _ _ was.read_on (causes.read gave.1)
             ]
-          ]
 
-      job : outcome_by (caused ((happens (core deck_jobs (process deck_jobs)) s event).histories 3)) ≡ outcome.Fault cause.DiskFault
-          → InputRose ⊎ OutputRose ⊎ FilesRose
-      job is =
-          elim (now-or-before 3 cause.DiskFault is) as (λ _. InputRose ⊎ OutputRose ⊎ FilesRose) [
-            | inl had ↦ elim (was.job had) as (λ _. InputRose ⊎ OutputRose ⊎ FilesRose) [
-              | inl rose ↦ inl (rose-then _ _ _ rose causes.input_on)
-              | inr later ↦ elim later as (λ _. InputRose ⊎ OutputRose ⊎ FilesRose) [
-                | inl rose ↦ inr (inl (rose-then _ _ _ rose causes.output_on))
-                | inr rose ↦ inr (inr (rose-then _ _ _ rose causes.files_on))
+        limit : outcome_by (caused ((happens (core J (process J)) s event).histories 1)) ≡ outcome.Fault cause.DeckLimit
+            → byte_limit < counts.taken new.shared.deck.source
+        limit is =
+            elim (now-or-before 1 cause.DeckLimit is) as (λ _. byte_limit < counts.taken new.shared.deck.source) [
+              | inl had ↦ subst (λ (d : Held S). byte_limit < counts.taken d.source) (sym (deck-same (outcome.Fault cause.DeckLimit)
+                  (fault-of (caused (s.histories 1)) cause.DeckLimit had))) (was.limit had)
+              | inr gave ↦ causes.limit gave.1
+            ]
+
+        longer : counts.taken before.deck.source ≤ byte_limit → byte_limit < counts.taken new.shared.deck.source
+            → outcome_by (caused ((happens (core J (process J)) s event).histories 1)) ≡ outcome.Fault cause.DeckLimit
+        longer few over =
+            elim (reads-or-not made) as (λ _. outcome_by (caused ((happens (core J (process J)) s event).histories 1))
+            ≡ outcome.Fault cause.DeckLimit) [
+              | inl reads ↦ ap outcome_by (event-own s event 1 (outcome.Fault cause.DeckLimit) (reads-deck jobs q (s.histories q) (next ∙ ap Some reads))
+                  (limit-gives (process J q) event.entry (s.histories q) enabled.suits (causes.limit_told reads over)
+                  (open-next J (process J q) (s.histories q) act.ReadCard (next ∙ ap Some reads) tt)))
+              | inr not ↦ ap outcome_by (event-keeps s event 1 (outcome.Fault cause.DeckLimit) (fault-of (caused (s.histories 1)) cause.DeckLimit
+                  (was.longer few (subst (λ (d : Held S). byte_limit < counts.taken d.source) (causes.deck_stays not) over))))
+            ]
+
+        input : outcome_by (caused ((happens (core J (process J)) s event).histories 2)) ≡ outcome.Fault cause.DiskFault → InputRose
+        input is =
+            elim (now-or-before 2 cause.DiskFault is) as (λ _. InputRose) [
+              | inl had ↦ rose-then _ _ _ (was.input had) causes.input_on
+              | inr gave ↦ elim gave.1.0 as (λ _. InputRose) [
+                | inl page ↦ elim (moves page) as (λ _. InputRose) [
+                  | inl there ↦ input-rose there gave.1.1
+                  | inr there ↦ absurd (no-output q made gave.0 there)
+                ]
+                | inr file ↦ absurd (let same = sym gave.0 ∙ loads file in cc)
               ]
             ]
-            | inr gave ↦ elim gave.1.0 as (λ _. InputRose ⊎ OutputRose ⊎ FilesRose) [
-              | inl page ↦ elim (moves page) as (λ _. InputRose ⊎ OutputRose ⊎ FilesRose) [
-                | inl there ↦ inl (input-rose there gave.1.1)
-                | inr there ↦ inr (inl (output-rose there gave.1.1))
+
+        job : outcome_by (caused ((happens (core J (process J)) s event).histories 3)) ≡ outcome.Fault cause.DiskFault
+            → InputRose ⊎ OutputRose ⊎ FilesRose
+        job is =
+            elim (now-or-before 3 cause.DiskFault is) as (λ _. InputRose ⊎ OutputRose ⊎ FilesRose) [
+              | inl had ↦ elim (was.job had) as (λ _. InputRose ⊎ OutputRose ⊎ FilesRose) [
+                | inl rose ↦ inl (rose-then _ _ _ rose causes.input_on)
+                | inr later ↦ elim later as (λ _. InputRose ⊎ OutputRose ⊎ FilesRose) [
+                  | inl rose ↦ inr (inl (rose-then _ _ _ rose causes.output_on))
+                  | inr rose ↦ inr (inr (rose-then _ _ _ rose causes.files_on))
+                ]
               ]
-              | inr file ↦ inr (inr (files-rose file gave.1.1))
-            ]
-          ]
-
-      output : outcome_by (caused ((happens (core deck_jobs (process deck_jobs)) s event).histories 4)) ≡ outcome.Fault cause.DiskFault → OutputRose
-      output is =
-          elim (now-or-before 4 cause.DiskFault is) as (λ _. OutputRose) [
-            | inl had ↦ rose-then _ _ _ (was.output had) causes.output_on
-            | inr gave ↦ elim gave.1.0 as (λ _. OutputRose) [
-              | inl page ↦ elim (moves page) as (λ _. OutputRose) [
-                | inl there ↦ absurd (no-input q made gave.0 there)
-                | inr there ↦ output-rose there gave.1.1
+              | inr gave ↦ elim gave.1.0 as (λ _. InputRose ⊎ OutputRose ⊎ FilesRose) [
+                | inl page ↦ elim (moves page) as (λ _. InputRose ⊎ OutputRose ⊎ FilesRose) [
+                  | inl there ↦ inl (input-rose there gave.1.1)
+                  | inr there ↦ inr (inl (output-rose there gave.1.1))
+                ]
+                | inr file ↦ inr (inr (files-rose file gave.1.1))
               ]
-              | inr file ↦ absurd (let same = sym gave.0 ∙ loads file in cc)
             ]
-          ]
 
-      print : outcome_by (caused ((happens (core deck_jobs (process deck_jobs)) s event).histories 5)) ≡ outcome.Fault cause.PrintFault
-          → Rose (counts.print_faults before.sink) (counts.print_faults new.shared.paper.sink)
-      print is =
-          elim (now-or-before 5 cause.PrintFault is) as (λ _. Rose (counts.print_faults before.sink) (counts.print_faults new.shared.paper.sink)) [
-            | inl had ↦ rose-then _ _ _ (was.print had) causes.print_on
-            | inr gave ↦ then-rose _ _ _ was.print_on (causes.print gave.1.0 gave.1.1)
-          ]
+        output : outcome_by (caused ((happens (core J (process J)) s event).histories 4)) ≡ outcome.Fault cause.DiskFault → OutputRose
+        output is =
+            elim (now-or-before 4 cause.DiskFault is) as (λ _. OutputRose) [
+              | inl had ↦ rose-then _ _ _ (was.output had) causes.output_on
+              | inr gave ↦ elim gave.1.0 as (λ _. OutputRose) [
+                | inl page ↦ elim (moves page) as (λ _. OutputRose) [
+                  | inl there ↦ absurd (no-input q made gave.0 there)
+                  | inr there ↦ output-rose there gave.1.1
+                ]
+                | inr file ↦ absurd (let same = sym gave.0 ∙ loads file in cc)
+              ]
+            ]
 
-      counted : AreCounted counts before (devices_of new.shared) (outcomes_in (happens (core deck_jobs (process deck_jobs)) s event))
-      counted = record {
-        read = read;
-        limit = limit;
-        longer = longer;
-        input = input;
-        job = job;
-        output = output;
-        print = print;
-        read_on = on-then _ _ _ was.read_on causes.read_on;
-        input_on = on-then _ _ _ was.input_on causes.input_on;
-        output_on = on-then _ _ _ was.output_on causes.output_on;
-        print_on = on-then _ _ _ was.print_on causes.print_on;
-        files_on = on-then _ _ _ was.files_on causes.files_on;
-      }
+        print : outcome_by (caused ((happens (core J (process J)) s event).histories 5)) ≡ outcome.Fault cause.PrintFault
+            → Rose (counts.print_faults before.paper.sink) (counts.print_faults new.shared.paper.sink)
+        print is =
+            elim (now-or-before 5 cause.PrintFault is) as (λ _. Rose (counts.print_faults before.paper.sink) (counts.print_faults new.shared.paper.sink)) [
+              | inl had ↦ rose-then _ _ _ (was.print had) causes.print_on
+              | inr gave ↦ then-rose _ _ _ was.print_on (causes.print gave.1.0 gave.1.1)
+            ]
 
-  -- An event keeps that they were counted.
-  pub event-counted : (old new : Net S K A B F) (o : Opening deck_jobs) (s : CoreState Loaded) (event : CoreEvent Loaded) → IsReached o s
-      → NetStands keeps tells old s
-      → IsEnabled (core deck_jobs (process deck_jobs)) s event → NetStands keeps tells new (happens (core deck_jobs (process deck_jobs)) s event)
-      → HasCauses counts old.shared new.shared event.process (action_of event.entry) (reply_of event.entry)
-      → (before : Peripherals S K A B F) → CausesAreCounted keeps tells counts before old → CausesAreCounted keeps tells counts before new
-  event-counted old new o s event reached stood enabled stands causes before were =
-      counted-each new before (happens (core deck_jobs (process deck_jobs)) s event) stands (counted old new o s event reached enabled causes before
-      (were s stood))
+        counted : AreCounted counts before (units_of new.shared) (outcomes_in (happens (core J (process J)) s event))
+        counted = record {
+          read = read;
+          limit = limit;
+          longer = longer;
+          input = input;
+          job = job;
+          output = output;
+          print = print;
+          read_on = on-then _ _ _ was.read_on causes.read_on;
+          input_on = on-then _ _ _ was.input_on causes.input_on;
+          output_on = on-then _ _ _ was.output_on causes.output_on;
+          print_on = on-then _ _ _ was.print_on causes.print_on;
+          files_on = on-then _ _ _ was.files_on causes.files_on;
+        }
 
-  -- What was counted until all ended is what the run tells.
-  pub ended-counted : (net : Net S K A B F) (outcomes : Outcomes) (now : Peripherals S K A B F) (s : CoreState Loaded) → NetStands keeps tells net s
-      → outcomes.card ≡ outcome_by (caused (s.histories 1)) → outcomes.input ≡ outcome_by (caused (s.histories 2))
-      → outcomes.job ≡ outcome_by (caused (s.histories 3)) → outcomes.output ≡ outcome_by (caused (s.histories 4))
-      → outcomes.printer ≡ outcome_by (caused (s.histories 5)) → now ≡ devices_of net.shared
-      → (before : Peripherals S K A B F) → CausesAreCounted keeps tells counts before net → AreCounted counts before now outcomes
-  ended-counted net outcomes now s stands card input job output printer devices before were =
-      subst (λ now. AreCounted counts before now outcomes) (sym devices)
-      (subst (AreCounted counts before (devices_of net.shared)) (sym (same-five _ _ _ _ _ _ _ _ _ _ card input job output printer outcomes refl))
-      (were s stands))
+    -- An event keeps that they were counted.
+    pub event-counted : (old new : Net X S K F A B) (o : Opening J) (s : CoreState L) (event : CoreEvent L) → IsReached o s
+        → NetStands J keeps tells old s
+        → IsEnabled (core J (process J)) s event → NetStands J keeps tells new (happens (core J (process J)) s event)
+        → HasCauses tells counts old.shared new.shared event.process (action_of event.entry) (reply_of event.entry)
+        → (before : Units S K F A B) → CausesAreCounted J keeps tells counts before old → CausesAreCounted J keeps tells counts before new
+    event-counted old new o s event reached stood enabled stands causes before were =
+        counted-each new before (happens (core J (process J)) s event) stands (counted old new o s event reached enabled causes before
+        (were s stood))
+
+    -- What was counted until all ended is what the run tells.
+    pub ended-counted : (net : Net X S K F A B) (outcomes : Outcomes) (now : Units S K F A B) (s : CoreState L) → NetStands J keeps tells net s
+        → outcomes.card ≡ outcome_by (caused (s.histories 1)) → outcomes.input ≡ outcome_by (caused (s.histories 2))
+        → outcomes.job ≡ outcome_by (caused (s.histories 3)) → outcomes.output ≡ outcome_by (caused (s.histories 4))
+        → outcomes.printer ≡ outcome_by (caused (s.histories 5)) → now ≡ units_of net.shared
+        → (before : Units S K F A B) → CausesAreCounted J keeps tells counts before net → AreCounted counts before now outcomes
+    ended-counted net outcomes now s stands card input job output printer devices before were =
+        subst (λ now. AreCounted counts before now outcomes) (sym devices)
+        (subst (AreCounted counts before (units_of net.shared)) (sym (same-five _ _ _ _ _ _ _ _ _ _ card input job output printer outcomes refl))
+        (were s stands))

@@ -1,5 +1,4 @@
 mod SpoolVisits
-mod DeviceVisits
 mod Performing
 mod Stepping
 mod MayPerforming
@@ -11,4 +10,3 @@ mod Finishing
 mod FaultsCounted
 pub mod WholeRuns
 mod Within
-pub mod GoodFiles

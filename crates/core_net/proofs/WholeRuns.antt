@@ -3,8 +3,6 @@ use Rattle.std.proofs.Common.{◌≡◌, ◌≤◌, ◌==◌, if◌then◌else�
 use Rattle.solo_base.specs.Card.{lines, before_lines, card_of, cards}
 use Rattle.solo_base.specs.declared.item.Item.{Item}
 use Rattle.solo_base.specs.declared.outcome.Side.{Side}
-use Rattle.batch_job.specs.Report.{Loads}
-use Rattle.disk_files.specs.Answers.{FileTable}
 use Rattle.solo_devices.specs.CardUnit.{Held, items_ahead, bytes_total, IsAllTaken}
 use Rattle.solo_devices.specs.PrinterUnit.{Printing}
 use Rattle.network_run.specs.declared.counts.Counts.{Counts}
@@ -19,19 +17,15 @@ use Rattle.core_law.specs.Holds.{AreTold, AreFound}
 use Rattle.core_law.specs.Opening.{Opening}
 use Rattle.core_law.specs.TheLaw.{the_law, IsReached}
 use Rattle.core_law.proofs.Bounded.{no-run_longer}
-use Rattle.core_net.specs.declared.finish.Outcomes.{Outcomes}
 use Rattle.core_net.specs.declared.net.Net.{Net}
 use Rattle.core_net.specs.Ended.{EndsSo}
 use Rattle.core_net.specs.Net.{Keeps, NetStands, StandsWithin}
-use Rattle.core_net.specs.Shared.{Tells}
 use Rattle.core_net.specs.WholeRuns.{RunsToEnd}
-use Rattle.disk_system.specs.declared.loading.Loaded.{Loaded}
-use Rattle.deck_work.specs.DeckJobs.{files_found, deck_jobs, deck_are_jobs}
-
-same-told : (devices : Devices Loaded) (deck : Option (List Item)) (paper : Option (List ℕ)) (files : Option Loads) → devices.deck ≡ deck
-    → devices.paper ≡ paper
-    → devices.files ≡ files → devices ≡ record { deck = deck; paper = paper; files = files }
-same-told devices deck paper files a b c = rw (sym a, sym b, sym c) refl
+use Rattle.batch_procs.specs.Jobs.{Jobs, AreJobs, FilesAs, one_thread}
+use Rattle.batch_ends.specs.Tells.{Tells, devices_of}
+use Rattle.batch_ends.specs.declared.units.Units.{Units}
+use Rattle.core_net.specs.Faults.{units_of}
+use Rattle.batch_ends.specs.declared.ends.Outcomes.{Outcomes}
 
 -- ---- a deck of which no card is left was taken whole
 before-some : (code : ℕ) (others : List (List ℕ)) → before_lines code others ≡ [] → ⊥
@@ -55,49 +49,49 @@ last-none (x ∷ front) rest e = absurd cc
 some-none : (items : List Item) → Some items ≡ Some [] → items ≡ []
 some-none items e = cc
 
-pub all-taken : (before now : Option (List ℕ)) (taken_before taken_now : ℕ) (pending : List ℕ)
+pub all-taken : (before now : Option (List ℕ)) (taken_before taken_now : ℕ) (first pending : List ℕ) → first ≡ []
     → bytes_total taken_now now ≡ bytes_total taken_before before
-    → ((items : List Item) → items_ahead before [] ≡ Some items → items_ahead now pending ≡ Some []) → IsAllTaken now
-all-taken None None taken_before taken_now pending total reads = λ rest is. absurd cc
-all-taken None (Some bytes) taken_before taken_now pending total reads = absurd cc
-all-taken (Some bytes) now taken_before taken_now pending total reads = λ rest is.
-    let none : Some (cards (pending ++ rest)) ≡ Some [] = subst (λ now. items_ahead now pending ≡ Some []) is (reads (cards bytes) refl) in
-    last-none pending rest (lines-none (pending ++ rest) (map-none card_of (lines (pending ++ rest)) (some-none (cards (pending ++ rest)) none)))
+    → ((items : List Item) → items_ahead before first ≡ Some items → items_ahead now pending ≡ Some []) → IsAllTaken now
+all-taken None None taken_before taken_now first pending none total reads = λ rest is. absurd cc
+all-taken None (Some bytes) taken_before taken_now first pending none total reads = absurd cc
+all-taken (Some bytes) now taken_before taken_now first pending none total reads = λ rest is.
+    let gone : Some (cards (pending ++ rest)) ≡ Some [] = subst (λ now. items_ahead now pending ≡ Some []) is (reads (cards bytes) (ap (λ first. Some (cards (first ++ bytes))) none)) in
+    last-none pending rest (lines-none (pending ++ rest) (map-none card_of (lines (pending ++ rest)) (some-none (cards (pending ++ rest)) gone)))
 
-module _ {S K A B F : Type 0} (keeps : Keeps) (tells : Tells S K A B F) where
-  -- over told devices it is no longer than its deck allows
-  pub run-bounded : (rule : Rule) (net : Net S K A B F) (o : Opening deck_jobs) (s : CoreState Loaded) (counts : Counts) (items : List Item) (found : Loads)
-      → IsReached o s
-      → AreTold o.spools → o.deck ≡ Some items → AreFound deck_jobs o.files found items
-      → RunsBy (the_law deck_jobs) (StandsWithin keeps tells net) rule s counts → counts.events ≤ longest_run deck_jobs found items
-  run-bounded rule net o s counts items found reached told deck_is are_found ran =
-      let few = no-run_longer deck_are_jobs o s items found ran.events reached told deck_is are_found ran.enabled in
-      let most = raised-few (length ran.events) in
-      bounded counts.events (raised 0 (length ran.events)) (length ran.events) (longest_run deck_jobs found items)
-      (ap (λ (c : Counts). c.events) ran.counts_are) most few
-    where
-      bounded : (n m long most : ℕ) → n ≡ m → m ≤ long → long ≤ most → n ≤ most
-      bounded n m long most a b c = omega (arith, a, b, c)
+module _ {L : Type 0} {J : Jobs L} (jobs : AreJobs J) where
+  same-told : (devices : Devices L) (deck : Option (List Item)) (paper : Option (List ℕ)) (files : Option (FilesAs L)) → devices.deck ≡ deck
+      → devices.paper ≡ paper
+      → devices.files ≡ files → devices ≡ record { deck = deck; paper = paper; files = files }
+  same-told devices deck paper files a b c = rw (sym a, sym b, sym c) refl
 
-  -- how a run went, once it has ended, told without its network
-  pub runs-to-end : (rule : Rule) (net : Net S K A B F) (s : CoreState Loaded) (counts : Counts) → RunsBy (the_law deck_jobs)
-      (StandsWithin keeps tells net) rule s counts
-      → (outcomes : Outcomes) (stops : List (Option Side)) → ((s : CoreState Loaded) → NetStands keeps tells net s → EndsSo s outcomes stops)
-      → (deck : Held S) (paper : Printing K) (files : FileTable F) → deck ≡ net.shared.deck → paper ≡ net.shared.paper → files ≡ net.shared.files
-      → RunsToEnd rule s counts outcomes stops record {
-        deck = items_ahead (tells.left deck.source) deck.pending;
-        paper = tells.given paper.sink;
-        files = files_found (tells.file_pages files.area);
-      }
-  runs-to-end rule net s counts ran outcomes stops ends deck paper files deck_is paper_is files_are = record {
-    events = ran.events;
-    enabled = ran.enabled;
-    by_rule = ran.by_rule;
-    counts_are = ran.counts_are;
-    ends = ends (run (the_law deck_jobs) s ran.events) ran.stands.is;
-    devices_are =
-        same-told (run (the_law deck_jobs) s ran.events).devices _ _ _
-        (ran.stands.is.shared.deck ∙ ap (λ (d : Held S). items_ahead (tells.left d.source) d.pending) (sym deck_is))
-        (ran.stands.is.shared.paper ∙ ap (λ (d : Printing K). tells.given d.sink) (sym paper_is))
-        (ran.stands.is.shared.files ∙ ap (λ (t : FileTable F). files_found (tells.file_pages t.area)) (sym files_are));
-  }
+  module _ {X S K F A B : Type 0} (keeps : Keeps L X) (tells : Tells L S K F A B) where
+    -- over told devices it is no longer than its deck allows
+    pub run-bounded : (rule : Rule) (net : Net X S K F A B) (o : Opening J) (s : CoreState L) (counts : Counts) (items : List Item) (found : FilesAs L)
+        → IsReached o s
+        → AreTold o.spools → o.deck ≡ Some items → AreFound J o.files found items
+        → RunsBy (the_law J) (StandsWithin J keeps tells net) rule s counts → counts.events ≤ longest_run J found items
+    run-bounded rule net o s counts items found reached told deck_is are_found ran =
+        let few = no-run_longer jobs o s items found ran.events reached told deck_is are_found ran.enabled in
+        let most = raised-few (length ran.events) in
+        bounded counts.events (raised 0 (length ran.events)) (length ran.events) (longest_run J found items)
+        (ap (λ (c : Counts). c.events) ran.counts_are) most few
+      where
+        bounded : (n m long most : ℕ) → n ≡ m → m ≤ long → long ≤ most → n ≤ most
+        bounded n m long most a b c = omega (arith, a, b, c)
+
+    -- how a run went, once it has ended, told without its network
+    pub runs-to-end : (rule : Rule) (net : Net X S K F A B) (s : CoreState L) (counts : Counts) → RunsBy (the_law J)
+        (StandsWithin J keeps tells net) rule s counts
+        → (outcomes : Outcomes) (stops : List (Option Side)) → ((s : CoreState L) → NetStands J keeps tells net s → EndsSo s outcomes stops)
+        → (units : Units S K F A B) → units ≡ units_of net.shared
+        → RunsToEnd J rule s counts outcomes stops (devices_of tells units)
+    runs-to-end rule net s counts ran outcomes stops ends units units_are = record {
+      events = ran.events;
+      enabled = ran.enabled;
+      by_rule = ran.by_rule;
+      counts_are = ran.counts_are;
+      ends = ends (run (the_law J) s ran.events) ran.stands.is;
+      devices_are =
+          same-told (run (the_law J) s ran.events).devices _ _ _ ran.stands.is.shared.deck ran.stands.is.shared.paper ran.stands.is.shared.files
+          ∙ ap (devices_of tells) (sym units_are);
+    }

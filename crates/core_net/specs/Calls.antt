@@ -5,25 +5,24 @@ use Rattle.disk_spool.specs.declared.answers.Await.{Await}
 use Rattle.batch_procs.specs.declared.actions.Action.{Action}
 use Rattle.batch_procs.specs.declared.actions.Reply.{Reply}
 use Rattle.batch_procs.specs.declared.actions.Reply.TheVariants as reply
+use Rattle.batch_procs.specs.Jobs.{Jobs}
 use Rattle.batch_procs.specs.Parcels.{Parcel, is_last}
 use Rattle.network_law.specs.Acts.{Visit}
 use Rattle.network_law.specs.Buffer.{Buffer, VisitFits, after_visit}
 use Rattle.core_law.specs.Core.{went}
 use Rattle.core_law.specs.Replies.{entry_of, ReplyFits}
-use Rattle.disk_system.specs.declared.loading.Loaded.{Loaded}
-use Rattle.deck_work.specs.DeckJobs.{deck_jobs}
 
 -- the reply to an await
-abbrev pub await_reply : Await → Option (Reply Loaded)
+abbrev pub await_reply : {L : Type 0} → Await → Option (Reply L)
 await_reply Await.Ready = Some reply.Done
 await_reply Await.Delayed = None
 await_reply Await.Stopped = Some reply.Stopped
 
 -- A call at a side of a buffer goes as the law allows, and the monitor stands for the buffer behind it.
-pub record Visited {M : Type 0} (Stands : M → Buffer (Parcel Loaded) → Type 0) (old new : M) (side : Side)
-    (visit : Visit) (p : ℕ) (action : Action) (result : Option (Reply Loaded)) : Type 0 where
-  pub suits : ReplyFits deck_jobs action result
-  pub fits : (b : Buffer (Parcel Loaded)) → Stands old b
+pub record Visited {L M : Type 0} (J : Jobs L) (Stands : M → Buffer (Parcel L) → Type 0) (old new : M)
+    (side : Side) (visit : Visit) (p : ℕ) (action : Action) (result : Option (Reply L)) : Type 0 where
+  pub suits : ReplyFits J action result
+  pub fits : (b : Buffer (Parcel L)) → Stands old b
       → VisitFits is_last side b visit (went (entry_of action result))
-  pub after : (b : Buffer (Parcel Loaded)) → Stands old b
+  pub after : (b : Buffer (Parcel L)) → Stands old b
       → Stands new (after_visit is_last visit side p (went (entry_of action result)) b)

@@ -7,29 +7,9 @@ use Rattle.batch_procs.specs.declared.actions.Action.{Action}
 use Rattle.batch_procs.specs.declared.actions.Action.TheVariants as act
 use Rattle.batch_procs.specs.declared.actions.Reply.{Reply}
 use Rattle.batch_procs.specs.declared.actions.Reply.TheVariants as reply
+use Rattle.batch_ends.specs.Causes.{Counts}
+use Rattle.batch_ends.specs.Tells.{Tells}
 use Rattle.core_net.specs.declared.shared.Shared.{Shared}
-use Rattle.disk_system.specs.declared.loading.Loaded.{Loaded}
-
--- what the devices count: the faults of each, and the bytes that were taken of the source
-pub record Counts (S K A B F : Type 0) : Type 0 where
-  pub read_faults : S → ℕ
-  pub taken : S → ℕ
-  pub print_faults : K → ℕ
-  pub input_faults : A → ℕ
-  pub output_faults : B → ℕ
-  pub file_faults : F → ℕ
-
--- what these devices count
-abbrev pub counting : {S K A B F : Type 0} → (S → ℕ) → (S → ℕ) → (K → ℕ) → (A → ℕ) → (B → ℕ) → (F → ℕ)
-    → Counts S K A B F
-counting read_faults taken print_faults input_faults output_faults file_faults = record {
-  read_faults = read_faults;
-  taken = taken;
-  print_faults = print_faults;
-  input_faults = input_faults;
-  output_faults = output_faults;
-  file_faults = file_faults;
-}
 
 -- a move of a page at the input spool: put by the input process, taken by the job process
 abbrev pub MovesInput : ℕ → Action → Type 0
@@ -52,8 +32,9 @@ IsLoad (act.Load file) = Unit {0}
 IsLoad action = ⊥
 
 -- Each failure was counted by its own device, and the limit is told where too many bytes were taken.
-pub record HasCauses {S K A B F : Type 0} (counts : Counts S K A B F) (old new : Shared S K A B F) (p : ℕ)
-    (action : Action) (result : Option (Reply Loaded)) : Type 0 where
+pub record HasCauses {L X S K F A B : Type 0} (tells : Tells L S K F A B) (counts : Counts S K F A B)
+    (old new : Shared X S K F A B) (p : ℕ)
+    (action : Action) (result : Option (Reply L)) : Type 0 where
   pub read : result ≡ Some (reply.Card card_read.Failed)
       → Rose (counts.read_faults old.deck.source) (counts.read_faults new.deck.source)
   pub limit : result ≡ Some (reply.Card card_read.Limit) → byte_limit < counts.taken new.deck.source
@@ -66,18 +47,18 @@ pub record HasCauses {S K A B F : Type 0} (counts : Counts S K A B F) (old new :
   pub output : MovesOutput p action → result ≡ Some reply.Failed
       → Rose (counts.output_faults old.output.area) (counts.output_faults new.output.area)
   pub load : IsLoad action → result ≡ Some reply.Failed
-      → Rose (counts.file_faults old.files.area) (counts.file_faults new.files.area)
+      → Rose (counts.file_faults old.files) (counts.file_faults new.files)
   -- no count falls
   pub read_on : counts.read_faults old.deck.source ≤ counts.read_faults new.deck.source
   pub print_on : counts.print_faults old.paper.sink ≤ counts.print_faults new.paper.sink
   pub input_on : counts.input_faults old.input.area ≤ counts.input_faults new.input.area
   pub output_on : counts.output_faults old.output.area ≤ counts.output_faults new.output.area
-  pub files_on : counts.file_faults old.files.area ≤ counts.file_faults new.files.area
+  pub files_on : counts.file_faults old.files ≤ counts.file_faults new.files
   -- a device may be used again unless it failed
   pub deck_live : old.deck.live ≡ true → result ≢ Some (reply.Card card_read.Failed)
       → result ≢ Some (reply.Card card_read.Limit) → new.deck.live ≡ true
   pub paper_live : old.paper.live ≡ true → (IsPrint action → result ≡ Some reply.Done) → new.paper.live ≡ true
-  pub files_sound : old.files.sound ≡ true → (IsLoad action → result ≢ Some reply.Failed)
-      → new.files.sound ≡ true
+  pub files_sound : tells.sound old.files → (IsLoad action → result ≢ Some reply.Failed)
+      → tells.sound new.files
   -- the deck changes by a read alone
   pub deck_stays : action ≢ act.ReadCard → new.deck ≡ old.deck

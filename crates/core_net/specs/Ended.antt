@@ -1,105 +1,34 @@
 -- How the network ended, once all five have.
-use Rattle.std.specs.Prelude.{◌≡◌, ◌↔◌, ◌==◌, ◌-◌, ◌⊎◌, ℕ, List, [], ◌∷◌, Option, None, Some, if◌then◌else◌}
+use Rattle.std.specs.Prelude.{◌≡◌, ℕ, List, [], ◌∷◌, Option, Some}
 use Rattle.solo_base.specs.declared.outcome.Side.{Side}
 use Rattle.solo_base.specs.declared.outcome.Outcome.{Outcome}
-use Rattle.solo_base.specs.declared.outcome.Outcome.TheVariants as outcome
-use Rattle.solo_base.specs.declared.outcome.Cause.{Cause}
-use Rattle.solo_base.specs.declared.outcome.Cause.TheVariants as cause
-use Rattle.queue_var.specs.Sides.{stopped_by, other}
-use Rattle.network_run.specs.Law.{AllEnded}
-use Rattle.batch_procs.specs.Faults.{GivenBy, IsDamaged}
+use Rattle.queue_var.specs.Sides.{stopped_by}
+use Rattle.network_run.specs.Law.{Placed, AllEnded}
+use Rattle.batch_procs.specs.Faults.{GivenBy}
+use Rattle.batch_procs.specs.Jobs.{Jobs}
 use Rattle.batch_procs.specs.Laws.{IsNotDone}
-use Rattle.core_law.specs.Core.{CoreState, IsBuffer, seat}
+use Rattle.core_law.specs.Core.{CoreState}
 use Rattle.core_law.specs.Ends.{IsProcess, HasEndedSo}
 use Rattle.core_law.specs.TheLaw.{the_law}
-use Rattle.core_net.specs.declared.finish.Outcomes.{Outcomes}
-use Rattle.core_net.specs.declared.net.Net.{Net}
-use Rattle.core_net.specs.Shared.{Tells}
-use Rattle.core_net.specs.Net.{Keeps, IsPlaced}
-use Rattle.disk_system.specs.declared.loading.Loaded.{Loaded}
-use Rattle.deck_work.specs.DeckJobs.{deck_jobs}
+use Rattle.batch_ends.specs.declared.ends.Outcomes.{Outcomes}
+use Rattle.batch_ends.specs.Ended.{outcome_at}
 
--- The network stands for some reached state in which all five have ended.
-pub record HaveEnded {S K A B F : Type 0} (keeps : Keeps) (tells : Tells S K A B F)
-    (net : Net S K A B F) : Type 0 where
-  pub at : IsPlaced keeps tells net
-  pub all : AllEnded (the_law deck_jobs) at.state
-
--- the outcome of a process, by its number
-abbrev pub outcome_at : Outcomes → ℕ → Outcome
-outcome_at outcomes p =
-    if p == 1 then outcomes.card
-    else if p == 2 then outcomes.input
-    else if p == 3 then outcomes.job
-    else if p == 4 then outcomes.output
-    else outcomes.printer
-
--- all five did their work
-abbrev pub all_done : Outcomes
-all_done = record {
-  card = outcome.Done;
-  input = outcome.Done;
-  job = outcome.Done;
-  output = outcome.Done;
-  printer = outcome.Done;
-}
+-- The value stands for some reached state in which all five have ended.
+pub record HaveEnded {L : Type 0} (J : Jobs L) (Stands : CoreState L → Type 0) : Type 0 where
+  pub at : Placed (the_law J) Stands
+  pub all : AllEnded (the_law J) at.state
 
 -- the sides that stopped the four buffers first
-abbrev pub sides_of : CoreState Loaded → List (Option Side)
+abbrev pub sides_of : {L : Type 0} → CoreState L → List (Option Side)
 sides_of s =
     stopped_by (s.buffers 1).sides ∷ stopped_by (s.buffers 2).sides ∷ stopped_by (s.buffers 3).sides
     ∷ stopped_by (s.buffers 4).sides ∷ []
 
--- no buffer was stopped
-abbrev pub none_stopped : List (Option Side)
-none_stopped = None ∷ None ∷ None ∷ None ∷ []
-
 -- Each process ended so in this state, one that isn't done by an entry that gave it that cause, and the
 -- buffers were first stopped by these sides.
-pub record EndsSo (s : CoreState Loaded) (outcomes : Outcomes) (stops : List (Option Side)) : Type 0 where
+pub record EndsSo {L : Type 0} (s : CoreState L) (outcomes : Outcomes) (stops : List (Option Side))
+    : Type 0 where
   pub ended : (p : ℕ) → IsProcess p → HasEndedSo s (outcome_at outcomes p) p
   pub given : (p : ℕ) (how : Outcome) → IsProcess p → outcome_at outcomes p ≡ how → IsNotDone (Some how)
       → GivenBy (s.histories p) how
   pub first : stops ≡ sides_of s
-
--- the side that stopped a buffer first, by its number
-abbrev pub stopped_at : List (Option Side) → ℕ → Option Side
-stopped_at [] b = None
-stopped_at (first ∷ later) b = if b == 1 then first else stopped_at later (b - 1)
-
--- one of its buffers was first stopped by the other side
-pub record StoppedBeside (stops : List (Option Side)) (p : ℕ) : Type 0 where
-  pub buffer : ℕ
-  pub side : Side
-  pub is_buffer : IsBuffer buffer
-  pub seated : seat buffer side ≡ p
-  pub by : stopped_at stops buffer ≡ Some (other side)
-
--- Some process ended with a fault.
-pub record SomeFault (outcomes : Outcomes) : Type 0 where
-  pub process : ℕ
-  pub cause : Cause
-  pub one : IsProcess process
-  pub is : outcome_at outcomes process ≡ outcome.Fault cause
-
--- All are done exactly where no buffer was stopped. Who ended Stopped had the other side stop one of its
--- buffers first, and then some process ended with a fault.
-pub record EndTogether (outcomes : Outcomes) (stops : List (Option Side)) : Type 0 where
-  pub done : (outcomes ≡ all_done) ↔ (stops ≡ none_stopped)
-  pub stopped : (p : ℕ) → IsProcess p → outcome_at outcomes p ≡ outcome.Stopped
-      → StoppedBeside stops p × SomeFault outcomes
-
--- None ended with a page that was damaged.
-abbrev pub NoneDamaged : Outcomes → Type 0
-NoneDamaged outcomes =
-    (p : ℕ) (c : Cause) → IsProcess p → outcome_at outcomes p ≡ outcome.Fault c → IsDamaged c → ⊥
-
--- Each process has only faults of its own.
-pub record FaultsAre (outcomes : Outcomes) : Type 0 where
-  pub card : (c : Cause) → outcomes.card ≡ outcome.Fault c → (c ≡ cause.ReadFault) ⊎ (c ≡ cause.DeckLimit)
-  pub input : (c : Cause) → outcomes.input ≡ outcome.Fault c → c ≡ cause.DiskFault
-  pub job : (c : Cause) → outcomes.job ≡ outcome.Fault c
-      → (c ≡ cause.DiskFault) ⊎ (IsDamaged c ⊎ (c ≡ cause.NoMemory))
-  pub output : (c : Cause) → outcomes.output ≡ outcome.Fault c → (c ≡ cause.DiskFault) ⊎ IsDamaged c
-  pub printer : (c : Cause) → outcomes.printer ≡ outcome.Fault c
-      → (c ≡ cause.PrintFault) ⊎ (c ≡ cause.NoMemory)

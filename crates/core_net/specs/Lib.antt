@@ -8,7 +8,6 @@ pub mod Steps
 pub mod Causes
 pub mod Net
 pub mod Ended
-pub mod Openings
 pub mod Turns
 pub mod Faults
 pub mod Moves

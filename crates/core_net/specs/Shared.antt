@@ -2,61 +2,35 @@
 use Rattle.std.specs.Prelude.{◌≡◌, ◌≢◌, ◌<◌, ◌==◌, ℕ, Bool, true, false, List, [], length, Option, None, IsSome}
 use Rattle.solo_base.specs.declared.outcome.Side.{Side}
 use Rattle.solo_base.specs.declared.outcome.Side.TheVariants.{Sender, Receiver}
-use Rattle.solo_devices.specs.CardUnit.{Held, items_ahead, bytes_total, work_ahead}
+use Rattle.solo_devices.specs.CardUnit.{Held, bytes_total}
 use Rattle.queue_var.specs.Sides.{Sides, MayEnter, MayStop, has_stopped}
 use Rattle.resource_mon.specs.Claims.{MayRequest}
 use Rattle.disk_spool.specs.Spool.{Spool}
 use Rattle.batch_procs.specs.declared.actions.Action.{Action}
 use Rattle.batch_procs.specs.declared.actions.Action.TheVariants as act
 use Rattle.batch_procs.specs.declared.actions.Reply.{Reply}
+use Rattle.batch_procs.specs.Jobs.{Jobs}
 use Rattle.batch_procs.specs.Parcels.{is_last}
 use Rattle.batch_procs.specs.History.{Entry}
 use Rattle.network_law.specs.Network.{Fits, buffers_after, desk_after}
 use Rattle.core_law.specs.Core.{Allows, given, call, went, side_at, CoreState}
 use Rattle.core_law.specs.Work.{LeavesFewer}
-use Rattle.core_net.specs.declared.shared.Shared.{Shared}
 use Rattle.core_law.specs.Replies.{entry_of, ReplyFits}
+use Rattle.batch_ends.specs.Devices.{cards_left}
+use Rattle.batch_ends.specs.Tells.{Tells, deck_ahead}
+use Rattle.core_net.specs.declared.shared.Shared.{Shared}
 use Rattle.core_net.specs.Lines.{LineStands}
 use Rattle.core_net.specs.Spools.{SpoolStands}
-use Rattle.disk_system.specs.declared.loading.Loaded.{Loaded}
-use Rattle.deck_work.specs.DeckJobs.{files_found, deck_jobs}
-
--- what the devices tell: what is left of a source and how many bytes were taken of it, what a sink was given,
--- and the pages of the two areas of the spools and of that of the files
-pub record Tells (S K A B F : Type 0) : Type 0 where
-  pub left : S → Option (List ℕ)
-  pub taken : S → ℕ
-  pub given : K → Option (List ℕ)
-  pub input_pages : A → Option (List (List ℕ))
-  pub output_pages : B → Option (List (List ℕ))
-  pub file_pages : F → Option (List (List ℕ))
-
--- what these devices tell
-abbrev pub telling : {S K A B F : Type 0} → (S → Option (List ℕ)) → (S → ℕ) → (K → Option (List ℕ))
-    → (A → Option (List (List ℕ))) → (B → Option (List (List ℕ))) → (F → Option (List (List ℕ)))
-    → Tells S K A B F
-telling left taken given input_pages output_pages file_pages = record {
-  left = left;
-  taken = taken;
-  given = given;
-  input_pages = input_pages;
-  output_pages = output_pages;
-  file_pages = file_pages;
-}
-
--- how many cards the deck may still give: no more than this number, which falls with each
-abbrev pub cards_left : {S : Type 0} → (S → ℕ) → Held S → ℕ
-cards_left taken deck = work_ahead (taken deck.source) deck.pending deck.ended
 
 -- how many bytes a source that tells them had in all
-abbrev pub deck_total : {S K A B F : Type 0} → Tells S K A B F → Held S → Option ℕ
+abbrev pub deck_total : {L S K F A B : Type 0} → Tells L S K F A B → Held S → Option ℕ
 deck_total tells deck = bytes_total (tells.taken deck.source) (tells.left deck.source)
 
-pub record SharedStands {S K A B F : Type 0} (tells : Tells S K A B F) (shared : Shared S K A B F)
-    (s : CoreState Loaded) : Type 0 where
-  pub deck : s.devices.deck ≡ items_ahead (tells.left shared.deck.source) shared.deck.pending
+pub record SharedStands {L X S K F A B : Type 0} (tells : Tells L S K F A B) (shared : Shared X S K F A B)
+    (s : CoreState L) : Type 0 where
+  pub deck : s.devices.deck ≡ deck_ahead tells shared.deck
   pub paper : s.devices.paper ≡ tells.given shared.paper.sink
-  pub files : s.devices.files ≡ files_found (tells.file_pages shared.files.area)
+  pub files : s.devices.files ≡ tells.files shared.files
   pub cards : LineStands shared.cards (s.buffers 1)
   pub input : SpoolStands tells.input_pages shared.input (s.buffers 2)
   pub output : SpoolStands tells.output_pages shared.output (s.buffers 3)
@@ -84,50 +58,50 @@ Choice false X Y = Y
 abbrev pub AtNumbers : ℕ → ℕ → ℕ → (ℕ → Type 0) → (ℕ → Type 0) → Type 0
 AtNumbers p m n X Y = Choice (p == m) (X p) (Choice (p == n) (Y p) ⊥)
 
-abbrev pub StopsAt : {S K A B F : Type 0} → Shared S K A B F → ℕ → Side → Type 0
+abbrev pub StopsAt : {X S K F A B : Type 0} → Shared X S K F A B → ℕ → Side → Type 0
 StopsAt shared b side =
     Choice (b == 1) (MayStop shared.cards.sides side)
     (Choice (b == 2) (MayStop shared.input.sides side)
     (Choice (b == 3) (MayStop shared.output.sides side)
     (Choice (b == 4) (MayStop shared.lines.sides side) ⊥)))
 
-abbrev pub MayPerform : {S K A B F : Type 0} → Shared S K A B F → ℕ → Action → Type 0
-MayPerform shared p act.ReadCard = shared.deck.live ≡ true
-MayPerform shared p (act.PutFeed f) =
+abbrev pub MayPerform : {L X S K F A B : Type 0} → Tells L S K F A B → Shared X S K F A B → ℕ → Action → Type 0
+MayPerform tells shared p act.ReadCard = shared.deck.live ≡ true
+MayPerform tells shared p (act.PutFeed f) =
     AtNumbers p 1 4 (WaitsAt shared.cards.sides Sender) (WaitsAt shared.lines.sides Sender)
-MayPerform shared p act.TakeFeed =
+MayPerform tells shared p act.TakeFeed =
     AtNumbers p 2 5 (WaitsAt shared.cards.sides Receiver) (WaitsAt shared.lines.sides Receiver)
-MayPerform shared p act.AwaitRoom =
+MayPerform tells shared p act.AwaitRoom =
     AtNumbers p 2 3 (WaitsAt shared.input.sides Sender) (WaitsAt shared.output.sides Sender)
-MayPerform shared p act.AwaitItem =
+MayPerform tells shared p act.AwaitItem =
     AtNumbers p 3 4 (WaitsAt shared.input.sides Receiver) (WaitsAt shared.output.sides Receiver)
-MayPerform shared p act.Request = MayRequest shared.desk p × (length shared.desk.waiting < 5)
-MayPerform shared p (act.PutPage page) =
+MayPerform tells shared p act.Request = MayRequest shared.desk p × (length shared.desk.waiting < 5)
+MayPerform tells shared p (act.PutPage page) =
     AtNumbers p 2 3 (λ p. PutsAt shared.input) (λ p. PutsAt shared.output)
-MayPerform shared p act.TakePage = AtNumbers p 3 4 (λ p. TakesAt shared.input) (λ p. TakesAt shared.output)
-MayPerform shared p (act.Load file) = shared.files.sound ≡ true
-MayPerform shared p act.Release = IsSome shared.desk.holder × (shared.desk.handed ≡ None)
-MayPerform shared p act.Local = Unit {0}
-MayPerform shared p (act.Print line) = shared.paper.live ≡ true
-MayPerform shared p (act.Stop b) = StopsAt shared b (side_at p b)
-MayPerform shared p (act.Ended how) = Unit {0}
+MayPerform tells shared p act.TakePage = AtNumbers p 3 4 (λ p. TakesAt shared.input) (λ p. TakesAt shared.output)
+MayPerform tells shared p (act.Load file) = tells.sound shared.files
+MayPerform tells shared p act.Release = IsSome shared.desk.holder × (shared.desk.handed ≡ None)
+MayPerform tells shared p act.Local = Unit {0}
+MayPerform tells shared p (act.Print line) = shared.paper.live ≡ true
+MayPerform tells shared p (act.Stop b) = StopsAt shared b (side_at p b)
+MayPerform tells shared p (act.Ended how) = Unit {0}
 
 -- ---- what a call does
 -- It goes as the law allows in each state that is stood for, and what is shared stands for the state behind
 -- it.
-pub record Performs {S K A B F : Type 0} (tells : Tells S K A B F) (old new : Shared S K A B F) (p : ℕ)
-    (action : Action) (result : Option (Reply Loaded)) : Type 0 where
-  pub suits : ReplyFits deck_jobs action result
+pub record Performs {L X S K F A B : Type 0} (J : Jobs L) (tells : Tells L S K F A B)
+    (old new : Shared X S K F A B) (p : ℕ) (action : Action) (result : Option (Reply L)) : Type 0 where
+  pub suits : ReplyFits J action result
   pub gained : List ℕ
   pub deck : LeavesFewer (entry_of action result) (cards_left tells.taken old.deck)
       (cards_left tells.taken new.deck)
   pub total : deck_total tells new.deck ≡ deck_total tells old.deck
-  pub files : tells.file_pages new.files.area ≡ tells.file_pages old.files.area
-  pub fits : (s : CoreState Loaded) → SharedStands tells old s
+  pub files : tells.pages new.files ≡ tells.pages old.files
+  pub fits : (s : CoreState L) → SharedStands tells old s
       → Fits is_last s (call p action) (went (entry_of action result))
-  pub allowed : (s : CoreState Loaded) → SharedStands tells old s
+  pub allowed : (s : CoreState L) → SharedStands tells old s
       → Allows s.devices (entry_of action result) gained
-  pub after : (s : CoreState Loaded) (histories : ℕ → List (Entry Loaded)) → SharedStands tells old s
+  pub after : (s : CoreState L) (histories : ℕ → List (Entry L)) → SharedStands tells old s
       → SharedStands tells new record {
         devices = given s.devices (entry_of action result) gained;
         histories = histories;

@@ -13,22 +13,24 @@ use Rattle.network_law.specs.Network.{Fits, buffers_after, desk_after}
 use Rattle.core_law.specs.Core.{Allows, given, call, went, CoreState}
 use Rattle.core_law.specs.Work.{LeavesFewer}
 use Rattle.core_net.specs.declared.shared.Shared.{Shared}
-use Rattle.core_net.specs.Causes.{Counts, HasCauses}
-use Rattle.core_net.specs.Shared.{Tells, SharedStands, MayPerform, cards_left, deck_total}
+use Rattle.batch_ends.specs.Causes.{Counts}
+use Rattle.batch_ends.specs.Devices.{cards_left}
+use Rattle.batch_ends.specs.Tells.{Tells}
+use Rattle.core_net.specs.Causes.{HasCauses}
+use Rattle.core_net.specs.Shared.{SharedStands, MayPerform, deck_total}
 use Rattle.core_net.specs.Turns.{HasPlace}
-use Rattle.disk_system.specs.declared.loading.Loaded.{Loaded}
 
 -- An entry of a process goes as the law allows in each state that is stood for, and what is shared stands for
 -- the state behind it.
-pub record Enters {S K A B F : Type 0} (tells : Tells S K A B F) (old new : Shared S K A B F) (p : ℕ)
-    (action : Action) (entry : Entry Loaded) : Type 0 where
+pub record Enters {L X S K F A B : Type 0} (tells : Tells L S K F A B) (old new : Shared X S K F A B) (p : ℕ)
+    (action : Action) (entry : Entry L) : Type 0 where
   pub gained : List ℕ
   pub deck : LeavesFewer entry (cards_left tells.taken old.deck) (cards_left tells.taken new.deck)
   pub total : deck_total tells new.deck ≡ deck_total tells old.deck
-  pub files : tells.file_pages new.files.area ≡ tells.file_pages old.files.area
-  pub fits : (s : CoreState Loaded) → SharedStands tells old s → Fits is_last s (call p action) (went entry)
-  pub allowed : (s : CoreState Loaded) → SharedStands tells old s → Allows s.devices entry gained
-  pub after : (s : CoreState Loaded) (histories : ℕ → List (Entry Loaded)) → SharedStands tells old s
+  pub files : tells.pages new.files ≡ tells.pages old.files
+  pub fits : (s : CoreState L) → SharedStands tells old s → Fits is_last s (call p action) (went entry)
+  pub allowed : (s : CoreState L) → SharedStands tells old s → Allows s.devices entry gained
+  pub after : (s : CoreState L) (histories : ℕ → List (Entry L)) → SharedStands tells old s
       → SharedStands tells new record {
         devices = given s.devices entry gained;
         histories = histories;
@@ -37,34 +39,33 @@ pub record Enters {S K A B F : Type 0} (tells : Tells S K A B F) (old new : Shar
       }
 
 -- A machine of this process stands for a history after which it does this, and that may be performed.
-pub record MayStep {S K A B F : Type 0} (process : Process Loaded) (Stands : List (Entry Loaded) → Type 0)
-    (shared : Shared S K A B F)
-    (p : ℕ) : Type 0 where
-  pub history : List (Entry Loaded)
+pub record MayStep {L X S K F A B : Type 0} (tells : Tells L S K F A B) (process : Process L)
+    (Stands : List (Entry L) → Type 0) (shared : Shared X S K F A B) (p : ℕ) : Type 0 where
+  pub history : List (Entry L)
   pub action : Action
   pub stands : Stands history
   pub next : next_action process history ≡ Some action
-  pub may : MayPerform shared p action
+  pub may : MayPerform tells shared p action
 
 abbrev pub is_end : Action → Bool
 is_end (act.Ended how) = true
 is_end action = false
 
 -- the reply of an entry
-abbrev pub reply_of : Entry Loaded → Option (Reply Loaded)
+abbrev pub reply_of : {L : Type 0} → Entry L → Option (Reply L)
 reply_of (Does action r) = Some r
 reply_of (LacksMemory action r) = Some r
 reply_of (Delays action) = None
 
 -- Behind a history after which it does this, the machine stands for one entry more, and the answer says how
 -- that went.
-pub record Steps {S K A B F : Type 0} (Stands : List (Entry Loaded) → Type 0) (tells : Tells S K A B F)
-    (counts : Counts S K A B F) (old new : Shared S K A B F) (p : ℕ) (action : Action)
-    (history : List (Entry Loaded)) (result : Stepped) : Type 0 where
-  pub entry : Entry Loaded
-  pub told : (s : CoreState Loaded) → SharedStands tells old s → HasPlace s p action
+pub record Steps {L X S K F A B : Type 0} (Stands : List (Entry L) → Type 0) (tells : Tells L S K F A B)
+    (counts : Counts S K F A B) (old new : Shared X S K F A B) (p : ℕ) (action : Action)
+    (history : List (Entry L)) (result : Stepped) : Type 0 where
+  pub entry : Entry L
+  pub told : (s : CoreState L) → SharedStands tells old s → HasPlace s p action
       → result ≡ stepped_so (is_delayed (went entry)) (is_end action) (is_again s (call p action))
   pub action_is : action_of entry ≡ action
   pub stands : Stands (entry ∷ history)
   pub enters : Enters tells old new p action entry
-  pub causes : HasCauses counts old new p action (reply_of entry)
+  pub causes : HasCauses tells counts old new p action (reply_of entry)

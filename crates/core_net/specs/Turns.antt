@@ -10,15 +10,14 @@ use Rattle.network_law.specs.Acts.{Visit, At}
 use Rattle.network_law.specs.Desk.{MayAsk}
 use Rattle.network_law.specs.Network.{MayCall}
 use Rattle.core_law.specs.Core.{call, CoreState, IsBuffer}
-use Rattle.disk_system.specs.declared.loading.Loaded.{Loaded}
 
 -- The action is a call at one of the four buffers, and who asks for the disk hasn't got it.
-pub record HasPlace (s : CoreState Loaded) (p : ℕ) (action : Action) : Type 0 where
+pub record HasPlace {L : Type 0} (s : CoreState L) (p : ℕ) (action : Action) : Type 0 where
   pub buffer : (b : ℕ) (side : Side) (visit : Visit) → call p action ≡ At b side visit → IsBuffer b
   pub asks : action ≡ act.Request → MayAsk s.desk.claims p → MayRequest s.desk.claims p
 
 -- Behind this history the process has a next action, and is at its turn.
-pub record IsAtTurn (process : Process Loaded) (h : List (Entry Loaded)) (s : CoreState Loaded) (p : ℕ)
+pub record IsAtTurn {L : Type 0} (process : Process L) (h : List (Entry L)) (s : CoreState L) (p : ℕ)
     : Type 0 where
   pub action : Action
   pub next : next_action process h ≡ Some action

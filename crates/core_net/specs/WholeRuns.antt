@@ -8,18 +8,17 @@ use Rattle.network_run.specs.Law.{AreEnabled, run}
 use Rattle.network_run.specs.Runs.{AreByRule}
 use Rattle.core_law.specs.Core.{CoreState, CoreEvent, Devices}
 use Rattle.core_law.specs.TheLaw.{the_law}
-use Rattle.core_net.specs.declared.finish.Outcomes.{Outcomes}
+use Rattle.batch_ends.specs.declared.ends.Outcomes.{Outcomes}
 use Rattle.core_net.specs.Ended.{EndsSo}
-use Rattle.disk_system.specs.declared.loading.Loaded.{Loaded}
-use Rattle.deck_work.specs.DeckJobs.{deck_jobs}
+use Rattle.batch_procs.specs.Jobs.{Jobs}
 
 -- Enabled events by the rule, which come to these counts. Behind them all five have ended with these
 -- outcomes, the buffers were first stopped by these sides, and the deck and the paper are as told.
-pub record RunsToEnd (rule : Rule) (s : CoreState Loaded) (counts : Counts) (outcomes : Outcomes)
-    (stops : List (Option Side)) (devices : Devices Loaded) : Type 0 where
-  pub events : List (CoreEvent Loaded)
-  pub enabled : AreEnabled (the_law deck_jobs) s events
-  pub by_rule : AreByRule (the_law deck_jobs) rule s events
-  pub counts_are : counts ≡ counts_of (the_law deck_jobs) s events
-  pub ends : EndsSo (run (the_law deck_jobs) s events) outcomes stops
-  pub devices_are : (run (the_law deck_jobs) s events).devices ≡ devices
+pub record RunsToEnd {L : Type 0} (J : Jobs L) (rule : Rule) (s : CoreState L) (counts : Counts) (outcomes : Outcomes)
+    (stops : List (Option Side)) (devices : Devices L) : Type 0 where
+  pub events : List (CoreEvent L)
+  pub enabled : AreEnabled (the_law J) s events
+  pub by_rule : AreByRule (the_law J) rule s events
+  pub counts_are : counts ≡ counts_of (the_law J) s events
+  pub ends : EndsSo (run (the_law J) s events) outcomes stops
+  pub devices_are : (run (the_law J) s events).devices ≡ devices

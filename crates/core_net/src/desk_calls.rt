@@ -2,32 +2,31 @@ ghost use Rattle.std.specs.Prelude.{◌≡◌, ◌<◌, ◌⊎◌, None, Some, l
 ghost use Rattle.resource_mon.specs.Claims.{MayRequest};
 ghost use Rattle.core_net.specs.Desks.{Asked, Given};
 
-use batch_procs::Reply;
-use disk_system::Loaded;
+use batch_procs::{JobWork, Reply};
 use resource_mon::{Grant, Resource};
 use solo_base::ProcNo;
 
 /// Asks for the disk, or resumes where the turn is handed to the process. No reply: the process waits.
-pub fn request<const N: usize>(desk: &mut Resource<N>, p: ProcNo) -> Option<Reply<Loaded>>
+pub fn request<J: JobWork, const N: usize>(desk: &mut Resource<N>, p: ProcNo) -> Option<Reply<J::Load>>
     requires may { MayRequest desk.old p }
     requires room { length desk.old.waiting < N }
-    ensures { Asked desk.old desk.new p result }
+    ensures { Asked J.jobs desk.old desk.new p result }
 {
     match desk.handed() {
         Some(_) => {
             desk.resumed(p);
             Some(Reply::Done)
         }
-        None => grant(desk, p),
+        None => grant::<J, N>(desk, p),
     }
 }
 
 /// Asks for the disk while no turn is handed.
-fn grant<const N: usize>(desk: &mut Resource<N>, p: ProcNo) -> Option<Reply<Loaded>>
+fn grant<J: JobWork, const N: usize>(desk: &mut Resource<N>, p: ProcNo) -> Option<Reply<J::Load>>
     requires free { desk.old.handed ≡ None }
     requires may { MayRequest desk.old p }
     requires room { length desk.old.waiting < N }
-    ensures { Asked desk.old desk.new p result }
+    ensures { Asked J.jobs desk.old desk.new p result }
 {
     match desk.request(p) {
         Grant::Got => Some(Reply::Done),
@@ -36,10 +35,10 @@ fn grant<const N: usize>(desk: &mut Resource<N>, p: ProcNo) -> Option<Reply<Load
 }
 
 /// Gives the disk back.
-pub fn release<const N: usize>(desk: &mut Resource<N>) -> Reply<Loaded>
+pub fn release<J: JobWork, const N: usize>(desk: &mut Resource<N>) -> Reply<J::Load>
     requires held { IsSome desk.old.holder }
     requires free { desk.old.handed ≡ None }
-    ensures { Given desk.old desk.new result }
+    ensures { Given J.jobs desk.old desk.new result }
 {
     let _ = desk.release();
     Reply::Done

@@ -1,10 +1,9 @@
 //! The core run on one thread: the calls of the five processes on the monitors and the devices, each as the
-//! law of the core has it.
+//! law of the core has it, whatever the jobs are.
 #![tactic(auto)]
 
 mod core_run;
 mod desk_calls;
-mod device_calls;
 mod finish;
 mod line_calls;
 mod net;
@@ -15,8 +14,6 @@ mod turns;
 
 pub use core_run::run_core;
 pub use desk_calls::{release, request};
-pub use device_calls::{is_item, load_file, print, read_card};
-pub use finish::{Outcomes, Ran};
 pub use line_calls::{put_feed, stop_line, take_feed};
 pub use net::Net;
 pub use shared::Shared;

@@ -8,16 +8,15 @@ ghost use Rattle.network_law.specs.Acts.{Passes, Stops};
 ghost use Rattle.core_net.specs.Calls.{Visited};
 ghost use Rattle.core_net.specs.Lines.{LineStands};
 
-use batch_procs::Reply;
-use disk_system::Loaded;
+use batch_procs::{JobWork, Reply};
 use slot_buffer::{LineBuffer, Put, Take};
 use solo_base::{BufferNo, Feed, ProcNo, Side};
 
 /// Puts what is handed over into a line buffer. No reply: the process waits.
-pub fn put_feed(buffer: &mut LineBuffer, p: ProcNo, feed: Feed) -> Option<Reply<Loaded>>
+pub fn put_feed<J: JobWork>(buffer: &mut LineBuffer, p: ProcNo, feed: Feed) -> Option<Reply<J::Load>>
     requires may_enter { MayEnter buffer.old.sides Sender p }
     requires not_stopped { has_stopped buffer.old.sides Sender ≡ false }
-    ensures { Visited LineStands buffer.old buffer.new Sender Passes p (act.PutFeed feed) result }
+    ensures { Visited J.jobs LineStands buffer.old buffer.new Sender Passes p (act.PutFeed feed) result }
 {
     match buffer.put(p, feed) {
         Put::Done => Some(Reply::Done),
@@ -27,10 +26,10 @@ pub fn put_feed(buffer: &mut LineBuffer, p: ProcNo, feed: Feed) -> Option<Reply<
 }
 
 /// Takes what is handed over from a line buffer. No reply: the process waits.
-pub fn take_feed(buffer: &mut LineBuffer, p: ProcNo) -> Option<Reply<Loaded>>
+pub fn take_feed<J: JobWork>(buffer: &mut LineBuffer, p: ProcNo) -> Option<Reply<J::Load>>
     requires may_enter { MayEnter buffer.old.sides Receiver p }
     requires not_stopped { has_stopped buffer.old.sides Receiver ≡ false }
-    ensures { Visited LineStands buffer.old buffer.new Receiver Passes p act.TakeFeed result }
+    ensures { Visited J.jobs LineStands buffer.old buffer.new Receiver Passes p act.TakeFeed result }
 {
     match buffer.take(p) {
         Take::Item(feed) => Some(Reply::Feed(feed)),
@@ -40,11 +39,11 @@ pub fn take_feed(buffer: &mut LineBuffer, p: ProcNo) -> Option<Reply<Loaded>>
 }
 
 /// Stops a line buffer, which has this number, at a side.
-pub fn stop_line(buffer: &mut LineBuffer, number: BufferNo, side: Side) -> Reply<Loaded>
+pub fn stop_line<J: JobWork>(buffer: &mut LineBuffer, number: BufferNo, side: Side) -> Reply<J::Load>
     requires free { buffer.old.sides.turn ≡ Free }
     requires nobody_waits { queue buffer.old.sides side ≡ None }
     ensures { (p : ℕ)
-        → Visited LineStands buffer.old buffer.new side Stops p (act.Stop number) (Some result) }
+        → Visited J.jobs LineStands buffer.old buffer.new side Stops p (act.Stop number) (Some result) }
 {
     let _ = number;
     buffer.stop(side);

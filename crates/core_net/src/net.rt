@@ -4,60 +4,51 @@ ghost use Rattle.core_law.specs.TheLaw.{the_law};
 ghost use Rattle.core_law.specs.Work.{events_left};
 ghost use Rattle.core_law.proofs.Law.{sound, sure};
 ghost use Rattle.core_law.proofs.WorkFalls.{work-falls};
-ghost use Rattle.solo_devices.specs.CardUnit.{items_ahead};
-ghost use Rattle.core_net.specs.Openings.{spools_over};
-ghost use Rattle.core_net.specs.Causes.{counting};
-ghost use Rattle.core_net.specs.Faults.{devices_of, CausesAreCounted};
+ghost use Rattle.batch_ends.specs.Devices.{cards_left};
+ghost use Rattle.core_net.specs.Faults.{units_of, CausesAreCounted};
 ghost use Rattle.core_net.specs.Moves.{KeepsAll, MovesBy};
-ghost use Rattle.core_net.specs.Shared.{cards_left, telling};
 ghost use Rattle.core_net.specs.Net.{the_keeps, StandsWithin, StandsAtOpening};
-ghost use Rattle.deck_work.specs.DeckJobs.{files_found, deck_jobs, deck_are_jobs};
 
 use crate::Shared;
 use crate::step::step_machine;
 use crate::turns::may_step;
-use batch_procs::{CardProc, InputProc, JobProc, Machine, OutputProc, PrinterProc};
-use deck_work::DeckWork;
-use disk_files::FileArea;
+use batch_ends::{Peripherals, Units};
+use batch_procs::{
+    CardProc, InputProc, JobProc, JobWork, Loader, Machine, OutputProc, PrinterProc,
+};
 use network_run::{Falling, Network, Stepped, Sure};
 use solo_base::ProcNo;
 use solo_devices::{Area, Sink, Source};
 use std::alloc::Global;
 
-/// The network of the Job Stream System, which is stepped one event at a time. It keeps no histories:
-/// contracts say which states of the core it stands for.
+/// The network of the Job Stream System over jobs of this kind, which is stepped one event at a time. It keeps
+/// no histories: contracts say which states of the core it stands for.
 #[derive(Drop)]
-pub struct Net<S: Source, K: Sink, A: Area, B: Area, F: Area> {
-    pub card: CardProc<DeckWork>,
-    pub input: InputProc<DeckWork>,
-    pub job: JobProc<DeckWork>,
-    pub output: OutputProc<DeckWork>,
-    pub printer: PrinterProc<DeckWork>,
-    pub shared: Shared<S, K, A, B, F>,
+pub struct Net<J, S: Source, K: Sink, F, A: Area, B: Area> {
+    pub card: CardProc<J>,
+    pub input: InputProc<J>,
+    pub job: JobProc<J>,
+    pub output: OutputProc<J>,
+    pub printer: PrinterProc<J>,
+    pub shared: Shared<J, S, K, F, A, B>,
 }
 
-impl<S: Source, K: Sink, A: Area, B: Area, F: Area> Net<S, K, A, B, F> {
+impl<J: JobWork, S: Source, K: Sink, F: Loader<J>, A: Area, B: Area> Net<J, S, K, F, A, B> {
     /// The network before its first step: a deck of which nothing was read, an area of 1 to 256 pages for
-    /// each spool, and sound files.
-    pub fn make(alloc: Global, source: S, input: A, output: B, sink: K, files: FileArea<F>) -> Self
-        requires unread { S.taken source ≡ 0 }
-        requires input_some { 0 < A.size input }
-        requires input_few { A.size input ≤ 256 }
-        requires output_some { 0 < B.size output }
-        requires output_few { B.size output ≤ 256 }
-        requires sound { files.sound ≡ true }
-        ensures opens { StandsAtOpening the_keeps
-            (telling S.left S.taken K.given A.pages B.pages F.pages) result
-            (spools_over (A.size input) (A.pages input) (B.size output) (B.pages output))
-            (items_ahead (S.left source) []) (K.given sink) (files_found (F.pages files.area)) }
-        ensures devices { devices_of result.shared
-            ≡ record { source = source; sink = sink; input = input; output = output; files = files.area } }
-        ensures counted { CausesAreCounted the_keeps
-            (telling S.left S.taken K.given A.pages B.pages F.pages)
-            (counting S.faults S.taken K.faults A.faults B.faults F.faults)
-            record { source = source; sink = sink; input = input; output = output; files = files.area }
-            result }
-        ensures files { result.shared.files ≡ files }
+    /// each spool, and files of which one may be loaded.
+    pub fn make(alloc: Global, units: Units<S, K, F, A, B>) -> Self
+        requires deck { (units.deck.live ≡ true) × (units.deck.pending ≡ []) }
+        requires unread { S.taken units.deck.source ≡ 0 }
+        requires paper { units.paper.live ≡ true }
+        requires input { (0 < A.size units.input) × (A.size units.input ≤ 256) }
+        requires output { (0 < B.size units.output) × (B.size units.output ≤ 256) }
+        requires sound { F.sound units.files }
+        ensures opens { StandsAtOpening J.jobs (⟦<Net<J, S, K, F, A, B> as Network>⟧.Stands result)
+            ⟦<Units<S, K, F, A, B> as Peripherals<J>>⟧.tells units }
+        ensures units { units_of result.shared ≡ units }
+        ensures counted { CausesAreCounted J.jobs (the_keeps J.jobs J.keeps)
+            ⟦<Units<S, K, F, A, B> as Peripherals<J>>⟧.tells
+            ⟦<Units<S, K, F, A, B> as Peripherals<J>>⟧.counts units result }
     {
         Net {
             card: Machine::new(alloc),
@@ -65,28 +56,25 @@ impl<S: Source, K: Sink, A: Area, B: Area, F: Area> Net<S, K, A, B, F> {
             job: Machine::new(alloc),
             output: Machine::new(alloc),
             printer: Machine::new(alloc),
-            shared: Shared::make(alloc, source, input, output, sink, files),
+            shared: Shared::make(alloc, units),
         }
     }
 }
 
-impl<S: Source, K: Sink, A: Area, B: Area, F: Area> Network for Net<S, K, A, B, F> {
-    ghost law = { the_law deck_jobs };
+impl<J: JobWork, S: Source, K: Sink, F: Loader<J>, A: Area, B: Area> Network
+    for Net<J, S, K, F, A, B>
+{
+    ghost law = { the_law J.jobs };
 
-    ghost Stands = { λ net s. StandsWithin the_keeps
-        (telling S.left S.taken K.given A.pages B.pages F.pages) net s };
+    ghost Stands = { λ net s. StandsWithin J.jobs (the_keeps J.jobs J.keeps) ⟦<Units<S, K, F, A, B> as Peripherals<J>>⟧.tells net s };
 
-    ghost Moves = { λ old event new. MovesBy the_keeps
-        (telling S.left S.taken K.given A.pages B.pages F.pages)
-        (counting S.faults S.taken K.faults A.faults B.faults F.faults) old event new };
+    ghost Moves = { λ old event new. MovesBy J.jobs (the_keeps J.jobs J.keeps) ⟦<Units<S, K, F, A, B> as Peripherals<J>>⟧.tells ⟦<Units<S, K, F, A, B> as Peripherals<J>>⟧.counts old event new };
 
-    ghost Keeps = { λ old new. KeepsAll the_keeps
-        (telling S.left S.taken K.given A.pages B.pages F.pages)
-        (counting S.faults S.taken K.faults A.faults B.faults F.faults) old new };
+    ghost Keeps = { λ old new. KeepsAll J.jobs (the_keeps J.jobs J.keeps) ⟦<Units<S, K, F, A, B> as Peripherals<J>>⟧.tells ⟦<Units<S, K, F, A, B> as Peripherals<J>>⟧.counts old new };
 
-    ghost left = { λ net s. events_left deck_jobs (cards_left S.taken net.shared.deck) s };
+    ghost left = { λ net s. events_left J.jobs (cards_left S.taken net.shared.deck) s };
 
-    ghost sound = { sound deck_are_jobs };
+    ghost sound = { sound J.are_jobs };
 
     ghost keeps_itself = { λ net. record { counted = λ before were. were; total = refl; files = refl } };
 
@@ -145,9 +133,11 @@ impl<S: Source, K: Sink, A: Area, B: Area, F: Area> Network for Net<S, K, A, B, 
     }
 }
 
-impl<S: Source, K: Sink, A: Area, B: Area, F: Area> Falling for Net<S, K, A, B, F> {
+impl<J: JobWork, S: Source, K: Sink, F: Loader<J>, A: Area, B: Area> Falling
+    for Net<J, S, K, F, A, B>
+{
     ghost falls = { λ old new at event is stands moves.
-        work-falls deck_are_jobs at.opening at.state event (cards_left S.taken old.shared.deck)
+        work-falls J.are_jobs at.opening at.state event (cards_left S.taken old.shared.deck)
         (cards_left S.taken new.shared.deck) at.reached is moves.deck };
 
     ghost few = { λ net at. at.stands.within };
@@ -157,6 +147,6 @@ impl<S: Source, K: Sink, A: Area, B: Area, F: Area> Falling for Net<S, K, A, B, 
     }
 }
 
-impl<S: Source, K: Sink, A: Area, B: Area, F: Area> Sure for Net<S, K, A, B, F> {
-    ghost sure = { sure deck_are_jobs };
+impl<J: JobWork, S: Source, K: Sink, F: Loader<J>, A: Area, B: Area> Sure for Net<J, S, K, F, A, B> {
+    ghost sure = { sure J.are_jobs };
 }

@@ -9,27 +9,26 @@ ghost use Rattle.network_law.specs.Acts.{Awaits, Moves, Stops};
 ghost use Rattle.core_net.specs.Calls.{Visited};
 ghost use Rattle.core_net.specs.Spools.{SpoolStands};
 
-use batch_procs::Reply;
+use batch_procs::{JobWork, Reply};
 use disk_spool::{Await, Fetched, Spool};
-use disk_system::Loaded;
 use solo_base::{BufferNo, Page, ProcNo, Side};
 use solo_devices::{Area, Moved};
 
 /// Waits until a spool has room for a page. No reply: the process waits.
-pub fn await_room<A: Area>(spool: &mut Spool<A>, p: ProcNo) -> Option<Reply<Loaded>>
+pub fn await_room<J: JobWork, A: Area>(spool: &mut Spool<A>, p: ProcNo) -> Option<Reply<J::Load>>
     requires may_enter { MayEnter spool.old.sides Sender p }
     requires not_stopped { has_stopped spool.old.sides Sender ≡ false }
-    ensures visited { Visited (SpoolStands A.pages) spool.old spool.new Sender Awaits p act.AwaitRoom result }
+    ensures visited { Visited J.jobs (SpoolStands A.pages) spool.old spool.new Sender Awaits p act.AwaitRoom result }
     ensures area { spool.new.area ≡ spool.old.area }
 {
     reply_of(spool.await_room(p))
 }
 
 /// Waits until a spool has a page. No reply: the process waits.
-pub fn await_item<A: Area>(spool: &mut Spool<A>, p: ProcNo) -> Option<Reply<Loaded>>
+pub fn await_item<J: JobWork, A: Area>(spool: &mut Spool<A>, p: ProcNo) -> Option<Reply<J::Load>>
     requires may_enter { MayEnter spool.old.sides Receiver p }
     requires not_stopped { has_stopped spool.old.sides Receiver ≡ false }
-    ensures visited { Visited
+    ensures visited { Visited J.jobs
         (SpoolStands A.pages) spool.old spool.new Receiver Awaits p act.AwaitItem result }
     ensures area { spool.new.area ≡ spool.old.area }
 {
@@ -37,13 +36,13 @@ pub fn await_item<A: Area>(spool: &mut Spool<A>, p: ProcNo) -> Option<Reply<Load
 }
 
 /// Puts a page into a spool that has room.
-pub fn put_page<A: Area>(spool: &mut Spool<A>, page: Page) -> Reply<Loaded>
+pub fn put_page<J: JobWork, A: Area>(spool: &mut Spool<A>, page: Page) -> Reply<J::Load>
     requires free { spool.old.sides.turn ≡ Free }
     requires nobody_waits { queue spool.old.sides Sender ≡ None }
     requires room { length spool.old.ring.marks < spool.old.ring.capacity }
     requires not_stopped { has_stopped spool.old.sides Sender ≡ false }
     ensures visited { (p : ℕ)
-        → Visited (SpoolStands A.pages) spool.old spool.new Sender Moves p (act.PutPage page) (Some result) }
+        → Visited J.jobs (SpoolStands A.pages) spool.old spool.new Sender Moves p (act.PutPage page) (Some result) }
     ensures failed { result ≡ reply.Failed → Rose (A.faults spool.old.area) (A.faults spool.new.area) }
     ensures counts { A.faults spool.old.area ≤ A.faults spool.new.area }
 {
@@ -54,13 +53,13 @@ pub fn put_page<A: Area>(spool: &mut Spool<A>, page: Page) -> Reply<Loaded>
 }
 
 /// Takes a page from a spool that has one.
-pub fn take_page<A: Area>(spool: &mut Spool<A>) -> Reply<Loaded>
+pub fn take_page<J: JobWork, A: Area>(spool: &mut Spool<A>) -> Reply<J::Load>
     requires free { spool.old.sides.turn ≡ Free }
     requires nobody_waits { queue spool.old.sides Receiver ≡ None }
     requires item { spool.old.ring.marks ≢ [] }
     requires not_stopped { has_stopped spool.old.sides Receiver ≡ false }
     ensures visited { (p : ℕ)
-        → Visited (SpoolStands A.pages) spool.old spool.new Receiver Moves p act.TakePage (Some result) }
+        → Visited J.jobs (SpoolStands A.pages) spool.old spool.new Receiver Moves p act.TakePage (Some result) }
     ensures failed { result ≡ reply.Failed → Rose (A.faults spool.old.area) (A.faults spool.new.area) }
     ensures counts { A.faults spool.old.area ≤ A.faults spool.new.area }
 {
@@ -72,11 +71,11 @@ pub fn take_page<A: Area>(spool: &mut Spool<A>) -> Reply<Loaded>
 }
 
 /// Stops a spool, which has this number, at a side.
-pub fn stop_spool<A: Area>(spool: &mut Spool<A>, number: BufferNo, side: Side) -> Reply<Loaded>
+pub fn stop_spool<J: JobWork, A: Area>(spool: &mut Spool<A>, number: BufferNo, side: Side) -> Reply<J::Load>
     requires free { spool.old.sides.turn ≡ Free }
     requires nobody_waits { queue spool.old.sides side ≡ None }
     ensures visited { (p : ℕ)
-        → Visited (SpoolStands A.pages) spool.old spool.new side Stops p (act.Stop number) (Some result) }
+        → Visited J.jobs (SpoolStands A.pages) spool.old spool.new side Stops p (act.Stop number) (Some result) }
     ensures area { spool.new.area ≡ spool.old.area }
 {
     let _ = number;
@@ -86,7 +85,7 @@ pub fn stop_spool<A: Area>(spool: &mut Spool<A>, number: BufferNo, side: Side) -
 
 ghost use Rattle.core_net.specs.Calls.{await_reply};
 
-fn reply_of(answer: Await) -> Option<Reply<Loaded>>
+fn reply_of<L>(answer: Await) -> Option<Reply<L>>
     ensures { result ≡ await_reply answer }
 {
     match answer {

@@ -4,32 +4,36 @@ ghost use Rattle.batch_procs.specs.History.{Entry};
 ghost use Rattle.batch_procs.specs.Process.{next_action};
 ghost use Rattle.batch_procs.specs.Machine.{StandsFor};
 ghost use Rattle.network_law.specs.Stepping.{stepped_so};
-ghost use Rattle.core_net.specs.Causes.{counting};
-ghost use Rattle.core_net.specs.Shared.{telling};
 ghost use Rattle.core_net.specs.Steps.{is_end, MayStep, Steps};
-ghost use Rattle.disk_system.specs.declared.loading.Loaded.{Loaded};
-ghost use Rattle.deck_work.specs.DeckJobs.{deck_jobs};
 
 use crate::Shared;
-use batch_procs::{Action, Machine, Work};
-use deck_work::DeckWork;
+use batch_ends::{Peripherals, Units};
+use batch_procs::{Action, JobWork, Loader, Machine, Work};
 use network_run::Stepped;
 use solo_base::ProcNo;
 use solo_devices::{Area, Sink, Source};
 
 /// Takes the next action of a process.
-pub fn step_machine<W: Work<DeckWork>, S: Source, K: Sink, A: Area, B: Area, F: Area>(
-    machine: &mut Machine<DeckWork, W>,
+pub fn step_machine<
+    J: JobWork,
+    W: Work<J>,
+    S: Source,
+    K: Sink,
+    F: Loader<J>,
+    A: Area,
+    B: Area,
+>(
+    machine: &mut Machine<J, W>,
     p: ProcNo,
-    shared: &mut Shared<S, K, A, B, F>,
+    shared: &mut Shared<J, S, K, F, A, B>,
 ) -> Stepped
-    requires may { MayStep W.process (StandsFor deck_jobs W.process W.keeps machine.old) shared.old p }
-    ensures { (h : List (Entry Loaded)) (action : ActionOf) →
-        StandsFor deck_jobs W.process W.keeps machine.old h →
+    requires may { MayStep ⟦<Units<S, K, F, A, B> as Peripherals<J>>⟧.tells W.process (StandsFor J.jobs W.process W.keeps machine.old) shared.old p }
+    ensures { (h : List (Entry J.Load)) (action : ActionOf) →
+        StandsFor J.jobs W.process W.keeps machine.old h →
         next_action W.process h ≡ Some action →
-        Steps (StandsFor deck_jobs W.process W.keeps machine.new)
-        (telling S.left S.taken K.given A.pages B.pages F.pages)
-        (counting S.faults S.taken K.faults A.faults B.faults F.faults)
+        Steps (StandsFor J.jobs W.process W.keeps machine.new)
+        ⟦<Units<S, K, F, A, B> as Peripherals<J>>⟧.tells
+        ⟦<Units<S, K, F, A, B> as Peripherals<J>>⟧.counts
         shared.old shared.new p action h result }
 {
     let action = machine.next();

@@ -8,23 +8,21 @@ ghost use Rattle.queue_var.specs.Sides.{MayEnter, MayStop};
 ghost use Rattle.network_law.specs.Network.{MayCall};
 ghost use Rattle.network_law.specs.Stepping.{is_named, is_again};
 ghost use Rattle.core_law.specs.Core.{call, upstream, CoreState, IsBuffer};
-ghost use Rattle.core_net.specs.Shared.{SharedStands, telling};
+ghost use Rattle.core_net.specs.Shared.{SharedStands};
 ghost use Rattle.core_net.specs.Turns.{HasPlace, IsAtTurn};
-ghost use Rattle.disk_system.specs.declared.loading.Loaded.{Loaded};
-ghost use Rattle.deck_work.specs.DeckJobs.{deck_jobs};
 
 use crate::Shared;
 use crate::shared::side_at;
-use batch_procs::{Action, Machine, Work};
-use deck_work::DeckWork;
+use batch_ends::{Peripherals, Units};
+use batch_procs::{Action, JobWork, Loader, Machine, Work};
 use solo_base::{BufferNo, ProcNo, Side};
 use solo_devices::{Area, Sink, Source};
 
-impl<S: Source, K: Sink, A: Area, B: Area, F: Area> Shared<S, K, A, B, F> {
+impl<J: JobWork, S: Source, K: Sink, F: Loader<J>, A: Area, B: Area> Shared<J, S, K, F, A, B> {
     /// Whether a process may enter a buffer by a side.
     fn may_enter(&self, b: BufferNo, side: Side, p: ProcNo) -> bool
-        ensures { (s : CoreState Loaded) →
-            SharedStands (telling S.left S.taken K.given A.pages B.pages F.pages) self.now s →
+        ensures { (s : CoreState J.Load) →
+            SharedStands ⟦<Units<S, K, F, A, B> as Peripherals<J>>⟧.tells self.now s →
             IsBuffer b → IsTrue result ↔ MayEnter (s.buffers b).sides side p }
     {
         if b == 1 {
@@ -40,8 +38,8 @@ impl<S: Source, K: Sink, A: Area, B: Area, F: Area> Shared<S, K, A, B, F> {
 
     /// Whether a side of a buffer may move a page or stop.
     fn may_stop(&self, b: BufferNo, side: Side) -> bool
-        ensures { (s : CoreState Loaded) →
-            SharedStands (telling S.left S.taken K.given A.pages B.pages F.pages) self.now s →
+        ensures { (s : CoreState J.Load) →
+            SharedStands ⟦<Units<S, K, F, A, B> as Peripherals<J>>⟧.tells self.now s →
             IsBuffer b → IsTrue result ↔ MayStop (s.buffers b).sides side }
     {
         if b == 1 {
@@ -58,8 +56,8 @@ impl<S: Source, K: Sink, A: Area, B: Area, F: Area> Shared<S, K, A, B, F> {
     /// Whether the monitors let a process make its call now.
     #[inline(always)]
     pub fn may_call(&self, p: ProcNo, action: &Action) -> bool
-        ensures { (s : CoreState Loaded) →
-            SharedStands (telling S.left S.taken K.given A.pages B.pages F.pages) self.now s →
+        ensures { (s : CoreState J.Load) →
+            SharedStands ⟦<Units<S, K, F, A, B> as Peripherals<J>>⟧.tells self.now s →
             HasPlace s p action.now → IsTrue result ↔ MayCall s p (call p action.now) }
     {
         match action {
@@ -80,8 +78,8 @@ impl<S: Source, K: Sink, A: Area, B: Area, F: Area> Shared<S, K, A, B, F> {
 
     /// Whether the turn of a buffer is handed.
     fn is_named(&self, b: BufferNo) -> bool
-        ensures { (s : CoreState Loaded) →
-            SharedStands (telling S.left S.taken K.given A.pages B.pages F.pages) self.now s →
+        ensures { (s : CoreState J.Load) →
+            SharedStands ⟦<Units<S, K, F, A, B> as Peripherals<J>>⟧.tells self.now s →
             IsBuffer b → result ≡ is_named (s.buffers b).sides.turn }
     {
         if b == 1 {
@@ -98,8 +96,8 @@ impl<S: Source, K: Sink, A: Area, B: Area, F: Area> Shared<S, K, A, B, F> {
     /// Whether a call that waits is made at a handed turn, and so is made again.
     #[inline(always)]
     pub fn is_again(&self, p: ProcNo, action: &Action) -> bool
-        ensures { (s : CoreState Loaded) →
-            SharedStands (telling S.left S.taken K.given A.pages B.pages F.pages) self.now s →
+        ensures { (s : CoreState J.Load) →
+            SharedStands ⟦<Units<S, K, F, A, B> as Peripherals<J>>⟧.tells self.now s →
             HasPlace s p action.now → result ≡ is_again s (call p action.now) }
     {
         match action {
@@ -128,14 +126,22 @@ fn upstream(p: ProcNo) -> BufferNo
 
 /// Whether a process has a next action, and is at its turn.
 #[inline(always)]
-pub fn may_step<W: Work<DeckWork>, S: Source, K: Sink, A: Area, B: Area, F: Area>(
-    machine: &Machine<DeckWork, W>,
+pub fn may_step<
+    J: JobWork,
+    W: Work<J>,
+    S: Source,
+    K: Sink,
+    F: Loader<J>,
+    A: Area,
+    B: Area,
+>(
+    machine: &Machine<J, W>,
     p: ProcNo,
-    shared: &Shared<S, K, A, B, F>,
+    shared: &Shared<J, S, K, F, A, B>,
 ) -> bool
-    ensures { (h : List (Entry Loaded)) (s : CoreState Loaded) →
-        StandsFor deck_jobs W.process W.keeps machine.now h →
-        SharedStands (telling S.left S.taken K.given A.pages B.pages F.pages) shared.now s →
+    ensures { (h : List (Entry J.Load)) (s : CoreState J.Load) →
+        StandsFor J.jobs W.process W.keeps machine.now h →
+        SharedStands ⟦<Units<S, K, F, A, B> as Peripherals<J>>⟧.tells shared.now s →
         ((action : ActionOf) → next_action W.process h ≡ Some action → HasPlace s p action) →
         IsTrue result ↔ IsAtTurn W.process h s p }
 {

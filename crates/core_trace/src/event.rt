@@ -1,11 +1,8 @@
-ghost use Rattle.network_run.specs.Law.{MayStep};
+ghost use Rattle.network_run.specs.Law.{MayStep, Placed};
 ghost use Rattle.core_law.specs.TheLaw.{the_law};
-ghost use Rattle.core_net.specs.Net.{IsPlaced, StandsWithin, the_keeps};
-ghost use Rattle.core_net.specs.Shared.{telling};
-ghost use Rattle.deck_work.specs.DeckJobs.{deck_jobs};
 
 use crate::board::Board;
-use batch_procs::Action;
+use batch_procs::{Action, JobWork, Loader};
 use core_net::Net;
 use network_run::{Network, Stepped};
 use solo_base::{Feed, Outcome, ProcNo};
@@ -35,15 +32,14 @@ pub struct Event {
 }
 
 /// Lets the next action of a process happen that may go on.
-pub fn happen<S: Source, K: Sink, A: Area, B: Area, F: Area>(
-    net: &mut Net<S, K, A, B, F>,
+pub fn happen<J: JobWork, S: Source, K: Sink, F: Loader<J>, A: Area, B: Area>(
+    net: &mut Net<J, S, K, F, A, B>,
     process: ProcNo,
     board: &mut Board,
 ) -> Event
-    requires { MayStep (the_law deck_jobs)
-        (StandsWithin the_keeps (telling S.left S.taken K.given A.pages B.pages F.pages) net.old) process }
-    ensures { IsPlaced the_keeps
-        (telling S.left S.taken K.given A.pages B.pages F.pages) net.new }
+    requires { MayStep (the_law J.jobs)
+        (⟦<Net<J, S, K, F, A, B> as Network>⟧.Stands net.old) process }
+    ensures { Placed (the_law J.jobs) (⟦<Net<J, S, K, F, A, B> as Network>⟧.Stands net.new) }
 {
     let action = next_of(net, process);
     let closed_before = cause_of(net, process).is_some();
@@ -66,8 +62,8 @@ pub fn happen<S: Source, K: Sink, A: Area, B: Area, F: Area>(
 
 /// What came of an action that neither waits nor gives a cause. A card that was read is put next, and what
 /// was taken is what the line buffer held.
-fn came_of<S: Source, K: Sink, A: Area, B: Area, F: Area>(
-    net: &Net<S, K, A, B, F>,
+fn came_of<J: JobWork, S: Source, K: Sink, F: Loader<J>, A: Area, B: Area>(
+    net: &Net<J, S, K, F, A, B>,
     process: ProcNo,
     action: &Action,
     board: &mut Board,
@@ -84,8 +80,8 @@ fn came_of<S: Source, K: Sink, A: Area, B: Area, F: Area>(
 }
 
 /// What a process does next.
-fn next_of<S: Source, K: Sink, A: Area, B: Area, F: Area>(
-    net: &Net<S, K, A, B, F>,
+fn next_of<J: JobWork, S: Source, K: Sink, F: Loader<J>, A: Area, B: Area>(
+    net: &Net<J, S, K, F, A, B>,
     process: ProcNo,
 ) -> Action {
     match process {
@@ -98,8 +94,8 @@ fn next_of<S: Source, K: Sink, A: Area, B: Area, F: Area>(
 }
 
 /// Why a process closes down, where it does.
-fn cause_of<S: Source, K: Sink, A: Area, B: Area, F: Area>(
-    net: &Net<S, K, A, B, F>,
+fn cause_of<J: JobWork, S: Source, K: Sink, F: Loader<J>, A: Area, B: Area>(
+    net: &Net<J, S, K, F, A, B>,
     process: ProcNo,
 ) -> Option<Outcome> {
     match process {

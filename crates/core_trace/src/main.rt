@@ -15,12 +15,14 @@ mod svg;
 mod trace;
 mod words;
 
+use batch_ends::Units;
 use core_net::Net;
+use deck_work::{DeckFiles, DeckWork};
 use disk_files::FileArea;
 use disk_pages::AREA_PAGES;
 use disk_system::format;
 use fault::Fault;
-use solo_devices::{Area, SureArea, SureSink};
+use solo_devices::{Area, CardUnit, PrinterUnit, SureArea, SureSink};
 use solo_edge::ReaderSource;
 use std::alloc::Global;
 use std::env;
@@ -57,9 +59,14 @@ where
     else {
         return Err(Fault::NoMemory);
     };
-    let source = ReaderSource::new(rt.reader());
-    let paper = SureSink::new(rt.alloc());
-    let mut net = Net::make(rt.alloc(), source, input, output, paper, files);
+    let units = Units {
+        deck: CardUnit::new(ReaderSource::new(rt.reader())),
+        paper: PrinterUnit::new(SureSink::new(rt.alloc())),
+        files: DeckFiles { files },
+        input,
+        output,
+    };
+    let mut net: Net<DeckWork, _, _, _, _, _> = Net::make(rt.alloc(), units);
     trace::trace(rt, &mut net, asked)
 }
 

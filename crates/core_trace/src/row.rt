@@ -1,6 +1,7 @@
 use crate::board::{Board, Place};
 use crate::event::Event;
 use crate::said::{name_of, write_action, write_feed, write_told};
+use batch_procs::{JobWork, Loader};
 use core_net::Shared;
 use solo_base::{BufferNo, Feed, ProcNo};
 use solo_devices::{Area, Sink, Source};
@@ -19,24 +20,24 @@ const LINES: usize = 16;
 const PAGES: usize = 7;
 
 /// The line of an event, with what the buffers and the disk hold behind it.
-pub fn row_of<S: Source, K: Sink, A: Area, B: Area, F: Area>(
+pub fn row_of<J: JobWork, S: Source, K: Sink, F: Loader<J>, A: Area, B: Area>(
     alloc: Global,
     number: u64,
     event: &Event,
     board: &Board,
-    shared: &Shared<S, K, A, B, F>,
+    shared: &Shared<J, S, K, F, A, B>,
 ) -> Result<String, AllocError> {
     let mut row = String::new(alloc);
     write_row(&mut row, number, event, board, shared)?;
     Ok(row)
 }
 
-fn write_row<S: Source, K: Sink, A: Area, B: Area, F: Area>(
+fn write_row<J: JobWork, S: Source, K: Sink, F: Loader<J>, A: Area, B: Area>(
     row: &mut String,
     number: u64,
     event: &Event,
     board: &Board,
-    shared: &Shared<S, K, A, B, F>,
+    shared: &Shared<J, S, K, F, A, B>,
 ) -> Result<(), AllocError> {
     write_event(row, number, event)?;
     write_slot(row, board, 1, &board.cards, shared.cards.handed())?;

@@ -1,5 +1,5 @@
-ghost use Rattle.core_net.specs.Net.{IsPlaced, the_keeps};
-ghost use Rattle.core_net.specs.Shared.{telling};
+ghost use Rattle.network_run.specs.Law.{Placed};
+ghost use Rattle.core_law.specs.TheLaw.{the_law};
 
 use crate::board::{Board, Waiting};
 use crate::event::{Event, Told, happen};
@@ -8,9 +8,9 @@ use crate::frame::print_picture;
 use crate::picture::Picture;
 use crate::row::{HEAD, row_of};
 use crate::words::{Asked, Form};
-use batch_procs::Action;
+use batch_procs::{Action, JobWork, Loader};
 use core_net::{Net, Shared};
-use network_run::{Counts, Rule, next_by};
+use network_run::{Counts, Network, Rule, next_by};
 use solo_devices::{Area, Sink, Source};
 use std::alloc::Global;
 
@@ -39,12 +39,12 @@ impl Run {
 }
 
 /// Runs the network to its end by the rule that was asked for, and shows it.
-pub fn trace<S: Source, K: Sink, A: Area, B: Area, F: Area>(
+pub fn trace<J: JobWork, S: Source, K: Sink, F: Loader<J>, A: Area, B: Area>(
     rt: &(impl Print + AllocGlobal),
-    net: &mut Net<S, K, A, B, F>,
+    net: &mut Net<J, S, K, F, A, B>,
     asked: Asked,
 ) -> Result<(), Fault>
-    requires { IsPlaced the_keeps (telling S.left S.taken K.given A.pages B.pages F.pages) net.old }
+    requires { Placed (the_law J.jobs) (⟦<Net<J, S, K, F, A, B> as Network>⟧.Stands net.old) }
 {
     let mut run = Run::new(rt.alloc(), asked);
     match asked.form {
@@ -54,13 +54,13 @@ pub fn trace<S: Source, K: Sink, A: Area, B: Area, F: Area>(
 }
 
 /// Prints a line for each event that is shown, and the counts behind them.
-fn print_table<S: Source, K: Sink, A: Area, B: Area, F: Area>(
+fn print_table<J: JobWork, S: Source, K: Sink, F: Loader<J>, A: Area, B: Area>(
     rt: &(impl Print + AllocGlobal),
-    net: &mut Net<S, K, A, B, F>,
+    net: &mut Net<J, S, K, F, A, B>,
     asked: Asked,
     run: &mut Run,
 ) -> Result<(), Fault>
-    requires { IsPlaced the_keeps (telling S.left S.taken K.given A.pages B.pages F.pages) net.old }
+    requires { Placed (the_law J.jobs) (⟦<Net<J, S, K, F, A, B> as Network>⟧.Stands net.old) }
 {
     println!(rt; "{HEAD}")?;
     go_through(rt, net, asked, run)?;
@@ -74,13 +74,13 @@ fn print_table<S: Source, K: Sink, A: Area, B: Area, F: Area>(
 }
 
 /// Draws the events that are shown, and prints the picture.
-fn draw<S: Source, K: Sink, A: Area, B: Area, F: Area>(
+fn draw<J: JobWork, S: Source, K: Sink, F: Loader<J>, A: Area, B: Area>(
     rt: &(impl Print + AllocGlobal),
-    net: &mut Net<S, K, A, B, F>,
+    net: &mut Net<J, S, K, F, A, B>,
     asked: Asked,
     run: &mut Run,
 ) -> Result<(), Fault>
-    requires { IsPlaced the_keeps (telling S.left S.taken K.given A.pages B.pages F.pages) net.old }
+    requires { Placed (the_law J.jobs) (⟦<Net<J, S, K, F, A, B> as Network>⟧.Stands net.old) }
 {
     go_through(rt, net, asked, run)?;
     run.picture.finish(&run.board, run.counts.events)?;
@@ -88,13 +88,13 @@ fn draw<S: Source, K: Sink, A: Area, B: Area, F: Area>(
 }
 
 /// Runs the network to its end.
-fn go_through<S: Source, K: Sink, A: Area, B: Area, F: Area>(
+fn go_through<J: JobWork, S: Source, K: Sink, F: Loader<J>, A: Area, B: Area>(
     rt: &(impl Print + AllocGlobal),
-    net: &mut Net<S, K, A, B, F>,
+    net: &mut Net<J, S, K, F, A, B>,
     asked: Asked,
     run: &mut Run,
 ) -> Result<(), Fault>
-    requires { IsPlaced the_keeps (telling S.left S.taken K.given A.pages B.pages F.pages) net.old }
+    requires { Placed (the_law J.jobs) (⟦<Net<J, S, K, F, A, B> as Network>⟧.Stands net.old) }
 {
     'running: for _ in 0..u64::MAX {
         if !go_on(rt, net, asked, run)? {
@@ -105,14 +105,14 @@ fn go_through<S: Source, K: Sink, A: Area, B: Area, F: Area>(
 }
 
 /// Lets the next event happen, and shows it. Answers whether there was one.
-fn go_on<S: Source, K: Sink, A: Area, B: Area, F: Area>(
+fn go_on<J: JobWork, S: Source, K: Sink, F: Loader<J>, A: Area, B: Area>(
     rt: &(impl Print + AllocGlobal),
-    net: &mut Net<S, K, A, B, F>,
+    net: &mut Net<J, S, K, F, A, B>,
     asked: Asked,
     run: &mut Run,
 ) -> Result<bool, Fault>
-    requires { IsPlaced the_keeps (telling S.left S.taken K.given A.pages B.pages F.pages) net.old }
-    ensures { IsPlaced the_keeps (telling S.left S.taken K.given A.pages B.pages F.pages) net.new }
+    requires { Placed (the_law J.jobs) (⟦<Net<J, S, K, F, A, B> as Network>⟧.Stands net.old) }
+    ensures { Placed (the_law J.jobs) (⟦<Net<J, S, K, F, A, B> as Network>⟧.Stands net.new) }
 {
     let Some(process) = next_by(net, &mut run.rule) else {
         return Ok(false);
@@ -125,13 +125,13 @@ fn go_on<S: Source, K: Sink, A: Area, B: Area, F: Area>(
 
 /// Notes an event and shows it, where it is one of those that are shown. Its process waited so far, if it
 /// did. Answers true.
-fn show<S: Source, K: Sink, A: Area, B: Area, F: Area>(
+fn show<J: JobWork, S: Source, K: Sink, F: Loader<J>, A: Area, B: Area>(
     rt: &(impl Print + AllocGlobal),
     asked: Asked,
     run: &mut Run,
     event: &Event,
     waited: Option<Waiting>,
-    shared: &Shared<S, K, A, B, F>,
+    shared: &Shared<J, S, K, F, A, B>,
 ) -> Result<bool, Fault> {
     let number = run.counts.events;
     run.board.note(event, number)?;

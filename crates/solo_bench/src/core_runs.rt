@@ -3,13 +3,15 @@ ghost use Rattle.std.specs.Prelude.{◌≡◌, true, IfSome};
 
 use crate::clock;
 use crate::fault::Fault;
+use batch_ends::Units;
 use core_net::Net;
+use deck_work::{DeckFiles, DeckWork};
 use disk_files::FileArea;
 use disk_pages::AREA_PAGES;
 use disk_system::format;
 use network_run::{Counts, Falling, Rule};
 use solo_base::NoMemory;
-use solo_devices::{SureArea, SureSink, SureSource};
+use solo_devices::{CardUnit, PrinterUnit, SureArea, SureSink, SureSource};
 use std::alloc::Global;
 use std::time::CpuClock;
 
@@ -60,7 +62,14 @@ fn run_once(
     let output = SureArea::new(rt.alloc(), SPOOL_PAGES)?;
     let paper = SureSink::new(rt.alloc());
     let files = no_files(rt.alloc()).ok_or(NoMemory)?;
-    let mut net = Net::make(rt.alloc(), source, input, output, paper, files);
+    let units = Units {
+        deck: CardUnit::new(source),
+        paper: PrinterUnit::new(paper),
+        files: DeckFiles { files },
+        input,
+        output,
+    };
+    let mut net: Net<DeckWork, _, _, _, _, _> = Net::make(rt.alloc(), units);
     let began = clock::micros(rt)?;
     let counts = net.run_by(Rule::Numbered { number: SCHEDULE });
     *time = time.saturating_add(clock::micros_since(rt, began)?);

@@ -1,7 +1,6 @@
 use Rattle.std.proofs.Common.{[], ◌∷◌}
 use Rattle.network_run.proofs.Along.{place-behind}
 use Rattle.core_law.specs.TheLaw.{the_law}
-use Rattle.deck_work.specs.DeckJobs.{deck_jobs}
 use Rattle.core_trace.proofs.event.happen.Goals as goal
 
 pub step-stepped-requires : goal.step-stepped-requires
@@ -10,4 +9,4 @@ step-stepped-requires g c = record { may = c.requires }
 pub returns : goal.returns
 returns g c =
     let steps = c.step-stepped.ensures.steps c.requires.at c.requires.may in
-    place-behind (the_law deck_jobs) _ _ c.requires.at (steps.event ∷ []) (steps.enabled, tt) steps.stands
+    place-behind (the_law g.J.JobWork.jobs) _ _ c.requires.at (steps.event ∷ []) (steps.enabled, tt) steps.stands

@@ -1,8 +1,20 @@
-use Rattle.core_net.specs.Net.{IsPlaced, the_keeps}
-use Rattle.core_net.specs.Shared.{telling}
+use Rattle.network_run.specs.Law.{Placed}
+use Rattle.core_law.specs.TheLaw.{the_law}
+use Rattle.core_net.specs.Net.{StandsWithin, the_keeps}
 use Rattle.core_trace.proofs.trace.go_through.Given as goal
 
 -- the network stands for a state that was reached
 abbrev pub invariant-running : goal.invariant-running
 invariant-running g l =
-    IsPlaced the_keeps (telling g.S.Source.left g.S.Source.taken g.K.Sink.given g.A.Area.pages g.B.Area.pages g.F.Area.pages) l.net
+    Placed (the_law g.J.JobWork.jobs) (StandsWithin g.J.JobWork.jobs (the_keeps g.J.JobWork.jobs g.J.JobWork.keeps) record {
+      left = g.S.Source.left;
+      taken = g.S.Source.taken;
+      given = g.K.Sink.given;
+      files = g.F.Loader.found;
+      sound = g.F.Loader.sound;
+      pages = g.F.Loader.pages;
+      input_size = g.A.Area.size;
+      input_pages = g.A.Area.pages;
+      output_size = g.B.Area.size;
+      output_pages = g.B.Area.pages;
+    } l.net)

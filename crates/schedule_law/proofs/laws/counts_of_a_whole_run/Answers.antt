@@ -2,12 +2,11 @@ use Rattle.core_law.specs.Opening.{first_state}
 use Rattle.core_law.proofs.Law.{opening-reached}
 use Rattle.schedule_law.proofs.TheCounts.{where-done, where-none_counted}
 use Rattle.schedule_law.proofs.laws.counts_of_a_whole_run.Goals as goal
-use Rattle.deck_work.specs.DeckJobs.{deck_are_jobs}
 
 pub returns-clause-done : goal.returns-clause-done
 returns-clause-done g c = λ opening rule counts outcomes stops devices told ran.
-    where-done opening (first_state opening) (opening-reached deck_are_jobs opening) told ran
+    where-done g.met.J.JobWork.are_jobs opening (first_state opening) (opening-reached g.met.J.JobWork.are_jobs opening) told ran
 
 pub returns-clause-uncounted : goal.returns-clause-uncounted
 returns-clause-uncounted g c = λ opening rule counts outcomes stops devices before now told ran.
-    where-none_counted opening (first_state opening) (opening-reached deck_are_jobs opening) told ran
+    where-none_counted g.met.J.JobWork.are_jobs opening (first_state opening) (opening-reached g.met.J.JobWork.are_jobs opening) told ran

@@ -14,20 +14,19 @@ finish-requires g c =
 
 pub returns-clause-runs : goal.returns-clause-runs
 returns-clause-runs g c =
-    runs-to-end _ _ (rule.Numbered c.args.number) c.run_numbered-counts.new.self _ c.run_numbered-counts.result
+    runs-to-end g.met.J.JobWork.are_jobs _ _ (rule.Numbered c.args.number) c.run_numbered-counts.new.self _ c.run_numbered-counts.result
     (c.run_numbered-counts.ensures.runs (first_place c.make-net.ensures.opens)) c.finish.result.outcomes c.finish.result.stopped_by
-    c.finish.ensures.ends c.finish.result.deck c.finish.result.paper c.finish.result.files
-    c.finish.ensures.units.0 c.finish.ensures.units.1 c.finish.ensures.files
+    c.finish.ensures.ends c.finish.result.units c.finish.ensures.units
 
 pub returns-clause-done : goal.returns-clause-done
 returns-clause-done g c = λ items is known told.
     let at = first_place c.make-net.ensures.opens in
-    where-done at.opening at.state at.reached record { spools = told; items = items; deck = is; files = known }
-    (to-end (c.run_numbered-counts.ensures.runs at) c.finish.ensures.ends)
+    where-done g.met.J.JobWork.are_jobs at.opening at.state at.reached record { spools = told; items = items; deck = is; files = known }
+    (to-end g.met.J.JobWork.are_jobs (c.run_numbered-counts.ensures.runs at) c.finish.ensures.ends)
 
 pub returns-clause-uncounted : goal.returns-clause-uncounted
 returns-clause-uncounted g c = λ items is known told.
     let at = first_place c.make-net.ensures.opens in
-    where-none_counted at.opening at.state at.reached record { spools = told; items = items; deck = is; files = known }
-    (to-end (c.run_numbered-counts.ensures.runs at) c.finish.ensures.ends)
+    where-none_counted g.met.J.JobWork.are_jobs at.opening at.state at.reached record { spools = told; items = items; deck = is; files = known }
+    (to-end g.met.J.JobWork.are_jobs (c.run_numbered-counts.ensures.runs at) c.finish.ensures.ends)
     (c.finish.ensures.counted _ (c.run_numbered-counts.ensures.keeps.counted _ c.make-net.ensures.counted))

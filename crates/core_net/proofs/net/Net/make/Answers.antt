@@ -1,23 +1,30 @@
-use Rattle.std.proofs.Common.{◌≤◌, [], sym, subst, refl, ◌∙◌, ap}
+use Rattle.std.proofs.Common.{◌≤◌, sym, subst, refl, ◌∙◌, ap}
 use Rattle.solo_devices.specs.CardUnit.{items_ahead}
-use Rattle.disk_files.specs.Answers.{FileTable}
-use Rattle.core_net.specs.Openings.{spools_over}
-use Rattle.deck_work.specs.DeckJobs.{files_found}
-use Rattle.core_net.specs.Shared.{cards_left}
-use Rattle.core_net.proofs.GoodFiles.{are-good, told-cards}
+use Rattle.batch_ends.specs.Openings.{spools_over}
+use Rattle.batch_ends.specs.Devices.{cards_left}
+use Rattle.batch_ends.specs.declared.units.Units.{Units}
+use Rattle.batch_ends.proofs.ToldCards.{told-cards}
 use Rattle.core_net.proofs.Within.{opening-within, fresh-few}
 use Rattle.core_net.proofs.net.Net.make.Goals as goal
+
+pub make-requires : goal.make-requires
+make-requires g c = record {
+  deck = c.requires.deck.0;
+  paper = c.requires.paper;
+  input = c.requires.input;
+  output = c.requires.output;
+}
 
 pub returns-clause-opens : goal.returns-clause-opens
 returns-clause-opens g c = record {
   bounds = record {
-    input_some = c.requires.input_some;
-    input_most = c.requires.input_few;
-    output_some = c.requires.output_some;
-    output_most = c.requires.output_few;
+    input_some = c.requires.input.0;
+    input_most = c.requires.input.1;
+    output_some = c.requires.output.0;
+    output_most = c.requires.output.1;
   };
-  cards = told-cards (g.S.Source.left c.args.source) [];
-  good = are-good (g.F.Area.pages c.args.files.area);
+  cards = told-cards (g.S.Source.left c.args.units.deck.source) c.args.units.deck.pending;
+  good = g.met.F.Loader.are_loads c.args.units.files;
   stands = record {
     is = record {
       card = c.new.ensures;
@@ -26,14 +33,16 @@ returns-clause-opens g c = record {
       output = c.new-4.ensures;
       printer = c.new-5.ensures;
       shared = c.make.ensures.stands;
-      deck_live = λ free. c.make.ensures.deck_live;
-      paper_live = λ free. c.make.ensures.paper_live;
-      files_sound = λ free. ap (λ (files : FileTable _). files.sound) c.make.ensures.files ∙ c.requires.sound;
+      deck_live = λ free. ap (λ (u : Units _ _ _ _ _). u.deck.live) c.make.ensures.units ∙ c.requires.deck.0;
+      paper_live = λ free. ap (λ (u : Units _ _ _ _ _). u.paper.live) c.make.ensures.units ∙ c.requires.paper;
+      files_sound = λ free. subst (λ (u : Units _ _ _ _ _). g.F.Loader.sound u.files) (sym c.make.ensures.units) c.requires.sound;
     };
-    within = opening-within (cards_left g.S.Source.taken c.make.result.deck)
-        (spools_over (g.A.Area.size c.args.input) (g.A.Area.pages c.args.input) (g.B.Area.size c.args.output) (g.B.Area.pages c.args.output))
-        (items_ahead (g.S.Source.left c.args.source) []) (g.K.Sink.given c.args.sink) (files_found (g.F.Area.pages c.args.files.area))
-        (subst (λ deck. cards_left g.S.Source.taken deck ≤ 33555457) (sym c.make.ensures.deck)
-        (fresh-few g.S.Source.taken c.args.source c.requires.unread));
+    within = opening-within g.met.J.JobWork.are_jobs (cards_left g.S.Source.taken c.make.result.deck)
+        (spools_over (g.A.Area.size c.args.units.input) (g.A.Area.pages c.args.units.input)
+        (g.B.Area.size c.args.units.output) (g.B.Area.pages c.args.units.output))
+        (items_ahead (g.S.Source.left c.args.units.deck.source) c.args.units.deck.pending)
+        (g.K.Sink.given c.args.units.paper.sink) (g.F.Loader.found c.args.units.files)
+        (subst (λ (u : Units _ _ _ _ _). cards_left g.S.Source.taken u.deck ≤ 33555457) (sym c.make.ensures.units)
+        (fresh-few g.S.Source.taken c.args.units.deck c.requires.unread c.requires.deck.1));
   };
 }

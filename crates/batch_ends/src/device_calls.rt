@@ -1,25 +1,20 @@
-ghost use Rattle.std.specs.Prelude.{◌≡◌, ◌≤◌, ◌<◌, ◌≢◌, ◌↔◌, true, Some, ℕ, length};
+ghost use Rattle.std.specs.Prelude.{◌≡◌, ◌≤◌, ◌<◌, ◌≢◌, ◌↔◌, true, ℕ, length};
 ghost use Rattle.solo_devices.specs.Count.{Rose};
 ghost use Rattle.solo_devices.specs.CardUnit.{items_ahead, item_of, byte_limit, bytes_total, IsAllTaken};
 ghost use Rattle.page_codec.specs.Items.{AreItems};
 ghost use Rattle.solo_devices.specs.declared.card_read.CardRead.TheVariants as card_read;
 ghost use Rattle.batch_procs.specs.declared.actions.Reply.TheVariants as reply;
 ghost use Rattle.core_law.specs.Core.{items_by};
-ghost use Rattle.core_net.specs.Devices.{ReadsCard, PrintsLine, LoadsFile};
-ghost use Rattle.deck_work.specs.DeckJobs.{files_found};
-ghost use Rattle.core_net.specs.Shared.{cards_left};
+ghost use Rattle.batch_ends.specs.Devices.{ReadsCard, PrintsLine, cards_left};
 
-use batch_procs::Reply;
-use disk_files::FileArea;
-use disk_system::{LoadFault, Loaded, load_job};
-use solo_base::{Ident, Line};
-use solo_devices::{Area, CardRead, CardUnit, PrintFault, PrinterUnit, Sink, Source};
-use std::alloc::Global;
+use batch_procs::{JobWork, Reply};
+use solo_base::Line;
+use solo_devices::{CardRead, CardUnit, PrintFault, PrinterUnit, Sink, Source};
 
 /// Reads the next card of the deck.
-pub fn read_card<S: Source>(deck: &mut CardUnit<S>) -> Reply<Loaded>
+pub fn read_card<J: JobWork, S: Source>(deck: &mut CardUnit<S>) -> Reply<J::Load>
     requires live { deck.old.live ≡ true }
-    ensures reads { ReadsCard (items_ahead (S.left deck.old.source) deck.old.pending)
+    ensures reads { ReadsCard J.jobs (items_ahead (S.left deck.old.source) deck.old.pending)
         (items_ahead (S.left deck.new.source) deck.new.pending) result }
     ensures failed { result ≡ reply.Card card_read.Failed
         → Rose (S.faults deck.old.source) (S.faults deck.new.source) }
@@ -53,9 +48,9 @@ pub fn is_item(answer: &CardRead)
 }
 
 /// Prints a line.
-pub fn print<K: Sink>(paper: &mut PrinterUnit<K>, line: &Line) -> Reply<Loaded>
+pub fn print<J: JobWork, K: Sink>(paper: &mut PrinterUnit<K>, line: &Line) -> Reply<J::Load>
     requires live { paper.old.live ≡ true }
-    ensures prints { PrintsLine (K.given paper.old.sink) (K.given paper.new.sink) line.now result }
+    ensures prints { PrintsLine J.jobs (K.given paper.old.sink) (K.given paper.new.sink) line.now result }
     ensures failed { result ≡ reply.Failed → Rose (K.faults paper.old.sink) (K.faults paper.new.sink) }
     ensures counts { K.faults paper.old.sink ≤ K.faults paper.new.sink }
     ensures live { result ≡ reply.Done → paper.new.live ≡ true }
@@ -64,21 +59,5 @@ pub fn print<K: Sink>(paper: &mut PrinterUnit<K>, line: &Line) -> Reply<Loaded>
         Ok(()) => Reply::Done,
         Err(PrintFault::Failed) => Reply::Failed,
         Err(PrintFault::NoMemory) => Reply::NoMemory,
-    }
-}
-
-/// Loads the program of a job from the file of this name. It changes no file.
-pub fn load_file<F: Area>(alloc: Global, files: &mut FileArea<F>, file: &Ident) -> Reply<Loaded>
-    requires sound { files.old.sound ≡ true }
-    ensures loads { LoadsFile (files_found (F.pages files.old.area)) file.now result }
-    ensures failed { result ≡ reply.Failed → Rose (F.faults files.old.area) (F.faults files.new.area) }
-    ensures counts { F.faults files.old.area ≤ F.faults files.new.area }
-    ensures left { F.pages files.new.area ≡ F.pages files.old.area }
-    ensures sound { result ≢ reply.Failed → files.new.sound ≡ true }
-{
-    match load_job(alloc, file, files) {
-        Ok(load) => Reply::Loaded(load),
-        Err(LoadFault::DiskFault) => Reply::Failed,
-        Err(LoadFault::NoMemory) => Reply::NoMemory,
     }
 }

@@ -1,4 +1,4 @@
--- What the network opens with.
+-- What the five open with.
 use Rattle.std.specs.Prelude.{ℕ, List, Option}
 use Rattle.std.specs.Option.{is_some}
 use Rattle.core_law.specs.Opening.{Spools}

@@ -1,11 +1,10 @@
--- What told files are loaded as are loads of a deck's jobs, and told cards are cards.
+-- Told cards are cards.
 use Rattle.std.proofs.Common.{◌≡◌, ℕ, List, ◌++◌, Option, None, Some, subst}
 use Rattle.solo_base.specs.declared.item.Item.{Item}
 use Rattle.solo_devices.specs.CardUnit.{items_ahead}
 use Rattle.page_codec.specs.Items.{AreItems}
 use Rattle.page_codec.proofs.CardItems.{card-items}
-use Rattle.core_law.specs.Opening.{AreCards, AreGoodFiles}
-use Rattle.deck_work.specs.DeckJobs.{deck_jobs, files_found, found_are_loads}
+use Rattle.core_law.specs.Opening.{AreCards}
 
 same-items : (a b : List Item) → Some a ≡ Some b → a ≡ b
 same-items a b e = cc
@@ -13,6 +12,3 @@ same-items a b e = cc
 pub told-cards : (left : Option (List ℕ)) (pending : List ℕ) → AreCards (items_ahead left pending)
 told-cards None pending items e = absurd cc
 told-cards (Some rest) pending items e = subst AreItems (same-items _ _ e) (card-items (pending ++ rest))
-
-pub are-good : (pages : Option (List (List ℕ))) → AreGoodFiles deck_jobs (files_found pages)
-are-good pages = found_are_loads pages

@@ -1,0 +1,3 @@
+mod DeviceVisits
+pub mod ToldCards
+pub mod DamagedPages
