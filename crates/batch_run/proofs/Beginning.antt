@@ -1,5 +1,5 @@
 -- What the processes need before their first action, from buffers and a disk that nobody has used.
-use Rattle.std.proofs.Common.{◌≡◌, ◌≤◌, ℕ, true, List, [], ◌++◌, Option, Some, refl, sym, ◌∙◌, ap, arith}
+use Rattle.std.proofs.Common.{◌≡◌, ◌≤◌, ℕ, true, List, [], ◌++◌, Option, Some, refl, sym, ◌∙◌, ap, subst, arith}
 use Rattle.std.proofs.lemmas.List.{append-nil}
 use denote.Bor.{Bor}
 use Rattle.resource_mon.specs.DiskCalls.{has_grant}
@@ -7,120 +7,127 @@ use Rattle.solo_devices.specs.CardUnit.{Held}
 use Rattle.solo_devices.specs.PrinterUnit.{Printing}
 use Rattle.resource_mon.specs.Seats.{Desk, Seat}
 use Rattle.resource_mon.specs.declared.disk.DiskResource.{DiskResource}
-use Rattle.disk_files.specs.Answers.{FileTable}
 use Rattle.disk_spool.specs.Ends.{known}
+use Rattle.batch_procs.specs.Jobs.{Jobs}
+use Rattle.batch_ends.specs.declared.units.Units.{Units}
 use Rattle.batch_run.specs.declared.gates.Gates.{Gates}
 use Rattle.batch_run.specs.declared.gates.Ends.{Ends}
 use Rattle.batch_run.specs.declared.row.Row.{Row}
-use Rattle.batch_run.specs.Begun.{AreFresh, BeginsBy, fresh_seat}
+use Rattle.batch_run.specs.Begun.{AreFresh, BeginsBy, fresh_seat, units_at}
 use Rattle.batch_run.specs.Cards.{CardRan, DeckRan}
 use Rattle.batch_run.specs.Lines.{PrinterRan, PaperRan}
 use Rattle.batch_run.specs.Desks.{DeskRan, at_desk}
-use Rattle.batch_run.specs.Files.{FilesRan}
+use Rattle.batch_run.specs.Files.{Loading, FilesRan}
 use Rattle.batch_run.specs.Pages.{InputRan, JobRan, OutputRan, input_connected, job_connected, output_connected}
 use Rattle.batch_run.specs.Row.{RowBegins}
 
 same≤ : (n : ℕ) → n ≤ n
 same≤ n = omega arith
 
-deck-begins : {S : Type 0} (left : S → Option (List ℕ)) (taken faults : S → ℕ) (deck : Held S) → deck.live ≡ true → DeckRan left taken faults deck deck []
-deck-begins left taken faults deck live = record {
-  reads = λ items told. (items, told, refl, (λ e. absurd cc));
-  all = λ e. absurd cc;
-  counts = same≤ (faults deck.source);
-  failed = λ e. absurd cc;
-  limit = λ e. absurd cc;
-  longer = λ few over. absurd (omega (arith, few, over));
-  total = refl;
-  live = λ none. live;
-}
-
 nothing-gained : (paper : Option (List ℕ)) (before : List ℕ) → paper ≡ Some before → paper ≡ Some (before ++ [])
 nothing-gained paper before e = e ∙ ap Some (sym (append-nil before))
 
-paper-begins : {K : Type 0} (given : K → Option (List ℕ)) (faults : K → ℕ) (paper : Printing K) → paper.live ≡ true → PaperRan given faults paper paper []
-paper-begins given faults paper live = record {
-  prints = λ before told. ([], nothing-gained (given paper.sink) before told, ([], refl), (λ none. refl));
-  untold = λ none. none;
-  counts = same≤ (faults paper.sink);
-  failed = λ e. absurd cc;
-  live = λ none. live;
-}
+-- the units that are made from are those at the gates
+pub same-units : {S K F A B : Type 0} (units : Units S K F A B) (gates : Gates A B) → gates.input.area ≡ units.input → gates.output.area ≡ units.output
+    → units_at gates units.deck units.paper units.files ≡ units
+same-units units gates a b = rw (a, b) refl
 
-files-begin : {F : Type 0} (pages : F → Option (List (List ℕ))) (faults : F → ℕ) (files : FileTable F) → files.sound ≡ true
-    → FilesRan pages faults files files []
-files-begin pages faults files sound = record {
-  stay = refl;
-  loads = λ found told. tt;
-  counts = same≤ (faults files.area);
-  failed = λ e. absurd cc;
-  sound = λ none. sound;
-}
-
-desk-begins : (desk : Desk) (disk : Bor DiskResource) (number : ℕ) (seat : Seat) → disk.now ≡ desk → seat ≡ fresh_seat desk number
-    → DeskRan (at_desk disk seat) (at_desk disk seat) []
-desk-begins desk disk number seat same is = record {
-  same = (refl, refl);
-  at = record {
-    gate = ap (λ s. s.gate) is ∙ sym (ap (λ d. d.gate) same);
-    alone = ap (λ s. s.joined) is;
-    grant = ap (λ s. has_grant s.calls) is;
-    pass = refl;
-  };
-}
-
-module _ {S K A B F : Type 0} (left : S → Option (List ℕ)) (taken source_faults : S → ℕ) (given : K → Option (List ℕ)) (sink_faults : K → ℕ)
-    (from_size : A → ℕ) (to_size : B → ℕ) (file_pages : F → Option (List (List ℕ))) (file_faults : F → ℕ) (gates : Gates A B) (ends : Ends A B)
-    (deck : Held S) (paper : Printing K) (files : FileTable F) (row : Row S K A B F)
-    (fresh : AreFresh (from_size gates.input.area) (to_size gates.output.area) gates ends) (begins : BeginsBy gates ends deck paper files row)
-    (deck_live : deck.live ≡ true) (paper_live : paper.live ≡ true) (files_sound : files.sound ≡ true) where
-  card-begins : CardRan left taken source_faults row.cards row.cards []
-  card-begins = record {
-    gate = (refl, ap (λ e. e.gate) (begins.card_end ∙ fresh.cards_sender) ∙ sym begins.card_gate);
-    calls = ap (λ e. e.calls) (begins.card_end ∙ fresh.cards_sender);
-    deck = deck-begins left taken source_faults row.cards.deck (ap (λ d. d.live) begins.deck_is ∙ deck_live);
+module _ {L : Type 0} (J : Jobs L) where
+  deck-begins : {S : Type 0} (left : S → Option (List ℕ)) (taken faults : S → ℕ) (deck : Held S) → deck.live ≡ true → DeckRan {L = L} left taken faults deck deck []
+  deck-begins left taken faults deck live = record {
+    reads = λ items told. (items, told, refl, (λ e. absurd cc));
+    all = λ e. absurd cc;
+    counts = same≤ (faults deck.source);
+    failed = λ e. absurd cc;
+    limit = λ e. absurd cc;
+    longer = λ few over. absurd (omega (arith, few, over));
+    total = refl;
+    live = λ none. live;
   }
 
-  printer-begins : PrinterRan given sink_faults row.paper row.paper []
-  printer-begins = record {
-    gate = (refl, ap (λ e. e.gate) (begins.printer_end ∙ fresh.lines_receiver) ∙ sym begins.printer_gate);
-    calls = ap (λ e. e.calls) (begins.printer_end ∙ fresh.lines_receiver);
-    paper = paper-begins given sink_faults row.paper.paper (ap (λ p. p.live) begins.paper_is ∙ paper_live);
+  paper-begins : {K : Type 0} (given : K → Option (List ℕ)) (faults : K → ℕ) (paper : Printing K) → paper.live ≡ true → PaperRan {L = L} given faults paper paper []
+  paper-begins given faults paper live = record {
+    prints = λ before told. ([], nothing-gained (given paper.sink) before told, ([], refl), (λ none. refl));
+    untold = λ none. none;
+    counts = same≤ (faults paper.sink);
+    failed = λ e. absurd cc;
+    live = λ none. live;
   }
 
-  input-begins : InputRan from_size (input_connected row.pages) (input_connected row.pages) []
-  input-begins = record {
-    from_gate = (refl, ap (λ e. e.gate) (begins.input_from_end ∙ fresh.cards_receiver) ∙ sym begins.input_from_gate);
-    from_calls = ap (λ e. e.calls) (begins.input_from_end ∙ fresh.cards_receiver);
-    to_gate = (refl, ap (λ e. e.gate) (begins.input_to_end ∙ fresh.input_sender) ∙ ap (λ g. known (from_size g.area) g) (sym begins.input_to_gate));
-    to_calls = ap (λ e. e.calls) (begins.input_to_end ∙ fresh.input_sender);
-    desk = desk-begins gates.disk row.pages.disk 1 row.pages.seat begins.input_disk (begins.input_seat ∙ fresh.seats.input);
+  files-begin : {F : Type 0} (loader : Loading L F) (files : F) → loader.IsSound files → FilesRan {L = L} loader files files []
+  files-begin loader files sound = record {
+    stay = refl;
+    found_stay = refl;
+    loads = λ found told. tt;
+    counts = same≤ (loader.faults files);
+    failed = λ e. absurd cc;
+    sound = λ none. sound;
   }
 
-  job-begins : JobRan from_size to_size file_pages file_faults (job_connected row.jobs) (job_connected row.jobs) []
-  job-begins = record {
-    from_gate = (refl, ap (λ e. e.gate) (begins.job_from_end ∙ fresh.input_receiver) ∙ ap (λ g. known (from_size g.area) g) (sym begins.job_from_gate));
-    from_calls = ap (λ e. e.calls) (begins.job_from_end ∙ fresh.input_receiver);
-    to_gate = (refl, ap (λ e. e.gate) (begins.job_to_end ∙ fresh.output_sender) ∙ ap (λ g. known (to_size g.area) g) (sym begins.job_to_gate));
-    to_calls = ap (λ e. e.calls) (begins.job_to_end ∙ fresh.output_sender);
-    desk = desk-begins gates.disk row.jobs.disk 2 row.jobs.seat begins.job_disk (begins.job_seat ∙ fresh.seats.job);
-    files = files-begin file_pages file_faults row.jobs.files (ap (λ f. f.sound) begins.files_are ∙ files_sound);
-  }
-
-  output-begins : OutputRan to_size (output_connected row.lines) (output_connected row.lines) []
-  output-begins = record {
-    from_gate = (refl, ap (λ e. e.gate) (begins.output_from_end ∙ fresh.output_receiver) ∙ ap (λ g. known (to_size g.area) g) (sym begins.output_from_gate));
-    from_calls = ap (λ e. e.calls) (begins.output_from_end ∙ fresh.output_receiver);
-    to_gate = (refl, ap (λ e. e.gate) (begins.output_to_end ∙ fresh.lines_sender) ∙ sym begins.output_to_gate);
-    to_calls = ap (λ e. e.calls) (begins.output_to_end ∙ fresh.lines_sender);
-    desk = desk-begins gates.disk row.lines.disk 3 row.lines.seat begins.output_disk (begins.output_seat ∙ fresh.seats.output);
-  }
-
-  pub row-begins : RowBegins left taken source_faults given sink_faults from_size to_size file_pages file_faults row
-  row-begins = record {
-    front_begins = record { cards_begin = card-begins; pages_begin = input-begins };
-    rest_begins = record {
-      jobs_begin = job-begins;
-      back_begins = record { lines_begin = output-begins; paper_begins = printer-begins };
+  desk-begins : (desk : Desk) (disk : Bor DiskResource) (number : ℕ) (seat : Seat) → disk.now ≡ desk → seat ≡ fresh_seat desk number
+      → DeskRan {L = L} (at_desk disk seat) (at_desk disk seat) []
+  desk-begins desk disk number seat same is = record {
+    same = (refl, refl);
+    at = record {
+      gate = ap (λ s. s.gate) is ∙ sym (ap (λ d. d.gate) same);
+      alone = ap (λ s. s.joined) is;
+      grant = ap (λ s. has_grant s.calls) is;
+      pass = refl;
     };
   }
+
+  module _ {S K F A B : Type 0} (left : S → Option (List ℕ)) (taken source_faults : S → ℕ) (given : K → Option (List ℕ)) (sink_faults : K → ℕ)
+      (loader : Loading L F) (from_size : A → ℕ) (to_size : B → ℕ) (gates : Gates A B) (ends : Ends A B)
+      (deck : Held S) (paper : Printing K) (files : F) (row : Row S K F A B)
+      (fresh : AreFresh (from_size gates.input.area) (to_size gates.output.area) gates ends) (begins : BeginsBy gates ends deck paper files row)
+      (deck_live : deck.live ≡ true) (paper_live : paper.live ≡ true) (files_sound : loader.IsSound files) where
+    card-begins : CardRan {L = L} left taken source_faults row.cards row.cards []
+    card-begins = record {
+      gate = (refl, ap (λ e. e.gate) (begins.card_end ∙ fresh.cards_sender) ∙ sym begins.card_gate);
+      calls = ap (λ e. e.calls) (begins.card_end ∙ fresh.cards_sender);
+      deck = deck-begins left taken source_faults row.cards.deck (ap (λ d. d.live) begins.deck_is ∙ deck_live);
+    }
+
+    printer-begins : PrinterRan {L = L} given sink_faults row.paper row.paper []
+    printer-begins = record {
+      gate = (refl, ap (λ e. e.gate) (begins.printer_end ∙ fresh.lines_receiver) ∙ sym begins.printer_gate);
+      calls = ap (λ e. e.calls) (begins.printer_end ∙ fresh.lines_receiver);
+      paper = paper-begins given sink_faults row.paper.paper (ap (λ p. p.live) begins.paper_is ∙ paper_live);
+    }
+
+    input-begins : InputRan {L = L} from_size (input_connected row.pages) (input_connected row.pages) []
+    input-begins = record {
+      from_gate = (refl, ap (λ e. e.gate) (begins.input_from_end ∙ fresh.cards_receiver) ∙ sym begins.input_from_gate);
+      from_calls = ap (λ e. e.calls) (begins.input_from_end ∙ fresh.cards_receiver);
+      to_gate = (refl, ap (λ e. e.gate) (begins.input_to_end ∙ fresh.input_sender) ∙ ap (λ g. known (from_size g.area) g) (sym begins.input_to_gate));
+      to_calls = ap (λ e. e.calls) (begins.input_to_end ∙ fresh.input_sender);
+      desk = desk-begins gates.disk row.pages.disk 1 row.pages.seat begins.input_disk (begins.input_seat ∙ fresh.seats.input);
+    }
+
+    job-begins : JobRan {L = L} loader from_size to_size (job_connected row.jobs) (job_connected row.jobs) []
+    job-begins = record {
+      from_gate = (refl, ap (λ e. e.gate) (begins.job_from_end ∙ fresh.input_receiver) ∙ ap (λ g. known (from_size g.area) g) (sym begins.job_from_gate));
+      from_calls = ap (λ e. e.calls) (begins.job_from_end ∙ fresh.input_receiver);
+      to_gate = (refl, ap (λ e. e.gate) (begins.job_to_end ∙ fresh.output_sender) ∙ ap (λ g. known (to_size g.area) g) (sym begins.job_to_gate));
+      to_calls = ap (λ e. e.calls) (begins.job_to_end ∙ fresh.output_sender);
+      desk = desk-begins gates.disk row.jobs.disk 2 row.jobs.seat begins.job_disk (begins.job_seat ∙ fresh.seats.job);
+      files = files-begin loader row.jobs.files (subst loader.IsSound (sym begins.files_are) files_sound);
+    }
+
+    output-begins : OutputRan {L = L} to_size (output_connected row.lines) (output_connected row.lines) []
+    output-begins = record {
+      from_gate = (refl, ap (λ e. e.gate) (begins.output_from_end ∙ fresh.output_receiver) ∙ ap (λ g. known (to_size g.area) g) (sym begins.output_from_gate));
+      from_calls = ap (λ e. e.calls) (begins.output_from_end ∙ fresh.output_receiver);
+      to_gate = (refl, ap (λ e. e.gate) (begins.output_to_end ∙ fresh.lines_sender) ∙ sym begins.output_to_gate);
+      to_calls = ap (λ e. e.calls) (begins.output_to_end ∙ fresh.lines_sender);
+      desk = desk-begins gates.disk row.lines.disk 3 row.lines.seat begins.output_disk (begins.output_seat ∙ fresh.seats.output);
+    }
+
+    pub row-begins : RowBegins J left taken source_faults given sink_faults loader from_size to_size row
+    row-begins = record {
+      front_begins = record { cards_begin = card-begins; pages_begin = input-begins };
+      rest_begins = record {
+        jobs_begin = job-begins;
+        back_begins = record { lines_begin = output-begins; paper_begins = printer-begins };
+      };
+    }

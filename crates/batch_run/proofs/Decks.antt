@@ -12,7 +12,7 @@ use Rattle.batch_procs.specs.Causes.{caused, or_new, fault_read}
 use Rattle.batch_procs.specs.Parts.{some-same}
 use Rattle.solo_base.specs.declared.outcome.Outcome.{Outcome}
 use Rattle.batch_run.specs.Cards.{DeckRan, cards_read}
-use Rattle.disk_system.specs.declared.loading.Loaded.{Loaded}
+use Rattle.batch_procs.specs.Jobs.{Jobs, AreJobs}
 
 pub rose-later : (start old new : ℕ) → start ≤ old → Rose old new → Rose start new
 rose-later start old new later rose = omega (arith, later, rose)
@@ -35,28 +35,29 @@ no-item read.End items rest parts none = sym parts ∙ none
 no-item read.Failed items rest parts none = sym parts ∙ none
 no-item read.Limit items rest parts none = sym parts ∙ none
 
-module _ {S : Type 0} {left : S → Option (List ℕ)} {taken faults : S → ℕ} (start old new : Held S) (h : List (Entry Loaded)) (answer : CardRead) where
-  pub deck-read : DeckRan left taken faults start old h
-      → GivesNext (items_ahead (left old.source) old.pending) (items_ahead (left new.source) new.pending) answer
-      → (answer ≡ read.End → IsAllTaken (left new.source)) → faults old.source ≤ faults new.source
-      → (answer ≡ read.Failed → Rose (faults old.source) (faults new.source)) → ((answer ≡ read.Limit) ↔ (byte_limit < taken new.source))
-      → (answer ≢ read.Failed → answer ≢ read.Limit → new.live ≡ true)
-      → bytes_total (taken new.source) (left new.source) ≡ bytes_total (taken old.source) (left old.source)
-      → DeckRan left taken faults start new (Does act.ReadCard (reply.Card answer) ∷ h)
-  deck-read ran next all counts failed limit live total = record {
-    reads = λ items told.
-        let (rest, ahead, parts, end) = ran.reads items told in
-        let takes = next.told rest ahead in (
-          takes.rest,
-          takes.now_are,
-          parts ∙ ap (λ rest. cards_read h ++ rest) takes.items_are ∙ sym (append_assoc (cards_read h) (item_of answer) takes.rest),
-          (λ is. no-item answer rest takes.rest takes.items_are (takes.end (some-same answer read.End is))),
-        );
-    all = λ is. all (some-same answer read.End is);
-    counts = let later = ran.counts in omega (arith, later, counts);
-    failed = λ is. rose-later (faults start.source) (faults old.source) (faults new.source) ran.counts (failed (some-same answer read.Failed is));
-    limit = λ is. limit.0 (some-same answer read.Limit is);
-    longer = λ few over. ap Some (limit.1 over);
-    total = total ∙ ran.total;
-    live = λ none. (let not = not-failed answer (new-none (caused h) (fault_read answer) none) in live not.0 not.1);
-  }
+module _ {L : Type 0} {J : Jobs L} (jobs : AreJobs J) where
+  module _ {S : Type 0} {left : S → Option (List ℕ)} {taken faults : S → ℕ} (start old new : Held S) (h : List (Entry L)) (answer : CardRead) where
+    pub deck-read : DeckRan left taken faults start old h
+        → GivesNext (items_ahead (left old.source) old.pending) (items_ahead (left new.source) new.pending) answer
+        → (answer ≡ read.End → IsAllTaken (left new.source)) → faults old.source ≤ faults new.source
+        → (answer ≡ read.Failed → Rose (faults old.source) (faults new.source)) → ((answer ≡ read.Limit) ↔ (byte_limit < taken new.source))
+        → (answer ≢ read.Failed → answer ≢ read.Limit → new.live ≡ true)
+        → bytes_total (taken new.source) (left new.source) ≡ bytes_total (taken old.source) (left old.source)
+        → DeckRan left taken faults start new (Does act.ReadCard (reply.Card answer) ∷ h)
+    deck-read ran next all counts failed limit live total = record {
+      reads = λ items told.
+          let (rest, ahead, parts, end) = ran.reads items told in
+          let takes = next.told rest ahead in (
+            takes.rest,
+            takes.now_are,
+            parts ∙ ap (λ rest. cards_read h ++ rest) takes.items_are ∙ sym (append_assoc (cards_read h) (item_of answer) takes.rest),
+            (λ is. no-item answer rest takes.rest takes.items_are (takes.end (some-same answer read.End is))),
+          );
+      all = λ is. all (some-same answer read.End is);
+      counts = let later = ran.counts in omega (arith, later, counts);
+      failed = λ is. rose-later (faults start.source) (faults old.source) (faults new.source) ran.counts (failed (some-same answer read.Failed is));
+      limit = λ is. limit.0 (some-same answer read.Limit is);
+      longer = λ few over. ap Some (limit.1 over);
+      total = total ∙ ran.total;
+      live = λ none. (let not = not-failed answer (new-none (caused h) (fault_read answer) none) in live not.0 not.1);
+    }

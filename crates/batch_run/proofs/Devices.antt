@@ -32,171 +32,171 @@ use Rattle.core_law.proofs.Streams.{deck_parcels, text_of, ReadsOf, Gained}
 use Rattle.batch_run.specs.Cards.{cards_read, newest_read}
 use Rattle.batch_run.specs.Lines.{text_tried}
 use Rattle.batch_run.proofs.Decks.{new-none}
-use Rattle.disk_system.specs.declared.loading.Loaded.{Loaded}
-use Rattle.deck_work.specs.DeckJobs.{deck_jobs, deck_are_jobs}
-
--- ---- the deck
--- items as they are taken, without an end
-abbrev item_parcels : List Item → List (Parcel Loaded)
-item_parcels [] = []
-item_parcels (item ∷ rest) = OfFeed (feed.Item item) ∷ item_parcels rest
-
-items-append : (some more : List Item) → item_parcels (some ++ more) ≡ item_parcels some ++ item_parcels more
-items-append [] more = refl
-items-append (item ∷ some) more = ap (λ rest. OfFeed (feed.Item item) ∷ rest) (items-append some more)
-
-deck-append : (some rest : List Item) → item_parcels some ++ deck_parcels deck_are_jobs rest ≡ deck_parcels deck_are_jobs (some ++ rest)
-deck-append [] rest = refl
-deck-append (item ∷ some) rest = ap (λ more. OfFeed (feed.Item item) ∷ more) (deck-append some rest)
-
--- before the end: the items that were read; behind it: they and the end
-pub record CardsTaken (h : List (Entry Loaded)) : Type 0 where
-  pub goes_on : is_ended (taken h) ≡ false → taken h ≡ item_parcels (cards_read h)
-  pub ended : is_ended (taken h) ≡ true → (taken h ≡ item_parcels (cards_read h) ++ OfFeed feed.End ∷ []) × (newest_read h ≡ Some read.End)
+use Rattle.batch_procs.specs.Jobs.{Jobs, AreJobs}
 
 true-false : (t : Bool) → t ≡ true → t ≡ false → ⊥
 true-false t a b = cc
 
-nothing-more : (h : List (Entry Loaded)) (more : List (Parcel Loaded)) → more ≡ [] → taken h ++ more ≡ taken h
-nothing-more h more none = ap (λ more. taken h ++ more) none ∙ append-nil (taken h)
+module _ {L : Type 0} {J : Jobs L} (jobs : AreJobs J) where
+  -- ---- the deck
+  -- items as they are taken, without an end
+  abbrev item_parcels : List Item → List (Parcel L)
+  item_parcels [] = []
+  item_parcels (item ∷ rest) = OfFeed (feed.Item item) ∷ item_parcels rest
 
-same-taken : (h : List (Entry Loaded)) (entry : Entry Loaded) → taken (entry ∷ h) ≡ taken h → cards_read (entry ∷ h) ≡ cards_read h
-    → newest_read (entry ∷ h) ≡ newest_read h → CardsTaken h → CardsTaken (entry ∷ h)
-same-taken h entry took cards newest before = record {
-  goes_on = λ e. took ∙ before.goes_on (ap is_ended (sym took) ∙ e) ∙ ap item_parcels (sym cards);
-  ended = λ e. (let all = before.ended (ap is_ended (sym took) ∙ e) in
-      (took ∙ all.0 ∙ ap (λ cards. item_parcels cards ++ OfFeed feed.End ∷ []) (sym cards), newest ∙ all.1));
-}
+  items-append : (some more : List Item) → item_parcels (some ++ more) ≡ item_parcels some ++ item_parcels more
+  items-append [] more = refl
+  items-append (item ∷ some) more = ap (λ rest. OfFeed (feed.Item item) ∷ rest) (items-append some more)
 
-one-item : (h : List (Entry Loaded)) (answer : CardRead) (item : Item) → card_taken {L = Loaded} answer ≡ OfFeed (feed.Item item) ∷ [] → item_of answer ≡ item ∷ []
-    → is_ended (taken h) ≡ false → CardsTaken h → CardsTaken (Does act.ReadCard (reply.Card answer) ∷ h)
-one-item h answer item took gave goes_on before =
-    let now : taken h ++ card_taken answer ≡ item_parcels (cards_read h ++ item_of answer) =
-    ap (λ front. front ++ card_taken answer) (before.goes_on goes_on) ∙ ap (λ more. item_parcels (cards_read h) ++ more) took
-    ∙ sym (items-append (cards_read h) (item ∷ [])) ∙ ap (λ more. item_parcels (cards_read h ++ more)) (sym gave) in
-    let open_still : is_ended (taken h ++ card_taken answer) ≡ false =
-    ended-more deck_are_jobs (taken h) (card_taken answer) ∙ rw (goes_on, took) refl in
-    record {
-      goes_on = λ e. now;
-      ended = λ e. absurd (true-false (is_ended (taken h ++ card_taken answer)) e open_still);
-    }
+  deck-append : (some rest : List Item) → item_parcels some ++ deck_parcels jobs rest ≡ deck_parcels jobs (some ++ rest)
+  deck-append [] rest = refl
+  deck-append (item ∷ some) rest = ap (λ more. OfFeed (feed.Item item) ∷ more) (deck-append some rest)
 
-card-taken : (h : List (Entry Loaded)) (answer : CardRead) → is_ended (taken h) ≡ false → CardsTaken h → CardsTaken (Does act.ReadCard (reply.Card answer) ∷ h)
-card-taken h (read.Card line) goes_on before = one-item h (read.Card line) (Line line) refl refl goes_on before
-card-taken h read.Spoiled goes_on before = one-item h read.Spoiled Spoiled refl refl goes_on before
-card-taken h read.End goes_on before =
-    let none = append-nil (cards_read h) in
-    let now : is_ended (taken h ++ OfFeed feed.End ∷ []) ≡ true = ended-more deck_are_jobs (taken h) (OfFeed feed.End ∷ []) ∙ rw goes_on refl in
-    record {
-      goes_on = λ e. absurd (true-false (is_ended (taken h ++ OfFeed feed.End ∷ [])) now e);
-      ended = λ e. (ap (λ front. front ++ OfFeed feed.End ∷ []) (before.goes_on goes_on ∙ ap item_parcels (sym none)), refl);
-    }
-card-taken h read.Failed goes_on before =
-    let same = append-nil (taken h) in
-    let none = append-nil (cards_read h) in
-    record {
-      goes_on = λ e. same ∙ before.goes_on goes_on ∙ ap item_parcels (sym none);
-      ended = λ e. absurd (true-false (is_ended (taken h)) (ap is_ended (sym same) ∙ e) goes_on);
-    }
-card-taken h read.Limit goes_on before =
-    let same = append-nil (taken h) in
-    let none = append-nil (cards_read h) in
-    record {
-      goes_on = λ e. same ∙ before.goes_on goes_on ∙ ap item_parcels (sym none);
-      ended = λ e. absurd (true-false (is_ended (taken h)) (ap is_ended (sym same) ∙ e) goes_on);
-    }
+  -- before the end: the items that were read; behind it: they and the end
+  pub record CardsTaken (h : List (Entry L)) : Type 0 where
+    pub goes_on : is_ended (taken h) ≡ false → taken h ≡ item_parcels (cards_read h)
+    pub ended : is_ended (taken h) ≡ true → (taken h ≡ item_parcels (cards_read h) ++ OfFeed feed.End ∷ []) × (newest_read h ≡ Some read.End)
 
-card-other : (h : List (Entry Loaded)) (a : Action) (r : Reply Loaded) → Follows deck_jobs card h → next_action card h ≡ Some a → Fits deck_jobs a r
-    → CardsTaken h → CardsTaken (Does a r ∷ h)
-card-other h act.ReadCard (reply.Card answer) follows next fits before = card-taken h answer
-    (next-take deck_are_jobs card h act.ReadCard next tt).goes_on before
-card-other h act.ReadCard r follows next fits before = absurd fits
-card-other h act.TakeFeed r follows next fits before = absurd (let e = (next-take deck_are_jobs card h act.TakeFeed next tt).same in cc)
-card-other h act.TakePage r follows next fits before = absurd (let e = (next-take deck_are_jobs card h act.TakePage next tt).same in cc)
-card-other h (act.Load file) r follows next fits before = absurd (wants-none deck_are_jobs card h file (card-relay Loaded) follows (λ all. refl) next)
-card-other h a r follows next fits before = same-taken h (Does a r) (nothing-more h (taken_by r) (plain-reply deck_are_jobs a r fits tt)) refl refl before
+  nothing-more : (h : List (Entry L)) (more : List (Parcel L)) → more ≡ [] → taken h ++ more ≡ taken h
+  nothing-more h more none = ap (λ more. taken h ++ more) none ∙ append-nil (taken h)
 
-pub cards-taken : (h : List (Entry Loaded)) → Follows deck_jobs card h → CardsTaken h
-cards-taken [] follows = record { goes_on = λ e. refl; ended = λ e. absurd cc }
-cards-taken (Does a r ∷ h) follows = card-other h a r follows.2 follows.0 follows.1 (cards-taken h follows.2)
-cards-taken (LacksMemory a r ∷ h) follows = absurd (let no = follows.1.0 in cc)
-cards-taken (Delays a ∷ h) follows =
-    (let before = cards-taken h follows.2 in record { goes_on = before.goes_on; ended = before.ended })
-
-pub deck-reads : (h : List (Entry Loaded)) (items rest : List Item) (deck : Option (List Item)) → Follows deck_jobs card h → deck ≡ Some rest
-    → items ≡ cards_read h ++ rest
-    → (newest_read h ≡ Some read.End → rest ≡ []) → ReadsOf deck_are_jobs items deck (taken h)
-deck-reads h items rest deck follows now parts last =
-    let all = cards-taken h follows in
-    let whole : item_parcels (cards_read h) ++ deck_parcels deck_are_jobs rest ≡ deck_parcels deck_are_jobs items = deck-append (cards_read h) rest
-    ∙ ap (deck_parcels deck_are_jobs) (sym parts) in
-    record {
-      left = rest;
-      left_is = now;
-      parts = λ e. ap (λ front. front ++ deck_parcels deck_are_jobs rest) (all.goes_on e) ∙ whole;
-      whole = λ e. (let ended = all.ended e in let none = last ended.1 in
-          (ended.0 ∙ ap (λ left. item_parcels (cards_read h) ++ deck_parcels deck_are_jobs left) (sym none) ∙ whole, none));
-    }
-
--- ---- the paper
-one-line : (line : List ℕ) (st : List (Parcel Loaded)) → text_of deck_are_jobs (st ++ OfLine line ∷ []) ≡ text_of deck_are_jobs st ++ line_text line
-one-line line st = text-more deck_are_jobs st (OfLine line ∷ []) ∙ ap (λ last. text_of deck_are_jobs st ++ last) (append-nil (line_text line))
-
-print-done : (line : List ℕ) (r : Reply Loaded) (h : List (Entry Loaded)) → Fits deck_jobs (act.Print line) r → given_cause (act.Print line) r h ≡ None
-    → r ≡ reply.Done
-print-done line reply.Done h fits none = refl
-print-done line reply.Failed h fits none = absurd cc
-print-done line reply.NoMemory h fits none = absurd cc
-print-done line r h fits none = absurd fits
-
-module _ (p : Process Loaded) (relay : IsRelay p) where
-  -- without a cause all that was tried was printed
-  tried-other : (a : Action) (r : Reply Loaded) (h : List (Entry Loaded)) → IsNoPrint a → text_tried h ≡ text_of deck_are_jobs (sent h)
-      → text_tried h ≡ text_of deck_are_jobs (sent h ++ put_by a r)
-  tried-other a r h is before =
-      before ∙ sym (text-more deck_are_jobs (sent h) (put_by a r) ∙ ap (λ more. text_of deck_are_jobs (sent h) ++ more)
-      (entry-no_text deck_are_jobs (Does a r) is) ∙ append-nil (text_of deck_are_jobs (sent h)))
-
-  pub tried-sent : (h : List (Entry Loaded)) → Follows deck_jobs p h → caused h ≡ None → text_tried h ≡ text_of deck_are_jobs (sent h)
-  tried-sent [] follows none = refl
-  tried-sent (Does (act.Print line) r ∷ h) follows none =
-      let done = print-done line r h follows.1 (new-none (caused h) (given_cause (act.Print line) r h) none) in
-      ap (λ front. front ++ line_text line) (tried-sent h follows.2 (or-none (caused h) (given_cause (act.Print line) r h) none))
-      ∙ sym (one-line line (sent h)) ∙ ap (λ r. text_of deck_are_jobs (sent h ++ put_by (act.Print line) r)) (sym done)
-  tried-sent (Does a r ∷ h) follows none = tried-other a r h tt (tried-sent h follows.2 (or-none (caused h) (given_cause a r h) none))
-  tried-sent (LacksMemory a r ∷ h) follows none = absurd (some-not_none (caused h) _ none)
-  tried-sent (Delays a ∷ h) follows none = tried-sent h follows.2 none
-
-  -- and what was tried is a part of what is due
-  still-part : (h : List (Entry Loaded)) (more : List (Parcel Loaded)) → IsPrefixOf (text_tried h) (text_of deck_are_jobs (p.sends (taken h)))
-      → IsPrefixOf (text_tried h) (text_of deck_are_jobs (p.sends (taken h ++ more)))
-  still-part h more part = prefix-longer _ _ _ part (text-part deck_are_jobs _ _ (relay.monotone (taken h) more))
-
-  line-part : (line : List ℕ) (r : Reply Loaded) (h : List (Entry Loaded)) → Follows deck_jobs p h → next_action p h ≡ Some (act.Print line)
-      → IsPrefixOf (text_tried h ++ line_text line) (text_of deck_are_jobs (p.sends (taken h ++ taken_by r)))
-  line-part line r h follows next =
-      let before = tried-sent h follows (open-next deck_jobs p h (act.Print line) next tt) in
-      let now : text_tried h ++ line_text line ≡ text_of deck_are_jobs (sent h ++ OfLine line ∷ []) =
-      ap (λ front. front ++ line_text line) before ∙ sym (one-line line (sent h)) in
-      let whole = text-part deck_are_jobs (sent h ++ OfLine line ∷ []) (p.sends (taken h ++ []))
-      (sent-is-part deck_jobs p (Does (act.Print line) reply.Done ∷ h) relay (next, tt, follows)) in
-      subst (λ text. IsPrefixOf text (text_of deck_are_jobs (p.sends (taken h ++ taken_by r)))) (sym now)
-      (prefix-longer _ _ _ (subst (λ all. IsPrefixOf (text_of deck_are_jobs (sent h ++ OfLine line ∷ [])) (text_of deck_are_jobs (p.sends all)))
-      (append-nil (taken h)) whole)
-      (text-part deck_are_jobs _ _ (relay.monotone (taken h) (taken_by r))))
-
-  pub tried-part : (h : List (Entry Loaded)) → Follows deck_jobs p h → IsPrefixOf (text_tried h) (text_of deck_are_jobs (p.sends (taken h)))
-  tried-part [] follows = (text_of deck_are_jobs (p.sends []), refl)
-  tried-part (Does (act.Print line) r ∷ h) follows = line-part line r h follows.2 follows.0
-  tried-part (Does a r ∷ h) follows = still-part h (taken_by r) (tried-part h follows.2)
-  tried-part (LacksMemory a r ∷ h) follows = still-part h (taken_by r) (tried-part h follows.2)
-  tried-part (Delays a ∷ h) follows = tried-part h follows.2
-
-  pub paper-gained : (h : List (Entry Loaded)) (given gained : List ℕ) (paper : Option (List ℕ)) → Follows deck_jobs p h → paper ≡ Some (given ++ gained)
-      → IsPrefixOf gained (text_tried h) → (caused h ≡ None → gained ≡ text_tried h) → Gained deck_are_jobs given paper p.sends h
-  paper-gained h given gained paper follows now part all = record {
-    gained = gained;
-    paper_is = now;
-    printed = λ none. all none ∙ tried-sent h follows none;
-    part = prefix-longer _ _ _ part (tried-part h follows);
+  same-taken : (h : List (Entry L)) (entry : Entry L) → taken (entry ∷ h) ≡ taken h → cards_read (entry ∷ h) ≡ cards_read h
+      → newest_read (entry ∷ h) ≡ newest_read h → CardsTaken h → CardsTaken (entry ∷ h)
+  same-taken h entry took cards newest before = record {
+    goes_on = λ e. took ∙ before.goes_on (ap is_ended (sym took) ∙ e) ∙ ap item_parcels (sym cards);
+    ended = λ e. (let all = before.ended (ap is_ended (sym took) ∙ e) in
+        (took ∙ all.0 ∙ ap (λ cards. item_parcels cards ++ OfFeed feed.End ∷ []) (sym cards), newest ∙ all.1));
   }
+
+  one-item : (h : List (Entry L)) (answer : CardRead) (item : Item) → card_taken {L = L} answer ≡ OfFeed (feed.Item item) ∷ [] → item_of answer ≡ item ∷ []
+      → is_ended (taken h) ≡ false → CardsTaken h → CardsTaken (Does act.ReadCard (reply.Card answer) ∷ h)
+  one-item h answer item took gave goes_on before =
+      let now : taken h ++ card_taken answer ≡ item_parcels (cards_read h ++ item_of answer) =
+      ap (λ front. front ++ card_taken answer) (before.goes_on goes_on) ∙ ap (λ more. item_parcels (cards_read h) ++ more) took
+      ∙ sym (items-append (cards_read h) (item ∷ [])) ∙ ap (λ more. item_parcels (cards_read h ++ more)) (sym gave) in
+      let open_still : is_ended (taken h ++ card_taken answer) ≡ false =
+      ended-more jobs (taken h) (card_taken answer) ∙ rw (goes_on, took) refl in
+      record {
+        goes_on = λ e. now;
+        ended = λ e. absurd (true-false (is_ended (taken h ++ card_taken answer)) e open_still);
+      }
+
+  card-taken : (h : List (Entry L)) (answer : CardRead) → is_ended (taken h) ≡ false → CardsTaken h → CardsTaken (Does act.ReadCard (reply.Card answer) ∷ h)
+  card-taken h (read.Card line) goes_on before = one-item h (read.Card line) (Line line) refl refl goes_on before
+  card-taken h read.Spoiled goes_on before = one-item h read.Spoiled Spoiled refl refl goes_on before
+  card-taken h read.End goes_on before =
+      let none = append-nil (cards_read h) in
+      let now : is_ended (taken h ++ OfFeed feed.End ∷ []) ≡ true = ended-more jobs (taken h) (OfFeed feed.End ∷ []) ∙ rw goes_on refl in
+      record {
+        goes_on = λ e. absurd (true-false (is_ended (taken h ++ OfFeed feed.End ∷ [])) now e);
+        ended = λ e. (ap (λ front. front ++ OfFeed feed.End ∷ []) (before.goes_on goes_on ∙ ap item_parcels (sym none)), refl);
+      }
+  card-taken h read.Failed goes_on before =
+      let same = append-nil (taken h) in
+      let none = append-nil (cards_read h) in
+      record {
+        goes_on = λ e. same ∙ before.goes_on goes_on ∙ ap item_parcels (sym none);
+        ended = λ e. absurd (true-false (is_ended (taken h)) (ap is_ended (sym same) ∙ e) goes_on);
+      }
+  card-taken h read.Limit goes_on before =
+      let same = append-nil (taken h) in
+      let none = append-nil (cards_read h) in
+      record {
+        goes_on = λ e. same ∙ before.goes_on goes_on ∙ ap item_parcels (sym none);
+        ended = λ e. absurd (true-false (is_ended (taken h)) (ap is_ended (sym same) ∙ e) goes_on);
+      }
+
+  card-other : (h : List (Entry L)) (a : Action) (r : Reply L) → Follows J card h → next_action card h ≡ Some a → Fits J a r
+      → CardsTaken h → CardsTaken (Does a r ∷ h)
+  card-other h act.ReadCard (reply.Card answer) follows next fits before = card-taken h answer
+      (next-take jobs card h act.ReadCard next tt).goes_on before
+  card-other h act.ReadCard r follows next fits before = absurd fits
+  card-other h act.TakeFeed r follows next fits before = absurd (let e = (next-take jobs card h act.TakeFeed next tt).same in cc)
+  card-other h act.TakePage r follows next fits before = absurd (let e = (next-take jobs card h act.TakePage next tt).same in cc)
+  card-other h (act.Load file) r follows next fits before = absurd (wants-none jobs card h file (card-relay L) follows (λ all. refl) next)
+  card-other h a r follows next fits before = same-taken h (Does a r) (nothing-more h (taken_by r) (plain-reply jobs a r fits tt)) refl refl before
+
+  pub cards-taken : (h : List (Entry L)) → Follows J card h → CardsTaken h
+  cards-taken [] follows = record { goes_on = λ e. refl; ended = λ e. absurd cc }
+  cards-taken (Does a r ∷ h) follows = card-other h a r follows.2 follows.0 follows.1 (cards-taken h follows.2)
+  cards-taken (LacksMemory a r ∷ h) follows = absurd (let no = follows.1.0 in cc)
+  cards-taken (Delays a ∷ h) follows =
+      (let before = cards-taken h follows.2 in record { goes_on = before.goes_on; ended = before.ended })
+
+  pub deck-reads : (h : List (Entry L)) (items rest : List Item) (deck : Option (List Item)) → Follows J card h → deck ≡ Some rest
+      → items ≡ cards_read h ++ rest
+      → (newest_read h ≡ Some read.End → rest ≡ []) → ReadsOf jobs items deck (taken h)
+  deck-reads h items rest deck follows now parts last =
+      let all = cards-taken h follows in
+      let whole : item_parcels (cards_read h) ++ deck_parcels jobs rest ≡ deck_parcels jobs items = deck-append (cards_read h) rest
+      ∙ ap (deck_parcels jobs) (sym parts) in
+      record {
+        left = rest;
+        left_is = now;
+        parts = λ e. ap (λ front. front ++ deck_parcels jobs rest) (all.goes_on e) ∙ whole;
+        whole = λ e. (let ended = all.ended e in let none = last ended.1 in
+            (ended.0 ∙ ap (λ left. item_parcels (cards_read h) ++ deck_parcels jobs left) (sym none) ∙ whole, none));
+      }
+
+  -- ---- the paper
+  one-line : (line : List ℕ) (st : List (Parcel L)) → text_of jobs (st ++ OfLine line ∷ []) ≡ text_of jobs st ++ line_text line
+  one-line line st = text-more jobs st (OfLine line ∷ []) ∙ ap (λ last. text_of jobs st ++ last) (append-nil (line_text line))
+
+  print-done : (line : List ℕ) (r : Reply L) (h : List (Entry L)) → Fits J (act.Print line) r → given_cause (act.Print line) r h ≡ None
+      → r ≡ reply.Done
+  print-done line reply.Done h fits none = refl
+  print-done line reply.Failed h fits none = absurd cc
+  print-done line reply.NoMemory h fits none = absurd cc
+  print-done line r h fits none = absurd fits
+
+  module _ (p : Process L) (relay : IsRelay p) where
+    -- without a cause all that was tried was printed
+    tried-other : (a : Action) (r : Reply L) (h : List (Entry L)) → IsNoPrint a → text_tried h ≡ text_of jobs (sent h)
+        → text_tried h ≡ text_of jobs (sent h ++ put_by a r)
+    tried-other a r h is before =
+        before ∙ sym (text-more jobs (sent h) (put_by a r) ∙ ap (λ more. text_of jobs (sent h) ++ more)
+        (entry-no_text jobs (Does a r) is) ∙ append-nil (text_of jobs (sent h)))
+
+    pub tried-sent : (h : List (Entry L)) → Follows J p h → caused h ≡ None → text_tried h ≡ text_of jobs (sent h)
+    tried-sent [] follows none = refl
+    tried-sent (Does (act.Print line) r ∷ h) follows none =
+        let done = print-done line r h follows.1 (new-none (caused h) (given_cause (act.Print line) r h) none) in
+        ap (λ front. front ++ line_text line) (tried-sent h follows.2 (or-none (caused h) (given_cause (act.Print line) r h) none))
+        ∙ sym (one-line line (sent h)) ∙ ap (λ r. text_of jobs (sent h ++ put_by (act.Print line) r)) (sym done)
+    tried-sent (Does a r ∷ h) follows none = tried-other a r h tt (tried-sent h follows.2 (or-none (caused h) (given_cause a r h) none))
+    tried-sent (LacksMemory a r ∷ h) follows none = absurd (some-not_none (caused h) _ none)
+    tried-sent (Delays a ∷ h) follows none = tried-sent h follows.2 none
+
+    -- and what was tried is a part of what is due
+    still-part : (h : List (Entry L)) (more : List (Parcel L)) → IsPrefixOf (text_tried h) (text_of jobs (p.sends (taken h)))
+        → IsPrefixOf (text_tried h) (text_of jobs (p.sends (taken h ++ more)))
+    still-part h more part = prefix-longer _ _ _ part (text-part jobs _ _ (relay.monotone (taken h) more))
+
+    line-part : (line : List ℕ) (r : Reply L) (h : List (Entry L)) → Follows J p h → next_action p h ≡ Some (act.Print line)
+        → IsPrefixOf (text_tried h ++ line_text line) (text_of jobs (p.sends (taken h ++ taken_by r)))
+    line-part line r h follows next =
+        let before = tried-sent h follows (open-next J p h (act.Print line) next tt) in
+        let now : text_tried h ++ line_text line ≡ text_of jobs (sent h ++ OfLine line ∷ []) =
+        ap (λ front. front ++ line_text line) before ∙ sym (one-line line (sent h)) in
+        let whole = text-part jobs (sent h ++ OfLine line ∷ []) (p.sends (taken h ++ []))
+        (sent-is-part J p (Does (act.Print line) reply.Done ∷ h) relay (next, tt, follows)) in
+        subst (λ text. IsPrefixOf text (text_of jobs (p.sends (taken h ++ taken_by r)))) (sym now)
+        (prefix-longer _ _ _ (subst (λ all. IsPrefixOf (text_of jobs (sent h ++ OfLine line ∷ [])) (text_of jobs (p.sends all)))
+        (append-nil (taken h)) whole)
+        (text-part jobs _ _ (relay.monotone (taken h) (taken_by r))))
+
+    pub tried-part : (h : List (Entry L)) → Follows J p h → IsPrefixOf (text_tried h) (text_of jobs (p.sends (taken h)))
+    tried-part [] follows = (text_of jobs (p.sends []), refl)
+    tried-part (Does (act.Print line) r ∷ h) follows = line-part line r h follows.2 follows.0
+    tried-part (Does a r ∷ h) follows = still-part h (taken_by r) (tried-part h follows.2)
+    tried-part (LacksMemory a r ∷ h) follows = still-part h (taken_by r) (tried-part h follows.2)
+    tried-part (Delays a ∷ h) follows = tried-part h follows.2
+
+    pub paper-gained : (h : List (Entry L)) (given gained : List ℕ) (paper : Option (List ℕ)) → Follows J p h → paper ≡ Some (given ++ gained)
+        → IsPrefixOf gained (text_tried h) → (caused h ≡ None → gained ≡ text_tried h) → Gained jobs given paper p.sends h
+    paper-gained h given gained paper follows now part all = record {
+      gained = gained;
+      paper_is = now;
+      printed = λ none. all none ∙ tried-sent h follows none;
+      part = prefix-longer _ _ _ part (tried-part h follows);
+    }

@@ -16,81 +16,81 @@ use Rattle.batch_procs.specs.Laws.{HasEnded}
 use Rattle.batch_procs.specs.Parts.{some-same}
 use Rattle.batch_procs.proofs.Holding.{none-next}
 use Rattle.batch_run.specs.Connections.{DoesOnly, Comes, Performs, EndsSo, end_of}
-use Rattle.disk_system.specs.declared.loading.Loaded.{Loaded}
-use Rattle.deck_work.specs.DeckJobs.{deck_jobs}
+use Rattle.batch_procs.specs.Jobs.{Jobs, AreJobs}
 
--- Both stand for a history that has not ended.
-pub record Going {W X : Type 0} (p : Process Loaded) (keeps : W → List (Parcel Loaded) → List (Parcel Loaded) → Bool → Type 0) (machine : Machine X W)
-    (Stands : List (Entry Loaded) → Type 0) : Type 0 where
-  pub history : List (Entry Loaded)
-  pub machine_stands : StandsFor deck_jobs p keeps machine history
-  pub connected : Stands history
-  pub goes_on : HasEnded history → ⊥
+module _ {L : Type 0} {J : Jobs L} (jobs : AreJobs J) where
+  -- Both stand for a history that has not ended.
+  pub record Going {W X : Type 0} (p : Process L) (keeps : W → List (Parcel L) → List (Parcel L) → Bool → Type 0) (machine : Machine X W)
+      (Stands : List (Entry L) → Type 0) : Type 0 where
+    pub history : List (Entry L)
+    pub machine_stands : StandsFor J p keeps machine history
+    pub connected : Stands history
+    pub goes_on : HasEnded history → ⊥
 
-next-here : (p : Process Loaded) (a : Action) (h : List (Entry Loaded)) → (HasEnded h → ⊥) → NextIs (next_action p h) a → next_action p h ≡ Some a
-next-here p a h goes_on is =
-    let P : Option Action → Type 0 = λ o. next_action p h ≡ o → NextIs o a → next_action p h ≡ Some a in
-    elim (next_action p h) as P [ None ↦ (λ e is. absurd (goes_on (none-next deck_jobs p h e))) | Some next ↦ (λ e is. e ∙ ap Some is) ] refl is
+  next-here : (p : Process L) (a : Action) (h : List (Entry L)) → (HasEnded h → ⊥) → NextIs (next_action p h) a → next_action p h ≡ Some a
+  next-here p a h goes_on is =
+      let P : Option Action → Type 0 = λ o. next_action p h ≡ o → NextIs o a → next_action p h ≡ Some a in
+      elim (next_action p h) as P [ None ↦ (λ e is. absurd (goes_on (none-next J p h e))) | Some next ↦ (λ e is. e ∙ ap Some is) ] refl is
 
-module _ {W X : Type 0} {p : Process Loaded} {keeps : W → List (Parcel Loaded) → List (Parcel Loaded) → Bool → Type 0} {machine : Machine X W} where
-  pub going-first : {Stands : List (Entry Loaded) → Type 0} → StandsFor deck_jobs p keeps machine [] → Stands [] → Going p keeps machine Stands
-  going-first stands connected = record { history = []; machine_stands = stands; connected = connected; goes_on = λ ended. (let e = ended.1 in absurd cc) }
+  module _ {W X : Type 0} {p : Process L} {keeps : W → List (Parcel L) → List (Parcel L) → Bool → Type 0} {machine : Machine X W} where
+    pub going-first : {Stands : List (Entry L) → Type 0} → StandsFor J p keeps machine [] → Stands [] → Going p keeps machine Stands
+    going-first stands connected = record { history = []; machine_stands = stands; connected = connected; goes_on = λ ended. (let e = ended.1 in absurd cc) }
 
-  module _ {q : Process Loaded} {Stands : List (Entry Loaded) → Type 0} {a : Action} (same : q ≡ p) (going : Going p keeps machine Stands)
-      (next : (h : List (Entry Loaded)) → StandsFor deck_jobs p keeps machine h → NextIs (next_action p h) a) where
-    pub next-now : next_action p going.history ≡ Some a
-    next-now = next-here p a going.history going.goes_on (next going.history going.machine_stands)
+    module _ {q : Process L} {Stands : List (Entry L) → Type 0} {a : Action} (same : q ≡ p) (going : Going p keeps machine Stands)
+        (next : (h : List (Entry L)) → StandsFor J p keeps machine h → NextIs (next_action p h) a) where
+      pub next-now : next_action p going.history ≡ Some a
+      next-now = next-here p a going.history going.goes_on (next going.history going.machine_stands)
 
-    abbrev pub comes-next : Comes q Stands a
-    comes-next = record {
-      history = going.history;
-      stands = going.connected;
-      follows = subst (λ p. Follows deck_jobs p going.history) (sym same) going.machine_stands.follows;
-      next = subst (λ p. next_action p going.history ≡ Some a) (sym same) next-now;
-    }
+      abbrev pub comes-next : Comes J q Stands a
+      comes-next = record {
+        history = going.history;
+        stands = going.connected;
+        follows = subst (λ p. Follows J p going.history) (sym same) going.machine_stands.follows;
+        next = subst (λ p. next_action p going.history ≡ Some a) (sym same) next-now;
+      }
 
-    pub does-next : {does : Action → Type 0} → DoesOnly q does → does a
-    does-next only = only comes-next.history a comes-next.follows comes-next.next
+      pub does-next : {does : Action → Type 0} → DoesOnly J q does → does a
+      does-next only = only comes-next.history a comes-next.follows comes-next.next
 
-    -- ---- its end
-    end-is : (a : Action) (how : Outcome) → end_of a ≡ Some how → a ≡ act.Ended how
-    end-is (act.Ended other) how e = ap act.Ended (some-same other how e)
-    end-is other how e = absurd cc
+      -- ---- its end
+      end-is : (a : Action) (how : Outcome) → end_of a ≡ Some how → a ≡ act.Ended how
+      end-is (act.Ended other) how e = ap act.Ended (some-same other how e)
+      end-is other how e = absurd cc
 
-    pub ends-here : {Then : List (Entry Loaded) → Type 0} {r : Reply Loaded} {how : Outcome} → Fits deck_jobs a r → Performs q Stands Then a r
-        → end_of a ≡ Some how → EndsSo q Then how
-    ends-here {Then} {r} {how} fits performs end = record {
-      history = Does a r ∷ going.history;
-      stands = (performs going.history going.connected comes-next.follows comes-next.next).done;
-      follows = (comes-next.next, fits, comes-next.follows);
-      ended = ap Some (end-is a how end);
-    }
+      pub ends-here : {Then : List (Entry L) → Type 0} {r : Reply L} {how : Outcome} → Fits J a r → Performs J q Stands Then a r
+          → end_of a ≡ Some how → EndsSo J q Then how
+      ends-here {Then} {r} {how} fits performs end = record {
+        history = Does a r ∷ going.history;
+        stands = (performs going.history going.connected comes-next.follows comes-next.next).done;
+        follows = (comes-next.next, fits, comes-next.follows);
+        ended = ap Some (end-is a how end);
+      }
 
-    -- ---- one action more
-    not-ended : (r : Reply Loaded) → end_of a ≡ None → HasEnded (Does a r ∷ going.history) → ⊥
-    not-ended r end ended = (let is = ap end_of (some-same a (act.Ended ended.0) ended.1) in cc)
+      -- ---- one action more
+      not-ended : (r : Reply L) → end_of a ≡ None → HasEnded (Does a r ∷ going.history) → ⊥
+      not-ended r end ended = (let is = ap end_of (some-same a (act.Ended ended.0) ended.1) in cc)
 
-    pub going-on : {Then : List (Entry Loaded) → Type 0} {r : Reply Loaded} {new : Machine X W} (result : Result (Unit {0}) NoMemory) → Fits deck_jobs a r
-        → Performs q Stands Then a r
-        → end_of a ≡ None
-        → OnOk result ((h : List (Entry Loaded)) (action : Action) → StandsFor deck_jobs p keeps machine h → next_action p h ≡ Some action
-        → Fits deck_jobs action r
-        → StandsFor deck_jobs p keeps new (Does action r ∷ h))
-        → OnErr result ((h : List (Entry Loaded)) (action : Action) → StandsFor deck_jobs p keeps machine h → next_action p h ≡ Some action
-        → Fits deck_jobs action r
-        → StandsFor deck_jobs p keeps new (LacksMemory action r ∷ h))
-        → Going p keeps new Then
-    going-on {Then} {r} (Ok done) fits performs end ok err = record {
-      history = Does a r ∷ going.history;
-      machine_stands = ok going.history a going.machine_stands next-now fits;
-      connected = (performs going.history going.connected comes-next.follows comes-next.next).done;
-      goes_on = not-ended r end;
-    }
-    going-on {Then} {r} (Err refused) fits performs end ok err =
-        let stands = err going.history a going.machine_stands next-now fits in
-        record {
-          history = LacksMemory a r ∷ going.history;
-          machine_stands = stands;
-          connected = (performs going.history going.connected comes-next.follows comes-next.next).lacks stands.follows.1.1;
-          goes_on = not-ended r end;
-        }
+      pub going-on : {Then : List (Entry L) → Type 0} {r : Reply L} {new : Machine X W} (result : Result (Unit {0}) NoMemory) → Fits J a r
+          → Performs J q Stands Then a r
+          → end_of a ≡ None
+          → OnOk result ((h : List (Entry L)) (action : Action) → StandsFor J p keeps machine h → next_action p h ≡ Some action
+          → Fits J action r
+          → StandsFor J p keeps new (Does action r ∷ h))
+          → OnErr result ((h : List (Entry L)) (action : Action) → StandsFor J p keeps machine h → next_action p h ≡ Some action
+          → Fits J action r
+          → StandsFor J p keeps new (LacksMemory action r ∷ h))
+          → Going p keeps new Then
+      going-on {Then} {r} (Ok done) fits performs end ok err = record {
+        history = Does a r ∷ going.history;
+        machine_stands = ok going.history a going.machine_stands next-now fits;
+        connected = (performs going.history going.connected comes-next.follows comes-next.next).done;
+        goes_on = not-ended r end;
+      }
+      going-on {Then} {r} (Err refused) fits performs end ok err =
+          let stands = err going.history a going.machine_stands next-now fits in
+          record {
+            history = LacksMemory a r ∷ going.history;
+            machine_stands = stands;
+            connected = (performs going.history going.connected comes-next.follows comes-next.next).lacks stands.follows.1.1;
+            goes_on = not-ended r end;
+          }

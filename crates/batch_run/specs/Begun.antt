@@ -2,9 +2,9 @@
 use Rattle.std.specs.Prelude.{◌≡◌, ℕ, []}
 use Rattle.solo_devices.specs.CardUnit.{Held}
 use Rattle.solo_devices.specs.PrinterUnit.{Printing}
-use Rattle.disk_files.specs.Answers.{FileTable}
 use Rattle.resource_mon.specs.Seats.{Desk, Seat}
 use Rattle.disk_spool.specs.Ends.{known}
+use Rattle.batch_ends.specs.declared.units.Units.{Units}
 use Rattle.batch_run.specs.declared.batch.Unbegun.{Unbegun}
 use Rattle.batch_run.specs.declared.buffers.RunningLine.{RunningLine}
 use Rattle.batch_run.specs.declared.buffers.RunningSpool.{RunningSpool}
@@ -51,9 +51,19 @@ pub record AreFresh {A B : Type 0} (input_size output_size : ℕ) (gates : Gates
   pub lines_receiver : ends.lines.1 ≡ record { gate = gates.lines; calls = [] }
   pub seats : AreFreshSeats gates.disk ends.seats
 
+-- the units that they run on, with the areas of the spools at these gates
+abbrev pub units_at : {S K F A B : Type 0} → Gates A B → Held S → Printing K → F → Units S K F A B
+units_at gates deck paper files = record {
+  deck = deck;
+  paper = paper;
+  files = files;
+  input = gates.input.area;
+  output = gates.output.area;
+}
+
 -- ---- the five processes at these gates, each with its own ends and devices
-pub record BeginsBy {S K A B F : Type 0} (gates : Gates A B) (ends : Ends A B) (deck : Held S)
-    (paper : Printing K) (files : FileTable F) (row : Row S K A B F) : Type 0 where
+pub record BeginsBy {S K F A B : Type 0} (gates : Gates A B) (ends : Ends A B) (deck : Held S)
+    (paper : Printing K) (files : F) (row : Row S K F A B) : Type 0 where
   pub deck_is : row.cards.deck ≡ deck
   pub paper_is : row.paper.paper ≡ paper
   pub files_are : row.jobs.files ≡ files
@@ -81,7 +91,7 @@ pub record BeginsBy {S K A B F : Type 0} (gates : Gates A B) (ends : Ends A B) (
   pub output_seat : row.lines.seat ≡ ends.seats.output
 
 -- ---- the five before their first action, apart from the gates
-pub record IsTakenBack {S K A B F : Type 0} (row : Row S K A B F) (back : Unbegun S K A B F) : Type 0 where
+pub record IsTakenBack {S K F A B : Type 0} (row : Row S K F A B) (back : Unbegun S K F A B) : Type 0 where
   pub deck : back.deck ≡ row.cards.deck
   pub paper : back.paper ≡ row.paper.paper
   pub files : back.files ≡ row.jobs.files

@@ -12,7 +12,6 @@ use Rattle.batch_procs.specs.declared.actions.Action.TheVariants as act
 use Rattle.batch_procs.specs.declared.actions.Reply.{Reply}
 use Rattle.batch_procs.specs.declared.actions.Reply.TheVariants as reply
 use Rattle.batch_procs.specs.History.{Entry, Does, LacksMemory, Delays}
-use Rattle.disk_system.specs.declared.loading.Loaded.{Loaded}
 
 -- these calls, and those behind them
 abbrev pub and_then : {C : Type 0} → List C → List C → List C
@@ -20,7 +19,7 @@ and_then calls [] = calls
 and_then calls (call ∷ more) = calls ++ call ∷ more
 
 -- what an action with its reply is at a line buffer, at one of its sides
-abbrev pub line_call : Side → ℕ → Action → Reply Loaded → List (SlotCall Feed)
+abbrev pub line_call : {L : Type 0} → Side → ℕ → Action → Reply L → List (SlotCall Feed)
 line_call Sender b (act.PutFeed feed) reply.Done = slot.Put feed ∷ []
 line_call Sender b (act.PutFeed feed) reply.Stopped = slot.PutRefused feed ∷ []
 line_call Receiver b act.TakeFeed (reply.Feed feed) = slot.Take feed ∷ []
@@ -29,14 +28,14 @@ line_call side b (act.Stop c) r = if b == c then slot.Stop side ∷ [] else []
 line_call side b action r = []
 
 -- and all of them, the oldest first
-abbrev pub line_calls : Side → ℕ → List (Entry Loaded) → List (SlotCall Feed)
+abbrev pub line_calls : {L : Type 0} → Side → ℕ → List (Entry L) → List (SlotCall Feed)
 line_calls side b [] = []
 line_calls side b (Does action r ∷ h) = and_then (line_calls side b h) (line_call side b action r)
 line_calls side b (LacksMemory action r ∷ h) = and_then (line_calls side b h) (line_call side b action r)
 line_calls side b (Delays action ∷ h) = line_calls side b h
 
 -- what an action with its reply is at a spool, at one of its sides
-abbrev pub spool_call : Side → ℕ → Action → Reply Loaded → List (SpoolCall (List ℕ))
+abbrev pub spool_call : {L : Type 0} → Side → ℕ → Action → Reply L → List (SpoolCall (List ℕ))
 spool_call Sender b act.AwaitRoom reply.Done = spool.Await Sender ∷ []
 spool_call Sender b act.AwaitRoom reply.Stopped = spool.AwaitRefused Sender ∷ []
 spool_call Sender b (act.PutPage page) reply.Done = spool.Put page.0 ∷ []
@@ -49,7 +48,7 @@ spool_call side b (act.Stop c) r = if b == c then spool.Stop side ∷ [] else []
 spool_call side b action r = []
 
 -- and all of them, the oldest first
-abbrev pub spool_calls : Side → ℕ → List (Entry Loaded) → List (SpoolCall (List ℕ))
+abbrev pub spool_calls : {L : Type 0} → Side → ℕ → List (Entry L) → List (SpoolCall (List ℕ))
 spool_calls side b [] = []
 spool_calls side b (Does action r ∷ h) = and_then (spool_calls side b h) (spool_call side b action r)
 spool_calls side b (LacksMemory action r ∷ h) = and_then (spool_calls side b h) (spool_call side b action r)

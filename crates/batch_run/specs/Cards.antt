@@ -14,10 +14,9 @@ use Rattle.core_law.specs.Core.{items_by}
 use Rattle.solo_base.specs.declared.outcome.Side.TheVariants.{Sender}
 use Rattle.batch_run.specs.declared.card_connections.CardConnections.{CardConnections}
 use Rattle.batch_run.specs.Calls.{line_calls}
-use Rattle.disk_system.specs.declared.loading.Loaded.{Loaded}
 
 -- the items that were read of the deck
-abbrev pub cards_read : List (Entry Loaded) → List Item
+abbrev pub cards_read : {L : Type 0} → List (Entry L) → List Item
 cards_read [] = []
 cards_read (Does act.ReadCard r ∷ h) = cards_read h ++ items_by r
 cards_read (Does action r ∷ h) = cards_read h
@@ -25,7 +24,7 @@ cards_read (LacksMemory action r ∷ h) = cards_read h
 cards_read (Delays action ∷ h) = cards_read h
 
 -- the newest answer of the deck, if it was read
-abbrev pub newest_read : List (Entry Loaded) → Option CardRead
+abbrev pub newest_read : {L : Type 0} → List (Entry L) → Option CardRead
 newest_read [] = None
 newest_read (Does act.ReadCard (reply.Card answer) ∷ h) = Some answer
 newest_read (Does action r ∷ h) = newest_read h
@@ -35,8 +34,8 @@ newest_read (Delays action ∷ h) = newest_read h
 -- By what it was at first: its items are those that were read and those that are ahead, and its end came
 -- where none is left. A failure was counted, and the limit comes where too many bytes were taken and nowhere
 -- else. What was taken and what is left are all that it had.
-pub record DeckRan {S : Type 0} (left : S → Option (List ℕ)) (taken faults : S → ℕ) (start now : Held S)
-    (h : List (Entry Loaded)) : Type 0 where
+pub record DeckRan {L S : Type 0} (left : S → Option (List ℕ)) (taken faults : S → ℕ) (start now : Held S)
+    (h : List (Entry L)) : Type 0 where
   pub reads : (items : List Item) → items_ahead (left start.source) start.pending ≡ Some items →
       (rest : List Item) × (items_ahead (left now.source) now.pending ≡ Some rest)
       × (items ≡ cards_read h ++ rest)
@@ -60,8 +59,8 @@ does_card (act.Ended how) = Unit {0}
 does_card other = ⊥
 
 -- The line buffer has had the calls of the history at its sender's side, and the deck was read.
-pub record CardRan {S : Type 0} (left : S → Option (List ℕ)) (taken faults : S → ℕ)
-    (start now : CardConnections S) (h : List (Entry Loaded)) : Type 0 where
+pub record CardRan {L S : Type 0} (left : S → Option (List ℕ)) (taken faults : S → ℕ)
+    (start now : CardConnections S) (h : List (Entry L)) : Type 0 where
   pub gate : (start.gate.now ≡ now.gate.now) × (now.lines.gate ≡ now.gate.now)
   pub calls : now.lines.calls ≡ line_calls Sender 1 h
   pub deck : DeckRan left taken faults start.deck now.deck h

@@ -6,41 +6,40 @@ use Rattle.batch_procs.specs.declared.actions.Action.TheVariants as act
 use Rattle.batch_procs.specs.declared.actions.Reply.{Reply}
 use Rattle.batch_procs.specs.Fits.{MayLack}
 use Rattle.batch_procs.specs.History.{Entry, Does, LacksMemory, newest}
+use Rattle.batch_procs.specs.Jobs.{Jobs}
 use Rattle.batch_procs.specs.Process.{Process, Follows, next_action}
-use Rattle.disk_system.specs.declared.loading.Loaded.{Loaded}
-use Rattle.deck_work.specs.DeckJobs.{deck_jobs}
 
 -- Each action of the process is one of these.
-abbrev pub DoesOnly : Process Loaded → (Action → Type 0) → Type 0
-DoesOnly p does = (h : List (Entry Loaded)) (a : Action) → Follows deck_jobs p h → next_action p h ≡ Some a
+abbrev pub DoesOnly : {L : Type 0} → Jobs L → Process L → (Action → Type 0) → Type 0
+DoesOnly {L} J p does = (h : List (Entry L)) (a : Action) → Follows J p h → next_action p h ≡ Some a
     → does a
 
 -- The process has a history that its connections stand for, behind which it makes this action.
-pub record Comes (p : Process Loaded) (Stands : List (Entry Loaded) → Type 0) (a : Action) : Type 0 where
-  pub history : List (Entry Loaded)
+pub record Comes {L : Type 0} (J : Jobs L) (p : Process L) (Stands : List (Entry L) → Type 0) (a : Action) : Type 0 where
+  pub history : List (Entry L)
   pub stands : Stands history
-  pub follows : Follows deck_jobs p history
+  pub follows : Follows J p history
   pub next : next_action p history ≡ Some a
 
 -- The connections stand for the history with this action and reply, and with its want of memory where it may
 -- lack it.
-pub record Performed (Stands : List (Entry Loaded) → Type 0) (a : Action) (r : Reply Loaded)
-    (before : List (Entry Loaded)) : Type 0 where
+pub record Performed {L : Type 0} (Stands : List (Entry L) → Type 0) (a : Action) (r : Reply L)
+    (before : List (Entry L)) : Type 0 where
   pub done : Stands (Does a r ∷ before)
   pub lacks : MayLack a r → Stands (LacksMemory a r ∷ before)
 
 -- Behind every history that the connections stood for.
-abbrev pub Performs : Process Loaded → (List (Entry Loaded) → Type 0) → (List (Entry Loaded) → Type 0)
-    → Action → Reply Loaded → Type 0
-Performs p Stood Stands a r = (h : List (Entry Loaded)) → Stood h → Follows deck_jobs p h
+abbrev pub Performs : {L : Type 0} → Jobs L → Process L → (List (Entry L) → Type 0) → (List (Entry L) → Type 0)
+    → Action → Reply L → Type 0
+Performs {L} J p Stood Stands a r = (h : List (Entry L)) → Stood h → Follows J p h
     → next_action p h ≡ Some a
     → Performed Stands a r h
 
 -- The process did what its history asks for, and ended so.
-pub record EndsSo (p : Process Loaded) (Stands : List (Entry Loaded) → Type 0) (how : Outcome) : Type 0 where
-  pub history : List (Entry Loaded)
+pub record EndsSo {L : Type 0} (J : Jobs L) (p : Process L) (Stands : List (Entry L) → Type 0) (how : Outcome) : Type 0 where
+  pub history : List (Entry L)
   pub stands : Stands history
-  pub follows : Follows deck_jobs p history
+  pub follows : Follows J p history
   pub ended : newest history ≡ Some (act.Ended how)
 
 -- how it ends, if this is its end

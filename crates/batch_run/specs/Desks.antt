@@ -6,7 +6,6 @@ use denote.Bor.{Bor}
 use Rattle.resource_mon.specs.declared.disk.DiskResource.{DiskResource}
 use Rattle.batch_procs.specs.History.{Entry, holds}
 use Rattle.batch_run.specs.declared.desk.Desk.{Desk}
-use Rattle.disk_system.specs.declared.loading.Loaded.{Loaded}
 
 -- its pass, where it has the disk
 abbrev pub pass_of : Bool → Seat → Option Pass
@@ -25,7 +24,7 @@ abbrev pub IsSameDesk : Desk → Desk → Type 0
 IsSameDesk start now = (start.resource.now ≡ now.resource.now) × (now.seat.number ≡ start.seat.number)
 
 -- By its history it has the disk or has it not.
-pub record DeskRan (start now : Desk) (h : List (Entry Loaded)) : Type 0 where
+pub record DeskRan {L : Type 0} (start now : Desk) (h : List (Entry L)) : Type 0 where
   pub same : IsSameDesk start now
   pub at : IsAt now (holds h)
 

@@ -9,3 +9,4 @@ pub mod Row
 pub mod DoesOnly
 pub mod Begun
 pub mod Met
+pub mod FiveRan

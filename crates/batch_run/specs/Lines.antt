@@ -13,17 +13,16 @@ use Rattle.batch_procs.specs.Causes.{caused}
 use Rattle.solo_base.specs.declared.outcome.Side.TheVariants.{Receiver}
 use Rattle.batch_run.specs.declared.printer_connections.PrinterConnections.{PrinterConnections}
 use Rattle.batch_run.specs.Calls.{line_calls}
-use Rattle.disk_system.specs.declared.loading.Loaded.{Loaded}
 
 -- the text of the lines that were printed, and of the line that wasn't, where one failed
-abbrev pub text_tried : List (Entry Loaded) → List ℕ
+abbrev pub text_tried : {L : Type 0} → List (Entry L) → List ℕ
 text_tried [] = []
 text_tried (Does (act.Print line) r ∷ h) = text_tried h ++ line_text line
 text_tried (Does action r ∷ h) = text_tried h
 text_tried (LacksMemory action r ∷ h) = text_tried h
 text_tried (Delays action ∷ h) = text_tried h
 
-abbrev pub newest_print : List (Entry Loaded) → Option (Reply Loaded)
+abbrev pub newest_print : {L : Type 0} → List (Entry L) → Option (Reply L)
 newest_print [] = None
 newest_print (Does (act.Print line) r ∷ h) = Some r
 newest_print (Does action r ∷ h) = newest_print h
@@ -32,8 +31,8 @@ newest_print (Delays action ∷ h) = newest_print h
 
 -- By what it was at first: a told paper gained a part of what was tried, and all of it where nothing failed;
 -- one that isn't told stays so. A failure was counted.
-pub record PaperRan {K : Type 0} (given : K → Option (List ℕ)) (faults : K → ℕ) (start now : Printing K)
-    (h : List (Entry Loaded)) : Type 0 where
+pub record PaperRan {L K : Type 0} (given : K → Option (List ℕ)) (faults : K → ℕ) (start now : Printing K)
+    (h : List (Entry L)) : Type 0 where
   pub prints : (before : List ℕ) → given start.sink ≡ Some before →
       (gained : List ℕ) × (given now.sink ≡ Some (before ++ gained)) × IsPrefixOf gained (text_tried h)
       × (caused h ≡ None → gained ≡ text_tried h)
@@ -51,8 +50,8 @@ does_printer (act.Ended how) = Unit {0}
 does_printer other = ⊥
 
 -- The line buffer has had the calls of the history at its receiver's side, and the paper was printed on.
-pub record PrinterRan {K : Type 0} (given : K → Option (List ℕ)) (faults : K → ℕ)
-    (start now : PrinterConnections K) (h : List (Entry Loaded)) : Type 0 where
+pub record PrinterRan {L K : Type 0} (given : K → Option (List ℕ)) (faults : K → ℕ)
+    (start now : PrinterConnections K) (h : List (Entry L)) : Type 0 where
   pub gate : (start.gate.now ≡ now.gate.now) × (now.lines.gate ≡ now.gate.now)
   pub calls : now.lines.calls ≡ line_calls Receiver 4 h
   pub paper : PaperRan given faults start.paper now.paper h

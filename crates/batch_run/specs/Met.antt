@@ -6,7 +6,7 @@ use Rattle.slot_buffer.specs.Ends as line
 use Rattle.disk_spool.specs.Ends as spool
 use Rattle.disk_spool.specs.Ends.{known}
 use Rattle.resource_mon.specs.Seats.{Desk, Seat}
-use Rattle.core_net.specs.Ended.{stopped_at}
+use Rattle.batch_ends.specs.Ended.{stopped_at}
 use Rattle.batch_run.specs.declared.batch.Parted.{Parted}
 use Rattle.batch_run.specs.declared.buffers.Seats.{Seats}
 use Rattle.batch_run.specs.declared.gates.AllMet.{AllMet as Met}
@@ -60,8 +60,8 @@ pub record AllMeet {A B : Type 0} (input_told : A → Option (List (List ℕ))) 
       ∷ stopped_at met.stopped_by 3 ∷ stopped_at met.stopped_by 4 ∷ []
 
 -- These are the outcomes, the ends and the devices of the five.
-pub record IsParted {S K A B F : Type 0} (ended : RowEnded S K A B F)
-    (parted : Parted S K A B F) : Type 0 where
+pub record IsParted {S K F A B : Type 0} (ended : RowEnded S K F A B)
+    (parted : Parted S K F A B) : Type 0 where
   pub card : parted.outcomes.card ≡ ended.front.0.1
   pub input : parted.outcomes.input ≡ ended.front.1.1
   pub job : parted.outcomes.job ≡ ended.rest.0.1

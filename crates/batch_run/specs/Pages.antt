@@ -1,5 +1,5 @@
 -- The connections of the three processes that move pages, and what became of them in the course of a history.
-use Rattle.std.specs.Prelude.{◌≡◌, ◌⊎◌, ℕ, List, Option}
+use Rattle.std.specs.Prelude.{◌≡◌, ◌⊎◌, ℕ, List}
 use Rattle.disk_spool.specs.Ends.{known}
 use Rattle.solo_base.specs.declared.outcome.Side.TheVariants.{Sender, Receiver}
 use Rattle.batch_procs.specs.declared.actions.Action.{Action}
@@ -13,8 +13,7 @@ use Rattle.batch_run.specs.declared.output_connections.OutputConnections.{Output
 use Rattle.batch_run.specs.declared.output_connections.OutputEnds.{OutputEnds}
 use Rattle.batch_run.specs.Calls.{line_calls, spool_calls}
 use Rattle.batch_run.specs.Desks.{DeskRan, at_desk}
-use Rattle.batch_run.specs.Files.{FilesRan}
-use Rattle.disk_system.specs.declared.loading.Loaded.{Loaded}
+use Rattle.batch_run.specs.Files.{Loading, FilesRan}
 
 -- ---- their actions
 abbrev pub does_input : Action → Type 0
@@ -51,8 +50,8 @@ does_output (act.Ended how) = Unit {0}
 does_output other = ⊥
 
 -- ---- each buffer has had the calls of the history at the side of the process; and the files were loaded
-pub record InputRan {A : Type 0} (size : A → ℕ) (start now : InputConnections A)
-    (h : List (Entry Loaded)) : Type 0 where
+pub record InputRan {L A : Type 0} (size : A → ℕ) (start now : InputConnections A)
+    (h : List (Entry L)) : Type 0 where
   pub from_gate : (start.cards_gate.now ≡ now.cards_gate.now) × (now.cards.gate ≡ now.cards_gate.now)
   pub from_calls : now.cards.calls ≡ line_calls Receiver 1 h
   pub to_gate : (start.pages_gate.now ≡ now.pages_gate.now)
@@ -60,9 +59,8 @@ pub record InputRan {A : Type 0} (size : A → ℕ) (start now : InputConnection
   pub to_calls : now.pages.calls ≡ spool_calls Sender 2 h
   pub desk : DeskRan start.desk now.desk h
 
-pub record JobRan {A B F : Type 0} (from_size : A → ℕ) (to_size : B → ℕ)
-    (file_pages : F → Option (List (List ℕ))) (file_faults : F → ℕ) (start now : JobConnections A B F)
-    (h : List (Entry Loaded)) : Type 0 where
+pub record JobRan {L F A B : Type 0} (loader : Loading L F) (from_size : A → ℕ) (to_size : B → ℕ)
+    (start now : JobConnections F A B) (h : List (Entry L)) : Type 0 where
   pub from_gate : (start.cards_gate.now ≡ now.cards_gate.now)
       × (now.cards.gate ≡ known (from_size now.cards_gate.now.area) now.cards_gate.now)
   pub from_calls : now.cards.calls ≡ spool_calls Receiver 2 h
@@ -70,10 +68,10 @@ pub record JobRan {A B F : Type 0} (from_size : A → ℕ) (to_size : B → ℕ)
       × (now.pages.gate ≡ known (to_size now.pages_gate.now.area) now.pages_gate.now)
   pub to_calls : now.pages.calls ≡ spool_calls Sender 3 h
   pub desk : DeskRan start.desk now.desk h
-  pub files : FilesRan file_pages file_faults start.files now.files h
+  pub files : FilesRan loader start.files now.files h
 
-pub record OutputRan {B : Type 0} (size : B → ℕ) (start now : OutputConnections B)
-    (h : List (Entry Loaded)) : Type 0 where
+pub record OutputRan {L B : Type 0} (size : B → ℕ) (start now : OutputConnections B)
+    (h : List (Entry L)) : Type 0 where
   pub from_gate : (start.pages_gate.now ≡ now.pages_gate.now)
       × (now.pages.gate ≡ known (size now.pages_gate.now.area) now.pages_gate.now)
   pub from_calls : now.pages.calls ≡ spool_calls Receiver 3 h
@@ -95,7 +93,7 @@ input_connected ends =
       desk = at_desk ends.disk ends.seat;
     }
 
-abbrev pub job_connected : {A : Type 0} {B : Type 0} {F : Type 0} → JobEnds A B F → JobConnections A B F
+abbrev pub job_connected : {F A B : Type 0} → JobEnds F A B → JobConnections F A B
 job_connected ends =
     record {
       cards_gate =

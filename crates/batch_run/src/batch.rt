@@ -1,29 +1,27 @@
 //! The batch: the five processes on threads, from the making of their buffers to the meeting of the ends.
 ghost use Rattle.std.specs.Prelude.{◌≡◌, ◌<◌, ◌≤◌, true, List, [], Some, IsSome, IfOk, IfErr};
 ghost use Rattle.solo_base.specs.declared.item.Item.{Item};
-ghost use Rattle.batch_job.specs.Report.{Loads};
 ghost use Rattle.solo_base.specs.Text.{text};
 ghost use Rattle.solo_base.specs.declared.outcome.Cause.TheVariants as cause;
 ghost use Rattle.solo_base.specs.declared.outcome.Outcome.TheVariants as outcome;
 ghost use Rattle.solo_devices.specs.CardUnit.{items_ahead, byte_limit, bytes_total, IsAllTaken};
 ghost use Rattle.solo_devices.specs.PrinterUnit.{Gains};
-ghost use Rattle.batch_job.specs.OneThread.{one_thread_lines};
-ghost use Rattle.core_law.specs.Holds.{AreTold};
-ghost use Rattle.core_net.specs.Causes.{counting};
-ghost use Rattle.core_net.specs.Ended.{all_done, EndTogether, FaultsAre, NoneDamaged};
-ghost use Rattle.core_net.specs.Faults.{FaultsAreCounted};
-ghost use Rattle.core_net.specs.Openings.{spools_over};
-ghost use Rattle.deck_work.specs.DeckJobs.{AreFound, files_found};
-ghost use Rattle.batch_run.specs.Begun.{AreFresh, IsTakenBack};
+ghost use Rattle.batch_procs.specs.Jobs.{AreJobs, FilesAs, one_thread};
+ghost use Rattle.core_law.specs.Holds.{AreFound, AreTold};
+ghost use Rattle.batch_ends.specs.Ended.{all_done, EndTogether, FaultsAre, NoneDamaged};
+ghost use Rattle.batch_ends.specs.Faults.{FaultsAreCounted};
+ghost use Rattle.batch_ends.specs.Openings.{spools_over};
+ghost use Rattle.batch_run.specs.Begun.{AreFresh, IsTakenBack, units_at};
+ghost use Rattle.batch_run.specs.Files.{loading};
+ghost use Rattle.batch_run.specs.FiveRan.{BatchRan};
 ghost use Rattle.batch_run.specs.Met.{IsParted};
 
 use crate::buffers::Seats;
 use crate::gates::{AllMet, Ends, Gates};
 use crate::making::make_all;
 use crate::row::{Row, RowEnded, run_five};
-use crate::units::Units;
-use core_net::{Outcomes, Ran};
-use disk_files::FileArea;
+use batch_ends::{Outcomes, Peripherals, Ran, Units};
+use batch_procs::{JobWork, Loader};
 use solo_base::NoMemory;
 use solo_devices::{Area, CardUnit, PrinterUnit, Sink, Source};
 use std::alloc::Global;
@@ -31,71 +29,74 @@ use std::sync::Wait;
 use std::thread::Threads;
 
 /// How the five ended, with their ends and the devices.
-struct Parted<S: Source, K: Sink, A: Area + Send, B: Area + Send, F: Area> {
+struct Parted<S: Source, K: Sink, F, A: Area + Send, B: Area + Send> {
     outcomes: Outcomes,
     ends: Ends<A, B>,
     deck: CardUnit<S>,
     paper: PrinterUnit<K>,
-    files: FileArea<F>,
+    files: F,
 }
 
 /// The ends and the devices of five that have not begun.
-struct Unbegun<S: Source, K: Sink, A: Area + Send, B: Area + Send, F: Area> {
+struct Unbegun<S: Source, K: Sink, F, A: Area + Send, B: Area + Send> {
     ends: Ends<A, B>,
     deck: CardUnit<S>,
     paper: PrinterUnit<K>,
-    files: FileArea<F>,
+    files: F,
 }
 
 /// Runs the deck to the paper on five threads. No file is changed. Where memory is refused, no process has
 /// begun, and the units come back as they were.
 #[inline(never)]
 pub fn run_batch<
+    J: JobWork + Send,
     S: Source + Drop + Send,
     K: Sink + Drop + Send,
+    F: Loader<J> + Send,
     A: Area + Send,
     B: Area + Send,
-    F: Area + Drop + Send,
     R: Threads + Wait + Sync,
 >(
     rt: &R,
     alloc: Global,
-    units: Units<S, K, A, B, F>,
-) -> Result<Ran<S, K, A, B, F>, (Units<S, K, A, B, F>, NoMemory)>
+    units: Units<S, K, F, A, B>,
+) -> Result<Ran<S, K, F, A, B>, (Units<S, K, F, A, B>, NoMemory)>
+where
+    J::Load: Send,
     requires live { (units.deck.live ≡ true) × (units.paper.live ≡ true) }
     requires input { (0 < A.size units.input) × (A.size units.input ≤ 256) }
     requires output { (0 < B.size units.output) × (B.size units.output ≤ 256) }
-    requires sound { units.files.sound ≡ true }
+    requires sound { F.sound units.files }
     ensures refused { IfErr result (λ back. back.0 ≡ units) }
+
+    // Each process did what a history asks for, and ended so, and the devices became what these histories
+    // make of them; the side that stopped each buffer first is one of its two.
+    ensures ran { IfOk result (λ ran. BatchRan J.jobs S.left S.taken S.faults K.given K.faults
+        (loading F.found F.pages F.faults F.sound) A.pages A.faults B.pages B.faults units ran) }
 
     // How the five ended together, and where their faults come from.
     ensures together { IfOk result (λ ran. EndTogether ran.outcomes ran.stopped_by) }
     ensures faults { IfOk result (λ ran. FaultsAre ran.outcomes) }
     ensures counted { IfOk result (λ ran.
-        FaultsAreCounted (counting S.faults S.taken K.faults A.faults B.faults F.faults) record {
-          source = units.deck.source;
-          sink = units.paper.sink;
-          input = units.input;
-          output = units.output;
-          files = units.files.area;
-        } ran) }
+        FaultsAreCounted ⟦<Units<S, K, F, A, B> as Peripherals<J>>⟧.counts units ran) }
 
     // The paper gained what one thread prints or a part of it, all of it where all are done, and then
     // nothing is left of the deck.
-    ensures prints { IfOk result (λ ran. (items : List Item) (found : Loads) →
+    ensures prints { IfOk result (λ ran. (items : List Item) (found : FilesAs J.Load) →
         items_ahead (S.left units.deck.source) units.deck.pending ≡ Some items →
-        AreFound (files_found (F.pages units.files.area)) found items →
+        AreFound J.jobs (F.found units.files) found items →
         AreTold (spools_over (A.size units.input) (A.pages units.input)
         (B.size units.output) (B.pages units.output)) →
-        Gains (K.given units.paper.sink) (K.given ran.paper.sink)
-        (text (one_thread_lines found items)) (ran.outcomes ≡ all_done)) }
+        Gains (K.given units.paper.sink) (K.given ran.units.paper.sink)
+        (text (one_thread J.jobs items found)) (ran.outcomes ≡ all_done)) }
     ensures reads { IfOk result (λ ran. (items : List Item) →
         items_ahead (S.left units.deck.source) units.deck.pending ≡ Some items → ran.outcomes ≡ all_done →
-        items_ahead (S.left ran.deck.source) ran.deck.pending ≡ Some []) }
-    ensures all_taken { IfOk result (λ ran. ran.outcomes ≡ all_done → IsAllTaken (S.left ran.deck.source)) }
+        items_ahead (S.left ran.units.deck.source) ran.units.deck.pending ≡ Some []) }
+    ensures all_taken { IfOk result (λ ran. ran.outcomes ≡ all_done →
+        IsAllTaken (S.left ran.units.deck.source)) }
 
     // No file is changed.
-    ensures files { IfOk result (λ ran. F.pages ran.files.area ≡ F.pages units.files.area) }
+    ensures files { IfOk result (λ ran. F.pages ran.units.files ≡ F.pages units.files) }
 
     // Over areas that tell their pages no page was damaged.
     ensures undamaged { IfOk result (λ ran.
@@ -105,39 +106,47 @@ pub fn run_batch<
 
     // The limit comes wherever too many bytes were taken, and all that the source had was taken or is left.
     ensures longer { IfOk result (λ ran. S.taken units.deck.source ≤ byte_limit →
-        byte_limit < S.taken ran.deck.source → ran.outcomes.card ≡ outcome.Fault cause.DeckLimit) }
-    ensures total { IfOk result (λ ran. bytes_total (S.taken ran.deck.source) (S.left ran.deck.source)
+        byte_limit < S.taken ran.units.deck.source → ran.outcomes.card ≡ outcome.Fault cause.DeckLimit) }
+    ensures total { IfOk result (λ ran. bytes_total (S.taken ran.units.deck.source) (S.left ran.units.deck.source)
         ≡ bytes_total (S.taken units.deck.source) (S.left units.deck.source)) }
 {
     let Units {
         deck,
-        input,
-        output,
         paper,
         files,
+        input,
+        output,
     } = units;
     match make_all(alloc, input, output) {
-        Ok((gates, ends)) => run_made(rt, alloc, gates, ends, deck, paper, files),
+        Ok((gates, ends)) => run_made::<J, S, K, F, A, B, R>(
+            rt, alloc, gates, ends, deck, paper, files,
+        ),
         Err(((input, output), refused)) => {
             let units = Units {
                 deck,
-                input,
-                output,
                 paper,
                 files,
+                input,
+                output,
             };
             Err((units, refused))
         }
     }
 }
 
+// The laws of the jobs. Nothing is done here: a function whose jobs may cross threads has them from a call.
+fn know_jobs<J: JobWork>()
+    ensures { AreJobs J.jobs }
+{}
+
 // Runs them once everything is made.
 fn run_made<
+    J: JobWork + Send,
     S: Source + Drop + Send,
     K: Sink + Drop + Send,
+    F: Loader<J> + Send,
     A: Area + Send,
     B: Area + Send,
-    F: Area + Drop + Send,
     R: Threads + Wait + Sync,
 >(
     rt: &R,
@@ -146,48 +155,43 @@ fn run_made<
     ends: Ends<A, B>,
     deck: CardUnit<S>,
     paper: PrinterUnit<K>,
-    files: FileArea<F>,
-) -> Result<Ran<S, K, A, B, F>, (Units<S, K, A, B, F>, NoMemory)>
+    files: F,
+) -> Result<Ran<S, K, F, A, B>, (Units<S, K, F, A, B>, NoMemory)>
+where
+    J::Load: Send,
     requires live { (deck.live ≡ true) × (paper.live ≡ true) }
-    requires sound { files.sound ≡ true }
+    requires sound { F.sound files }
     requires fresh { AreFresh (A.size gates.input.area) (B.size gates.output.area) gates ends }
-    ensures refused { IfErr result (λ back. back.0 ≡ record {
-      deck = deck;
-      input = gates.input.area;
-      output = gates.output.area;
-      paper = paper;
-      files = files;
-    }) }
+    ensures refused { IfErr result (λ back. back.0 ≡ units_at gates deck paper files) }
+    ensures ran { IfOk result (λ ran. BatchRan J.jobs S.left S.taken S.faults K.given K.faults
+        (loading F.found F.pages F.faults F.sound) A.pages A.faults B.pages B.faults
+        (units_at gates deck paper files) ran) }
     ensures together { IfOk result (λ ran. EndTogether ran.outcomes ran.stopped_by) }
     ensures faults { IfOk result (λ ran. FaultsAre ran.outcomes) }
-    ensures counted { IfOk result (λ ran. FaultsAreCounted
-        (counting S.faults S.taken K.faults A.faults B.faults F.faults) record {
-          source = deck.source;
-          sink = paper.sink;
-          input = gates.input.area;
-          output = gates.output.area;
-          files = files.area;
-        } ran) }
-    ensures prints { IfOk result (λ ran. (items : List Item) (found : Loads) →
+    ensures counted { IfOk result (λ ran. FaultsAreCounted ⟦<Units<S, K, F, A, B> as Peripherals<J>>⟧.counts
+        (units_at gates deck paper files) ran) }
+    ensures prints { IfOk result (λ ran. (items : List Item) (found : FilesAs J.Load) →
         items_ahead (S.left deck.source) deck.pending ≡ Some items →
-        AreFound (files_found (F.pages files.area)) found items →
+        AreFound J.jobs (F.found files) found items →
         IsSome (A.pages gates.input.area) → IsSome (B.pages gates.output.area) →
-        Gains (K.given paper.sink) (K.given ran.paper.sink)
-        (text (one_thread_lines found items)) (ran.outcomes ≡ all_done)) }
+        Gains (K.given paper.sink) (K.given ran.units.paper.sink)
+        (text (one_thread J.jobs items found)) (ran.outcomes ≡ all_done)) }
     ensures reads { IfOk result (λ ran. (items : List Item) →
         items_ahead (S.left deck.source) deck.pending ≡ Some items → ran.outcomes ≡ all_done →
-        items_ahead (S.left ran.deck.source) ran.deck.pending ≡ Some []) }
+        items_ahead (S.left ran.units.deck.source) ran.units.deck.pending ≡ Some []) }
     ensures undamaged { IfOk result (λ ran.
         IsSome (A.pages gates.input.area) → IsSome (B.pages gates.output.area) →
         NoneDamaged ran.outcomes) }
-    ensures all_taken { IfOk result (λ ran. ran.outcomes ≡ all_done → IsAllTaken (S.left ran.deck.source)) }
+    ensures all_taken { IfOk result (λ ran. ran.outcomes ≡ all_done →
+        IsAllTaken (S.left ran.units.deck.source)) }
     ensures longer { IfOk result (λ ran. S.taken deck.source ≤ byte_limit →
-        byte_limit < S.taken ran.deck.source → ran.outcomes.card ≡ outcome.Fault cause.DeckLimit) }
-    ensures total { IfOk result (λ ran. bytes_total (S.taken ran.deck.source) (S.left ran.deck.source)
+        byte_limit < S.taken ran.units.deck.source → ran.outcomes.card ≡ outcome.Fault cause.DeckLimit) }
+    ensures total { IfOk result (λ ran. bytes_total (S.taken ran.units.deck.source) (S.left ran.units.deck.source)
         ≡ bytes_total (S.taken deck.source) (S.left deck.source)) }
-    ensures files { IfOk result (λ ran. F.pages ran.files.area ≡ F.pages files.area) }
+    ensures files { IfOk result (λ ran. F.pages ran.units.files ≡ F.pages files) }
 {
-    match run_five(rt, alloc, gates.row(ends, deck, paper, files)) {
+    know_jobs::<J>();
+    match run_five::<J, S, K, F, A, B, R>(rt, alloc, gates.row(ends, deck, paper, files)) {
         Ok(ended) => {
             let Parted {
                 outcomes,
@@ -201,14 +205,17 @@ fn run_made<
                 output,
                 stopped_by,
             } = gates.meet(ends);
+            let units = Units {
+                deck,
+                paper,
+                files,
+                input,
+                output,
+            };
             Ok(Ran {
                 outcomes,
                 stopped_by,
-                deck,
-                input,
-                output,
-                paper,
-                files,
+                units,
             })
         }
         Err(row) => {
@@ -221,10 +228,10 @@ fn run_made<
             let (input, output) = gates.unmake(ends);
             let units = Units {
                 deck,
-                input,
-                output,
                 paper,
                 files,
+                input,
+                output,
             };
             Err((units, NoMemory))
         }
@@ -232,9 +239,9 @@ fn run_made<
 }
 
 // How the five ended, apart from the gates that they were at.
-fn take_apart<'a, S: Source + Drop, K: Sink + Drop, A: Area + Send, B: Area + Send, F: Area>(
-    ended: RowEnded<'a, S, K, A, B, F>,
-) -> Parted<S, K, A, B, F>
+fn take_apart<'a, S: Source + Drop, K: Sink + Drop, F, A: Area + Send, B: Area + Send>(
+    ended: RowEnded<'a, S, K, F, A, B>,
+) -> Parted<S, K, F, A, B>
     ensures { IsParted ended.entry result }
 {
     let RowEnded { front, rest } = ended;
@@ -267,9 +274,9 @@ fn take_apart<'a, S: Source + Drop, K: Sink + Drop, A: Area + Send, B: Area + Se
 
 // The ends and the devices of five that have not begun, apart from the gates that they were at.
 #[inline(never)]
-fn take_back<'a, S: Source + Drop, K: Sink + Drop, A: Area + Send, B: Area + Send, F: Area>(
-    row: Row<'a, S, K, A, B, F>,
-) -> Unbegun<S, K, A, B, F>
+fn take_back<'a, S: Source + Drop, K: Sink + Drop, F, A: Area + Send, B: Area + Send>(
+    row: Row<'a, S, K, F, A, B>,
+) -> Unbegun<S, K, F, A, B>
     ensures { IsTakenBack row.entry result }
 {
     let Row {

@@ -4,13 +4,10 @@ ghost use Rattle.batch_procs.specs.Table.{card};
 ghost use Rattle.batch_run.specs.Connections.{Comes, EndsSo, Performs};
 ghost use Rattle.batch_run.specs.declared.card_connections.CardConnections.{CardConnections};
 ghost use Rattle.batch_run.specs.Cards.{CardRan, does_card};
-ghost use Rattle.deck_work.specs.DeckJobs.{deck_jobs};
 
 use crate::run::{end_of, run_to_end};
-use batch_procs::{Action, CardWork, Machine, Reply};
-use core_net::is_item;
-use deck_work::DeckWork;
-use disk_system::Loaded;
+use batch_ends::is_item;
+use batch_procs::{Action, CardWork, JobWork, Machine, Reply};
 use slot_buffer::{SendEnd, SlotGate, Stopped};
 use solo_base::{Feed, Outcome};
 use solo_devices::{CardUnit, Source};
@@ -28,35 +25,45 @@ pub struct CardConnections<'a, S: Source + Drop> {
 
 impl<'a, S: Source + Drop> CardConnections<'a, S> {
     /// Runs the card process up to its end.
-    pub fn run<R: Threads + Wait + Sync>(&mut self, rt: &R, alloc: Global) -> Outcome
-        requires { CardRan S.left S.taken S.faults self.old self.old [] }
-        ensures { EndsSo card (CardRan S.left S.taken S.faults self.old self.new) result }
+    pub fn run<J: JobWork, R: Threads + Wait + Sync>(&mut self, rt: &R, alloc: Global) -> Outcome
+        requires { CardRan {L = J.Load} S.left S.taken S.faults self.old self.old [] }
+        ensures { EndsSo J.jobs card (CardRan S.left S.taken S.faults self.old self.new) result }
     {
-        run_to_end!(CardWork, rt, alloc, |action| self.perform(action, rt))
+        run_to_end!(
+            J,
+            CardWork,
+            rt,
+            alloc,
+            |action| self.perform::<J, R>(action, rt)
+        )
     }
 
     /// The same, and hands the connections back.
-    pub fn ran<R: Threads + Wait + Sync>(
+    pub fn ran<J: JobWork, R: Threads + Wait + Sync>(
         mut self,
         rt: &R,
         alloc: Global,
     ) -> (CardConnections<'a, S>, Outcome)
-        requires { CardRan S.left S.taken S.faults self self [] }
-        ensures { EndsSo card (CardRan S.left S.taken S.faults self.entry result.0) result.1 }
+        requires { CardRan {L = J.Load} S.left S.taken S.faults self self [] }
+        ensures { EndsSo J.jobs card (CardRan S.left S.taken S.faults self.entry result.0) result.1 }
     {
-        let how = self.run(rt, alloc);
+        let how = self.run::<J, R>(rt, alloc);
         (self, how)
     }
 
     /// Performs an action of the process, and waits where the other side of a buffer isn't ready.
     #[inline(always)]
-    fn perform<R: Threads + Wait + Sync>(&mut self, action: Action, rt: &R) -> Reply<Loaded>
+    fn perform<J: JobWork, R: Threads + Wait + Sync>(
+        &mut self,
+        action: Action,
+        rt: &R,
+    ) -> Reply<J::Load>
         requires does { does_card action }
         requires comes { (start : CardConnections S)
-            × Comes card (CardRan S.left S.taken S.faults start self.old) action }
-        ensures fits { Fits deck_jobs action result }
+            × Comes J.jobs card (CardRan S.left S.taken S.faults start self.old) action }
+        ensures fits { Fits J.jobs action result }
         ensures performs { (start : CardConnections S)
-            → Performs card (CardRan S.left S.taken S.faults start self.old) (CardRan S.left S.taken S.faults start self.new) action result }
+            → Performs J.jobs card (CardRan S.left S.taken S.faults start self.old) (CardRan S.left S.taken S.faults start self.new) action result }
     {
         match action {
             Action::ReadCard => {

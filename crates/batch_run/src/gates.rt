@@ -12,7 +12,6 @@ use crate::job_connections::JobEnds;
 use crate::output_connections::OutputEnds;
 use crate::printer_connections::PrinterConnections;
 use crate::row::Row;
-use disk_files::FileArea;
 use disk_spool::{SpoolGate, SpoolMet, SpoolRecv, SpoolSend};
 use resource_mon::DiskResource;
 use slot_buffer::{RecvEnd, SendEnd, SlotGate};
@@ -47,13 +46,13 @@ pub(crate) struct AllMet<A, B> {
 
 impl<A: Area + Send, B: Area + Send> Gates<A, B> {
     /// The five processes at their ends, before their first action.
-    pub(crate) fn row<'a, S: Source + Drop, K: Sink + Drop, F: Area>(
+    pub(crate) fn row<'a, S: Source + Drop, K: Sink + Drop, F>(
         &'a self,
         ends: Ends<A, B>,
         deck: CardUnit<S>,
         paper: PrinterUnit<K>,
-        files: FileArea<F>,
-    ) -> Row<'a, S, K, A, B, F>
+        files: F,
+    ) -> Row<'a, S, K, F, A, B>
         ensures { BeginsBy self.now ends deck paper files result }
     {
         let Ends {

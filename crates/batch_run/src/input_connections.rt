@@ -4,14 +4,11 @@ ghost use Rattle.batch_procs.specs.Table.{input};
 ghost use Rattle.batch_run.specs.Connections.{Comes, EndsSo, Performs};
 ghost use Rattle.batch_run.specs.declared.input_connections.InputConnections.{InputConnections};
 ghost use Rattle.batch_run.specs.Pages.{InputRan, does_input, input_connected};
-ghost use Rattle.deck_work.specs.DeckJobs.{deck_jobs};
 
 use crate::desk::Desk;
 use crate::run::{end_of, run_to_end};
-use batch_procs::{Action, InputWork, Machine, Reply};
-use deck_work::DeckWork;
+use batch_procs::{Action, InputWork, JobWork, Machine, Reply};
 use disk_spool::{SpoolGate, SpoolSend};
-use disk_system::Loaded;
 use resource_mon::{DiskResource, DiskSeat};
 use slot_buffer::{RecvEnd, SlotGate};
 use solo_base::{Feed, Outcome};
@@ -43,21 +40,31 @@ pub struct InputEnds<'a, A: Area + Send> {
 
 impl<'a, A: Area + Send> InputConnections<'a, A> {
     /// Runs the input process up to its end.
-    fn run<R: Threads + Wait + Sync>(&mut self, rt: &R, alloc: Global) -> Outcome
-        requires { InputRan A.size self.old self.old [] }
-        ensures { EndsSo input (InputRan A.size self.old self.new) result }
+    fn run<J: JobWork, R: Threads + Wait + Sync>(&mut self, rt: &R, alloc: Global) -> Outcome
+        requires { InputRan {L = J.Load} A.size self.old self.old [] }
+        ensures { EndsSo J.jobs input (InputRan A.size self.old self.new) result }
     {
-        run_to_end!(InputWork, rt, alloc, |action| self.perform(action, rt))
+        run_to_end!(
+            J,
+            InputWork,
+            rt,
+            alloc,
+            |action| self.perform::<J, R>(action, rt)
+        )
     }
 
     /// Performs an action of the process, and waits where the other side of a buffer isn't ready.
     #[inline(always)]
-    fn perform<R: Threads + Wait + Sync>(&mut self, action: Action, rt: &R) -> Reply<Loaded>
+    fn perform<J: JobWork, R: Threads + Wait + Sync>(
+        &mut self,
+        action: Action,
+        rt: &R,
+    ) -> Reply<J::Load>
         requires does { does_input action }
-        requires comes { (start : InputConnections A) × Comes input (InputRan A.size start self.old) action }
-        ensures fits { Fits deck_jobs action result }
+        requires comes { (start : InputConnections A) × Comes J.jobs input (InputRan A.size start self.old) action }
+        ensures fits { Fits J.jobs action result }
         ensures performs { (start : InputConnections A)
-            → Performs input (InputRan A.size start self.old) (InputRan A.size start self.new) action result }
+            → Performs J.jobs input (InputRan A.size start self.old) (InputRan A.size start self.new) action result }
     {
         match action {
             Action::TakeFeed => match self.cards.take(self.cards_gate, rt) {
@@ -98,9 +105,13 @@ impl<'a, A: Area + Send> InputConnections<'a, A> {
 
 impl<'a, A: Area + Send> InputEnds<'a, A> {
     /// Runs the input process up to its end.
-    pub fn ran<R: Threads + Wait + Sync>(self, rt: &R, alloc: Global) -> (InputEnds<'a, A>, Outcome)
-        requires { InputRan A.size (input_connected self) (input_connected self) [] }
-        ensures { EndsSo input (InputRan A.size (input_connected self.entry) (input_connected result.0)) result.1 }
+    pub fn ran<J: JobWork, R: Threads + Wait + Sync>(
+        self,
+        rt: &R,
+        alloc: Global,
+    ) -> (InputEnds<'a, A>, Outcome)
+        requires { InputRan {L = J.Load} A.size (input_connected self) (input_connected self) [] }
+        ensures { EndsSo J.jobs input (InputRan A.size (input_connected self.entry) (input_connected result.0)) result.1 }
     {
         let InputEnds {
             cards_gate,
@@ -117,7 +128,7 @@ impl<'a, A: Area + Send> InputEnds<'a, A> {
             pages,
             desk: Desk::new(disk, seat),
         };
-        let how = connections.run(rt, alloc);
+        let how = connections.run::<J, R>(rt, alloc);
         let InputConnections {
             cards_gate,
             cards,

@@ -3,17 +3,13 @@ ghost use Rattle.batch_procs.specs.Fits.{Fits};
 ghost use Rattle.batch_procs.specs.Table.{job};
 ghost use Rattle.batch_run.specs.Connections.{Comes, EndsSo, Performs};
 ghost use Rattle.batch_run.specs.declared.job_connections.JobConnections.{JobConnections};
+ghost use Rattle.batch_run.specs.Files.{loading};
 ghost use Rattle.batch_run.specs.Pages.{JobRan, does_job, job_connected};
-ghost use Rattle.deck_work.specs.DeckJobs.{deck_jobs};
 
 use crate::desk::Desk;
 use crate::run::{end_of, run_to_end};
-use batch_procs::{Action, JobProcWork, Machine, Reply};
-use core_net::load_file;
-use deck_work::DeckWork;
-use disk_files::FileArea;
+use batch_procs::{Action, JobProcWork, JobWork, Loader, Machine, Reply};
 use disk_spool::{Fetched, SpoolGate, SpoolRecv, SpoolSend};
-use disk_system::Loaded;
 use resource_mon::{DiskResource, DiskSeat};
 use solo_base::{Outcome, Page};
 use solo_devices::{Area, Moved};
@@ -23,54 +19,58 @@ use std::thread::Threads;
 
 /// What the job process is connected to: the spool 2 as its receiver, the spool 3 as its sender, the disk,
 /// and the files.
-pub struct JobConnections<'a, A: Area + Send, B: Area + Send, F: Area> {
+pub struct JobConnections<'a, F, A: Area + Send, B: Area + Send> {
     pub cards_gate: &'a SpoolGate<A>,
     pub cards: SpoolRecv<A>,
     pub pages_gate: &'a SpoolGate<B>,
     pub pages: SpoolSend<B>,
     pub desk: Desk<'a>,
-    pub files: FileArea<F>,
+    pub files: F,
 }
 
 /// The same before and after the process has run: it hasn't got the disk.
 #[derive(Drop)]
-pub struct JobEnds<'a, A: Area + Send, B: Area + Send, F: Area> {
+pub struct JobEnds<'a, F, A: Area + Send, B: Area + Send> {
     pub cards_gate: &'a SpoolGate<A>,
     pub cards: SpoolRecv<A>,
     pub pages_gate: &'a SpoolGate<B>,
     pub pages: SpoolSend<B>,
     pub disk: &'a DiskResource,
     pub seat: DiskSeat,
-    pub files: FileArea<F>,
+    pub files: F,
 }
 
-impl<'a, A: Area + Send, B: Area + Send, F: Area> JobConnections<'a, A, B, F> {
+impl<'a, F, A: Area + Send, B: Area + Send> JobConnections<'a, F, A, B> {
     /// Runs the job process up to its end.
-    fn run<R: Threads + Wait + Sync>(&mut self, rt: &R, alloc: Global) -> Outcome
-        requires { JobRan A.size B.size F.pages F.faults self.old self.old [] }
-        ensures { EndsSo (job deck_jobs) (JobRan A.size B.size F.pages F.faults self.old self.new) result }
+    fn run<J: JobWork, R: Threads + Wait + Sync>(&mut self, rt: &R, alloc: Global) -> Outcome
+    where
+        F: Loader<J>,
+        requires { JobRan {L = J.Load} (loading F.found F.pages F.faults F.sound) A.size B.size self.old self.old [] }
+        ensures { EndsSo J.jobs (job J.jobs) (JobRan (loading F.found F.pages F.faults F.sound) A.size B.size self.old self.new) result }
     {
-        run_to_end!(JobProcWork<DeckWork>, rt, alloc, |action| self.perform(action, rt, alloc))
+        run_to_end!(J, JobProcWork<J>, rt, alloc, |action| self.perform::<J, R>(action, rt, alloc))
     }
 
     /// Performs an action of the process, and waits where the other side of a buffer isn't ready.
     #[inline(always)]
-    fn perform<R: Threads + Wait + Sync>(
+    fn perform<J: JobWork, R: Threads + Wait + Sync>(
         &mut self,
         action: Action,
         rt: &R,
         alloc: Global,
-    ) -> Reply<Loaded>
+    ) -> Reply<J::Load>
+    where
+        F: Loader<J>,
         requires does { does_job action }
-        requires comes { (start : JobConnections A B F)
-            × Comes (job deck_jobs) (JobRan A.size B.size F.pages F.faults start self.old) action }
-        ensures fits { Fits deck_jobs action result }
-        ensures performs { (start : JobConnections A B F)
-            → Performs (job deck_jobs) (JobRan A.size B.size F.pages F.faults start self.old)
-            (JobRan A.size B.size F.pages F.faults start self.new) action result }
+        requires comes { (start : JobConnections F A B)
+            × Comes J.jobs (job J.jobs) (JobRan (loading F.found F.pages F.faults F.sound) A.size B.size start self.old) action }
+        ensures fits { Fits J.jobs action result }
+        ensures performs { (start : JobConnections F A B)
+            → Performs J.jobs (job J.jobs) (JobRan (loading F.found F.pages F.faults F.sound) A.size B.size start self.old)
+            (JobRan (loading F.found F.pages F.faults F.sound) A.size B.size start self.new) action result }
     {
         if let Action::Load(file) = &action {
-            return load_file(alloc, &mut self.files, file);
+            return self.files.load(alloc, file);
         }
         match action {
             Action::AwaitItem => match self.cards.await_item(self.cards_gate, rt) {
@@ -119,16 +119,18 @@ impl<'a, A: Area + Send, B: Area + Send, F: Area> JobConnections<'a, A, B, F> {
     }
 }
 
-impl<'a, A: Area + Send, B: Area + Send, F: Area> JobEnds<'a, A, B, F> {
+impl<'a, F, A: Area + Send, B: Area + Send> JobEnds<'a, F, A, B> {
     /// Runs the job process up to its end.
-    pub fn ran<R: Threads + Wait + Sync>(
+    pub fn ran<J: JobWork, R: Threads + Wait + Sync>(
         self,
         rt: &R,
         alloc: Global,
-    ) -> (JobEnds<'a, A, B, F>, Outcome)
-        requires { JobRan A.size B.size F.pages F.faults (job_connected self) (job_connected self) [] }
-        ensures { EndsSo (job deck_jobs)
-            (JobRan A.size B.size F.pages F.faults (job_connected self.entry) (job_connected result.0))
+    ) -> (JobEnds<'a, F, A, B>, Outcome)
+    where
+        F: Loader<J>,
+        requires { JobRan {L = J.Load} (loading F.found F.pages F.faults F.sound) A.size B.size (job_connected self) (job_connected self) [] }
+        ensures { EndsSo J.jobs (job J.jobs)
+            (JobRan (loading F.found F.pages F.faults F.sound) A.size B.size (job_connected self.entry) (job_connected result.0))
             result.1 }
     {
         let JobEnds {
@@ -148,7 +150,7 @@ impl<'a, A: Area + Send, B: Area + Send, F: Area> JobEnds<'a, A, B, F> {
             desk: Desk::new(disk, seat),
             files,
         };
-        let how = connections.run(rt, alloc);
+        let how = connections.run::<J, R>(rt, alloc);
         let JobConnections {
             cards_gate,
             cards,

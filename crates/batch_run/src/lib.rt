@@ -17,7 +17,6 @@ mod promises;
 mod row;
 mod run;
 mod start;
-mod units;
 
 pub use batch::run_batch;
 pub use card_connections::CardConnections;
@@ -27,4 +26,3 @@ pub use job_connections::{JobConnections, JobEnds};
 pub use output_connections::{OutputConnections, OutputEnds};
 pub use printer_connections::PrinterConnections;
 pub use row::{Ended, Row, RowEnded, run_five};
-pub use units::Units;

@@ -4,14 +4,11 @@ ghost use Rattle.batch_procs.specs.Table.{output};
 ghost use Rattle.batch_run.specs.Connections.{Comes, EndsSo, Performs};
 ghost use Rattle.batch_run.specs.declared.output_connections.OutputConnections.{OutputConnections};
 ghost use Rattle.batch_run.specs.Pages.{OutputRan, does_output, output_connected};
-ghost use Rattle.deck_work.specs.DeckJobs.{deck_jobs};
 
 use crate::desk::Desk;
 use crate::run::{end_of, run_to_end};
-use batch_procs::{Action, Machine, OutputWork, Reply};
-use deck_work::DeckWork;
+use batch_procs::{Action, JobWork, Machine, OutputWork, Reply};
 use disk_spool::{Fetched, SpoolGate, SpoolRecv};
-use disk_system::Loaded;
 use resource_mon::{DiskResource, DiskSeat};
 use slot_buffer::{SendEnd, SlotGate};
 use solo_base::{Feed, Outcome, Page};
@@ -43,22 +40,32 @@ pub struct OutputEnds<'a, B: Area + Send> {
 
 impl<'a, B: Area + Send> OutputConnections<'a, B> {
     /// Runs the output process up to its end.
-    fn run<R: Threads + Wait + Sync>(&mut self, rt: &R, alloc: Global) -> Outcome
-        requires { OutputRan B.size self.old self.old [] }
-        ensures { EndsSo output (OutputRan B.size self.old self.new) result }
+    fn run<J: JobWork, R: Threads + Wait + Sync>(&mut self, rt: &R, alloc: Global) -> Outcome
+        requires { OutputRan {L = J.Load} B.size self.old self.old [] }
+        ensures { EndsSo J.jobs output (OutputRan B.size self.old self.new) result }
     {
-        run_to_end!(OutputWork, rt, alloc, |action| self.perform(action, rt))
+        run_to_end!(
+            J,
+            OutputWork,
+            rt,
+            alloc,
+            |action| self.perform::<J, R>(action, rt)
+        )
     }
 
     /// Performs an action of the process, and waits where the other side of a buffer isn't ready.
     #[inline(always)]
-    fn perform<R: Threads + Wait + Sync>(&mut self, action: Action, rt: &R) -> Reply<Loaded>
+    fn perform<J: JobWork, R: Threads + Wait + Sync>(
+        &mut self,
+        action: Action,
+        rt: &R,
+    ) -> Reply<J::Load>
         requires does { does_output action }
         requires comes { (start : OutputConnections B)
-            × Comes output (OutputRan B.size start self.old) action }
-        ensures fits { Fits deck_jobs action result }
+            × Comes J.jobs output (OutputRan B.size start self.old) action }
+        ensures fits { Fits J.jobs action result }
         ensures performs { (start : OutputConnections B)
-            → Performs output (OutputRan B.size start self.old) (OutputRan B.size start self.new) action result }
+            → Performs J.jobs output (OutputRan B.size start self.old) (OutputRan B.size start self.new) action result }
     {
         match action {
             Action::AwaitItem => match self.pages.await_item(self.pages_gate, rt) {
@@ -103,13 +110,13 @@ impl<'a, B: Area + Send> OutputConnections<'a, B> {
 
 impl<'a, B: Area + Send> OutputEnds<'a, B> {
     /// Runs the output process up to its end.
-    pub fn ran<R: Threads + Wait + Sync>(
+    pub fn ran<J: JobWork, R: Threads + Wait + Sync>(
         self,
         rt: &R,
         alloc: Global,
     ) -> (OutputEnds<'a, B>, Outcome)
-        requires { OutputRan B.size (output_connected self) (output_connected self) [] }
-        ensures { EndsSo output (OutputRan B.size (output_connected self.entry) (output_connected result.0)) result.1 }
+        requires { OutputRan {L = J.Load} B.size (output_connected self) (output_connected self) [] }
+        ensures { EndsSo J.jobs output (OutputRan B.size (output_connected self.entry) (output_connected result.0)) result.1 }
     {
         let OutputEnds {
             pages_gate,
@@ -126,7 +133,7 @@ impl<'a, B: Area + Send> OutputEnds<'a, B> {
             lines,
             desk: Desk::new(disk, seat),
         };
-        let how = connections.run(rt, alloc);
+        let how = connections.run::<J, R>(rt, alloc);
         let OutputConnections {
             pages_gate,
             pages,

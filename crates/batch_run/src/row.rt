@@ -1,6 +1,7 @@
 //! The five processes, each on a thread of its own.
 ghost use Rattle.std.specs.Prelude.{◌≡◌, [], IfOk, IfErr};
 ghost use Rattle.batch_run.specs.Cards.{CardRan};
+ghost use Rattle.batch_run.specs.Files.{loading};
 ghost use Rattle.batch_run.specs.Lines.{PrinterRan};
 ghost use Rattle.batch_run.specs.Row.{BackBegins, BackCame, BackRan, CardsCame, FrontBegins, FrontCame, FrontRan, JobsCame, LinesCame, PagesCame, PaperCame, RestBegins, RestCame, RestRan, RowBegins, RowRan};
 ghost use Rattle.batch_run.specs.Pages.{InputRan, JobRan, OutputRan, input_connected, job_connected, output_connected};
@@ -14,9 +15,11 @@ use crate::printer_connections::PrinterConnections;
 use crate::processes::{begin_cards, begin_jobs, begin_lines, begin_pages, begin_paper};
 use crate::promises::{CardsComing, FrontComing, JobsComing, LinesComing};
 use crate::start::{Start, Told};
+use batch_procs::{JobWork, Loader};
 use solo_base::Outcome;
 use solo_devices::{Area, Sink, Source};
 use std::alloc::Global;
+use std::marker::PhantomData;
 use std::snapshot::Snapshot;
 use std::sync::Wait;
 use std::thread::Threads;
@@ -25,25 +28,33 @@ use std::thread::Threads;
 pub type Ended<C> = (C, Outcome);
 
 /// The connections of the five processes, in their order.
-pub struct Row<'a, S: Source + Drop, K: Sink + Drop, A: Area + Send, B: Area + Send, F: Area> {
+pub struct Row<'a, S: Source + Drop, K: Sink + Drop, F, A: Area + Send, B: Area + Send> {
     pub cards: CardConnections<'a, S>,
     pub pages: InputEnds<'a, A>,
-    pub jobs: JobEnds<'a, A, B, F>,
+    pub jobs: JobEnds<'a, F, A, B>,
     pub lines: OutputEnds<'a, B>,
     pub paper: PrinterConnections<'a, K>,
 }
 
 /// The same once all have ended: the card and the input process, and the three others.
-pub struct RowEnded<'a, S: Source + Drop, K: Sink + Drop, A: Area + Send, B: Area + Send, F: Area> {
+pub struct RowEnded<'a, S: Source + Drop, K: Sink + Drop, F, A: Area + Send, B: Area + Send> {
     pub front: (Ended<CardConnections<'a, S>>, Ended<InputEnds<'a, A>>),
     pub rest: (
-        Ended<JobEnds<'a, A, B, F>>,
+        Ended<JobEnds<'a, F, A, B>>,
         (Ended<OutputEnds<'a, B>>, Ended<PrinterConnections<'a, K>>),
     ),
 }
 
 /// Runs the card and the input process side by side, where all have come to the start.
-fn run_front<'a, 'b, 's, S: Source + Drop + Send, A: Area + Send, R: Threads + Wait + Sync>(
+fn run_front<
+    'a,
+    'b,
+    's,
+    J: JobWork + Send,
+    S: Source + Drop + Send,
+    A: Area + Send,
+    R: Threads + Wait + Sync,
+>(
     rt: &R,
     alloc: Global,
     start: &'s Start,
@@ -53,8 +64,10 @@ fn run_front<'a, 'b, 's, S: Source + Drop + Send, A: Area + Send, R: Threads + W
     (Ended<CardConnections<'a, S>>, Ended<InputEnds<'b, A>>),
     Told<'s>,
 )
-    requires { FrontBegins S.left S.taken S.faults A.size cards pages }
-    ensures { FrontCame S.left S.taken S.faults A.size
+where
+    J::Load: Send,
+    requires { FrontBegins J.jobs S.left S.taken S.faults A.size cards pages }
+    ensures { FrontCame J.jobs S.left S.taken S.faults A.size
         start.now.all.id result.1.of result.1.value cards.entry pages.entry result.0 }
 {
     let ((cards, told), (pages, also)) = beside(
@@ -63,24 +76,33 @@ fn run_front<'a, 'b, 's, S: Source + Drop + Send, A: Area + Send, R: Threads + W
         CardsComing {
             start,
             cards: Snapshot::of(&cards),
+            of: PhantomData::<J>,
         },
         move || -> (Ended<CardConnections<S>>, Told<'_>)
-            requires { CardRan S.left S.taken S.faults cards cards [] }
-            ensures { CardsCame S.left S.taken S.faults
+            requires { CardRan {L = J.Load} S.left S.taken S.faults cards cards [] }
+            ensures { CardsCame J.jobs S.left S.taken S.faults
                 start.entry.now.all.id result.1.of result.1.value cards.entry result.0 }
-        { begin_cards(rt, alloc, start, cards) },
+        { begin_cards::<J, S, R>(rt, alloc, start, cards) },
         move || -> (Ended<InputEnds<A>>, Told<'_>)
-            requires { InputRan A.size (input_connected pages) (input_connected pages) [] }
-            ensures { PagesCame A.size
+            requires { InputRan {L = J.Load} A.size (input_connected pages) (input_connected pages) [] }
+            ensures { PagesCame J.jobs A.size
                 start.entry.now.all.id result.1.of result.1.value pages.entry result.0 }
-        { begin_pages(rt, alloc, start, pages) },
+        { begin_pages::<J, A, R>(rt, alloc, start, pages) },
     );
     told.agrees(&also);
     ((cards, pages), told)
 }
 
 /// Runs the output and the printer process side by side, where all have come to the start.
-fn run_back<'a, 'b, 's, K: Sink + Drop + Send, B: Area + Send, R: Threads + Wait + Sync>(
+fn run_back<
+    'a,
+    'b,
+    's,
+    J: JobWork + Send,
+    K: Sink + Drop + Send,
+    B: Area + Send,
+    R: Threads + Wait + Sync,
+>(
     rt: &R,
     alloc: Global,
     start: &'s Start,
@@ -90,8 +112,10 @@ fn run_back<'a, 'b, 's, K: Sink + Drop + Send, B: Area + Send, R: Threads + Wait
     (Ended<OutputEnds<'a, B>>, Ended<PrinterConnections<'b, K>>),
     Told<'s>,
 )
-    requires { BackBegins K.given K.faults B.size lines paper }
-    ensures { BackCame K.given K.faults B.size
+where
+    J::Load: Send,
+    requires { BackBegins J.jobs K.given K.faults B.size lines paper }
+    ensures { BackCame J.jobs K.given K.faults B.size
         start.now.all.id result.1.of result.1.value lines.entry paper.entry result.0 }
 {
     let ((lines, told), (paper, also)) = beside(
@@ -100,17 +124,18 @@ fn run_back<'a, 'b, 's, K: Sink + Drop + Send, B: Area + Send, R: Threads + Wait
         LinesComing {
             start,
             lines: Snapshot::of(&lines),
+            of: PhantomData::<J>,
         },
         move || -> (Ended<OutputEnds<B>>, Told<'_>)
-            requires { OutputRan B.size (output_connected lines) (output_connected lines) [] }
-            ensures { LinesCame B.size
+            requires { OutputRan {L = J.Load} B.size (output_connected lines) (output_connected lines) [] }
+            ensures { LinesCame J.jobs B.size
                 start.entry.now.all.id result.1.of result.1.value lines.entry result.0 }
-        { begin_lines(rt, alloc, start, lines) },
+        { begin_lines::<J, B, R>(rt, alloc, start, lines) },
         move || -> (Ended<PrinterConnections<K>>, Told<'_>)
-            requires { PrinterRan K.given K.faults paper paper [] }
-            ensures { PaperCame K.given K.faults
+            requires { PrinterRan {L = J.Load} K.given K.faults paper paper [] }
+            ensures { PaperCame J.jobs K.given K.faults
                 start.entry.now.all.id result.1.of result.1.value paper.entry result.0 }
-        { begin_paper(rt, alloc, start, paper) },
+        { begin_paper::<J, K, R>(rt, alloc, start, paper) },
     );
     told.agrees(&also);
     ((lines, paper), told)
@@ -122,27 +147,30 @@ fn run_rest<
     'b,
     'c,
     's,
+    J: JobWork + Send,
     K: Sink + Drop + Send,
+    F: Loader<J> + Send,
     A: Area + Send,
     B: Area + Send,
-    F: Area + Drop + Send,
     R: Threads + Wait + Sync,
 >(
     rt: &R,
     alloc: Global,
     start: &'s Start,
-    jobs: JobEnds<'a, A, B, F>,
+    jobs: JobEnds<'a, F, A, B>,
     lines: OutputEnds<'b, B>,
     paper: PrinterConnections<'c, K>,
 ) -> (
     (
-        Ended<JobEnds<'a, A, B, F>>,
+        Ended<JobEnds<'a, F, A, B>>,
         (Ended<OutputEnds<'b, B>>, Ended<PrinterConnections<'c, K>>),
     ),
     Told<'s>,
 )
-    requires { RestBegins K.given K.faults A.size B.size F.pages F.faults jobs lines paper }
-    ensures { RestCame K.given K.faults A.size B.size F.pages F.faults
+where
+    J::Load: Send,
+    requires { RestBegins J.jobs K.given K.faults (loading F.found F.pages F.faults F.sound) A.size B.size jobs lines paper }
+    ensures { RestCame J.jobs K.given K.faults (loading F.found F.pages F.faults F.sound) A.size B.size
         start.now.all.id result.1.of result.1.value jobs.entry lines.entry paper.entry result.0 }
 {
     let ((jobs, told), (back, also)) = beside(
@@ -151,20 +179,21 @@ fn run_rest<
         JobsComing {
             start,
             jobs: Snapshot::of(&jobs),
+            of: PhantomData::<J>,
         },
-        move || -> (Ended<JobEnds<A, B, F>>, Told<'_>)
-            requires { JobRan A.size B.size F.pages F.faults (job_connected jobs) (job_connected jobs) [] }
-            ensures { JobsCame A.size B.size F.pages F.faults
+        move || -> (Ended<JobEnds<F, A, B>>, Told<'_>)
+            requires { JobRan {L = J.Load} (loading F.found F.pages F.faults F.sound) A.size B.size (job_connected jobs) (job_connected jobs) [] }
+            ensures { JobsCame J.jobs (loading F.found F.pages F.faults F.sound) A.size B.size
                 start.entry.now.all.id result.1.of result.1.value jobs.entry result.0 }
-        { begin_jobs(rt, alloc, start, jobs) },
+        { begin_jobs::<J, F, A, B, R>(rt, alloc, start, jobs) },
         move || -> (
             (Ended<OutputEnds<B>>, Ended<PrinterConnections<K>>),
             Told<'_>,
         )
-            requires { BackBegins K.given K.faults B.size lines paper }
-            ensures { BackCame K.given K.faults B.size
+            requires { BackBegins J.jobs K.given K.faults B.size lines paper }
+            ensures { BackCame J.jobs K.given K.faults B.size
                 start.entry.now.all.id result.1.of result.1.value lines.entry paper.entry result.0 }
-        { run_back(rt, alloc, start, lines, paper) },
+        { run_back::<J, K, B, R>(rt, alloc, start, lines, paper) },
     );
     told.agrees(&also);
     ((jobs, back), told)
@@ -175,20 +204,25 @@ fn run_rest<
 #[inline(never)]
 pub fn run_five<
     'a,
+    J: JobWork + Send,
     S: Source + Drop + Send,
     K: Sink + Drop + Send,
+    F: Loader<J> + Send,
     A: Area + Send,
     B: Area + Send,
-    F: Area + Drop + Send,
     R: Threads + Wait + Sync,
 >(
     rt: &R,
     alloc: Global,
-    row: Row<'a, S, K, A, B, F>,
-) -> Result<RowEnded<'a, S, K, A, B, F>, Row<'a, S, K, A, B, F>>
-    requires { RowBegins S.left S.taken S.faults K.given K.faults A.size B.size F.pages F.faults row }
+    row: Row<'a, S, K, F, A, B>,
+) -> Result<RowEnded<'a, S, K, F, A, B>, Row<'a, S, K, F, A, B>>
+where
+    J::Load: Send,
+    requires { RowBegins J.jobs S.left S.taken S.faults K.given K.faults
+        (loading F.found F.pages F.faults F.sound) A.size B.size row }
     ensures ran { IfOk result (λ ended.
-        RowRan S.left S.taken S.faults K.given K.faults A.size B.size F.pages F.faults row.entry ended) }
+        RowRan J.jobs S.left S.taken S.faults K.given K.faults
+        (loading F.found F.pages F.faults F.sound) A.size B.size row.entry ended) }
     ensures refused { IfErr result (λ back. back ≡ row.entry) }
 {
     let Row {
@@ -206,24 +240,25 @@ pub fn run_five<
             start,
             cards: Snapshot::of(&cards),
             pages: Snapshot::of(&pages),
+            of: PhantomData::<J>,
         },
         move || -> ((Ended<CardConnections<S>>, Ended<InputEnds<A>>), Told<'_>)
-            requires { FrontBegins S.left S.taken S.faults A.size cards pages }
-            ensures { FrontCame S.left S.taken S.faults A.size
+            requires { FrontBegins J.jobs S.left S.taken S.faults A.size cards pages }
+            ensures { FrontCame J.jobs S.left S.taken S.faults A.size
                 start.entry.now.all.id result.1.of result.1.value cards.entry pages.entry result.0 }
-        { run_front(rt, alloc, start, cards, pages) },
+        { run_front::<J, S, A, R>(rt, alloc, start, cards, pages) },
         move || -> (
             (
-                Ended<JobEnds<A, B, F>>,
+                Ended<JobEnds<F, A, B>>,
                 (Ended<OutputEnds<B>>, Ended<PrinterConnections<K>>),
             ),
             Told<'_>,
         )
-            requires { RestBegins K.given K.faults A.size B.size F.pages F.faults jobs lines paper }
-            ensures { RestCame K.given K.faults A.size B.size F.pages F.faults
+            requires { RestBegins J.jobs K.given K.faults (loading F.found F.pages F.faults F.sound) A.size B.size jobs lines paper }
+            ensures { RestCame J.jobs K.given K.faults (loading F.found F.pages F.faults F.sound) A.size B.size
                 start.entry.now.all.id result.1.of result.1.value
                 jobs.entry lines.entry paper.entry result.0 }
-        { run_rest(rt, alloc, start, jobs, lines, paper) },
+        { run_rest::<J, K, F, A, B, R>(rt, alloc, start, jobs, lines, paper) },
     );
     told.agrees(&also);
     if start.is_whole(&told) {
@@ -233,9 +268,9 @@ pub fn run_five<
 }
 
 // The connections of the five, of which none has begun.
-fn not_begun<'a, S: Source + Drop, K: Sink + Drop, A: Area + Send, B: Area + Send, F: Area>(
-    ended: RowEnded<'a, S, K, A, B, F>,
-) -> Row<'a, S, K, A, B, F>
+fn not_begun<'a, S: Source + Drop, K: Sink + Drop, F, A: Area + Send, B: Area + Send>(
+    ended: RowEnded<'a, S, K, F, A, B>,
+) -> Row<'a, S, K, F, A, B>
     ensures { result ≡ record {
       cards = ended.entry.front.0.0;
       pages = ended.entry.front.1.0;

@@ -8,8 +8,8 @@ use solo_base::Outcome;
 /// Runs the machine of a process, of which each action is performed so, up to its end. It stands in a
 /// function of each of the connections, since what they send to a thread isn't known behind a trait.
 macro_rules! run_to_end {
-    ($work:ty, $rt:expr, $alloc:expr, |$action:ident| $perform:expr) => {{
-        let mut machine = Machine::<DeckWork, $work>::new($alloc);
+    ($jobs:ty, $work:ty, $rt:expr, $alloc:expr, |$action:ident| $perform:expr) => {{
+        let mut machine = Machine::<$jobs, $work>::new($alloc);
         for _ in $rt.forever() {
             let $action = machine.next();
             let end = end_of(&$action);

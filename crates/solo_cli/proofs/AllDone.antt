@@ -7,9 +7,9 @@ use Rattle.solo_base.specs.declared.outcome.Outcome.TheVariants as outcome
 use Rattle.solo_base.specs.declared.outcome.Side.{Side}
 use Rattle.batch_procs.specs.Faults.{IsDamaged}
 use Rattle.core_law.specs.Ends.{IsProcess}
-use Rattle.core_net.specs.declared.finish.Outcomes.{Outcomes}
-use Rattle.core_net.specs.Ended.{outcome_at, all_done, EndTogether, FaultsAre, NoneDamaged}
-use Rattle.batch_run.proofs.Ending.{each-process}
+use Rattle.batch_ends.specs.declared.ends.Outcomes.{Outcomes}
+use Rattle.batch_ends.specs.Ended.{outcome_at, all_done, EndTogether, FaultsAre, NoneDamaged, TellsWhere}
+use Rattle.core_law.proofs.Row.{each-process}
 use Rattle.solo_cli.specs.Decides.{decides, list_of, IsIn}
 use Rattle.solo_cli.proofs.Lowest.{among, no-fault}
 
@@ -105,3 +105,12 @@ module _ (outcomes : Outcomes) (none : NoneDamaged outcomes) (c : Cause) (damage
 
   pub by-none : decides (list_of outcomes) ≡ Some c → ⊥
   by-none is = in-none (among (list_of outcomes) c is)
+
+-- the numbers of a fault of one of them agree
+pub numbers-in : (outcomes : Outcomes) → FaultsAre outcomes → (c : Cause) → IsIn (outcome.Fault c) (list_of outcomes) → TellsWhere c
+numbers-in outcomes faults c (inl at) = faults.numbers 1 c (omega arith, omega arith) at
+numbers-in outcomes faults c (inr (inl at)) = faults.numbers 2 c (omega arith, omega arith) at
+numbers-in outcomes faults c (inr (inr (inl at))) = faults.numbers 3 c (omega arith, omega arith) at
+numbers-in outcomes faults c (inr (inr (inr (inl at)))) = faults.numbers 4 c (omega arith, omega arith) at
+numbers-in outcomes faults c (inr (inr (inr (inr (inl at))))) = faults.numbers 5 c (omega arith, omega arith) at
+numbers-in outcomes faults c (inr (inr (inr (inr (inr at))))) = absurd at

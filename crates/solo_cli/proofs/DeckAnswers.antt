@@ -7,18 +7,18 @@ use Rattle.solo_base.specs.declared.outcome.Outcome.TheVariants as outcome
 use Rattle.solo_devices.specs.Count.{Rose}
 use Rattle.solo_devices.specs.CardUnit.{byte_limit, bytes_total, IsAllTaken}
 use Rattle.batch_procs.specs.Faults.{IsDamaged}
-use Rattle.core_net.specs.declared.finish.Outcomes.{Outcomes}
-use Rattle.core_net.specs.Ended.{FaultsAre, NoneDamaged, all_done}
+use Rattle.batch_ends.specs.declared.ends.Outcomes.{Outcomes}
+use Rattle.batch_ends.specs.Ended.{FaultsAre, NoneDamaged, TellsWhere, all_done}
 use Rattle.solo_cli.specs.declared.refusal.Refusal.{Refusal}
 use Rattle.solo_cli.specs.declared.refusal.Refusal.TheVariants.{Fault, NoRoom}
 use Rattle.solo_cli.specs.Answers.{Answers}
 use Rattle.solo_cli.specs.Causes.{IsPrintCause, IsRunCause}
 use Rattle.solo_cli.specs.Decides.{AreCounted, DeckEnds, LineBehind, LowestDecides, IsIn, list_of}
 use Rattle.solo_cli.specs.Devices.{Told}
-use Rattle.solo_cli.specs.Refusals.{OfFault}
+use Rattle.solo_cli.specs.Refusals.{OfFault, TellsPlace}
 use Rattle.solo_cli.specs.Status.{number_of, status_of}
 use Rattle.solo_cli.specs.Uses.{Kept, deck_used}
-use Rattle.solo_cli.proofs.AllDone.{read-in, limit-in, print-in, disk-in, in-none}
+use Rattle.solo_cli.proofs.AllDone.{read-in, limit-in, print-in, disk-in, in-none, numbers-in}
 use Rattle.solo_cli.proofs.Statuses.{eight-is}
 
 -- ---- the cause is one of those of the five
@@ -77,6 +77,10 @@ module _ {S Y K T F I O : Type 0} (before after : Told S Y K T F I O) where
   behind-whole c (inl is) eight = (let four : number_of c ≡ 4 = ap number_of is.0 in omega (arith, four, eight))
   behind-whole c (inr is) eight = (let nine : number_of c ≡ 9 = ap number_of is in omega (arith, nine, eight))
 
+  behind-numbers : (c : Cause) → LineBehind before after c → TellsWhere c
+  behind-numbers c (inl is) = subst TellsWhere (sym is.0) tt
+  behind-numbers c (inr is) = subst TellsWhere (sym is) tt
+
 -- what may come of a line that is printed behind them
 pub later-line : {S Y K T F I O : Type 0} {before after : Told S Y K T F I O} (answer : Option Refusal) → IfSome answer (OfFault IsPrintCause)
     → (answer ≡ Some (Fault cause.PrintFault) → Rose before.paper.faults after.paper.faults)
@@ -94,9 +98,9 @@ module _ {S Y K T F I O : Type 0} {Behind : Cause → Type 0} {before after : To
   -- a cause is a fault of the five, or comes behind them
   by : {X : Type 0} (c : Cause) → (IsIn (outcome.Fault c) (list_of ends.five.outcomes) → X) → (LineBehind before after c → X)
       → answer ≡ Some (Fault c) → X
-  by c of behind is =
+  by c fault behind is =
       let one : OneOf c = subst (λ answer. IfSome answer (OfFault OneOf)) is ends.five.one_of in
-      elim one [ | inl at ↦ of at | inr both ↦ behind (later c both.1) ]
+      elim one [ inl at ↦ fault at | inr both ↦ behind (later c both.1) ]
 
   known-of : (answer : Option Refusal) → IfSome answer (OfFault OneOf) → IfSome answer (OfFault IsRunCause)
   known-of None one = tt
@@ -135,13 +139,19 @@ module _ {S Y K T F I O : Type 0} {Behind : Cause → Type 0} {before after : To
   beyond more =
       let card = ends.counted.longer more in
       let lower = ends.five.none_lower cause.DeckLimit (inl card) in
-      beyond-of lower.0 card lower.1.0 lower.1.1 (subst (λ answer. IfSome answer (OfFault IsRunCause)) lower.1.0 known)
+      beyond-of lower.0 card lower.1 lower.2 (subst (λ answer. IfSome answer (OfFault IsRunCause)) lower.1 known)
 
   whole-of : (answer : Option Refusal) → NoneDamaged ends.five.outcomes → IfSome answer (OfFault OneOf) → status_of answer ≢ 8
   whole-of None none one eight = cc
   whole-of (Some (NoRoom needed free)) none one eight = one
   whole-of (Some (Fault why)) none (inl at) eight = in-none ends.five.outcomes none why (eight-is why eight) at
   whole-of (Some (Fault why)) none (inr both) eight = behind-whole before after why (later why both.1) eight
+
+  numbers-of : (answer : Option Refusal) → IfSome answer (OfFault OneOf) → IfSome answer TellsPlace
+  numbers-of None one = tt
+  numbers-of (Some (NoRoom needed free)) one = tt
+  numbers-of (Some (Fault why)) (inl at) = numbers-in ends.five.outcomes ends.five.faults why at
+  numbers-of (Some (Fault why)) (inr both) = behind-numbers before after why (later why both.1)
 
   -- ---- all of it
   pub deck-answers : (IsSome before.input.pages → IsSome before.output.pages → NoneDamaged ends.five.outcomes)
@@ -159,6 +169,7 @@ module _ {S Y K T F I O : Type 0} {Behind : Cause → Type 0} {before after : To
         (λ behind. absurd (not-behind before after cause.DeckLimit (λ e. cc) (λ e. cc) behind));
     beyond = beyond;
     undamaged = λ input output told. whole-of answer (none input output) ends.five.one_of;
+    numbers = numbers-of answer ends.five.one_of;
     total = total;
     kept = kept;
     size = size;

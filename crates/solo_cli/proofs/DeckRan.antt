@@ -10,10 +10,9 @@ use Rattle.solo_devices.specs.PrinterUnit.{Gains}
 use Rattle.batch_job.specs.OneThread.{one_thread_output}
 use Rattle.batch_job.specs.Report.{Loads}
 use Rattle.core_law.specs.Core.{Devices as CoreDevices}
-use Rattle.core_net.proofs.GoodFiles.{are-good}
-use Rattle.core_net.specs.Ended.{NoneDamaged, all_done}
+use Rattle.deck_work.specs.DeckJobs.{deck_jobs, AreFound, files_found, found_are_loads}
+use Rattle.batch_ends.specs.Ended.{NoneDamaged, all_done}
 use Rattle.core_net.specs.WholeRuns.{RunsToEnd}
-use Rattle.deck_work.specs.DeckJobs.{AreFound, files_found}
 use Rattle.disk_system.specs.declared.loading.Loaded.{Loaded}
 use Rattle.network_run.specs.declared.counts.Counts.{Counts}
 use Rattle.network_run.specs.declared.rules.Rule.TheVariants.{Numbered}
@@ -30,7 +29,7 @@ use Rattle.solo_cli.specs.Mounting.{AreMounted, Untouched}
 use Rattle.solo_cli.specs.Printing.{Prints}
 use Rattle.solo_cli.specs.Ready.{IsReady}
 use Rattle.solo_cli.specs.Reading.{ReadsToEnd}
-use Rattle.solo_cli.specs.Refusals.{OfFault}
+use Rattle.solo_cli.specs.Refusals.{OfFault, TellsPlace}
 use Rattle.solo_cli.specs.Status.{status_of}
 use Rattle.solo_cli.specs.Uses.{Kept, deck_used}
 use Rattle.solo_cli.proofs.Adding.{both, gains-same, nothing}
@@ -60,7 +59,7 @@ module _ {S Y K T F I O : Type 0} {before after : Told S Y K T F I O} {answer : 
       → Kept deck_used before after → after.files.size ≡ before.files.size → (ends.five.outcomes ≡ all_done → IsAllTaken after.deck.left)
       → GainsLines before after.paper.given (ends.five.outcomes ≡ all_done) → AsRun RunsBatch deck_used IsRunCause before after answer
   batch-ran ends ready none total kept size taken gains =
-      let answers = deck-answers ends (λ why no. absurd no) none total kept size in (
+      let answers = deck-answers ends (λ why never. absurd never) none total kept size in (
         record {
           prints = λ bytes found told files spools.
               gains-same _ _ _ _ _ _ _ _ refl refl refl (λ none. ends.five.done none) (gains bytes found told files spools);
@@ -93,6 +92,7 @@ module _ {S Y K T F I O : Type 0} {before after : Told S Y K T F I O} {answer : 
     limit = λ at. absurd (let no : Some (Fault cause.NoMemory) ≡ Some (Fault cause.DeckLimit) = sym is ∙ at in cc);
     beyond = λ more. absurd (let none : after.deck.taken ≡ 0 = ap (λ d. d.taken) untouched.deck ∙ zero in omega (arith, none, more));
     undamaged = λ input output told eight. (let nine : status_of answer ≡ 9 = ap status_of is in omega (arith, nine, eight));
+    numbers = subst (λ answer. IfSome answer TellsPlace) (sym is) tt;
     total = ap (λ d. bytes_total d.taken d.left) untouched.deck;
     kept = record { deck = tt; keys = keys; paper = tt; console = console; files = tt; input = tt; output = tt };
     size = size;
@@ -121,7 +121,7 @@ module _ {S Y K T F I O : Type 0} {before after : Told S Y K T F I O} {answer : 
       record {
         prints = λ bytes found told files spools.
             uncounted (Numbered n) (spools_of before) (files_found before.files.pages) found bytes before.paper.given after.paper.given
-            (answer ≡ None) (are-good before.files.pages) files (in-bounds ready) (both-tell spools) some
+            (answer ≡ None) (found_are_loads before.files.pages) files (in-bounds ready) (both-tell spools) some
             (gains-same _ _ _ _ _ _ _ _ refl refl refl (λ none. absurd (some none)) (gains bytes found told files spools));
         reads = core-reads;
         ends = inl ends;
@@ -137,8 +137,8 @@ module _ {S Y K T F I O : Type 0} {before after : Told S Y K T F I O} {answer : 
       record {
         prints = λ bytes found told files spools. record {
           counts = ends.counts;
-          counted = counted-whole (spools_of before) (cards bytes) found (are-good before.files.pages) (in-bounds ready) (card-items bytes) files
-              (subst (λ left. RunsToEnd (Numbered n) (opened_over before (items_ahead left []) before.paper.given) ends.counts
+          counted = counted-whole (spools_of before) (cards bytes) found (found_are_loads before.files.pages) (in-bounds ready) (card-items bytes) files
+              (subst (λ left. RunsToEnd deck_jobs (Numbered n) (opened_over before (items_ahead left []) before.paper.given) ends.counts
               ends.ends.five.outcomes ends.ends.five.stopped_by ends.devices) told ends.runs) (both-tell spools) all;
           gains = both before.paper.given mid after.paper.given (one_thread_output found bytes)
               (counts_line ends.counts.events ends.counts.delays ends.counts.grants) (ends.ends.five.outcomes ≡ all_done) (answer ≡ None) all

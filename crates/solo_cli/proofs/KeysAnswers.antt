@@ -6,12 +6,13 @@ use Rattle.solo_base.specs.declared.outcome.Cause.TheVariants as cause
 use Rattle.solo_devices.specs.Count.{Rose}
 use Rattle.solo_devices.specs.CardUnit.{byte_limit, bytes_total}
 use Rattle.time_net.specs.TimeStands.{IsTimesCause}
+use Rattle.batch_ends.specs.Ended.{TellsWhere}
 use Rattle.solo_cli.specs.declared.refusal.Refusal.{Refusal}
 use Rattle.solo_cli.specs.declared.refusal.Refusal.TheVariants.{Fault, NoRoom}
 use Rattle.solo_cli.specs.Answers.{Answers}
 use Rattle.solo_cli.specs.Causes.{IsCheckCause}
 use Rattle.solo_cli.specs.Devices.{Told}
-use Rattle.solo_cli.specs.Refusals.{OfFault}
+use Rattle.solo_cli.specs.Refusals.{OfFault, TellsPlace}
 use Rattle.solo_cli.specs.Status.{number_of, status_of}
 use Rattle.solo_cli.specs.Uses.{Kept, nothing_used}
 
@@ -33,6 +34,19 @@ times-whole (Some (Fault (cause.NotSolo page))) known eight = cc
 times-whole (Some (Fault (cause.Damaged expected found at))) known eight = known
 times-whole (Some (Fault cause.NoMemory)) known eight = cc
 
+times-numbers : (answer : Option Refusal) → IfSome answer (OfFault IsTimesCause) → IfSome answer TellsPlace
+times-numbers None known = tt
+times-numbers (Some (NoRoom needed free)) known = tt
+times-numbers (Some (Fault cause.Usage)) known = tt
+times-numbers (Some (Fault cause.ReadFault)) known = tt
+times-numbers (Some (Fault cause.DiskFault)) known = tt
+times-numbers (Some (Fault cause.PrintFault)) known = tt
+times-numbers (Some (Fault cause.ConsoleFault)) known = tt
+times-numbers (Some (Fault cause.DeckLimit)) known = tt
+times-numbers (Some (Fault (cause.NotSolo page))) known = tt
+times-numbers (Some (Fault (cause.Damaged expected found at))) known = absurd known
+times-numbers (Some (Fault cause.NoMemory)) known = tt
+
 module _ {S Y K T F I O : Type 0} {before after : Told S Y K T F I O} {answer : Option Refusal} where
   pub times-answers : IfSome answer (OfFault IsTimesCause)
       → (answer ≡ Some (Fault cause.ReadFault) → Rose before.keys.faults after.keys.faults)
@@ -45,12 +59,13 @@ module _ {S Y K T F I O : Type 0} {before after : Told S Y K T F I O} {answer : 
   times-answers known read shown limit beyond total kept size = record {
     known = known;
     read = read;
-    disk = λ is. absurd (other answer IsTimesCause cause.DiskFault (λ no. no) known is);
-    print = λ is. absurd (other answer IsTimesCause cause.PrintFault (λ no. no) known is);
+    disk = λ is. absurd (other answer IsTimesCause cause.DiskFault (λ never. never) known is);
+    print = λ is. absurd (other answer IsTimesCause cause.PrintFault (λ never. never) known is);
     shown = shown;
     limit = limit;
     beyond = λ over. inr (inr (beyond over));
     undamaged = λ input output told. times-whole answer known;
+    numbers = times-numbers answer known;
     total = total;
     kept = kept;
     size = size;
@@ -80,6 +95,17 @@ check-whole None known eight = cc
 check-whole (Some (NoRoom needed free)) known eight = known
 check-whole (Some (Fault why)) known eight = whole why known eight
 
+check-tells : (why : Cause) → IsCheckCause why → TellsWhere why
+check-tells why (inl is) = subst TellsWhere (sym is) tt
+check-tells why (inr (inl is)) = subst TellsWhere (sym is) tt
+check-tells why (inr (inr (inl is))) = subst TellsWhere (sym is) tt
+check-tells why (inr (inr (inr is))) = subst TellsWhere (sym is) tt
+
+check-numbers : (answer : Option Refusal) → IfSome answer (OfFault IsCheckCause) → IfSome answer TellsPlace
+check-numbers None known = tt
+check-numbers (Some (NoRoom needed free)) known = tt
+check-numbers (Some (Fault why)) known = check-tells why known
+
 module _ {S Y K T F I O : Type 0} {before after : Told S Y K T F I O} {answer : Option Refusal} where
   pub check-answers : IfSome answer (OfFault IsCheckCause)
       → (answer ≡ Some (Fault cause.ReadFault) → Rose before.deck.faults after.deck.faults)
@@ -98,6 +124,7 @@ module _ {S Y K T F I O : Type 0} {before after : Told S Y K T F I O} {answer : 
     limit = limit;
     beyond = λ over. inr (inr (beyond over));
     undamaged = λ input output told. check-whole answer known;
+    numbers = check-numbers answer known;
     total = total;
     kept = kept;
     size = size;

@@ -24,4 +24,5 @@ mod ReadingItems
 mod Printings
 mod Scripts
 mod KeysAnswers
+mod FilesAnswers
 mod Judging

@@ -10,9 +10,8 @@ use Rattle.solo_devices.specs.Count.{Rose}
 use Rattle.solo_devices.specs.CardUnit.{byte_limit, bytes_total}
 use Rattle.batch_procs.specs.Faults.{IsDamaged}
 use Rattle.core_law.specs.TheLaw.{the_law}
-use Rattle.core_net.specs.Ended.{all_done}
-use Rattle.core_net.proofs.GoodFiles.{are-good}
-use Rattle.deck_work.specs.DeckJobs.{deck_jobs, files_found}
+use Rattle.batch_ends.specs.Ended.{TellsWhere, all_done}
+use Rattle.deck_work.specs.DeckJobs.{deck_jobs, files_found, found_are_loads}
 use Rattle.batch_job.specs.Report.{Loads, no_files}
 use Rattle.made_deck.specs.MadeDeck.{made_deck}
 use Rattle.network_run.specs.OneRun.{AreItsCounts}
@@ -30,9 +29,10 @@ use Rattle.solo_cli.specs.MakesDeck.{GainsNumbers, MakesDeck}
 use Rattle.solo_cli.specs.Mounting.{Untouched}
 use Rattle.solo_cli.specs.Printing.{Prints}
 use Rattle.solo_cli.specs.Ready.{IsReady}
-use Rattle.solo_cli.specs.Refusals.{OfFault}
+use Rattle.solo_cli.specs.Refusals.{OfFault, TellsPlace}
 use Rattle.solo_cli.specs.Status.{number_of, status_of}
 use Rattle.solo_cli.specs.Uses.{made_used}
+use Rattle.solo_cli.proofs.AllDone.{numbers-in}
 use Rattle.solo_cli.proofs.DeckAnswers.{later-line}
 use Rattle.solo_cli.proofs.NoFiles.{no-files}
 use Rattle.solo_cli.proofs.Uncounted.{no-numbers}
@@ -44,6 +44,12 @@ print-make None known = tt
 print-make (Some (NoRoom needed free)) known = known
 print-make (Some (Fault why)) (inl is) = inr (inl is)
 print-make (Some (Fault why)) (inr is) = inr (inr (inr is))
+
+print-numbers : (answer : Option Refusal) → IfSome answer (OfFault IsPrintCause) → IfSome answer TellsPlace
+print-numbers None known = tt
+print-numbers (Some (NoRoom needed free)) known = tt
+print-numbers (Some (Fault why)) (inl is) = subst TellsWhere (sym is) tt
+print-numbers (Some (Fault why)) (inr is) = subst TellsWhere (sym is) tt
 
 print-status : (answer : Option Refusal) → IfSome answer (OfFault IsPrintCause) → (status_of answer ≡ 0) ⊎ ((status_of answer ≡ 4) ⊎ (status_of answer ≡ 9))
 print-status None known = inl refl
@@ -101,9 +107,9 @@ module _ {S Y K T F I O : Type 0} {before after : Told S Y K T F I O} {answer : 
       → (answer ≡ Some (Fault cause.DiskFault)
       → Rose before.input.faults after.input.faults ⊎ Rose before.output.faults after.output.faults ⊎ Rose before.files.faults after.files.faults)
       → (answer ≡ Some (Fault cause.PrintFault) → Rose before.paper.faults after.paper.faults)
-      → (IsSome before.input.pages → IsSome before.output.pages → status_of answer ≢ 8)
+      → (IsSome before.input.pages → IsSome before.output.pages → status_of answer ≢ 8) → IfSome answer TellsPlace
       → Answers made_used (OfFault IsMakeCause) before after answer
-  made-answers known disk print whole = record {
+  made-answers known disk print whole numbers = record {
     known = known;
     read = λ is. absurd (never answer cause.ReadFault no-read known is);
     disk = disk;
@@ -112,6 +118,7 @@ module _ {S Y K T F I O : Type 0} {before after : Told S Y K T F I O} {answer : 
     limit = λ is. absurd (never answer cause.DeckLimit no-limit known is);
     beyond = λ more. absurd (let none : after.deck.taken ≡ 0 = ap (λ d. d.taken) deck ∙ ready.deck in omega (arith, none, more));
     undamaged = λ input output told. whole input output;
+    numbers = numbers;
     total = ap (λ d. bytes_total d.taken d.left) deck;
     kept = record { deck = deck; keys = keys; paper = tt; console = console; files = tt; input = tt; output = tt };
     size = size;
@@ -126,7 +133,7 @@ module _ {S Y K T F I O : Type 0} {before after : Told S Y K T F I O} {answer : 
         subst (λ now. GainsNumbers (Numbered n) (opened_over before (Some (cards (made_deck n))) (Some [])) (made_deck n) before.paper.given now
         (answer ≡ None)) (sym (ap (λ p. p.given) paper))
         (no-numbers (Numbered n) (spools_of before) (files_found before.files.pages) (made_deck n) before.paper.given (answer ≡ None)
-        (are-good before.files.pages) (no-files n) (in-bounds ready) (both-tell spools) some)
+        (found_are_loads before.files.pages) (no-files n) (in-bounds ready) (both-tell spools) some)
 
     -- memory was refused for the deck
     pub make-lacks : answer ≡ Some (Fault cause.NoMemory) → Untouched before after → AsRun (MakesDeck n) made_used IsMakeCause before after answer
@@ -139,7 +146,8 @@ module _ {S Y K T F I O : Type 0} {before after : Told S Y K T F I O} {answer : 
       made-answers (subst (λ answer. IfSome answer (OfFault IsMakeCause)) (sym is) (inr (inr (inr refl))))
           (λ at. absurd (let no : Some (Fault cause.NoMemory) ≡ Some (Fault cause.DiskFault) = sym is ∙ at in cc))
           (λ at. absurd (let no : Some (Fault cause.NoMemory) ≡ Some (Fault cause.PrintFault) = sym is ∙ at in cc))
-          (λ input output eight. (let nine : status_of answer ≡ 9 = ap status_of is in omega (arith, nine, eight))),
+          (λ input output eight. (let nine : status_of answer ≡ 9 = ap status_of is in omega (arith, nine, eight)))
+          (subst (λ answer. IfSome answer TellsPlace) (sym is) tt),
     )
 
     -- ---- a run that met a fault
@@ -174,8 +182,15 @@ module _ {S Y K T F I O : Type 0} {before after : Told S Y K T F I O} {answer : 
           ends = inl (subst (LowestDecides (LineBehind before after)) (sym is) as-lowest);
         },
         made-answers (subst (λ answer. IfSome answer (OfFault IsMakeCause)) (sym is) known) (λ at. disk (sym is ∙ at))
-            (λ at. absurd (sure (some-is (sym is ∙ at)))) (λ input output eight. whole input output (ap status_of (sym is) ∙ eight)),
+            (λ at. absurd (sure (some-is (sym is ∙ at)))) (λ input output eight. whole input output (ap status_of (sym is) ∙ eight))
+            (subst (λ answer. IfSome answer TellsPlace) (sym is) (numbers ran lowest.one_of)),
       ) where
+        numbers : (ran : Refusal)
+            → OfFault (λ why. IsIn (outcome.Fault why) (list_of lowest.outcomes) ⊎ ((lowest.outcomes ≡ all_done) × Nothing why)) ran → TellsPlace ran
+        numbers (NoRoom needed free) one = tt
+        numbers (Fault why) (inl at) = numbers-in lowest.outcomes lowest.faults why at
+        numbers (Fault why) (inr both) = absurd both.1
+
         some-is : {a b : Refusal} → Some a ≡ Some b → a ≡ b
         some-is same = cc
 
@@ -195,13 +210,13 @@ module _ {S Y K T F I O : Type 0} {before after : Told S Y K T F I O} {answer : 
           together = lowest.together;
           faults = lowest.faults;
           one_of = behind answer (later-line answer known failed);
-          none_lower = λ fault at. absurd (let lower = lowest.none_lower fault at in (let no : None ≡ Some (Fault lower.0) = lower.1.0 in cc));
+          none_lower = λ fault at. absurd (let lower = lowest.none_lower fault at in (let none : None ≡ Some (Fault lower.0) = lower.1 in cc));
           done = λ _. lowest.done refl;
         };
       },
       made-answers (print-make answer known)
           (λ is. absurd (no-disk (subst (λ answer. IfSome answer (OfFault IsPrintCause)) is known))) failed
-          (λ input output eight. three-or-eight (status_of answer) (inr eight) (print-status answer known)),
+          (λ input output eight. three-or-eight (status_of answer) (inr eight) (print-status answer known)) (print-numbers answer known),
     ) where
       behind : (answer : Option Refusal) → IfSome answer (OfFault (LineBehind before after))
           → IfSome answer (OfFault (λ why. IsIn (outcome.Fault why) (list_of lowest.outcomes)
@@ -209,3 +224,27 @@ module _ {S Y K T F I O : Type 0} {before after : Told S Y K T F I O} {answer : 
       behind None later = tt
       behind (Some (NoRoom needed free)) later = later
       behind (Some (Fault why)) later = inr (lowest.done refl, later)
+
+    -- ---- both
+    pub made-ran : (ran : Option Refusal) (counts : Counts) → IfSome ran (λ why. (answer ≡ Some why) × (after.paper ≡ before.paper))
+        → LowestDecides Nothing ran → IfSome ran (OfFault IsMakeCause) → ran ≢ Some (Fault cause.PrintFault)
+        → (ran ≡ Some (Fault cause.DiskFault)
+        → Rose before.input.faults after.input.faults ⊎ Rose before.output.faults after.output.faults ⊎ Rose before.files.faults after.files.faults)
+        → (IsSome before.input.pages → IsSome before.output.pages → status_of ran ≢ 8)
+        → (ran ≡ None → IfSome answer (OfFault IsPrintCause))
+        → (ran ≡ None → answer ≡ Some (Fault cause.PrintFault) → Rose before.paper.faults after.paper.faults)
+        → (SpoolsTell before → ran ≡ None
+        → AreItsCounts (the_law deck_jobs) (Numbered n) (opened_over before (Some (cards (made_deck n))) (Some [])) counts)
+        → (SpoolsTell before → ran ≡ None → (found : Loads)
+        → Prints before.paper after.paper (text (deck_lines found (made_deck n) counts)) answer)
+        → AsRun (MakesDeck n) made_used IsMakeCause before after answer
+    made-ran None counts fault lowest known sure disk whole printed failed counted prints =
+        made-done counts lowest (printed refl) (failed refl) (λ spools. counted spools refl) (λ spools found. prints spools refl found)
+    made-ran (Some why) counts fault lowest known sure disk whole printed failed counted prints =
+        made-failed why fault.0 fault.1 lowest known (λ is. sure (ap Some is)) disk whole
+
+-- what stays as it was tells the same
+pub as-told : {A B : Type 0} (tells : A → B) (before after : A) (answer ran : Option Refusal)
+    → IfSome ran (λ why. (answer ≡ Some why) × (after ≡ before)) → IfSome ran (λ why. (answer ≡ Some why) × (tells after ≡ tells before))
+as-told tells before after answer None stays = tt
+as-told tells before after answer (Some why) stays = (stays.0, ap tells stays.1)

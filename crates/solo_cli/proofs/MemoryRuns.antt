@@ -6,8 +6,8 @@ use Rattle.solo_base.specs.declared.outcome.Cause.TheVariants as cause
 use Rattle.solo_base.specs.declared.outcome.Outcome.TheVariants as outcome
 use Rattle.solo_devices.specs.CardUnit.{byte_limit, bytes_total}
 use Rattle.solo_devices.specs.Count.{Rose}
-use Rattle.core_net.specs.declared.finish.Outcomes.{Outcomes}
-use Rattle.core_net.specs.Ended.{FaultsAre, NoneDamaged}
+use Rattle.batch_ends.specs.declared.ends.Outcomes.{Outcomes}
+use Rattle.batch_ends.specs.Ended.{FaultsAre, NoneDamaged}
 use Rattle.solo_cli.specs.declared.refusal.Refusal.TheVariants.{Fault}
 use Rattle.solo_cli.specs.Causes.{IsRunCause, IsMakeCause}
 use Rattle.solo_cli.specs.Decides.{IsIn, decides, list_of}

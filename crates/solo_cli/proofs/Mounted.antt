@@ -10,7 +10,7 @@ use Rattle.solo_devices.specs.CardUnit.{items_ahead}
 use Rattle.batch_job.specs.OneThread.{one_thread_output}
 use Rattle.core_law.specs.Opening.{opened}
 use Rattle.core_net.specs.WholeRuns.{RunsToEnd}
-use Rattle.deck_work.specs.DeckJobs.{AreFound, files_found}
+use Rattle.deck_work.specs.DeckJobs.{deck_jobs, AreFound, files_found}
 use Rattle.made_deck.specs.MadeDeck.{made_deck}
 use Rattle.network_run.specs.declared.rules.Rule.TheVariants.{Numbered}
 use Rattle.solo_cli.specs.declared.refusal.Refusal.{Refusal}
@@ -80,7 +80,7 @@ module _ {S Y K T F I O : Type 0} {before mid after : Told S Y K T F I O} {answe
         ends = deck-ends e.ends;
         counts = e.counts;
         devices = e.devices;
-        runs = subst (λ pages. RunsToEnd (Numbered n)
+        runs = subst (λ pages. RunsToEnd deck_jobs (Numbered n)
             (opened (spools_of before) (items_ahead before.deck.left []) before.paper.given (files_found pages)) e.counts
             e.ends.five.outcomes e.ends.five.stopped_by e.devices) m.left e.runs;
       }
@@ -131,6 +131,7 @@ module _ {S Y K T F I O : Type 0} {before mid after : Told S Y K T F I O} {answe
     limit = a.limit;
     beyond = a.beyond;
     undamaged = a.undamaged;
+    numbers = a.numbers;
     total = a.total;
     kept = record {
       deck = a.kept.deck;

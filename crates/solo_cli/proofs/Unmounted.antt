@@ -9,11 +9,11 @@ use Rattle.solo_devices.specs.Count.{Rose}
 use Rattle.solo_devices.specs.CardUnit.{bytes_total}
 use Rattle.solo_devices.specs.PrinterUnit.{Gains}
 use Rattle.disk_layout.specs.Format.{IsBad}
+use Rattle.batch_ends.specs.Ended.{TellsWhere}
 use Rattle.batch_job.specs.OneThread.{one_thread_output}
 use Rattle.core_law.specs.Holds.{AreTold}
 use Rattle.core_law.specs.Opening.{AreInBounds}
-use Rattle.core_net.proofs.GoodFiles.{are-good}
-use Rattle.deck_work.specs.DeckJobs.{files_found}
+use Rattle.deck_work.specs.DeckJobs.{files_found, found_are_loads}
 use Rattle.made_deck.specs.MadeDeck.{made_deck}
 use Rattle.network_run.specs.declared.rules.Rule.TheVariants.{Numbered}
 use Rattle.solo_cli.specs.declared.refusal.Refusal.{Refusal}
@@ -26,7 +26,7 @@ use Rattle.solo_cli.specs.MakesDeck.{GainsNumbers, MakesDeck}
 use Rattle.solo_cli.specs.Mounting.{AreUnmounted, IsWhyUnmounted, MountsFiles, Untouched}
 use Rattle.solo_cli.specs.Ready.{IsReady}
 use Rattle.solo_cli.specs.Reading.{ReadsToEnd}
-use Rattle.solo_cli.specs.Refusals.{IsDeckCause, IsMadeDeckCause, IsNotSolo}
+use Rattle.solo_cli.specs.Refusals.{IsDeckCause, IsMadeDeckCause, IsNotSolo, TellsPlace}
 use Rattle.solo_cli.specs.Status.{status_of}
 use Rattle.solo_cli.specs.Uses.{Unless, deck_used}
 use Rattle.solo_cli.proofs.Adding.{nothing}
@@ -53,6 +53,11 @@ unless false holds = holds
 abbrev MountCause : Cause → Type 0
 MountCause why = (why ≡ cause.DiskFault) ⊎ ((why ≡ cause.NoMemory) ⊎ IsNotSolo why)
 
+mount-numbers : (why : Cause) → MountCause why → TellsWhere why
+mount-numbers why (inl is) = subst TellsWhere (sym is) tt
+mount-numbers why (inr (inl is)) = subst TellsWhere (sym is) tt
+mount-numbers why (inr (inr (page, is))) = subst TellsWhere (sym is) tt
+
 module _ {S Y K T F I O : Type 0} {before after : Told S Y K T F I O} {answer : Option Refusal} (u : AreUnmounted before after answer) where
   -- ---- the cause
   some-cause : IsWhyUnmounted before.files after.files answer → (why : Cause) × (answer ≡ Some (Fault why)) × MountCause why
@@ -63,14 +68,14 @@ module _ {S Y K T F I O : Type 0} {before after : Told S Y K T F I O} {answer : 
   other-than : (c : Cause) → (MountCause c → ⊥) → answer ≡ Some (Fault c) → ⊥
   other-than c other is =
       let some = some-cause u.why in
-      let both : Some (Fault some.0) ≡ Some (Fault c) = sym some.1.0 ∙ is in
+      let both : Some (Fault some.0) ≡ Some (Fault c) = sym some.1 ∙ is in
       let same : some.0 ≡ c = cc in
-      other (subst MountCause same some.1.1)
+      other (subst MountCause same some.2)
 
   refused : answer ≡ None → ⊥
   refused none =
       let some = some-cause u.why in
-      let no : Some (Fault some.0) ≡ None = sym some.1.0 ∙ none in cc
+      let no : Some (Fault some.0) ≡ None = sym some.1 ∙ none in cc
 
   untouched : Untouched before after
   untouched = record {
@@ -100,7 +105,7 @@ module _ {S Y K T F I O : Type 0} {before after : Told S Y K T F I O} {answer : 
   unmounted-core n ready = record {
     prints = λ bytes found told files spools.
         uncounted (Numbered n) (spools_of before) (files_found before.files.pages) found bytes before.paper.given after.paper.given (answer ≡ None)
-        (are-good before.files.pages) files (in-bounds ready) (both-tell spools) refused (nothing-gained (text (one_thread_output found bytes)));
+        (found_are_loads before.files.pages) files (in-bounds ready) (both-tell spools) refused (nothing-gained (text (one_thread_output found bytes)));
     reads = reads;
     ends = inr untouched;
   }
@@ -111,7 +116,7 @@ module _ {S Y K T F I O : Type 0} {before after : Told S Y K T F I O} {answer : 
         subst (λ now. GainsNumbers (Numbered n) (opened_over before (Some (cards (made_deck n))) (Some [])) (made_deck n) before.paper.given now
         (answer ≡ None)) (sym (ap (λ t. t.paper.given) u.stays))
         (no-numbers (Numbered n) (spools_of before) (files_found before.files.pages) (made_deck n) before.paper.given (answer ≡ None)
-        (are-good before.files.pages) (no-files n) (in-bounds ready) (both-tell spools) refused);
+        (found_are_loads before.files.pages) (no-files n) (in-bounds ready) (both-tell spools) refused);
     unprinted = λ _. untouched.paper;
     ends = inr untouched;
   }
@@ -154,7 +159,7 @@ module _ {S Y K T F I O : Type 0} {before after : Told S Y K T F I O} {answer : 
   pub unmounted-answers : (deck : Bool) (May : Refusal → Type 0) → ((why : Cause) → MountCause why → May (Fault why)) → IsReady before
       → Answers (record deck_used { deck = deck }) May before after answer
   unmounted-answers deck May may ready = record {
-    known = (let some = some-cause u.why in subst (λ answer. IfSome answer May) (sym some.1.0) (may some.0 some.1.1));
+    known = (let some = some-cause u.why in subst (λ answer. IfSome answer May) (sym some.1) (may some.0 some.2));
     read = λ is. absurd (other-than cause.ReadFault no-read is);
     disk = λ is. inr (inr (disk-rose is u.why));
     print = λ is. absurd (other-than cause.PrintFault no-print is);
@@ -162,6 +167,7 @@ module _ {S Y K T F I O : Type 0} {before after : Told S Y K T F I O} {answer : 
     limit = λ is. absurd (other-than cause.DeckLimit no-limit is);
     beyond = λ more. absurd (let none : after.deck.taken ≡ 0 = ap (λ t. t.deck.taken) u.stays ∙ ready.deck in omega (arith, none, more));
     undamaged = λ input output told. not-eight u.why;
+    numbers = (let some = some-cause u.why in subst (λ answer. IfSome answer TellsPlace) (sym some.1) (mount-numbers some.0 some.2));
     total = ap (λ t. bytes_total t.deck.taken t.deck.left) u.stays;
     kept = record {
       deck = unless deck (ap (λ t. t.deck) u.stays);

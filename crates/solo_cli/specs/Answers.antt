@@ -10,7 +10,7 @@ use Rattle.solo_cli.specs.declared.words.Command.{Command}
 use Rattle.solo_cli.specs.Causes.{IsWithinLimit}
 use Rattle.solo_cli.specs.Devices.{Told}
 use Rattle.solo_cli.specs.FileCommands.{CanUse}
-use Rattle.solo_cli.specs.Refusals.{OfFault}
+use Rattle.solo_cli.specs.Refusals.{OfFault, TellsPlace}
 use Rattle.solo_cli.specs.Status.{status_of}
 use Rattle.solo_cli.specs.Uses.{Uses, Kept, Where, reader, uses}
 
@@ -33,6 +33,9 @@ pub record Answers {S Y K T F I O : Type 0} (used : Uses) (MayBe : Refusal → T
   -- No page is damaged of a deck that tells its bytes, over spools that tell their pages.
   pub undamaged : IsSome before.input.pages → IsSome before.output.pages
       → Where used.deck (IsSome before.deck.left) → status_of answer ≢ 8
+  -- The numbers of a damaged page agree: the one found differs from the one expected exactly where byte 0 is
+  -- the first that is wrong.
+  pub numbers : IfSome answer TellsPlace
   -- No byte of what is read is lost, and no device changes that isn't used.
   pub total : bytes_total (reader used.keys after).taken (reader used.keys after).left
       ≡ bytes_total (reader used.keys before).taken (reader used.keys before).left

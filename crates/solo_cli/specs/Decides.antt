@@ -7,8 +7,8 @@ use Rattle.solo_base.specs.declared.outcome.Outcome.TheVariants.{Done, Fault, St
 use Rattle.solo_base.specs.declared.outcome.Side.{Side}
 use Rattle.solo_devices.specs.Count.{Rose}
 use Rattle.solo_devices.specs.CardUnit.{byte_limit}
-use Rattle.core_net.specs.declared.finish.Outcomes.{Outcomes}
-use Rattle.core_net.specs.Ended.{EndTogether, FaultsAre, all_done}
+use Rattle.batch_ends.specs.declared.ends.Outcomes.{Outcomes}
+use Rattle.batch_ends.specs.Ended.{EndTogether, FaultsAre, all_done}
 use Rattle.solo_cli.specs.declared.refusal.Refusal.{Refusal}
 use Rattle.solo_cli.specs.declared.refusal.Refusal.TheVariants as refusal
 use Rattle.solo_cli.specs.Devices.{Told}
@@ -73,9 +73,9 @@ pub record DeckEnds {S Y K T F I O : Type 0} (Behind : Cause → Type 0) (before
 
 -- nothing comes behind the five
 abbrev pub Nothing : Cause → Type 0
-Nothing why = ⊥
+Nothing = λ why. ⊥
 
 -- a line is printed behind them
 abbrev pub LineBehind : {S Y K T F I O : Type 0} → Told S Y K T F I O → Told S Y K T F I O → Cause → Type 0
-LineBehind before after why =
-    ((why ≡ cause.PrintFault) × Rose before.paper.faults after.paper.faults) ⊎ (why ≡ cause.NoMemory)
+LineBehind before after =
+    λ why. ((why ≡ cause.PrintFault) × Rose before.paper.faults after.paper.faults) ⊎ (why ≡ cause.NoMemory)

@@ -15,7 +15,7 @@ use Rattle.network_run.specs.OneRun.{AreItsCounts}
 use Rattle.core_law.specs.Core.{CoreState, Devices as CoreDevices}
 use Rattle.core_law.specs.Opening.{Spools, opened}
 use Rattle.core_law.specs.TheLaw.{the_law}
-use Rattle.core_net.specs.Openings.{spools_over}
+use Rattle.batch_ends.specs.Openings.{spools_over}
 use Rattle.core_net.specs.WholeRuns.{RunsToEnd}
 use Rattle.deck_work.specs.DeckJobs.{AreFound, deck_jobs, files_found}
 use Rattle.solo_cli.specs.declared.refusal.Refusal.{Refusal}
@@ -67,7 +67,7 @@ pub record CoreEnds {S Y K T F I O : Type 0} (rule : Rule) (before after : Told 
   pub ends : DeckEnds (LineBehind before after) before after answer
   pub counts : Counts
   pub devices : CoreDevices Loaded
-  pub runs : RunsToEnd rule (opened_over before (items_ahead before.deck.left []) before.paper.given) counts
+  pub runs : RunsToEnd deck_jobs rule (opened_over before (items_ahead before.deck.left []) before.paper.given) counts
       ends.five.outcomes ends.five.stopped_by devices
 
 -- The same as of `batch`, and behind it what is counted under the schedule of this number.

@@ -2,6 +2,7 @@
 use Rattle.std.specs.Prelude.{◌≡◌, ◌⊎◌, ℕ, Option, Some, None}
 use Rattle.solo_base.specs.declared.outcome.Cause.{Cause}
 use Rattle.solo_base.specs.declared.outcome.Cause.TheVariants as cause
+use Rattle.batch_ends.specs.Ended.{TellsWhere}
 use Rattle.disk_files.specs.declared.fault.FileFault.{FileFault}
 use Rattle.disk_files.specs.declared.fault.FileFault.TheVariants as files
 use Rattle.disk_system.specs.declared.migrating.MigrateFault.{MigrateFault}
@@ -42,6 +43,11 @@ mount_cause files.PageRange = cause.DiskFault
 abbrev pub OfFault : (Cause → Type 0) → Refusal → Type 0
 OfFault holds (Fault why) = holds why
 OfFault holds (NoRoom needed free) = ⊥
+
+-- where it is a damaged page its numbers agree
+abbrev pub TellsPlace : Refusal → Type 0
+TellsPlace (Fault why) = TellsWhere why
+TellsPlace (NoRoom needed free) = Unit {0}
 
 abbrev pub IsNotSolo : Cause → Type 0
 IsNotSolo why = (page : ℕ) × (why ≡ cause.NotSolo page)

@@ -13,7 +13,9 @@ use crate::devices::{Devices, Done};
 use crate::ending::{came_to, given_back};
 use crate::mounting::mount;
 use crate::words::Command;
-use batch_run::{Units, run_batch};
+use batch_ends::Units;
+use batch_run::run_batch;
+use deck_work::{DeckFiles, DeckWork};
 use disk_files::FileArea;
 use solo_base::{Cause, NoMemory};
 use solo_devices::{Area, CardUnit, PrinterUnit, Sink, Source};
@@ -88,12 +90,12 @@ fn run_mounted<
     } = devices;
     let units = Units {
         deck: CardUnit::new(deck),
+        paper: PrinterUnit::new(paper),
+        files: DeckFiles { files },
         input,
         output,
-        paper: PrinterUnit::new(paper),
-        files,
     };
-    match run_batch(rt, alloc, units) {
+    match run_batch::<DeckWork, S, K, DeckFiles<F>, I, O, R>(rt, alloc, units) {
         Ok(ran) => came_to(ran, keys, console),
         Err((units, NoMemory)) => given_back(Some(Cause::NoMemory), units, keys, console),
     }

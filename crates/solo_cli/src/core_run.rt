@@ -18,16 +18,18 @@ use crate::ending::came_to;
 use crate::mounting::mount;
 use crate::printing::print_line;
 use crate::words::Command;
+use batch_ends::Units;
 use core_net::run_core;
+use deck_work::{DeckFiles, DeckWork};
 use disk_files::FileArea;
 use network_run::{Counts, Rule};
-use solo_devices::{Area, Sink, Source};
+use solo_devices::{Area, CardUnit, PrinterUnit, Sink, Source};
 use std::alloc::Global;
 
 /// Mounts the files, runs the deck under the schedule of this number, prints the report of each of its jobs,
 /// and behind the reports what was counted.
 #[inline(never)]
-pub fn core<S: Source, Y: Source, K: Sink, T: Sink, F: Area, I: Area, O: Area>(
+pub fn core<S: Source, Y: Source, K: Sink, T: Sink, F: Area + Drop, I: Area, O: Area>(
     alloc: Global,
     schedule: u32,
     devices: Devices<S, Y, K, T, F, I, O>,
@@ -50,7 +52,7 @@ pub fn core<S: Source, Y: Source, K: Sink, T: Sink, F: Area, I: Area, O: Area>(
 
 // Runs the deck with its files, and prints what was counted.
 #[inline(never)]
-fn run_mounted<S: Source, Y: Source, K: Sink, T: Sink, F: Area, I: Area, O: Area>(
+fn run_mounted<S: Source, Y: Source, K: Sink, T: Sink, F: Area + Drop, I: Area, O: Area>(
     alloc: Global,
     schedule: u32,
     devices: Devices<S, Y, K, T, FileArea<F>, I, O>,
@@ -74,7 +76,14 @@ fn run_mounted<S: Source, Y: Source, K: Sink, T: Sink, F: Area, I: Area, O: Area
         output,
     } = devices;
     let rule = Rule::Numbered { number: schedule };
-    let (ran, counts) = run_core(alloc, deck, input, output, paper, files, rule);
+    let units = Units {
+        deck: CardUnit::new(deck),
+        paper: PrinterUnit::new(paper),
+        files: DeckFiles { files },
+        input,
+        output,
+    };
+    let (ran, counts) = run_core::<DeckWork, S, K, DeckFiles<F>, I, O>(alloc, units, rule);
     let done = came_to(ran, keys, console);
     match done.cause {
         None => with_counts(done, counts),

@@ -6,54 +6,43 @@ ghost use Rattle.solo_cli.specs.Refusals.{as_refusal};
 use crate::devices::{Devices, Done};
 use crate::refusal::Refusal;
 use crate::status::number_of;
-use batch_run::Units;
-use core_net::{Outcomes, Ran};
+use batch_ends::{Outcomes, Ran, Units};
+use deck_work::DeckFiles;
 use solo_base::{Cause, Outcome};
 use solo_devices::{Area, Sink, Source};
 
 /// What a run of the five processes came to, beside the keys and the console, which it doesn't use.
 #[inline(never)]
-pub fn came_to<S: Source, Y, K: Sink, T, F: Area, I: Area, O: Area>(
-    ran: Ran<S, K, I, O, F>,
+pub fn came_to<S: Source, Y, K: Sink, T, F: Area + Drop, I: Area, O: Area>(
+    ran: Ran<S, K, DeckFiles<F>, I, O>,
     keys: Y,
     console: T,
 ) -> Done<S, Y, K, T, F, I, O>
     ensures decided { result.cause ≡ as_refusal (decides (list_of ran.outcomes)) }
     ensures devices { result.devices ≡ record {
-      deck = ran.deck.source;
+      deck = ran.units.deck.source;
       keys = keys;
-      paper = ran.paper.sink;
+      paper = ran.units.paper.sink;
       console = console;
-      files = ran.files.area;
-      input = ran.input;
-      output = ran.output;
+      files = ran.units.files.files.area;
+      input = ran.units.input;
+      output = ran.units.output;
     } }
-    ensures size { F.size ran.files.area ≡ 4288 }
+    ensures size { F.size ran.units.files.files.area ≡ 4288 }
 {
     let Ran {
         outcomes,
         stopped_by: _,
-        deck,
-        input,
-        output,
-        paper,
-        files,
+        units,
     } = ran;
-    let units = Units {
-        deck,
-        input,
-        output,
-        paper,
-        files,
-    };
     given_back(decides(&list_of(outcomes)), units, keys, console)
 }
 
 /// The devices behind a run with this cause.
 #[inline(never)]
-pub fn given_back<S: Source, Y, K: Sink, T, F: Area, I: Area, O: Area>(
+pub fn given_back<S: Source, Y, K: Sink, T, F: Area + Drop, I: Area, O: Area>(
     cause: Option<Cause>,
-    units: Units<S, K, I, O, F>,
+    units: Units<S, K, DeckFiles<F>, I, O>,
     keys: Y,
     console: T,
 ) -> Done<S, Y, K, T, F, I, O>
@@ -63,19 +52,20 @@ pub fn given_back<S: Source, Y, K: Sink, T, F: Area, I: Area, O: Area>(
       keys = keys;
       paper = units.paper.sink;
       console = console;
-      files = units.files.area;
+      files = units.files.files.area;
       input = units.input;
       output = units.output;
     } }
-    ensures size { F.size units.files.area ≡ 4288 }
+    ensures size { F.size units.files.files.area ≡ 4288 }
 {
     let Units {
         deck,
-        input,
-        output,
         paper,
         files,
+        input,
+        output,
     } = units;
+    let DeckFiles { files } = files;
     Done {
         cause: Refusal::of_run(cause),
         devices: Devices {

@@ -12,7 +12,7 @@ ghost use Rattle.batch_job.specs.OneThread.{one_thread_output};
 ghost use Rattle.made_deck.specs.MadeDeck.{made_deck};
 ghost use Rattle.core_law.specs.Opening.{opened};
 ghost use Rattle.core_law.specs.TheLaw.{the_law};
-ghost use Rattle.core_net.specs.Openings.{spools_over};
+ghost use Rattle.batch_ends.specs.Openings.{spools_over};
 ghost use Rattle.network_run.specs.OneRun.{AreItsCounts};
 ghost use Rattle.deck_work.specs.DeckJobs.{AreFound, files_found, deck_jobs};
 ghost use Rattle.solo_cli.specs.Answers.{Answers, AsRun};
@@ -36,19 +36,21 @@ use crate::mounting::{mount, unmount};
 use crate::printing::print_all;
 use crate::refusal::Refusal;
 use crate::words::Command;
+use batch_ends::Units;
 use core_net::run_core;
+use deck_work::{DeckFiles, DeckWork};
 use disk_files::FileArea;
 use made_deck::make_deck;
 use network_run::{Counts, Rule};
 use solo_base::{Cause, Line, NoMemory};
-use solo_devices::{Area, Sink, Source, SureSink, SureSource};
+use solo_devices::{Area, CardUnit, PrinterUnit, Sink, Source, SureSink, SureSource};
 use std::alloc::Global;
 
 /// Mounts the files, makes the deck of a number, runs it on the core under the schedule of this number, to a
 /// paper in memory, and prints how many jobs, cards, lines and characters there were, and what the run counted.
 /// Where the run met a fault nothing is printed.
 #[inline(never)]
-pub fn make<S: Source, Y: Source, K: Sink, T: Sink, F: Area, I: Area, O: Area>(
+pub fn make<S: Source, Y: Source, K: Sink, T: Sink, F: Area + Drop, I: Area, O: Area>(
     alloc: Global,
     number: u32,
     devices: Devices<S, Y, K, T, F, I, O>,
@@ -71,7 +73,7 @@ pub fn make<S: Source, Y: Source, K: Sink, T: Sink, F: Area, I: Area, O: Area>(
 
 // Makes the deck of a number, and runs it with the files.
 #[inline(never)]
-fn make_mounted<S: Source, Y: Source, K: Sink, T: Sink, F: Area, I: Area, O: Area>(
+fn make_mounted<S: Source, Y: Source, K: Sink, T: Sink, F: Area + Drop, I: Area, O: Area>(
     alloc: Global,
     number: u32,
     devices: Devices<S, Y, K, T, FileArea<F>, I, O>,
@@ -107,7 +109,7 @@ fn deck_of(alloc: Global, number: u32) -> Result<(Vec<u8>, DeckNumbers), NoMemor
 
 // Runs a deck in memory, and prints its numbers and what was counted.
 #[inline(never)]
-fn run_made<S: Source, Y: Source, K: Sink, T: Sink, F: Area, I: Area, O: Area>(
+fn run_made<S: Source, Y: Source, K: Sink, T: Sink, F: Area + Drop, I: Area, O: Area>(
     alloc: Global,
     number: u32,
     deck: Vec<u8>,
@@ -172,7 +174,7 @@ struct InMemory<F, I, O> {
 
 // Runs a deck to a paper in memory, under the schedule of this number.
 #[inline(never)]
-fn run_in_memory<F: Area, I: Area, O: Area>(
+fn run_in_memory<F: Area + Drop, I: Area, O: Area>(
     alloc: Global,
     number: u32,
     deck: Vec<u8>,
@@ -204,8 +206,15 @@ fn run_in_memory<F: Area, I: Area, O: Area>(
 {
     let deck = SureSource::new(deck, PIECE);
     let paper = SureSink::new(alloc);
+    let units = Units {
+        deck: CardUnit::new(deck),
+        paper: PrinterUnit::new(paper),
+        files: DeckFiles { files },
+        input,
+        output,
+    };
     let rule = Rule::Numbered { number };
-    let (ran, counts) = run_core(alloc, deck, input, output, paper, files, rule);
+    let (ran, counts) = run_core::<DeckWork, SureSource, SureSink, DeckFiles<F>, I, O>(alloc, units, rule);
     let Done { cause, devices } = came_to(ran, (), ());
     let Devices {
         deck: _,

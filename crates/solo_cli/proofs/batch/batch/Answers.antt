@@ -32,3 +32,6 @@ returns-in-Err-clause-mounts g c = unmounted-files c.in-Err.ensures.unmounted
 
 pub returns-in-Err-clause-answers : goal.returns-in-Err-clause-answers
 returns-in-Err-clause-answers g c = unmounted-answers c.in-Err.ensures.unmounted true (OfFault IsDeckCause) deck-may c.requires
+
+pub mount-requires : goal.mount-requires
+mount-requires g c = c.requires.files

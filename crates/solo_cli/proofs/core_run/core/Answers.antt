@@ -9,7 +9,7 @@ use Rattle.solo_cli.proofs.Unmounted.{deck-may, unmounted-answers, unmounted-cor
 use Rattle.solo_cli.proofs.core_run.core.Goals as goal
 
 pub run_mounted-requires-clause-ready : goal.run_mounted-requires-clause-ready
-run_mounted-requires-clause-ready g c = λ lives outlives. mounted-ready c.in-Ok.ensures.mounted c.requires
+run_mounted-requires-clause-ready g c = mounted-ready c.in-Ok.ensures.mounted c.requires
 
 pub returns-in-Ok-clause-runs : goal.returns-in-Ok-clause-runs
 returns-in-Ok-clause-runs g c = mounted-core c.in-Ok.ensures.mounted c.args.schedule c.run_mounted.ensures.ran.0
@@ -32,3 +32,6 @@ returns-in-Err-clause-mounts g c = unmounted-files c.in-Err.ensures.unmounted
 
 pub returns-in-Err-clause-answers : goal.returns-in-Err-clause-answers
 returns-in-Err-clause-answers g c = unmounted-answers c.in-Err.ensures.unmounted true (OfFault IsDeckCause) deck-may c.requires
+
+pub mount-requires : goal.mount-requires
+mount-requires g c = c.requires.files

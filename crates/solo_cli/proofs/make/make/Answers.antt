@@ -9,7 +9,7 @@ use Rattle.solo_cli.proofs.Unmounted.{made-may, unmounted-answers, unmounted-mak
 use Rattle.solo_cli.proofs.make.make.Goals as goal
 
 pub make_mounted-requires-clause-ready : goal.make_mounted-requires-clause-ready
-make_mounted-requires-clause-ready g c = λ lives outlives. mounted-ready c.in-Ok.ensures.mounted c.requires.ready
+make_mounted-requires-clause-ready g c = mounted-ready c.in-Ok.ensures.mounted c.requires.ready
 
 pub returns-in-Ok-clause-makes : goal.returns-in-Ok-clause-makes
 returns-in-Ok-clause-makes g c = mounted-make c.in-Ok.ensures.mounted c.args.number c.make_mounted.ensures.ran.0
@@ -32,3 +32,6 @@ returns-in-Err-clause-mounts g c = unmounted-files c.in-Err.ensures.unmounted
 
 pub returns-in-Err-clause-answers : goal.returns-in-Err-clause-answers
 returns-in-Err-clause-answers g c = unmounted-answers c.in-Err.ensures.unmounted false (OfFault IsMadeDeckCause) made-may c.requires.ready
+
+pub mount-requires : goal.mount-requires
+mount-requires g c = c.requires.ready.files

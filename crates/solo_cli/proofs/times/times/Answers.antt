@@ -4,7 +4,7 @@ use Rattle.solo_cli.proofs.ReadToEnd.{reads-to-end}
 use Rattle.solo_cli.proofs.times.times.Goals as goal
 
 pub run_script-requires : goal.run_script-requires
-run_script-requires g c = λ lives outlives. c.requires.keys
+run_script-requires g c = c.requires.keys
 
 pub returns-clause-times : goal.returns-clause-times
 returns-clause-times g c =

@@ -4,20 +4,20 @@ use Rattle.batch_run.proofs.Running.{going-first, does-next, comes-next, ends-he
 use Rattle.batch_run.proofs.job_connections.JobConnections.run.Goals as goal
 
 pub loop-init : goal.loop-init
-loop-init g c = going-first c.new-machine.ensures c.requires
+loop-init g c = going-first g.met.J.JobWork.are_jobs c.new-machine.ensures c.requires
 
 pub perform-reply-requires-clause-does : goal.perform-reply-requires-clause-does
-perform-reply-requires-clause-does g c κs within = does-next refl c.loop.invariant c.next-action.ensures.next job-does
+perform-reply-requires-clause-does g c κs within = does-next g.met.J.JobWork.are_jobs refl c.loop.invariant c.next-action.ensures.next (job-does g.met.J.JobWork.are_jobs)
 
 pub perform-reply-requires-clause-comes : goal.perform-reply-requires-clause-comes
-perform-reply-requires-clause-comes g c κs within = (c.args.self.now, comes-next refl c.loop.invariant c.next-action.ensures.next)
+perform-reply-requires-clause-comes g c κs within = (c.args.self.now, comes-next g.met.J.JobWork.are_jobs refl c.loop.invariant c.next-action.ensures.next)
 
 pub returns-in-Some-end : goal.returns-in-Some-end
 returns-in-Some-end g c =
-    ends-here refl c.loop.invariant c.next-action.ensures.next c.perform-reply.ensures.fits (c.perform-reply.ensures.performs c.args.self.now)
+    ends-here g.met.J.JobWork.are_jobs refl c.loop.invariant c.next-action.ensures.next c.perform-reply.ensures.fits (c.perform-reply.ensures.performs c.args.self.now)
     (sym c.end_of-end.ensures ∙ c.in-Some-end.is)
 
 pub loop-preserved : goal.loop-preserved
 loop-preserved g c =
-    going-on refl c.loop.invariant c.next-action.ensures.next c.give.result c.perform-reply.ensures.fits
+    going-on g.met.J.JobWork.are_jobs refl c.loop.invariant c.next-action.ensures.next c.give.result c.perform-reply.ensures.fits
     (c.perform-reply.ensures.performs c.args.self.now) (sym c.end_of-end.ensures ∙ c.in_default.is) c.give.ensures.ok c.give.ensures.err

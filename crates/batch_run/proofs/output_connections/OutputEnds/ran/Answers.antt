@@ -4,11 +4,9 @@ use Rattle.batch_procs.specs.Relays.{output-relay}
 use Rattle.batch_procs.proofs.Holding.{ended-holds_not}
 use Rattle.batch_run.specs.Desks.{IsAt}
 use Rattle.batch_run.proofs.output_connections.OutputEnds.ran.Goals as goal
-use Rattle.disk_system.specs.declared.loading.Loaded.{Loaded}
-use Rattle.deck_work.specs.DeckJobs.{deck_jobs}
 
 pub into_parts-seat-requires : goal.into_parts-seat-requires
 into_parts-seat-requires g c =
     let ran = c.run-how.ensures in
-    subst (λ has. IsAt c.run-how.new.self.desk has) (ended-holds_not deck_jobs output ran.history _
-    (output-relay Loaded) ran.follows ran.ended) ran.stands.desk.at
+    subst (λ has. IsAt c.run-how.new.self.desk has) (ended-holds_not g.J.JobWork.jobs output ran.history _
+    (output-relay _) ran.follows ran.ended) ran.stands.desk.at

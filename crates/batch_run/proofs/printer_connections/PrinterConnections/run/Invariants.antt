@@ -5,4 +5,4 @@ use Rattle.batch_run.proofs.Running.{Going}
 use Rattle.batch_run.proofs.printer_connections.PrinterConnections.run.Given as goal
 
 abbrev pub invariant-loop : goal.invariant-loop
-invariant-loop g l = Going printer printer_keeps l.machine (PrinterRan g.K.Sink.given g.K.Sink.faults l.initial.self l.self)
+invariant-loop g l = Going g.met.J.JobWork.are_jobs printer printer_keeps l.machine (PrinterRan g.K.Sink.given g.K.Sink.faults l.initial.self l.self)

@@ -1,1 +1,0 @@
-use Rattle.solo_cli.proofs.command.run.Goals as goal
