@@ -14,7 +14,8 @@ drop-items : (front rest : List Item) → drop (length front) (front ++ rest) �
 drop-items [] rest = refl
 drop-items (item ∷ front) rest = drop-items front rest
 
-pub reads : {L : Type 0} (J : Jobs L) (old new : Option (List Item)) (answer : CardRead) → AreItems (item_of answer) → GivesNext old new answer → ReadsCard J old new (reply.Card answer)
+pub reads : {L : Type 0} (J : Jobs L) (old new : Option (List Item)) (answer : CardRead) → AreItems (item_of answer) → GivesNext old new answer
+    → ReadsCard J old new (reply.Card answer)
 reads J None new answer valid gives = record {
   suits = valid;
   allowed =
@@ -40,7 +41,8 @@ reads J (Some items) new answer valid gives =
       after = ap (λ all. Some (drop (length (item_of answer)) all)) next.items_are ∙ ap Some (drop-items (item_of answer) next.rest) ∙ sym next.now_are;
     }
 
-pub prints-done : {L : Type 0} (J : Jobs L) (old new : Option (List ℕ)) (line : List ℕ) (all : Type 0) → Gains old new (line_text line) all → all → PrintsLine J old new line reply.Done
+pub prints-done : {L : Type 0} (J : Jobs L) (old new : Option (List ℕ)) (line : List ℕ) (all : Type 0) → Gains old new (line_text line) all → all
+    → PrintsLine J old new line reply.Done
 prints-done J None new line all g is = record { suits = tt; gained = line_text line; allowed = λ devices. refl; after = sym (g.untold refl) }
 prints-done J (Some given) new line all g is =
     let told = g.told given refl in
@@ -52,13 +54,15 @@ prints-done J (Some given) new line all g is =
       after = ap (λ part. Some (given ++ part)) (sym (told.all_is is)) ∙ sym told.now_is;
     }
 
-pub prints-failed : {L : Type 0} (J : Jobs L) (old new : Option (List ℕ)) (line : List ℕ) (all : Type 0) → Gains old new (line_text line) all → PrintsLine J old new line reply.Failed
+pub prints-failed : {L : Type 0} (J : Jobs L) (old new : Option (List ℕ)) (line : List ℕ) (all : Type 0) → Gains old new (line_text line) all
+    → PrintsLine J old new line reply.Failed
 prints-failed J None new line all g = record { suits = tt; gained = []; allowed = λ devices. (line_text line, refl); after = sym (g.untold refl) }
 prints-failed J (Some given) new line all g =
     let told = g.told given refl in
     record { suits = tt; gained = told.part; allowed = λ devices. (told.prefix.rest, told.prefix.whole_is); after = sym told.now_is }
 
-pub prints-lacking : {L : Type 0} (J : Jobs L) (old new : Option (List ℕ)) (line : List ℕ) (all : Type 0) → Gains old new (line_text line) all → PrintsLine J old new line reply.NoMemory
+pub prints-lacking : {L : Type 0} (J : Jobs L) (old new : Option (List ℕ)) (line : List ℕ) (all : Type 0) → Gains old new (line_text line) all
+    → PrintsLine J old new line reply.NoMemory
 prints-lacking J None new line all g = record { suits = tt; gained = []; allowed = λ devices. (line_text line, refl); after = sym (g.untold refl) }
 prints-lacking J (Some given) new line all g =
     let told = g.told given refl in

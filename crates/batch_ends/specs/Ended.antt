@@ -66,8 +66,8 @@ abbrev pub NoneDamaged : Outcomes → Type 0
 NoneDamaged outcomes =
     (p : ℕ) (c : Cause) → IsProcess p → outcome_at outcomes p ≡ outcome.Fault c → IsDamaged c → ⊥
 
--- The numbers of a damaged page: it has another place in its stream exactly where the first of its bytes is the
--- first that is wrong.
+-- The numbers of a damaged page: it has another place in its stream exactly where the first of its bytes is
+-- the first that is wrong.
 abbrev pub TellsWhere : Cause → Type 0
 TellsWhere (cause.Damaged expected found at) = (found ≢ expected) ↔ (at ≡ 0)
 TellsWhere other = Unit {0}

@@ -35,5 +35,6 @@ pub record AreCounted {S K F A B : Type 0} (counts : Counts S K F A B) (before n
   pub output_on : counts.output_faults before.output ≤ counts.output_faults now.output
 
 -- once all five have ended
-abbrev pub FaultsAreCounted : {S K F A B : Type 0} → Counts S K F A B → Units S K F A B → Ran S K F A B → Type 0
+abbrev pub FaultsAreCounted : {S K F A B : Type 0} → Counts S K F A B → Units S K F A B → Ran S K F A B
+    → Type 0
 FaultsAreCounted counts before ran = AreCounted counts before ran.units ran.outcomes

@@ -8,9 +8,13 @@ use solo_devices::{Area, Sink, Source};
 /// The devices of a network over jobs of this kind: what they tell, and what they count.
 pub trait Peripherals<J: JobWork> {
     type Deck;
+
     type Paper;
+
     type Files;
+
     type Input;
+
     type Output;
 
     ghost tells: { Tells J.Load Self.Deck Self.Paper Self.Files Self.Input Self.Output };
@@ -19,12 +23,15 @@ pub trait Peripherals<J: JobWork> {
 }
 
 impl<J: JobWork, S: Source, K: Sink, F: Loader<J>, A: Area, B: Area> Peripherals<J>
-    for Units<S, K, F, A, B>
-{
+    for Units<S, K, F, A, B> {
     type Deck = S;
+
     type Paper = K;
+
     type Files = F;
+
     type Input = A;
+
     type Output = B;
 
     ghost tells = { record {

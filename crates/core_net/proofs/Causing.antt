@@ -11,7 +11,7 @@ use Rattle.batch_procs.specs.declared.actions.Reply.TheVariants as reply
 use Rattle.core_net.specs.declared.shared.Shared.{Shared}
 use Rattle.core_law.specs.Replies.{ReplyFits}
 use Rattle.core_net.specs.Causes.{MovesInput, MovesOutput, IsPrint, IsLoad, HasCauses}
-use Rattle.batch_procs.specs.Jobs.{Jobs, AreJobs, FilesAs, one_thread}
+use Rattle.batch_procs.specs.Jobs.{Jobs, AreJobs}
 use Rattle.batch_ends.specs.Causes.{Counts}
 use Rattle.batch_ends.specs.Tells.{Tells}
 

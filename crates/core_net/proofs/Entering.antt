@@ -10,7 +10,7 @@ use Rattle.core_law.specs.Ends.{IsProcess}
 use Rattle.core_net.specs.declared.shared.Shared.{Shared}
 use Rattle.core_net.specs.Shared.{SharedStands}
 use Rattle.core_net.specs.Steps.{Enters}
-use Rattle.batch_procs.specs.Jobs.{Jobs, AreJobs, FilesAs, one_thread}
+use Rattle.batch_procs.specs.Jobs.{Jobs, AreJobs}
 use Rattle.batch_ends.specs.Tells.{Tells}
 
 module _ {L : Type 0} {J : Jobs L} (jobs : AreJobs J) where

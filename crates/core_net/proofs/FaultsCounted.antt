@@ -1,11 +1,11 @@
 -- Each step keeps that the faults so far were counted by their devices.
-use Rattle.std.proofs.Common.{◌≡◌, ◌≢◌, ◌≤◌, ◌<◌, ◌⊎◌, inl, inr, ℕ, ◌==◌, if◌then◌else◌, Bool, List, ◌∷◌, Option, None, Some, Result, Ok, Err, refl, sym, ◌∙◌, ap, subst, arith}
+use Rattle.std.proofs.Common.{◌≡◌, ◌≢◌, ◌≤◌, ◌<◌, ◌⊎◌, inl, inr, ◌+◌, ℕ, ◌==◌, if◌then◌else◌, Bool, List, ◌∷◌, Option, None, Some, Result, Ok, Err, refl, sym, ◌∙◌, ap, subst, arith}
 use Rattle.std.proofs.lemmas.Bool.Decides.{eqb_tells}
 use Rattle.solo_base.specs.declared.outcome.Outcome.{Outcome}
 use Rattle.solo_base.specs.declared.outcome.Outcome.TheVariants as outcome
 use Rattle.solo_base.specs.declared.outcome.Cause.{Cause}
 use Rattle.solo_base.specs.declared.outcome.Cause.TheVariants as cause
-use Rattle.solo_devices.specs.Count.{Rose}
+use Rattle.solo_devices.specs.Count.{raised, Rose}
 use Rattle.solo_devices.specs.CardUnit.{Held, byte_limit}
 use Rattle.solo_devices.specs.declared.card_read.CardRead.{CardRead}
 use Rattle.solo_devices.specs.declared.card_read.CardRead.TheVariants as card_read
@@ -31,11 +31,11 @@ use Rattle.core_law.proofs.Acting.{follows-of}
 use Rattle.core_law.proofs.Reached.{reached-centre}
 use Rattle.core_net.specs.declared.net.Net.{Net}
 use Rattle.core_net.specs.Causes.{HasCauses, IsPrint, IsLoad, MovesInput, MovesOutput}
-use Rattle.core_net.specs.Faults.{units_of, outcomes_in, CausesAreCounted}
+use Rattle.core_net.specs.Faults.{disk_fault, JobFaultIsOwn, AreMet, units_of, outcomes_in, CausesAreCounted}
 use Rattle.core_net.specs.Net.{Keeps, NetStands}
 use Rattle.core_net.specs.Steps.{reply_of}
 use Rattle.core_law.proofs.Askers.{moves-page, takes-page, reads-deck, loads-files}
-use Rattle.batch_procs.specs.Jobs.{Jobs, AreJobs, FilesAs, one_thread}
+use Rattle.batch_procs.specs.Jobs.{Jobs, AreJobs}
 use Rattle.batch_ends.specs.Causes.{Counts}
 use Rattle.batch_ends.specs.Faults.{AreCounted}
 use Rattle.batch_ends.specs.Tells.{Tells}
@@ -87,6 +87,37 @@ then-rose a b c on rose = omega (arith, on, rose)
 
 on-then : (a b c : ℕ) → a ≤ b → b ≤ c → a ≤ c
 on-then a b c x y = omega (arith, x, y)
+
+-- ---- a failure beside another
+disk-case : (o : Outcome) → (o ≡ outcome.Fault cause.DiskFault) ⊎ (disk_fault o ≡ 0)
+disk-case (outcome.Fault cause.DiskFault) = inl refl
+disk-case o = inr refl
+
+both-fault : (a b : Outcome) → a ≡ outcome.Fault cause.DiskFault → b ≡ outcome.Fault cause.DiskFault → disk_fault a ≤ disk_fault b
+both-fault a b e f = let same : disk_fault a ≡ disk_fault b = ap disk_fault (e ∙ sym f) in omega (arith, same)
+
+none-fault : (a b : Outcome) → disk_fault a ≡ 0 → disk_fault a ≤ disk_fault b
+none-fault a b e = omega (arith, e)
+
+-- what one process has of a count is in it
+counted-once : (before now : ℕ) (o : Outcome) → (o ≡ outcome.Fault cause.DiskFault → Rose before now) → before ≤ now → raised before (disk_fault o) ≤ now
+counted-once before now o rose on =
+    elim (disk-case o) as (λ _. raised before (disk_fault o) ≤ now) [
+      | inl is ↦ subst (λ n. raised before n ≤ now) (sym (ap disk_fault is)) (rose is)
+      | inr none ↦ subst (λ n. raised before n ≤ now) (sym none) (at-least before now on)
+    ]
+  where
+    at-least : (before now : ℕ) → before ≤ now → raised before 0 ≤ now
+    at-least before now on = omega (arith, on)
+
+own-now : (before old new m n : ℕ) → raised before m ≤ old → Rose old new → n ≤ m → raised before (n + 1) ≤ new
+own-now before old new m n had rose few = omega (arith, had, rose, few)
+
+own-kept : (before old new m n : ℕ) → raised before (m + 1) ≤ old → old ≤ new → n ≤ m → raised before (n + 1) ≤ new
+own-kept before old new m n had on few = omega (arith, had, on, few)
+
+own-more : (before old new m n : ℕ) → raised before (m + 1) ≤ old → Rose old new → n ≡ 1 → raised before (n + 1) ≤ new
+own-more before old new m n had rose one = omega (arith, had, rose, one)
 
 same-five : (a b c d e x y z v w : Outcome) → a ≡ x → b ≡ y → c ≡ z → d ≡ v → e ≡ w → (the_five : Outcomes)
     → the_five ≡ record { card = a; input = b; job = c; output = d; printer = e }
@@ -229,8 +260,8 @@ module _ {L : Type 0} {J : Jobs L} (jobs : AreJobs J) where
 
     -- what is counted in one state that it stands for is in each
     counted-each : (net : Net X S K F A B) (before : Units S K F A B) (s : CoreState L) → NetStands J keeps tells net s
-        → AreCounted counts before (units_of net.shared) (outcomes_in s) → CausesAreCounted J keeps tells counts before net
-    counted-each net before s stands are = λ t other. subst (AreCounted counts before (units_of net.shared)) (same-outcomes net s t stands other) are
+        → AreMet counts before (units_of net.shared) (outcomes_in s) → CausesAreCounted J keeps tells counts before net
+    counted-each net before s stands are = λ t other. subst (AreMet counts before (units_of net.shared)) (same-outcomes net s t stands other) are
 
     -- ---- one step
     module _ (old new : Net X S K F A B) (o : Opening J) (s : CoreState L) (event : CoreEvent L) (reached : IsReached o s)
@@ -266,7 +297,10 @@ module _ {L : Type 0} {J : Jobs L} (jobs : AreJobs J) where
           let here : caused (s.histories 1) ≡ None = subst (λ p. caused (s.histories p) ≡ None) (reads-deck jobs q (s.histories q) asked) none in
           let both = sym here ∙ is in cc)
 
-      module _ (before : Units S K F A B) (was : AreCounted counts before (units_of old.shared) (outcomes_in s)) where
+      module _ (before : Units S K F A B) (met : AreMet counts before (units_of old.shared) (outcomes_in s)) where
+        abbrev was : AreCounted counts before (units_of old.shared) (outcomes_in s)
+        was = met.counted
+
         moves : IsMove made → MovesInput q made ⊎ MovesOutput q made
         moves is = moves-so q (s.histories q) made enabled.one follows next is
 
@@ -377,6 +411,105 @@ module _ {L : Type 0} {J : Jobs L} (jobs : AreJobs J) where
               | inr gave ↦ then-rose _ _ _ was.print_on (causes.print gave.1.0 gave.1.1)
             ]
 
+        -- ---- the job's own
+        abbrev Then : ℕ → Outcome
+        Then n = outcome_by (caused ((happens (core J (process J)) s event).histories n))
+
+        abbrev Before : ℕ → Outcome
+        Before n = outcome_by (caused (s.histories n))
+
+        -- another process has a fault of the disk as before, or met it now
+        abbrev Met : ℕ → Type 0
+        Met n = (disk_fault (Then n) ≤ disk_fault (Before n)) ⊎ ((disk_fault (Then n) ≡ 1) × (q ≡ n) × Told cause.DiskFault made (reply_of event.entry))
+
+        met-by : (n : ℕ) → Met n
+        met-by n =
+            elim (disk-case (Then n)) as (λ _. Met n) [
+              | inl is ↦ elim (now-or-before n cause.DiskFault is) as (λ _. Met n) [
+                | inl had ↦ inl (both-fault (Then n) (Before n) is had)
+                | inr gave ↦ inr (ap disk_fault is, gave.0, gave.1)
+              ]
+              | inr none ↦ inl (none-fault (Then n) (Before n) none)
+            ]
+
+        input-now : q ≡ 2 → Told cause.DiskFault made (reply_of event.entry)
+            → Rose (counts.input_faults old.shared.input.area) (counts.input_faults new.shared.input.area)
+        input-now two told =
+            elim told.0 as (λ _. Rose (counts.input_faults old.shared.input.area) (counts.input_faults new.shared.input.area)) [
+              | inl page ↦ elim (moves page) as (λ _. Rose (counts.input_faults old.shared.input.area) (counts.input_faults new.shared.input.area)) [
+                | inl there ↦ causes.input there told.1
+                | inr there ↦ absurd (no-output q made two there)
+              ]
+              | inr file ↦ absurd (let same = sym two ∙ loads file in cc)
+            ]
+
+        output-now : q ≡ 4 → Told cause.DiskFault made (reply_of event.entry)
+            → Rose (counts.output_faults old.shared.output.area) (counts.output_faults new.shared.output.area)
+        output-now four told =
+            elim told.0 as (λ _. Rose (counts.output_faults old.shared.output.area) (counts.output_faults new.shared.output.area)) [
+              | inl page ↦ elim (moves page) as (λ _. Rose (counts.output_faults old.shared.output.area) (counts.output_faults new.shared.output.area)) [
+                | inl there ↦ absurd (no-input q made four there)
+                | inr there ↦ causes.output there told.1
+              ]
+              | inr file ↦ absurd (let same = sym four ∙ loads file in cc)
+            ]
+
+        abbrev InputOwn : Type 0
+        InputOwn = raised (counts.input_faults before.input) (disk_fault (Then 2) + 1) ≤ counts.input_faults new.shared.input.area
+
+        abbrev OutputOwn : Type 0
+        OutputOwn = raised (counts.output_faults before.output) (disk_fault (Then 4) + 1) ≤ counts.output_faults new.shared.output.area
+
+        abbrev Own : Type 0
+        Own = InputOwn ⊎ OutputOwn ⊎ FilesRose
+
+        input-kept : raised (counts.input_faults before.input) (disk_fault (Before 2) + 1) ≤ counts.input_faults old.shared.input.area → InputOwn
+        input-kept had =
+            elim (met-by 2) as (λ _. InputOwn) [
+              | inl few ↦ own-kept _ _ _ _ _ had causes.input_on few
+              | inr more ↦ own-more _ _ _ _ _ had (input-now more.1 more.2) more.0
+            ]
+
+        output-kept : raised (counts.output_faults before.output) (disk_fault (Before 4) + 1) ≤ counts.output_faults old.shared.output.area → OutputOwn
+        output-kept had =
+            elim (met-by 4) as (λ _. OutputOwn) [
+              | inl few ↦ own-kept _ _ _ _ _ had causes.output_on few
+              | inr more ↦ own-more _ _ _ _ _ had (output-now more.1 more.2) more.0
+            ]
+
+        input-own : q ≡ 3 → MovesInput q made → reply_of event.entry ≡ Some reply.Failed → InputOwn
+        input-own three there failed =
+            elim (met-by 2) as (λ _. InputOwn) [
+              | inl few ↦ own-now _ _ _ _ _ (counted-once _ _ (Before 2) was.input was.input_on) (causes.input there failed) few
+              | inr more ↦ absurd (let same = sym more.1 ∙ three in cc)
+            ]
+
+        output-own : q ≡ 3 → MovesOutput q made → reply_of event.entry ≡ Some reply.Failed → OutputOwn
+        output-own three there failed =
+            elim (met-by 4) as (λ _. OutputOwn) [
+              | inl few ↦ own-now _ _ _ _ _ (counted-once _ _ (Before 4) was.output was.output_on) (causes.output there failed) few
+              | inr more ↦ absurd (let same = sym more.1 ∙ three in cc)
+            ]
+
+        own : JobFaultIsOwn counts before (units_of new.shared) (outcomes_in (happens (core J (process J)) s event))
+        own = λ is.
+            elim (now-or-before 3 cause.DiskFault is) as (λ _. Own) [
+              | inl had ↦ elim (met.own had) as (λ _. Own) [
+                | inl rose ↦ inl (input-kept rose)
+                | inr later ↦ elim later as (λ _. Own) [
+                  | inl rose ↦ inr (inl (output-kept rose))
+                  | inr rose ↦ inr (inr (rose-then _ _ _ rose causes.files_on))
+                ]
+              ]
+              | inr gave ↦ elim gave.1.0 as (λ _. Own) [
+                | inl page ↦ elim (moves page) as (λ _. Own) [
+                  | inl there ↦ inl (input-own gave.0 there gave.1.1)
+                  | inr there ↦ inr (inl (output-own gave.0 there gave.1.1))
+                ]
+                | inr file ↦ inr (inr (files-rose file gave.1.1))
+              ]
+            ]
+
         counted : AreCounted counts before (units_of new.shared) (outcomes_in (happens (core J (process J)) s event))
         counted = record {
           read = read;
@@ -400,16 +533,18 @@ module _ {L : Type 0} {J : Jobs L} (jobs : AreJobs J) where
         → HasCauses tells counts old.shared new.shared event.process (action_of event.entry) (reply_of event.entry)
         → (before : Units S K F A B) → CausesAreCounted J keeps tells counts before old → CausesAreCounted J keeps tells counts before new
     event-counted old new o s event reached stood enabled stands causes before were =
-        counted-each new before (happens (core J (process J)) s event) stands (counted old new o s event reached enabled causes before
-        (were s stood))
+        counted-each new before (happens (core J (process J)) s event) stands record {
+          counted = counted old new o s event reached enabled causes before (were s stood);
+          own = own old new o s event reached enabled causes before (were s stood);
+        }
 
-    -- What was counted until all ended is what the run tells.
-    pub ended-counted : (net : Net X S K F A B) (outcomes : Outcomes) (now : Units S K F A B) (s : CoreState L) → NetStands J keeps tells net s
+    -- What was met until all ended is what the run tells.
+    pub ended-met : (net : Net X S K F A B) (outcomes : Outcomes) (now : Units S K F A B) (s : CoreState L) → NetStands J keeps tells net s
         → outcomes.card ≡ outcome_by (caused (s.histories 1)) → outcomes.input ≡ outcome_by (caused (s.histories 2))
         → outcomes.job ≡ outcome_by (caused (s.histories 3)) → outcomes.output ≡ outcome_by (caused (s.histories 4))
         → outcomes.printer ≡ outcome_by (caused (s.histories 5)) → now ≡ units_of net.shared
-        → (before : Units S K F A B) → CausesAreCounted J keeps tells counts before net → AreCounted counts before now outcomes
-    ended-counted net outcomes now s stands card input job output printer devices before were =
-        subst (λ now. AreCounted counts before now outcomes) (sym devices)
-        (subst (AreCounted counts before (units_of net.shared)) (sym (same-five _ _ _ _ _ _ _ _ _ _ card input job output printer outcomes refl))
+        → (before : Units S K F A B) → CausesAreCounted J keeps tells counts before net → AreMet counts before now outcomes
+    ended-met net outcomes now s stands card input job output printer devices before were =
+        subst (λ now. AreMet counts before now outcomes) (sym devices)
+        (subst (AreMet counts before (units_of net.shared)) (sym (same-five _ _ _ _ _ _ _ _ _ _ card input job output printer outcomes refl))
         (were s stands))

@@ -6,7 +6,6 @@ use Rattle.solo_base.specs.declared.outcome.Outcome.{Outcome}
 use Rattle.solo_base.specs.declared.outcome.Outcome.TheVariants as outcome
 use Rattle.solo_base.specs.declared.outcome.Cause.{Cause}
 use Rattle.solo_base.specs.Text.{text}
-use Rattle.solo_devices.specs.CardUnit.{items_ahead}
 use Rattle.solo_devices.specs.PrinterUnit.{Gains}
 use Rattle.queue_var.specs.Sides.{stopped_by}
 use Rattle.batch_procs.specs.declared.machine.Machine.{Machine}

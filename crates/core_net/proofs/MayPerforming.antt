@@ -33,7 +33,7 @@ use Rattle.core_law.proofs.Places.{call-buffer}
 use Rattle.core_net.specs.declared.shared.Shared.{Shared}
 use Rattle.core_net.specs.Shared.{SharedStands, Choice, AtNumbers, WaitsAt, PutsAt, TakesAt, StopsAt, MayPerform}
 use Rattle.core_law.proofs.Askers.{feed-puts, room-waits, moves-page, takes-feed, takes-page, item-waits, reads-deck, prints-paper, loads-files}
-use Rattle.batch_procs.specs.Jobs.{Jobs, AreJobs, FilesAs, one_thread}
+use Rattle.batch_procs.specs.Jobs.{Jobs, AreJobs}
 use Rattle.batch_ends.specs.Tells.{Tells}
 
 -- ---- numbers
@@ -73,7 +73,8 @@ module _ {L : Type 0} {J : Jobs L} (jobs : AreJobs J) where
         ∙ subst (λ q. stopped_it b (s.histories q) ≡ false) (sym seated) (unstopped-by jobs (the-five jobs) p
         (s.histories p) one.0 follows a b side visit next e)
 
-    at-turn : (a : Action) (b : ℕ) (side : Side) (visit : Visit) → MayCall s p (call p a) → call p a ≡ At b side visit → MayVisit (s.buffers b).sides side p visit
+    at-turn : (a : Action) (b : ℕ) (side : Side) (visit : Visit) → MayCall s p (call p a) → call p a ≡ At b side visit
+        → MayVisit (s.buffers b).sides side p visit
     at-turn a b side visit may e = subst (MayCall s p) e may
 
     -- who awaits or passes

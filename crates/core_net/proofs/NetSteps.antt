@@ -46,7 +46,7 @@ use Rattle.core_law.proofs.Askers.{reads-deck, prints-paper, loads-files}
 use Rattle.core_net.proofs.MayPerforming.{may-perform}
 use Rattle.core_law.proofs.DeskRoom.{desk-room}
 use Rattle.core_net.proofs.Entering.{is-event}
-use Rattle.batch_procs.specs.Jobs.{Jobs, AreJobs, FilesAs, one_thread}
+use Rattle.batch_procs.specs.Jobs.{Jobs, AreJobs}
 use Rattle.batch_ends.specs.Causes.{Counts}
 use Rattle.batch_ends.specs.Devices.{cards_left}
 use Rattle.batch_ends.specs.Tells.{Tells}
@@ -129,7 +129,8 @@ module _ {L : Type 0} {J : Jobs L} (jobs : AreJobs J) where
 
   -- ---- one step
   -- an event of the process, from one network to the next
-  abbrev pub GoesOn : {X S K F A B : Type 0} → Keeps L X → Tells L S K F A B → Counts S K F A B → Net X S K F A B → Net X S K F A B → CoreState L → ℕ → Stepped → Type 0
+  abbrev pub GoesOn : {X S K F A B : Type 0} → Keeps L X → Tells L S K F A B → Counts S K F A B → Net X S K F A B → Net X S K F A B → CoreState L → ℕ → Stepped
+      → Type 0
   GoesOn keeps tells counts old new s p result = law.Steps (the_law J) (StandsWithin J keeps tells) (MovesBy J keeps tells counts) old new s p result
 
   module _ {X S K F A B : Type 0} (keeps : Keeps L X) (tells : Tells L S K F A B) (counts : Counts S K F A B) (net : Net X S K F A B) (o : Opening J)
@@ -403,7 +404,8 @@ module _ {L : Type 0} {J : Jobs L} (jobs : AreJobs J) where
   in-step s p may = record { one = may.one; next = may.next; may = may.may }
 
   -- that a machine may step
-  pub may-step : {X S K F A B : Type 0} (keeps : Keeps L X) (tells : Tells L S K F A B) (net : Net X S K F A B) (p q : ℕ) (Stands : List (Entry L) → Type 0) → p ≡ q
+  pub may-step : {X S K F A B : Type 0} (keeps : Keeps L X) (tells : Tells L S K F A B) (net : Net X S K F A B) (p q : ℕ) (Stands : List (Entry L) → Type 0)
+      → p ≡ q
       → (m : law.MayStep (the_law J) (StandsWithin J keeps tells net) p) → Stands (m.at.state.histories q)
       → MayStep tells (process J q) Stands net.shared p
   may-step keeps tells net p q Stands e m stands = record {
@@ -422,7 +424,8 @@ module _ {L : Type 0} {J : Jobs L} (jobs : AreJobs J) where
         } net m.at.opening m.at.state m.at.reached m.at.stands p m.may.action (in-step m.at.state p m.may);
   }
 
-  pub steps-at : {X S K F A B : Type 0} (keeps : Keeps L X) (tells : Tells L S K F A B) (counts : Counts S K F A B) (old new : Net X S K F A B) (s : CoreState L)
+  pub steps-at : {X S K F A B : Type 0} (keeps : Keeps L X) (tells : Tells L S K F A B) (counts : Counts S K F A B) (old new : Net X S K F A B)
+      (s : CoreState L)
       (Stands : List (Entry L)
       → Type 0) (p q : ℕ) (action : Action) (result : Stepped) (h : List (Entry L)) → p ≡ q
       → (MayStepIn J s q action → Steps Stands tells counts old.shared new.shared q action h result → GoesOn keeps tells counts old new s q result)

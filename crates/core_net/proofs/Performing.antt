@@ -4,7 +4,7 @@ use Rattle.std.proofs.lemmas.Bool.{eqb-true, eq-eqb}
 use Rattle.std.proofs.lemmas.List.{append-nil}
 use Rattle.solo_base.specs.declared.item.Feed.{Feed}
 use Rattle.solo_base.specs.declared.outcome.Side.{Side}
-use Rattle.solo_devices.specs.CardUnit.{Held, items_ahead}
+use Rattle.solo_devices.specs.CardUnit.{Held}
 use Rattle.solo_devices.specs.PrinterUnit.{Printing}
 use Rattle.queue_var.specs.Sides.{MayStop}
 use Rattle.resource_mon.specs.Claims.{Claims}
@@ -67,7 +67,8 @@ pub at-second : (p m n : ℕ) (X Y : ℕ → Type 0) → AtNumbers p m n X Y →
 at-second p m n X Y is not = choice-last p n (Y p) (choice-rest p m (X p) _ is not)
 
 -- a buffer that may be stopped is one of the four
-pub stops-last : {X S K F A B : Type 0} (shared : Shared X S K F A B) (b : ℕ) (side : Side) → StopsAt shared b side → (b ≡ 1 → ⊥) → (b ≡ 2 → ⊥) → (b ≡ 3 → ⊥) → b
+pub stops-last : {X S K F A B : Type 0} (shared : Shared X S K F A B) (b : ℕ) (side : Side) → StopsAt shared b side → (b ≡ 1 → ⊥) → (b ≡ 2 → ⊥) → (b ≡ 3 → ⊥)
+    → b
     ≡ 4
 stops-last shared b side is one two three =
     let behind_one = choice-rest b 1 (MayStop shared.cards.sides side) (Choice (b == 2) (MayStop shared.input.sides side)
@@ -198,7 +199,8 @@ module _ {L : Type 0} {J : Jobs L} (jobs : AreJobs J) where
     }
 
     pub at-output : (new : Spool B) (side : Side) (visit : Visit) → NoDevice action → call p action ≡ At 3 side visit
-        → Visited J (SpoolStands tells.output_pages) old.output new side visit p action result → Performs J tells old (record old { output = new }) p action result
+        → Visited J (SpoolStands tells.output_pages) old.output new side visit p action result
+        → Performs J tells old (record old { output = new }) p action result
     at-output new side visit quiet e v = record {
       suits = v.suits;
       gained = [];

@@ -16,7 +16,7 @@ use Rattle.network_law.specs.Acts.{Moves, Stops}
 use Rattle.network_law.specs.Buffer.{Buffer, after_stop, moved_through}
 use Rattle.core_net.specs.Calls.{Visited}
 use Rattle.core_net.specs.Spools.{told_inside, spool_buffer, SpoolStands}
-use Rattle.batch_procs.specs.Jobs.{Jobs, AreJobs, FilesAs, one_thread}
+use Rattle.batch_procs.specs.Jobs.{Jobs, AreJobs}
 use Rattle.batch_ends.specs.Spools.{page_parcel}
 
 -- ---- lists
@@ -158,7 +158,8 @@ module _ {L : Type 0} {J : Jobs L} (jobs : AreJobs J) where
     }
 
     -- ---- a take
-    pub take-told : (before now : Option (List (List ℕ))) (ring ring' : Ring) (marks : List Bool) (sent : List (List ℕ)) (taken : List Received) (got : Received)
+    pub take-told : (before now : Option (List (List ℕ))) (ring ring' : Ring) (marks : List Bool) (sent : List (List ℕ)) (taken : List Received)
+        (got : Received)
         → now ≡ before
         → map received_mark taken ++ marks ≡ map mark sent → marks ≡ received_mark got ∷ drop 1 marks
         → ((all : List (List ℕ)) → before ≡ Some all → map received_page taken ++ pages_inside all ring ≡ sent)

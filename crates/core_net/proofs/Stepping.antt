@@ -19,7 +19,7 @@ use Rattle.core_net.specs.Causes.{HasCauses}
 use Rattle.core_net.specs.Shared.{SharedStands, Performs}
 use Rattle.core_net.specs.Steps.{is_end, Enters, Steps}
 use Rattle.core_net.specs.Turns.{HasPlace}
-use Rattle.batch_procs.specs.Jobs.{Jobs, AreJobs, FilesAs, one_thread}
+use Rattle.batch_procs.specs.Jobs.{Jobs, AreJobs}
 use Rattle.batch_ends.specs.Causes.{Counts}
 use Rattle.batch_ends.specs.Tells.{Tells}
 
@@ -54,7 +54,8 @@ module _ {L : Type 0} {J : Jobs L} (jobs : AreJobs J) where
         record { gained = is.gained; deck = is.deck; total = is.total; files = is.files; fits = is.fits; allowed = is.allowed; after = is.after }
     enters-lacking action r may is = absurd may
 
-  module _ {X S K F A B : Type 0} (Stands : List (Entry L) → Type 0) (tells : Tells L S K F A B) (counts : Counts S K F A B) (old new : Shared X S K F A B) (p : ℕ)
+  module _ {X S K F A B : Type 0} (Stands : List (Entry L) → Type 0) (tells : Tells L S K F A B) (counts : Counts S K F A B) (old new : Shared X S K F A B)
+      (p : ℕ)
       (a r : Action)
       (h : List (Entry L)) (same : a ≡ r) where
     same-action : (result : Option (Reply L)) → Performs J tells old new p r result → Performs J tells old new p a result

@@ -1,12 +1,12 @@
 -- A process that may go on is at its turn, and its next action has its place.
-use Rattle.std.proofs.Common.{◌≡◌, ◌↔◌, ◌≤◌, ◌<◌, ℕ, Bool, true, false, List, ◌∷◌, Option, None, Some, refl, sym, ◌∙◌, ap, subst, arith}
+use Rattle.std.proofs.Common.{◌≡◌, ◌↔◌, ℕ, Bool, false, List, ◌∷◌, Option, None, Some, refl, sym, ◌∙◌, ap, subst, arith}
 use Rattle.std.specs.Prelude.{IsTrue, is_none}
 use Rattle.solo_base.specs.declared.outcome.Outcome.{Outcome}
 use Rattle.batch_procs.specs.declared.actions.Action.{Action}
 use Rattle.batch_procs.specs.declared.actions.Action.TheVariants as act
 use Rattle.batch_procs.specs.History.{Entry, Does, LacksMemory, Delays, action_of, newest}
 use Rattle.batch_procs.specs.Laws.{HasEnded}
-use Rattle.batch_procs.specs.Process.{Process, Follows, next_action}
+use Rattle.batch_procs.specs.Process.{Process, next_action}
 use Rattle.batch_procs.specs.Table.{process}
 use Rattle.batch_procs.proofs.Holding.{none-next}
 use Rattle.network_law.specs.Acts.{is_delayed}
@@ -26,7 +26,7 @@ use Rattle.core_net.specs.declared.shared.Shared.{Shared}
 use Rattle.core_net.specs.Steps.{is_end}
 use Rattle.core_net.specs.Turns.{HasPlace, IsAtTurn}
 use Rattle.core_net.proofs.MayPerforming.{may-request}
-use Rattle.batch_procs.specs.Jobs.{Jobs, AreJobs, FilesAs, one_thread}
+use Rattle.batch_procs.specs.Jobs.{Jobs, AreJobs}
 use Rattle.batch_ends.specs.Tells.{Tells}
 
 same-action : (a b : Action) (next : Option Action) → next ≡ Some a → next ≡ Some b → a ≡ b

@@ -3,8 +3,7 @@ use Rattle.std.proofs.Common.{◌≡◌, ◌≤◌, ◌==◌, if◌then◌else�
 use Rattle.solo_base.specs.Card.{lines, before_lines, card_of, cards}
 use Rattle.solo_base.specs.declared.item.Item.{Item}
 use Rattle.solo_base.specs.declared.outcome.Side.{Side}
-use Rattle.solo_devices.specs.CardUnit.{Held, items_ahead, bytes_total, IsAllTaken}
-use Rattle.solo_devices.specs.PrinterUnit.{Printing}
+use Rattle.solo_devices.specs.CardUnit.{items_ahead, bytes_total, IsAllTaken}
 use Rattle.network_run.specs.declared.counts.Counts.{Counts}
 use Rattle.network_run.specs.declared.rules.Rule.{Rule}
 use Rattle.network_run.specs.Counting.{raised}
@@ -21,7 +20,7 @@ use Rattle.core_net.specs.declared.net.Net.{Net}
 use Rattle.core_net.specs.Ended.{EndsSo}
 use Rattle.core_net.specs.Net.{Keeps, NetStands, StandsWithin}
 use Rattle.core_net.specs.WholeRuns.{RunsToEnd}
-use Rattle.batch_procs.specs.Jobs.{Jobs, AreJobs, FilesAs, one_thread}
+use Rattle.batch_procs.specs.Jobs.{Jobs, AreJobs, FilesAs}
 use Rattle.batch_ends.specs.Tells.{Tells, devices_of}
 use Rattle.batch_ends.specs.declared.units.Units.{Units}
 use Rattle.core_net.specs.Faults.{units_of}
@@ -55,7 +54,8 @@ pub all-taken : (before now : Option (List ℕ)) (taken_before taken_now : ℕ) 
 all-taken None None taken_before taken_now first pending none total reads = λ rest is. absurd cc
 all-taken None (Some bytes) taken_before taken_now first pending none total reads = absurd cc
 all-taken (Some bytes) now taken_before taken_now first pending none total reads = λ rest is.
-    let gone : Some (cards (pending ++ rest)) ≡ Some [] = subst (λ now. items_ahead now pending ≡ Some []) is (reads (cards bytes) (ap (λ first. Some (cards (first ++ bytes))) none)) in
+    let gone : Some (cards (pending ++ rest)) ≡ Some [] = subst (λ now. items_ahead now pending ≡ Some []) is
+    (reads (cards bytes) (ap (λ first. Some (cards (first ++ bytes))) none)) in
     last-none pending rest (lines-none (pending ++ rest) (map-none card_of (lines (pending ++ rest)) (some-none (cards (pending ++ rest)) gone)))
 
 module _ {L : Type 0} {J : Jobs L} (jobs : AreJobs J) where

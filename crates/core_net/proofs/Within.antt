@@ -1,11 +1,11 @@
 -- No run from an opening has more events than a count holds.
-use Rattle.std.proofs.Common.{Bool, true, false, if◌then◌else◌, ◌≡◌, ◌≤◌, ◌<◌, ℕ, ◌+◌, ◌*◌, ◌-◌, List, [], ◌∷◌, length, Option, refl, sym, ◌∙◌, ap, subst, arith}
+use Rattle.std.proofs.Common.{Bool, true, false, if◌then◌else◌, ◌≡◌, ◌≤◌, ℕ, ◌+◌, ◌*◌, ◌-◌, List, [], length, Option, refl, sym, ap, subst, arith}
 use Rattle.solo_base.specs.declared.item.Item.{Item}
 use Rattle.solo_devices.specs.CardUnit.{Held}
 use Rattle.batch_procs.specs.Jobs.{Jobs, AreJobs, FilesAs}
 use Rattle.core_law.specs.Core.{CoreState}
 use Rattle.core_law.specs.Opening.{Spools, opened}
-use Rattle.core_law.specs.Work.{weight, process_left, deck_left, buffer_left, calls_left, events_left}
+use Rattle.core_law.specs.Work.{weight, process_left, calls_left, events_left}
 use Rattle.network_run.specs.Runs.{most_events}
 use Rattle.batch_ends.specs.Devices.{cards_left}
 

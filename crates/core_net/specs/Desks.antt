@@ -10,7 +10,8 @@ use Rattle.core_law.specs.Core.{went}
 use Rattle.core_law.specs.Replies.{entry_of, ReplyFits}
 
 -- a request, by what the desk's claims were and are
-pub record Asked {L : Type 0} (J : Jobs L) (old new : Claims) (p : ℕ) (result : Option (Reply L)) : Type 0 where
+pub record Asked {L : Type 0} (J : Jobs L) (old new : Claims) (p : ℕ)
+    (result : Option (Reply L)) : Type 0 where
   pub suits : ReplyFits J act.Request result
   pub fits : went (entry_of act.Request result) ≡ asked old.handed old.holder
   pub after : (d : Desk) → d.claims ≡ old

@@ -65,7 +65,8 @@ StopsAt shared b side =
     (Choice (b == 3) (MayStop shared.output.sides side)
     (Choice (b == 4) (MayStop shared.lines.sides side) ⊥)))
 
-abbrev pub MayPerform : {L X S K F A B : Type 0} → Tells L S K F A B → Shared X S K F A B → ℕ → Action → Type 0
+abbrev pub MayPerform : {L X S K F A B : Type 0} → Tells L S K F A B → Shared X S K F A B → ℕ → Action
+    → Type 0
 MayPerform tells shared p act.ReadCard = shared.deck.live ≡ true
 MayPerform tells shared p (act.PutFeed f) =
     AtNumbers p 1 4 (WaitsAt shared.cards.sides Sender) (WaitsAt shared.lines.sides Sender)
@@ -78,7 +79,8 @@ MayPerform tells shared p act.AwaitItem =
 MayPerform tells shared p act.Request = MayRequest shared.desk p × (length shared.desk.waiting < 5)
 MayPerform tells shared p (act.PutPage page) =
     AtNumbers p 2 3 (λ p. PutsAt shared.input) (λ p. PutsAt shared.output)
-MayPerform tells shared p act.TakePage = AtNumbers p 3 4 (λ p. TakesAt shared.input) (λ p. TakesAt shared.output)
+MayPerform tells shared p act.TakePage =
+    AtNumbers p 3 4 (λ p. TakesAt shared.input) (λ p. TakesAt shared.output)
 MayPerform tells shared p (act.Load file) = tells.sound shared.files
 MayPerform tells shared p act.Release = IsSome shared.desk.holder × (shared.desk.handed ≡ None)
 MayPerform tells shared p act.Local = Unit {0}

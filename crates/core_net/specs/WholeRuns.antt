@@ -14,8 +14,8 @@ use Rattle.batch_procs.specs.Jobs.{Jobs}
 
 -- Enabled events by the rule, which come to these counts. Behind them all five have ended with these
 -- outcomes, the buffers were first stopped by these sides, and the deck and the paper are as told.
-pub record RunsToEnd {L : Type 0} (J : Jobs L) (rule : Rule) (s : CoreState L) (counts : Counts) (outcomes : Outcomes)
-    (stops : List (Option Side)) (devices : Devices L) : Type 0 where
+pub record RunsToEnd {L : Type 0} (J : Jobs L) (rule : Rule) (s : CoreState L) (counts : Counts)
+    (outcomes : Outcomes) (stops : List (Option Side)) (devices : Devices L) : Type 0 where
   pub events : List (CoreEvent L)
   pub enabled : AreEnabled (the_law J) s events
   pub by_rule : AreByRule (the_law J) rule s events

@@ -10,6 +10,7 @@ ghost use Rattle.core_law.specs.Holds.{AreTold, AreFound};
 ghost use Rattle.batch_ends.specs.Ended.{all_done, EndTogether, FaultsAre, NoneDamaged};
 ghost use Rattle.batch_ends.specs.Faults.{FaultsAreCounted};
 ghost use Rattle.batch_ends.specs.Tells.{deck_ahead, devices_of, spools_of, opened_over};
+ghost use Rattle.core_net.specs.Faults.{JobFaultIsOwn};
 ghost use Rattle.core_net.specs.WholeRuns.{RunsToEnd};
 
 use crate::Net;
@@ -43,6 +44,8 @@ pub fn run_core<J: JobWork, S: Source, K: Sink, F: Loader<J>, A: Area, B: Area>(
     ensures together { EndTogether result.0.outcomes result.0.stopped_by }
     ensures faults { FaultsAre result.0.outcomes }
     ensures counted { FaultsAreCounted ⟦<Units<S, K, F, A, B> as Peripherals<J>>⟧.counts units result.0 }
+    ensures own { JobFaultIsOwn ⟦<Units<S, K, F, A, B> as Peripherals<J>>⟧.counts units result.0.units
+        result.0.outcomes }
 
     // The paper gained what one thread prints or a part of it, all of it where all are done, and then nothing
     // is left of the deck.

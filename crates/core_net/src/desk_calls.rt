@@ -7,7 +7,10 @@ use resource_mon::{Grant, Resource};
 use solo_base::ProcNo;
 
 /// Asks for the disk, or resumes where the turn is handed to the process. No reply: the process waits.
-pub fn request<J: JobWork, const N: usize>(desk: &mut Resource<N>, p: ProcNo) -> Option<Reply<J::Load>>
+pub fn request<J: JobWork, const N: usize>(
+    desk: &mut Resource<N>,
+    p: ProcNo,
+) -> Option<Reply<J::Load>>
     requires may { MayRequest desk.old p }
     requires room { length desk.old.waiting < N }
     ensures { Asked J.jobs desk.old desk.new p result }

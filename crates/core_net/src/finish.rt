@@ -15,7 +15,7 @@ ghost use Rattle.batch_ends.specs.Ended.{EndTogether, FaultsAre, NoneDamaged, al
 ghost use Rattle.batch_ends.specs.Faults.{FaultsAreCounted};
 ghost use Rattle.batch_ends.specs.Tells.{deck_ahead};
 ghost use Rattle.core_net.specs.Ended.{HaveEnded, EndsSo};
-ghost use Rattle.core_net.specs.Faults.{CausesAreCounted, units_of};
+ghost use Rattle.core_net.specs.Faults.{CausesAreCounted, JobFaultIsOwn, units_of};
 ghost use Rattle.core_net.specs.Net.{NetStands, the_keeps};
 
 use crate::{Net, Shared};
@@ -32,7 +32,8 @@ impl<J: JobWork, S: Source, K: Sink, F: Loader<J>, A: Area, B: Area> Net<J, S, K
 
         // In every state that it stands for.
         ensures ends { (s : CoreState J.Load) →
-            NetStands J.jobs (the_keeps J.jobs J.keeps) ⟦<Units<S, K, F, A, B> as Peripherals<J>>⟧.tells self s →
+            NetStands J.jobs (the_keeps J.jobs J.keeps)
+            ⟦<Units<S, K, F, A, B> as Peripherals<J>>⟧.tells self s →
             EndsSo s result.outcomes result.stopped_by }
         ensures together { EndTogether result.outcomes result.stopped_by }
         ensures faults { FaultsAre result.outcomes }
@@ -41,6 +42,12 @@ impl<J: JobWork, S: Source, K: Sink, F: Loader<J>, A: Area, B: Area> Net<J, S, K
             ⟦<Units<S, K, F, A, B> as Peripherals<J>>⟧.tells
             ⟦<Units<S, K, F, A, B> as Peripherals<J>>⟧.counts before self →
             FaultsAreCounted ⟦<Units<S, K, F, A, B> as Peripherals<J>>⟧.counts before result }
+        ensures own { (before : Units S K F A B) →
+            CausesAreCounted J.jobs (the_keeps J.jobs J.keeps)
+            ⟦<Units<S, K, F, A, B> as Peripherals<J>>⟧.tells
+            ⟦<Units<S, K, F, A, B> as Peripherals<J>>⟧.counts before self →
+            JobFaultIsOwn ⟦<Units<S, K, F, A, B> as Peripherals<J>>⟧.counts before result.units
+            result.outcomes }
 
         // For each place where it stands: the paper gained what one thread prints or a part of it, all of it
         // where all are done, and then nothing is left of the deck.
@@ -53,7 +60,8 @@ impl<J: JobWork, S: Source, K: Sink, F: Loader<J>, A: Area, B: Area> Net<J, S, K
             (items : List Item) → at.opening.deck ≡ Some items → result.outcomes ≡ all_done →
             deck_ahead ⟦<Units<S, K, F, A, B> as Peripherals<J>>⟧.tells result.units.deck ≡ Some [] }
         // and no page was damaged
-        ensures undamaged { (at : Placed (the_law J.jobs) (⟦<Net<J, S, K, F, A, B> as Network>⟧.Stands self)) →
+        ensures undamaged { (at : Placed (the_law J.jobs)
+            (⟦<Net<J, S, K, F, A, B> as Network>⟧.Stands self)) →
             AreTold at.opening.spools → NoneDamaged result.outcomes }
         ensures units { result.units ≡ units_of self.shared }
     {

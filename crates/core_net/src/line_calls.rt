@@ -13,7 +13,11 @@ use slot_buffer::{LineBuffer, Put, Take};
 use solo_base::{BufferNo, Feed, ProcNo, Side};
 
 /// Puts what is handed over into a line buffer. No reply: the process waits.
-pub fn put_feed<J: JobWork>(buffer: &mut LineBuffer, p: ProcNo, feed: Feed) -> Option<Reply<J::Load>>
+pub fn put_feed<J: JobWork>(
+    buffer: &mut LineBuffer,
+    p: ProcNo,
+    feed: Feed,
+) -> Option<Reply<J::Load>>
     requires may_enter { MayEnter buffer.old.sides Sender p }
     requires not_stopped { has_stopped buffer.old.sides Sender ≡ false }
     ensures { Visited J.jobs LineStands buffer.old buffer.new Sender Passes p (act.PutFeed feed) result }
@@ -39,7 +43,11 @@ pub fn take_feed<J: JobWork>(buffer: &mut LineBuffer, p: ProcNo) -> Option<Reply
 }
 
 /// Stops a line buffer, which has this number, at a side.
-pub fn stop_line<J: JobWork>(buffer: &mut LineBuffer, number: BufferNo, side: Side) -> Reply<J::Load>
+pub fn stop_line<J: JobWork>(
+    buffer: &mut LineBuffer,
+    number: BufferNo,
+    side: Side,
+) -> Reply<J::Load>
     requires free { buffer.old.sides.turn ≡ Free }
     requires nobody_waits { queue buffer.old.sides side ≡ None }
     ensures { (p : ℕ)

@@ -21,8 +21,8 @@ use solo_base::ProcNo;
 use solo_devices::{Area, Sink, Source};
 use std::alloc::Global;
 
-/// The network of the Job Stream System over jobs of this kind, which is stepped one event at a time. It keeps
-/// no histories: contracts say which states of the core it stands for.
+/// The network of the Job Stream System over jobs of this kind, which is stepped one event at a time. It
+/// keeps no histories: contracts say which states of the core it stands for.
 #[derive(Drop)]
 pub struct Net<J, S: Source, K: Sink, F, A: Area, B: Area> {
     pub card: CardProc<J>,
@@ -62,15 +62,19 @@ impl<J: JobWork, S: Source, K: Sink, F: Loader<J>, A: Area, B: Area> Net<J, S, K
 }
 
 impl<J: JobWork, S: Source, K: Sink, F: Loader<J>, A: Area, B: Area> Network
-    for Net<J, S, K, F, A, B>
-{
+    for Net<J, S, K, F, A, B> {
     ghost law = { the_law J.jobs };
 
-    ghost Stands = { λ net s. StandsWithin J.jobs (the_keeps J.jobs J.keeps) ⟦<Units<S, K, F, A, B> as Peripherals<J>>⟧.tells net s };
+    ghost Stands = { λ net s. StandsWithin J.jobs (the_keeps J.jobs J.keeps)
+        ⟦<Units<S, K, F, A, B> as Peripherals<J>>⟧.tells net s };
 
-    ghost Moves = { λ old event new. MovesBy J.jobs (the_keeps J.jobs J.keeps) ⟦<Units<S, K, F, A, B> as Peripherals<J>>⟧.tells ⟦<Units<S, K, F, A, B> as Peripherals<J>>⟧.counts old event new };
+    ghost Moves = { λ old event new. MovesBy J.jobs (the_keeps J.jobs J.keeps)
+        ⟦<Units<S, K, F, A, B> as Peripherals<J>>⟧.tells
+        ⟦<Units<S, K, F, A, B> as Peripherals<J>>⟧.counts old event new };
 
-    ghost Keeps = { λ old new. KeepsAll J.jobs (the_keeps J.jobs J.keeps) ⟦<Units<S, K, F, A, B> as Peripherals<J>>⟧.tells ⟦<Units<S, K, F, A, B> as Peripherals<J>>⟧.counts old new };
+    ghost Keeps = { λ old new. KeepsAll J.jobs (the_keeps J.jobs J.keeps)
+        ⟦<Units<S, K, F, A, B> as Peripherals<J>>⟧.tells
+        ⟦<Units<S, K, F, A, B> as Peripherals<J>>⟧.counts old new };
 
     ghost left = { λ net s. events_left J.jobs (cards_left S.taken net.shared.deck) s };
 
@@ -134,8 +138,7 @@ impl<J: JobWork, S: Source, K: Sink, F: Loader<J>, A: Area, B: Area> Network
 }
 
 impl<J: JobWork, S: Source, K: Sink, F: Loader<J>, A: Area, B: Area> Falling
-    for Net<J, S, K, F, A, B>
-{
+    for Net<J, S, K, F, A, B> {
     ghost falls = { λ old new at event is stands moves.
         work-falls J.are_jobs at.opening at.state event (cards_left S.taken old.shared.deck)
         (cards_left S.taken new.shared.deck) at.reached is moves.deck };
@@ -147,6 +150,7 @@ impl<J: JobWork, S: Source, K: Sink, F: Loader<J>, A: Area, B: Area> Falling
     }
 }
 
-impl<J: JobWork, S: Source, K: Sink, F: Loader<J>, A: Area, B: Area> Sure for Net<J, S, K, F, A, B> {
+impl<J: JobWork, S: Source, K: Sink, F: Loader<J>, A: Area, B: Area> Sure
+    for Net<J, S, K, F, A, B> {
     ghost sure = { sure J.are_jobs };
 }

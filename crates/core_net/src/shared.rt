@@ -73,8 +73,8 @@ impl<J: JobWork, S: Source, K: Sink, F: Loader<J>, A: Area, B: Area> Shared<J, S
         requires may { MayPerform ⟦<Units<S, K, F, A, B> as Peripherals<J>>⟧.tells self.old p action }
         ensures performs { Performs J.jobs ⟦<Units<S, K, F, A, B> as Peripherals<J>>⟧.tells
             self.old self.new p action result }
-        ensures causes { HasCauses ⟦<Units<S, K, F, A, B> as Peripherals<J>>⟧.tells ⟦<Units<S, K, F, A, B> as Peripherals<J>>⟧.counts
-            self.old self.new p action result }
+        ensures causes { HasCauses ⟦<Units<S, K, F, A, B> as Peripherals<J>>⟧.tells
+            ⟦<Units<S, K, F, A, B> as Peripherals<J>>⟧.counts self.old self.new p action result }
     {
         match action {
             Action::ReadCard => Some(read_card::<J, S>(&mut self.deck)),
@@ -95,11 +95,12 @@ impl<J: JobWork, S: Source, K: Sink, F: Loader<J>, A: Area, B: Area> Shared<J, S
     }
 
     fn put_feed(&mut self, p: ProcNo, feed: Feed) -> Option<Reply<J::Load>>
-        requires may { MayPerform ⟦<Units<S, K, F, A, B> as Peripherals<J>>⟧.tells self.old p (act.PutFeed feed) }
+        requires may { MayPerform ⟦<Units<S, K, F, A, B> as Peripherals<J>>⟧.tells
+            self.old p (act.PutFeed feed) }
         ensures performs { Performs J.jobs ⟦<Units<S, K, F, A, B> as Peripherals<J>>⟧.tells
             self.old self.new p (act.PutFeed feed) result }
-        ensures causes { HasCauses ⟦<Units<S, K, F, A, B> as Peripherals<J>>⟧.tells ⟦<Units<S, K, F, A, B> as Peripherals<J>>⟧.counts
-            self.old self.new p (act.PutFeed feed) result }
+        ensures causes { HasCauses ⟦<Units<S, K, F, A, B> as Peripherals<J>>⟧.tells
+            ⟦<Units<S, K, F, A, B> as Peripherals<J>>⟧.counts self.old self.new p (act.PutFeed feed) result }
     {
         if p == 1 {
             put_feed::<J>(&mut self.cards, p, feed)
@@ -112,8 +113,8 @@ impl<J: JobWork, S: Source, K: Sink, F: Loader<J>, A: Area, B: Area> Shared<J, S
         requires may { MayPerform ⟦<Units<S, K, F, A, B> as Peripherals<J>>⟧.tells self.old p act.TakeFeed }
         ensures performs { Performs J.jobs ⟦<Units<S, K, F, A, B> as Peripherals<J>>⟧.tells
             self.old self.new p act.TakeFeed result }
-        ensures causes { HasCauses ⟦<Units<S, K, F, A, B> as Peripherals<J>>⟧.tells ⟦<Units<S, K, F, A, B> as Peripherals<J>>⟧.counts
-            self.old self.new p act.TakeFeed result }
+        ensures causes { HasCauses ⟦<Units<S, K, F, A, B> as Peripherals<J>>⟧.tells
+            ⟦<Units<S, K, F, A, B> as Peripherals<J>>⟧.counts self.old self.new p act.TakeFeed result }
     {
         if p == 2 {
             take_feed::<J>(&mut self.cards, p)
@@ -126,8 +127,8 @@ impl<J: JobWork, S: Source, K: Sink, F: Loader<J>, A: Area, B: Area> Shared<J, S
         requires may { MayPerform ⟦<Units<S, K, F, A, B> as Peripherals<J>>⟧.tells self.old p act.AwaitRoom }
         ensures performs { Performs J.jobs ⟦<Units<S, K, F, A, B> as Peripherals<J>>⟧.tells
             self.old self.new p act.AwaitRoom result }
-        ensures causes { HasCauses ⟦<Units<S, K, F, A, B> as Peripherals<J>>⟧.tells ⟦<Units<S, K, F, A, B> as Peripherals<J>>⟧.counts
-            self.old self.new p act.AwaitRoom result }
+        ensures causes { HasCauses ⟦<Units<S, K, F, A, B> as Peripherals<J>>⟧.tells
+            ⟦<Units<S, K, F, A, B> as Peripherals<J>>⟧.counts self.old self.new p act.AwaitRoom result }
     {
         if p == 2 {
             await_room::<J, A>(&mut self.input, p)
@@ -140,8 +141,8 @@ impl<J: JobWork, S: Source, K: Sink, F: Loader<J>, A: Area, B: Area> Shared<J, S
         requires may { MayPerform ⟦<Units<S, K, F, A, B> as Peripherals<J>>⟧.tells self.old p act.AwaitItem }
         ensures performs { Performs J.jobs ⟦<Units<S, K, F, A, B> as Peripherals<J>>⟧.tells
             self.old self.new p act.AwaitItem result }
-        ensures causes { HasCauses ⟦<Units<S, K, F, A, B> as Peripherals<J>>⟧.tells ⟦<Units<S, K, F, A, B> as Peripherals<J>>⟧.counts
-            self.old self.new p act.AwaitItem result }
+        ensures causes { HasCauses ⟦<Units<S, K, F, A, B> as Peripherals<J>>⟧.tells
+            ⟦<Units<S, K, F, A, B> as Peripherals<J>>⟧.counts self.old self.new p act.AwaitItem result }
     {
         if p == 3 {
             await_item::<J, A>(&mut self.input, p)
@@ -151,10 +152,12 @@ impl<J: JobWork, S: Source, K: Sink, F: Loader<J>, A: Area, B: Area> Shared<J, S
     }
 
     fn put_page(&mut self, p: ProcNo, page: Page) -> Reply<J::Load>
-        requires may { MayPerform ⟦<Units<S, K, F, A, B> as Peripherals<J>>⟧.tells self.old p (act.PutPage page) }
+        requires may { MayPerform ⟦<Units<S, K, F, A, B> as Peripherals<J>>⟧.tells
+            self.old p (act.PutPage page) }
         ensures performs { Performs J.jobs ⟦<Units<S, K, F, A, B> as Peripherals<J>>⟧.tells
             self.old self.new p (act.PutPage page) (Some result) }
-        ensures causes { HasCauses ⟦<Units<S, K, F, A, B> as Peripherals<J>>⟧.tells ⟦<Units<S, K, F, A, B> as Peripherals<J>>⟧.counts
+        ensures causes { HasCauses ⟦<Units<S, K, F, A, B> as Peripherals<J>>⟧.tells
+            ⟦<Units<S, K, F, A, B> as Peripherals<J>>⟧.counts
             self.old self.new p (act.PutPage page) (Some result) }
     {
         if p == 2 {
@@ -168,8 +171,8 @@ impl<J: JobWork, S: Source, K: Sink, F: Loader<J>, A: Area, B: Area> Shared<J, S
         requires may { MayPerform ⟦<Units<S, K, F, A, B> as Peripherals<J>>⟧.tells self.old p act.TakePage }
         ensures performs { Performs J.jobs ⟦<Units<S, K, F, A, B> as Peripherals<J>>⟧.tells
             self.old self.new p act.TakePage (Some result) }
-        ensures causes { HasCauses ⟦<Units<S, K, F, A, B> as Peripherals<J>>⟧.tells ⟦<Units<S, K, F, A, B> as Peripherals<J>>⟧.counts
-            self.old self.new p act.TakePage (Some result) }
+        ensures causes { HasCauses ⟦<Units<S, K, F, A, B> as Peripherals<J>>⟧.tells
+            ⟦<Units<S, K, F, A, B> as Peripherals<J>>⟧.counts self.old self.new p act.TakePage (Some result) }
     {
         if p == 3 {
             take_page::<J, A>(&mut self.input)
@@ -179,10 +182,12 @@ impl<J: JobWork, S: Source, K: Sink, F: Loader<J>, A: Area, B: Area> Shared<J, S
     }
 
     fn load(&mut self, p: ProcNo, file: Ident) -> Reply<J::Load>
-        requires may { MayPerform ⟦<Units<S, K, F, A, B> as Peripherals<J>>⟧.tells self.old p (act.Load file) }
+        requires may { MayPerform ⟦<Units<S, K, F, A, B> as Peripherals<J>>⟧.tells
+            self.old p (act.Load file) }
         ensures performs { Performs J.jobs ⟦<Units<S, K, F, A, B> as Peripherals<J>>⟧.tells
             self.old self.new p (act.Load file) (Some result) }
-        ensures causes { HasCauses ⟦<Units<S, K, F, A, B> as Peripherals<J>>⟧.tells ⟦<Units<S, K, F, A, B> as Peripherals<J>>⟧.counts
+        ensures causes { HasCauses ⟦<Units<S, K, F, A, B> as Peripherals<J>>⟧.tells
+            ⟦<Units<S, K, F, A, B> as Peripherals<J>>⟧.counts
             self.old self.new p (act.Load file) (Some result) }
     {
         let _ = p;
@@ -190,10 +195,12 @@ impl<J: JobWork, S: Source, K: Sink, F: Loader<J>, A: Area, B: Area> Shared<J, S
     }
 
     fn print(&mut self, p: ProcNo, line: Line) -> Reply<J::Load>
-        requires may { MayPerform ⟦<Units<S, K, F, A, B> as Peripherals<J>>⟧.tells self.old p (act.Print line) }
+        requires may { MayPerform ⟦<Units<S, K, F, A, B> as Peripherals<J>>⟧.tells
+            self.old p (act.Print line) }
         ensures performs { Performs J.jobs ⟦<Units<S, K, F, A, B> as Peripherals<J>>⟧.tells
             self.old self.new p (act.Print line) (Some result) }
-        ensures causes { HasCauses ⟦<Units<S, K, F, A, B> as Peripherals<J>>⟧.tells ⟦<Units<S, K, F, A, B> as Peripherals<J>>⟧.counts
+        ensures causes { HasCauses ⟦<Units<S, K, F, A, B> as Peripherals<J>>⟧.tells
+            ⟦<Units<S, K, F, A, B> as Peripherals<J>>⟧.counts
             self.old self.new p (act.Print line) (Some result) }
     {
         let _ = p;
@@ -201,10 +208,12 @@ impl<J: JobWork, S: Source, K: Sink, F: Loader<J>, A: Area, B: Area> Shared<J, S
     }
 
     fn stop(&mut self, p: ProcNo, buffer: BufferNo) -> Reply<J::Load>
-        requires may { MayPerform ⟦<Units<S, K, F, A, B> as Peripherals<J>>⟧.tells self.old p (act.Stop buffer) }
+        requires may { MayPerform ⟦<Units<S, K, F, A, B> as Peripherals<J>>⟧.tells
+            self.old p (act.Stop buffer) }
         ensures performs { Performs J.jobs ⟦<Units<S, K, F, A, B> as Peripherals<J>>⟧.tells
             self.old self.new p (act.Stop buffer) (Some result) }
-        ensures causes { HasCauses ⟦<Units<S, K, F, A, B> as Peripherals<J>>⟧.tells ⟦<Units<S, K, F, A, B> as Peripherals<J>>⟧.counts
+        ensures causes { HasCauses ⟦<Units<S, K, F, A, B> as Peripherals<J>>⟧.tells
+            ⟦<Units<S, K, F, A, B> as Peripherals<J>>⟧.counts
             self.old self.new p (act.Stop buffer) (Some result) }
     {
         let side = side_at(p, buffer);

@@ -18,7 +18,8 @@ use solo_devices::{Area, Moved};
 pub fn await_room<J: JobWork, A: Area>(spool: &mut Spool<A>, p: ProcNo) -> Option<Reply<J::Load>>
     requires may_enter { MayEnter spool.old.sides Sender p }
     requires not_stopped { has_stopped spool.old.sides Sender ≡ false }
-    ensures visited { Visited J.jobs (SpoolStands A.pages) spool.old spool.new Sender Awaits p act.AwaitRoom result }
+    ensures visited { Visited J.jobs
+        (SpoolStands A.pages) spool.old spool.new Sender Awaits p act.AwaitRoom result }
     ensures area { spool.new.area ≡ spool.old.area }
 {
     reply_of(spool.await_room(p))
@@ -42,7 +43,8 @@ pub fn put_page<J: JobWork, A: Area>(spool: &mut Spool<A>, page: Page) -> Reply<
     requires room { length spool.old.ring.marks < spool.old.ring.capacity }
     requires not_stopped { has_stopped spool.old.sides Sender ≡ false }
     ensures visited { (p : ℕ)
-        → Visited J.jobs (SpoolStands A.pages) spool.old spool.new Sender Moves p (act.PutPage page) (Some result) }
+        → Visited J.jobs (SpoolStands A.pages) spool.old
+        spool.new Sender Moves p (act.PutPage page) (Some result) }
     ensures failed { result ≡ reply.Failed → Rose (A.faults spool.old.area) (A.faults spool.new.area) }
     ensures counts { A.faults spool.old.area ≤ A.faults spool.new.area }
 {
@@ -59,7 +61,8 @@ pub fn take_page<J: JobWork, A: Area>(spool: &mut Spool<A>) -> Reply<J::Load>
     requires item { spool.old.ring.marks ≢ [] }
     requires not_stopped { has_stopped spool.old.sides Receiver ≡ false }
     ensures visited { (p : ℕ)
-        → Visited J.jobs (SpoolStands A.pages) spool.old spool.new Receiver Moves p act.TakePage (Some result) }
+        → Visited J.jobs (SpoolStands A.pages) spool.old
+        spool.new Receiver Moves p act.TakePage (Some result) }
     ensures failed { result ≡ reply.Failed → Rose (A.faults spool.old.area) (A.faults spool.new.area) }
     ensures counts { A.faults spool.old.area ≤ A.faults spool.new.area }
 {
@@ -71,11 +74,16 @@ pub fn take_page<J: JobWork, A: Area>(spool: &mut Spool<A>) -> Reply<J::Load>
 }
 
 /// Stops a spool, which has this number, at a side.
-pub fn stop_spool<J: JobWork, A: Area>(spool: &mut Spool<A>, number: BufferNo, side: Side) -> Reply<J::Load>
+pub fn stop_spool<J: JobWork, A: Area>(
+    spool: &mut Spool<A>,
+    number: BufferNo,
+    side: Side,
+) -> Reply<J::Load>
     requires free { spool.old.sides.turn ≡ Free }
     requires nobody_waits { queue spool.old.sides side ≡ None }
     ensures visited { (p : ℕ)
-        → Visited J.jobs (SpoolStands A.pages) spool.old spool.new side Stops p (act.Stop number) (Some result) }
+        → Visited J.jobs (SpoolStands A.pages) spool.old
+        spool.new side Stops p (act.Stop number) (Some result) }
     ensures area { spool.new.area ≡ spool.old.area }
 {
     let _ = number;

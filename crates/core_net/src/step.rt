@@ -14,20 +14,13 @@ use solo_base::ProcNo;
 use solo_devices::{Area, Sink, Source};
 
 /// Takes the next action of a process.
-pub fn step_machine<
-    J: JobWork,
-    W: Work<J>,
-    S: Source,
-    K: Sink,
-    F: Loader<J>,
-    A: Area,
-    B: Area,
->(
+pub fn step_machine<J: JobWork, W: Work<J>, S: Source, K: Sink, F: Loader<J>, A: Area, B: Area>(
     machine: &mut Machine<J, W>,
     p: ProcNo,
     shared: &mut Shared<J, S, K, F, A, B>,
 ) -> Stepped
-    requires may { MayStep ⟦<Units<S, K, F, A, B> as Peripherals<J>>⟧.tells W.process (StandsFor J.jobs W.process W.keeps machine.old) shared.old p }
+    requires may { MayStep ⟦<Units<S, K, F, A, B> as Peripherals<J>>⟧.tells W.process
+        (StandsFor J.jobs W.process W.keeps machine.old) shared.old p }
     ensures { (h : List (Entry J.Load)) (action : ActionOf) →
         StandsFor J.jobs W.process W.keeps machine.old h →
         next_action W.process h ≡ Some action →

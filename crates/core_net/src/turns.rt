@@ -126,15 +126,7 @@ fn upstream(p: ProcNo) -> BufferNo
 
 /// Whether a process has a next action, and is at its turn.
 #[inline(always)]
-pub fn may_step<
-    J: JobWork,
-    W: Work<J>,
-    S: Source,
-    K: Sink,
-    F: Loader<J>,
-    A: Area,
-    B: Area,
->(
+pub fn may_step<J: JobWork, W: Work<J>, S: Source, K: Sink, F: Loader<J>, A: Area, B: Area>(
     machine: &Machine<J, W>,
     p: ProcNo,
     shared: &Shared<J, S, K, F, A, B>,

@@ -22,7 +22,7 @@ use Rattle.core_law.proofs.Together.{ends-together}
 use Rattle.core_law.proofs.Undamaged.{have-causes, undamaged}
 use Rattle.core_net.specs.Ended.{EndsSo}
 use Rattle.schedule_law.specs.NoneCounted.{NoneCounted, NoneLacked}
-use Rattle.batch_procs.specs.Jobs.{Jobs, AreJobs, FilesAs, one_thread}
+use Rattle.batch_procs.specs.Jobs.{Jobs, AreJobs, FilesAs}
 use Rattle.batch_ends.specs.Causes.{Counts}
 use Rattle.batch_ends.specs.Ended.{outcome_at, all_done}
 use Rattle.batch_ends.specs.Faults.{AreCounted}

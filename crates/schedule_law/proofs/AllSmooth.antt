@@ -18,7 +18,7 @@ use Rattle.core_law.specs.Ends.{IsProcess, IsSmooth, AllDone}
 use Rattle.core_law.specs.TheLaw.{the_law}
 use Rattle.core_law.proofs.Acting.{follows-of}
 use Rattle.core_law.proofs.Reached.{Centre}
-use Rattle.batch_procs.specs.Jobs.{Jobs, AreJobs, FilesAs, one_thread}
+use Rattle.batch_procs.specs.Jobs.{Jobs, AreJobs}
 
 -- ---- one entry
 or-none : (old new : Option Outcome) → or_new old new ≡ None → (old ≡ None) × (new ≡ None)

@@ -1,5 +1,5 @@
 -- What a run answers are the counts of the one run.
-use Rattle.std.proofs.Common.{◌≡◌, ℕ, List, Option, Some, refl}
+use Rattle.std.proofs.Common.{◌≡◌, List, Option, refl}
 use Rattle.solo_base.specs.declared.outcome.Side.{Side}
 use Rattle.solo_base.specs.declared.outcome.Outcome.TheVariants as outcome
 use Rattle.batch_procs.specs.Table.{process}
@@ -23,7 +23,7 @@ use Rattle.core_net.specs.WholeRuns.{RunsToEnd}
 use Rattle.schedule_law.specs.NoneCounted.{NoneCounted, NoneLacked}
 use Rattle.schedule_law.proofs.AllDone.{done-so, all-done}
 use Rattle.schedule_law.proofs.AllSmooth.{done-smooth}
-use Rattle.batch_procs.specs.Jobs.{Jobs, AreJobs, FilesAs, one_thread}
+use Rattle.batch_procs.specs.Jobs.{Jobs, AreJobs}
 use Rattle.batch_ends.specs.Ended.{all_done}
 use Rattle.batch_ends.specs.Faults.{AreCounted}
 use Rattle.batch_ends.specs.Tells.{Tells}

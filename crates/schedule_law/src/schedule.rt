@@ -34,21 +34,30 @@ pub fn run_schedule<J: JobWork, S: Source, K: Sink, F: Loader<J>, A: Area, B: Ar
 
     // However it ended, what is counted is a run of this schedule from the opening over these devices, which
     // ended with these outcomes and left the deck and the paper so.
-    ensures runs { RunsToEnd J.jobs (rule.Numbered number) (opened_over ⟦<Units<S, K, F, A, B> as Peripherals<J>>⟧.tells units)
-        result.1 result.0.outcomes result.0.stopped_by (devices_of ⟦<Units<S, K, F, A, B> as Peripherals<J>>⟧.tells result.0.units) }
+    ensures runs { RunsToEnd J.jobs (rule.Numbered number)
+        (opened_over ⟦<Units<S, K, F, A, B> as Peripherals<J>>⟧.tells units)
+        result.1 result.0.outcomes result.0.stopped_by
+        (devices_of ⟦<Units<S, K, F, A, B> as Peripherals<J>>⟧.tells result.0.units) }
 
     // Over told devices it is the one run of the schedule, where no device failed and no memory was refused.
     // That none did is seen from the outcomes,
-    ensures done { (items : List Item) → deck_ahead ⟦<Units<S, K, F, A, B> as Peripherals<J>>⟧.tells units.deck ≡ Some items →
-        AreFilesKnown J.jobs (F.found units.files) items → AreTold (spools_of ⟦<Units<S, K, F, A, B> as Peripherals<J>>⟧.tells units) →
+    ensures done { (items : List Item) →
+        deck_ahead ⟦<Units<S, K, F, A, B> as Peripherals<J>>⟧.tells units.deck ≡ Some items →
+        AreFilesKnown J.jobs (F.found units.files) items →
+        AreTold (spools_of ⟦<Units<S, K, F, A, B> as Peripherals<J>>⟧.tells units) →
         result.0.outcomes ≡ all_done →
-        AreItsCounts (the_law J.jobs) (rule.Numbered number) (opened_over ⟦<Units<S, K, F, A, B> as Peripherals<J>>⟧.tells units) result.1 }
+        AreItsCounts (the_law J.jobs) (rule.Numbered number)
+        (opened_over ⟦<Units<S, K, F, A, B> as Peripherals<J>>⟧.tells units) result.1 }
 
     // or from the devices, none of which counted a failure, where no process ended for want of memory.
-    ensures uncounted { (items : List Item) → deck_ahead ⟦<Units<S, K, F, A, B> as Peripherals<J>>⟧.tells units.deck ≡ Some items →
-        AreFilesKnown J.jobs (F.found units.files) items → AreTold (spools_of ⟦<Units<S, K, F, A, B> as Peripherals<J>>⟧.tells units) →
-        NoneCounted ⟦<Units<S, K, F, A, B> as Peripherals<J>>⟧.counts units result.0.units → NoneLacked result.0.outcomes →
-        AreItsCounts (the_law J.jobs) (rule.Numbered number) (opened_over ⟦<Units<S, K, F, A, B> as Peripherals<J>>⟧.tells units) result.1 }
+    ensures uncounted { (items : List Item) →
+        deck_ahead ⟦<Units<S, K, F, A, B> as Peripherals<J>>⟧.tells units.deck ≡ Some items →
+        AreFilesKnown J.jobs (F.found units.files) items →
+        AreTold (spools_of ⟦<Units<S, K, F, A, B> as Peripherals<J>>⟧.tells units) →
+        NoneCounted ⟦<Units<S, K, F, A, B> as Peripherals<J>>⟧.counts units result.0.units →
+        NoneLacked result.0.outcomes →
+        AreItsCounts (the_law J.jobs) (rule.Numbered number)
+        (opened_over ⟦<Units<S, K, F, A, B> as Peripherals<J>>⟧.tells units) result.1 }
 {
     let mut net = Net::<J, S, K, F, A, B>::make(alloc, units);
     let counts = net.run_numbered(number);

@@ -24,6 +24,9 @@ returns-clause-runs g c =
 pub returns-clause-counted : goal.returns-clause-counted
 returns-clause-counted g c = c.finish.ensures.counted _ (c.run_by-counts.ensures.keeps.counted _ c.make-net.ensures.counted)
 
+pub returns-clause-own : goal.returns-clause-own
+returns-clause-own g c = c.finish.ensures.own _ (c.run_by-counts.ensures.keeps.counted _ c.make-net.ensures.counted)
+
 pub returns-clause-prints : goal.returns-clause-prints
 returns-clause-prints g c = λ items found is are_found told.
     let at = first_place c.make-net.ensures.opens in
@@ -45,7 +48,8 @@ returns-clause-undamaged g c = λ told.
 pub returns-clause-bound : goal.returns-clause-bound
 returns-clause-bound g c = λ items found is are_found told.
     let at = first_place c.make-net.ensures.opens in
-    run-bounded g.met.J.JobWork.are_jobs _ _ c.args.rule c.run_by-counts.new.self at.opening at.state c.run_by-counts.result items found at.reached told is are_found
+    run-bounded g.met.J.JobWork.are_jobs _ _ c.args.rule c.run_by-counts.new.self at.opening at.state c.run_by-counts.result items found at.reached told is
+    are_found
     (c.run_by-counts.ensures.runs at)
 
 pub returns-clause-total : goal.returns-clause-total

@@ -1,5 +1,3 @@
-use Rattle.std.proofs.Common.{sym, subst, refl}
-use Rattle.core_net.specs.Turns.{HasPlace}
 use Rattle.core_net.proofs.Stepping.{next-is, steps-delayed, steps-acted, steps-lacking}
 use Rattle.core_net.proofs.step.step_machine.Goals as goal
 

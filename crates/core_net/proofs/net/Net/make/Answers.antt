@@ -1,4 +1,4 @@
-use Rattle.std.proofs.Common.{◌≤◌, sym, subst, refl, ◌∙◌, ap}
+use Rattle.std.proofs.Common.{◌≤◌, sym, subst, ◌∙◌, ap}
 use Rattle.solo_devices.specs.CardUnit.{items_ahead}
 use Rattle.batch_ends.specs.Openings.{spools_over}
 use Rattle.batch_ends.specs.Devices.{cards_left}

@@ -4,7 +4,8 @@ use Rattle.core_net.proofs.net.NetNetwork.enabled.Goals as goal
 
 pub returns-then-p-eq1 : goal.returns-then-p-eq1
 returns-then-p-eq1 g c = λ at.
-    turn-at g.met.J.JobWork.are_jobs _ c.args.self.now.shared at.opening at.state at.reached at.stands.is.shared c.args.p 1 c.if-p-eq1.true (lit≤ tt, lit≤ tt) c.may_step.result
+    turn-at g.met.J.JobWork.are_jobs _ c.args.self.now.shared at.opening at.state at.reached at.stands.is.shared c.args.p 1 c.if-p-eq1.true
+    (lit≤ tt, lit≤ tt) c.may_step.result
     (λ places. c.may_step.ensures (at.state.histories 1) at.state at.stands.is.card at.stands.is.shared places)
 
 pub returns-then-p-eq2 : goal.returns-then-p-eq2

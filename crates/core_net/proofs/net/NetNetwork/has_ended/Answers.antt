@@ -23,5 +23,6 @@ returns-then-p-eq4 g c = λ at.
 
 pub returns-else-p-eq4 : goal.returns-else-p-eq4
 returns-else-p-eq4 g c = λ at.
-    ended-at g.met.J.JobWork.are_jobs at.state c.args.p 5 (last-number c.args.p c.requires.one c.if-p-eq1.false c.if-p-eq2.false c.if-p-eq3.false c.if-p-eq4.false)
+    ended-at g.met.J.JobWork.are_jobs at.state c.args.p 5 (last-number c.args.p c.requires.one c.if-p-eq1.false c.if-p-eq2.false c.if-p-eq3.false
+    c.if-p-eq4.false)
     c.has_ended-else-p-eq4.result (c.has_ended-else-p-eq4.ensures (at.state.histories 5) at.stands.is.printer)

@@ -17,7 +17,8 @@ pub returns-else-p-eq2-clause-performs : goal.returns-else-p-eq2-clause-performs
 returns-else-p-eq2-clause-performs g c =
     let last = at-second c.args.p 2 3 (WaitsAt c.args.self.now.input.sides Sender)
     (WaitsAt c.args.self.now.output.sides Sender) c.requires.may c.if-p-eq2.false in
-    at-output g.met.J.JobWork.are_jobs _ c.args.self.now c.args.p act.AwaitRoom c.await_room-else-p-eq2.result c.await_room-else-p-eq2.new.spool Sender Awaits tt
+    at-output g.met.J.JobWork.are_jobs _ c.args.self.now c.args.p act.AwaitRoom c.await_room-else-p-eq2.result c.await_room-else-p-eq2.new.spool Sender Awaits
+    tt
     (ap (λ p. call p act.AwaitRoom) last.number) c.await_room-else-p-eq2.ensures.visited
 
 pub returns-then-p-eq2-clause-causes : goal.returns-then-p-eq2-clause-causes
@@ -27,5 +28,6 @@ returns-then-p-eq2-clause-causes g c =
 
 pub returns-else-p-eq2-clause-causes : goal.returns-else-p-eq2-clause-causes
 returns-else-p-eq2-clause-causes g c =
-    quiet-causes g.met.J.JobWork.are_jobs _ _ c.args.self.now _ c.args.p act.AwaitRoom c.await_room-else-p-eq2.result tt c.await_room-else-p-eq2.ensures.visited.suits
+    quiet-causes g.met.J.JobWork.are_jobs _ _ c.args.self.now _ c.args.p act.AwaitRoom c.await_room-else-p-eq2.result tt
+    c.await_room-else-p-eq2.ensures.visited.suits
     record { deck = refl; paper = refl; input = refl; output = c.await_room-else-p-eq2.ensures.area; files = refl }

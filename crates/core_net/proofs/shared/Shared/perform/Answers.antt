@@ -20,8 +20,10 @@ returns-in-Release-clause-performs g c =
     (at-release g.met.J.JobWork.are_jobs _ c.args.self.now c.args.p c.release.new.desk c.release.result c.release.ensures)
 
 pub returns-in-Local-clause-performs : goal.returns-in-Local-clause-performs
-returns-in-Local-clause-performs g c = at-action g.met.J.JobWork.are_jobs _ c.args.self.now _ c.args.p c.args.action act.Local _ c.in-Local.is (at-local g.met.J.JobWork.are_jobs _ c.args.self.now c.args.p)
+returns-in-Local-clause-performs g c = at-action g.met.J.JobWork.are_jobs _ c.args.self.now _ c.args.p c.args.action act.Local _ c.in-Local.is
+    (at-local g.met.J.JobWork.are_jobs _ c.args.self.now c.args.p)
 
 pub returns-in-Ended-clause-performs : goal.returns-in-Ended-clause-performs
 returns-in-Ended-clause-performs g c =
-    at-action g.met.J.JobWork.are_jobs _ c.args.self.now _ c.args.p c.args.action (act.Ended c.in-Ended.field-0) _ c.in-Ended.is (at-end g.met.J.JobWork.are_jobs _ c.args.self.now c.args.p c.in-Ended.field-0)
+    at-action g.met.J.JobWork.are_jobs _ c.args.self.now _ c.args.p c.args.action (act.Ended c.in-Ended.field-0) _ c.in-Ended.is
+    (at-end g.met.J.JobWork.are_jobs _ c.args.self.now c.args.p c.in-Ended.field-0)

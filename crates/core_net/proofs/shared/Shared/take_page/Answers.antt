@@ -16,7 +16,8 @@ returns-then-p-eq3-clause-performs g c =
 pub returns-else-p-eq3-clause-performs : goal.returns-else-p-eq3-clause-performs
 returns-else-p-eq3-clause-performs g c =
     let last = at-second c.args.p 3 4 (λ p. TakesAt c.args.self.now.input) (λ p. TakesAt c.args.self.now.output) c.requires.may c.if-p-eq3.false in
-    at-output g.met.J.JobWork.are_jobs _ c.args.self.now c.args.p act.TakePage (Some c.take_page-else-p-eq3.result) c.take_page-else-p-eq3.new.spool Receiver Moves tt
+    at-output g.met.J.JobWork.are_jobs _ c.args.self.now c.args.p act.TakePage
+    (Some c.take_page-else-p-eq3.result) c.take_page-else-p-eq3.new.spool Receiver Moves tt
     (ap (λ p. call p act.TakePage) last.number) (c.take_page-else-p-eq3.ensures.visited c.args.p)
 
 pub returns-then-p-eq3-clause-causes : goal.returns-then-p-eq3-clause-causes
@@ -26,5 +27,6 @@ returns-then-p-eq3-clause-causes g c =
 
 pub returns-else-p-eq3-clause-causes : goal.returns-else-p-eq3-clause-causes
 returns-else-p-eq3-clause-causes g c =
-    output-causes g.met.J.JobWork.are_jobs _ _ c.args.self.now _ c.args.p act.TakePage c.take_page-else-p-eq3.result tt (c.take_page-else-p-eq3.ensures.visited c.args.p).suits
+    output-causes g.met.J.JobWork.are_jobs _ _ c.args.self.now _ c.args.p act.TakePage c.take_page-else-p-eq3.result tt
+    (c.take_page-else-p-eq3.ensures.visited c.args.p).suits
     c.if-p-eq3.false refl refl refl refl c.take_page-else-p-eq3.ensures.failed c.take_page-else-p-eq3.ensures.counts
