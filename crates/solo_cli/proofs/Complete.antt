@@ -147,7 +147,7 @@ module _ {S Y K T F I O : Type 0} {before after : Told S Y K T F I O} where
   completes asked (Some (Fault cause.PrintFault)) some n ready does a = absurd (let rose = a.print refl in let stayed = n.paper in omega (arith, rose, stayed))
   completes asked (Some (Fault cause.ConsoleFault)) some n ready does a = absurd (no-show asked n a.known (a.shown refl))
   completes asked (Some (Fault cause.DeckLimit)) some n ready does a = absurd (no-limit asked n ready a.known a.total (a.limit refl))
-  completes asked (Some (Fault (cause.NotSolo page))) some n ready does a = absurd (none-named asked page n.usable a.known does)
+  completes asked (Some (Fault (cause.NotSolo page))) some n ready does a = absurd (none-named before after asked page n.usable a.known does)
   completes asked (Some (Fault (cause.Damaged expected found at))) some n ready does a =
       absurd (a.undamaged n.input_told n.output_told (told-where (uses asked).deck n.deck_within) refl)
   completes asked (Some (Fault cause.NoMemory)) some n ready does a = inr (inl refl)

@@ -82,13 +82,13 @@ module _ {S Y K T F I O : Type 0} (before after : Told S Y K T F I O) where
   behind-numbers c (inr is) = subst TellsWhere (sym is) tt
 
 -- what may come of a line that is printed behind them
-pub later-line : {S Y K T F I O : Type 0} {before after : Told S Y K T F I O} (answer : Option Refusal) → IfSome answer (OfFault IsPrintCause)
+pub later-line : {S Y K T F I O : Type 0} (before after : Told S Y K T F I O) (answer : Option Refusal) → IfSome answer (OfFault IsPrintCause)
     → (answer ≡ Some (Fault cause.PrintFault) → Rose before.paper.faults after.paper.faults)
     → IfSome answer (OfFault (LineBehind before after))
-later-line None known rose = tt
-later-line (Some (NoRoom needed free)) known rose = known
-later-line (Some (Fault why)) (inl is) rose = inl (is, rose (ap (λ why. Some (Fault why)) is))
-later-line (Some (Fault why)) (inr is) rose = inr is
+later-line before after None known rose = tt
+later-line before after (Some (NoRoom needed free)) known rose = known
+later-line before after (Some (Fault why)) (inl is) rose = inl (is, rose (ap (λ why. Some (Fault why)) is))
+later-line before after (Some (Fault why)) (inr is) rose = inr is
 
 module _ {S Y K T F I O : Type 0} {Behind : Cause → Type 0} {before after : Told S Y K T F I O} {answer : Option Refusal}
     (ends : DeckEnds Behind before after answer) (later : (why : Cause) → Behind why → LineBehind before after why) where

@@ -56,16 +56,16 @@ no-print (inr (inr is)) = cc
 fault-is : {a b : Cause} → Some (Fault a) ≡ Some (Fault b) → a ≡ b
 fault-is same = cc
 
-module _ {S K : Type 0} {deck deck' : Read S} {paper paper' : Printed K} {answer : Option Refusal} where
+module _ {S K : Type 0} {deck deck' : Read S} {D : Type 0} (tells : D → Printed K) (old now : D) {answer : Option Refusal} where
   pub judged : {V : Type 0} (list : V → List Item) (read : Result V Cause)
-      → IfOk read (λ items. Prints paper paper' (line_text (judgement_line (judge (list items)))) answer)
-      → IfErr read (λ why. (answer ≡ Some (Fault why)) × (paper' ≡ paper)) → IfErr read IsReadCause → OnOk read (IsAllTaken deck'.left)
+      → IfOk read (λ items. Prints (tells old) (tells now) (line_text (judgement_line (judge (list items)))) answer)
+      → IfErr read (λ why. (answer ≡ Some (Fault why)) × (now ≡ old)) → IfErr read IsReadCause → OnOk read (IsAllTaken deck'.left)
       → IfOk read (λ items. (bytes : List ℕ) → deck.left ≡ Some bytes → cards bytes ≡ list items) → deck.taken ≡ 0
       → bytes_total deck'.taken deck'.left ≡ bytes_total deck.taken deck.left
       → (read ≡ Err cause.ReadFault → Rose deck.faults deck'.faults) → (read ≡ Err cause.DeckLimit → byte_limit < deck'.taken)
-      → (byte_limit < deck'.taken → read ≡ Err cause.DeckLimit) → Judged deck deck' paper paper' answer
+      → (byte_limit < deck'.taken → read ≡ Err cause.DeckLimit) → Judged deck deck' (tells old) (tells now) answer
   judged list (Ok items) prints refused known taken are zero total failed limit beyond = record {
-    prints = λ bytes told. subst (λ items. Gains paper.given paper'.given (line_text (judgement_line (judge items))) (answer ≡ None))
+    prints = λ bytes told. subst (λ items. Gains (tells old).given (tells now).given (line_text (judgement_line (judge items))) (answer ≡ None))
         (sym (are bytes told)) prints.gains;
     reads = reads-to-end zero total (λ none. taken) (λ more. absurd (let no : Ok items ≡ Err cause.DeckLimit = beyond more in cc));
     known = print-known answer prints.known;
@@ -75,8 +75,8 @@ module _ {S K : Type 0} {deck deck' : Read S} {paper paper' : Printed K} {answer
     beyond = λ more. absurd (let no : Ok items ≡ Err cause.DeckLimit = beyond more in cc);
   }
   judged {V = V} list (Err why) prints refused known taken are zero total failed limit beyond = record {
-    prints = λ bytes told. subst (λ now. Gains paper.given now.given (line_text (judgement_line (judge (cards bytes)))) (answer ≡ None))
-        (sym refused.1) (nothing paper.given (line_text (judgement_line (judge (cards bytes)))) (answer ≡ None) some);
+    prints = λ bytes told. subst (λ now. Gains (tells old).given (tells now).given (line_text (judgement_line (judge (cards bytes)))) (answer ≡ None))
+        (sym refused.1) (nothing (tells old).given (line_text (judgement_line (judge (cards bytes)))) (answer ≡ None) some);
     reads = record { emptied = λ bytes told none. absurd (some none); longer = λ bytes told more none. some none };
     known = subst (λ answer. IfSome answer (OfFault IsCheckCause)) (sym refused.0) (inr known);
     read = λ is. failed (ap Err (fault-is (sym refused.0 ∙ is)));

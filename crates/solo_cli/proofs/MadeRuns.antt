@@ -209,7 +209,7 @@ module _ {S Y K T F I O : Type 0} {before after : Told S Y K T F I O} {answer : 
           stopped_by = lowest.stopped_by;
           together = lowest.together;
           faults = lowest.faults;
-          one_of = behind answer (later-line answer known failed);
+          one_of = behind answer (later-line before after answer known failed);
           none_lower = λ fault at. absurd (let lower = lowest.none_lower fault at in (let none : None ≡ Some (Fault lower.0) = lower.1 in cc));
           done = λ _. lowest.done refl;
         };

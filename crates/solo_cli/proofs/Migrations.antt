@@ -50,14 +50,14 @@ no_page page (inr (inr (inl is))) = cc
 no_page page (inr (inr (inr is))) = cc
 
 -- no page of an area that the command can use is named
-pub none-named : {S Y K T F I O : Type 0} {before after : Told S Y K T F I O} (asked : Option Command) (page : ℕ) → CanUse asked before.files.pages
+pub none-named : {S Y K T F I O : Type 0} (before after : Told S Y K T F I O) (asked : Option Command) (page : ℕ) → CanUse asked before.files.pages
     → MayBeRefused asked (Fault (cause.NotSolo page)) → Does asked before after (Some (Fault (cause.NotSolo page))) → ⊥
-none-named None page can known does = cc
-none-named (Some command.Batch) page (pages, is, solo) known does = no-solo pages page solo ((does.1.not_solo page refl).0 pages is)
-none-named (Some (command.Core schedule)) page (pages, is, solo) known does = no-solo pages page solo ((does.1.not_solo page refl).0 pages is)
-none-named (Some (command.Make number)) page (pages, is, solo) known does = no-solo pages page solo ((does.1.not_solo page refl).0 pages is)
-none-named (Some command.Format) page can known does = cc
-none-named {after = after} (Some command.Migrate) page (pages, is, keeps) known does =
+none-named before after None page can known does = cc
+none-named before after (Some command.Batch) page (pages, is, solo) known does = no-solo pages page solo ((does.1.not_solo page refl).0 pages is)
+none-named before after (Some (command.Core schedule)) page (pages, is, solo) known does = no-solo pages page solo ((does.1.not_solo page refl).0 pages is)
+none-named before after (Some (command.Make number)) page (pages, is, solo) known does = no-solo pages page solo ((does.1.not_solo page refl).0 pages is)
+none-named before after (Some command.Format) page can known does = cc
+none-named before after (Some command.Migrate) page (pages, is, keeps) known does =
     neither pages after.files.pages page keeps (does.migrated pages is)
-none-named (Some command.Check) page can known does = no_page page known
-none-named (Some (command.Times schedule)) page can known does = known
+none-named before after (Some command.Check) page can known does = no_page page known
+none-named before after (Some (command.Times schedule)) page can known does = known

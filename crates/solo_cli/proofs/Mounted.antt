@@ -28,20 +28,27 @@ use Rattle.solo_cli.specs.Uses.{deck_used}
 pub no-solo : (pages : List (List ℕ)) (n : ℕ) → IsSoloDisk pages → IsBad pages n → ⊥
 no-solo pages n solo bad = bad.breaks (solo n)
 
+-- the devices with the area that was mounted
+abbrev moved : {S Y K T F I O : Type 0} → Told S Y K T F I O → Told S Y K T F I O → Told S Y K T F I O
+moved before mid = record before { files = mid.files }
+
+untouched : {S Y K T F I O : Type 0} (before mid after : Told S Y K T F I O) → Untouched (moved before mid) after → Untouched before after
+untouched before mid after u = record { deck = u.deck; paper = u.paper; input = u.input; output = u.output }
+
+disk-on : {S Y K T F I O : Type 0} (before mid after : Told S Y K T F I O) → before.files.faults ≤ mid.files.faults
+    → Rose before.input.faults after.input.faults ⊎ Rose before.output.faults after.output.faults ⊎ Rose mid.files.faults after.files.faults
+    → Rose before.input.faults after.input.faults ⊎ Rose before.output.faults after.output.faults ⊎ Rose before.files.faults after.files.faults
+disk-on before mid after later (inl rose) = inl rose
+disk-on before mid after later (inr (inl rose)) = inr (inl rose)
+disk-on before mid after later (inr (inr rose)) = inr (inr (omega (arith, later, rose)))
+
+or-untouched : {S Y K T F I O : Type 0} (before mid after : Told S Y K T F I O) {A B : Type 0} → (A → B)
+    → A ⊎ Untouched (moved before mid) after → B ⊎ Untouched before after
+or-untouched before mid after change (inl e) = inl (change e)
+or-untouched before mid after change (inr u) = inr (untouched before mid after u)
+
 module _ {S Y K T F I O : Type 0} {before mid after : Told S Y K T F I O} {answer : Option Refusal} (m : AreMounted before mid) where
-  abbrev moved : Told S Y K T F I O
-  moved = record before { files = mid.files }
-
-  untouched : Untouched moved after → Untouched before after
-  untouched u = record { deck = u.deck; paper = u.paper; input = u.input; output = u.output }
-
-  disk-on : Rose moved.input.faults after.input.faults ⊎ Rose moved.output.faults after.output.faults ⊎ Rose moved.files.faults after.files.faults
-      → Rose before.input.faults after.input.faults ⊎ Rose before.output.faults after.output.faults ⊎ Rose before.files.faults after.files.faults
-  disk-on (inl rose) = inl rose
-  disk-on (inr (inl rose)) = inr (inl rose)
-  disk-on (inr (inr rose)) = inr (inr (let later = m.later in omega (arith, later, rose)))
-
-  deck-ends : {Behind : Cause → Type 0} → DeckEnds Behind moved after answer → DeckEnds Behind before after answer
+  deck-ends : {Behind : Cause → Type 0} → DeckEnds Behind (moved before mid) after answer → DeckEnds Behind before after answer
   deck-ends e = record {
     five = e.five;
     counted = record {
@@ -49,44 +56,37 @@ module _ {S Y K T F I O : Type 0} {before mid after : Told S Y K T F I O} {answe
       limit = e.counted.limit;
       longer = e.counted.longer;
       input = e.counted.input;
-      job = λ is. disk-on (e.counted.job is);
+      job = λ is. disk-on before mid after m.later (e.counted.job is);
       output = e.counted.output;
       print = e.counted.print;
     };
   }
 
   -- ---- `batch`
-  batch-ends : DeckEnds Nothing moved after answer ⊎ Untouched moved after → DeckEnds Nothing before after answer ⊎ Untouched before after
-  batch-ends (inl e) = inl (deck-ends e)
-  batch-ends (inr u) = inr (untouched u)
-
-  of-batch : RunsBatch moved after answer → RunsBatch before after answer
+  of-batch : RunsBatch (moved before mid) after answer → RunsBatch before after answer
   of-batch ran = record {
     prints = λ bytes found told files spools.
         ran.prints bytes found told (subst (λ pages. AreFound (files_found pages) found (cards bytes)) (sym m.left) files)
         record { input = spools.input; output = spools.output };
     reads = ran.reads;
-    ends = batch-ends ran.ends;
+    ends = or-untouched before mid after deck-ends ran.ends;
   }
 
   pub mounted-batch : RunsBatch mid after answer → RunsBatch before after answer
   mounted-batch ran = of-batch (subst (λ told. RunsBatch told after answer) m.stays ran)
 
   -- ---- `core`
-  core-ends : (n : ℕ) → CoreEnds (Numbered n) moved after answer ⊎ Untouched moved after
-      → CoreEnds (Numbered n) before after answer ⊎ Untouched before after
-  core-ends n (inl e) =
-      inl record {
-        ends = deck-ends e.ends;
-        counts = e.counts;
-        devices = e.devices;
-        runs = subst (λ pages. RunsToEnd deck_jobs (Numbered n)
-            (opened (spools_of before) (items_ahead before.deck.left []) before.paper.given (files_found pages)) e.counts
-            e.ends.five.outcomes e.ends.five.stopped_by e.devices) m.left e.runs;
-      }
-  core-ends n (inr u) = inr (untouched u)
+  core-ends : (n : ℕ) → CoreEnds (Numbered n) (moved before mid) after answer → CoreEnds (Numbered n) before after answer
+  core-ends n e = record {
+    ends = deck-ends e.ends;
+    counts = e.counts;
+    devices = e.devices;
+    runs = subst (λ pages. RunsToEnd deck_jobs (Numbered n)
+        (opened (spools_of before) (items_ahead before.deck.left []) before.paper.given (files_found pages)) e.counts
+        e.ends.five.outcomes e.ends.five.stopped_by e.devices) m.left e.runs;
+  }
 
-  of-core : (n : ℕ) → RunsCore n moved after answer → RunsCore n before after answer
+  of-core : (n : ℕ) → RunsCore n (moved before mid) after answer → RunsCore n before after answer
   of-core n ran = record {
     prints = λ bytes found told files spools.
         subst (λ pages. GainsCounted (Numbered n)
@@ -95,25 +95,21 @@ module _ {S Y K T F I O : Type 0} {before mid after : Told S Y K T F I O} {answe
         (ran.prints bytes found told (subst (λ pages. AreFound (files_found pages) found (cards bytes)) (sym m.left) files)
         record { input = spools.input; output = spools.output });
     reads = ran.reads;
-    ends = core-ends n ran.ends;
+    ends = or-untouched before mid after (core-ends n) ran.ends;
   }
 
   pub mounted-core : (n : ℕ) → RunsCore n mid after answer → RunsCore n before after answer
   mounted-core n ran = of-core n (subst (λ told. RunsCore n told after answer) m.stays ran)
 
   -- ---- `make`
-  make-ends : {A : Type 0} → A ⊎ Untouched moved after → A ⊎ Untouched before after
-  make-ends (inl e) = inl e
-  make-ends (inr u) = inr (untouched u)
-
-  of-make : (n : ℕ) → MakesDeck n moved after answer → MakesDeck n before after answer
+  of-make : (n : ℕ) → MakesDeck n (moved before mid) after answer → MakesDeck n before after answer
   of-make n made = record {
     prints = λ spools.
         subst (λ pages. GainsNumbers (Numbered n) (opened (spools_of before) (Some (cards (made_deck n))) (Some []) (files_found pages))
         (made_deck n) before.paper.given after.paper.given (answer ≡ None)) m.left
         (made.prints record { input = spools.input; output = spools.output });
     unprinted = made.unprinted;
-    ends = make-ends made.ends;
+    ends = or-untouched before mid after (λ e. e) made.ends;
   }
 
   pub mounted-make : (n : ℕ) → MakesDeck n mid after answer → MakesDeck n before after answer
@@ -121,11 +117,11 @@ module _ {S Y K T F I O : Type 0} {before mid after : Told S Y K T F I O} {answe
 
   -- ---- the answers
   of-answers : (deck : Bool) (May Wider : Refusal → Type 0) → (IfSome answer May → IfSome answer Wider)
-      → Answers (record deck_used { deck = deck }) May moved after answer → Answers (record deck_used { deck = deck }) Wider before after answer
+      → Answers (record deck_used { deck = deck }) May (moved before mid) after answer → Answers (record deck_used { deck = deck }) Wider before after answer
   of-answers deck May Wider wider a = record {
     known = wider a.known;
     read = a.read;
-    disk = λ is. disk-on (a.disk is);
+    disk = λ is. disk-on before mid after m.later (a.disk is);
     print = a.print;
     shown = a.shown;
     limit = a.limit;

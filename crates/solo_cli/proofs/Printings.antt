@@ -1,5 +1,5 @@
 -- What is printed through a unit is printed on its paper.
-use Rattle.std.proofs.Common.{◌≡◌, ◌≤◌, ℕ, List, Option, Some, None, Result, refl, sym, ◌∙◌, ap, subst}
+use Rattle.std.proofs.Common.{◌≡◌, ◌≤◌, ℕ, List, Option, Some, None, Result, inr, refl, subst, arith}
 use Rattle.std.specs.Prelude.{IfSome, IsOk, IsErrOf}
 use Rattle.solo_base.specs.declared.outcome.Cause.TheVariants as cause
 use Rattle.solo_devices.specs.Count.{Rose}
@@ -12,16 +12,25 @@ use Rattle.solo_cli.specs.Causes.{IsPrintCause}
 use Rattle.solo_cli.specs.Devices.{Printed}
 use Rattle.solo_cli.specs.Printing.{Prints}
 use Rattle.solo_cli.specs.Refusals.{OfFault}
-use Rattle.solo_cli.proofs.Adding.{gains-same}
+use Rattle.solo_cli.proofs.Adding.{gains-same, nothing}
 
 pub prints-as : {K T : Type 0} {before after : Printed K} {bytes : List ℕ} {answer : Option Refusal} {printed : Result T PrintFault}
     {given given' : Option (List ℕ)} {faults faults' : ℕ} → given ≡ before.given → faults ≡ before.faults → given' ≡ after.given → faults' ≡ after.faults
     → (answer ≡ None → IsOk printed) → IfSome answer (OfFault IsPrintCause)
     → (answer ≡ Some (Fault cause.PrintFault) → IsErrOf printed Failed)
     → Gains given given' bytes (IsOk printed) → (IsErrOf printed Failed → Rose faults faults') → faults ≤ faults' → Prints before after bytes answer
-prints-as {faults = faults} {faults' = faults'} b f a n done known failed gains rose counts = record {
+prints-as {before = before} {faults' = faults'} b f a n done known failed gains rose counts = record {
   gains = gains-same _ _ _ _ _ _ _ _ b a refl done gains;
   known = known;
-  failed = λ is. subst (λ now. Rose _ now) n (subst (λ before. Rose before faults') f (rose (failed is)));
-  counts = subst (λ now. _ ≤ now) n (subst (λ before. before ≤ faults') f counts);
+  failed = λ is. subst (λ now. Rose before.faults now) n (subst (λ old. Rose old faults') f (rose (failed is)));
+  counts = subst (λ now. before.faults ≤ now) n (subst (λ old. old ≤ faults') f counts);
+}
+
+-- where memory is refused nothing is printed
+pub lacks_print : {K : Type 0} (before : Printed K) (bytes : List ℕ) → Prints before before bytes (Some (Fault cause.NoMemory))
+lacks_print before bytes = record {
+  gains = nothing before.given bytes (Some (Fault cause.NoMemory) ≡ None) (λ none. cc);
+  known = inr refl;
+  failed = λ is. absurd (let no : Some (Fault cause.NoMemory) ≡ Some (Fault cause.PrintFault) = is in cc);
+  counts = omega arith;
 }

@@ -34,14 +34,14 @@ done-of o ends none = ends ∙ ap outcome_with none
 
 -- the one undisturbed run of a script, whatever became of it
 module _ (rule : Rule) (items : List Item) (before : Option (List ℕ)) where
-  opening : Opening
+  abbrev opening : Opening
   opening = record { keys = Some items; console = before }
 
   the-run : TheRun timing rule (script_opened items before)
   the-run =
       some-run timing sound sure opening (items, refl) rule (script_opened items before) record { events = []; enabled = tt; leads = refl }
 
-  its-counts : Counts
+  abbrev its-counts : Counts
   its-counts = counts_of timing (script_opened items before) the-run.events
 
 -- behind a run that is done

@@ -1,6 +1,5 @@
 -- The command that words are.
-use Rattle.std.specs.Prelude.{◌≤◌, ℕ, List, [], ◌∷◌, ◌++◌, ◌==◌, Option, Some, None, codes, map, option_map, option_and_then, string_bytes, if◌then◌else◌}
-use Rattle.std_alloc.specs.declared.string.String.{String}
+use Rattle.std.specs.Prelude.{◌≤◌, ℕ, List, [], ◌∷◌, ◌++◌, ◌==◌, Option, Some, None, codes, map, option_map, option_and_then, string_bytes, String, if◌then◌else◌}
 use Rattle.std.specs.Option.{option_or}
 use Rattle.std.specs.Str.{bytes_eq}
 use Rattle.deck_format.specs.Numeral.{number_within}

@@ -20,7 +20,6 @@ use crate::devices::{Devices, Done};
 use crate::printing::print_line;
 use crate::refusal::Refusal;
 use crate::words::Command;
-use access_check::check as judge;
 use solo_base::{Cause, Item};
 use solo_devices::{Area, CardRead, CardUnit, Sink, Source};
 use std::alloc::Global;
@@ -144,6 +143,7 @@ fn keep(items: &mut Vec<Item>, item: Item) -> Result<bool, Cause>
 }
 
 // Prints the judgement of these cards, unless they weren't all read.
+#[tactic(auto, using(crate::proofs::Printings::lacks_print))]
 fn print_judgement<K: Sink>(
     alloc: Global,
     read: Result<Vec<Item>, Cause>,
@@ -154,7 +154,7 @@ fn print_judgement<K: Sink>(
     ensures refused { IfErr read (λ cause. (result.0 ≡ Some (Refusal.Fault cause)) × (result.1 ≡ paper)) }
 {
     match read {
-        Ok(items) => match judgement_line(judge(alloc, items.as_slice())) {
+        Ok(items) => match judgement_line(access_check::check(alloc, items.as_slice())) {
             Some(line) => print_line(paper, &line),
             None => (Some(Refusal::Fault(Cause::NoMemory)), paper),
         },

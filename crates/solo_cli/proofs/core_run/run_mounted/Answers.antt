@@ -102,7 +102,7 @@ returns-in-None-clause-ran g c =
     (core-done {before = before} {after = after} {answer = last.cause} c.args.schedule c.requires.ready record {
       ends = record {
         five = comes-behind ran.outcomes ran.stopped_by e.together e.faults (LineBehind before after) last.cause none
-            (later-line last.cause p.known (λ is. (let rose = p.failed is in omega (arith, on, rose))));
+            (later-line before after last.cause p.known (λ is. (let rose = p.failed is in omega (arith, on, rose))));
         counted = record {
           read = λ is. subst (λ unit. Rose (source.faults unit.source) (source.faults ran.units.deck.source)) c.new.ensures (e.counted.read is);
           limit = e.counted.limit;

@@ -3,8 +3,8 @@ use Rattle.solo_cli.proofs.KeysAnswers.{times-answers}
 use Rattle.solo_cli.proofs.ReadToEnd.{reads-to-end}
 use Rattle.solo_cli.proofs.times.times.Goals as goal
 
-pub run_script-requires : goal.run_script-requires
-run_script-requires g c = c.requires.keys
+pub run_script-cause-requires : goal.run_script-cause-requires
+run_script-cause-requires g c = c.requires.keys
 
 pub returns-clause-times : goal.returns-clause-times
 returns-clause-times g c =
