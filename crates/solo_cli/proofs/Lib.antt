@@ -21,7 +21,7 @@ mod MoreLines
 mod WordNumbers
 mod NoFiles
 mod ReadingItems
-mod Printings
+pub mod Printings
 mod Scripts
 mod KeysAnswers
 mod FilesAnswers
