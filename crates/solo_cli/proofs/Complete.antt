@@ -11,12 +11,12 @@ use Rattle.solo_cli.specs.declared.words.Command.{Command}
 use Rattle.solo_cli.specs.declared.words.Command.TheVariants as command
 use Rattle.solo_cli.specs.Answers.{Answers, NothingFails}
 use Rattle.solo_cli.specs.Causes.{IsMakeCause, IsCheckCause, IsWithinLimit}
-use Rattle.solo_cli.specs.Devices.{Told}
-use Rattle.solo_cli.specs.Does.{Does}
-use Rattle.solo_cli.specs.Ready.{IsReady}
+use Rattle.solo_cli.specs.Devices.{Kit}
+use Rattle.solo_cli.specs.Does.{DoesItsWork}
+use Rattle.solo_cli.specs.Ready.{MayBeGiven}
 use Rattle.solo_cli.specs.Refusals.{IsDeckCause, IsMadeDeckCause, IsMigrateCause, MayBeRefused}
 use Rattle.solo_cli.specs.Status.{status_of}
-use Rattle.solo_cli.specs.Uses.{Where, reader, uses}
+use Rattle.solo_cli.specs.Uses.{IfUsed, reader, uses}
 use Rattle.solo_cli.proofs.Migrations.{none-named}
 use Rattle.solo_cli.proofs.ReadToEnd.{none-beyond}
 use Rattle.solo_cli.proofs.Statuses.{by_one, not_limit}
@@ -83,10 +83,10 @@ room-is (Some command.Migrate) needed free is = refl
 room-is (Some command.Check) needed free is = absurd is
 room-is (Some (command.Times schedule)) needed free is = absurd is
 
-module _ {S Y K T F I O : Type 0} {before after : Told S Y K T F I O} where
+module _ {S Y K T F I O : Type 0} {before after : Kit S Y K T F I O} where
   -- ---- no device was counted to fail
   no-read : (keys : Bool) → Rose (reader keys before).faults (reader keys after).faults → Stayed before.deck.faults after.deck.faults
-      → Where keys (Stayed before.keys.faults after.keys.faults) → ⊥
+      → IfUsed keys (Stayed before.keys.faults after.keys.faults) → ⊥
   no-read true rose deck stayed = omega (arith, rose, stayed)
   no-read false rose deck stayed = omega (arith, rose, deck)
 
@@ -108,7 +108,7 @@ module _ {S Y K T F I O : Type 0} {before after : Told S Y K T F I O} where
   no-show (Some (command.Times schedule)) n known rose = (let stayed = n.console in omega (arith, rose, stayed))
 
   -- ---- what is read is within the limit
-  no-limit : (asked : Option Command) → NothingFails asked before after → IsReady before → MayBeRefused asked (Fault cause.DeckLimit)
+  no-limit : (asked : Option Command) → NothingFails asked before after → MayBeGiven before → MayBeRefused asked (Fault cause.DeckLimit)
       → bytes_total (reader (uses asked).keys after).taken (reader (uses asked).keys after).left
       ≡ bytes_total (reader (uses asked).keys before).taken (reader (uses asked).keys before).left
       → byte_limit < (reader (uses asked).keys after).taken → ⊥
@@ -131,13 +131,13 @@ module _ {S Y K T F I O : Type 0} {before after : Told S Y K T F I O} where
   tells None within = absurd within
   tells (Some bytes) within = refl
 
-  told-where : (used : Bool) → Where used (IsWithinLimit before.deck.left) → Where used (IsSome before.deck.left)
+  told-where : (used : Bool) → IfUsed used (IsWithinLimit before.deck.left) → IfUsed used (IsSome before.deck.left)
   told-where true within = tells before.deck.left within
   told-where false within = tt
 
   -- ---- all of it
-  pub completes : (asked : Option Command) (answer : Option Refusal) → asked ≢ None → NothingFails asked before after → IsReady before
-      → Does asked before after answer → Answers (uses asked) (MayBeRefused asked) before after answer
+  pub completes : (asked : Option Command) (answer : Option Refusal) → asked ≢ None → NothingFails asked before after → MayBeGiven before
+      → DoesItsWork asked before after answer → Answers (uses asked) (MayBeRefused asked) before after answer
       → (status_of answer ≡ 0) ⊎ ((status_of answer ≡ 9) ⊎ ((status_of answer ≡ 10) × (asked ≡ Some command.Migrate)))
   completes asked None some n ready does a = inl refl
   completes asked (Some (NoRoom needed free)) some n ready does a = inr (inr (refl, room-is asked needed free a.known))
@@ -153,9 +153,9 @@ module _ {S Y K T F I O : Type 0} {before after : Told S Y K T F I O} where
   completes asked (Some (Fault cause.NoMemory)) some n ready does a = inr (inl refl)
 
 -- ---- status 1
-pub usage : {S Y K T F I O : Type 0} {before after : Told S Y K T F I O} (asked : Option Command) (answer : Option Refusal)
-    → Does asked before after answer → Answers (uses asked) (MayBeRefused asked) before after answer → (status_of answer ≡ 1) ↔ (asked ≡ None)
+pub usage : {S Y K T F I O : Type 0} {before after : Kit S Y K T F I O} (asked : Option Command) (answer : Option Refusal)
+    → DoesItsWork asked before after answer → Answers (uses asked) (MayBeRefused asked) before after answer → (status_of answer ≡ 1) ↔ (asked ≡ None)
 usage {before = before} {after = after} asked answer does a = (
   λ one. usage-is asked (subst (λ answer. IfSome answer (MayBeRefused asked)) (by_one answer one) a.known),
-  λ none. ap status_of (subst (λ asked. Does asked before after answer) none does),
+  λ none. ap status_of (subst (λ asked. DoesItsWork asked before after answer) none does),
 )

@@ -13,8 +13,8 @@ use Rattle.solo_cli.specs.declared.refusal.Refusal.{Refusal}
 use Rattle.solo_cli.specs.declared.refusal.Refusal.TheVariants.{Fault, NoRoom}
 use Rattle.solo_cli.specs.Answers.{Answers}
 use Rattle.solo_cli.specs.Causes.{IsPrintCause, IsRunCause}
-use Rattle.solo_cli.specs.Decides.{AreCounted, DeckEnds, LineBehind, LowestDecides, IsIn, list_of}
-use Rattle.solo_cli.specs.Devices.{Told}
+use Rattle.solo_cli.specs.Decides.{FaultsCounted, DeckEnds, LineBehind, LowestDecides, IsIn, list_of}
+use Rattle.solo_cli.specs.Devices.{Kit}
 use Rattle.solo_cli.specs.Refusals.{OfFault, TellsPlace}
 use Rattle.solo_cli.specs.Status.{number_of, status_of}
 use Rattle.solo_cli.specs.Uses.{Kept, deck_used}
@@ -60,7 +60,7 @@ damaged-high (cause.Damaged expected found at) is = omega arith
 damaged-high cause.NoMemory is = absurd is
 
 -- ---- what is printed behind the five
-module _ {S Y K T F I O : Type 0} (before after : Told S Y K T F I O) where
+module _ {S Y K T F I O : Type 0} (before after : Kit S Y K T F I O) where
   behind-cause : (c : Cause) → LineBehind before after c → IsRunCause c
   behind-cause c (inl print) = inr (inr (inl print.0))
   behind-cause c (inr memory) = inr (inr (inr (inr (inr memory))))
@@ -82,7 +82,7 @@ module _ {S Y K T F I O : Type 0} (before after : Told S Y K T F I O) where
   behind-numbers c (inr is) = subst TellsWhere (sym is) tt
 
 -- what may come of a line that is printed behind them
-pub later-line : {S Y K T F I O : Type 0} (before after : Told S Y K T F I O) (answer : Option Refusal) → IfSome answer (OfFault IsPrintCause)
+pub later-line : {S Y K T F I O : Type 0} (before after : Kit S Y K T F I O) (answer : Option Refusal) → IfSome answer (OfFault IsPrintCause)
     → (answer ≡ Some (Fault cause.PrintFault) → Rose before.paper.faults after.paper.faults)
     → IfSome answer (OfFault (LineBehind before after))
 later-line before after None known rose = tt
@@ -90,7 +90,7 @@ later-line before after (Some (NoRoom needed free)) known rose = known
 later-line before after (Some (Fault why)) (inl is) rose = inl (is, rose (ap (λ why. Some (Fault why)) is))
 later-line before after (Some (Fault why)) (inr is) rose = inr is
 
-module _ {S Y K T F I O : Type 0} {Behind : Cause → Type 0} {before after : Told S Y K T F I O} {answer : Option Refusal}
+module _ {S Y K T F I O : Type 0} {Behind : Cause → Type 0} {before after : Kit S Y K T F I O} {answer : Option Refusal}
     (ends : DeckEnds Behind before after answer) (later : (why : Cause) → Behind why → LineBehind before after why) where
   abbrev OneOf : Cause → Type 0
   OneOf why = IsIn (outcome.Fault why) (list_of ends.five.outcomes) ⊎ ((ends.five.outcomes ≡ all_done) × Behind why)

@@ -22,12 +22,12 @@ use Rattle.solo_cli.specs.declared.refusal.Refusal.TheVariants.{Fault, NoRoom}
 use Rattle.solo_cli.specs.Answers.{Answers, AsRun}
 use Rattle.solo_cli.specs.Causes.{IsPrintCause, IsRunCause}
 use Rattle.solo_cli.specs.CountsLine.{counts_line}
-use Rattle.solo_cli.specs.DeckRuns.{CoreEnds, GainsCounted, RunsBatch, RunsCore, SpoolsTell, opened_over, spools_of}
+use Rattle.solo_cli.specs.DeckRuns.{CoreEnds, GainsCounted, RunsBatch, RunsCore, SpoolsTell, core_over, spools_told}
 use Rattle.solo_cli.specs.Decides.{DeckEnds, LineBehind, Nothing}
-use Rattle.solo_cli.specs.Devices.{Printed, Read, Told}
+use Rattle.solo_cli.specs.Devices.{SinkTold, SourceTold, Kit}
 use Rattle.solo_cli.specs.Mounting.{AreMounted, Untouched}
-use Rattle.solo_cli.specs.Printing.{Prints}
-use Rattle.solo_cli.specs.Ready.{IsReady}
+use Rattle.solo_cli.specs.Printing.{PrintsBytes}
+use Rattle.solo_cli.specs.Ready.{MayBeGiven}
 use Rattle.solo_cli.specs.Reading.{ReadsToEnd}
 use Rattle.solo_cli.specs.Refusals.{OfFault, TellsPlace}
 use Rattle.solo_cli.specs.Status.{status_of}
@@ -40,20 +40,20 @@ use Rattle.solo_cli.proofs.Uncounted.{uncounted}
 use Rattle.solo_cli.proofs.Unmounted.{both-tell, in-bounds}
 
 -- what a paper gains of a deck, all of it where this holds
-abbrev pub GainsLines : {S Y K T F I O : Type 0} → Told S Y K T F I O → Option (List ℕ) → Type 0 → Type 0
+abbrev pub GainsLines : {S Y K T F I O : Type 0} → Kit S Y K T F I O → Option (List ℕ) → Type 0 → Type 0
 GainsLines before now all = (bytes : List ℕ) (found : Loads) → before.deck.left ≡ Some bytes
     → AreFound (files_found before.files.pages) found (cards bytes) → SpoolsTell before
     → Gains before.paper.given now (text (one_thread_output found bytes)) all
 
 -- devices that are ready are so with their files mounted
-pub mounted-ready : {S Y K T F I O : Type 0} {before mid : Told S Y K T F I O} → AreMounted before mid → IsReady before → IsReady mid
+pub mounted-ready : {S Y K T F I O : Type 0} {before mid : Kit S Y K T F I O} → AreMounted before mid → MayBeGiven before → MayBeGiven mid
 mounted-ready m ready =
-    subst IsReady (sym m.stays)
+    subst MayBeGiven (sym m.stays)
     record { deck = ready.deck; keys = ready.keys; files = m.size ∙ ready.files; input = ready.input; output = ready.output }
 
-module _ {S Y K T F I O : Type 0} {before after : Told S Y K T F I O} {answer : Option Refusal} where
+module _ {S Y K T F I O : Type 0} {before after : Kit S Y K T F I O} {answer : Option Refusal} where
   -- ---- `batch`
-  pub batch-ran : (ends : DeckEnds Nothing before after answer) → IsReady before
+  pub batch-ran : (ends : DeckEnds Nothing before after answer) → MayBeGiven before
       → (IsSome before.input.pages → IsSome before.output.pages → NoneDamaged ends.five.outcomes)
       → bytes_total after.deck.taken after.deck.left ≡ bytes_total before.deck.taken before.deck.left
       → Kept deck_used before after → after.files.size ≡ before.files.size → (ends.five.outcomes ≡ all_done → IsAllTaken after.deck.left)
@@ -103,7 +103,7 @@ module _ {S Y K T F I O : Type 0} {before after : Told S Y K T F I O} {answer : 
   batch-lacks is untouched keys console size zero = (lacks-run is untouched, lacks-answers is untouched keys console size zero)
 
   -- ---- `core`
-  module _ (n : ℕ) (ready : IsReady before) (ends : CoreEnds (Numbered n) before after answer)
+  module _ (n : ℕ) (ready : MayBeGiven before) (ends : CoreEnds (Numbered n) before after answer)
       (none : IsSome before.input.pages → IsSome before.output.pages → NoneDamaged ends.ends.five.outcomes)
       (total : bytes_total after.deck.taken after.deck.left ≡ bytes_total before.deck.taken before.deck.left)
       (kept : Kept deck_used before after) (size : after.files.size ≡ before.files.size)
@@ -120,7 +120,7 @@ module _ {S Y K T F I O : Type 0} {before after : Told S Y K T F I O} {answer : 
     core-failed some gains = (
       record {
         prints = λ bytes found told files spools.
-            uncounted (Numbered n) (spools_of before) (files_found before.files.pages) found bytes before.paper.given after.paper.given
+            uncounted (Numbered n) (spools_told before) (files_found before.files.pages) found bytes before.paper.given after.paper.given
             (answer ≡ None) (found_are_loads before.files.pages) files (in-bounds ready) (both-tell spools) some
             (gains-same _ _ _ _ _ _ _ _ refl refl refl (λ none. absurd (some none)) (gains bytes found told files spools));
         reads = core-reads;
@@ -137,8 +137,8 @@ module _ {S Y K T F I O : Type 0} {before after : Told S Y K T F I O} {answer : 
       record {
         prints = λ bytes found told files spools. record {
           counts = ends.counts;
-          counted = counted-whole (spools_of before) (cards bytes) found (found_are_loads before.files.pages) (in-bounds ready) (card-items bytes) files
-              (subst (λ left. RunsToEnd deck_jobs (Numbered n) (opened_over before (items_ahead left []) before.paper.given) ends.counts
+          counted = counted-whole (spools_told before) (cards bytes) found (found_are_loads before.files.pages) (in-bounds ready) (card-items bytes) files
+              (subst (λ left. RunsToEnd deck_jobs (Numbered n) (core_over before (items_ahead left []) before.paper.given) ends.counts
               ends.ends.five.outcomes ends.ends.five.stopped_by ends.devices) told ends.runs) (both-tell spools) all;
           gains = both before.paper.given mid after.paper.given (one_thread_output found bytes)
               (counts_line ends.counts.events ends.counts.delays ends.counts.grants) (ends.ends.five.outcomes ≡ all_done) (answer ≡ None) all

@@ -9,8 +9,8 @@ use Rattle.batch_ends.specs.Ended.{TellsWhere}
 use Rattle.solo_cli.specs.declared.refusal.Refusal.{Refusal}
 use Rattle.solo_cli.specs.declared.refusal.Refusal.TheVariants.{Fault, NoRoom}
 use Rattle.solo_cli.specs.Answers.{Answers}
-use Rattle.solo_cli.specs.Devices.{Told}
-use Rattle.solo_cli.specs.Ready.{IsReady}
+use Rattle.solo_cli.specs.Devices.{Kit}
+use Rattle.solo_cli.specs.Ready.{MayBeGiven}
 use Rattle.solo_cli.specs.Refusals.{IsMigrateCause, MayBeRefused, MayRefuseMigration, TellsPlace}
 use Rattle.solo_cli.specs.Status.{number_of, status_of}
 use Rattle.solo_cli.specs.Uses.{nothing_used}
@@ -52,10 +52,10 @@ numbers (Some (Fault why)) (inl is) = subst TellsWhere (sym is) tt
 numbers (Some (Fault why)) (inr (inl is)) = subst TellsWhere (sym is) tt
 numbers (Some (Fault why)) (inr (inr (page, is))) = subst TellsWhere (sym is) tt
 
-pub files-answers : {S Y K T F I O : Type 0} {before after : Told S Y K T F I O} {answer : Option Refusal} {May : Refusal → Type 0}
+pub files-answers : {S Y K T F I O : Type 0} {before after : Kit S Y K T F I O} {answer : Option Refusal} {May : Refusal → Type 0}
     → IfSome answer May → IfSome answer MayRefuseMigration
     → (answer ≡ Some (Fault cause.DiskFault) → Rose before.files.faults after.files.faults)
-    → IsReady before → after ≡ record before { files = after.files } → after.files.size ≡ before.files.size
+    → MayBeGiven before → after ≡ record before { files = after.files } → after.files.size ≡ before.files.size
     → Answers (record nothing_used { files = true }) May before after answer
 files-answers {before = before} {after = after} {answer = answer} may known disk ready stays size = record {
   known = may;
@@ -81,7 +81,7 @@ files-answers {before = before} {after = after} {answer = answer} may known disk
 }
 
 -- ---- no command
-pub usage-answers : {S Y K T F I O : Type 0} {told : Told S Y K T F I O} → IsReady told
+pub usage-answers : {S Y K T F I O : Type 0} {told : Kit S Y K T F I O} → MayBeGiven told
     → Answers nothing_used (MayBeRefused None) told told (Some (Fault cause.Usage))
 usage-answers {told = told} ready = record {
   known = refl;

@@ -14,14 +14,14 @@ use Rattle.solo_cli.specs.declared.refusal.Refusal.{Refusal}
 use Rattle.solo_cli.specs.declared.refusal.Refusal.TheVariants.{Fault, NoRoom}
 use Rattle.solo_cli.specs.AccessLines.{judgement_line}
 use Rattle.solo_cli.specs.Causes.{IsCheckCause, IsPrintCause, IsReadCause}
-use Rattle.solo_cli.specs.Devices.{Printed, Read}
-use Rattle.solo_cli.specs.Printing.{Prints}
+use Rattle.solo_cli.specs.Devices.{SinkTold, SourceTold}
+use Rattle.solo_cli.specs.Printing.{PrintsBytes}
 use Rattle.solo_cli.specs.Reading.{ReadsToEnd}
 use Rattle.solo_cli.specs.Refusals.{OfFault}
 use Rattle.solo_cli.proofs.Adding.{nothing}
 use Rattle.solo_cli.proofs.ReadToEnd.{reads-to-end}
 
-pub record Judged {S K : Type 0} (deck deck' : Read S) (paper paper' : Printed K) (answer : Option Refusal) : Type 0 where
+pub record Judged {S K : Type 0} (deck deck' : SourceTold S) (paper paper' : SinkTold K) (answer : Option Refusal) : Type 0 where
   pub prints : (bytes : List ℕ) → deck.left ≡ Some bytes
       → Gains paper.given paper'.given (line_text (judgement_line (judge (cards bytes)))) (answer ≡ None)
   pub reads : ReadsToEnd deck deck' (answer ≡ None)
@@ -56,9 +56,9 @@ no-print (inr (inr is)) = cc
 fault-is : {a b : Cause} → Some (Fault a) ≡ Some (Fault b) → a ≡ b
 fault-is same = cc
 
-module _ {S K : Type 0} {deck deck' : Read S} {D : Type 0} (tells : D → Printed K) (old now : D) {answer : Option Refusal} where
+module _ {S K : Type 0} {deck deck' : SourceTold S} {D : Type 0} (tells : D → SinkTold K) (old now : D) {answer : Option Refusal} where
   pub judged : {V : Type 0} (list : V → List Item) (read : Result V Cause)
-      → IfOk read (λ items. Prints (tells old) (tells now) (line_text (judgement_line (judge (list items)))) answer)
+      → IfOk read (λ items. PrintsBytes (tells old) (tells now) (line_text (judgement_line (judge (list items)))) answer)
       → IfErr read (λ why. (answer ≡ Some (Fault why)) × (now ≡ old)) → IfErr read IsReadCause → OnOk read (IsAllTaken deck'.left)
       → IfOk read (λ items. (bytes : List ℕ) → deck.left ≡ Some bytes → cards bytes ≡ list items) → deck.taken ≡ 0
       → bytes_total deck'.taken deck'.left ≡ bytes_total deck.taken deck.left

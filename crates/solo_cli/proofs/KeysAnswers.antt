@@ -11,7 +11,7 @@ use Rattle.solo_cli.specs.declared.refusal.Refusal.{Refusal}
 use Rattle.solo_cli.specs.declared.refusal.Refusal.TheVariants.{Fault, NoRoom}
 use Rattle.solo_cli.specs.Answers.{Answers}
 use Rattle.solo_cli.specs.Causes.{IsCheckCause}
-use Rattle.solo_cli.specs.Devices.{Told}
+use Rattle.solo_cli.specs.Devices.{Kit}
 use Rattle.solo_cli.specs.Refusals.{OfFault, TellsPlace}
 use Rattle.solo_cli.specs.Status.{number_of, status_of}
 use Rattle.solo_cli.specs.Uses.{Kept, nothing_used}
@@ -47,7 +47,7 @@ times-numbers (Some (Fault (cause.NotSolo page))) known = tt
 times-numbers (Some (Fault (cause.Damaged expected found at))) known = absurd known
 times-numbers (Some (Fault cause.NoMemory)) known = tt
 
-module _ {S Y K T F I O : Type 0} {before after : Told S Y K T F I O} {answer : Option Refusal} where
+module _ {S Y K T F I O : Type 0} {before after : Kit S Y K T F I O} {answer : Option Refusal} where
   pub times-answers : IfSome answer (OfFault IsTimesCause)
       → (answer ≡ Some (Fault cause.ReadFault) → Rose before.keys.faults after.keys.faults)
       → (answer ≡ Some (Fault cause.ConsoleFault) → Rose before.console.faults after.console.faults)
@@ -106,7 +106,7 @@ check-numbers None known = tt
 check-numbers (Some (NoRoom needed free)) known = tt
 check-numbers (Some (Fault why)) known = check-tells why known
 
-module _ {S Y K T F I O : Type 0} {before after : Told S Y K T F I O} {answer : Option Refusal} where
+module _ {S Y K T F I O : Type 0} {before after : Kit S Y K T F I O} {answer : Option Refusal} where
   pub check-answers : IfSome answer (OfFault IsCheckCause)
       → (answer ≡ Some (Fault cause.ReadFault) → Rose before.deck.faults after.deck.faults)
       → (answer ≡ Some (Fault cause.PrintFault) → Rose before.paper.faults after.paper.faults)

@@ -22,13 +22,13 @@ use Rattle.solo_cli.specs.declared.refusal.Refusal.TheVariants.{Fault, NoRoom}
 use Rattle.solo_cli.specs.Answers.{Answers, AsRun}
 use Rattle.solo_cli.specs.Causes.{IsMakeCause, IsPrintCause}
 use Rattle.solo_cli.specs.DeckNumbers.{deck_lines}
-use Rattle.solo_cli.specs.DeckRuns.{SpoolsTell, opened_over, spools_of}
+use Rattle.solo_cli.specs.DeckRuns.{SpoolsTell, core_over, spools_told}
 use Rattle.solo_cli.specs.Decides.{IsIn, LineBehind, LowestDecides, Nothing, list_of}
-use Rattle.solo_cli.specs.Devices.{Told}
+use Rattle.solo_cli.specs.Devices.{Kit}
 use Rattle.solo_cli.specs.MakesDeck.{GainsNumbers, MakesDeck}
 use Rattle.solo_cli.specs.Mounting.{Untouched}
-use Rattle.solo_cli.specs.Printing.{Prints}
-use Rattle.solo_cli.specs.Ready.{IsReady}
+use Rattle.solo_cli.specs.Printing.{PrintsBytes}
+use Rattle.solo_cli.specs.Ready.{MayBeGiven}
 use Rattle.solo_cli.specs.Refusals.{OfFault, TellsPlace}
 use Rattle.solo_cli.specs.Status.{number_of, status_of}
 use Rattle.solo_cli.specs.Uses.{made_used}
@@ -100,7 +100,7 @@ no-disk : IsPrintCause cause.DiskFault → ⊥
 no-disk (inl is) = cc
 no-disk (inr is) = cc
 
-module _ {S Y K T F I O : Type 0} {before after : Told S Y K T F I O} {answer : Option Refusal} (ready : IsReady before)
+module _ {S Y K T F I O : Type 0} {before after : Kit S Y K T F I O} {answer : Option Refusal} (ready : MayBeGiven before)
     (deck : after.deck ≡ before.deck) (keys : after.keys ≡ before.keys) (console : after.console ≡ before.console)
     (size : after.files.size ≡ before.files.size) where
   made-answers : IfSome answer (OfFault IsMakeCause)
@@ -127,12 +127,12 @@ module _ {S Y K T F I O : Type 0} {before after : Told S Y K T F I O} {answer : 
   module _ (n : ℕ) where
     -- nothing is printed where nothing else is done
     not-printed : (answer ≡ None → ⊥) → after.paper ≡ before.paper → SpoolsTell before
-        → GainsNumbers (Numbered n) (opened_over before (Some (cards (made_deck n))) (Some [])) (made_deck n) before.paper.given after.paper.given
+        → GainsNumbers (Numbered n) (core_over before (Some (cards (made_deck n))) (Some [])) (made_deck n) before.paper.given after.paper.given
         (answer ≡ None)
     not-printed some paper spools =
-        subst (λ now. GainsNumbers (Numbered n) (opened_over before (Some (cards (made_deck n))) (Some [])) (made_deck n) before.paper.given now
+        subst (λ now. GainsNumbers (Numbered n) (core_over before (Some (cards (made_deck n))) (Some [])) (made_deck n) before.paper.given now
         (answer ≡ None)) (sym (ap (λ p. p.given) paper))
-        (no-numbers (Numbered n) (spools_of before) (files_found before.files.pages) (made_deck n) before.paper.given (answer ≡ None)
+        (no-numbers (Numbered n) (spools_told before) (files_found before.files.pages) (made_deck n) before.paper.given (answer ≡ None)
         (found_are_loads before.files.pages) (no-files n) (in-bounds ready) (both-tell spools) some)
 
     -- memory was refused for the deck
@@ -197,8 +197,8 @@ module _ {S Y K T F I O : Type 0} {before after : Told S Y K T F I O} {answer : 
     -- ---- one that is done, and its numbers
     pub made-done : (counts : Counts) → LowestDecides Nothing None → IfSome answer (OfFault IsPrintCause)
         → (answer ≡ Some (Fault cause.PrintFault) → Rose before.paper.faults after.paper.faults)
-        → (SpoolsTell before → AreItsCounts (the_law deck_jobs) (Numbered n) (opened_over before (Some (cards (made_deck n))) (Some [])) counts)
-        → (SpoolsTell before → (found : Loads) → Prints before.paper after.paper (text (deck_lines found (made_deck n) counts)) answer)
+        → (SpoolsTell before → AreItsCounts (the_law deck_jobs) (Numbered n) (core_over before (Some (cards (made_deck n))) (Some [])) counts)
+        → (SpoolsTell before → (found : Loads) → PrintsBytes before.paper after.paper (text (deck_lines found (made_deck n) counts)) answer)
         → AsRun (MakesDeck n) made_used IsMakeCause before after answer
     made-done counts lowest known failed counted prints = (
       record {
@@ -234,9 +234,9 @@ module _ {S Y K T F I O : Type 0} {before after : Told S Y K T F I O} {answer : 
         → (ran ≡ None → IfSome answer (OfFault IsPrintCause))
         → (ran ≡ None → answer ≡ Some (Fault cause.PrintFault) → Rose before.paper.faults after.paper.faults)
         → (SpoolsTell before → ran ≡ None
-        → AreItsCounts (the_law deck_jobs) (Numbered n) (opened_over before (Some (cards (made_deck n))) (Some [])) counts)
+        → AreItsCounts (the_law deck_jobs) (Numbered n) (core_over before (Some (cards (made_deck n))) (Some [])) counts)
         → (SpoolsTell before → ran ≡ None → (found : Loads)
-        → Prints before.paper after.paper (text (deck_lines found (made_deck n) counts)) answer)
+        → PrintsBytes before.paper after.paper (text (deck_lines found (made_deck n) counts)) answer)
         → AsRun (MakesDeck n) made_used IsMakeCause before after answer
     made-ran None counts fault lowest known sure disk whole printed failed counted prints =
         made-done counts lowest (printed refl) (failed refl) (λ spools. counted spools refl) (λ spools found. prints spools refl found)

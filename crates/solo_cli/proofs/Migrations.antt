@@ -10,8 +10,8 @@ use Rattle.solo_cli.specs.declared.refusal.Refusal.TheVariants.{Fault}
 use Rattle.solo_cli.specs.declared.words.Command.{Command}
 use Rattle.solo_cli.specs.declared.words.Command.TheVariants as command
 use Rattle.solo_cli.specs.Causes.{IsCheckCause}
-use Rattle.solo_cli.specs.Devices.{Told}
-use Rattle.solo_cli.specs.Does.{Does}
+use Rattle.solo_cli.specs.Devices.{Kit}
+use Rattle.solo_cli.specs.Does.{DoesItsWork}
 use Rattle.solo_cli.specs.FileCommands.{CanUse, KeepsItsFormat, MigratesTo}
 use Rattle.solo_cli.specs.Refusals.{MayBeRefused, refusal_of}
 use Rattle.solo_cli.proofs.Mounted.{no-solo}
@@ -50,8 +50,8 @@ no_page page (inr (inr (inl is))) = cc
 no_page page (inr (inr (inr is))) = cc
 
 -- no page of an area that the command can use is named
-pub none-named : {S Y K T F I O : Type 0} (before after : Told S Y K T F I O) (asked : Option Command) (page : ℕ) → CanUse asked before.files.pages
-    → MayBeRefused asked (Fault (cause.NotSolo page)) → Does asked before after (Some (Fault (cause.NotSolo page))) → ⊥
+pub none-named : {S Y K T F I O : Type 0} (before after : Kit S Y K T F I O) (asked : Option Command) (page : ℕ) → CanUse asked before.files.pages
+    → MayBeRefused asked (Fault (cause.NotSolo page)) → DoesItsWork asked before after (Some (Fault (cause.NotSolo page))) → ⊥
 none-named before after None page can known does = cc
 none-named before after (Some command.Batch) page (pages, is, solo) known does = no-solo pages page solo ((does.1.not_solo page refl).0 pages is)
 none-named before after (Some (command.Core schedule)) page (pages, is, solo) known does = no-solo pages page solo ((does.1.not_solo page refl).0 pages is)

@@ -16,9 +16,9 @@ use Rattle.network_run.specs.declared.rules.Rule.TheVariants.{Numbered}
 use Rattle.solo_cli.specs.declared.refusal.Refusal.{Refusal}
 use Rattle.solo_cli.specs.declared.refusal.Refusal.TheVariants.{Fault, NoRoom}
 use Rattle.solo_cli.specs.Answers.{Answers}
-use Rattle.solo_cli.specs.DeckRuns.{CoreEnds, GainsCounted, RunsBatch, RunsCore, spools_of}
+use Rattle.solo_cli.specs.DeckRuns.{CoreEnds, GainsCounted, RunsBatch, RunsCore, spools_told}
 use Rattle.solo_cli.specs.Decides.{DeckEnds, Nothing}
-use Rattle.solo_cli.specs.Devices.{Told}
+use Rattle.solo_cli.specs.Devices.{Kit}
 use Rattle.solo_cli.specs.MakesDeck.{GainsNumbers, MakesDeck}
 use Rattle.solo_cli.specs.Mounting.{AreMounted, MountsFiles, Untouched}
 use Rattle.solo_cli.specs.Causes.{IsMakeCause, IsRunCause}
@@ -29,25 +29,25 @@ pub no-solo : (pages : List (List ℕ)) (n : ℕ) → IsSoloDisk pages → IsBad
 no-solo pages n solo bad = bad.breaks (solo n)
 
 -- the devices with the area that was mounted
-abbrev moved : {S Y K T F I O : Type 0} → Told S Y K T F I O → Told S Y K T F I O → Told S Y K T F I O
+abbrev moved : {S Y K T F I O : Type 0} → Kit S Y K T F I O → Kit S Y K T F I O → Kit S Y K T F I O
 moved before mid = record before { files = mid.files }
 
-untouched : {S Y K T F I O : Type 0} (before mid after : Told S Y K T F I O) → Untouched (moved before mid) after → Untouched before after
+untouched : {S Y K T F I O : Type 0} (before mid after : Kit S Y K T F I O) → Untouched (moved before mid) after → Untouched before after
 untouched before mid after u = record { deck = u.deck; paper = u.paper; input = u.input; output = u.output }
 
-disk-on : {S Y K T F I O : Type 0} (before mid after : Told S Y K T F I O) → before.files.faults ≤ mid.files.faults
+disk-on : {S Y K T F I O : Type 0} (before mid after : Kit S Y K T F I O) → before.files.faults ≤ mid.files.faults
     → Rose before.input.faults after.input.faults ⊎ Rose before.output.faults after.output.faults ⊎ Rose mid.files.faults after.files.faults
     → Rose before.input.faults after.input.faults ⊎ Rose before.output.faults after.output.faults ⊎ Rose before.files.faults after.files.faults
 disk-on before mid after later (inl rose) = inl rose
 disk-on before mid after later (inr (inl rose)) = inr (inl rose)
 disk-on before mid after later (inr (inr rose)) = inr (inr (omega (arith, later, rose)))
 
-or-untouched : {S Y K T F I O : Type 0} (before mid after : Told S Y K T F I O) {A B : Type 0} → (A → B)
+or-untouched : {S Y K T F I O : Type 0} (before mid after : Kit S Y K T F I O) {A B : Type 0} → (A → B)
     → A ⊎ Untouched (moved before mid) after → B ⊎ Untouched before after
 or-untouched before mid after change (inl e) = inl (change e)
 or-untouched before mid after change (inr u) = inr (untouched before mid after u)
 
-module _ {S Y K T F I O : Type 0} {before mid after : Told S Y K T F I O} {answer : Option Refusal} (m : AreMounted before mid) where
+module _ {S Y K T F I O : Type 0} {before mid after : Kit S Y K T F I O} {answer : Option Refusal} (m : AreMounted before mid) where
   deck-ends : {Behind : Cause → Type 0} → DeckEnds Behind (moved before mid) after answer → DeckEnds Behind before after answer
   deck-ends e = record {
     five = e.five;
@@ -82,7 +82,7 @@ module _ {S Y K T F I O : Type 0} {before mid after : Told S Y K T F I O} {answe
     counts = e.counts;
     devices = e.devices;
     runs = subst (λ pages. RunsToEnd deck_jobs (Numbered n)
-        (opened (spools_of before) (items_ahead before.deck.left []) before.paper.given (files_found pages)) e.counts
+        (opened (spools_told before) (items_ahead before.deck.left []) before.paper.given (files_found pages)) e.counts
         e.ends.five.outcomes e.ends.five.stopped_by e.devices) m.left e.runs;
   }
 
@@ -90,7 +90,7 @@ module _ {S Y K T F I O : Type 0} {before mid after : Told S Y K T F I O} {answe
   of-core n ran = record {
     prints = λ bytes found told files spools.
         subst (λ pages. GainsCounted (Numbered n)
-        (opened (spools_of before) (Some (cards bytes)) before.paper.given (files_found pages)) before.paper.given after.paper.given
+        (opened (spools_told before) (Some (cards bytes)) before.paper.given (files_found pages)) before.paper.given after.paper.given
         (one_thread_output found bytes) (answer ≡ None)) m.left
         (ran.prints bytes found told (subst (λ pages. AreFound (files_found pages) found (cards bytes)) (sym m.left) files)
         record { input = spools.input; output = spools.output });
@@ -105,7 +105,7 @@ module _ {S Y K T F I O : Type 0} {before mid after : Told S Y K T F I O} {answe
   of-make : (n : ℕ) → MakesDeck n (moved before mid) after answer → MakesDeck n before after answer
   of-make n made = record {
     prints = λ spools.
-        subst (λ pages. GainsNumbers (Numbered n) (opened (spools_of before) (Some (cards (made_deck n))) (Some []) (files_found pages))
+        subst (λ pages. GainsNumbers (Numbered n) (opened (spools_told before) (Some (cards (made_deck n))) (Some []) (files_found pages))
         (made_deck n) before.paper.given after.paper.given (answer ≡ None)) m.left
         (made.prints record { input = spools.input; output = spools.output });
     unprinted = made.unprinted;

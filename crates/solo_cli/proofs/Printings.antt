@@ -9,16 +9,16 @@ use Rattle.solo_devices.specs.declared.printer_unit.PrintFault.TheVariants.{Fail
 use Rattle.solo_cli.specs.declared.refusal.Refusal.{Refusal}
 use Rattle.solo_cli.specs.declared.refusal.Refusal.TheVariants.{Fault}
 use Rattle.solo_cli.specs.Causes.{IsPrintCause}
-use Rattle.solo_cli.specs.Devices.{Printed}
-use Rattle.solo_cli.specs.Printing.{Prints}
+use Rattle.solo_cli.specs.Devices.{SinkTold}
+use Rattle.solo_cli.specs.Printing.{PrintsBytes}
 use Rattle.solo_cli.specs.Refusals.{OfFault}
 use Rattle.solo_cli.proofs.Adding.{gains-same, nothing}
 
-pub prints-as : {K T : Type 0} {before after : Printed K} {bytes : List ℕ} {answer : Option Refusal} {printed : Result T PrintFault}
+pub prints-as : {K T : Type 0} {before after : SinkTold K} {bytes : List ℕ} {answer : Option Refusal} {printed : Result T PrintFault}
     {given given' : Option (List ℕ)} {faults faults' : ℕ} → given ≡ before.given → faults ≡ before.faults → given' ≡ after.given → faults' ≡ after.faults
     → (answer ≡ None → IsOk printed) → IfSome answer (OfFault IsPrintCause)
     → (answer ≡ Some (Fault cause.PrintFault) → IsErrOf printed Failed)
-    → Gains given given' bytes (IsOk printed) → (IsErrOf printed Failed → Rose faults faults') → faults ≤ faults' → Prints before after bytes answer
+    → Gains given given' bytes (IsOk printed) → (IsErrOf printed Failed → Rose faults faults') → faults ≤ faults' → PrintsBytes before after bytes answer
 prints-as {before = before} {faults' = faults'} b f a n done known failed gains rose counts = record {
   gains = gains-same _ _ _ _ _ _ _ _ b a refl done gains;
   known = known;
@@ -27,7 +27,7 @@ prints-as {before = before} {faults' = faults'} b f a n done known failed gains 
 }
 
 -- where memory is refused nothing is printed
-pub lacks_print : {K : Type 0} (before : Printed K) (bytes : List ℕ) → Prints before before bytes (Some (Fault cause.NoMemory))
+pub lacks_print : {K : Type 0} (before : SinkTold K) (bytes : List ℕ) → PrintsBytes before before bytes (Some (Fault cause.NoMemory))
 lacks_print before bytes = record {
   gains = nothing before.given bytes (Some (Fault cause.NoMemory) ≡ None) (λ none. cc);
   known = inr refl;

@@ -5,7 +5,7 @@ use Rattle.solo_devices.specs.CardUnit.{byte_limit, bytes_total, IsAllTaken}
 use Rattle.solo_cli.specs.declared.refusal.Refusal.{Refusal}
 use Rattle.solo_cli.specs.declared.refusal.Refusal.TheVariants.{Fault}
 use Rattle.solo_cli.specs.Causes.{IsWithinLimit}
-use Rattle.solo_cli.specs.Devices.{Read}
+use Rattle.solo_cli.specs.Devices.{SourceTold}
 use Rattle.solo_cli.specs.Reading.{ReadsToEnd}
 
 -- of a deck that told its bytes no more was taken than it had, and all of it where nothing is left
@@ -35,7 +35,7 @@ few taken answer none beyond more = elim (beyond more) [
   | inr (inr is) ↦ (let no : None ≡ Some (Fault cause.DeckLimit) = sym none ∙ is in cc)
 ]
 
-pub reads-to-end : {S : Type 0} {before after : Read S} {answer : Option Refusal} → before.taken ≡ 0
+pub reads-to-end : {S : Type 0} {before after : SourceTold S} {answer : Option Refusal} → before.taken ≡ 0
     → bytes_total after.taken after.left ≡ bytes_total before.taken before.left → (answer ≡ None → IsAllTaken after.left)
     → (byte_limit < after.taken
     → (answer ≡ Some (Fault cause.DiskFault)) ⊎ ((answer ≡ Some (Fault cause.PrintFault)) ⊎ (answer ≡ Some (Fault cause.DeckLimit))))

@@ -19,22 +19,22 @@ use Rattle.network_run.specs.declared.rules.Rule.TheVariants.{Numbered}
 use Rattle.solo_cli.specs.declared.refusal.Refusal.{Refusal}
 use Rattle.solo_cli.specs.declared.refusal.Refusal.TheVariants.{Fault}
 use Rattle.solo_cli.specs.Answers.{Answers}
-use Rattle.solo_cli.specs.DeckRuns.{GainsCounted, RunsBatch, RunsCore, SpoolsTell, opened_over, spools_of}
-use Rattle.solo_cli.specs.Devices.{Told}
+use Rattle.solo_cli.specs.DeckRuns.{GainsCounted, RunsBatch, RunsCore, SpoolsTell, core_over, spools_told}
+use Rattle.solo_cli.specs.Devices.{Kit}
 use Rattle.solo_cli.specs.FileCommands.{RefusesFiles}
 use Rattle.solo_cli.specs.MakesDeck.{GainsNumbers, MakesDeck}
 use Rattle.solo_cli.specs.Mounting.{AreUnmounted, IsWhyUnmounted, MountsFiles, Untouched}
-use Rattle.solo_cli.specs.Ready.{IsReady}
+use Rattle.solo_cli.specs.Ready.{MayBeGiven}
 use Rattle.solo_cli.specs.Reading.{ReadsToEnd}
 use Rattle.solo_cli.specs.Refusals.{IsDeckCause, IsMadeDeckCause, IsNotSolo, TellsPlace}
 use Rattle.solo_cli.specs.Status.{status_of}
-use Rattle.solo_cli.specs.Uses.{Unless, deck_used}
+use Rattle.solo_cli.specs.Uses.{UnlessUsed, deck_used}
 use Rattle.solo_cli.proofs.Adding.{nothing}
 use Rattle.solo_cli.proofs.NoFiles.{no-files}
 use Rattle.solo_cli.proofs.Uncounted.{no-numbers, uncounted}
 
 -- spools that may be given to a command, and that tell
-pub in-bounds : {S Y K T F I O : Type 0} {told : Told S Y K T F I O} → IsReady told → AreInBounds (spools_of told)
+pub in-bounds : {S Y K T F I O : Type 0} {told : Kit S Y K T F I O} → MayBeGiven told → AreInBounds (spools_told told)
 in-bounds ready = record {
   input_some = (let some = ready.input.0 in omega (arith, some));
   input_most = ready.input.1;
@@ -42,10 +42,10 @@ in-bounds ready = record {
   output_most = ready.output.1;
 }
 
-pub both-tell : {S Y K T F I O : Type 0} {told : Told S Y K T F I O} → SpoolsTell told → AreTold (spools_of told)
+pub both-tell : {S Y K T F I O : Type 0} {told : Kit S Y K T F I O} → SpoolsTell told → AreTold (spools_told told)
 both-tell spools = record { input = spools.input; output = spools.output }
 
-unless : (used : Bool) {Holds : Type 0} → Holds → Unless used Holds
+unless : (used : Bool) {Holds : Type 0} → Holds → UnlessUsed used Holds
 unless true holds = tt
 unless false holds = holds
 
@@ -58,7 +58,7 @@ mount-numbers why (inl is) = subst TellsWhere (sym is) tt
 mount-numbers why (inr (inl is)) = subst TellsWhere (sym is) tt
 mount-numbers why (inr (inr (page, is))) = subst TellsWhere (sym is) tt
 
-module _ {S Y K T F I O : Type 0} {before after : Told S Y K T F I O} {answer : Option Refusal} (u : AreUnmounted before after answer) where
+module _ {S Y K T F I O : Type 0} {before after : Kit S Y K T F I O} {answer : Option Refusal} (u : AreUnmounted before after answer) where
   -- ---- the cause
   some-cause : IsWhyUnmounted before.files after.files answer → (why : Cause) × (answer ≡ Some (Fault why)) × MountCause why
   some-cause (inl is) = (cause.DiskFault, is.0, inl refl)
@@ -101,21 +101,21 @@ module _ {S Y K T F I O : Type 0} {before after : Told S Y K T F I O} {answer : 
     ends = inr untouched;
   }
 
-  pub unmounted-core : (n : ℕ) → IsReady before → RunsCore n before after answer
+  pub unmounted-core : (n : ℕ) → MayBeGiven before → RunsCore n before after answer
   unmounted-core n ready = record {
     prints = λ bytes found told files spools.
-        uncounted (Numbered n) (spools_of before) (files_found before.files.pages) found bytes before.paper.given after.paper.given (answer ≡ None)
+        uncounted (Numbered n) (spools_told before) (files_found before.files.pages) found bytes before.paper.given after.paper.given (answer ≡ None)
         (found_are_loads before.files.pages) files (in-bounds ready) (both-tell spools) refused (nothing-gained (text (one_thread_output found bytes)));
     reads = reads;
     ends = inr untouched;
   }
 
-  pub unmounted-make : (n : ℕ) → IsReady before → MakesDeck n before after answer
+  pub unmounted-make : (n : ℕ) → MayBeGiven before → MakesDeck n before after answer
   unmounted-make n ready = record {
     prints = λ spools.
-        subst (λ now. GainsNumbers (Numbered n) (opened_over before (Some (cards (made_deck n))) (Some [])) (made_deck n) before.paper.given now
+        subst (λ now. GainsNumbers (Numbered n) (core_over before (Some (cards (made_deck n))) (Some [])) (made_deck n) before.paper.given now
         (answer ≡ None)) (sym (ap (λ t. t.paper.given) u.stays))
-        (no-numbers (Numbered n) (spools_of before) (files_found before.files.pages) (made_deck n) before.paper.given (answer ≡ None)
+        (no-numbers (Numbered n) (spools_told before) (files_found before.files.pages) (made_deck n) before.paper.given (answer ≡ None)
         (found_are_loads before.files.pages) (no-files n) (in-bounds ready) (both-tell spools) refused);
     unprinted = λ _. untouched.paper;
     ends = inr untouched;
@@ -156,7 +156,7 @@ module _ {S Y K T F I O : Type 0} {before after : Told S Y K T F I O} {answer : 
   not-eight (inr (inl is)) eight = (let nine : status_of answer ≡ 9 = ap status_of is in omega (arith, nine, eight))
   not-eight (inr (inr (n, is, bad))) eight = (let seven : status_of answer ≡ 7 = ap status_of is in omega (arith, seven, eight))
 
-  pub unmounted-answers : (deck : Bool) (May : Refusal → Type 0) → ((why : Cause) → MountCause why → May (Fault why)) → IsReady before
+  pub unmounted-answers : (deck : Bool) (May : Refusal → Type 0) → ((why : Cause) → MountCause why → May (Fault why)) → MayBeGiven before
       → Answers (record deck_used { deck = deck }) May before after answer
   unmounted-answers deck May may ready = record {
     known = (let some = some-cause u.why in subst (λ answer. IfSome answer May) (sym some.1) (may some.0 some.2));

@@ -8,15 +8,15 @@ use Rattle.solo_cli.specs.declared.refusal.Refusal.{Refusal}
 use Rattle.solo_cli.specs.declared.refusal.Refusal.TheVariants.{Fault}
 use Rattle.solo_cli.specs.declared.words.Command.{Command}
 use Rattle.solo_cli.specs.Causes.{IsWithinLimit}
-use Rattle.solo_cli.specs.Devices.{Told}
+use Rattle.solo_cli.specs.Devices.{Kit}
 use Rattle.solo_cli.specs.FileCommands.{CanUse}
 use Rattle.solo_cli.specs.Refusals.{OfFault, TellsPlace}
 use Rattle.solo_cli.specs.Status.{status_of}
-use Rattle.solo_cli.specs.Uses.{Uses, Kept, Where, reader, uses}
+use Rattle.solo_cli.specs.Uses.{DevicesUsed, Kept, IfUsed, reader, uses}
 
 -- Why a command ended so that uses these devices and may have these causes.
-pub record Answers {S Y K T F I O : Type 0} (used : Uses) (MayBe : Refusal → Type 0)
-    (before after : Told S Y K T F I O) (answer : Option Refusal) : Type 0 where
+pub record Answers {S Y K T F I O : Type 0} (used : DevicesUsed) (MayBe : Refusal → Type 0)
+    (before after : Kit S Y K T F I O) (answer : Option Refusal) : Type 0 where
   pub known : IfSome answer MayBe
   -- Each fault was counted by its own device since.
   pub read : answer ≡ Some (Fault cause.ReadFault)
@@ -25,14 +25,14 @@ pub record Answers {S Y K T F I O : Type 0} (used : Uses) (MayBe : Refusal → T
       ⊎ Rose before.output.faults after.output.faults ⊎ Rose before.files.faults after.files.faults
   pub print : answer ≡ Some (Fault cause.PrintFault) → Rose before.paper.faults after.paper.faults
   pub shown : answer ≡ Some (Fault cause.ConsoleFault) → Rose before.console.faults after.console.faults
-  -- The limit came where too many bytes were taken; then only a fault of the disk or of the paper comes first.
+  -- The limit came where too many bytes were taken; then only a fault of the disk or the paper comes first.
   pub limit : answer ≡ Some (Fault cause.DeckLimit) → byte_limit < (reader used.keys after).taken
   pub beyond : byte_limit < (reader used.keys after).taken
       → (answer ≡ Some (Fault cause.DiskFault)) ⊎ (answer ≡ Some (Fault cause.PrintFault))
       ⊎ (answer ≡ Some (Fault cause.DeckLimit))
   -- No page is damaged of a deck that tells its bytes, over spools that tell their pages.
   pub undamaged : IsSome before.input.pages → IsSome before.output.pages
-      → Where used.deck (IsSome before.deck.left) → status_of answer ≢ 8
+      → IfUsed used.deck (IsSome before.deck.left) → status_of answer ≢ 8
   -- The numbers of a damaged page agree: the one found differs from the one expected exactly where byte 0 is
   -- the first that is wrong.
   pub numbers : IfSome answer TellsPlace
@@ -43,24 +43,25 @@ pub record Answers {S Y K T F I O : Type 0} (used : Uses) (MayBe : Refusal → T
   pub size : after.files.size ≡ before.files.size
 
 -- What a run does with these devices, and why it ended so.
-abbrev pub AsRun : {S Y K T F I O : Type 0} → (Told S Y K T F I O → Told S Y K T F I O → Option Refusal → Type 0)
-    → Uses → (Cause → Type 0) → Told S Y K T F I O → Told S Y K T F I O → Option Refusal → Type 0
+abbrev pub AsRun : {S Y K T F I O : Type 0}
+    → (Kit S Y K T F I O → Kit S Y K T F I O → Option Refusal → Type 0) → DevicesUsed → (Cause → Type 0)
+    → Kit S Y K T F I O → Kit S Y K T F I O → Option Refusal → Type 0
 AsRun Runs used May before after answer =
     Runs before after answer × Answers used (OfFault May) before after answer
 
 -- What a command is asked for can be done: of what it reads there are bytes within the limit, its spools tell
 -- their pages, its files are those that it wants, and no device was counted to fail.
-pub record NothingFails {S Y K T F I O : Type 0} (asked : Option Command) (before after : Told S Y K T F I O)
+pub record NothingFails {S Y K T F I O : Type 0} (asked : Option Command) (before after : Kit S Y K T F I O)
     : Type 0 where
-  pub deck_within : Where (uses asked).deck (IsWithinLimit before.deck.left)
-  pub keys_within : Where (uses asked).keys (IsWithinLimit before.keys.left)
+  pub deck_within : IfUsed (uses asked).deck (IsWithinLimit before.deck.left)
+  pub keys_within : IfUsed (uses asked).keys (IsWithinLimit before.keys.left)
   pub usable : CanUse asked before.files.pages
   pub input_told : IsSome before.input.pages
   pub output_told : IsSome before.output.pages
   pub deck : Stayed before.deck.faults after.deck.faults
-  pub keys : Where (uses asked).keys (Stayed before.keys.faults after.keys.faults)
+  pub keys : IfUsed (uses asked).keys (Stayed before.keys.faults after.keys.faults)
   pub paper : Stayed before.paper.faults after.paper.faults
-  pub console : Where (uses asked).console (Stayed before.console.faults after.console.faults)
+  pub console : IfUsed (uses asked).console (Stayed before.console.faults after.console.faults)
   pub files : Stayed before.files.faults after.files.faults
   pub input : Stayed before.input.faults after.input.faults
   pub output : Stayed before.output.faults after.output.faults

@@ -11,7 +11,7 @@ use Rattle.batch_ends.specs.declared.ends.Outcomes.{Outcomes}
 use Rattle.batch_ends.specs.Ended.{EndTogether, FaultsAre, all_done}
 use Rattle.solo_cli.specs.declared.refusal.Refusal.{Refusal}
 use Rattle.solo_cli.specs.declared.refusal.Refusal.TheVariants as refusal
-use Rattle.solo_cli.specs.Devices.{Told}
+use Rattle.solo_cli.specs.Devices.{Kit}
 use Rattle.solo_cli.specs.Refusals.{OfFault}
 use Rattle.solo_cli.specs.Status.{number_of}
 
@@ -38,9 +38,9 @@ list_of outcomes =
     outcomes.card ∷ outcomes.input ∷ outcomes.job ∷ outcomes.output ∷ outcomes.printer ∷ []
 
 -- ---- on the whole command
--- The five of a run ended with these outcomes, and the lowest number decides: where some ended with faults, one
--- of these is the cause, and no fault of them has a lower number. Else all their work is done, and only what
--- comes behind them may have a cause.
+-- The five of a run ended with these outcomes, and the lowest number decides: where some ended with faults,
+-- one of these is the cause, and no fault of them has a lower number. Else all their work is done, and only
+-- what comes behind them may have a cause.
 pub record LowestDecides (Behind : Cause → Type 0) (answer : Option Refusal) : Type 0 where
   pub outcomes : Outcomes
   pub stopped_by : List (Option Side)
@@ -52,9 +52,9 @@ pub record LowestDecides (Behind : Cause → Type 0) (answer : Option Refusal) :
       → (why : Cause) × (answer ≡ Some (refusal.Fault why)) × (number_of why ≤ number_of fault)
   pub done : answer ≡ None → outcomes ≡ all_done
 
--- Each fault of these outcomes was counted by its own device since, and the limit is told exactly where too many
--- bytes were taken.
-pub record AreCounted {S Y K T F I O : Type 0} (before after : Told S Y K T F I O) (outcomes : Outcomes)
+-- Each fault of these outcomes was counted by its own device since, and the limit is told exactly where too
+-- many bytes were taken.
+pub record FaultsCounted {S Y K T F I O : Type 0} (before after : Kit S Y K T F I O) (outcomes : Outcomes)
     : Type 0 where
   pub read : outcomes.card ≡ Fault cause.ReadFault → Rose before.deck.faults after.deck.faults
   pub limit : outcomes.card ≡ Fault cause.DeckLimit → byte_limit < after.deck.taken
@@ -66,16 +66,16 @@ pub record AreCounted {S Y K T F I O : Type 0} (before after : Told S Y K T F I 
   pub print : outcomes.printer ≡ Fault cause.PrintFault → Rose before.paper.faults after.paper.faults
 
 -- how a run of the deck ended
-pub record DeckEnds {S Y K T F I O : Type 0} (Behind : Cause → Type 0) (before after : Told S Y K T F I O)
+pub record DeckEnds {S Y K T F I O : Type 0} (Behind : Cause → Type 0) (before after : Kit S Y K T F I O)
     (answer : Option Refusal) : Type 0 where
   pub five : LowestDecides Behind answer
-  pub counted : AreCounted before after five.outcomes
+  pub counted : FaultsCounted before after five.outcomes
 
 -- nothing comes behind the five
 abbrev pub Nothing : Cause → Type 0
 Nothing = λ why. ⊥
 
 -- a line is printed behind them
-abbrev pub LineBehind : {S Y K T F I O : Type 0} → Told S Y K T F I O → Told S Y K T F I O → Cause → Type 0
+abbrev pub LineBehind : {S Y K T F I O : Type 0} → Kit S Y K T F I O → Kit S Y K T F I O → Cause → Type 0
 LineBehind before after =
     λ why. ((why ≡ cause.PrintFault) × Rose before.paper.faults after.paper.faults) ⊎ (why ≡ cause.NoMemory)

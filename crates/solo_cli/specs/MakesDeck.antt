@@ -15,9 +15,9 @@ use Rattle.core_law.specs.TheLaw.{the_law}
 use Rattle.deck_work.specs.DeckJobs.{deck_jobs}
 use Rattle.solo_cli.specs.declared.refusal.Refusal.{Refusal}
 use Rattle.solo_cli.specs.DeckNumbers.{deck_lines}
-use Rattle.solo_cli.specs.DeckRuns.{SpoolsTell, opened_over}
+use Rattle.solo_cli.specs.DeckRuns.{SpoolsTell, core_over}
 use Rattle.solo_cli.specs.Decides.{LineBehind, LowestDecides}
-use Rattle.solo_cli.specs.Devices.{Told}
+use Rattle.solo_cli.specs.Devices.{Kit}
 use Rattle.solo_cli.specs.Mounting.{Untouched}
 use Rattle.solo_cli.specs.Status.{status_of}
 
@@ -30,12 +30,13 @@ pub record GainsNumbers (rule : Rule) (s : CoreState Loaded) (deck : List ℕ)
   pub counted : AreItsCounts (the_law deck_jobs) rule s counts
   pub gains : (found : Loads) → Gains before now (text (deck_lines found deck counts)) all
 
--- The paper gains the numbers of the deck of this number, and what is counted of its run to a paper in memory,
--- under the schedule of this number. Where an area failed or a spool gave a damaged page it gains nothing.
-pub record MakesDeck {S Y K T F I O : Type 0} (number : ℕ) (before after : Told S Y K T F I O)
+-- The paper gains the numbers of the deck of this number, and what is counted of its run to a paper in
+-- memory, under the schedule of this number. Where an area failed or a spool gave a damaged page it gains
+-- nothing.
+pub record MakesDeck {S Y K T F I O : Type 0} (number : ℕ) (before after : Kit S Y K T F I O)
     (answer : Option Refusal) : Type 0 where
   pub prints : SpoolsTell before → GainsNumbers (Numbered number)
-      (opened_over before (Some (cards (made_deck number))) (Some [])) (made_deck number) before.paper.given
+      (core_over before (Some (cards (made_deck number))) (Some [])) (made_deck number) before.paper.given
       after.paper.given (answer ≡ None)
   pub unprinted : (status_of answer ≡ 3) ⊎ (status_of answer ≡ 8) → after.paper ≡ before.paper
   pub ends : LowestDecides (LineBehind before after) answer ⊎ Untouched before after

@@ -1,9 +1,9 @@
 -- The devices that a command may be given.
 use Rattle.std.specs.Prelude.{◌≡◌, ◌<◌, ◌≤◌}
-use Rattle.solo_cli.specs.Devices.{Told}
+use Rattle.solo_cli.specs.Devices.{Kit}
 
 -- nothing was read yet, and the areas have their sizes
-pub record IsReady {S Y K T F I O : Type 0} (told : Told S Y K T F I O) : Type 0 where
+pub record MayBeGiven {S Y K T F I O : Type 0} (told : Kit S Y K T F I O) : Type 0 where
   pub deck : told.deck.taken ≡ 0
   pub keys : told.keys.taken ≡ 0
   pub files : told.files.size ≡ 4288

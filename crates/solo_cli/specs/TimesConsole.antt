@@ -15,9 +15,9 @@ use Rattle.solo_cli.specs.CountsLine.{counts_line}
 abbrev pub script_opened : List Item → Option (List ℕ) → TimeState
 script_opened items console = opened record { keys = Some items; console = console }
 
--- Of these typed lines the console gains their lines and behind them the line of these counts, without a grant,
--- or a prefix of it; all of it where this holds. The counts are those of the one run by the rule in which no
--- device fails, whatever became of the run.
+-- Of these typed lines the console gains their lines and behind them the line of these counts, without a
+-- grant, or a prefix of it; all of it where this holds. The counts are those of the one run by the rule in
+-- which no device fails, whatever became of the run.
 pub record GainsTimes (rule : Rule) (items : List Item) (before now : Option (List ℕ)) (all : Type 0) : Type 0
   where
     pub counts : Counts

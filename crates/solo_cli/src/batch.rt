@@ -2,9 +2,9 @@
 ghost use Rattle.std.specs.Prelude.{◌≡◌, true, Some};
 ghost use Rattle.solo_cli.specs.Causes.{IsRunCause};
 ghost use Rattle.solo_cli.specs.DeckRuns.{RunsBatch};
-ghost use Rattle.solo_cli.specs.Devices.{told, told_of};
+ghost use Rattle.solo_cli.specs.Devices.{kit, kit_of};
 ghost use Rattle.solo_cli.specs.Mounting.{MountsFiles};
-ghost use Rattle.solo_cli.specs.Ready.{IsReady};
+ghost use Rattle.solo_cli.specs.Ready.{MayBeGiven};
 ghost use Rattle.solo_cli.specs.Refusals.{MayBeRefused};
 ghost use Rattle.solo_cli.specs.Answers.{Answers, AsRun};
 ghost use Rattle.solo_cli.specs.Uses.{deck_used, uses};
@@ -39,14 +39,14 @@ pub fn batch<
     alloc: Global,
     devices: Devices<S, Y, K, T, F, I, O>,
 ) -> Done<S, Y, K, T, F, I, O>
-    requires { IsReady (told_of S.Source Y.Source K.Sink T.Sink F.Area I.Area O.Area devices) }
-    ensures runs { RunsBatch (told_of S.Source Y.Source K.Sink T.Sink F.Area I.Area O.Area devices)
-        (told_of S.Source Y.Source K.Sink T.Sink F.Area I.Area O.Area result.devices) result.cause }
-    ensures mounts { MountsFiles (told_of S.Source Y.Source K.Sink T.Sink F.Area I.Area O.Area devices)
-        (told_of S.Source Y.Source K.Sink T.Sink F.Area I.Area O.Area result.devices) result.cause }
+    requires { MayBeGiven (kit_of S.Source Y.Source K.Sink T.Sink F.Area I.Area O.Area devices) }
+    ensures runs { RunsBatch (kit_of S.Source Y.Source K.Sink T.Sink F.Area I.Area O.Area devices)
+        (kit_of S.Source Y.Source K.Sink T.Sink F.Area I.Area O.Area result.devices) result.cause }
+    ensures mounts { MountsFiles (kit_of S.Source Y.Source K.Sink T.Sink F.Area I.Area O.Area devices)
+        (kit_of S.Source Y.Source K.Sink T.Sink F.Area I.Area O.Area result.devices) result.cause }
     ensures answers { Answers (uses (Some Command.Batch)) (MayBeRefused (Some Command.Batch))
-        (told_of S.Source Y.Source K.Sink T.Sink F.Area I.Area O.Area devices)
-        (told_of S.Source Y.Source K.Sink T.Sink F.Area I.Area O.Area result.devices) result.cause }
+        (kit_of S.Source Y.Source K.Sink T.Sink F.Area I.Area O.Area devices)
+        (kit_of S.Source Y.Source K.Sink T.Sink F.Area I.Area O.Area result.devices) result.cause }
 {
     match mount(alloc, devices) {
         Ok(mounted) => run_mounted(rt, alloc, mounted),
@@ -70,13 +70,13 @@ fn run_mounted<
     alloc: Global,
     devices: Devices<S, Y, K, T, FileArea<F>, I, O>,
 ) -> Done<S, Y, K, T, F, I, O>
-    requires ready { IsReady (told S.Source Y.Source K.Sink T.Sink F.Area I.Area O.Area devices.deck
+    requires ready { MayBeGiven (kit S.Source Y.Source K.Sink T.Sink F.Area I.Area O.Area devices.deck
         devices.keys devices.paper devices.console devices.files.area devices.input devices.output) }
     requires sound { devices.files.sound ≡ true }
     ensures ran { AsRun RunsBatch deck_used IsRunCause
-        (told S.Source Y.Source K.Sink T.Sink F.Area I.Area O.Area devices.deck devices.keys devices.paper
+        (kit S.Source Y.Source K.Sink T.Sink F.Area I.Area O.Area devices.deck devices.keys devices.paper
         devices.console devices.files.area devices.input devices.output)
-        (told_of S.Source Y.Source K.Sink T.Sink F.Area I.Area O.Area result.devices) result.cause }
+        (kit_of S.Source Y.Source K.Sink T.Sink F.Area I.Area O.Area result.devices) result.cause }
     ensures left { F.pages result.devices.files ≡ F.pages devices.files.area }
 {
     let Devices {

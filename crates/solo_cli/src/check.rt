@@ -8,10 +8,10 @@ ghost use Rattle.access_check.specs.Judgement.{judge};
 ghost use Rattle.solo_cli.specs.AccessLines.{judgement_line};
 ghost use Rattle.solo_cli.specs.Answers.{Answers};
 ghost use Rattle.solo_cli.specs.Causes.{IsReadCause};
-ghost use Rattle.solo_cli.specs.Devices.{printing, told_of};
+ghost use Rattle.solo_cli.specs.Devices.{sink_told, kit_of};
 ghost use Rattle.solo_cli.specs.Does.{Checks};
-ghost use Rattle.solo_cli.specs.Printing.{Prints};
-ghost use Rattle.solo_cli.specs.Ready.{IsReady};
+ghost use Rattle.solo_cli.specs.Printing.{PrintsBytes};
+ghost use Rattle.solo_cli.specs.Ready.{MayBeGiven};
 ghost use Rattle.solo_cli.specs.Refusals.{MayBeRefused};
 ghost use Rattle.solo_cli.specs.Uses.{uses};
 
@@ -30,12 +30,12 @@ pub fn check<S: Source, Y: Source, K: Sink, T: Sink, F: Area, I: Area, O: Area>(
     alloc: Global,
     devices: Devices<S, Y, K, T, F, I, O>,
 ) -> Done<S, Y, K, T, F, I, O>
-    requires { IsReady (told_of S.Source Y.Source K.Sink T.Sink F.Area I.Area O.Area devices) }
-    ensures checks { Checks (told_of S.Source Y.Source K.Sink T.Sink F.Area I.Area O.Area devices)
-        (told_of S.Source Y.Source K.Sink T.Sink F.Area I.Area O.Area result.devices) result.cause }
+    requires { MayBeGiven (kit_of S.Source Y.Source K.Sink T.Sink F.Area I.Area O.Area devices) }
+    ensures checks { Checks (kit_of S.Source Y.Source K.Sink T.Sink F.Area I.Area O.Area devices)
+        (kit_of S.Source Y.Source K.Sink T.Sink F.Area I.Area O.Area result.devices) result.cause }
     ensures answers { Answers (uses (Some Command.Check)) (MayBeRefused (Some Command.Check))
-        (told_of S.Source Y.Source K.Sink T.Sink F.Area I.Area O.Area devices)
-        (told_of S.Source Y.Source K.Sink T.Sink F.Area I.Area O.Area result.devices) result.cause }
+        (kit_of S.Source Y.Source K.Sink T.Sink F.Area I.Area O.Area devices)
+        (kit_of S.Source Y.Source K.Sink T.Sink F.Area I.Area O.Area result.devices) result.cause }
 {
     let Devices {
         deck,
@@ -149,7 +149,7 @@ fn print_judgement<K: Sink>(
     read: Result<Vec<Item>, Cause>,
     paper: K,
 ) -> (Option<Refusal>, K)
-    ensures judged { IfOk read (λ items. Prints (printing K.Sink paper) (printing K.Sink result.1)
+    ensures judged { IfOk read (λ items. PrintsBytes (sink_told K.Sink paper) (sink_told K.Sink result.1)
         (line_text (judgement_line (judge items.items))) result.0) }
     ensures refused { IfErr read (λ cause. (result.0 ≡ Some (Refusal.Fault cause)) × (result.1 ≡ paper)) }
 {

@@ -7,9 +7,9 @@ ghost use Rattle.batch_job.specs.Report.{Loads};
 ghost use Rattle.batch_job.specs.OneThread.{one_thread_output};
 ghost use Rattle.deck_work.specs.DeckJobs.{AreFound, files_found};
 ghost use Rattle.solo_cli.specs.Answers.{Answers, NothingFails};
-ghost use Rattle.solo_cli.specs.Devices.{told, told_by, told_of};
-ghost use Rattle.solo_cli.specs.Does.{Does};
-ghost use Rattle.solo_cli.specs.Ready.{IsReady};
+ghost use Rattle.solo_cli.specs.Devices.{kit, kit_after, kit_of};
+ghost use Rattle.solo_cli.specs.Does.{DoesItsWork};
+ghost use Rattle.solo_cli.specs.Ready.{MayBeGiven};
 ghost use Rattle.solo_cli.specs.Refusals.{MayBeRefused};
 ghost use Rattle.solo_cli.specs.Status.{status_of};
 ghost use Rattle.solo_cli.specs.Uses.{uses};
@@ -90,18 +90,18 @@ pub fn top<
         (result.status ≡ 0) }
 
     // What the words ask for is done, each command as its own record says.
-    ensures does { Does (asked words.now)
-        (told S.Source Y.Source K.Sink T.Sink F.Area I.Area O.Area deck keys paper console files input
+    ensures does { DoesItsWork (asked words.now)
+        (kit S.Source Y.Source K.Sink T.Sink F.Area I.Area O.Area deck keys paper console files input
         output)
-        (told_by S.Source Y.Source K.Sink T.Sink F.Area I.Area O.Area result) result.cause }
+        (kit_after S.Source Y.Source K.Sink T.Sink F.Area I.Area O.Area result) result.cause }
 
     // The status is the number of the cause. Each cause is one that the command may have, and has its reason,
     // and a device that the command doesn't use comes back as it came.
     ensures status { result.status ≡ status_of result.cause }
     ensures answers { Answers (uses (asked words.now)) (MayBeRefused (asked words.now))
-        (told S.Source Y.Source K.Sink T.Sink F.Area I.Area O.Area deck keys paper console files input
+        (kit S.Source Y.Source K.Sink T.Sink F.Area I.Area O.Area deck keys paper console files input
         output)
-        (told_by S.Source Y.Source K.Sink T.Sink F.Area I.Area O.Area result) result.cause }
+        (kit_after S.Source Y.Source K.Sink T.Sink F.Area I.Area O.Area result) result.cause }
 
     // The words are no command.
     ensures usage { (result.status ≡ 1) ↔ (asked words.now ≡ None) }
@@ -109,8 +109,8 @@ pub fn top<
     // Where nothing fails the whole work is done, unless memory is refused. A migration may find too little
     // room.
     ensures complete { asked words.now ≢ None → NothingFails (asked words.now)
-        (told S.Source Y.Source K.Sink T.Sink F.Area I.Area O.Area deck keys paper console files input
-        output) (told_by S.Source Y.Source K.Sink T.Sink F.Area I.Area O.Area result) →
+        (kit S.Source Y.Source K.Sink T.Sink F.Area I.Area O.Area deck keys paper console files input
+        output) (kit_after S.Source Y.Source K.Sink T.Sink F.Area I.Area O.Area result) →
         (result.status ≡ 0) ⊎ (result.status ≡ 9)
         ⊎ ((result.status ≡ 10) × (asked words.now ≡ Some Command.Migrate)) }
     ensures files_size { F.size result.files ≡ F.size files }
@@ -143,13 +143,13 @@ fn run<
     command: Option<Command>,
     devices: Devices<S, Y, K, T, F, I, O>,
 ) -> Done<S, Y, K, T, F, I, O>
-    requires ready { IsReady (told_of S.Source Y.Source K.Sink T.Sink F.Area I.Area O.Area devices) }
+    requires ready { MayBeGiven (kit_of S.Source Y.Source K.Sink T.Sink F.Area I.Area O.Area devices) }
     requires number { HasNumber command }
-    ensures does { Does command (told_of S.Source Y.Source K.Sink T.Sink F.Area I.Area O.Area devices)
-        (told_of S.Source Y.Source K.Sink T.Sink F.Area I.Area O.Area result.devices) result.cause }
+    ensures does { DoesItsWork command (kit_of S.Source Y.Source K.Sink T.Sink F.Area I.Area O.Area devices)
+        (kit_of S.Source Y.Source K.Sink T.Sink F.Area I.Area O.Area result.devices) result.cause }
     ensures answers { Answers (uses command) (MayBeRefused command)
-        (told_of S.Source Y.Source K.Sink T.Sink F.Area I.Area O.Area devices)
-        (told_of S.Source Y.Source K.Sink T.Sink F.Area I.Area O.Area result.devices) result.cause }
+        (kit_of S.Source Y.Source K.Sink T.Sink F.Area I.Area O.Area devices)
+        (kit_of S.Source Y.Source K.Sink T.Sink F.Area I.Area O.Area result.devices) result.cause }
 {
     match command {
         None => Done {

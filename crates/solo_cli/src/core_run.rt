@@ -4,10 +4,10 @@ ghost use Rattle.solo_base.specs.Text.{line_text};
 ghost use Rattle.solo_cli.specs.Causes.{IsRunCause};
 ghost use Rattle.solo_cli.specs.CountsLine.{counts_line};
 ghost use Rattle.solo_cli.specs.DeckRuns.{RunsCore};
-ghost use Rattle.solo_cli.specs.Devices.{printing, told, told_of};
+ghost use Rattle.solo_cli.specs.Devices.{sink_told, kit, kit_of};
 ghost use Rattle.solo_cli.specs.Mounting.{MountsFiles};
-ghost use Rattle.solo_cli.specs.Printing.{Prints};
-ghost use Rattle.solo_cli.specs.Ready.{IsReady};
+ghost use Rattle.solo_cli.specs.Printing.{PrintsBytes};
+ghost use Rattle.solo_cli.specs.Ready.{MayBeGiven};
 ghost use Rattle.solo_cli.specs.Refusals.{MayBeRefused};
 ghost use Rattle.solo_cli.specs.Answers.{Answers, AsRun};
 ghost use Rattle.solo_cli.specs.Uses.{deck_used, uses};
@@ -34,15 +34,15 @@ pub fn core<S: Source, Y: Source, K: Sink, T: Sink, F: Area + Drop, I: Area, O: 
     schedule: u32,
     devices: Devices<S, Y, K, T, F, I, O>,
 ) -> Done<S, Y, K, T, F, I, O>
-    requires { IsReady (told_of S.Source Y.Source K.Sink T.Sink F.Area I.Area O.Area devices) }
-    ensures runs { RunsCore schedule (told_of S.Source Y.Source K.Sink T.Sink F.Area I.Area O.Area devices)
-        (told_of S.Source Y.Source K.Sink T.Sink F.Area I.Area O.Area result.devices) result.cause }
-    ensures mounts { MountsFiles (told_of S.Source Y.Source K.Sink T.Sink F.Area I.Area O.Area devices)
-        (told_of S.Source Y.Source K.Sink T.Sink F.Area I.Area O.Area result.devices) result.cause }
+    requires { MayBeGiven (kit_of S.Source Y.Source K.Sink T.Sink F.Area I.Area O.Area devices) }
+    ensures runs { RunsCore schedule (kit_of S.Source Y.Source K.Sink T.Sink F.Area I.Area O.Area devices)
+        (kit_of S.Source Y.Source K.Sink T.Sink F.Area I.Area O.Area result.devices) result.cause }
+    ensures mounts { MountsFiles (kit_of S.Source Y.Source K.Sink T.Sink F.Area I.Area O.Area devices)
+        (kit_of S.Source Y.Source K.Sink T.Sink F.Area I.Area O.Area result.devices) result.cause }
     ensures answers { Answers (uses (Some (Command.Core schedule)))
         (MayBeRefused (Some (Command.Core schedule)))
-        (told_of S.Source Y.Source K.Sink T.Sink F.Area I.Area O.Area devices)
-        (told_of S.Source Y.Source K.Sink T.Sink F.Area I.Area O.Area result.devices) result.cause }
+        (kit_of S.Source Y.Source K.Sink T.Sink F.Area I.Area O.Area devices)
+        (kit_of S.Source Y.Source K.Sink T.Sink F.Area I.Area O.Area result.devices) result.cause }
 {
     match mount(alloc, devices) {
         Ok(mounted) => run_mounted(alloc, schedule, mounted),
@@ -57,13 +57,13 @@ fn run_mounted<S: Source, Y: Source, K: Sink, T: Sink, F: Area + Drop, I: Area, 
     schedule: u32,
     devices: Devices<S, Y, K, T, FileArea<F>, I, O>,
 ) -> Done<S, Y, K, T, F, I, O>
-    requires ready { IsReady (told S.Source Y.Source K.Sink T.Sink F.Area I.Area O.Area devices.deck
+    requires ready { MayBeGiven (kit S.Source Y.Source K.Sink T.Sink F.Area I.Area O.Area devices.deck
         devices.keys devices.paper devices.console devices.files.area devices.input devices.output) }
     requires sound { devices.files.sound ≡ true }
     ensures ran { AsRun (RunsCore schedule) deck_used IsRunCause
-        (told S.Source Y.Source K.Sink T.Sink F.Area I.Area O.Area devices.deck devices.keys devices.paper
+        (kit S.Source Y.Source K.Sink T.Sink F.Area I.Area O.Area devices.deck devices.keys devices.paper
         devices.console devices.files.area devices.input devices.output)
-        (told_of S.Source Y.Source K.Sink T.Sink F.Area I.Area O.Area result.devices) result.cause }
+        (kit_of S.Source Y.Source K.Sink T.Sink F.Area I.Area O.Area result.devices) result.cause }
     ensures left { F.pages result.devices.files ≡ F.pages devices.files.area }
 {
     let Devices {
@@ -97,7 +97,7 @@ fn with_counts<S: Source, Y: Source, K: Sink, T: Sink, F: Area, I: Area, O: Area
     done: Done<S, Y, K, T, F, I, O>,
     counts: Counts,
 ) -> Done<S, Y, K, T, F, I, O>
-    ensures prints { Prints (printing K.Sink done.devices.paper) (printing K.Sink result.devices.paper)
+    ensures prints { PrintsBytes (sink_told K.Sink done.devices.paper) (sink_told K.Sink result.devices.paper)
         (line_text (counts_line counts.events counts.delays counts.grants)) result.cause }
     ensures stays { result.devices ≡ record done.devices { paper = result.devices.paper } }
 {

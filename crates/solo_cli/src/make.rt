@@ -19,11 +19,11 @@ ghost use Rattle.solo_cli.specs.Answers.{Answers, AsRun};
 ghost use Rattle.solo_cli.specs.Causes.{IsMakeCause, IsPrintCause};
 ghost use Rattle.solo_cli.specs.Decides.{LowestDecides, Nothing};
 ghost use Rattle.solo_cli.specs.DeckNumbers.{five_lines, characters_of};
-ghost use Rattle.solo_cli.specs.Devices.{printing, told, told_of};
+ghost use Rattle.solo_cli.specs.Devices.{sink_told, kit, kit_of};
 ghost use Rattle.solo_cli.specs.MakesDeck.{MakesDeck};
 ghost use Rattle.solo_cli.specs.Mounting.{MountsFiles};
-ghost use Rattle.solo_cli.specs.Printing.{Prints};
-ghost use Rattle.solo_cli.specs.Ready.{IsReady};
+ghost use Rattle.solo_cli.specs.Printing.{PrintsBytes};
+ghost use Rattle.solo_cli.specs.Ready.{MayBeGiven};
 ghost use Rattle.solo_cli.specs.Refusals.{MayBeRefused, OfFault};
 ghost use Rattle.solo_cli.specs.Status.{status_of};
 ghost use Rattle.solo_cli.specs.Uses.{made_used, uses};
@@ -46,9 +46,9 @@ use solo_base::{Cause, Line, NoMemory};
 use solo_devices::{Area, CardUnit, PrinterUnit, Sink, Source, SureSink, SureSource};
 use std::alloc::Global;
 
-/// Mounts the files, makes the deck of a number, runs it on the core under the schedule of this number, to a
-/// paper in memory, and prints how many jobs, cards, lines and characters there were, and what the run counted.
-/// Where the run met a fault nothing is printed.
+/// Mounts the files, makes the deck of a number, runs it on the core under the schedule of this number, to
+/// a paper in memory, and prints how many jobs, cards, lines and characters there were, and what the run
+/// counted. Where the run met a fault nothing is printed.
 #[inline(never)]
 pub fn make<S: Source, Y: Source, K: Sink, T: Sink, F: Area + Drop, I: Area, O: Area>(
     alloc: Global,
@@ -56,14 +56,14 @@ pub fn make<S: Source, Y: Source, K: Sink, T: Sink, F: Area + Drop, I: Area, O: 
     devices: Devices<S, Y, K, T, F, I, O>,
 ) -> Done<S, Y, K, T, F, I, O>
     requires number { number ≤ 50000 }
-    requires ready { IsReady (told_of S.Source Y.Source K.Sink T.Sink F.Area I.Area O.Area devices) }
-    ensures makes { MakesDeck number (told_of S.Source Y.Source K.Sink T.Sink F.Area I.Area O.Area devices)
-        (told_of S.Source Y.Source K.Sink T.Sink F.Area I.Area O.Area result.devices) result.cause }
-    ensures mounts { MountsFiles (told_of S.Source Y.Source K.Sink T.Sink F.Area I.Area O.Area devices)
-        (told_of S.Source Y.Source K.Sink T.Sink F.Area I.Area O.Area result.devices) result.cause }
+    requires ready { MayBeGiven (kit_of S.Source Y.Source K.Sink T.Sink F.Area I.Area O.Area devices) }
+    ensures makes { MakesDeck number (kit_of S.Source Y.Source K.Sink T.Sink F.Area I.Area O.Area devices)
+        (kit_of S.Source Y.Source K.Sink T.Sink F.Area I.Area O.Area result.devices) result.cause }
+    ensures mounts { MountsFiles (kit_of S.Source Y.Source K.Sink T.Sink F.Area I.Area O.Area devices)
+        (kit_of S.Source Y.Source K.Sink T.Sink F.Area I.Area O.Area result.devices) result.cause }
     ensures answers { Answers (uses (Some (Command.Make number))) (MayBeRefused (Some (Command.Make number)))
-        (told_of S.Source Y.Source K.Sink T.Sink F.Area I.Area O.Area devices)
-        (told_of S.Source Y.Source K.Sink T.Sink F.Area I.Area O.Area result.devices) result.cause }
+        (kit_of S.Source Y.Source K.Sink T.Sink F.Area I.Area O.Area devices)
+        (kit_of S.Source Y.Source K.Sink T.Sink F.Area I.Area O.Area result.devices) result.cause }
 {
     match mount(alloc, devices) {
         Ok(mounted) => make_mounted(alloc, number, mounted),
@@ -79,13 +79,13 @@ fn make_mounted<S: Source, Y: Source, K: Sink, T: Sink, F: Area + Drop, I: Area,
     devices: Devices<S, Y, K, T, FileArea<F>, I, O>,
 ) -> Done<S, Y, K, T, F, I, O>
     requires number { number ≤ 50000 }
-    requires ready { IsReady (told S.Source Y.Source K.Sink T.Sink F.Area I.Area O.Area devices.deck
+    requires ready { MayBeGiven (kit S.Source Y.Source K.Sink T.Sink F.Area I.Area O.Area devices.deck
         devices.keys devices.paper devices.console devices.files.area devices.input devices.output) }
     requires sound { devices.files.sound ≡ true }
     ensures ran { AsRun (MakesDeck number) made_used IsMakeCause
-        (told S.Source Y.Source K.Sink T.Sink F.Area I.Area O.Area devices.deck devices.keys devices.paper
+        (kit S.Source Y.Source K.Sink T.Sink F.Area I.Area O.Area devices.deck devices.keys devices.paper
         devices.console devices.files.area devices.input devices.output)
-        (told_of S.Source Y.Source K.Sink T.Sink F.Area I.Area O.Area result.devices) result.cause }
+        (kit_of S.Source Y.Source K.Sink T.Sink F.Area I.Area O.Area result.devices) result.cause }
     ensures left { F.pages result.devices.files ≡ F.pages devices.files.area }
 {
     match deck_of(alloc, number) {
@@ -120,13 +120,13 @@ fn run_made<S: Source, Y: Source, K: Sink, T: Sink, F: Area + Drop, I: Area, O: 
     requires short { length deck.items ≤ byte_limit }
     requires jobs { numbers.jobs ≡ length (jobs (cards deck.items)) }
     requires cards { numbers.cards ≡ length (cards deck.items) }
-    requires ready { IsReady (told S.Source Y.Source K.Sink T.Sink F.Area I.Area O.Area devices.deck
+    requires ready { MayBeGiven (kit S.Source Y.Source K.Sink T.Sink F.Area I.Area O.Area devices.deck
         devices.keys devices.paper devices.console devices.files.area devices.input devices.output) }
     requires sound { devices.files.sound ≡ true }
     ensures ran { AsRun (MakesDeck number) made_used IsMakeCause
-        (told S.Source Y.Source K.Sink T.Sink F.Area I.Area O.Area devices.deck devices.keys devices.paper
+        (kit S.Source Y.Source K.Sink T.Sink F.Area I.Area O.Area devices.deck devices.keys devices.paper
         devices.console devices.files.area devices.input devices.output)
-        (told_of S.Source Y.Source K.Sink T.Sink F.Area I.Area O.Area result.devices) result.cause }
+        (kit_of S.Source Y.Source K.Sink T.Sink F.Area I.Area O.Area result.devices) result.cause }
     ensures left { F.pages result.devices.files ≡ F.pages devices.files.area }
 {
     let Devices {
@@ -246,7 +246,7 @@ fn print_numbers<K: Sink>(
     ensures fault { IfSome cause (λ why. (result.0 ≡ Some why) × (result.1 ≡ paper)) }
     ensures prints { cause ≡ None → (lines : List (List ℕ)) → AllByRecursion IsLine lines →
         ⟦<SureSink as Sink>⟧.given printed.now ≡ Some (text lines) →
-        Prints (printing K.Sink paper) (printing K.Sink result.1)
+        PrintsBytes (sink_told K.Sink paper) (sink_told K.Sink result.1)
         (text (five_lines numbers.jobs numbers.cards (length lines) (characters_of lines) counts)) result.0 }
     ensures known { cause ≡ None → IfSome result.0 (OfFault IsPrintCause) }
     ensures failed { cause ≡ None → result.0 ≡ Some (Refusal.Fault Cause.PrintFault) →

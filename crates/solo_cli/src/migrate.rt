@@ -1,9 +1,9 @@
 //! The command that makes an area of format 1 one of format 2.
 ghost use Rattle.std.specs.Prelude.{◌≡◌, Some};
 ghost use Rattle.solo_cli.specs.Answers.{Answers};
-ghost use Rattle.solo_cli.specs.Devices.{told_of};
-ghost use Rattle.solo_cli.specs.Does.{Migrates};
-ghost use Rattle.solo_cli.specs.Ready.{IsReady};
+ghost use Rattle.solo_cli.specs.Devices.{kit_of};
+ghost use Rattle.solo_cli.specs.Does.{MigratesFiles};
+ghost use Rattle.solo_cli.specs.Ready.{MayBeGiven};
 ghost use Rattle.solo_cli.specs.Refusals.{MayBeRefused};
 ghost use Rattle.solo_cli.specs.Uses.{uses};
 
@@ -18,12 +18,12 @@ pub fn migrate<S: Source, Y: Source, K: Sink, T: Sink, F: Area, I: Area, O: Area
     alloc: Global,
     mut devices: Devices<S, Y, K, T, F, I, O>,
 ) -> Done<S, Y, K, T, F, I, O>
-    requires { IsReady (told_of S.Source Y.Source K.Sink T.Sink F.Area I.Area O.Area devices) }
-    ensures migrates { Migrates (told_of S.Source Y.Source K.Sink T.Sink F.Area I.Area O.Area devices)
-        (told_of S.Source Y.Source K.Sink T.Sink F.Area I.Area O.Area result.devices) result.cause }
+    requires { MayBeGiven (kit_of S.Source Y.Source K.Sink T.Sink F.Area I.Area O.Area devices) }
+    ensures migrates { MigratesFiles (kit_of S.Source Y.Source K.Sink T.Sink F.Area I.Area O.Area devices)
+        (kit_of S.Source Y.Source K.Sink T.Sink F.Area I.Area O.Area result.devices) result.cause }
     ensures answers { Answers (uses (Some Command.Migrate)) (MayBeRefused (Some Command.Migrate))
-        (told_of S.Source Y.Source K.Sink T.Sink F.Area I.Area O.Area devices)
-        (told_of S.Source Y.Source K.Sink T.Sink F.Area I.Area O.Area result.devices) result.cause }
+        (kit_of S.Source Y.Source K.Sink T.Sink F.Area I.Area O.Area devices)
+        (kit_of S.Source Y.Source K.Sink T.Sink F.Area I.Area O.Area result.devices) result.cause }
 {
     match disk_system::migrate(alloc, &mut devices.files) {
         Ok(_) => Done {

@@ -1,6 +1,6 @@
 //! The mount of the files, before a deck is run.
 ghost use Rattle.std.specs.Prelude.{◌≡◌, true, Some, IfOk, IfErr};
-ghost use Rattle.solo_cli.specs.Devices.{told, told_of};
+ghost use Rattle.solo_cli.specs.Devices.{kit, kit_of};
 ghost use Rattle.solo_cli.specs.Mounting.{AreMounted, AreUnmounted};
 ghost use Rattle.solo_cli.specs.Refusals.{mount_cause};
 
@@ -20,12 +20,12 @@ pub fn mount<S: Source, Y: Source, K: Sink, T: Sink, F: Area, I: Area, O: Area>(
     requires { F.size devices.files ≡ 4288 }
     ensures sound { IfOk result (λ mounted. mounted.files.sound ≡ true) }
     ensures mounted { IfOk result (λ mounted. AreMounted
-        (told_of S.Source Y.Source K.Sink T.Sink F.Area I.Area O.Area devices)
-        (told S.Source Y.Source K.Sink T.Sink F.Area I.Area O.Area mounted.deck mounted.keys mounted.paper
+        (kit_of S.Source Y.Source K.Sink T.Sink F.Area I.Area O.Area devices)
+        (kit S.Source Y.Source K.Sink T.Sink F.Area I.Area O.Area mounted.deck mounted.keys mounted.paper
         mounted.console mounted.files.area mounted.input mounted.output)) }
     ensures unmounted { IfErr result (λ done. AreUnmounted
-        (told_of S.Source Y.Source K.Sink T.Sink F.Area I.Area O.Area devices)
-        (told_of S.Source Y.Source K.Sink T.Sink F.Area I.Area O.Area done.devices) done.cause) }
+        (kit_of S.Source Y.Source K.Sink T.Sink F.Area I.Area O.Area devices)
+        (kit_of S.Source Y.Source K.Sink T.Sink F.Area I.Area O.Area done.devices) done.cause) }
 {
     let Devices {
         deck,

@@ -4,8 +4,8 @@ ghost use Rattle.solo_base.specs.Text.{line_text, text};
 ghost use Rattle.solo_devices.specs.Count.{Rose};
 ghost use Rattle.solo_devices.specs.PrinterUnit.{Gains};
 ghost use Rattle.solo_cli.specs.Causes.{IsPrintCause};
-ghost use Rattle.solo_cli.specs.Devices.{printing};
-ghost use Rattle.solo_cli.specs.Printing.{Prints};
+ghost use Rattle.solo_cli.specs.Devices.{sink_told};
+ghost use Rattle.solo_cli.specs.Printing.{PrintsBytes};
 ghost use Rattle.solo_cli.specs.Refusals.{OfFault};
 
 use crate::refusal::Refusal;
@@ -14,7 +14,7 @@ use solo_devices::{PrintFault, PrinterUnit, Sink};
 
 /// Prints a line.
 pub fn print_line<K: Sink>(paper: K, line: &Line) -> (Option<Refusal>, K)
-    ensures { Prints (printing K.Sink paper) (printing K.Sink result.1) (line_text line.now) result.0 }
+    ensures { PrintsBytes (sink_told K.Sink paper) (sink_told K.Sink result.1) (line_text line.now) result.0 }
 {
     let mut unit = PrinterUnit::new(paper);
     let printed = unit.print(line);
@@ -23,7 +23,7 @@ pub fn print_line<K: Sink>(paper: K, line: &Line) -> (Option<Refusal>, K)
 
 /// Prints lines, up to the first that is refused.
 pub fn print_all<K: Sink>(paper: K, lines: &[Line]) -> (Option<Refusal>, K)
-    ensures { Prints (printing K.Sink paper) (printing K.Sink result.1) (text lines.now) result.0 }
+    ensures { PrintsBytes (sink_told K.Sink paper) (sink_told K.Sink result.1) (text lines.now) result.0 }
 {
     let mut unit = PrinterUnit::new(paper);
     let printed = print_lines(&mut unit, lines);

@@ -9,9 +9,9 @@ ghost use Rattle.time_net.specs.TimeStands.{IsTimesCause};
 ghost use Rattle.time_net.specs.TimesRuns.{fault_told};
 ghost use Rattle.solo_cli.specs.Answers.{Answers};
 ghost use Rattle.solo_cli.specs.CountsLine.{counts_line};
-ghost use Rattle.solo_cli.specs.Devices.{told_of};
+ghost use Rattle.solo_cli.specs.Devices.{kit_of};
 ghost use Rattle.solo_cli.specs.Does.{RunsTimes};
-ghost use Rattle.solo_cli.specs.Ready.{IsReady};
+ghost use Rattle.solo_cli.specs.Ready.{MayBeGiven};
 ghost use Rattle.solo_cli.specs.Refusals.{MayBeRefused, OfFault};
 ghost use Rattle.solo_cli.specs.TimesConsole.{GainsTimes};
 ghost use Rattle.solo_cli.specs.Uses.{uses};
@@ -32,13 +32,13 @@ pub fn times<S: Source, Y: Source, K: Sink, T: Sink, F: Area, I: Area, O: Area>(
     schedule: u32,
     devices: Devices<S, Y, K, T, F, I, O>,
 ) -> Done<S, Y, K, T, F, I, O>
-    requires { IsReady (told_of S.Source Y.Source K.Sink T.Sink F.Area I.Area O.Area devices) }
-    ensures times { RunsTimes schedule (told_of S.Source Y.Source K.Sink T.Sink F.Area I.Area O.Area devices)
-        (told_of S.Source Y.Source K.Sink T.Sink F.Area I.Area O.Area result.devices) result.cause }
+    requires { MayBeGiven (kit_of S.Source Y.Source K.Sink T.Sink F.Area I.Area O.Area devices) }
+    ensures times { RunsTimes schedule (kit_of S.Source Y.Source K.Sink T.Sink F.Area I.Area O.Area devices)
+        (kit_of S.Source Y.Source K.Sink T.Sink F.Area I.Area O.Area result.devices) result.cause }
     ensures answers { Answers (uses (Some (Command.Times schedule)))
         (MayBeRefused (Some (Command.Times schedule)))
-        (told_of S.Source Y.Source K.Sink T.Sink F.Area I.Area O.Area devices)
-        (told_of S.Source Y.Source K.Sink T.Sink F.Area I.Area O.Area result.devices) result.cause }
+        (kit_of S.Source Y.Source K.Sink T.Sink F.Area I.Area O.Area devices)
+        (kit_of S.Source Y.Source K.Sink T.Sink F.Area I.Area O.Area result.devices) result.cause }
 {
     let Devices {
         deck,

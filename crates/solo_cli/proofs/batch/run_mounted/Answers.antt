@@ -5,7 +5,7 @@ use Rattle.deck_work.specs.DeckJobs.{one_thread_is}
 use Rattle.solo_devices.specs.Count.{Rose}
 use Rattle.solo_devices.specs.CardUnit.{bytes_total, items_ahead}
 use Rattle.solo_cli.specs.Decides.{Nothing}
-use Rattle.solo_cli.specs.Devices.{printing, reading, storing}
+use Rattle.solo_cli.specs.Devices.{sink_told, source_told, area_told}
 use Rattle.solo_cli.proofs.Adding.{gains-same}
 use Rattle.solo_cli.proofs.DeckRan.{batch-lacks, batch-ran}
 use Rattle.solo_cli.proofs.LowestCause.{lowest-decides}
@@ -49,10 +49,10 @@ returns-in-Err-clause-ran g c =
     let paper = ap (λ units. units.paper.sink) back ∙ ap (λ unit. unit.sink) c.new-2.ensures in
     rw (c.given_back.ensures.devices, c.given_back.ensures.cause)
     (batch-lacks refl record {
-      deck = ap (reading g.S.Source) deck;
-      paper = ap (printing g.K.Sink) paper;
-      input = ap (λ units. storing g.I.Area units.input) back;
-      output = ap (λ units. storing g.O.Area units.output) back;
+      deck = ap (source_told g.S.Source) deck;
+      paper = ap (sink_told g.K.Sink) paper;
+      input = ap (λ units. area_told g.I.Area units.input) back;
+      output = ap (λ units. area_told g.O.Area units.output) back;
     } refl refl (c.given_back.ensures.size ∙ sym c.requires.ready.files) c.requires.ready.deck)
 
 pub returns-in-Err-clause-left : goal.returns-in-Err-clause-left

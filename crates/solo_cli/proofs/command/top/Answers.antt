@@ -1,8 +1,8 @@
 use Rattle.std.proofs.Common.{◌≡◌, Some, map, refl, sym, ◌∙◌, subst}
 use Rattle.std.specs.Prelude.{string_bytes}
 use Rattle.solo_cli.specs.Answers.{Answers, NothingFails}
-use Rattle.solo_cli.specs.Devices.{told, told_by, told_of}
-use Rattle.solo_cli.specs.Does.{Does}
+use Rattle.solo_cli.specs.Devices.{kit, kit_after, kit_of}
+use Rattle.solo_cli.specs.Does.{DoesItsWork}
 use Rattle.solo_cli.specs.Refusals.{MayBeRefused}
 use Rattle.solo_cli.specs.Uses.{uses}
 use Rattle.solo_cli.specs.Words.{HasNumber, asked}
@@ -20,9 +20,9 @@ pub returns-clause-output : goal.returns-clause-output
 returns-clause-output g c = λ bytes found is told_left files input output.
     let a = c.args in
     let done = c.run.result in
-    let before = told g.S.Source g.Y.Source g.K.Sink g.T.Sink g.F.Area g.I.Area g.O.Area a.deck a.keys a.paper a.console a.files a.input a.output in
-    let after = told_of g.S.Source g.Y.Source g.K.Sink g.T.Sink g.F.Area g.I.Area g.O.Area done.devices in
-    let does = subst (λ asked. Does asked before after done.cause) (c.command_of.ensures ∙ is) c.run.ensures.does in
+    let before = kit g.S.Source g.Y.Source g.K.Sink g.T.Sink g.F.Area g.I.Area g.O.Area a.deck a.keys a.paper a.console a.files a.input a.output in
+    let after = kit_of g.S.Source g.Y.Source g.K.Sink g.T.Sink g.F.Area g.I.Area g.O.Area done.devices in
+    let does = subst (λ asked. DoesItsWork asked before after done.cause) (c.command_of.ensures ∙ is) c.run.ensures.does in
     rw c.finish.ensures
     (gains-same _ _ _ _ _ _ _ _ refl refl refl (λ zero. no_cause done.cause zero)
     (does.0.prints bytes found told_left files record { input = input; output = output }))
@@ -31,16 +31,16 @@ pub returns-clause-does : goal.returns-clause-does
 returns-clause-does g c =
     let a = c.args in
     let done = c.run.result in
-    let before = told g.S.Source g.Y.Source g.K.Sink g.T.Sink g.F.Area g.I.Area g.O.Area a.deck a.keys a.paper a.console a.files a.input a.output in
-    let after = told_of g.S.Source g.Y.Source g.K.Sink g.T.Sink g.F.Area g.I.Area g.O.Area done.devices in
-    rw c.finish.ensures (subst (λ asked. Does asked before after done.cause) c.command_of.ensures c.run.ensures.does)
+    let before = kit g.S.Source g.Y.Source g.K.Sink g.T.Sink g.F.Area g.I.Area g.O.Area a.deck a.keys a.paper a.console a.files a.input a.output in
+    let after = kit_of g.S.Source g.Y.Source g.K.Sink g.T.Sink g.F.Area g.I.Area g.O.Area done.devices in
+    rw c.finish.ensures (subst (λ asked. DoesItsWork asked before after done.cause) c.command_of.ensures c.run.ensures.does)
 
 pub returns-clause-answers : goal.returns-clause-answers
 returns-clause-answers g c =
     let a = c.args in
     let done = c.run.result in
-    let before = told g.S.Source g.Y.Source g.K.Sink g.T.Sink g.F.Area g.I.Area g.O.Area a.deck a.keys a.paper a.console a.files a.input a.output in
-    let after = told_of g.S.Source g.Y.Source g.K.Sink g.T.Sink g.F.Area g.I.Area g.O.Area done.devices in
+    let before = kit g.S.Source g.Y.Source g.K.Sink g.T.Sink g.F.Area g.I.Area g.O.Area a.deck a.keys a.paper a.console a.files a.input a.output in
+    let after = kit_of g.S.Source g.Y.Source g.K.Sink g.T.Sink g.F.Area g.I.Area g.O.Area done.devices in
     rw c.finish.ensures
     (subst (λ asked. Answers (uses asked) (MayBeRefused asked) before after done.cause) c.command_of.ensures c.run.ensures.answers)
 
@@ -48,23 +48,23 @@ pub returns-clause-usage : goal.returns-clause-usage
 returns-clause-usage g c =
     let a = c.args in
     let done = c.run.result in
-    let before = told g.S.Source g.Y.Source g.K.Sink g.T.Sink g.F.Area g.I.Area g.O.Area a.deck a.keys a.paper a.console a.files a.input a.output in
-    let after = told_of g.S.Source g.Y.Source g.K.Sink g.T.Sink g.F.Area g.I.Area g.O.Area done.devices in
+    let before = kit g.S.Source g.Y.Source g.K.Sink g.T.Sink g.F.Area g.I.Area g.O.Area a.deck a.keys a.paper a.console a.files a.input a.output in
+    let after = kit_of g.S.Source g.Y.Source g.K.Sink g.T.Sink g.F.Area g.I.Area g.O.Area done.devices in
     rw c.finish.ensures
     (usage {before = before} {after = after} (asked a.words.now) done.cause
-    (subst (λ asked. Does asked before after done.cause) c.command_of.ensures c.run.ensures.does)
+    (subst (λ asked. DoesItsWork asked before after done.cause) c.command_of.ensures c.run.ensures.does)
     (subst (λ asked. Answers (uses asked) (MayBeRefused asked) before after done.cause) c.command_of.ensures c.run.ensures.answers))
 
 pub returns-clause-complete : goal.returns-clause-complete
 returns-clause-complete g c = λ some nothing.
     let a = c.args in
     let done = c.run.result in
-    let before = told g.S.Source g.Y.Source g.K.Sink g.T.Sink g.F.Area g.I.Area g.O.Area a.deck a.keys a.paper a.console a.files a.input a.output in
-    let after = told_of g.S.Source g.Y.Source g.K.Sink g.T.Sink g.F.Area g.I.Area g.O.Area done.devices in
+    let before = kit g.S.Source g.Y.Source g.K.Sink g.T.Sink g.F.Area g.I.Area g.O.Area a.deck a.keys a.paper a.console a.files a.input a.output in
+    let after = kit_of g.S.Source g.Y.Source g.K.Sink g.T.Sink g.F.Area g.I.Area g.O.Area done.devices in
     rw c.finish.ensures
     (completes {before = before} {after = after} (asked a.words.now) done.cause some
     (subst (λ finished. NothingFails (asked a.words.now) before
-    (told_by g.S.Source g.Y.Source g.K.Sink g.T.Sink g.F.Area g.I.Area g.O.Area finished)) c.finish.ensures nothing)
+    (kit_after g.S.Source g.Y.Source g.K.Sink g.T.Sink g.F.Area g.I.Area g.O.Area finished)) c.finish.ensures nothing)
     record {
       deck = c.requires.deck;
       keys = c.requires.keys;
@@ -72,7 +72,7 @@ returns-clause-complete g c = λ some nothing.
       input = c.requires.input;
       output = c.requires.output;
     }
-    (subst (λ asked. Does asked before after done.cause) c.command_of.ensures c.run.ensures.does)
+    (subst (λ asked. DoesItsWork asked before after done.cause) c.command_of.ensures c.run.ensures.does)
     (subst (λ asked. Answers (uses asked) (MayBeRefused asked) before after done.cause) c.command_of.ensures c.run.ensures.answers))
 
 pub returns-clause-files_size : goal.returns-clause-files_size

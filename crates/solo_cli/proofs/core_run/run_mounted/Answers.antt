@@ -11,9 +11,9 @@ use Rattle.solo_cli.specs.Decides.{LineBehind, decides, list_of}
 use Rattle.solo_cli.specs.Answers.{AsRun}
 use Rattle.solo_cli.specs.Causes.{IsRunCause}
 use Rattle.solo_cli.specs.CountsLine.{counts_line}
-use Rattle.solo_cli.specs.DeckRuns.{RunsCore, spools_of}
-use Rattle.solo_cli.specs.Devices.{printing, told, told_of}
-use Rattle.solo_cli.specs.Printing.{Prints}
+use Rattle.solo_cli.specs.DeckRuns.{RunsCore, spools_told}
+use Rattle.solo_cli.specs.Devices.{sink_told, kit, kit_of}
+use Rattle.solo_cli.specs.Printing.{PrintsBytes}
 use Rattle.solo_cli.specs.Uses.{deck_used}
 use Rattle.solo_cli.proofs.DeckRan.{core-done, core-failed}
 use Rattle.solo_cli.proofs.Adding.{gains-same}
@@ -30,8 +30,9 @@ returns-in-Some-clause-ran g c =
     let source = g.S.Source in
     let sink = g.K.Sink in
     let sized = c.came_to-done.ensures.size ∙ sym c.requires.ready.files in
-    let before = told g.S.Source g.Y.Source g.K.Sink g.T.Sink g.F.Area g.I.Area g.O.Area d.deck d.keys d.paper d.console d.files.area d.input d.output in
-    let after = told g.S.Source g.Y.Source g.K.Sink g.T.Sink g.F.Area g.I.Area g.O.Area ran.units.deck.source d.keys ran.units.paper.sink d.console ran.units.files.files.area ran.units.input ran.units.output in
+    let before = kit g.S.Source g.Y.Source g.K.Sink g.T.Sink g.F.Area g.I.Area g.O.Area d.deck d.keys d.paper d.console d.files.area d.input d.output in
+    let after = kit g.S.Source g.Y.Source g.K.Sink g.T.Sink g.F.Area g.I.Area g.O.Area
+    ran.units.deck.source d.keys ran.units.paper.sink d.console ran.units.files.files.area ran.units.input ran.units.output in
     rw (c.came_to-done.ensures.devices, c.came_to-done.ensures.decided)
     (core-failed c.args.schedule c.requires.ready record {
       ends = record {
@@ -49,7 +50,7 @@ returns-in-Some-clause-ran g c =
       counts = c.run_core-ran.result.1;
       devices = _;
       runs = subst (λ unit. RunsToEnd deck_jobs (Numbered c.args.schedule)
-          (opened (spools_of before) (items_ahead (source.left unit.source) unit.pending) (sink.given d.paper)
+          (opened (spools_told before) (items_ahead (source.left unit.source) unit.pending) (sink.given d.paper)
           (files_found before.files.pages)) c.run_core-ran.result.1 ran.outcomes ran.stopped_by
           record {
             deck = items_ahead (source.left ran.units.deck.source) ran.units.deck.pending;
@@ -57,14 +58,15 @@ returns-in-Some-clause-ran g c =
             files = files_found (g.F.Area.pages ran.units.files.files.area);
           }) c.new.ensures
           (subst (λ unit. RunsToEnd deck_jobs (Numbered c.args.schedule)
-          (opened (spools_of before) (items_ahead (source.left c.new.result.source) c.new.result.pending) (sink.given unit.sink)
+          (opened (spools_told before) (items_ahead (source.left c.new.result.source) c.new.result.pending) (sink.given unit.sink)
           (files_found before.files.pages)) c.run_core-ran.result.1 ran.outcomes ran.stopped_by
           record {
             deck = items_ahead (source.left ran.units.deck.source) ran.units.deck.pending;
             paper = sink.given ran.units.paper.sink;
             files = files_found (g.F.Area.pages ran.units.files.files.area);
           }) c.new-2.ensures e.runs);
-    } (λ input output. e.undamaged record { input = input; output = output }) (e.total ∙ ap (λ unit. bytes_total (source.taken unit.source) (source.left unit.source)) c.new.ensures)
+    } (λ input output. e.undamaged record { input = input; output = output })
+    (e.total ∙ ap (λ unit. bytes_total (source.taken unit.source) (source.left unit.source)) c.new.ensures)
     record { deck = tt; keys = refl; paper = tt; console = refl; files = tt; input = tt; output = tt } sized e.all_taken
     (λ none. (let no : Some c.in-Some.field-0 ≡ None = sym c.in-Some.is ∙ c.came_to-done.ensures.decided ∙ none in cc))
     (λ bytes found told files spools.
@@ -90,15 +92,15 @@ returns-in-None-clause-ran g c =
     let sized = c.came_to-done.ensures.size ∙ sym c.requires.ready.files in
     let stays = c.with_counts.ensures.stays
     ∙ ap (λ devices. record devices { paper = last.devices.paper }) c.came_to-done.ensures.devices in
-    let before = told g.S.Source g.Y.Source g.K.Sink g.T.Sink g.F.Area g.I.Area g.O.Area d.deck d.keys d.paper d.console d.files.area d.input d.output in
-    let after = told g.S.Source g.Y.Source g.K.Sink g.T.Sink g.F.Area g.I.Area g.O.Area
+    let before = kit g.S.Source g.Y.Source g.K.Sink g.T.Sink g.F.Area g.I.Area g.O.Area d.deck d.keys d.paper d.console d.files.area d.input d.output in
+    let after = kit g.S.Source g.Y.Source g.K.Sink g.T.Sink g.F.Area g.I.Area g.O.Area
     ran.units.deck.source d.keys last.devices.paper d.console ran.units.files.files.area ran.units.input ran.units.output in
-    let p = subst (λ devices. Prints (printing g.K.Sink devices.paper) (printing g.K.Sink last.devices.paper)
+    let p = subst (λ devices. PrintsBytes (sink_told g.K.Sink devices.paper) (sink_told g.K.Sink last.devices.paper)
     (line_text (counts_line counts.events counts.delays counts.grants)) last.cause) c.came_to-done.ensures.devices c.with_counts.ensures.prints in
     let on = subst (λ unit. sink.faults unit.sink ≤ sink.faults ran.units.paper.sink) c.new-2.ensures e.counted.print_on in
     let counts_on = p.counts in
     subst (λ devices. AsRun (RunsCore c.args.schedule) deck_used IsRunCause before
-    (told_of g.S.Source g.Y.Source g.K.Sink g.T.Sink g.F.Area g.I.Area g.O.Area devices) last.cause) (sym stays)
+    (kit_of g.S.Source g.Y.Source g.K.Sink g.T.Sink g.F.Area g.I.Area g.O.Area devices) last.cause) (sym stays)
     (core-done {before = before} {after = after} {answer = last.cause} c.args.schedule c.requires.ready record {
       ends = record {
         five = comes-behind ran.outcomes ran.stopped_by e.together e.faults (LineBehind before after) last.cause none
@@ -118,7 +120,7 @@ returns-in-None-clause-ran g c =
       counts = counts;
       devices = _;
       runs = subst (λ unit. RunsToEnd deck_jobs (Numbered c.args.schedule)
-          (opened (spools_of before) (items_ahead (source.left unit.source) unit.pending) (sink.given d.paper)
+          (opened (spools_told before) (items_ahead (source.left unit.source) unit.pending) (sink.given d.paper)
           (files_found before.files.pages)) c.run_core-ran.result.1 ran.outcomes ran.stopped_by
           record {
             deck = items_ahead (source.left ran.units.deck.source) ran.units.deck.pending;
@@ -126,14 +128,15 @@ returns-in-None-clause-ran g c =
             files = files_found (g.F.Area.pages ran.units.files.files.area);
           }) c.new.ensures
           (subst (λ unit. RunsToEnd deck_jobs (Numbered c.args.schedule)
-          (opened (spools_of before) (items_ahead (source.left c.new.result.source) c.new.result.pending) (sink.given unit.sink)
+          (opened (spools_told before) (items_ahead (source.left c.new.result.source) c.new.result.pending) (sink.given unit.sink)
           (files_found before.files.pages)) c.run_core-ran.result.1 ran.outcomes ran.stopped_by
           record {
             deck = items_ahead (source.left ran.units.deck.source) ran.units.deck.pending;
             paper = sink.given ran.units.paper.sink;
             files = files_found (g.F.Area.pages ran.units.files.files.area);
           }) c.new-2.ensures e.runs);
-    } (λ input output. e.undamaged record { input = input; output = output }) (e.total ∙ ap (λ unit. bytes_total (source.taken unit.source) (source.left unit.source)) c.new.ensures)
+    } (λ input output. e.undamaged record { input = input; output = output })
+    (e.total ∙ ap (λ unit. bytes_total (source.taken unit.source) (source.left unit.source)) c.new.ensures)
     record { deck = tt; keys = refl; paper = tt; console = refl; files = tt; input = tt; output = tt } sized e.all_taken
     (g.K.Sink.given ran.units.paper.sink) done
     (λ bytes found told files spools.
