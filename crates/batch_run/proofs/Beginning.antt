@@ -17,7 +17,7 @@ use Rattle.batch_run.specs.Begun.{AreFresh, BeginsBy, fresh_seat, units_at}
 use Rattle.batch_run.specs.Cards.{CardRan, DeckRan}
 use Rattle.batch_run.specs.Lines.{PrinterRan, PaperRan}
 use Rattle.batch_run.specs.Desks.{DeskRan, at_desk}
-use Rattle.batch_run.specs.Files.{Loading, FilesRan}
+use Rattle.batch_run.specs.Files.{FileTells, FilesRan}
 use Rattle.batch_run.specs.Pages.{InputRan, JobRan, OutputRan, input_connected, job_connected, output_connected}
 use Rattle.batch_run.specs.Row.{RowBegins}
 
@@ -27,13 +27,14 @@ same≤ n = omega arith
 nothing-gained : (paper : Option (List ℕ)) (before : List ℕ) → paper ≡ Some before → paper ≡ Some (before ++ [])
 nothing-gained paper before e = e ∙ ap Some (sym (append-nil before))
 
--- the units that are made from are those at the gates
-pub same-units : {S K F A B : Type 0} (units : Units S K F A B) (gates : Gates A B) → gates.input.area ≡ units.input → gates.output.area ≡ units.output
-    → units_at gates units.deck units.paper units.files ≡ units
-same-units units gates a b = rw (a, b) refl
+-- the units with the areas that came back are those that were passed
+pub same-units : {S K F A B : Type 0} (units : Units S K F A B) (input : A) (output : B) → input ≡ units.input → output ≡ units.output
+    → record { deck = units.deck; paper = units.paper; files = units.files; input = input; output = output } ≡ units
+same-units units input output a b = rw (a, b) refl
 
 module _ {L : Type 0} (J : Jobs L) where
-  deck-begins : {S : Type 0} (left : S → Option (List ℕ)) (taken faults : S → ℕ) (deck : Held S) → deck.live ≡ true → DeckRan {L = L} left taken faults deck deck []
+  deck-begins : {S : Type 0} (left : S → Option (List ℕ)) (taken faults : S → ℕ) (deck : Held S) → deck.live ≡ true → DeckRan {L = L} left taken faults deck
+      deck []
   deck-begins left taken faults deck live = record {
     reads = λ items told. (items, told, refl, (λ e. absurd cc));
     all = λ e. absurd cc;
@@ -45,7 +46,8 @@ module _ {L : Type 0} (J : Jobs L) where
     live = λ none. live;
   }
 
-  paper-begins : {K : Type 0} (given : K → Option (List ℕ)) (faults : K → ℕ) (paper : Printing K) → paper.live ≡ true → PaperRan {L = L} given faults paper paper []
+  paper-begins : {K : Type 0} (given : K → Option (List ℕ)) (faults : K → ℕ) (paper : Printing K) → paper.live ≡ true → PaperRan {L = L} given faults paper
+      paper []
   paper-begins given faults paper live = record {
     prints = λ before told. ([], nothing-gained (given paper.sink) before told, ([], refl), (λ none. refl));
     untold = λ none. none;
@@ -54,7 +56,7 @@ module _ {L : Type 0} (J : Jobs L) where
     live = λ none. live;
   }
 
-  files-begin : {F : Type 0} (loader : Loading L F) (files : F) → loader.IsSound files → FilesRan {L = L} loader files files []
+  files-begin : {F : Type 0} (loader : FileTells L F) (files : F) → loader.IsSound files → FilesRan {L = L} loader files files []
   files-begin loader files sound = record {
     stay = refl;
     found_stay = refl;
@@ -77,7 +79,7 @@ module _ {L : Type 0} (J : Jobs L) where
   }
 
   module _ {S K F A B : Type 0} (left : S → Option (List ℕ)) (taken source_faults : S → ℕ) (given : K → Option (List ℕ)) (sink_faults : K → ℕ)
-      (loader : Loading L F) (from_size : A → ℕ) (to_size : B → ℕ) (gates : Gates A B) (ends : Ends A B)
+      (loader : FileTells L F) (from_size : A → ℕ) (to_size : B → ℕ) (gates : Gates A B) (ends : Ends A B)
       (deck : Held S) (paper : Printing K) (files : F) (row : Row S K F A B)
       (fresh : AreFresh (from_size gates.input.area) (to_size gates.output.area) gates ends) (begins : BeginsBy gates ends deck paper files row)
       (deck_live : deck.live ≡ true) (paper_live : paper.live ≡ true) (files_sound : loader.IsSound files) where
@@ -116,7 +118,11 @@ module _ {L : Type 0} (J : Jobs L) where
 
     output-begins : OutputRan {L = L} to_size (output_connected row.lines) (output_connected row.lines) []
     output-begins = record {
-      from_gate = (refl, ap (λ e. e.gate) (begins.output_from_end ∙ fresh.output_receiver) ∙ ap (λ g. known (to_size g.area) g) (sym begins.output_from_gate));
+      from_gate = (
+        refl,
+        ap (λ e. e.gate) (begins.output_from_end ∙ fresh.output_receiver) ∙ ap (λ g. known (to_size g.area) g)
+            (sym begins.output_from_gate),
+      );
       from_calls = ap (λ e. e.calls) (begins.output_from_end ∙ fresh.output_receiver);
       to_gate = (refl, ap (λ e. e.gate) (begins.output_to_end ∙ fresh.lines_sender) ∙ sym begins.output_to_gate);
       to_calls = ap (λ e. e.calls) (begins.output_to_end ∙ fresh.lines_sender);

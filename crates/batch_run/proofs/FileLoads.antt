@@ -1,5 +1,5 @@
 -- What files of which one more is loaded have become.
-use Rattle.std.proofs.Common.{◌≡◌, ◌≢◌, ◌≤◌, ℕ, true, List, [], ◌∷◌, map, Option, None, Some, refl, sym, ◌∙◌, ap, arith}
+use Rattle.std.proofs.Common.{◌≡◌, ◌≢◌, ◌≤◌, ℕ, List, [], ◌∷◌, map, Option, None, Some, refl, sym, ◌∙◌, ap, arith}
 use Rattle.solo_devices.specs.Count.{Rose}
 use Rattle.batch_procs.specs.declared.actions.Action.{Action}
 use Rattle.batch_procs.specs.declared.actions.Action.TheVariants as act
@@ -14,7 +14,7 @@ use Rattle.batch_procs.specs.Parts.{some-same}
 use Rattle.batch_procs.specs.Process.{Process, Follows}
 use Rattle.core_law.specs.FilesLoaded.{file_loaded, AreLoadedSo}
 use Rattle.core_law.proofs.Loading.{card-loads, lack-loads, loaded-more}
-use Rattle.batch_run.specs.Files.{Loading, AreLoadedAs, FilesRan}
+use Rattle.batch_run.specs.Files.{FileTells, AreLoadedAs, FilesRan}
 use Rattle.batch_run.proofs.Decks.{new-none, rose-later}
 use Rattle.batch_procs.specs.Jobs.{Jobs, FilesAs, AreJobs}
 
@@ -36,7 +36,7 @@ module _ {L : Type 0} {J : Jobs L} (jobs : AreJobs J) where
   none-failed : (file : List ℕ) (h : List (Entry L)) (r : Reply L) → given_cause (act.Load file) r h ≡ None → r ≢ reply.Failed
   none-failed file h r none is = (let e = ap (λ r. given_cause (act.Load file) r h) (sym is) ∙ none in cc)
 
-  module _ {F : Type 0} {loader : Loading L F} (start old new : F) (h : List (Entry L)) (file : List ℕ) (r : Reply L) where
+  module _ {F : Type 0} {loader : FileTells L F} (start old new : F) (h : List (Entry L)) (file : List ℕ) (r : Reply L) where
     pub file-loaded : FilesRan loader start old h → AnswersLoad J (loader.found old) file r
         → (r ≡ reply.Failed → Rose (loader.faults old) (loader.faults new)) → loader.faults old ≤ loader.faults new
         → loader.found new ≡ loader.found old → loader.pages new ≡ loader.pages old → (r ≢ reply.Failed → loader.IsSound new)

@@ -9,4 +9,5 @@ pub mod Given
 pub mod Devices
 pub mod Beginning
 pub mod Ending
+pub mod BatchRuns
 pub mod Promise

@@ -156,7 +156,8 @@ module _ {L : Type 0} {J : Jobs L} (jobs : AreJobs J) where
   spool-stop-puts side true = refl
   spool-stop-puts side false = refl
 
-  spool-puts : (b : ℕ) (a : Action) (r : Reply L) → PutsPages a → Fits J a r → map (page_parcel {L = L}) (pages.sent_of (spool_call Sender b a r)) ≡ put_by a r
+  spool-puts : (b : ℕ) (a : Action) (r : Reply L) → PutsPages a → Fits J a r → map (page_parcel {L = L}) (pages.sent_of (spool_call Sender b a r)) ≡ put_by a
+      r
   spool-puts b (act.PutPage page) reply.Done is fits = refl
   spool-puts b (act.PutPage page) reply.Failed is fits = refl
   spool-puts b (act.PutPage page) r is fits = absurd fits

@@ -15,7 +15,8 @@ DoesOnly {L} J p does = (h : List (Entry L)) (a : Action) → Follows J p h → 
     → does a
 
 -- The process has a history that its connections stand for, behind which it makes this action.
-pub record Comes {L : Type 0} (J : Jobs L) (p : Process L) (Stands : List (Entry L) → Type 0) (a : Action) : Type 0 where
+pub record Comes {L : Type 0} (J : Jobs L) (p : Process L) (Stands : List (Entry L) → Type 0) (a : Action) :
+    Type 0 where
   pub history : List (Entry L)
   pub stands : Stands history
   pub follows : Follows J p history
@@ -29,14 +30,16 @@ pub record Performed {L : Type 0} (Stands : List (Entry L) → Type 0) (a : Acti
   pub lacks : MayLack a r → Stands (LacksMemory a r ∷ before)
 
 -- Behind every history that the connections stood for.
-abbrev pub Performs : {L : Type 0} → Jobs L → Process L → (List (Entry L) → Type 0) → (List (Entry L) → Type 0)
+abbrev pub Performs : {L : Type 0} → Jobs L → Process L → (List (Entry L) → Type 0) →
+    (List (Entry L) → Type 0)
     → Action → Reply L → Type 0
 Performs {L} J p Stood Stands a r = (h : List (Entry L)) → Stood h → Follows J p h
     → next_action p h ≡ Some a
     → Performed Stands a r h
 
 -- The process did what its history asks for, and ended so.
-pub record EndsSo {L : Type 0} (J : Jobs L) (p : Process L) (Stands : List (Entry L) → Type 0) (how : Outcome) : Type 0 where
+pub record EndsSo {L : Type 0} (J : Jobs L) (p : Process L) (Stands : List (Entry L) → Type 0) (how : Outcome)
+    : Type 0 where
   pub history : List (Entry L)
   pub stands : Stands history
   pub follows : Follows J p history

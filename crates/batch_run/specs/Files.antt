@@ -10,14 +10,14 @@ use Rattle.batch_procs.specs.Jobs.{FilesAs}
 
 -- What loads the files: what it says each is loaded as, the pages that it loads from, where it tells them,
 -- how often a load failed, and whether it may load.
-pub record Loading (L F : Type 0) : Type 1 where
+pub record FileTells (L F : Type 0) : Type 1 where
   pub found : F → Option (FilesAs L)
   pub pages : F → Option (List (List ℕ))
   pub faults : F → ℕ
   pub IsSound : F → Type 0
 
 abbrev pub loading : {L F : Type 0} → (F → Option (FilesAs L)) → (F → Option (List (List ℕ))) → (F → ℕ)
-    → (F → Type 0) → Loading L F
+    → (F → Type 0) → FileTells L F
 loading found pages faults IsSound =
     record { found = found; pages = pages; faults = faults; IsSound = IsSound }
 
@@ -39,7 +39,7 @@ newest_load (Delays action ∷ h) = newest_load h
 
 -- By what they were at first: no page changed, and told files were loaded as they stand there. A failure was
 -- counted.
-pub record FilesRan {L F : Type 0} (files : Loading L F) (start now : F) (h : List (Entry L)) : Type 0 where
+pub record FilesRan {L F : Type 0} (files : FileTells L F) (start now : F) (h : List (Entry L)) : Type 0 where
   pub stay : files.pages now ≡ files.pages start
   pub found_stay : files.found now ≡ files.found start
   pub loads : (found : FilesAs L) → files.found start ≡ Some found → AreLoadedAs found h

@@ -1,5 +1,5 @@
--- What the five did, by five histories: each did what its history asks for, their calls at the buffers between
--- them have met, and the devices have become what they are by these.
+-- What the five did, by five histories: each did what its history asks for, their calls at the buffers have met,
+-- and the devices have become what they are by these.
 use Rattle.std.specs.Prelude.{◌≡◌, ◌==◌, ℕ, if◌then◌else◌, List, [], ◌∷◌, Option, Some}
 use Rattle.solo_base.specs.declared.item.Feed.{Feed}
 use Rattle.solo_base.specs.declared.outcome.Outcome.{Outcome}
@@ -21,7 +21,7 @@ use Rattle.batch_ends.specs.declared.units.Units.{Units}
 use Rattle.batch_ends.specs.Ended.{outcome_at, stopped_at}
 use Rattle.batch_run.specs.Calls.{line_calls, spool_calls}
 use Rattle.batch_run.specs.Cards.{DeckRan}
-use Rattle.batch_run.specs.Files.{Loading, FilesRan}
+use Rattle.batch_run.specs.Files.{FileTells, FilesRan}
 use Rattle.batch_run.specs.Lines.{PaperRan}
 
 -- Each history follows its process. At each buffer the calls of both sides have met: what was taken and what
@@ -77,8 +77,9 @@ pub record EndedSo {L : Type 0} (p : Process L) (h : List (Entry L)) (how : Outc
   pub all : how ≡ outcome.Done → sent h ≡ p.sends (taken h)
 
 -- How a batch ran over these units.
-pub record BatchRan {L S K F A B : Type 0} (J : Jobs L) (left : S → Option (List ℕ)) (taken source_faults : S → ℕ)
-    (given : K → Option (List ℕ)) (sink_faults : K → ℕ) (loader : Loading L F)
+pub record BatchRan {L S K F A B : Type 0} (J : Jobs L) (left : S → Option (List ℕ))
+    (taken source_faults : S → ℕ)
+    (given : K → Option (List ℕ)) (sink_faults : K → ℕ) (loader : FileTells L F)
     (input_told : A → Option (List (List ℕ))) (input_faults : A → ℕ)
     (output_told : B → Option (List (List ℕ))) (output_faults : B → ℕ)
     (units : Units S K F A B) (ran : Ran S K F A B) : Type 0 where

@@ -13,7 +13,7 @@ use Rattle.batch_run.specs.declared.output_connections.OutputConnections.{Output
 use Rattle.batch_run.specs.declared.output_connections.OutputEnds.{OutputEnds}
 use Rattle.batch_run.specs.Calls.{line_calls, spool_calls}
 use Rattle.batch_run.specs.Desks.{DeskRan, at_desk}
-use Rattle.batch_run.specs.Files.{Loading, FilesRan}
+use Rattle.batch_run.specs.Files.{FileTells, FilesRan}
 
 -- ---- their actions
 abbrev pub does_input : Action → Type 0
@@ -59,7 +59,7 @@ pub record InputRan {L A : Type 0} (size : A → ℕ) (start now : InputConnecti
   pub to_calls : now.pages.calls ≡ spool_calls Sender 2 h
   pub desk : DeskRan start.desk now.desk h
 
-pub record JobRan {L F A B : Type 0} (loader : Loading L F) (from_size : A → ℕ) (to_size : B → ℕ)
+pub record JobRan {L F A B : Type 0} (loader : FileTells L F) (from_size : A → ℕ) (to_size : B → ℕ)
     (start now : JobConnections F A B) (h : List (Entry L)) : Type 0 where
   pub from_gate : (start.cards_gate.now ≡ now.cards_gate.now)
       × (now.cards.gate ≡ known (from_size now.cards_gate.now.area) now.cards_gate.now)

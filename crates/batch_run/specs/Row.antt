@@ -12,7 +12,7 @@ use Rattle.batch_run.specs.declared.row.Row.{Row}
 use Rattle.batch_run.specs.declared.row.RowEnded.{RowEnded}
 use Rattle.batch_run.specs.Connections.{EndsSo}
 use Rattle.batch_run.specs.Cards.{CardRan}
-use Rattle.batch_run.specs.Files.{Loading}
+use Rattle.batch_run.specs.Files.{FileTells}
 use Rattle.batch_run.specs.Lines.{PrinterRan}
 use Rattle.batch_run.specs.Pages.{InputRan, JobRan, OutputRan, input_connected, job_connected, output_connected}
 
@@ -29,12 +29,14 @@ abbrev pub CardsCame : {L S : Type 0} → Jobs L → (S → Option (List ℕ)) �
 CardsCame J left taken faults start here all cards ended =
     Came start here all (EndsSo J card (CardRan left taken faults cards ended.0) ended.1) (ended.0 ≡ cards)
 
-abbrev pub PagesCame : {L A : Type 0} → Jobs L → (A → ℕ) → ℕ → ℕ → Bool → InputEnds A → (InputEnds A × Outcome) → Type 0
+abbrev pub PagesCame : {L A : Type 0} → Jobs L → (A → ℕ) → ℕ → ℕ → Bool → InputEnds A →
+    (InputEnds A × Outcome) → Type 0
 PagesCame J size start here all pages ended =
     Came start here all
-    (EndsSo J input (InputRan size (input_connected pages) (input_connected ended.0)) ended.1) (ended.0 ≡ pages)
+    (EndsSo J input (InputRan size (input_connected pages) (input_connected ended.0)) ended.1)
+    (ended.0 ≡ pages)
 
-abbrev pub JobsCame : {L F A B : Type 0} → Jobs L → Loading L F → (A → ℕ) → (B → ℕ) → ℕ → ℕ → Bool
+abbrev pub JobsCame : {L F A B : Type 0} → Jobs L → FileTells L F → (A → ℕ) → (B → ℕ) → ℕ → ℕ → Bool
     → JobEnds F A B → (JobEnds F A B × Outcome) → Type 0
 JobsCame J loader from_size to_size start here all jobs ended =
     Came start here all
@@ -55,21 +57,22 @@ PaperCame J given faults start here all paper ended =
     Came start here all (EndsSo J printer (PrinterRan given faults paper ended.0) ended.1) (ended.0 ≡ paper)
 
 -- ---- side by side
-module _ {L S A : Type 0} (J : Jobs L) (left : S → Option (List ℕ)) (taken faults : S → ℕ) (size : A → ℕ) where
-  pub record FrontBegins (cards : CardConnections S) (pages : InputEnds A) : Type 0 where
-    pub cards_begin : CardRan {L = L} left taken faults cards cards []
-    pub pages_begin : InputRan {L = L} size (input_connected pages) (input_connected pages) []
+module _ {L S A : Type 0} (J : Jobs L) (left : S → Option (List ℕ)) (taken faults : S → ℕ) (size : A → ℕ)
+  where
+    pub record FrontBegins (cards : CardConnections S) (pages : InputEnds A) : Type 0 where
+      pub cards_begin : CardRan {L = L} left taken faults cards cards []
+      pub pages_begin : InputRan {L = L} size (input_connected pages) (input_connected pages) []
 
-  pub record FrontRan (cards : CardConnections S) (pages : InputEnds A)
-      (ended : (CardConnections S × Outcome) × (InputEnds A × Outcome)) : Type 0 where
-    pub cards_ended : EndsSo J card (CardRan left taken faults cards ended.0.0) ended.0.1
-    pub pages_ended : EndsSo J input
-        (InputRan size (input_connected pages) (input_connected ended.1.0)) ended.1.1
+    pub record FrontRan (cards : CardConnections S) (pages : InputEnds A)
+        (ended : (CardConnections S × Outcome) × (InputEnds A × Outcome)) : Type 0 where
+      pub cards_ended : EndsSo J card (CardRan left taken faults cards ended.0.0) ended.0.1
+      pub pages_ended : EndsSo J input
+          (InputRan size (input_connected pages) (input_connected ended.1.0)) ended.1.1
 
-  abbrev pub FrontCame : ℕ → ℕ → Bool → CardConnections S → InputEnds A
-      → ((CardConnections S × Outcome) × (InputEnds A × Outcome)) → Type 0
-  FrontCame start here all cards pages ended =
-      Came start here all (FrontRan cards pages ended) ((ended.0.0 ≡ cards) × (ended.1.0 ≡ pages))
+    abbrev pub FrontCame : ℕ → ℕ → Bool → CardConnections S → InputEnds A
+        → ((CardConnections S × Outcome) × (InputEnds A × Outcome)) → Type 0
+    FrontCame start here all cards pages ended =
+        Came start here all (FrontRan cards pages ended) ((ended.0.0 ≡ cards) × (ended.1.0 ≡ pages))
 
 module _ {L K B : Type 0} (J : Jobs L) (given : K → Option (List ℕ)) (faults : K → ℕ) (size : B → ℕ) where
   pub record BackBegins (lines : OutputEnds B) (paper : PrinterConnections K) : Type 0 where
@@ -88,7 +91,7 @@ module _ {L K B : Type 0} (J : Jobs L) (given : K → Option (List ℕ)) (faults
       Came start here all (BackRan lines paper ended) ((ended.0.0 ≡ lines) × (ended.1.0 ≡ paper))
 
 module _ {L K F A B : Type 0} (J : Jobs L) (given : K → Option (List ℕ)) (faults : K → ℕ)
-    (loader : Loading L F) (from_size : A → ℕ) (to_size : B → ℕ) where
+    (loader : FileTells L F) (from_size : A → ℕ) (to_size : B → ℕ) where
   pub record RestBegins (jobs : JobEnds F A B) (lines : OutputEnds B)
       (paper : PrinterConnections K) : Type 0 where
     pub jobs_begin : JobRan loader from_size to_size (job_connected jobs)
@@ -110,16 +113,18 @@ module _ {L K F A B : Type 0} (J : Jobs L) (given : K → Option (List ℕ)) (fa
       ((ended.0.0 ≡ jobs) × (ended.1.0.0 ≡ lines) × (ended.1.1.0 ≡ paper))
 
 -- The ends have had no call, no process has the disk, and the devices may be used.
-pub record RowBegins {L S K F A B : Type 0} (J : Jobs L) (left : S → Option (List ℕ)) (taken source_faults : S → ℕ)
-    (given : K → Option (List ℕ)) (sink_faults : K → ℕ) (loader : Loading L F)
+pub record RowBegins {L S K F A B : Type 0} (J : Jobs L) (left : S → Option (List ℕ))
+    (taken source_faults : S → ℕ)
+    (given : K → Option (List ℕ)) (sink_faults : K → ℕ) (loader : FileTells L F)
     (from_size : A → ℕ) (to_size : B → ℕ) (row : Row S K F A B) : Type 0 where
   pub front_begins : FrontBegins J left taken source_faults from_size row.cards row.pages
   pub rest_begins : RestBegins J given sink_faults loader from_size to_size
       row.jobs row.lines row.paper
 
 -- Each of the five did what its history asks for, over its own connections.
-pub record RowRan {L S K F A B : Type 0} (J : Jobs L) (left : S → Option (List ℕ)) (taken source_faults : S → ℕ)
-    (given : K → Option (List ℕ)) (sink_faults : K → ℕ) (loader : Loading L F)
+pub record RowRan {L S K F A B : Type 0} (J : Jobs L) (left : S → Option (List ℕ))
+    (taken source_faults : S → ℕ)
+    (given : K → Option (List ℕ)) (sink_faults : K → ℕ) (loader : FileTells L F)
     (from_size : A → ℕ) (to_size : B → ℕ) (row : Row S K F A B)
     (ended : RowEnded S K F A B) : Type 0 where
   pub front_ended : FrontRan J left taken source_faults from_size row.cards row.pages ended.front

@@ -1,5 +1,5 @@
 //! The batch: the five processes on threads, from the making of their buffers to the meeting of the ends.
-ghost use Rattle.std.specs.Prelude.{◌≡◌, ◌<◌, ◌≤◌, true, List, [], Some, IsSome, IfOk, IfErr};
+ghost use Rattle.std.specs.Prelude.{◌≡◌, ◌<◌, ◌≤◌, true, List, [], Some, IfOk, IfErr};
 ghost use Rattle.solo_base.specs.declared.item.Item.{Item};
 ghost use Rattle.solo_base.specs.Text.{text};
 ghost use Rattle.solo_base.specs.declared.outcome.Cause.TheVariants as cause;
@@ -107,9 +107,11 @@ where
     // The limit comes wherever too many bytes were taken, and all that the source had was taken or is left.
     ensures longer { IfOk result (λ ran. S.taken units.deck.source ≤ byte_limit →
         byte_limit < S.taken ran.units.deck.source → ran.outcomes.card ≡ outcome.Fault cause.DeckLimit) }
-    ensures total { IfOk result (λ ran. bytes_total (S.taken ran.units.deck.source) (S.left ran.units.deck.source)
+    ensures total { IfOk result (λ ran.
+        bytes_total (S.taken ran.units.deck.source) (S.left ran.units.deck.source)
         ≡ bytes_total (S.taken units.deck.source) (S.left units.deck.source)) }
 {
+    know_jobs::<J>();
     let Units {
         deck,
         paper,
@@ -166,29 +168,6 @@ where
     ensures ran { IfOk result (λ ran. BatchRan J.jobs S.left S.taken S.faults K.given K.faults
         (loading F.found F.pages F.faults F.sound) A.pages A.faults B.pages B.faults
         (units_at gates deck paper files) ran) }
-    ensures together { IfOk result (λ ran. EndTogether ran.outcomes ran.stopped_by) }
-    ensures faults { IfOk result (λ ran. FaultsAre ran.outcomes) }
-    ensures counted { IfOk result (λ ran. FaultsAreCounted ⟦<Units<S, K, F, A, B> as Peripherals<J>>⟧.counts
-        (units_at gates deck paper files) ran) }
-    ensures prints { IfOk result (λ ran. (items : List Item) (found : FilesAs J.Load) →
-        items_ahead (S.left deck.source) deck.pending ≡ Some items →
-        AreFound J.jobs (F.found files) found items →
-        IsSome (A.pages gates.input.area) → IsSome (B.pages gates.output.area) →
-        Gains (K.given paper.sink) (K.given ran.units.paper.sink)
-        (text (one_thread J.jobs items found)) (ran.outcomes ≡ all_done)) }
-    ensures reads { IfOk result (λ ran. (items : List Item) →
-        items_ahead (S.left deck.source) deck.pending ≡ Some items → ran.outcomes ≡ all_done →
-        items_ahead (S.left ran.units.deck.source) ran.units.deck.pending ≡ Some []) }
-    ensures undamaged { IfOk result (λ ran.
-        IsSome (A.pages gates.input.area) → IsSome (B.pages gates.output.area) →
-        NoneDamaged ran.outcomes) }
-    ensures all_taken { IfOk result (λ ran. ran.outcomes ≡ all_done →
-        IsAllTaken (S.left ran.units.deck.source)) }
-    ensures longer { IfOk result (λ ran. S.taken deck.source ≤ byte_limit →
-        byte_limit < S.taken ran.units.deck.source → ran.outcomes.card ≡ outcome.Fault cause.DeckLimit) }
-    ensures total { IfOk result (λ ran. bytes_total (S.taken ran.units.deck.source) (S.left ran.units.deck.source)
-        ≡ bytes_total (S.taken deck.source) (S.left deck.source)) }
-    ensures files { IfOk result (λ ran. F.pages ran.units.files ≡ F.pages files) }
 {
     know_jobs::<J>();
     match run_five::<J, S, K, F, A, B, R>(rt, alloc, gates.row(ends, deck, paper, files)) {

@@ -63,7 +63,8 @@ impl<'a, S: Source + Drop> CardConnections<'a, S> {
             × Comes J.jobs card (CardRan S.left S.taken S.faults start self.old) action }
         ensures fits { Fits J.jobs action result }
         ensures performs { (start : CardConnections S)
-            → Performs J.jobs card (CardRan S.left S.taken S.faults start self.old) (CardRan S.left S.taken S.faults start self.new) action result }
+            → Performs J.jobs card (CardRan S.left S.taken S.faults start self.old)
+            (CardRan S.left S.taken S.faults start self.new) action result }
     {
         match action {
             Action::ReadCard => {

@@ -61,10 +61,12 @@ impl<'a, A: Area + Send> InputConnections<'a, A> {
         rt: &R,
     ) -> Reply<J::Load>
         requires does { does_input action }
-        requires comes { (start : InputConnections A) × Comes J.jobs input (InputRan A.size start self.old) action }
+        requires comes { (start : InputConnections A)
+            × Comes J.jobs input (InputRan A.size start self.old) action }
         ensures fits { Fits J.jobs action result }
         ensures performs { (start : InputConnections A)
-            → Performs J.jobs input (InputRan A.size start self.old) (InputRan A.size start self.new) action result }
+            → Performs J.jobs input (InputRan A.size start self.old)
+            (InputRan A.size start self.new) action result }
     {
         match action {
             Action::TakeFeed => match self.cards.take(self.cards_gate, rt) {
@@ -111,7 +113,8 @@ impl<'a, A: Area + Send> InputEnds<'a, A> {
         alloc: Global,
     ) -> (InputEnds<'a, A>, Outcome)
         requires { InputRan {L = J.Load} A.size (input_connected self) (input_connected self) [] }
-        ensures { EndsSo J.jobs input (InputRan A.size (input_connected self.entry) (input_connected result.0)) result.1 }
+        ensures { EndsSo J.jobs input
+            (InputRan A.size (input_connected self.entry) (input_connected result.0)) result.1 }
     {
         let InputEnds {
             cards_gate,

@@ -45,8 +45,11 @@ impl<'a, F, A: Area + Send, B: Area + Send> JobConnections<'a, F, A, B> {
     fn run<J: JobWork, R: Threads + Wait + Sync>(&mut self, rt: &R, alloc: Global) -> Outcome
     where
         F: Loader<J>,
-        requires { JobRan {L = J.Load} (loading F.found F.pages F.faults F.sound) A.size B.size self.old self.old [] }
-        ensures { EndsSo J.jobs (job J.jobs) (JobRan (loading F.found F.pages F.faults F.sound) A.size B.size self.old self.new) result }
+        requires { JobRan {L = J.Load} (loading F.found F.pages F.faults F.sound)
+            A.size B.size self.old self.old [] }
+        ensures { EndsSo J.jobs (job J.jobs)
+            (JobRan (loading F.found F.pages F.faults F.sound) A.size B.size self.old self.new)
+            result }
     {
         run_to_end!(J, JobProcWork<J>, rt, alloc, |action| self.perform::<J, R>(action, rt, alloc))
     }
@@ -63,10 +66,13 @@ impl<'a, F, A: Area + Send, B: Area + Send> JobConnections<'a, F, A, B> {
         F: Loader<J>,
         requires does { does_job action }
         requires comes { (start : JobConnections F A B)
-            × Comes J.jobs (job J.jobs) (JobRan (loading F.found F.pages F.faults F.sound) A.size B.size start self.old) action }
+            × Comes J.jobs (job J.jobs)
+            (JobRan (loading F.found F.pages F.faults F.sound) A.size B.size start self.old)
+            action }
         ensures fits { Fits J.jobs action result }
         ensures performs { (start : JobConnections F A B)
-            → Performs J.jobs (job J.jobs) (JobRan (loading F.found F.pages F.faults F.sound) A.size B.size start self.old)
+            → Performs J.jobs (job J.jobs)
+            (JobRan (loading F.found F.pages F.faults F.sound) A.size B.size start self.old)
             (JobRan (loading F.found F.pages F.faults F.sound) A.size B.size start self.new) action result }
     {
         if let Action::Load(file) = &action {
@@ -128,9 +134,11 @@ impl<'a, F, A: Area + Send, B: Area + Send> JobEnds<'a, F, A, B> {
     ) -> (JobEnds<'a, F, A, B>, Outcome)
     where
         F: Loader<J>,
-        requires { JobRan {L = J.Load} (loading F.found F.pages F.faults F.sound) A.size B.size (job_connected self) (job_connected self) [] }
+        requires { JobRan {L = J.Load} (loading F.found F.pages F.faults F.sound) A.size B.size
+            (job_connected self) (job_connected self) [] }
         ensures { EndsSo J.jobs (job J.jobs)
-            (JobRan (loading F.found F.pages F.faults F.sound) A.size B.size (job_connected self.entry) (job_connected result.0))
+            (JobRan (loading F.found F.pages F.faults F.sound) A.size B.size
+            (job_connected self.entry) (job_connected result.0))
             result.1 }
     {
         let JobEnds {

@@ -65,7 +65,8 @@ impl<'a, B: Area + Send> OutputConnections<'a, B> {
             × Comes J.jobs output (OutputRan B.size start self.old) action }
         ensures fits { Fits J.jobs action result }
         ensures performs { (start : OutputConnections B)
-            → Performs J.jobs output (OutputRan B.size start self.old) (OutputRan B.size start self.new) action result }
+            → Performs J.jobs output (OutputRan B.size start self.old)
+            (OutputRan B.size start self.new) action result }
     {
         match action {
             Action::AwaitItem => match self.pages.await_item(self.pages_gate, rt) {
@@ -116,7 +117,8 @@ impl<'a, B: Area + Send> OutputEnds<'a, B> {
         alloc: Global,
     ) -> (OutputEnds<'a, B>, Outcome)
         requires { OutputRan {L = J.Load} B.size (output_connected self) (output_connected self) [] }
-        ensures { EndsSo J.jobs output (OutputRan B.size (output_connected self.entry) (output_connected result.0)) result.1 }
+        ensures { EndsSo J.jobs output
+            (OutputRan B.size (output_connected self.entry) (output_connected result.0)) result.1 }
     {
         let OutputEnds {
             pages_gate,

@@ -63,7 +63,8 @@ impl<'a, K: Sink + Drop> PrinterConnections<'a, K> {
             × Comes J.jobs printer (PrinterRan K.given K.faults start self.old) action }
         ensures fits { Fits J.jobs action result }
         ensures performs { (start : PrinterConnections K)
-            → Performs J.jobs printer (PrinterRan K.given K.faults start self.old) (PrinterRan K.given K.faults start self.new) action result }
+            → Performs J.jobs printer (PrinterRan K.given K.faults start self.old)
+            (PrinterRan K.given K.faults start self.new) action result }
     {
         match action {
             Action::TakeFeed => match self.lines.take(self.gate, rt) {

@@ -3,7 +3,8 @@ ghost use Rattle.std.specs.Prelude.{[]};
 ghost use Rattle.batch_run.specs.Cards.{CardRan};
 ghost use Rattle.batch_run.specs.Files.{loading};
 ghost use Rattle.batch_run.specs.Lines.{PrinterRan};
-ghost use Rattle.batch_run.specs.Pages.{InputRan, JobRan, OutputRan, input_connected, job_connected, output_connected};
+ghost use Rattle.batch_run.specs.Pages.{InputRan, JobRan, OutputRan};
+ghost use Rattle.batch_run.specs.Pages.{input_connected, job_connected, output_connected};
 ghost use Rattle.batch_run.specs.Row.{CardsCame, JobsCame, LinesCame, PagesCame, PaperCame};
 
 use crate::card_connections::CardConnections;
@@ -71,7 +72,8 @@ pub fn begin_jobs<
     start: &'s Start,
     jobs: JobEnds<'a, F, A, B>,
 ) -> (Ended<JobEnds<'a, F, A, B>>, Told<'s>)
-    requires { JobRan {L = J.Load} (loading F.found F.pages F.faults F.sound) A.size B.size (job_connected jobs) (job_connected jobs) [] }
+    requires { JobRan {L = J.Load} (loading F.found F.pages F.faults F.sound) A.size B.size
+        (job_connected jobs) (job_connected jobs) [] }
     ensures { JobsCame J.jobs (loading F.found F.pages F.faults F.sound) A.size B.size
         start.now.all.id result.1.of result.1.value jobs.entry result.0 }
 {

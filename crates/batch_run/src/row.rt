@@ -3,8 +3,11 @@ ghost use Rattle.std.specs.Prelude.{◌≡◌, [], IfOk, IfErr};
 ghost use Rattle.batch_run.specs.Cards.{CardRan};
 ghost use Rattle.batch_run.specs.Files.{loading};
 ghost use Rattle.batch_run.specs.Lines.{PrinterRan};
-ghost use Rattle.batch_run.specs.Row.{BackBegins, BackCame, BackRan, CardsCame, FrontBegins, FrontCame, FrontRan, JobsCame, LinesCame, PagesCame, PaperCame, RestBegins, RestCame, RestRan, RowBegins, RowRan};
-ghost use Rattle.batch_run.specs.Pages.{InputRan, JobRan, OutputRan, input_connected, job_connected, output_connected};
+ghost use Rattle.batch_run.specs.Row.{CardsCame, JobsCame, LinesCame, PagesCame, PaperCame};
+ghost use Rattle.batch_run.specs.Row.{BackBegins, BackCame, FrontBegins, FrontCame, RestBegins, RestCame};
+ghost use Rattle.batch_run.specs.Row.{RowBegins, RowRan};
+ghost use Rattle.batch_run.specs.Pages.{InputRan, JobRan, OutputRan};
+ghost use Rattle.batch_run.specs.Pages.{input_connected, job_connected, output_connected};
 
 use crate::beside::beside;
 use crate::card_connections::CardConnections;
@@ -169,8 +172,10 @@ fn run_rest<
 )
 where
     J::Load: Send,
-    requires { RestBegins J.jobs K.given K.faults (loading F.found F.pages F.faults F.sound) A.size B.size jobs lines paper }
-    ensures { RestCame J.jobs K.given K.faults (loading F.found F.pages F.faults F.sound) A.size B.size
+    requires { RestBegins J.jobs K.given K.faults
+        (loading F.found F.pages F.faults F.sound) A.size B.size jobs lines paper }
+    ensures { RestCame J.jobs K.given K.faults
+        (loading F.found F.pages F.faults F.sound) A.size B.size
         start.now.all.id result.1.of result.1.value jobs.entry lines.entry paper.entry result.0 }
 {
     let ((jobs, told), (back, also)) = beside(
@@ -182,7 +187,8 @@ where
             of: PhantomData::<J>,
         },
         move || -> (Ended<JobEnds<F, A, B>>, Told<'_>)
-            requires { JobRan {L = J.Load} (loading F.found F.pages F.faults F.sound) A.size B.size (job_connected jobs) (job_connected jobs) [] }
+            requires { JobRan {L = J.Load} (loading F.found F.pages F.faults F.sound)
+                A.size B.size (job_connected jobs) (job_connected jobs) [] }
             ensures { JobsCame J.jobs (loading F.found F.pages F.faults F.sound) A.size B.size
                 start.entry.now.all.id result.1.of result.1.value jobs.entry result.0 }
         { begin_jobs::<J, F, A, B, R>(rt, alloc, start, jobs) },
@@ -254,8 +260,10 @@ where
             ),
             Told<'_>,
         )
-            requires { RestBegins J.jobs K.given K.faults (loading F.found F.pages F.faults F.sound) A.size B.size jobs lines paper }
-            ensures { RestCame J.jobs K.given K.faults (loading F.found F.pages F.faults F.sound) A.size B.size
+            requires { RestBegins J.jobs K.given K.faults
+                (loading F.found F.pages F.faults F.sound) A.size B.size jobs lines paper }
+            ensures { RestCame J.jobs K.given K.faults
+                (loading F.found F.pages F.faults F.sound) A.size B.size
                 start.entry.now.all.id result.1.of result.1.value
                 jobs.entry lines.entry paper.entry result.0 }
         { run_rest::<J, K, F, A, B, R>(rt, alloc, start, jobs, lines, paper) },

@@ -3,7 +3,7 @@
 use crate::failing::{Failing, Kind, NONE_FAILS};
 use crate::made_files::no_files;
 use crate::runs::{By, Came, Setting, run};
-use core_net::Outcomes;
+use batch_ends::Outcomes;
 use solo_base::{Cause, Outcome};
 use std::alloc::Global;
 use std::process::Abort;

@@ -2,8 +2,8 @@
 
 use crate::failing::{Failing, Kind, NONE_FAILS};
 use crate::made_files::no_files;
-use crate::runs::{By, Setting, area, run, run_over, source};
-use core_net::Outcomes;
+use crate::runs::{By, Setting, area, run, run_over, source, units};
+use batch_ends::Outcomes;
 use network_run::Rule;
 use solo_base::{Cause, Outcome};
 use solo_devices::{BlankArea, MemSink};
@@ -121,15 +121,14 @@ fn a_zero_page_is_damaged(rt: HostRuntime) -> Result<(), Fail> {
         pages: (4, 4),
         failing: NONE_FAILS,
     };
-    let came = run_over(
-        &rt,
-        By::Core(Rule::Cyclic { last: 5 }),
+    let devices = units(
         source(&rt, alloc, setting)?,
-        BlankArea::new(4),
-        area(&rt, alloc, 4, 0, 0)?,
         MemSink::new(alloc, Vec::new(alloc)),
         no_files(&rt, alloc),
-    )?;
+        BlankArea::new(4),
+        area(&rt, alloc, 4, 0, 0)?,
+    );
+    let came = run_over(&rt, By::Core(Rule::Cyclic { last: 5 }), devices)?;
     let damaged = Cause::Damaged {
         expected: 0,
         found: 0,

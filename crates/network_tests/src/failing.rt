@@ -1,6 +1,6 @@
 // Which calls of the devices of a run fail, and who meets that.
 
-use core_net::Outcomes;
+use batch_ends::Outcomes;
 use solo_base::{Cause, Outcome};
 
 /// The calls that fail, by number from 1 on; no call has the number 0.

@@ -1,9 +1,12 @@
 // Whole runs over devices in memory, by the core or on threads, and what they came to.
-ghost use Rattle.std.specs.Prelude.{◌≡◌, ◌<◌, ◌≤◌, true, IfOk};
+ghost use Rattle.std.specs.Prelude.{◌≡◌, ◌<◌, ◌≤◌, true, [], IfOk};
+ghost use Rattle.solo_devices.specs.CardUnit.{fresh_unit};
 
 use crate::failing::Failing;
-use batch_run::{Units, run_batch};
-use core_net::{Outcomes, Ran, run_core};
+use batch_ends::{Outcomes, Ran, Units};
+use batch_run::run_batch;
+use core_net::run_core;
+use deck_work::{DeckFiles, DeckWork};
 use disk_files::FileArea;
 use network_run::{Counts, Rule};
 use schedule_law::run_schedule;
@@ -150,90 +153,91 @@ pub fn run<R: Threads + Wait + Sync + AllocGlobal + Abort, F: Area + Counted + D
         failing.output_write,
     )?;
     let paper = MemSink::new(alloc, [failing.give].to_vec(alloc)?);
-    run_over(rt, by, deck, input, output, paper, files)
+    run_over(rt, by, units(deck, paper, files, input, output))
+}
+
+/// What the five run on.
+pub type Devices<F, A, B> = Units<MemSource, MemSink, DeckFiles<F>, A, B>;
+
+/// These devices, as the five run on them.
+pub fn units<F: Area + Drop, A: Area, B: Area>(
+    deck: MemSource,
+    paper: MemSink,
+    files: FileArea<F>,
+    input: A,
+    output: B,
+) -> Devices<F, A, B>
+    ensures deck { result.deck ≡ fresh_unit deck }
+    ensures paper { (result.paper.live ≡ true) }
+    ensures files { result.files.files ≡ files }
+    ensures areas { (result.input ≡ input) × (result.output ≡ output) }
+{
+    Units {
+        deck: CardUnit::new(deck),
+        paper: PrinterUnit::new(paper),
+        files: DeckFiles { files },
+        input,
+        output,
+    }
 }
 
 /// Runs over these devices.
 pub fn run_over<
     R: Threads + Wait + Sync + AllocGlobal + Abort,
-    I: Area + Counted + Drop + Send,
-    O: Area + Counted + Drop + Send,
     F: Area + Counted + Drop + Send,
+    A: Area + Counted + Drop + Send,
+    B: Area + Counted + Drop + Send,
 >(
     rt: &R,
     by: By,
-    deck: MemSource,
-    input: I,
-    output: O,
-    paper: MemSink,
-    files: FileArea<F>,
+    units: Devices<F, A, B>,
 ) -> Result<Came, Fail>
-    requires deck { ⟦<MemSource as Source>⟧.taken deck ≡ 0 }
-    requires input { (0 < I.size input) × (I.size input ≤ 256) }
-    requires output { (0 < O.size output) × (O.size output ≤ 256) }
-    requires files { files.sound ≡ true }
+    requires deck { (units.deck.live ≡ true) × (units.deck.pending ≡ []) }
+    requires unread { ⟦<MemSource as Source>⟧.taken units.deck.source ≡ 0 }
+    requires paper { units.paper.live ≡ true }
+    requires input { (0 < A.size units.input) × (A.size units.input ≤ 256) }
+    requires output { (0 < B.size units.output) × (B.size units.output ≤ 256) }
+    requires files { units.files.files.sound ≡ true }
 {
     let alloc = rt.alloc();
     match by {
         By::Core(rule) => {
-            let (ran, counts) = run_core(alloc, deck, input, output, paper, files, rule);
+            let (ran, counts) =
+                run_core::<DeckWork, MemSource, MemSink, DeckFiles<F>, A, B>(alloc, units, rule);
             seen(alloc, ran, Some(counts))
         }
         By::Schedule(number) => {
-            let (ran, counts) = run_schedule(alloc, deck, input, output, paper, files, number);
+            let (ran, counts) =
+                run_schedule::<DeckWork, MemSource, MemSink, DeckFiles<F>, A, B>(alloc, units, number);
             seen(alloc, ran, Some(counts))
         }
-        By::Threads => on_threads(rt, deck, input, output, paper, files),
+        By::Threads => {
+            let ran = run_batch::<DeckWork, MemSource, MemSink, DeckFiles<F>, A, B, R>(rt, alloc, units)
+                .ok()
+                .expect(rt, "ample memory");
+            seen(alloc, ran, None)
+        }
     }
 }
 
-/// Runs over these devices on five threads.
-fn on_threads<
-    R: Threads + Wait + Sync + AllocGlobal + Abort,
-    I: Area + Counted + Drop + Send,
-    O: Area + Counted + Drop + Send,
-    F: Area + Counted + Drop + Send,
->(
-    rt: &R,
-    deck: MemSource,
-    input: I,
-    output: O,
-    paper: MemSink,
-    files: FileArea<F>,
-) -> Result<Came, Fail>
-    requires deck { ⟦<MemSource as Source>⟧.taken deck ≡ 0 }
-    requires input { (0 < I.size input) × (I.size input ≤ 256) }
-    requires output { (0 < O.size output) × (O.size output ≤ 256) }
-    requires files { files.sound ≡ true }
-{
-    let units = Units {
-        deck: CardUnit::new(deck),
-        input,
-        output,
-        paper: PrinterUnit::new(paper),
-        files,
-    };
-    let ran = run_batch(rt, rt.alloc(), units)
-        .ok()
-        .expect(rt, "ample memory");
-    seen(rt.alloc(), ran, None)
-}
-
 /// What is seen of a run that has ended.
-fn seen<I: Area + Counted + Drop, O: Area + Counted + Drop, F: Area + Counted + Drop>(
+fn seen<F: Area + Counted + Drop, A: Area + Counted + Drop, B: Area + Counted + Drop>(
     alloc: Global,
-    ran: Ran<MemSource, MemSink, I, O, F>,
+    ran: Ran<MemSource, MemSink, DeckFiles<F>, A, B>,
     counts: Option<Counts>,
 ) -> Result<Came, Fail> {
     let Ran {
         outcomes,
         stopped_by,
+        units,
+    } = ran;
+    let Units {
         deck,
+        paper,
+        files: DeckFiles { files },
         input,
         output,
-        paper,
-        files,
-    } = ran;
+    } = units;
     let (source, sink) = (deck.into_inner(), paper.into_inner());
     let files_sound = files.sound();
     let paper = sink.bytes().to_vec(alloc)?;

@@ -11,12 +11,14 @@ use Rattle.batch_run.proofs.input_connections.InputConnections.perform.Goals as 
 pub take-requires-clause-not_stopped : goal.take-requires-clause-not_stopped
 take-requires-clause-not_stopped g c κs within =
     let (start, comes) = c.requires.comes in
-    lines.not-stopped g.met.J.JobWork.are_jobs input Receiver 1 comes.history _ _ (input-relay _) comes.follows (comes.next ∙ ap Some c.in-TakeFeed.is) tt comes.stands.from_calls
+    lines.not-stopped g.met.J.JobWork.are_jobs input Receiver 1 comes.history _ _ (input-relay _) comes.follows (comes.next ∙ ap Some c.in-TakeFeed.is) tt
+    comes.stands.from_calls
 
 pub await_room-requires-clause-not_stopped : goal.await_room-requires-clause-not_stopped
 await_room-requires-clause-not_stopped g c κs within =
     let (start, comes) = c.requires.comes in
-    spools.not-stopped g.met.J.JobWork.are_jobs input Sender 2 comes.history _ _ (input-relay _) comes.follows (comes.next ∙ ap Some c.in-AwaitRoom.is) tt comes.stands.to_calls
+    spools.not-stopped g.met.J.JobWork.are_jobs input Sender 2 comes.history _ _ (input-relay _) comes.follows (comes.next ∙ ap Some c.in-AwaitRoom.is) tt
+    comes.stands.to_calls
 
 pub request-requires-after_bounds : goal.request-requires-after_bounds
 request-requires-after_bounds g c κs within =
@@ -33,12 +35,14 @@ pass-requires g c =
 pub put-requires-clause-not_stopped : goal.put-requires-clause-not_stopped
 put-requires-clause-not_stopped g c κs within =
     let (start, comes) = c.requires.comes in
-    spools.not-stopped g.met.J.JobWork.are_jobs input Sender 2 comes.history _ _ (input-relay _) comes.follows (comes.next ∙ ap Some c.in-PutPage.is) tt comes.stands.to_calls
+    spools.not-stopped g.met.J.JobWork.are_jobs input Sender 2 comes.history _ _ (input-relay _) comes.follows (comes.next ∙ ap Some c.in-PutPage.is) tt
+    comes.stands.to_calls
 
 pub put-requires-clause-ready : goal.put-requires-clause-ready
 put-requires-clause-ready g c κs within =
     let (start, comes) = c.requires.comes in
-    spools.may-put g.met.J.JobWork.are_jobs input 2 comes.history c.in-PutPage.page _ (input-relay _) comes.follows (comes.next ∙ ap Some c.in-PutPage.is) comes.stands.to_calls
+    spools.may-put g.met.J.JobWork.are_jobs input 2 comes.history c.in-PutPage.page _ (input-relay _) comes.follows (comes.next ∙ ap Some c.in-PutPage.is)
+    comes.stands.to_calls
 
 pub release-requires-after_bounds : goal.release-requires-after_bounds
 release-requires-after_bounds g c κs within =

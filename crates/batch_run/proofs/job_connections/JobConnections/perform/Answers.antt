@@ -24,13 +24,15 @@ await_room-requires-clause-not_stopped g c κs within =
 pub request-requires-after_bounds : goal.request-requires-after_bounds
 request-requires-after_bounds g c κs within =
     let (start, comes) = c.requires.comes in
-    subst (λ has. IsAt c.args.self.now.desk has) (request-holds_not g.J.JobWork.jobs (job g.J.JobWork.jobs) comes.history (job-relay g.met.J.JobWork.are_jobs) comes.follows (comes.next
+    subst (λ has. IsAt c.args.self.now.desk has)
+    (request-holds_not g.J.JobWork.jobs (job g.J.JobWork.jobs) comes.history (job-relay g.met.J.JobWork.are_jobs) comes.follows (comes.next
     ∙ ap Some c.in-Request.is)) comes.stands.desk.at
 
 pub pass-requires : goal.pass-requires
 pass-requires g c =
     let (start, comes) = c.requires.comes in
-    subst (λ has. IsAt c.args.self.now.desk has) (moves-holding g.J.JobWork.jobs (job g.J.JobWork.jobs) comes.history _ (job-relay g.met.J.JobWork.are_jobs) comes.follows (comes.next
+    subst (λ has. IsAt c.args.self.now.desk has)
+    (moves-holding g.J.JobWork.jobs (job g.J.JobWork.jobs) comes.history _ (job-relay g.met.J.JobWork.are_jobs) comes.follows (comes.next
     ∙ ap Some c.in-TakePage.is) tt) comes.stands.desk.at
 
 pub take-requires-clause-not_stopped : goal.take-requires-clause-not_stopped
@@ -42,12 +44,14 @@ take-requires-clause-not_stopped g c κs within =
 pub take-requires-clause-ready : goal.take-requires-clause-ready
 take-requires-clause-ready g c κs within =
     let (start, comes) = c.requires.comes in
-    spools.may-take g.met.J.JobWork.are_jobs (job g.J.JobWork.jobs) 2 comes.history _ (job-relay g.met.J.JobWork.are_jobs) comes.follows (comes.next ∙ ap Some c.in-TakePage.is) comes.stands.from_calls
+    spools.may-take g.met.J.JobWork.are_jobs (job g.J.JobWork.jobs) 2 comes.history _ (job-relay g.met.J.JobWork.are_jobs) comes.follows
+    (comes.next ∙ ap Some c.in-TakePage.is) comes.stands.from_calls
 
 pub pass-requires-in-PutPage : goal.pass-requires-in-PutPage
 pass-requires-in-PutPage g c =
     let (start, comes) = c.requires.comes in
-    subst (λ has. IsAt c.args.self.now.desk has) (moves-holding g.J.JobWork.jobs (job g.J.JobWork.jobs) comes.history _ (job-relay g.met.J.JobWork.are_jobs) comes.follows (comes.next
+    subst (λ has. IsAt c.args.self.now.desk has)
+    (moves-holding g.J.JobWork.jobs (job g.J.JobWork.jobs) comes.history _ (job-relay g.met.J.JobWork.are_jobs) comes.follows (comes.next
     ∙ ap Some c.in-PutPage.is) tt) comes.stands.desk.at
 
 pub put-requires-clause-not_stopped : goal.put-requires-clause-not_stopped
@@ -65,7 +69,8 @@ put-requires-clause-ready g c κs within =
 pub release-requires-after_bounds : goal.release-requires-after_bounds
 release-requires-after_bounds g c κs within =
     let (start, comes) = c.requires.comes in
-    subst (λ has. IsAt c.args.self.now.desk has) (release-holds g.J.JobWork.jobs (job g.J.JobWork.jobs) comes.history (job-relay g.met.J.JobWork.are_jobs) comes.follows (comes.next
+    subst (λ has. IsAt c.args.self.now.desk has)
+    (release-holds g.J.JobWork.jobs (job g.J.JobWork.jobs) comes.history (job-relay g.met.J.JobWork.are_jobs) comes.follows (comes.next
     ∙ ap Some c.in-Release.is)) comes.stands.desk.at
 
 pub load-requires : goal.load-requires
@@ -86,7 +91,8 @@ returns-in-Load-clause-performs g c start h ran follows next =
         to_gate = ran.to_gate;
         to_calls = ran.to_calls;
         desk = record { same = ran.desk.same; at = ran.desk.at };
-        files = file-loaded g.met.J.JobWork.are_jobs start.files c.args.self.now.files c.load.new.self h c.in-Load.file c.load.result ran.files c.load.ensures.loads
+        files = file-loaded g.met.J.JobWork.are_jobs start.files c.args.self.now.files c.load.new.self h c.in-Load.file c.load.result ran.files
+            c.load.ensures.loads
             c.load.ensures.failed c.load.ensures.counts c.load.ensures.found c.load.ensures.left c.load.ensures.sound;
       };
       lacks = λ may. absurd may;

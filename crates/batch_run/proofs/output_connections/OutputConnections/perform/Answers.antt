@@ -35,7 +35,8 @@ take-requires-clause-not_stopped g c κs within =
 pub take-requires-clause-ready : goal.take-requires-clause-ready
 take-requires-clause-ready g c κs within =
     let (start, comes) = c.requires.comes in
-    spools.may-take g.met.J.JobWork.are_jobs output 3 comes.history _ (output-relay _) comes.follows (comes.next ∙ ap Some c.in-TakePage.is) comes.stands.from_calls
+    spools.may-take g.met.J.JobWork.are_jobs output 3 comes.history _ (output-relay _) comes.follows (comes.next ∙ ap Some c.in-TakePage.is)
+    comes.stands.from_calls
 
 pub release-requires-after_bounds : goal.release-requires-after_bounds
 release-requires-after_bounds g c κs within =
@@ -46,4 +47,5 @@ release-requires-after_bounds g c κs within =
 pub put-requires-clause-not_stopped : goal.put-requires-clause-not_stopped
 put-requires-clause-not_stopped g c κs within =
     let (start, comes) = c.requires.comes in
-    lines.not-stopped g.met.J.JobWork.are_jobs output Sender 4 comes.history _ _ (output-relay _) comes.follows (comes.next ∙ ap Some c.in-PutFeed.is) tt comes.stands.to_calls
+    lines.not-stopped g.met.J.JobWork.are_jobs output Sender 4 comes.history _ _ (output-relay _) comes.follows (comes.next ∙ ap Some c.in-PutFeed.is) tt
+    comes.stands.to_calls
