@@ -13,7 +13,7 @@ use Rattle.batch_ends.specs.declared.units.Units.{Units}
 use Rattle.batch_run.specs.declared.gates.Gates.{Gates}
 use Rattle.batch_run.specs.declared.gates.Ends.{Ends}
 use Rattle.batch_run.specs.declared.row.Row.{Row}
-use Rattle.batch_run.specs.Begun.{AreFresh, BeginsBy, fresh_seat, units_at}
+use Rattle.batch_run.specs.Begun.{AreFresh, BeginsBy, fresh_seat}
 use Rattle.batch_run.specs.Cards.{CardRan, DeckRan}
 use Rattle.batch_run.specs.Lines.{PrinterRan, PaperRan}
 use Rattle.batch_run.specs.Desks.{DeskRan, at_desk}

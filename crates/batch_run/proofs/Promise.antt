@@ -27,7 +27,6 @@ use Rattle.batch_procs.specs.Relays.{card-relay, input-relay, job-relay, output-
 use Rattle.batch_procs.specs.Table.{card, input, job, output, printer, process}
 use Rattle.batch_procs.proofs.Ended.{ended-rightly}
 use Rattle.batch_procs.proofs.Faulty.{faults_of_the_five}
-use Rattle.batch_procs.proofs.Relay.{sent-is-part}
 use Rattle.core_law.specs.Core.{IsBuffer}
 use Rattle.core_law.specs.Ends.{IsProcess, outcome_by}
 use Rattle.core_law.proofs.Ends.{the-five}
@@ -118,8 +117,8 @@ module _ {L : Type 0} {J : Jobs L} (jobs : AreJobs J) where
         batch.four ∙ none-by (first 1) (first 2) (first 3) (first 4) (none 1 (lit≤ tt, lit≤ tt)) (none 2 (lit≤ tt, lit≤ tt)) (none 3 (lit≤ tt, lit≤ tt))
         (none 4 (lit≤ tt, lit≤ tt))
 
-      pub together : EndTogether outcomes met.stopped_by
-      together = record { done = (none-first, all-done); stopped = beside }
+    none-at : (b : ℕ) → IsBuffer b → stopped_at none_stopped b ≡ None
+    none-at b at = each-buffer (λ b. stopped_at none_stopped b ≡ None) b at refl refl refl refl
 
     all-done : ran.stopped_by ≡ none_stopped → outcomes ≡ all_done
     all-done e =
