@@ -83,7 +83,12 @@ room-is (Some command.Migrate) needed free is = refl
 room-is (Some command.Check) needed free is = absurd is
 room-is (Some (command.Times schedule)) needed free is = absurd is
 
-module _ {S Y K T F I O : Type 0} {before after : Kit S Y K T F I O} where
+-- what is within the limit tells its bytes
+tells : (left : Option (List ℕ)) → IsWithinLimit left → IsSome left
+tells None within = absurd within
+tells (Some bytes) within = refl
+
+module _ {S Y K T F I O : Type 0} (before after : Kit S Y K T F I O) where
   -- ---- no device was counted to fail
   no-read : (keys : Bool) → Rose (reader keys before).faults (reader keys after).faults → Stayed before.deck.faults after.deck.faults
       → IfUsed keys (Stayed before.keys.faults after.keys.faults) → ⊥
@@ -126,10 +131,6 @@ module _ {S Y K T F I O : Type 0} {before after : Kit S Y K T F I O} where
       none-beyond after.deck.taken before.deck.taken after.deck.left before.deck.left n.deck_within ready.deck total more
   no-limit (Some (command.Times schedule)) n ready known total more =
       none-beyond after.keys.taken before.keys.taken after.keys.left before.keys.left n.keys_within ready.keys total more
-
-  tells : (left : Option (List ℕ)) → IsWithinLimit left → IsSome left
-  tells None within = absurd within
-  tells (Some bytes) within = refl
 
   told-where : (used : Bool) → IfUsed used (IsWithinLimit before.deck.left) → IfUsed used (IsSome before.deck.left)
   told-where true within = tells before.deck.left within

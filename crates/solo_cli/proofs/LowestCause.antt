@@ -32,7 +32,7 @@ module _ (outcomes : Outcomes) (stops : List (Option Side)) (together : EndToget
   none-lower (Some why) is fault at = (why, refl, least (list_of outcomes) why is fault at)
 
   -- a cause of the five is the lowest of theirs
-  pub lowest-decides : LowestDecides Behind (as_refusal (decides (list_of outcomes)))
+  abbrev pub lowest-decides : LowestDecides Behind (as_refusal (decides (list_of outcomes)))
   lowest-decides = record {
     outcomes = outcomes;
     stopped_by = stops;
@@ -50,7 +50,7 @@ module _ (outcomes : Outcomes) (stops : List (Option Side)) (together : EndToget
   behind-of (Some (NoRoom needed free)) all later = later
 
   -- and where they have none it is one of what comes behind them
-  pub comes-behind : (answer : Option Refusal) → decides (list_of outcomes) ≡ None → IfSome answer (OfFault Behind) → LowestDecides Behind answer
+  abbrev pub comes-behind : (answer : Option Refusal) → decides (list_of outcomes) ≡ None → IfSome answer (OfFault Behind) → LowestDecides Behind answer
   comes-behind answer none later = record {
     outcomes = outcomes;
     stopped_by = stops;

@@ -11,6 +11,7 @@ use Rattle.solo_devices.specs.CardUnit.{byte_limit, bytes_total}
 use Rattle.batch_procs.specs.Faults.{IsDamaged}
 use Rattle.core_law.specs.TheLaw.{the_law}
 use Rattle.batch_ends.specs.Ended.{TellsWhere, all_done}
+use Rattle.batch_ends.specs.declared.ends.Outcomes.{Outcomes}
 use Rattle.deck_work.specs.DeckJobs.{deck_jobs, files_found, found_are_loads}
 use Rattle.batch_job.specs.Report.{Loads, no_files}
 use Rattle.made_deck.specs.MadeDeck.{made_deck}
@@ -100,6 +101,37 @@ no-disk : IsPrintCause cause.DiskFault → ⊥
 no-disk (inl is) = cc
 no-disk (inr is) = cc
 
+-- nothing is printed where nothing else is done
+not-printed : {S Y K T F I O : Type 0} (before after : Kit S Y K T F I O) (answer : Option Refusal) (n : ℕ) → MayBeGiven before → (answer ≡ None → ⊥)
+    → after.paper ≡ before.paper → SpoolsTell before
+    → GainsNumbers (Numbered n) (core_over before (Some (cards (made_deck n))) (Some [])) (made_deck n) before.paper.given after.paper.given
+    (answer ≡ None)
+not-printed before after answer n ready some paper spools =
+    subst (λ now. GainsNumbers (Numbered n) (core_over before (Some (cards (made_deck n))) (Some [])) (made_deck n) before.paper.given now
+    (answer ≡ None)) (sym (ap (λ p. p.given) paper))
+    (no-numbers (Numbered n) (spools_told before) (files_found before.files.pages) (made_deck n) before.paper.given (answer ≡ None)
+    (found_are_loads before.files.pages) (no-files n) (in-bounds ready) (both-tell spools) some)
+
+-- the lowest cause of a run is so whatever would come behind it
+as-one-of : {S Y K T F I O : Type 0} (before after : Kit S Y K T F I O) (outcomes : Outcomes) (ran : Refusal)
+    → OfFault (λ why. IsIn (outcome.Fault why) (list_of outcomes) ⊎ ((outcomes ≡ all_done) × Nothing why)) ran
+    → OfFault (λ why. IsIn (outcome.Fault why) (list_of outcomes) ⊎ ((outcomes ≡ all_done) × LineBehind before after why)) ran
+as-one-of before after outcomes (NoRoom needed free) one = one
+as-one-of before after outcomes (Fault why) (inl at) = inl at
+as-one-of before after outcomes (Fault why) (inr both) = absurd both.1
+
+as-lowest : {S Y K T F I O : Type 0} (before after : Kit S Y K T F I O) (ran : Refusal) → LowestDecides Nothing (Some ran)
+    → LowestDecides (LineBehind before after) (Some ran)
+as-lowest before after ran lowest = record {
+  outcomes = lowest.outcomes;
+  stopped_by = lowest.stopped_by;
+  together = lowest.together;
+  faults = lowest.faults;
+  one_of = as-one-of before after lowest.outcomes ran lowest.one_of;
+  none_lower = lowest.none_lower;
+  done = lowest.done;
+}
+
 module _ {S Y K T F I O : Type 0} {before after : Kit S Y K T F I O} {answer : Option Refusal} (ready : MayBeGiven before)
     (deck : after.deck ≡ before.deck) (keys : after.keys ≡ before.keys) (console : after.console ≡ before.console)
     (size : after.files.size ≡ before.files.size) where
@@ -125,21 +157,11 @@ module _ {S Y K T F I O : Type 0} {before after : Kit S Y K T F I O} {answer : O
   }
 
   module _ (n : ℕ) where
-    -- nothing is printed where nothing else is done
-    not-printed : (answer ≡ None → ⊥) → after.paper ≡ before.paper → SpoolsTell before
-        → GainsNumbers (Numbered n) (core_over before (Some (cards (made_deck n))) (Some [])) (made_deck n) before.paper.given after.paper.given
-        (answer ≡ None)
-    not-printed some paper spools =
-        subst (λ now. GainsNumbers (Numbered n) (core_over before (Some (cards (made_deck n))) (Some [])) (made_deck n) before.paper.given now
-        (answer ≡ None)) (sym (ap (λ p. p.given) paper))
-        (no-numbers (Numbered n) (spools_told before) (files_found before.files.pages) (made_deck n) before.paper.given (answer ≡ None)
-        (found_are_loads before.files.pages) (no-files n) (in-bounds ready) (both-tell spools) some)
-
     -- memory was refused for the deck
     pub make-lacks : answer ≡ Some (Fault cause.NoMemory) → Untouched before after → AsRun (MakesDeck n) made_used IsMakeCause before after answer
     make-lacks is untouched = (
       record {
-        prints = not-printed (λ none. (let no : Some (Fault cause.NoMemory) ≡ None = sym is ∙ none in cc)) untouched.paper;
+        prints = not-printed before after answer n ready (λ none. (let no : Some (Fault cause.NoMemory) ≡ None = sym is ∙ none in cc)) untouched.paper;
         unprinted = λ _. untouched.paper;
         ends = inr untouched;
       },
@@ -152,24 +174,6 @@ module _ {S Y K T F I O : Type 0} {before after : Kit S Y K T F I O} {answer : O
 
     -- ---- a run that met a fault
     module _ (ran : Refusal) (is : answer ≡ Some ran) (paper : after.paper ≡ before.paper) (lowest : LowestDecides Nothing (Some ran)) where
-      as-one-of : (ran : Refusal)
-          → OfFault (λ why. IsIn (outcome.Fault why) (list_of lowest.outcomes) ⊎ ((lowest.outcomes ≡ all_done) × Nothing why)) ran
-          → OfFault (λ why. IsIn (outcome.Fault why) (list_of lowest.outcomes) ⊎ ((lowest.outcomes ≡ all_done) × LineBehind before after why)) ran
-      as-one-of (NoRoom needed free) one = one
-      as-one-of (Fault why) (inl at) = inl at
-      as-one-of (Fault why) (inr both) = absurd both.1
-
-      as-lowest : LowestDecides (LineBehind before after) (Some ran)
-      as-lowest = record {
-        outcomes = lowest.outcomes;
-        stopped_by = lowest.stopped_by;
-        together = lowest.together;
-        faults = lowest.faults;
-        one_of = as-one-of ran lowest.one_of;
-        none_lower = lowest.none_lower;
-        done = lowest.done;
-      }
-
       pub made-failed : OfFault IsMakeCause ran → ran ≢ Fault cause.PrintFault
           → (Some ran ≡ Some (Fault cause.DiskFault)
           → Rose before.input.faults after.input.faults ⊎ Rose before.output.faults after.output.faults ⊎ Rose before.files.faults after.files.faults)
@@ -177,9 +181,9 @@ module _ {S Y K T F I O : Type 0} {before after : Kit S Y K T F I O} {answer : O
           → AsRun (MakesDeck n) made_used IsMakeCause before after answer
       made-failed known sure disk whole = (
         record {
-          prints = not-printed (λ none. (let no : Some ran ≡ None = sym is ∙ none in cc)) paper;
+          prints = not-printed before after answer n ready (λ none. (let no : Some ran ≡ None = sym is ∙ none in cc)) paper;
           unprinted = λ _. paper;
-          ends = inl (subst (LowestDecides (LineBehind before after)) (sym is) as-lowest);
+          ends = inl (subst (LowestDecides (LineBehind before after)) (sym is) (as-lowest before after ran lowest));
         },
         made-answers (subst (λ answer. IfSome answer (OfFault IsMakeCause)) (sym is) known) (λ at. disk (sym is ∙ at))
             (λ at. absurd (sure (some-is (sym is ∙ at)))) (λ input output eight. whole input output (ap status_of (sym is) ∙ eight))

@@ -48,7 +48,7 @@ or-untouched before mid after change (inl e) = inl (change e)
 or-untouched before mid after change (inr u) = inr (untouched before mid after u)
 
 module _ {S Y K T F I O : Type 0} {before mid after : Kit S Y K T F I O} {answer : Option Refusal} (m : AreMounted before mid) where
-  deck-ends : {Behind : Cause → Type 0} → DeckEnds Behind (moved before mid) after answer → DeckEnds Behind before after answer
+  abbrev deck-ends : {Behind : Cause → Type 0} → DeckEnds Behind (moved before mid) after answer → DeckEnds Behind before after answer
   deck-ends e = record {
     five = e.five;
     counted = record {
@@ -76,7 +76,7 @@ module _ {S Y K T F I O : Type 0} {before mid after : Kit S Y K T F I O} {answer
   mounted-batch ran = of-batch (subst (λ told. RunsBatch told after answer) m.stays ran)
 
   -- ---- `core`
-  core-ends : (n : ℕ) → CoreEnds (Numbered n) (moved before mid) after answer → CoreEnds (Numbered n) before after answer
+  abbrev core-ends : (n : ℕ) → CoreEnds (Numbered n) (moved before mid) after answer → CoreEnds (Numbered n) before after answer
   core-ends n e = record {
     ends = deck-ends e.ends;
     counts = e.counts;

@@ -62,7 +62,7 @@ returns-clause-complete g c = λ some nothing.
     let before = kit g.S.Source g.Y.Source g.K.Sink g.T.Sink g.F.Area g.I.Area g.O.Area a.deck a.keys a.paper a.console a.files a.input a.output in
     let after = kit_of g.S.Source g.Y.Source g.K.Sink g.T.Sink g.F.Area g.I.Area g.O.Area done.devices in
     rw c.finish.ensures
-    (completes {before = before} {after = after} (asked a.words.now) done.cause some
+    (completes before after (asked a.words.now) done.cause some
     (subst (λ finished. NothingFails (asked a.words.now) before
     (kit_after g.S.Source g.Y.Source g.K.Sink g.T.Sink g.F.Area g.I.Area g.O.Area finished)) c.finish.ensures nothing)
     record {

@@ -1,4 +1,4 @@
-use Rattle.std.proofs.Common.{◌≤◌, [], Some, None, refl, sym, ◌∙◌, ap, subst, arith}
+use Rattle.std.proofs.Common.{◌≡◌, ◌≤◌, [], Some, None, refl, sym, ◌∙◌, ap, subst, arith}
 use Rattle.solo_base.specs.Card.{cards}
 use Rattle.solo_base.specs.Text.{line_text, text}
 use Rattle.solo_devices.specs.Count.{Rose}
@@ -90,8 +90,16 @@ returns-in-None-clause-ran g c =
     let none = none-is (decides (list_of ran.outcomes)) (sym c.came_to-done.ensures.decided ∙ c.in-None.is) in
     let done = all-done ran.outcomes ran.stopped_by e.together none in
     let sized = c.came_to-done.ensures.size ∙ sym c.requires.ready.files in
-    let stays = c.with_counts.ensures.stays
-    ∙ ap (λ devices. record devices { paper = last.devices.paper }) c.came_to-done.ensures.devices in
+    let stays : last.devices ≡ record {
+      deck = ran.units.deck.source;
+      keys = d.keys;
+      paper = last.devices.paper;
+      console = d.console;
+      files = ran.units.files.files.area;
+      input = ran.units.input;
+      output = ran.units.output;
+    }
+    = subst (λ devices. last.devices ≡ record devices { paper = last.devices.paper }) c.came_to-done.ensures.devices c.with_counts.ensures.stays in
     let before = kit g.S.Source g.Y.Source g.K.Sink g.T.Sink g.F.Area g.I.Area g.O.Area d.deck d.keys d.paper d.console d.files.area d.input d.output in
     let after = kit g.S.Source g.Y.Source g.K.Sink g.T.Sink g.F.Area g.I.Area g.O.Area
     ran.units.deck.source d.keys last.devices.paper d.console ran.units.files.files.area ran.units.input ran.units.output in
