@@ -7,9 +7,9 @@ use Rattle.solo_base.specs.declared.outcome.Outcome.TheVariants as outcome
 use Rattle.solo_base.specs.declared.outcome.Side.{Side}
 use Rattle.batch_procs.specs.Faults.{IsDamaged}
 use Rattle.core_law.specs.Ends.{IsProcess}
-use Rattle.core_net.specs.declared.finish.Outcomes.{Outcomes}
-use Rattle.core_net.specs.Ended.{outcome_at, all_done, EndTogether, FaultsAre, NoneDamaged}
-use Rattle.batch_run.proofs.Ending.{each-process}
+use Rattle.batch_ends.specs.declared.ends.Outcomes.{Outcomes}
+use Rattle.batch_ends.specs.Ended.{outcome_at, all_done, EndTogether, FaultsAre, NoneDamaged, TellsWhere}
+use Rattle.core_law.proofs.Row.{each-process}
 use Rattle.solo_cli.specs.Decides.{decides, list_of, IsIn}
 use Rattle.solo_cli.proofs.Lowest.{among, no-fault}
 
@@ -47,7 +47,7 @@ neither first second (inr b) = second b
 
 -- ---- whose fault the deciding cause is
 module _ (outcomes : Outcomes) (faults : FaultsAre outcomes) where
-  read-in : IsIn (outcome.Fault cause.ReadFault) (list_of outcomes) → outcomes.card ≡ outcome.Fault cause.ReadFault
+  pub read-in : IsIn (outcome.Fault cause.ReadFault) (list_of outcomes) → outcomes.card ≡ outcome.Fault cause.ReadFault
   read-in (inl at) = at
   read-in (inr (inl at)) = absurd (let no : cause.ReadFault ≡ cause.DiskFault = faults.input cause.ReadFault at in cc)
   read-in (inr (inr (inl at))) = absurd (neither (λ e. cc) (neither (λ d. d) (λ e. cc)) (faults.job cause.ReadFault at))
@@ -58,7 +58,7 @@ module _ (outcomes : Outcomes) (faults : FaultsAre outcomes) where
   pub by-read : decides (list_of outcomes) ≡ Some cause.ReadFault → outcomes.card ≡ outcome.Fault cause.ReadFault
   by-read is = read-in (among (list_of outcomes) cause.ReadFault is)
 
-  limit-in : IsIn (outcome.Fault cause.DeckLimit) (list_of outcomes) → outcomes.card ≡ outcome.Fault cause.DeckLimit
+  pub limit-in : IsIn (outcome.Fault cause.DeckLimit) (list_of outcomes) → outcomes.card ≡ outcome.Fault cause.DeckLimit
   limit-in (inl at) = at
   limit-in (inr (inl at)) = absurd (let no : cause.DeckLimit ≡ cause.DiskFault = faults.input cause.DeckLimit at in cc)
   limit-in (inr (inr (inl at))) = absurd (neither (λ e. cc) (neither (λ d. d) (λ e. cc)) (faults.job cause.DeckLimit at))
@@ -69,7 +69,7 @@ module _ (outcomes : Outcomes) (faults : FaultsAre outcomes) where
   pub by-limit : decides (list_of outcomes) ≡ Some cause.DeckLimit → outcomes.card ≡ outcome.Fault cause.DeckLimit
   by-limit is = limit-in (among (list_of outcomes) cause.DeckLimit is)
 
-  print-in : IsIn (outcome.Fault cause.PrintFault) (list_of outcomes) → outcomes.printer ≡ outcome.Fault cause.PrintFault
+  pub print-in : IsIn (outcome.Fault cause.PrintFault) (list_of outcomes) → outcomes.printer ≡ outcome.Fault cause.PrintFault
   print-in (inl at) = absurd (neither (λ e. cc) (λ e. cc) (faults.card cause.PrintFault at))
   print-in (inr (inl at)) = absurd (let no : cause.PrintFault ≡ cause.DiskFault = faults.input cause.PrintFault at in cc)
   print-in (inr (inr (inl at))) = absurd (neither (λ e. cc) (neither (λ d. d) (λ e. cc)) (faults.job cause.PrintFault at))
@@ -80,7 +80,7 @@ module _ (outcomes : Outcomes) (faults : FaultsAre outcomes) where
   pub by-print : decides (list_of outcomes) ≡ Some cause.PrintFault → outcomes.printer ≡ outcome.Fault cause.PrintFault
   by-print is = print-in (among (list_of outcomes) cause.PrintFault is)
 
-  disk-in : IsIn (outcome.Fault cause.DiskFault) (list_of outcomes) → (outcomes.input ≡ outcome.Fault cause.DiskFault)
+  pub disk-in : IsIn (outcome.Fault cause.DiskFault) (list_of outcomes) → (outcomes.input ≡ outcome.Fault cause.DiskFault)
       ⊎ ((outcomes.job ≡ outcome.Fault cause.DiskFault) ⊎ (outcomes.output ≡ outcome.Fault cause.DiskFault))
   disk-in (inl at) = absurd (neither (λ e. cc) (λ e. cc) (faults.card cause.DiskFault at))
   disk-in (inr (inl at)) = inl at
@@ -95,7 +95,7 @@ module _ (outcomes : Outcomes) (faults : FaultsAre outcomes) where
 
 -- where no process met a damaged page none decides
 module _ (outcomes : Outcomes) (none : NoneDamaged outcomes) (c : Cause) (damaged : IsDamaged c) where
-  in-none : IsIn (outcome.Fault c) (list_of outcomes) → ⊥
+  pub in-none : IsIn (outcome.Fault c) (list_of outcomes) → ⊥
   in-none (inl at) = none 1 c (omega arith, omega arith) at damaged
   in-none (inr (inl at)) = none 2 c (omega arith, omega arith) at damaged
   in-none (inr (inr (inl at))) = none 3 c (omega arith, omega arith) at damaged
@@ -105,3 +105,12 @@ module _ (outcomes : Outcomes) (none : NoneDamaged outcomes) (c : Cause) (damage
 
   pub by-none : decides (list_of outcomes) ≡ Some c → ⊥
   by-none is = in-none (among (list_of outcomes) c is)
+
+-- the numbers of a fault of one of them agree
+pub numbers-in : (outcomes : Outcomes) → FaultsAre outcomes → (c : Cause) → IsIn (outcome.Fault c) (list_of outcomes) → TellsWhere c
+numbers-in outcomes faults c (inl at) = faults.numbers 1 c (omega arith, omega arith) at
+numbers-in outcomes faults c (inr (inl at)) = faults.numbers 2 c (omega arith, omega arith) at
+numbers-in outcomes faults c (inr (inr (inl at))) = faults.numbers 3 c (omega arith, omega arith) at
+numbers-in outcomes faults c (inr (inr (inr (inl at)))) = faults.numbers 4 c (omega arith, omega arith) at
+numbers-in outcomes faults c (inr (inr (inr (inr (inl at))))) = faults.numbers 5 c (omega arith, omega arith) at
+numbers-in outcomes faults c (inr (inr (inr (inr (inr at))))) = absurd at

@@ -1,20 +1,27 @@
--- What is left to say of the status where no count rose, and of a deck that is too long.
-use Rattle.std.proofs.Common.{◌≡◌, ◌≢◌, ◌⊎◌, ◌≤◌, ◌+◌, ℕ, List, [], length, Option, Some, None, refl, ◌∙◌, ap, inl, inr, arith}
+-- Where nothing fails the whole work is done; and which words end with status 1.
+use Rattle.std.proofs.Common.{◌≡◌, ◌≢◌, ◌⊎◌, ◌↔◌, inl, inr, ◌≤◌, ◌<◌, ℕ, Bool, true, false, List, Option, Some, None, refl, sym, ◌∙◌, ap, subst, arith}
 use Rattle.std.specs.Prelude.{IfSome, IsSome}
 use Rattle.solo_base.specs.declared.outcome.Cause.{Cause}
-use Rattle.solo_base.specs.declared.outcome.Cause.TheVariants.{Usage, ReadFault, DiskFault, PrintFault, ConsoleFault, DeckLimit, NotSolo, Damaged, NoMemory}
-use Rattle.solo_devices.specs.CardUnit.{bytes_total, IsAllTaken}
-use Rattle.batch_procs.specs.Faults.{IsDamaged}
+use Rattle.solo_base.specs.declared.outcome.Cause.TheVariants as cause
+use Rattle.solo_devices.specs.Count.{Rose, Stayed}
+use Rattle.solo_devices.specs.CardUnit.{byte_limit, bytes_total}
 use Rattle.solo_cli.specs.declared.refusal.Refusal.{Refusal}
 use Rattle.solo_cli.specs.declared.refusal.Refusal.TheVariants.{Fault, NoRoom}
 use Rattle.solo_cli.specs.declared.words.Command.{Command}
 use Rattle.solo_cli.specs.declared.words.Command.TheVariants as command
-use Rattle.solo_cli.specs.Status.{number_of, status_of}
-use Rattle.solo_cli.specs.Causes.{IsMakeCause, IsCheckCause}
-use Rattle.solo_cli.specs.Uses.{UsesKeys}
-use Rattle.solo_cli.specs.Refusals.{IsDeckCause, IsMadeDeckCause, IsMigrateCause, IsNotSolo, MayBeRefused, OfFault}
+use Rattle.solo_cli.specs.Answers.{Answers, NothingFails}
+use Rattle.solo_cli.specs.Causes.{IsMakeCause, IsCheckCause, IsWithinLimit}
+use Rattle.solo_cli.specs.Devices.{Kit}
+use Rattle.solo_cli.specs.Does.{DoesItsWork}
+use Rattle.solo_cli.specs.Ready.{MayBeGiven}
+use Rattle.solo_cli.specs.Refusals.{IsDeckCause, IsMadeDeckCause, IsMigrateCause, MayBeRefused}
+use Rattle.solo_cli.specs.Status.{status_of}
+use Rattle.solo_cli.specs.Uses.{IfUsed, reader, uses}
+use Rattle.solo_cli.proofs.Migrations.{none-named}
+use Rattle.solo_cli.proofs.ReadToEnd.{none-beyond}
+use Rattle.solo_cli.proofs.Statuses.{by_one, not_limit}
 
--- a command that there is has one of these causes
+-- ---- which causes there are
 among-run : (why : Cause) → IsMakeCause why → IsDeckCause why
 among-run why (inl is) = inl (inr (inl is))
 among-run why (inr (inl is)) = inl (inr (inr (inl is)))
@@ -36,112 +43,120 @@ among-check why (inr (inl is)) = inl (inl is)
 among-check why (inr (inr (inl is))) = inl (inr (inr (inr (inl is))))
 among-check why (inr (inr (inr is))) = inl (inr (inr (inr (inr (inr is)))))
 
-fault-of : {a b : Cause} → Fault a ≡ Fault b → a ≡ b
-fault-of same = cc
+no-usage : IsDeckCause cause.Usage → ⊥
+no-usage (inl (inl is)) = cc
+no-usage (inl (inr (inl is))) = cc
+no-usage (inl (inr (inr (inl is)))) = cc
+no-usage (inl (inr (inr (inr (inl is))))) = cc
+no-usage (inl (inr (inr (inr (inr (inl is)))))) = is
+no-usage (inl (inr (inr (inr (inr (inr is)))))) = cc
+no-usage (inr (page, is)) = cc
 
-among : (asked : Option Command) (why : Cause) → (UsesKeys asked → ⊥) → MayBeRefused asked (Fault why) → (why ≡ Usage) ⊎ IsDeckCause why
-among None why never is = inl (fault-of is)
-among (Some command.Batch) why never is = inr is
-among (Some (command.Core schedule)) why never is = inr is
-among (Some (command.Make number)) why never is = inr (among-made why is)
-among (Some command.Format) why never is = inr (inl (inr (inl (fault-of is))))
-among (Some command.Migrate) why never is = inr (among-migrate why is)
-among (Some command.Check) why never is = inr (among-check why is)
-among (Some (command.Times schedule)) why never is = absurd (never tt)
+no-console : IsDeckCause cause.ConsoleFault → ⊥
+no-console (inl (inl is)) = cc
+no-console (inl (inr (inl is))) = cc
+no-console (inl (inr (inr (inl is)))) = cc
+no-console (inl (inr (inr (inr (inl is))))) = cc
+no-console (inl (inr (inr (inr (inr (inl is)))))) = is
+no-console (inl (inr (inr (inr (inr (inr is)))))) = cc
+no-console (inr (page, is)) = cc
+
+-- words that are no command, by the cause
+pub usage-is : (asked : Option Command) → MayBeRefused asked (Fault cause.Usage) → asked ≡ None
+usage-is None known = refl
+usage-is (Some command.Batch) known = absurd (no-usage known)
+usage-is (Some (command.Core schedule)) known = absurd (no-usage known)
+usage-is (Some (command.Make number)) known = absurd (no-usage (among-made cause.Usage known))
+usage-is (Some command.Format) known = cc
+usage-is (Some command.Migrate) known = absurd (no-usage (among-migrate cause.Usage known))
+usage-is (Some command.Check) known = absurd (no-usage (among-check cause.Usage known))
+usage-is (Some (command.Times schedule)) known = absurd known
 
 -- want of room is a migration's
-pub room_is : (asked : Option Command) (needed free : ℕ) → MayBeRefused asked (NoRoom needed free) → asked ≡ Some command.Migrate
-room_is None needed free is = cc
-room_is (Some command.Batch) needed free is = absurd is
-room_is (Some (command.Core schedule)) needed free is = absurd is
-room_is (Some (command.Make number)) needed free is = absurd is
-room_is (Some command.Format) needed free is = cc
-room_is (Some command.Migrate) needed free is = refl
-room_is (Some command.Check) needed free is = absurd is
-room_is (Some (command.Times schedule)) needed free is = absurd is
+room-is : (asked : Option Command) (needed free : ℕ) → MayBeRefused asked (NoRoom needed free) → asked ≡ Some command.Migrate
+room-is None needed free is = cc
+room-is (Some command.Batch) needed free is = absurd is
+room-is (Some (command.Core schedule)) needed free is = absurd is
+room-is (Some (command.Make number)) needed free is = absurd is
+room-is (Some command.Format) needed free is = cc
+room-is (Some command.Migrate) needed free is = refl
+room-is (Some command.Check) needed free is = absurd is
+room-is (Some (command.Times schedule)) needed free is = absurd is
 
--- all causes but want of memory are shut out, and for a migration want of room
-ends-of : (asked : Option Command) (why : Cause) → (why ≡ Usage) ⊎ IsDeckCause why →
-    why ≢ Usage → why ≢ ReadFault → why ≢ DiskFault → why ≢ PrintFault → why ≢ DeckLimit → (IsNotSolo why → ⊥) →
-    (IsDamaged why → ⊥) → number_of why ≡ 9
-ends-of asked why (inl is) words deck disk paper limit solo whole = absurd (words is)
-ends-of asked why (inr (inl (inl is))) words deck disk paper limit solo whole = absurd (deck is)
-ends-of asked why (inr (inl (inr (inl is)))) words deck disk paper limit solo whole = absurd (disk is)
-ends-of asked why (inr (inl (inr (inr (inl is))))) words deck disk paper limit solo whole = absurd (paper is)
-ends-of asked why (inr (inl (inr (inr (inr (inl is)))))) words deck disk paper limit solo whole = absurd (limit is)
-ends-of asked why (inr (inl (inr (inr (inr (inr (inl is))))))) words deck disk paper limit solo whole = absurd (whole is)
-ends-of asked why (inr (inl (inr (inr (inr (inr (inr is))))))) words deck disk paper limit solo whole = ap number_of is
-ends-of asked why (inr (inr is)) words deck disk paper limit solo whole = absurd (solo is)
+-- what is within the limit tells its bytes
+tells : (left : Option (List ℕ)) → IsWithinLimit left → IsSome left
+tells None within = absurd within
+tells (Some bytes) within = refl
 
-pub ends_well : (asked : Option Command) (answer : Option Refusal) → (UsesKeys asked → ⊥) → IfSome answer (MayBeRefused asked) →
-    answer ≢ Some (Fault Usage) → answer ≢ Some (Fault ReadFault) → answer ≢ Some (Fault DiskFault) →
-    answer ≢ Some (Fault PrintFault) → answer ≢ Some (Fault DeckLimit) →
-    ((page : ℕ) → answer ≢ Some (Fault (NotSolo page))) → IfSome answer (λ it. OfFault IsDamaged it → ⊥) →
-    (status_of answer ≡ 0) ⊎ ((status_of answer ≡ 9) ⊎ ((status_of answer ≡ 10) × (asked ≡ Some command.Migrate)))
-ends_well asked None never known words deck disk paper limit solo whole = inl refl
-ends_well asked (Some (NoRoom needed free)) never known words deck disk paper limit solo whole =
-    inr (inr (refl, room_is asked needed free known))
-ends_well asked (Some (Fault why)) never known words deck disk paper limit solo whole =
-    inr (inl (ends-of asked why (among asked why never known) (λ is. words (told is)) (λ is. deck (told is)) (λ is. disk (told is))
-    (λ is. paper (told is)) (λ is. limit (told is)) (λ is. solo is.0 (told is.1)) whole))
-  where
-    told : {it : Cause} → why ≡ it → Some (Fault why) ≡ Some (Fault it)
-    told is = ap (λ it. Some (Fault it)) is
+module _ {S Y K T F I O : Type 0} (before after : Kit S Y K T F I O) where
+  -- ---- no device was counted to fail
+  no-read : (keys : Bool) → Rose (reader keys before).faults (reader keys after).faults → Stayed before.deck.faults after.deck.faults
+      → IfUsed keys (Stayed before.keys.faults after.keys.faults) → ⊥
+  no-read true rose deck stayed = omega (arith, rose, stayed)
+  no-read false rose deck stayed = omega (arith, rose, deck)
 
--- the statuses that there are
-abbrev IsStatus : ℕ → Type 0
-IsStatus status =
-    (status ≡ 0) ⊎ ((status ≡ 1) ⊎ ((status ≡ 2) ⊎ ((status ≡ 3) ⊎ ((status ≡ 4) ⊎ ((status ≡ 5) ⊎ ((status ≡ 6)
-    ⊎ ((status ≡ 7) ⊎ ((status ≡ 8) ⊎ ((status ≡ 9) ⊎ (status ≡ 10))))))))))
+  no-disk : (asked : Option Command) → NothingFails asked before after
+      → Rose before.input.faults after.input.faults ⊎ Rose before.output.faults after.output.faults ⊎ Rose before.files.faults after.files.faults → ⊥
+  no-disk asked n (inl rose) = (let stayed = n.input in omega (arith, rose, stayed))
+  no-disk asked n (inr (inl rose)) = (let stayed = n.output in omega (arith, rose, stayed))
+  no-disk asked n (inr (inr rose)) = (let stayed = n.files in omega (arith, rose, stayed))
 
-known-number : (why : Cause) (status : ℕ) → status ≡ number_of why → IsStatus status
-known-number Usage status is = inr (inl is)
-known-number ReadFault status is = inr (inr (inl is))
-known-number DiskFault status is = inr (inr (inr (inl is)))
-known-number PrintFault status is = inr (inr (inr (inr (inl is))))
-known-number ConsoleFault status is = inr (inr (inr (inr (inr (inl is)))))
-known-number DeckLimit status is = inr (inr (inr (inr (inr (inr (inl is))))))
-known-number (NotSolo page) status is = inr (inr (inr (inr (inr (inr (inr (inl is)))))))
-known-number (Damaged expected found at) status is = inr (inr (inr (inr (inr (inr (inr (inr (inl is))))))))
-known-number NoMemory status is = inr (inr (inr (inr (inr (inr (inr (inr (inr (inl is)))))))))
+  no-show : (asked : Option Command) → NothingFails asked before after → MayBeRefused asked (Fault cause.ConsoleFault)
+      → Rose before.console.faults after.console.faults → ⊥
+  no-show None n known rose = cc
+  no-show (Some command.Batch) n known rose = no-console known
+  no-show (Some (command.Core schedule)) n known rose = no-console known
+  no-show (Some (command.Make number)) n known rose = no-console (among-made cause.ConsoleFault known)
+  no-show (Some command.Format) n known rose = cc
+  no-show (Some command.Migrate) n known rose = no-console (among-migrate cause.ConsoleFault known)
+  no-show (Some command.Check) n known rose = no-console (among-check cause.ConsoleFault known)
+  no-show (Some (command.Times schedule)) n known rose = (let stayed = n.console in omega (arith, rose, stayed))
 
-pub known_status : (answer : Option Refusal) (status : ℕ) → status ≡ status_of answer → IsStatus status
-known_status None status is = inl is
-known_status (Some (Fault why)) status is = known-number why status is
-known_status (Some (NoRoom needed free)) status is = inr (inr (inr (inr (inr (inr (inr (inr (inr (inr is)))))))))
+  -- ---- what is read is within the limit
+  no-limit : (asked : Option Command) → NothingFails asked before after → MayBeGiven before → MayBeRefused asked (Fault cause.DeckLimit)
+      → bytes_total (reader (uses asked).keys after).taken (reader (uses asked).keys after).left
+      ≡ bytes_total (reader (uses asked).keys before).taken (reader (uses asked).keys before).left
+      → byte_limit < (reader (uses asked).keys after).taken → ⊥
+  no-limit None n ready known total more = cc
+  no-limit (Some command.Batch) n ready known total more =
+      none-beyond after.deck.taken before.deck.taken after.deck.left before.deck.left n.deck_within ready.deck total more
+  no-limit (Some (command.Core schedule)) n ready known total more =
+      none-beyond after.deck.taken before.deck.taken after.deck.left before.deck.left n.deck_within ready.deck total more
+  no-limit (Some (command.Make number)) n ready known total more = not_limit known
+  no-limit (Some command.Format) n ready known total more = cc
+  no-limit (Some command.Migrate) n ready (inl is) total more = cc
+  no-limit (Some command.Migrate) n ready (inr (inl is)) total more = cc
+  no-limit (Some command.Migrate) n ready (inr (inr (page, is))) total more = cc
+  no-limit (Some command.Check) n ready known total more =
+      none-beyond after.deck.taken before.deck.taken after.deck.left before.deck.left n.deck_within ready.deck total more
+  no-limit (Some (command.Times schedule)) n ready known total more =
+      none-beyond after.keys.taken before.keys.taken after.keys.left before.keys.left n.keys_within ready.keys total more
 
--- status 8 comes of a damaged page alone
-pub not_eight : (answer : Option Refusal) → IfSome answer (λ it. OfFault IsDamaged it → ⊥) → status_of answer ≢ 8
-not_eight None whole is = cc
-not_eight (Some (NoRoom needed free)) whole is = cc
-not_eight (Some (Fault Usage)) whole is = cc
-not_eight (Some (Fault ReadFault)) whole is = cc
-not_eight (Some (Fault DiskFault)) whole is = cc
-not_eight (Some (Fault PrintFault)) whole is = cc
-not_eight (Some (Fault ConsoleFault)) whole is = cc
-not_eight (Some (Fault DeckLimit)) whole is = cc
-not_eight (Some (Fault (NotSolo page))) whole is = cc
-not_eight (Some (Fault (Damaged expected found at))) whole is = whole tt
-not_eight (Some (Fault NoMemory)) whole is = cc
+  told-where : (used : Bool) → IfUsed used (IsWithinLimit before.deck.left) → IfUsed used (IsSome before.deck.left)
+  told-where true within = tells before.deck.left within
+  told-where false within = tt
 
--- of a deck that told its bytes no more was taken than it had, and all of it where nothing is left
-pub taken_of : (taken before : ℕ) (left told : Option (List ℕ)) (bytes : List ℕ) → before ≡ 0 → told ≡ Some bytes →
-    bytes_total taken left ≡ bytes_total before told → (taken ≤ length bytes) × (IsAllTaken left → taken ≡ length bytes)
-taken_of taken before None told bytes zero is total =
-    absurd (let no : None ≡ Some (before + length bytes) = total ∙ ap (bytes_total before) is in cc)
-taken_of taken before (Some rest) told bytes zero is total =
-    let both : Some (taken + length rest) ≡ Some (before + length bytes) = total ∙ ap (bytes_total before) is in
-    let same : taken + length rest ≡ before + length bytes = cc in
-    (omega (arith, same, zero), λ all. (let none : length rest ≡ 0 = ap length (all rest refl) in omega (arith, same, none, zero)))
+  -- ---- all of it
+  pub completes : (asked : Option Command) (answer : Option Refusal) → asked ≢ None → NothingFails asked before after → MayBeGiven before
+      → DoesItsWork asked before after answer → Answers (uses asked) (MayBeRefused asked) before after answer
+      → (status_of answer ≡ 0) ⊎ ((status_of answer ≡ 9) ⊎ ((status_of answer ≡ 10) × (asked ≡ Some command.Migrate)))
+  completes asked None some n ready does a = inl refl
+  completes asked (Some (NoRoom needed free)) some n ready does a = inr (inr (refl, room-is asked needed free a.known))
+  completes asked (Some (Fault cause.Usage)) some n ready does a = absurd (some (usage-is asked a.known))
+  completes asked (Some (Fault cause.ReadFault)) some n ready does a = absurd (no-read (uses asked).keys (a.read refl) n.deck n.keys)
+  completes asked (Some (Fault cause.DiskFault)) some n ready does a = absurd (no-disk asked n (a.disk refl))
+  completes asked (Some (Fault cause.PrintFault)) some n ready does a = absurd (let rose = a.print refl in let stayed = n.paper in omega (arith, rose, stayed))
+  completes asked (Some (Fault cause.ConsoleFault)) some n ready does a = absurd (no-show asked n a.known (a.shown refl))
+  completes asked (Some (Fault cause.DeckLimit)) some n ready does a = absurd (no-limit asked n ready a.known a.total (a.limit refl))
+  completes asked (Some (Fault (cause.NotSolo page))) some n ready does a = absurd (none-named before after asked page n.usable a.known does)
+  completes asked (Some (Fault (cause.Damaged expected found at))) some n ready does a =
+      absurd (a.undamaged n.input_told n.output_told (told-where (uses asked).deck n.deck_within) refl)
+  completes asked (Some (Fault cause.NoMemory)) some n ready does a = inr (inl refl)
 
--- a deck that told its bytes tells that none is left, where all were taken
-pub emptied : (taken before : ℕ) (left told : Option (List ℕ)) (bytes : List ℕ) → told ≡ Some bytes →
-    bytes_total taken left ≡ bytes_total before told → IsAllTaken left → left ≡ Some []
-emptied taken before None told bytes is total all =
-    absurd (let no : None ≡ Some (before + length bytes) = total ∙ ap (bytes_total before) is in cc)
-emptied taken before (Some rest) told bytes is total all = ap Some (all rest refl)
-
--- a deck that tells its bytes has some
-pub told_bytes : (left : Option (List ℕ)) → IsSome left → (bytes : List ℕ) × (left ≡ Some bytes)
-told_bytes None is = absurd cc
-told_bytes (Some bytes) is = (bytes, refl)
+-- ---- status 1
+pub usage : {S Y K T F I O : Type 0} {before after : Kit S Y K T F I O} (asked : Option Command) (answer : Option Refusal)
+    → DoesItsWork asked before after answer → Answers (uses asked) (MayBeRefused asked) before after answer → (status_of answer ≡ 1) ↔ (asked ≡ None)
+usage {before = before} {after = after} asked answer does a = (
+  λ one. usage-is asked (subst (λ answer. IfSome answer (MayBeRefused asked)) (by_one answer one) a.known),
+  λ none. ap status_of (subst (λ asked. DoesItsWork asked before after answer) none does),
+)

@@ -10,10 +10,10 @@ use Rattle.core_law.specs.Holds.{AreTold}
 use Rattle.core_law.specs.Opening.{Spools, AreInBounds, AreCards, AreGoodFiles, Opening, opened, first_state}
 use Rattle.core_law.specs.TheLaw.{TellsAll, the_law}
 use Rattle.network_run.specs.declared.counts.Counts.{Counts}
-use Rattle.core_net.specs.declared.finish.Outcomes.{Outcomes}
+use Rattle.batch_ends.specs.declared.ends.Outcomes.{Outcomes}
 use Rattle.network_run.specs.declared.rules.Rule.{Rule}
 use Rattle.network_run.specs.Counting.{counts_of}
-use Rattle.core_net.specs.Ended.{all_done}
+use Rattle.batch_ends.specs.Ended.{all_done}
 use Rattle.core_net.specs.WholeRuns.{RunsToEnd}
 use Rattle.core_law.proofs.Law.{opening-reached, sound, sure}
 use Rattle.batch_procs.specs.Parts.{some-same}
@@ -52,11 +52,11 @@ tells-all spools items paper files found good bounds valid are told =
 
 pub counted-whole : (spools : Spools) (items : List Item) (found : Loads) {paper : Option (List ℕ)} {files : Option Loads} {rule : Rule} {counts : Counts}
     {outcomes : Outcomes} {stops : List (Option Side)} {devices : Devices Loaded} → AreGoodFiles deck_jobs files → AreInBounds spools → AreItems items
-    → AreFound files found items → RunsToEnd rule (opened spools (Some items) paper files) counts outcomes stops devices
+    → AreFound files found items → RunsToEnd deck_jobs rule (opened spools (Some items) paper files) counts outcomes stops devices
     → AreTold spools → outcomes ≡ all_done → AreItsCounts (the_law deck_jobs) rule (opened spools (Some items) paper files) counts
 counted-whole spools items found {paper = paper} {files = files} good bounds valid are runs told all =
     let o = opening_of spools items paper files good bounds valid in
-    where-done o (first_state o) (opening-reached deck_are_jobs o) (tells-all spools items paper files found good bounds valid are told) runs all
+    where-done deck_are_jobs o (first_state o) (opening-reached deck_are_jobs o) (tells-all spools items paper files found good bounds valid are told) runs all
 
 -- whether it is run or not
 pub the-run : (spools : Spools) (items : List Item) (paper : Option (List ℕ)) (files : Option Loads) (found : Loads) (rule : Rule)

@@ -1,12 +1,17 @@
 mod Statuses
 mod Complete
-mod Endings
-mod Gaining
-mod Mounts
+mod LowestCause
+mod DeckAnswers
+mod ReadToEnd
+mod Mounted
+mod Unmounted
+mod Uncounted
+mod DeckRan
+mod MadeRuns
+mod MemoryRuns
 mod Migrations
 mod Lowest
 mod AllDone
-mod Reasons
 mod Adding
 mod Counted
 mod FewCards
@@ -15,11 +20,9 @@ mod TextNumbers
 mod MoreLines
 mod WordNumbers
 mod NoFiles
-mod UnprintedNumbers
-mod MadeRuns
-mod UncountedRuns
-mod Reading
 mod ReadingItems
-mod Checks
+pub mod Printings
 mod Scripts
-mod Keyed
+mod KeysAnswers
+mod FilesAnswers
+mod Judging

@@ -1,5 +1,5 @@
 -- The number behind `make` is one that there is a deck of.
-use Rattle.std.proofs.Common.{◌≡◌, ◌≤◌, ◌==◌, ℕ, Bool, true, false, nat_le, if◌then◌else◌, List, [], ◌∷◌, ◌++◌, Option, Some, None, refl, arith}
+use Rattle.std.proofs.Common.{◌≡◌, ◌≤◌, ◌==◌, ℕ, Bool, true, false, nat_le, if◌then◌else◌, List, [], ◌∷◌, ◌++◌, Option, Some, None, length, map, refl, arith}
 use Rattle.std.specs.Prelude.{◌&&◌, option_map, option_and_then, codes}
 use Rattle.std.specs.Option.{option_or}
 use Rattle.std.specs.Str.{bytes_eq}
@@ -9,7 +9,7 @@ use Rattle.solo_cli.specs.declared.words.Command.{Command}
 use Rattle.solo_cli.specs.declared.words.Command.TheVariants as command
 use Rattle.solo_cli.specs.declared.words.Numbered.{Numbered}
 use Rattle.solo_cli.specs.declared.words.Numbered.TheVariants as numbered
-use Rattle.solo_cli.specs.Words.{form, takes_number, option_of, greatest_number, with_number, number_behind, apart_of, apart, joined_of, joined}
+use Rattle.solo_cli.specs.Words.{HasNumber, form, takes_number, option_of, greatest_number, with_number, number_behind, apart_of, apart, joined_of, joined}
 
 -- a command has a number of a deck
 abbrev IsMadeOf : ℕ → Option Command → Type 0
@@ -90,3 +90,25 @@ number_made (first ∷ second ∷ third ∷ []) n =
     or-both (apart first second third) (apart third first second) n (with-apart first second third (takes_number first) n)
     (with-apart third first second (takes_number third) n)
 number_made (first ∷ second ∷ third ∷ fourth ∷ others) n = λ is. cc
+
+-- and so the number of a command that there is
+has-of : (words : List (List ℕ)) (found : Option Command) → form words ≡ found → HasNumber found
+has-of words None is = tt
+has-of words (Some command.Batch) is = tt
+has-of words (Some (command.Core schedule)) is = tt
+has-of words (Some (command.Make number)) is = number_made words number is
+has-of words (Some command.Format) is = tt
+has-of words (Some command.Migrate) is = tt
+has-of words (Some command.Check) is = tt
+has-of words (Some (command.Times schedule)) is = tt
+
+pub has-number : (words : List (List ℕ)) → HasNumber (form words)
+has-number words = has-of words (form words) refl
+
+-- four words and more are no command
+pub four-words : {A : Type 0} (f : A → List ℕ) (words : List A) → 4 ≤ length words → None ≡ form (map f words)
+four-words f [] more = absurd (omega (arith, more))
+four-words f (a ∷ []) more = absurd (omega (arith, more))
+four-words f (a ∷ b ∷ []) more = absurd (omega (arith, more))
+four-words f (a ∷ b ∷ c ∷ []) more = absurd (omega (arith, more))
+four-words f (a ∷ b ∷ c ∷ d ∷ others) more = refl

@@ -1,15 +1,12 @@
 -- Why a command didn't do its whole work.
-use Rattle.std.specs.Prelude.{◌≡◌, ◌<◌, ◌⊎◌, ℕ, List, Option, Some, None}
+use Rattle.std.specs.Prelude.{◌≡◌, ◌⊎◌, ℕ, Option, Some, None}
 use Rattle.solo_base.specs.declared.outcome.Cause.{Cause}
 use Rattle.solo_base.specs.declared.outcome.Cause.TheVariants as cause
-use Rattle.solo_devices.specs.Count.{Rose}
-use Rattle.solo_devices.specs.CardUnit.{byte_limit, bytes_total}
+use Rattle.batch_ends.specs.Ended.{TellsWhere}
 use Rattle.disk_files.specs.declared.fault.FileFault.{FileFault}
 use Rattle.disk_files.specs.declared.fault.FileFault.TheVariants as files
 use Rattle.disk_system.specs.declared.migrating.MigrateFault.{MigrateFault}
 use Rattle.disk_system.specs.declared.migrating.MigrateFault.TheVariants as migrating
-use Rattle.core_net.specs.Causes.{Counts}
-use Rattle.core_net.specs.Faults.{Peripherals}
 use Rattle.solo_cli.specs.declared.refusal.Refusal.{Refusal}
 use Rattle.solo_cli.specs.declared.refusal.Refusal.TheVariants.{Fault, NoRoom}
 use Rattle.solo_cli.specs.declared.words.Command.{Command}
@@ -47,6 +44,11 @@ abbrev pub OfFault : (Cause → Type 0) → Refusal → Type 0
 OfFault holds (Fault why) = holds why
 OfFault holds (NoRoom needed free) = ⊥
 
+-- where it is a damaged page its numbers agree
+abbrev pub TellsPlace : Refusal → Type 0
+TellsPlace (Fault why) = TellsWhere why
+TellsPlace (NoRoom needed free) = Unit {0}
+
 abbrev pub IsNotSolo : Cause → Type 0
 IsNotSolo why = (page : ℕ) × (why ≡ cause.NotSolo page)
 
@@ -68,29 +70,11 @@ MayRefuseMigration (NoRoom needed free) = Unit {0}
 
 -- why each command may be refused
 abbrev pub MayBeRefused : Option Command → Refusal → Type 0
-MayBeRefused None refusal = refusal ≡ Fault cause.Usage
-MayBeRefused (Some command.Batch) refusal = OfFault IsDeckCause refusal
-MayBeRefused (Some (command.Core schedule)) refusal = OfFault IsDeckCause refusal
-MayBeRefused (Some (command.Make number)) refusal = OfFault IsMadeDeckCause refusal
-MayBeRefused (Some command.Format) refusal = refusal ≡ Fault cause.DiskFault
-MayBeRefused (Some command.Migrate) refusal = MayRefuseMigration refusal
-MayBeRefused (Some command.Check) refusal = OfFault IsCheckCause refusal
-MayBeRefused (Some (command.Times schedule)) refusal = OfFault IsTimesCause refusal
-
--- Each cause has its reason, as in a run.
-pub record HasItsReason {S K A B F : Type 0} (counts : Counts S K A B F) (left : S → Option (List ℕ))
-    (before now : Peripherals S K A B F) (answer : Option Refusal) : Type 0 where
-  pub read : answer ≡ Some (Fault cause.ReadFault)
-      → Rose (counts.read_faults before.source) (counts.read_faults now.source)
-  pub disk : answer ≡ Some (Fault cause.DiskFault)
-      → Rose (counts.input_faults before.input) (counts.input_faults now.input)
-      ⊎ Rose (counts.output_faults before.output) (counts.output_faults now.output)
-      ⊎ Rose (counts.file_faults before.files) (counts.file_faults now.files)
-  pub print : answer ≡ Some (Fault cause.PrintFault)
-      → Rose (counts.print_faults before.sink) (counts.print_faults now.sink)
-  pub limit : answer ≡ Some (Fault cause.DeckLimit) → byte_limit < counts.taken now.source
-  pub beyond : byte_limit < counts.taken now.source
-      → (answer ≡ Some (Fault cause.DiskFault)) ⊎ (answer ≡ Some (Fault cause.PrintFault))
-      ⊎ (answer ≡ Some (Fault cause.DeckLimit))
-  pub total : bytes_total (counts.taken now.source) (left now.source)
-      ≡ bytes_total (counts.taken before.source) (left before.source)
+MayBeRefused None = λ refusal. refusal ≡ Fault cause.Usage
+MayBeRefused (Some command.Batch) = OfFault IsDeckCause
+MayBeRefused (Some (command.Core schedule)) = OfFault IsDeckCause
+MayBeRefused (Some (command.Make number)) = OfFault IsMadeDeckCause
+MayBeRefused (Some command.Format) = λ refusal. refusal ≡ Fault cause.DiskFault
+MayBeRefused (Some command.Migrate) = MayRefuseMigration
+MayBeRefused (Some command.Check) = OfFault IsCheckCause
+MayBeRefused (Some (command.Times schedule)) = OfFault IsTimesCause

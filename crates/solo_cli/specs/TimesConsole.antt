@@ -9,21 +9,17 @@ use Rattle.network_run.specs.OneRun.{AreItsCounts}
 use Rattle.real_time.specs.Starts.{times}
 use Rattle.real_time.specs.States.{TimeState, opened}
 use Rattle.real_time.specs.TimesLaw.{timing}
-use Rattle.time_net.specs.TimesRuns.{TimesRun}
 use Rattle.solo_cli.specs.CountsLine.{counts_line}
 
 -- the nine before the first of these lines, at a console that has this
 abbrev pub script_opened : List Item → Option (List ℕ) → TimeState
 script_opened items console = opened record { keys = Some items; console = console }
 
--- Of a run by the rule over these typed lines the console gains their lines and behind them the line of its
--- counts, without a grant, or a prefix of it; all of it where this holds. Then the counts are those of the
--- one run by the rule in which no device fails.
+-- Of these typed lines the console gains their lines and behind them the line of these counts, without a
+-- grant, or a prefix of it; all of it where this holds. The counts are those of the one run by the rule in
+-- which no device fails, whatever became of the run.
 pub record GainsTimes (rule : Rule) (items : List Item) (before now : Option (List ℕ)) (all : Type 0) : Type 0
   where
     pub counts : Counts
-    pub left : Option (List Item)
-    pub shown : Option (List ℕ)
-    pub runs : TimesRun rule (script_opened items before) counts left shown
+    pub counted : AreItsCounts timing rule (script_opened items before) counts
     pub gains : Gains before now (text (times items ++ counts_line counts.events counts.delays 0 ∷ [])) all
-    pub counted : all → AreItsCounts timing rule (script_opened items before) counts

@@ -1,5 +1,5 @@
 -- The command that words are.
-use Rattle.std.specs.Prelude.{ℕ, List, [], ◌∷◌, ◌++◌, ◌==◌, Option, Some, None, codes, option_map, option_and_then, if◌then◌else◌}
+use Rattle.std.specs.Prelude.{◌≤◌, ℕ, List, [], ◌∷◌, ◌++◌, ◌==◌, Option, Some, None, codes, map, option_map, option_and_then, string_bytes, String, if◌then◌else◌}
 use Rattle.std.specs.Option.{option_or}
 use Rattle.std.specs.Str.{bytes_eq}
 use Rattle.deck_format.specs.Numeral.{number_within}
@@ -72,3 +72,18 @@ form (word ∷ []) = alone word
 form (first ∷ second ∷ []) = option_or (joined first second) (joined second first)
 form (first ∷ second ∷ third ∷ []) = option_or (apart first second third) (apart third first second)
 form (first ∷ second ∷ third ∷ fourth ∷ others) = None
+
+-- what the words of a command line ask for
+abbrev pub asked : {Z : Type 0} → List (String Z) → Option Command
+asked words = form (map (λ word. string_bytes word) words)
+
+-- the number of a deck is one that there is a deck of
+abbrev pub HasNumber : Option Command → Type 0
+HasNumber None = Unit {0}
+HasNumber (Some command.Batch) = Unit {0}
+HasNumber (Some (command.Core schedule)) = Unit {0}
+HasNumber (Some (command.Make number)) = number ≤ 50000
+HasNumber (Some command.Format) = Unit {0}
+HasNumber (Some command.Migrate) = Unit {0}
+HasNumber (Some command.Check) = Unit {0}
+HasNumber (Some (command.Times schedule)) = Unit {0}

@@ -2,19 +2,22 @@
 #![tactic(auto)]
 
 mod access_lines;
-mod checking;
-mod choosing;
+mod batch;
+mod check;
 mod command;
+mod core_run;
 mod counts;
-mod deciding;
 mod deck_numbers;
-mod file_commands;
-mod making;
+mod devices;
+mod ending;
+mod format;
+mod make;
+mod migrate;
 mod mounting;
+mod printing;
 mod refusal;
-mod runs;
 mod status;
-mod timetable;
+mod times;
 mod words;
 
 pub use command::{Finished, top};

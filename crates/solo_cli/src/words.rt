@@ -1,6 +1,5 @@
-ghost use Rattle.std.specs.Prelude.{◌≡◌, ◌++◌, ◌∷◌, [], length, map, string_bytes};
-ghost use Rattle.solo_cli.specs.Uses.{times_number};
-ghost use Rattle.solo_cli.specs.Words.{form, alone, takes_number, option_of, greatest_number, with_number, number_behind, apart, joined};
+ghost use Rattle.std.specs.Prelude.{◌≡◌, ◌++◌, ◌∷◌, []};
+ghost use Rattle.solo_cli.specs.Words.{asked, alone, takes_number, option_of, greatest_number, with_number, number_behind, apart, joined};
 
 use deck_format::number_within;
 use made_deck::LAST_NUMBER;
@@ -37,7 +36,7 @@ const DIGITS: usize = 10;
 
 /// The command that the words are, or `None` where they are no written form.
 pub fn command_of(words: &[String]) -> Option<Command>
-    ensures { result ≡ form (map (λ word. string_bytes word) words.now) }
+    ensures { result ≡ asked words.now }
 {
     match words {
         [word] => alone(word.as_str()),
@@ -49,16 +48,6 @@ pub fn command_of(words: &[String]) -> Option<Command>
             let (first, second, third) = (first.as_str(), second.as_str(), third.as_str());
             apart(first, second, third).or(apart(third, first, second))
         }
-        _ => None,
-    }
-}
-
-/// The number of the schedule of a command that reads the keys.
-pub fn schedule_of(command: Option<Command>) -> Option<u32>
-    ensures { result ≡ times_number command }
-{
-    match command {
-        Some(Command::Times { schedule }) => Some(schedule),
         _ => None,
     }
 }

@@ -1,4 +1,4 @@
-use Rattle.solo_cli.proofs.Keyed.{four-words}
+use Rattle.solo_cli.proofs.WordNumbers.{four-words}
 use Rattle.std.specs.Prelude.{string_bytes}
 use Rattle.solo_cli.proofs.words.command_of.Goals as goal
 

@@ -1,5 +1,0 @@
-use Rattle.std.proofs.Common.{length}
-use Rattle.solo_cli.proofs.making.+print_lines.Given as goal
-
-abbrev pub decreases-print_lines : goal.decreases-print_lines
-decreases-print_lines g l = length l.lines.now

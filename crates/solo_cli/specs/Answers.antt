@@ -1,0 +1,67 @@
+-- Why a command ended as it did, told by its devices.
+use Rattle.std.specs.Prelude.{◌≡◌, ◌≢◌, ◌<◌, ◌⊎◌, Option, Some, IfSome, IsSome}
+use Rattle.solo_base.specs.declared.outcome.Cause.{Cause}
+use Rattle.solo_base.specs.declared.outcome.Cause.TheVariants as cause
+use Rattle.solo_devices.specs.Count.{Rose, Stayed}
+use Rattle.solo_devices.specs.CardUnit.{byte_limit, bytes_total}
+use Rattle.solo_cli.specs.declared.refusal.Refusal.{Refusal}
+use Rattle.solo_cli.specs.declared.refusal.Refusal.TheVariants.{Fault}
+use Rattle.solo_cli.specs.declared.words.Command.{Command}
+use Rattle.solo_cli.specs.Causes.{IsWithinLimit}
+use Rattle.solo_cli.specs.Devices.{Kit}
+use Rattle.solo_cli.specs.FileCommands.{CanUse}
+use Rattle.solo_cli.specs.Refusals.{OfFault, TellsPlace}
+use Rattle.solo_cli.specs.Status.{status_of}
+use Rattle.solo_cli.specs.Uses.{DevicesUsed, Kept, IfUsed, reader, uses}
+
+-- Why a command ended so that uses these devices and may have these causes.
+pub record Answers {S Y K T F I O : Type 0} (used : DevicesUsed) (MayBe : Refusal → Type 0)
+    (before after : Kit S Y K T F I O) (answer : Option Refusal) : Type 0 where
+  pub known : IfSome answer MayBe
+  -- Each fault was counted by its own device since.
+  pub read : answer ≡ Some (Fault cause.ReadFault)
+      → Rose (reader used.keys before).faults (reader used.keys after).faults
+  pub disk : answer ≡ Some (Fault cause.DiskFault) → Rose before.input.faults after.input.faults
+      ⊎ Rose before.output.faults after.output.faults ⊎ Rose before.files.faults after.files.faults
+  pub print : answer ≡ Some (Fault cause.PrintFault) → Rose before.paper.faults after.paper.faults
+  pub shown : answer ≡ Some (Fault cause.ConsoleFault) → Rose before.console.faults after.console.faults
+  -- The limit came where too many bytes were taken; then only a fault of the disk or the paper comes first.
+  pub limit : answer ≡ Some (Fault cause.DeckLimit) → byte_limit < (reader used.keys after).taken
+  pub beyond : byte_limit < (reader used.keys after).taken
+      → (answer ≡ Some (Fault cause.DiskFault)) ⊎ (answer ≡ Some (Fault cause.PrintFault))
+      ⊎ (answer ≡ Some (Fault cause.DeckLimit))
+  -- No page is damaged of a deck that tells its bytes, over spools that tell their pages.
+  pub undamaged : IsSome before.input.pages → IsSome before.output.pages
+      → IfUsed used.deck (IsSome before.deck.left) → status_of answer ≢ 8
+  -- The numbers of a damaged page agree: the one found differs from the one expected exactly where byte 0 is
+  -- the first that is wrong.
+  pub numbers : IfSome answer TellsPlace
+  -- No byte of what is read is lost, and no device changes that isn't used.
+  pub total : bytes_total (reader used.keys after).taken (reader used.keys after).left
+      ≡ bytes_total (reader used.keys before).taken (reader used.keys before).left
+  pub kept : Kept used before after
+  pub size : after.files.size ≡ before.files.size
+
+-- What a run does with these devices, and why it ended so.
+abbrev pub AsRun : {S Y K T F I O : Type 0}
+    → (Kit S Y K T F I O → Kit S Y K T F I O → Option Refusal → Type 0) → DevicesUsed → (Cause → Type 0)
+    → Kit S Y K T F I O → Kit S Y K T F I O → Option Refusal → Type 0
+AsRun Runs used May before after answer =
+    Runs before after answer × Answers used (OfFault May) before after answer
+
+-- What a command is asked for can be done: of what it reads there are bytes within the limit, its spools tell
+-- their pages, its files are those that it wants, and no device was counted to fail.
+pub record NothingFails {S Y K T F I O : Type 0} (asked : Option Command) (before after : Kit S Y K T F I O)
+    : Type 0 where
+  pub deck_within : IfUsed (uses asked).deck (IsWithinLimit before.deck.left)
+  pub keys_within : IfUsed (uses asked).keys (IsWithinLimit before.keys.left)
+  pub usable : CanUse asked before.files.pages
+  pub input_told : IsSome before.input.pages
+  pub output_told : IsSome before.output.pages
+  pub deck : Stayed before.deck.faults after.deck.faults
+  pub keys : IfUsed (uses asked).keys (Stayed before.keys.faults after.keys.faults)
+  pub paper : Stayed before.paper.faults after.paper.faults
+  pub console : IfUsed (uses asked).console (Stayed before.console.faults after.console.faults)
+  pub files : Stayed before.files.faults after.files.faults
+  pub input : Stayed before.input.faults after.input.faults
+  pub output : Stayed before.output.faults after.output.faults

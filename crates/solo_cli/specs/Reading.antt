@@ -1,0 +1,10 @@
+-- What is read to its end.
+use Rattle.std.specs.Prelude.{◌≡◌, ◌<◌, ℕ, List, [], Option, Some, length}
+use Rattle.solo_devices.specs.CardUnit.{byte_limit}
+use Rattle.solo_cli.specs.Devices.{SourceTold}
+
+-- Where all is done nothing is left of what told its bytes. That never comes where there are more of them
+-- than the limit allows.
+pub record ReadsToEnd {S : Type 0} (before after : SourceTold S) (all : Type 0) : Type 0 where
+  pub emptied : (bytes : List ℕ) → before.left ≡ Some bytes → all → after.left ≡ Some []
+  pub longer : (bytes : List ℕ) → before.left ≡ Some bytes → byte_limit < length bytes → all → ⊥
