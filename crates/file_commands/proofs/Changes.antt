@@ -14,7 +14,7 @@ use Rattle.solo_task.specs.Doing.{lists, deletes, renames, renamed, protects, pr
 use Rattle.file_commands.specs.declared.fault.CommandFault.{CommandFault}
 use Rattle.file_commands.specs.declared.fault.CommandFault.TheVariants as lacks
 use Rattle.file_commands.specs.Counting.{count_line, CountBehind}
-use Rattle.file_commands.specs.Settling.{answered, IsSettled, IsAnswered, SettledIn}
+use Rattle.file_commands.specs.Settling.{change_line, IsSettledSo, IsAnsweredSo, SettledIn}
 
 same_fault : (a b : FileFault) → ◌≡◌ {A = Result (Unit {0}) FileFault} (Err a) (Err b) → a ≡ b
 same_fault a b e = cc
@@ -29,7 +29,7 @@ refused word expected pages now fault after line gives is told =
 pub changed : (word : List ℕ) (expected : Result (Unit {0}) FileFault) (pages : List (List ℕ)) (now : Files) (unused : ℕ)
     (result : Result (Unit {0}) FileFault) (after : Option (List (List ℕ))) → Answers result expected
     → OnOk result (Holds after now unused) → IfErr result (λ fault. (fault ≡ DiskFault) ⊎ (after ≡ Some pages))
-    → IsAnswered (becomes word expected now) pages (answered word result) after
+    → IsAnsweredSo (becomes word expected now) pages (change_line word result) after
 changed word expected pages now unused (Ok done) after (inl failed) holds stays = absurd cc
 changed word expected pages now unused (Ok done) after (inr is) holds stays = record {
   pages = holds.pages;
@@ -82,13 +82,13 @@ pub deleted : (name : List ℕ) (pages : List (List ℕ)) (unused : File → ℕ
     → Answers result (delete_answer (fin.get (files pages) name))
     → ((file : File) → fin.get (files pages) name ≡ Some file → OnOk result (Holds after (fin.remove (files pages) name) (unused file)))
     → IfErr result (λ fault. (fault ≡ DiskFault) ⊎ (after ≡ Some pages))
-    → IsAnswered (deletes (files pages) name) pages (answered (codes "DELETE") result) after
+    → IsAnsweredSo (deletes (files pages) name) pages (change_line (codes "DELETE") result) after
 deleted name pages unused result after = by (fin.get (files pages) name)
   where
     by : (found : Option File) → Answers result (delete_answer found)
         → ((file : File) → found ≡ Some file → OnOk result (Holds after (fin.remove (files pages) name) (unused file)))
         → IfErr result (λ fault. (fault ≡ DiskFault) ⊎ (after ≡ Some pages))
-        → IsAnswered (becomes (codes "DELETE") (delete_answer found) (fin.remove (files pages) name)) pages (answered (codes "DELETE") result) after
+        → IsAnsweredSo (becomes (codes "DELETE") (delete_answer found) (fin.remove (files pages) name)) pages (change_line (codes "DELETE") result) after
     by None answers holds stays =
         changed (codes "DELETE") (Err NoFile) pages (fin.remove (files pages) name) 0 result after answers
         (no-file (fin.remove (files pages) name) (files pages) 0 after result answers) stays
@@ -100,14 +100,14 @@ pub renamed-so : (old new : List ℕ) (pages : List (List ℕ)) (unused : ℕ) (
     → ((file : File) → fin.get (files pages) old ≡ Some file
     → OnOk result (Holds after (fin.insert (fin.remove (files pages) old) new file) unused))
     → IfErr result (λ fault. (fault ≡ DiskFault) ⊎ (after ≡ Some pages))
-    → IsAnswered (renames (files pages) old new) pages (answered (codes "RENAME") result) after
+    → IsAnsweredSo (renames (files pages) old new) pages (change_line (codes "RENAME") result) after
 renamed-so old new pages unused result after = by (fin.get (files pages) old)
   where
     by : (found : Option File) → Answers result (rename_answer found (fin.get (files pages) new))
         → ((file : File) → found ≡ Some file → OnOk result (Holds after (fin.insert (fin.remove (files pages) old) new file) unused))
         → IfErr result (λ fault. (fault ≡ DiskFault) ⊎ (after ≡ Some pages))
-        → IsAnswered (becomes (codes "RENAME") (rename_answer found (fin.get (files pages) new)) (renamed (files pages) old new found)) pages
-        (answered (codes "RENAME") result) after
+        → IsAnsweredSo (becomes (codes "RENAME") (rename_answer found (fin.get (files pages) new)) (renamed (files pages) old new found)) pages
+        (change_line (codes "RENAME") result) after
     by None answers holds stays =
         changed (codes "RENAME") (Err NoFile) pages (files pages) 0 result after answers (no-file (files pages) (files pages) 0 after result answers) stays
     by (Some file) answers holds stays =
@@ -119,13 +119,14 @@ pub protected-so : (name : List ℕ) (on : Bool) (pages : List (List ℕ)) (unus
     → ((file : File) → fin.get (files pages) name ≡ Some file
     → OnOk result (Holds after (fin.insert (files pages) name (with_protection file on)) unused))
     → IfErr result (λ fault. (fault ≡ DiskFault) ⊎ (after ≡ Some pages))
-    → IsAnswered (protects (files pages) name on) pages (answered (codes "PROTECT") result) after
+    → IsAnsweredSo (protects (files pages) name on) pages (change_line (codes "PROTECT") result) after
 protected-so name on pages unused result after = by (fin.get (files pages) name)
   where
     by : (found : Option File) → Answers result (protect_answer found)
         → ((file : File) → found ≡ Some file → OnOk result (Holds after (fin.insert (files pages) name (with_protection file on)) unused))
         → IfErr result (λ fault. (fault ≡ DiskFault) ⊎ (after ≡ Some pages))
-        → IsAnswered (becomes (codes "PROTECT") (protect_answer found) (protected (files pages) name on found)) pages (answered (codes "PROTECT") result) after
+        → IsAnsweredSo (becomes (codes "PROTECT") (protect_answer found) (protected (files pages) name on found))
+        pages (change_line (codes "PROTECT") result) after
     by None answers holds stays =
         changed (codes "PROTECT") (Err NoFile) pages (files pages) 0 result after answers (no-file (files pages) (files pages) 0 after result answers) stays
     by (Some file) answers holds stays =
@@ -137,7 +138,7 @@ as-many : (all : Files) → length (file_lines all) ≡ fin.len all
 as-many all = length-map (fin.entries all) (λ e. file_line e.0 e.1) ∙ sym (fin.len-entries all)
 
 pub listed : (pages lines : List (List ℕ)) (result : Result (List (List ℕ)) CommandFault) (after : Option (List (List ℕ)))
-    → lines ≡ file_lines (files pages) → CountBehind lines result → after ≡ Some pages → IsSettled (lists (files pages)) pages result after
+    → lines ≡ file_lines (files pages) → CountBehind lines result → after ≡ Some pages → IsSettledSo (lists (files pages)) pages result after
 listed pages lines (Ok all) after is counted told = record {
   pages = pages;
   told = told;

@@ -20,8 +20,8 @@ use Rattle.disk_system.specs.declared.fault.SystemFault.TheVariants.{File as OfF
 use Rattle.disk_system.specs.Calls.{room_answer, store_answer, as_system, StoreAnswers}
 use Rattle.program_task.specs.OpenFiles.{pages_free}
 use Rattle.solo_task.specs.Answers.{becomes, stores}
-use Rattle.file_commands.specs.Settling.{answered, IsAnswered}
-use Rattle.file_commands.specs.Stores.{stored}
+use Rattle.file_commands.specs.Settling.{change_line, IsAnsweredSo}
+use Rattle.file_commands.specs.Stores.{store_line}
 use Rattle.file_commands.proofs.Changes.{changed}
 
 -- ---- Names
@@ -105,20 +105,20 @@ as_file fault (Err other) e = ap (λ f. Err f) (system_file fault other e)
 
 no_memory : (expected : Result (Unit {0}) FileFault)
     → (word : List ℕ) (pages : List (List ℕ)) (now : Files) (after : Option (List (List ℕ))) (fault : FileFault)
-    → fault ≡ NoMemory → after ≡ Some pages → IsAnswered (becomes word expected now) pages (answered word (Err fault)) after
+    → fault ≡ NoMemory → after ≡ Some pages → IsAnsweredSo (becomes word expected now) pages (change_line word (Err fault)) after
 no_memory expected word pages now after fault is told =
-    subst (λ f. IsAnswered (becomes word expected now) pages (answered word (Err f)) after) (sym is) told
+    subst (λ f. IsAnsweredSo (becomes word expected now) pages (change_line word (Err f)) after) (sym is) told
 
 failed : (expected : Result (Unit {0}) FileFault) → (word : List ℕ) (pages : List (List ℕ)) (now : Files) (after : Option (List (List ℕ))) (fault : FileFault)
-    → fault ≡ DiskFault → IsAnswered (becomes word expected now) pages (answered word (Err fault)) after
+    → fault ≡ DiskFault → IsAnsweredSo (becomes word expected now) pages (change_line word (Err fault)) after
 failed expected word pages now after fault is =
-    subst (λ f. IsAnswered (becomes word expected now) pages (answered word (Err f)) after) (sym is) tt
+    subst (λ f. IsAnsweredSo (becomes word expected now) pages (change_line word (Err f)) after) (sym is) tt
 
 -- what a store came to
 store_changes : (word : List ℕ) (expected : Result (Unit {0}) FileFault) (pages : List (List ℕ)) (now : Files) (unused : ℕ)
     (result : Result (Unit {0}) SystemFault) (after : Option (List (List ℕ))) → StoreAnswers result expected
     → OnOk result (Holds after now unused) → IfErr result (λ fault. (fault ≡ OfFiles DiskFault) ⊎ (after ≡ Some pages))
-    → IsAnswered (becomes word expected now) pages (stored word result) after
+    → IsAnsweredSo (becomes word expected now) pages (store_line word result) after
 store_changes word expected pages now unused (Ok done) after (inl f) holds stays = absurd cc
 store_changes word expected pages now unused (Ok done) after (inr (inl f)) holds stays = absurd cc
 store_changes word (Ok other) pages now unused (Ok done) after (inr (inr is)) holds stays =
@@ -147,9 +147,9 @@ pub store-settles : (word : List ℕ) (pages : List (List ℕ)) (name : List ℕ
     → StoreAnswers result (store_answer (fin.get (files pages) name) (name_count pages) (free_count pages) count)
     → OnOk result (Holds after (fin.insert (files pages) name file) unused)
     → IfErr result (λ fault. (fault ≡ OfFiles DiskFault) ⊎ (after ≡ Some pages))
-    → IsAnswered (stores word (files pages) name file) pages (stored word result) after
+    → IsAnsweredSo (stores word (files pages) name file) pages (store_line word result) after
 store-settles word pages name file count unused result after solo free many new answers holds stays =
-    subst (λ e. IsAnswered (becomes word e (fin.insert (files pages) name file)) pages (stored word result) after)
+    subst (λ e. IsAnsweredSo (becomes word e (fin.insert (files pages) name file)) pages (store_line word result) after)
     (sym (room-is pages count (length file.pages) solo free many))
     (store_changes word (store_answer None (name_count pages) (free_count pages) count) pages (fin.insert (files pages) name file) unused result after
     (subst (λ o. StoreAnswers result (store_answer o (name_count pages) (free_count pages) count)) new answers) holds stays)
@@ -161,9 +161,9 @@ pub change-settles : (word : List ℕ) (pages : List (List ℕ)) (name : List �
     → Answers result (store_answer (fin.get (files pages) name) (name_count pages) (free_count pages) count)
     → OnOk result (Holds after (fin.insert (files pages) name file) unused)
     → IfErr result (λ fault. (fault ≡ DiskFault) ⊎ (after ≡ Some pages))
-    → IsAnswered (stores word (files pages) name file) pages (answered word result) after
+    → IsAnsweredSo (stores word (files pages) name file) pages (change_line word result) after
 change-settles word pages name file count unused result after solo free many new answers holds stays =
-    subst (λ e. IsAnswered (becomes word e (fin.insert (files pages) name file)) pages (answered word result) after)
+    subst (λ e. IsAnsweredSo (becomes word e (fin.insert (files pages) name file)) pages (change_line word result) after)
     (sym (room-is pages count (length file.pages) solo free many))
     (changed word (store_answer None (name_count pages) (free_count pages) count) pages (fin.insert (files pages) name file) unused result after
     (subst (λ o. Answers result (store_answer o (name_count pages) (free_count pages) count)) new answers) holds stays)

@@ -9,11 +9,11 @@ use Rattle.file_commands.specs.declared.fault.CommandFault.{CommandFault}
 use Rattle.file_commands.specs.declared.fault.CommandFault.TheVariants.{DiskFault, NoMemory}
 
 -- the line that answers a change of the files that came to this
-abbrev pub answered : List ℕ → Result (Unit {0}) FileFault → Result (List ℕ) CommandFault
-answered word (Ok done) = Ok (answer_line word (codes "OK"))
-answered word (Err AreaFails) = Err DiskFault
-answered word (Err LacksMemory) = Err NoMemory
-answered word (Err why) = Ok (answer_line word (fault_text why))
+abbrev pub change_line : List ℕ → Result (Unit {0}) FileFault → Result (List ℕ) CommandFault
+change_line word (Ok done) = Ok (answer_line word (codes "OK"))
+change_line word (Err AreaFails) = Err DiskFault
+change_line word (Err LacksMemory) = Err NoMemory
+change_line word (Err why) = Ok (answer_line word (fault_text why))
 
 -- it gives these lines; the files stay, or become these first
 abbrev pub Settles : Doing → Files → List (List ℕ) → Files → Type 0
@@ -29,16 +29,17 @@ pub record SettledIn (doing : Doing) (before : List (List ℕ)) (lines : List (L
 
 -- The command came to lines that answer it. Where memory was refused no file is changed yet; where the area
 -- failed, nothing is said.
-abbrev pub IsSettled : Doing → List (List ℕ) → Result (List (List ℕ)) CommandFault → Option (List (List ℕ))
+abbrev pub IsSettledSo : Doing → List (List ℕ) → Result (List (List ℕ)) CommandFault → Option (List (List ℕ))
     → Type 0
-IsSettled doing before (Ok lines) after = SettledIn doing before lines after
-IsSettled doing before (Err NoMemory) after = after ≡ Some before
-IsSettled doing before (Err DiskFault) after = Unit {0}
+IsSettledSo doing before (Ok lines) after = SettledIn doing before lines after
+IsSettledSo doing before (Err NoMemory) after = after ≡ Some before
+IsSettledSo doing before (Err DiskFault) after = Unit {0}
 
 -- it came to one line
 abbrev pub one_line : Result (List ℕ) CommandFault → Result (List (List ℕ)) CommandFault
 one_line (Ok line) = Ok (line ∷ [])
 one_line (Err fault) = Err fault
 
-abbrev pub IsAnswered : Doing → List (List ℕ) → Result (List ℕ) CommandFault → Option (List (List ℕ)) → Type 0
-IsAnswered doing before result after = IsSettled doing before (one_line result) after
+abbrev pub IsAnsweredSo : Doing → List (List ℕ) → Result (List ℕ) CommandFault
+    → Option (List (List ℕ)) → Type 0
+IsAnsweredSo doing before result after = IsSettledSo doing before (one_line result) after

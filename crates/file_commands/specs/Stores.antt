@@ -13,13 +13,13 @@ use Rattle.file_commands.specs.declared.copying.Copied.{Copied}
 use Rattle.file_commands.specs.declared.copying.Copied.TheVariants as copied
 use Rattle.file_commands.specs.declared.fault.CommandFault.{CommandFault}
 use Rattle.file_commands.specs.declared.fault.CommandFault.TheVariants.{NoMemory}
-use Rattle.file_commands.specs.Settling.{answered}
+use Rattle.file_commands.specs.Settling.{change_line}
 
 -- the line that answers a store that came to this
-abbrev pub stored : List ℕ → Result (Unit {0}) SystemFault → Result (List ℕ) CommandFault
-stored word (Ok done) = answered word (Ok tt)
-stored word (Err (system.File fault)) = answered word (Err fault)
-stored word (Err other) = Err NoMemory
+abbrev pub store_line : List ℕ → Result (Unit {0}) SystemFault → Result (List ℕ) CommandFault
+store_line word (Ok done) = change_line word (Ok tt)
+store_line word (Err (system.File fault)) = change_line word (Err fault)
+store_line word (Err other) = Err NoMemory
 
 -- what a copy of a file to the printer does
 abbrev pub prints_found : Option File → Doing

@@ -3,7 +3,7 @@ ghost use Rattle.std.specs.Prelude.{◌≡◌, ◌≤◌, ◌+◌, ℕ, List, le
 ghost use Rattle.std.specs.List.{list_all};
 ghost use Rattle.solo_base.specs.Line.{is_printable};
 ghost use Rattle.solo_task.specs.Answers.{answer_line, fault_text};
-ghost use Rattle.file_commands.specs.Settling.{answered};
+ghost use Rattle.file_commands.specs.Settling.{change_line};
 
 use crate::fault::CommandFault;
 use disk_files::FileFault;
@@ -44,7 +44,7 @@ fn fault_text(fault: FileFault) -> &'static [u8]
 pub fn answered(word: &[u8], change: Result<(), FileFault>) -> Result<Line, CommandFault>
     requires room { length word.now ≤ 20 }
     requires printable { IsTrue (list_all is_printable word.now) }
-    ensures { result ≡ answered word.now change }
+    ensures { result ≡ change_line word.now change }
 {
     match change {
         Ok(()) => Ok(answer_line(word, b"OK")),

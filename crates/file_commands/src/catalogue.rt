@@ -5,7 +5,7 @@ ghost use Rattle.disk_layout.specs.Files.{files as file_map};
 ghost use Rattle.disk_files.specs.Answers.{FaultsOnly, stays_sound};
 ghost use Rattle.solo_task.specs.Doing.{lists, deletes, renames, protects};
 ghost use Rattle.file_commands.specs.Faults.{of_command};
-ghost use Rattle.file_commands.specs.Settling.{IsSettled, IsAnswered};
+ghost use Rattle.file_commands.specs.Settling.{IsSettledSo, IsAnsweredSo};
 
 use crate::answers::answered;
 use crate::fault::{CommandFault, as_system_command};
@@ -19,7 +19,7 @@ use std::alloc::Global;
 pub fn list<A: Area>(alloc: Global, files: &mut FileArea<A>) -> Result<LineList, CommandFault>
     requires { IsTrue files.old.sound }
     ensures told { (pages : List (List ℕ)) → A.pages files.old.area ≡ Some pages
-        → IsSettled (lists (file_map pages)) pages result (A.pages files.new.area) }
+        → IsSettledSo (lists (file_map pages)) pages result (A.pages files.new.area) }
     ensures sound { files.new.sound ≡ stays_sound (of_command result) }
     ensures cause { FaultsOnly (A.faults files.old.area) (A.faults files.new.area) (of_command result) }
 {
@@ -60,7 +60,7 @@ fn count_line(count: u32) -> Line
 pub fn delete<A: Area>(files: &mut FileArea<A>, name: &Ident) -> Result<Line, CommandFault>
     requires { IsTrue files.old.sound }
     ensures told { (pages : List (List ℕ)) → A.pages files.old.area ≡ Some pages
-        → IsAnswered (deletes (file_map pages) name.now) pages result (A.pages files.new.area) }
+        → IsAnsweredSo (deletes (file_map pages) name.now) pages result (A.pages files.new.area) }
     ensures sound { files.new.sound ≡ stays_sound (of_command result) }
     ensures cause { FaultsOnly (A.faults files.old.area) (A.faults files.new.area) (of_command result) }
 {
@@ -75,7 +75,7 @@ pub fn rename<A: Area>(
 ) -> Result<Line, CommandFault>
     requires { IsTrue files.old.sound }
     ensures told { (pages : List (List ℕ)) → A.pages files.old.area ≡ Some pages
-        → IsAnswered (renames (file_map pages) old.now new.now) pages result (A.pages files.new.area) }
+        → IsAnsweredSo (renames (file_map pages) old.now new.now) pages result (A.pages files.new.area) }
     ensures sound { files.new.sound ≡ stays_sound (of_command result) }
     ensures cause { FaultsOnly (A.faults files.old.area) (A.faults files.new.area) (of_command result) }
 {
@@ -90,7 +90,7 @@ pub fn protect<A: Area>(
 ) -> Result<Line, CommandFault>
     requires { IsTrue files.old.sound }
     ensures told { (pages : List (List ℕ)) → A.pages files.old.area ≡ Some pages
-        → IsAnswered (protects (file_map pages) name.now on) pages result (A.pages files.new.area) }
+        → IsAnsweredSo (protects (file_map pages) name.now on) pages result (A.pages files.new.area) }
     ensures sound { files.new.sound ≡ stays_sound (of_command result) }
     ensures cause { FaultsOnly (A.faults files.old.area) (A.faults files.new.area) (of_command result) }
 {

@@ -13,8 +13,8 @@ ghost use Rattle.solo_commands.specs.Commands.{is_printer};
 ghost use Rattle.solo_task.specs.Answers.{stores};
 ghost use Rattle.solo_task.specs.Copying.{copier, copies_file, stores_file};
 ghost use Rattle.file_commands.specs.Faults.{of_command};
-ghost use Rattle.file_commands.specs.Settling.{IsAnswered};
-ghost use Rattle.file_commands.specs.Stores.{stored, ToPrint, IsPagesOf};
+ghost use Rattle.file_commands.specs.Settling.{IsAnsweredSo};
+ghost use Rattle.file_commands.specs.Stores.{store_line, ToPrint, IsPagesOf};
 
 use crate::answers::{answer_line, answered};
 use crate::fault::{CommandFault, as_command, as_system_command};
@@ -54,7 +54,7 @@ pub fn copy_file<A: Area>(
     requires sound { IsTrue files.old.sound }
     requires file { is_printer to.now ≡ false }
     ensures told { (pages : List (List ℕ)) → A.pages files.old.area ≡ Some pages
-        → IsAnswered (copies_file (fin.get (file_map pages) from.now) (file_map pages) to.now) pages result
+        → IsAnsweredSo (copies_file (fin.get (file_map pages) from.now) (file_map pages) to.now) pages result
         (A.pages files.new.area) }
     ensures sound { files.new.sound ≡ stays_sound (of_command result) }
     ensures cause { FaultsOnly (A.faults files.old.area) (A.faults files.new.area) (of_command result) }
@@ -77,8 +77,8 @@ fn copy_found<A: Area>(
     requires { IsTrue files.old.sound }
     ensures told { (pages : List (List ℕ)) (file : File) → A.pages files.old.area ≡ Some pages
         → fin.get (file_map pages) from.now ≡ Some file → info ≡ info_of file
-        → IsAnswered (stores_file file (file_map pages) to.now (fin.get (file_map pages) to.now)) pages result
-        (A.pages files.new.area) }
+        → IsAnsweredSo (stores_file file (file_map pages) to.now (fin.get (file_map pages) to.now)) pages
+        result (A.pages files.new.area) }
     ensures sound { files.new.sound ≡ stays_sound (of_command result) }
     ensures cause { FaultsOnly (A.faults files.old.area) (A.faults files.new.area) (of_command result) }
 {
@@ -101,7 +101,7 @@ fn store_copy<A: Area>(
     ensures told { (pages : List (List ℕ)) (file : File) → A.pages files.old.area ≡ Some pages
         → IsSoloDisk pages → fin.get (file_map pages) from.now ≡ Some file → info ≡ info_of file
         → fin.get (file_map pages) to.now ≡ None
-        → IsAnswered (stores_file file (file_map pages) to.now None) pages result (A.pages files.new.area) }
+        → IsAnsweredSo (stores_file file (file_map pages) to.now None) pages result (A.pages files.new.area) }
     ensures sound { files.new.sound ≡ stays_sound (of_command result) }
     ensures cause { FaultsOnly (A.faults files.old.area) (A.faults files.new.area) (of_command result) }
 {
@@ -210,7 +210,7 @@ pub fn store_cards<A: Area>(
     requires text { IsText text.now }
     ensures told { (pages : List (List ℕ)) → A.pages files.old.area ≡ Some pages
         → fin.get (file_map pages) to.now ≡ None
-        → IsAnswered (stores copier (file_map pages) to.now (text_file text.now)) pages result
+        → IsAnsweredSo (stores copier (file_map pages) to.now (text_file text.now)) pages result
         (A.pages files.new.area) }
     ensures sound { files.new.sound ≡ stays_sound (of_command result) }
     ensures cause { FaultsOnly (A.faults files.old.area) (A.faults files.new.area) (of_command result) }
@@ -233,7 +233,7 @@ fn store_new_text<A: Area>(
     requires text { IsText text.now }
     ensures told { (pages : List (List ℕ)) → A.pages files.old.area ≡ Some pages → IsSoloDisk pages
         → fin.get (file_map pages) to.now ≡ None
-        → IsAnswered (stores copier (file_map pages) to.now (text_file text.now)) pages result
+        → IsAnsweredSo (stores copier (file_map pages) to.now (text_file text.now)) pages result
         (A.pages files.new.area) }
     ensures sound { files.new.sound ≡ stays_sound (of_command result) }
     ensures cause { FaultsOnly (A.faults files.old.area) (A.faults files.new.area) (of_command result) }
@@ -246,7 +246,7 @@ fn store_new_text<A: Area>(
 pub fn stored(word: &[u8], store: Result<(), SystemFault>) -> Result<Line, CommandFault>
     requires room { length word.now ≤ 20 }
     requires printable { IsTrue (list_all is_printable word.now) }
-    ensures { result ≡ stored word.now store }
+    ensures { result ≡ store_line word.now store }
 {
     match store {
         Ok(()) => answered(word, Ok(())),
