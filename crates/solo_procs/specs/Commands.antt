@@ -80,7 +80,7 @@ LeadsSo (Err Failed) Follows Passes = Unit {0}
 LeadsSo (Err NoMemory) Follows Passes = Passes
 
 -- At the beginning the commands stand for what all work on any files comes to, and they led to no others.
-pub record Begins {C Files : Type 0} (opens : Files → Plan → Type 0) (plans : C → Files → Plan → Type 0)
+pub record StartFresh {C Files : Type 0} (opens : Files → Plan → Type 0) (plans : C → Files → Plan → Type 0)
     (follows : C → Files → List law.Given → Files → Type 0) (passes : Files → List law.Given → Files → Type 0)
     (commands : C) : Type 0 where
   pub planned : (files : Files) (plan : Plan) → opens files plan → plans commands files plan

@@ -89,7 +89,8 @@ pub trait Commands {
             IfOk result (λ need. Comes pages (given_of given) (awaits self.new)
             (plans self.old files.old) (plans self.new files.new) need) }
         // Where the files counted no fault they are some to which the work comes.
-        ensures follows { (opening : Self.Files) (before : List GivenOf) → follows self.old opening before files.old
+        ensures follows { (opening : Self.Files) (before : List GivenOf)
+            → follows self.old opening before files.old
             → LeadsSo result (follows self.new opening (before ++ given_of given ∷ []) files.new)
             (passes opening (before ++ given_of given ∷ []) files.new) }
         ensures sound { IfOk result (λ need. sound files.new) }

@@ -57,7 +57,7 @@ impl<C: Commands> Proc for JobProc<C> {
     ghost use Rattle.solo_law.specs.JobPlaces.{job};
     ghost use Rattle.solo_procs.specs.Job.{job_at, JobStands, job_came};
     ghost use Rattle.solo_procs.specs.Closing.{job-closes};
-    ghost use Rattle.solo_procs.specs.Commands.{Begins};
+    ghost use Rattle.solo_procs.specs.Commands.{StartFresh};
 
     ghost process = { job };
 
@@ -71,7 +71,7 @@ impl<C: Commands> Proc for JobProc<C> {
 
     ghost kept = { λ proc. proc.commands };
 
-    ghost fresh = { Begins C.opens C.plans C.follows C.passes };
+    ghost fresh = { StartFresh C.opens C.plans C.follows C.passes };
 
     ghost stands = { λ proc at kept. kept.place };
 

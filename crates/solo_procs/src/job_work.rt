@@ -49,7 +49,8 @@ impl<C: Commands> JobProc<C> {
             → WorkedSo C.awaits (C.plans self.old.commands files.old) (C.plans self.new.commands files.new)
             self.new work result }
         ensures follows { (work : Work) → JobStands C.awaits self.old (Toils work)
-            → (opening : C.Files) (before : List GivenOf) → C.follows self.old.commands opening before files.old
+            → (opening : C.Files) (before : List GivenOf)
+            → C.follows self.old.commands opening before files.old
             → LedSo result (C.follows self.new.commands opening (before ++ work.given ∷ []) files.new)
             (C.passes opening (before ++ work.given ∷ []) files.new) }
         ensures place { self.new.place ≡ self.old.place }

@@ -1,0 +1,5 @@
+pub mod Faults
+pub mod Settling
+pub mod Counting
+pub mod Stores
+pub mod Texts

@@ -1,0 +1,3 @@
+pub mod Paper
+pub mod Printing
+pub mod Passing
