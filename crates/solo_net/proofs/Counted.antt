@@ -23,9 +23,9 @@ use Rattle.solo_law.specs.OutputPlaces as output_at
 use Rattle.solo_law.specs.JobPlaces.{JobPlace, job_finds, job}
 use Rattle.solo_law.specs.JobPlaces as at
 use Rattle.solo_law.specs.Solo.{process, solo, SoloState, SoloEvent, IsProcess}
-use Rattle.solo_law.proofs.Placed.{each-process, is-1, is-2, is-3}
+use Rattle.solo_law.proofs.Placed.{each-process}
 use Rattle.solo_ends.specs.declared.units.SoloUnits.{SoloUnits}
-use Rattle.solo_ends.specs.Faults.{Counts, Peripherals, devices_of, AreCounted}
+use Rattle.solo_ends.specs.Faults.{Peripherals, devices_of, AreCounted}
 use Rattle.solo_net.specs.Replies.{reply_of}
 use Rattle.solo_net.specs.Telling.{Tells, counts_of, Displays, Prints, HasCauses}
 use Rattle.solo_net.proofs.Placing.{Owned, next-owned, IsOpen, free-next}

@@ -1,8 +1,6 @@
 -- How each process ended follows from its cause, and how all did together from the law.
 use Rattle.std.specs.Prelude.{is_some}
-use Rattle.std.proofs.Common.{◌≡◌, ◌⊎◌, inl, inr, ℕ, ◌&&◌, ◌||◌, Bool, true, false, List, [], ◌∷◌, Option, None, Some, refl, sym, ◌∙◌, ap, subst, lit≤}
-use Rattle.std.specs.List.{AllByRecursion}
-use Rattle.std.proofs.lemmas.Bool.{eqb-true}
+use Rattle.std.proofs.Common.{◌≡◌, inl, inr, ℕ, true, List, [], ◌∷◌, Option, None, Some, refl, sym, ◌∙◌, ap, subst, lit≤}
 use Rattle.solo_base.specs.declared.item.Item.{Item}
 use Rattle.solo_base.specs.declared.outcome.Side.{Side}
 use Rattle.solo_base.specs.declared.outcome.Outcome.{Outcome}
@@ -12,17 +10,17 @@ use Rattle.solo_base.specs.Text.{text}
 use Rattle.solo_devices.specs.PrinterUnit.{Gains}
 use Rattle.queue_var.specs.declared.stops.Stops.{Stops as Marks}
 use Rattle.queue_var.specs.declared.stops.Stops.TheVariants.{Neither, One, Both}
-use Rattle.queue_var.specs.Sides.{first_of, is_among, same_side, stopped_by}
+use Rattle.queue_var.specs.Sides.{first_of, is_among, stopped_by}
 use Rattle.solo_base.specs.declared.outcome.Side.TheVariants.{Sender, Receiver}
-use Rattle.network_run.specs.Law.{Placed, AllEnded}
-use Rattle.network_law.specs.Acts.{Call, At, Stops, stops_at, made_stop, is_same}
+use Rattle.network_run.specs.Law.{Placed}
+use Rattle.network_law.specs.Acts.{stops_at, made_stop}
 use Rattle.network_law.specs.Network.{Follows, acts}
 use Rattle.network_law.specs.Kept.{Stands}
 use Rattle.network_law.proofs.KeepsBuffers.{or-tells}
 use Rattle.network_law.proofs.Reached.{reached-stands}
-use Rattle.network_law.proofs.Seats.{AreSame, same-tells}
-use Rattle.place_law.specs.Process.{Process, action_of, caused, how_ended, next_action}
-use Rattle.place_law.specs.Ending.{outcome_by, EndsRightly, GivenBy, HasEndedSo, HasEnded, AllDone, EndsTogether}
+use Rattle.network_law.proofs.Seats.{same-tells}
+use Rattle.place_law.specs.Process.{action_of, caused, how_ended, next_action}
+use Rattle.place_law.specs.Ending.{outcome_by, GivenBy, HasEndedSo, HasEnded, AllDone, EndsTogether}
 use Rattle.place_law.proofs.Ended.{none-ended, ends-rightly}
 use Rattle.place_law.proofs.Given.{given-by}
 use Rattle.solo_needs.specs.Handing.{no_command, HandsOn}
@@ -34,7 +32,7 @@ use Rattle.solo_law.specs.Replies.{view}
 use Rattle.solo_law.specs.InputPlaces.{input as the_input}
 use Rattle.solo_law.specs.OutputPlaces.{output as the_output}
 use Rattle.solo_law.specs.JobPlaces.{job as the_job}
-use Rattle.solo_law.specs.Told.{on_console, on_paper, lines_of_all, needs, needs_of, begun}
+use Rattle.solo_law.specs.Told.{on_console, on_paper, lines_of_all, needs, begun}
 use Rattle.solo_law.specs.Solo.{process, table, solo, SoloState, SoloEntry, IsProcess, opened, openings, the_law}
 use Rattle.solo_law.specs.Holds.{IsBuffer, Holds}
 use Rattle.solo_law.proofs.Placed.{each-process, is-1, is-2, is-3, placed, calls-so, seats, solo-lawful}

@@ -1,31 +1,27 @@
 -- A step of one of the machines is a step of the network.
 use Rattle.std.specs.Prelude.{◌==◌, if◌then◌else◌, is_none}
-use Rattle.std.proofs.Common.{◌≡◌, ◌≢◌, ◌≤◌, ℕ, Bool, true, List, [], ◌∷◌, ◌++◌, Option, None, Some, inl, inr, refl, sym, ◌∙◌, ap, subst, arith}
+use Rattle.std.proofs.Common.{◌≡◌, ◌≤◌, ℕ, Bool, true, List, [], ◌∷◌, Option, None, Some, inl, inr, refl, sym, ◌∙◌, ap, subst, arith}
 use Rattle.std.proofs.lemmas.Bool.Decides.{eqb_tells}
 use Rattle.std.proofs.lemmas.List.{append-nil}
-use Rattle.std.specs.Option.{option_map}
 use Rattle.solo_base.specs.declared.outcome.Outcome.{Outcome}
 use Rattle.solo_base.specs.declared.outcome.Outcome.TheVariants as outcome
 use Rattle.solo_base.specs.declared.outcome.Cause.TheVariants as cause
-use Rattle.solo_devices.specs.Count.{Rose}
 use Rattle.solo_devices.specs.CardUnit.{Held}
 use Rattle.solo_devices.specs.PrinterUnit.{Printing}
-use Rattle.solo_devices.specs.declared.card_read.CardRead.TheVariants as read
 use Rattle.network_run.specs.declared.stepped.Stepped.{Stepped}
-use Rattle.network_run.specs.declared.stepped.Stepped.TheVariants as stepped
 use Rattle.network_run.specs.Law.{Placed}
 use Rattle.network_run.specs.Law as law
-use Rattle.network_law.specs.Acts.{is_delayed, Done}
+use Rattle.network_law.specs.Acts.{is_delayed}
 use Rattle.network_law.specs.Buffer.{Buffer}
-use Rattle.network_law.specs.Network.{MayCall, Fits, IsEnabled, buffers_after, set}
+use Rattle.network_law.specs.Network.{MayCall, Fits, IsEnabled, buffers_after}
 use Rattle.network_law.specs.Stepping.{MayGo, is_again, stepped_so}
 use Rattle.network_law.specs.Kept.{Stands}
 use Rattle.network_law.proofs.Numbers.{set-same}
 use Rattle.network_law.proofs.Reached.{reached-stands}
 use Rattle.exchange_law.specs.Parcels.{Parcel, mark}
-use Rattle.place_law.specs.Process.{Does, LacksMemory, Delays, action_of, caused, given_cause, or_new, place, EntrySuits, went, next_action}
+use Rattle.place_law.specs.Process.{Does, LacksMemory, Delays, action_of, caused, EntrySuits, went, next_action}
 use Rattle.place_law.specs.Ending.{outcome_by}
-use Rattle.solo_law.specs.Work.{Given, Work, Plan}
+use Rattle.solo_law.specs.Work.{Given}
 use Rattle.solo_law.specs.Actions.{Action, Reply}
 use Rattle.solo_law.specs.Actions as act
 use Rattle.solo_law.specs.Buffers.{call}
@@ -33,7 +29,7 @@ use Rattle.solo_law.specs.Replies.{view}
 use Rattle.solo_law.specs.InputPlaces.{input as the_input}
 use Rattle.solo_law.specs.OutputPlaces.{output as the_output}
 use Rattle.solo_law.specs.JobPlaces.{job as the_job}
-use Rattle.solo_law.specs.Devices.{Devices, Allows, given, plan_behind}
+use Rattle.solo_law.specs.Devices.{Devices, Allows, given}
 use Rattle.solo_law.specs.Told.{begun}
 use Rattle.solo_law.specs.Solo.{process, solo, SoloState, SoloEntry, SoloEvent, IsProcess, opened, openings, the_law}
 use Rattle.solo_law.proofs.Placed.{calls-so, is-1, is-2, is-3, solo-lawful}
@@ -44,18 +40,16 @@ use Rattle.solo_procs.specs.declared.machine.Machine.{Machine}
 use Rattle.solo_procs.specs.Said.{said, is_end}
 use Rattle.solo_procs.specs.Machine.{StandsFor}
 use Rattle.solo_procs.specs.Job.{job_at, JobStands}
-use Rattle.solo_ends.specs.declared.units.SoloUnits.{SoloUnits}
-use Rattle.solo_ends.specs.Faults.{Peripherals, devices_of, AreCounted}
+use Rattle.solo_ends.specs.Faults.{devices_of, AreCounted}
 use Rattle.solo_net.specs.declared.net.SoloNet.{SoloNet}
 use Rattle.solo_net.specs.declared.shared.Shared.{Shared}
-use Rattle.solo_net.specs.Actions.{HasPlace, IsNoWork}
+use Rattle.solo_net.specs.Actions.{IsNoWork}
 use Rattle.solo_net.specs.Replies.{reply_of}
-use Rattle.solo_net.specs.SixBuffers.{BuffersStand}
-use Rattle.solo_net.specs.Telling.{Tells, SourceTells, counts_of, total_of, ReadSo, Displays, Prints, HasCauses}
+use Rattle.solo_net.specs.Telling.{Tells, counts_of, total_of, Displays, Prints, HasCauses}
 use Rattle.solo_net.specs.Sharing.{SharedStands, MayPerform, Enters}
-use Rattle.solo_net.specs.Steps.{MayStep, Steps, IsAtWork, ComesTo, LedTo, WorkSteps}
-use Rattle.solo_net.specs.Net.{CommandsOf, input_at, output_at, NetStands, AreSome, IsCounted, outcomes_of, KeepsSo, MovesSo}
-use Rattle.solo_net.proofs.Placing.{Owned, next-owned, next-place, free-next}
+use Rattle.solo_net.specs.Steps.{Steps}
+use Rattle.solo_net.specs.Net.{CommandsOf, input_at, output_at, NetStands, AreSome, outcomes_of, KeepsSo, MovesSo}
+use Rattle.solo_net.proofs.Placing.{Owned, next-owned, next-place}
 use Rattle.solo_net.proofs.Freed.{IsFree, free-of, given-done}
 use Rattle.solo_net.proofs.Counted.{next_state, event-keeps, free-before, outcomes_in, FilesCause, counted, cards-or-not, keys-or-not, displays-or-not, prints-or-not}
 use Rattle.solo_net.proofs.Turning.{may-perform, goes-so}

@@ -1,5 +1,5 @@
 -- What a call on the buffers or on a device is to all that is shared.
-use Rattle.std.proofs.Common.{◌≡◌, ◌≢◌, ◌≤◌, ◌<◌, ◌↔◌, ℕ, true, List, [], Option, None, Some, Result, Ok, Err, refl, sym, ◌∙◌, ap, subst, option_map}
+use Rattle.std.proofs.Common.{◌≡◌, ◌≢◌, ◌≤◌, ◌<◌, ◌↔◌, ℕ, true, List, [], Option, None, Some, Result, Ok, Err, refl, sym, ◌∙◌, ap, subst}
 use Rattle.std.specs.Prelude.{IsOk, IsErrOf, OnOk}
 use Rattle.solo_base.specs.declared.outcome.Outcome.{Outcome}
 use Rattle.solo_base.specs.Text.{line_text}
@@ -26,7 +26,7 @@ use Rattle.solo_net.specs.Replies.{print_said, entry_of, ReplyFits, reply_of}
 use Rattle.solo_net.specs.SixBuffers.{Visited}
 use Rattle.solo_net.specs.Telling.{SourceTells, SinkTells, Tells, total_of, ReadSo, PrintedSo, Displays, Prints, HasCauses}
 use Rattle.solo_net.specs.Sharing.{UnitsStand, Performs}
-use Rattle.solo_net.proofs.DeviceCalls.{ReadsNext, reads-next, GaveBy, GaveLine, gave-line}
+use Rattle.solo_net.proofs.DeviceCalls.{reads-next, GaveBy, gave-line}
 
 -- ---- at the buffers, of which no device hears
 abbrev pub Silent : Action → Type 0

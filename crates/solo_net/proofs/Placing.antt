@@ -1,5 +1,5 @@
 -- At which buffers a process calls, which devices it uses, and that it uses one only without a cause.
-use Rattle.std.proofs.Common.{◌≡◌, ℕ, Bool, true, false, if◌then◌else◌, List, [], ◌∷◌, Option, None, Some, inl, inr, refl, sym, ap, subst, lit≤}
+use Rattle.std.proofs.Common.{◌≡◌, ℕ, Bool, true, false, if◌then◌else◌, List, [], ◌∷◌, Option, None, Some, inl, inr, refl, subst, lit≤}
 use Rattle.std.specs.List.{AllByRecursion}
 use Rattle.solo_base.specs.declared.outcome.Outcome.{Outcome}
 use Rattle.place_law.specs.Process.{Process, caused, has_stopped, how_ended, stops_next, next_by, place, next_action}

@@ -1,5 +1,5 @@
 -- Which machine steps, by the number of the process.
-use Rattle.std.proofs.Common.{◌≡◌, ℕ, true, false, List, Option, None, Some, refl, sym, ◌∙◌, ap, subst}
+use Rattle.std.proofs.Common.{◌≡◌, ℕ, true, false, List, Option, Some, refl, sym, ◌∙◌, ap, subst}
 use Rattle.network_run.specs.declared.stepped.Stepped.{Stepped as SteppedOf}
 use Rattle.network_run.specs.Law.{Placed}
 use Rattle.network_run.specs.Law as law
@@ -9,7 +9,6 @@ use Rattle.solo_law.specs.Work.{Work}
 use Rattle.solo_law.specs.Actions.{Action}
 use Rattle.solo_law.specs.Actions as act
 use Rattle.solo_law.specs.Replies.{view}
-use Rattle.solo_law.specs.JobPlaces.{job as the_job}
 use Rattle.solo_law.specs.Solo.{process, solo, SoloState, SoloEntry, the_law}
 use Rattle.solo_procs.specs.declared.actions.SoloAction.{SoloAction}
 use Rattle.solo_procs.specs.Said.{said}

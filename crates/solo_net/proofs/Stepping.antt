@@ -5,7 +5,7 @@ use Rattle.network_run.specs.declared.stepped.Stepped.TheVariants as stepped
 use Rattle.network_law.specs.Acts.{Went, Delayed, is_delayed}
 use Rattle.network_law.specs.Stepping.{is_again, stepped_so}
 use Rattle.exchange_law.specs.Parcels.{Parcel}
-use Rattle.place_law.specs.Process.{Process, Does, LacksMemory, Delays, next_action, went}
+use Rattle.place_law.specs.Process.{Process, Does, LacksMemory, Delays}
 use Rattle.solo_law.specs.Work.{Need}
 use Rattle.solo_law.specs.Actions.{Action, Reply}
 use Rattle.solo_law.specs.Actions as act

@@ -1,21 +1,21 @@
 -- A process that may go on is at its turn, and what is next at its turn may be performed.
-use Rattle.std.proofs.Common.{◌≡◌, ◌↔◌, ◌≤◌, ◌<◌, ℕ, Bool, true, false, List, ◌∷◌, Option, None, Some, refl, sym, ◌∙◌, ap, subst, arith}
+use Rattle.std.proofs.Common.{◌≡◌, ◌↔◌, ℕ, Bool, true, false, List, ◌∷◌, Option, None, Some, refl, sym, ◌∙◌, ap, subst, arith}
 use Rattle.std.specs.Prelude.{IsTrue, is_none}
 use Rattle.solo_base.specs.declared.outcome.Outcome.{Outcome}
 use Rattle.solo_base.specs.declared.outcome.Side.{Side}
 use Rattle.solo_base.specs.declared.outcome.Side.TheVariants.{Sender, Receiver}
 use Rattle.queue_var.specs.Sides.{MayEnter, MayStop, has_stopped}
-use Rattle.network_law.specs.Acts.{Visit, At, Passes, Stops, is_delayed, made_stop}
+use Rattle.network_law.specs.Acts.{Visit, At, Passes, is_delayed, made_stop}
 use Rattle.network_law.specs.Network.{MayCall, acts}
 use Rattle.network_law.specs.Processes.{CallsNext}
 use Rattle.network_law.specs.Kept.{Stands}
 use Rattle.network_law.specs.Stepping.{MayGo, stepped_so}
-use Rattle.place_law.specs.Process.{Process, Entry, Does, LacksMemory, Delays, action_of, caused, how_ended, or_new, next_by, unless_ended, next_action, EntrySuits, went}
+use Rattle.place_law.specs.Process.{Process, Does, LacksMemory, Delays, action_of, caused, how_ended, or_new, next_by, unless_ended, next_action, EntrySuits, went}
 use Rattle.place_law.proofs.Ended.{none-ended, ended-none}
 use Rattle.place_law.proofs.Nexts.{goes-on}
 use Rattle.solo_law.specs.Actions.{Action, Reply}
 use Rattle.solo_law.specs.Actions as act
-use Rattle.solo_law.specs.Buffers.{call, seat, side_at}
+use Rattle.solo_law.specs.Buffers.{call, side_at}
 use Rattle.solo_law.specs.Replies.{view, ends_so}
 use Rattle.solo_law.specs.InputPlaces.{input}
 use Rattle.solo_law.specs.OutputPlaces.{output}

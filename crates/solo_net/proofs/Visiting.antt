@@ -1,15 +1,14 @@
 -- A call on one of the six buffers.
-use Rattle.std.proofs.Common.{◌≡◌, inl, inr, ℕ, Option, None, Some, refl, sym, ◌∙◌, ap, subst, arith, lit≤}
+use Rattle.std.proofs.Common.{◌≡◌, inl, inr, ℕ, Option, Some, refl, sym, ◌∙◌, ap, subst, arith, lit≤}
 use Rattle.std.proofs.lemmas.Bool.Decides.{eqb_tells}
 use Rattle.solo_base.specs.declared.page.Page.{Page}
 use Rattle.solo_base.specs.declared.system_call.Arg.{Arg}
 use Rattle.solo_base.specs.declared.outcome.Side.{Side}
 use Rattle.solo_base.specs.declared.outcome.Side.TheVariants.{Sender, Receiver}
-use Rattle.queue_var.specs.Sides.{Sides}
 use Rattle.slot_buffer.specs.declared.answers.Put.{Put}
 use Rattle.slot_buffer.specs.declared.answers.Take.{Take}
 use Rattle.slot_buffer.specs.Slot.{Slot, put_answer, after_put, take_answer, after_take, after_stop}
-use Rattle.network_law.specs.Acts.{Visit, At, Passes, Stops, Done}
+use Rattle.network_law.specs.Acts.{Visit, At, Passes, Stops}
 use Rattle.network_law.specs.Buffer.{Buffer}
 use Rattle.exchange_law.specs.Parcels.{Parcel, OfArg, OfPage}
 use Rattle.place_law.specs.Process.{went}
@@ -23,7 +22,7 @@ use Rattle.solo_procs.specs.declared.actions.SoloReply.TheVariants as hear
 use Rattle.solo_net.specs.declared.buffers.Buffers.{Buffers}
 use Rattle.solo_net.specs.Actions.{IsArgBuffer, IsPageBuffer}
 use Rattle.solo_net.specs.Replies.{put_said, arg_said, page_said, entry_of, ReplyFits}
-use Rattle.solo_net.specs.SixBuffers.{SlotStands, BuffersStand, sides_at, Visited}
+use Rattle.solo_net.specs.SixBuffers.{BuffersStand, sides_at, Visited}
 use Rattle.solo_net.proofs.SlotCalls.{put_went, take_went, SlotVisited, put-visited, take-visited, stop-visited}
 
 -- ---- numbers

@@ -1,38 +1,34 @@
 -- A piece of work is a step of the network.
-use Rattle.std.proofs.Common.{◌≡◌, ◌≤◌, ℕ, false, List, [], ◌∷◌, ◌++◌, Option, None, Some, inl, inr, refl, sym, ◌∙◌, ap, subst}
+use Rattle.std.proofs.Common.{◌≡◌, ℕ, false, List, [], ◌∷◌, ◌++◌, Option, None, Some, inr, refl, sym, ◌∙◌, ap, subst}
 use Rattle.std.proofs.lemmas.List.{append-nil}
 use Rattle.std.specs.Option.{option_map}
-use Rattle.solo_base.specs.declared.outcome.Outcome.{Outcome}
 use Rattle.solo_base.specs.declared.outcome.Outcome.TheVariants as outcome
 use Rattle.solo_base.specs.declared.outcome.Cause.TheVariants as cause
-use Rattle.solo_devices.specs.Count.{Rose}
 use Rattle.network_run.specs.declared.stepped.Stepped.{Stepped}
 use Rattle.network_run.specs.declared.stepped.Stepped.TheVariants as stepped
 use Rattle.network_run.specs.Law.{Placed}
 use Rattle.network_run.specs.Law as law
 use Rattle.network_law.specs.Acts.{Done, is_delayed}
 use Rattle.network_law.specs.Stepping.{goes, stepped_so}
-use Rattle.place_law.specs.Process.{Does, caused, given_cause, or_new, fault_in, place, next_action}
-use Rattle.solo_law.specs.Work.{Given, Work, Need, Plan}
+use Rattle.place_law.specs.Process.{Does, caused, next_action}
+use Rattle.solo_law.specs.Work.{Given, Work, Plan}
 use Rattle.solo_law.specs.Actions.{Action, Reply}
 use Rattle.solo_law.specs.Actions as act
 use Rattle.solo_law.specs.Buffers.{went_by}
 use Rattle.solo_law.specs.Replies.{view, Fits}
-use Rattle.solo_law.specs.JobPlaces.{job_finds, job as the_job}
+use Rattle.solo_law.specs.JobPlaces.{job as the_job}
 use Rattle.solo_law.specs.Devices.{Devices, Allows, given, plan_behind}
 use Rattle.solo_law.specs.Told.{begun}
-use Rattle.solo_law.specs.Solo.{process, solo, SoloState, SoloEntry, SoloEvent, the_law}
-use Rattle.solo_law.proofs.Placed.{calls-so, is-2}
+use Rattle.solo_law.specs.Solo.{solo, SoloState, SoloEntry, SoloEvent, the_law}
+use Rattle.solo_law.proofs.Placed.{is-2}
 use Rattle.solo_procs.specs.declared.job_proc.JobProc.{JobProc}
 use Rattle.solo_procs.specs.declared.machine.Machine.{Machine}
 use Rattle.solo_procs.specs.Said.{said, is_end}
 use Rattle.solo_procs.specs.Machine.{StandsFor}
 use Rattle.solo_procs.specs.Job.{job_at, JobStands}
-use Rattle.solo_ends.specs.declared.units.SoloUnits.{SoloUnits}
 use Rattle.solo_net.specs.declared.net.SoloNet.{SoloNet}
 use Rattle.solo_net.specs.declared.shared.Shared.{Shared}
 use Rattle.solo_net.specs.Telling.{Tells, HasCauses}
-use Rattle.solo_net.specs.Sharing.{UnitsStand}
 use Rattle.solo_net.specs.Steps.{IsAtWork, ComesTo, LedTo, WorkSteps}
 use Rattle.solo_net.specs.Net.{CommandsOf, NetStands, AreSome, MovesSo}
 use Rattle.solo_net.proofs.Placing.{free-next}
