@@ -1,5 +1,5 @@
 -- A page with one line, and what the toy comes to.
-use Rattle.std.specs.Prelude.{nat_le, if◌then◌else◌}
+use Rattle.std.specs.Prelude.{nat_le, if◌then◌else◌, Result, Ok, Err, IfOk}
 use Rattle.std.proofs.Common.{◌≡◌, ◌≤◌, ℕ, suc, ◌+◌, ◌%◌, ◌^◌, Bool, true, List, [], ◌∷◌, ◌++◌, length, Option, None, Some, refl, sym, ◌∙◌, ap, subst, arith, lit≤}
 use Rattle.std.proofs.lemmas.Bool.{le-leb}
 use Rattle.std.proofs.lemmas.List.{append-nil}
@@ -11,9 +11,12 @@ use Rattle.page_codec.specs.Form.{page_of}
 use Rattle.page_codec.specs.Items.{item_bytes}
 use Rattle.page_codec.specs.Packing.{PageInHand, first_page, fits, hand_after}
 use Rattle.exchange_law.specs.Pages.{bytes_of, page_with, ArePage}
-use Rattle.solo_law.specs.Work.{EndNeeded}
+use Rattle.solo_law.specs.Work.{Given, EndNeeded}
 use Rattle.solo_procs.specs.declared.commands.Need.{Need}
 use Rattle.solo_procs.specs.declared.commands.Need.TheVariants as needs
+use Rattle.solo_procs.specs.declared.commands.WorkFault.{WorkFault}
+use Rattle.solo_procs.specs.declared.commands.WorkFault.TheVariants.{Failed, NoMemory}
+use Rattle.solo_procs.specs.Commands.{IsNeed, pages_behind, Comes, LeadsSo}
 use Rattle.solo_net_tests.specs.ToyNeeds.{IsToyNeed}
 
 pub one-line : (line : List ℕ) → IsLine line → (hand : PageInHand) (page : Page) → hand ≡ hand_after first_page (Line line)
@@ -52,3 +55,20 @@ prints-so line is page all page-is none = record {
   fits = one-fits line is;
   no_page = refl;
 }
+
+-- ---- as the job process knows them
+pub toy-comes : (result : Result Need WorkFault) (given : Given) → IfOk result IsToyNeed → (pages : ℕ) → pages ≡ 0
+    → IfOk result (λ need. Comes pages given (λ pages kind. pages ≡ 0) (λ plan. ⊥) (λ plan. ⊥) need)
+toy-comes (Ok need) given is pages zero = record {
+  needed = is.needed;
+  is = subst (λ n. IsNeed n need is.needed) (sym zero) is.is;
+  fits = is.fits;
+  awaited = subst (λ n. pages_behind is.needed n ≡ 0) (sym zero) is.no_page;
+  planned = λ plan no_plan. absurd no_plan;
+}
+toy-comes (Err fault) given is pages zero = tt
+
+pub toy-leads : (result : Result Need WorkFault) → LeadsSo result (Unit {0}) (Unit {0})
+toy-leads (Ok need) = (tt, tt)
+toy-leads (Err Failed) = tt
+toy-leads (Err NoMemory) = tt

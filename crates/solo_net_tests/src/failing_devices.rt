@@ -5,8 +5,11 @@ use solo_base::{Cause, Outcome};
 use std::alloc::Global;
 
 const CARDS: &[u8] = b"ONE\nTWO\n#END\n";
+
 const KEYS: &[u8] = b"HELLO\nC\nP PAPER\nD SHOWN\n";
+
 const CONSOLE: &[u8] = b"HELLO\nD SHOWN\nDONE\n";
+
 const PAPER: &[u8] = b"TWO\nP PAPER\n";
 
 // Whether console and paper have a beginning of what they would have.

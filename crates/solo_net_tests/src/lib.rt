@@ -3,15 +3,14 @@
 //! ends.
 #![tactic(auto)]
 
-mod running;
-mod toy;
-
 #[cfg(test)]
 mod failing_devices;
+mod running;
 #[cfg(test)]
 mod sessions;
 #[cfg(test)]
 mod simulated;
+mod toy;
 
 pub use running::{Turns, run_to_end};
 pub use toy::{Toy, ToyFiles};

@@ -62,14 +62,26 @@ pub fn run(alloc: Global, cards: &[u8], keys: &[u8], rule: Rule, failing: Failin
         files: ToyFiles { faults: 0 },
     };
     let mut net: SoloNet<Toy, MemSource, MemSource, MemSink, MemSink> = SoloNet::make(alloc, units);
-    let turns = run_to_end(&mut net, rule, 20000);
+    let turns = run_to_end(&mut net, rule, 3000);
     if !turns.ended {
+        let_go(net);
         return None;
     }
-    came(alloc, net.finish(), turns)
+    told(alloc, net.finish(), turns)
 }
 
-fn came(
+// A network that hasn't ended.
+fn let_go(net: SoloNet<Toy, MemSource, MemSource, MemSink, MemSink>) {
+    let SoloNet {
+        input: _,
+        job: _,
+        output: _,
+        shared: _,
+        first_files: _,
+    } = net;
+}
+
+fn told(
     alloc: Global,
     ran: SoloRan<MemSource, MemSource, MemSink, MemSink, ToyFiles>,
     turns: Turns,
@@ -102,8 +114,11 @@ fn came(
 }
 
 const CARDS: &[u8] = b"ONE\nTWO\n#END\nTHREE\n\xff\n#END\n";
+
 const KEYS: &[u8] = b"HELLO\n\nC\nP PAPER\nD SHOWN\nA\nTYPED\nC\nC\nA\n";
+
 const CONSOLE: &[u8] = b"HELLO\nD SHOWN\nDONE\nTYPED\nSPOILED\nNO CARDS\nNO LINE\n";
+
 const PAPER: &[u8] = b"TWO\nP PAPER\n";
 
 // Whether the session comes to this console and this paper under a rule.

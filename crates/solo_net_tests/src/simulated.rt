@@ -25,15 +25,7 @@ const ROWS: [Row; 8] = [
         13,
         2,
     ),
-    (
-        b"",
-        b"",
-        930,
-        b"",
-        b"",
-        10,
-        2,
-    ),
+    (b"", b"", 930, b"", b"", 10, 2),
     (
         b"\xff\nTWO\nyyyyyyyyyyyyyyyyyyyy\nyyyyy\nyyyyyyyyyyyyyyyyyyyy\nyyyyyyyyyyyyyyyyyyyy\nTWO\nONE\n",
         b"\xff\nC\n\xff\n",
@@ -70,24 +62,8 @@ const ROWS: [Row; 8] = [
         52,
         8,
     ),
-    (
-        b"yyyyyyyyyyyyyyyyyyyy\n",
-        b"",
-        495,
-        b"",
-        b"",
-        9,
-        1,
-    ),
-    (
-        b"\xff\nONE\n\xff\nONE\nyy\n",
-        b"",
-        629,
-        b"",
-        b"",
-        10,
-        2,
-    ),
+    (b"yyyyyyyyyyyyyyyyyyyy\n", b"", 495, b"", b"", 9, 1),
+    (b"\xff\nONE\n\xff\nONE\nyy\n", b"", 629, b"", b"", 10, 2),
 ];
 
 fn comes(alloc: Global, row: &Row) -> bool {
