@@ -28,9 +28,9 @@ use Rattle.solo_procs.specs.Machine.{StandsFor}
 use Rattle.solo_procs.specs.Job.{job_at, JobStands}
 use Rattle.solo_net.specs.declared.net.SoloNet.{SoloNet}
 use Rattle.solo_net.specs.declared.shared.Shared.{Shared}
-use Rattle.solo_net.specs.Telling.{Tells, HasCauses}
+use Rattle.solo_net.specs.Telling.{Tells, SoloHasCauses}
 use Rattle.solo_net.specs.Steps.{IsAtWork, ComesTo, LedTo, WorkSteps}
-use Rattle.solo_net.specs.Net.{CommandsOf, NetStands, AreSome, MovesSo}
+use Rattle.solo_net.specs.Net.{CommandsOf, SoloNetStands, AreSome, MovesSo}
 use Rattle.solo_net.proofs.Placing.{free-next}
 use Rattle.solo_net.proofs.Counted.{next_state, FilesCause}
 use Rattle.solo_net.proofs.NetSteps.{passed, IsEvent, is-event, keeps-so}
@@ -123,14 +123,14 @@ some-reply r s e = cc
 
 -- ---- of the network
 module _ {C F S Y K T : Type 0} (commands : CommandsOf C F) (tells : Tells S Y K T) (net : SoloNet C S Y K T F)
-    (at : Placed the_law (NetStands commands tells net)) (work : Work)
+    (at : Placed the_law (SoloNetStands commands tells net)) (work : Work)
     (next : next_action view the_job (at.state.histories 2) ≡ Some (act.Works work)) (job : Machine (JobProc C)) (files : F)
     (w : WorkSteps (StandsFor the_job job_at (JobStands commands.awaits) job) commands.sound commands.faults commands.plans commands.follows
     commands.passes net.job.process.commands job.process.commands net.shared.units.files files (at.state.histories 2) work) where
   abbrev s : SoloState
   s = at.state
 
-  abbrev stands : NetStands commands tells net s
+  abbrev stands : SoloNetStands commands tells net s
   stands = at.stands
 
   abbrev entry : SoloEntry
@@ -167,7 +167,7 @@ module _ {C F S Y K T : Type 0} (commands : CommandsOf C F) (tells : Tells S Y K
         six = stands.shared.six;
       }
 
-  causes : HasCauses tells net.shared.units new.units (act.Works work) (Some w.reply)
+  causes : SoloHasCauses tells net.shared.units new.units (act.Works work) (Some w.reply)
   causes = record {
     reads = λ e. absurd cc;
     accepts = λ e. absurd cc;
@@ -187,7 +187,7 @@ module _ {C F S Y K T : Type 0} (commands : CommandsOf C F) (tells : Tells S Y K
     on = w.counts;
   }
 
-  behind-stands : NetStands commands tells behind (next_state s event)
+  behind-stands : SoloNetStands commands tells behind (next_state s event)
   behind-stands = record {
     input = stands.input;
     job = w.stands;
@@ -204,7 +204,7 @@ module _ {C F S Y K T : Type 0} (commands : CommandsOf C F) (tells : Tells S Y K
   }
 
   pub at-work_step : (result : Stepped) → result ≡ stepped.Acted
-      → law.Steps the_law (NetStands commands tells) (MovesSo commands tells) net behind s 2 result
+      → law.Steps the_law (SoloNetStands commands tells) (MovesSo commands tells) net behind s 2 result
   at-work_step result acted = record {
     event = event;
     process_is = refl;
@@ -222,13 +222,13 @@ module _ {C F S Y K T : Type 0} (commands : CommandsOf C F) (tells : Tells S Y K
         ∙ goes-so 2 entry (s.histories 2) false w.fits next
 
 pub is-at-work : {C F S Y K T : Type 0} (commands : CommandsOf C F) (tells : Tells S Y K T) (net : SoloNet C S Y K T F)
-    (at : Placed the_law (NetStands commands tells net)) (work : Work) → next_action view the_job (at.state.histories 2) ≡ Some (act.Works work)
+    (at : Placed the_law (SoloNetStands commands tells net)) (work : Work) → next_action view the_job (at.state.histories 2) ≡ Some (act.Works work)
     → IsAtWork (StandsFor the_job job_at (JobStands commands.awaits) net.job)
 is-at-work commands tells net at work next =
     record { history = at.state.histories 2; work = work; stands = at.stands.job; next = next }
 
 pub work-sound : {C F S Y K T : Type 0} (commands : CommandsOf C F) (tells : Tells S Y K T) (net : SoloNet C S Y K T F)
-    (at : Placed the_law (NetStands commands tells net)) (work : Work) → next_action view the_job (at.state.histories 2) ≡ Some (act.Works work)
+    (at : Placed the_law (SoloNetStands commands tells net)) (work : Work) → next_action view the_job (at.state.histories 2) ≡ Some (act.Works work)
     → commands.sound net.shared.units.files
 work-sound commands tells net at work next =
     at.stands.files_sound (free-next 2 (at.state.histories 2) (act.Works work) is-2 next tt)
