@@ -23,11 +23,11 @@ use Rattle.solo_law.specs.OutputPlaces as output_at
 use Rattle.solo_law.specs.JobPlaces.{JobPlace, job_finds, job}
 use Rattle.solo_law.specs.JobPlaces as at
 use Rattle.solo_law.specs.Solo.{process, solo, SoloState, SoloEvent, IsProcess}
-use Rattle.solo_law.proofs.Placed.{each-process, is-1, is-2, is-3}
+use Rattle.solo_law.proofs.Placed.{each-process}
 use Rattle.solo_ends.specs.declared.units.SoloUnits.{SoloUnits}
-use Rattle.solo_ends.specs.Faults.{Counts, Peripherals, devices_of, AreCounted}
-use Rattle.solo_net.specs.Replies.{reply_of}
-use Rattle.solo_net.specs.Telling.{Tells, counts_of, Displays, Prints, HasCauses}
+use Rattle.solo_ends.specs.Faults.{Peripherals, devices_of, AreCounted}
+use Rattle.solo_net.specs.Replies.{solo_reply_of}
+use Rattle.solo_net.specs.Telling.{Tells, solo_counts_of, Displays, SoloPrints, SoloHasCauses}
 use Rattle.solo_net.proofs.Placing.{Owned, next-owned, IsOpen, free-next}
 use Rattle.solo_net.proofs.Freed.{Told, cause_by, told-so, fault-of, entry-gave, entry-keeps, limit-gives}
 
@@ -134,7 +134,7 @@ pub displays-or-not : (a : Action) → Displays a ⊎ (Displays a → ⊥)
 displays-or-not (act.Display line) = inl tt
 displays-or-not a = inr (λ shows. shows)
 
-pub prints-or-not : (a : Action) → Prints a ⊎ (Prints a → ⊥)
+pub prints-or-not : (a : Action) → SoloPrints a ⊎ (SoloPrints a → ⊥)
 prints-or-not (act.Print line) = inl tt
 prints-or-not a = inr (λ prints. prints)
 
@@ -142,7 +142,7 @@ displays-owned : (p : ℕ) (a : Action) → Displays a → Owned p a → p ≡ 2
 displays-owned p (act.Display line) is owned = owned
 displays-owned p a is owned = absurd is
 
-prints-owned : (p : ℕ) (a : Action) → Prints a → Owned p a → p ≡ 3
+prints-owned : (p : ℕ) (a : Action) → SoloPrints a → Owned p a → p ≡ 3
 prints-owned p (act.Print line) is owned = owned
 prints-owned p a is owned = absurd is
 
@@ -153,13 +153,13 @@ outcomes_in s =
 
 -- what a call on the files causes, of which only a piece of work is one
 pub record FilesCause {F : Type 0} (faults : F → ℕ) (old new : F) (a : Action) (reply : Option Reply) : Type 0 where
-  pub failed : (Displays a → ⊥) → (Prints a → ⊥) → view.Fits a act.Failed → reply ≡ Some act.Failed → Rose (faults old) (faults new)
+  pub failed : (Displays a → ⊥) → (SoloPrints a → ⊥) → view.Fits a act.Failed → reply ≡ Some act.Failed → Rose (faults old) (faults new)
   pub on : faults old ≤ faults new
 
 module _ {S Y K T F : Type 0} (tells : Tells S Y K T) (faults : F → ℕ) (old new : SoloUnits S Y K T F) (s : SoloState) (event : SoloEvent)
     (enabled : IsEnabled solo s event) (suits : EntrySuits view (process event.process) event.entry)
-    (causes : HasCauses tells old new (action_of event.entry) (reply_of event.entry))
-    (files : FilesCause faults old.files new.files (action_of event.entry) (reply_of event.entry)) where
+    (causes : SoloHasCauses tells old new (action_of event.entry) (solo_reply_of event.entry))
+    (files : FilesCause faults old.files new.files (action_of event.entry) (solo_reply_of event.entry)) where
   abbrev q : ℕ
   q = event.process
 
@@ -167,7 +167,7 @@ module _ {S Y K T F : Type 0} (tells : Tells S Y K T) (faults : F → ℕ) (old 
   made = action_of event.entry
 
   abbrev reply : Option Reply
-  reply = reply_of event.entry
+  reply = solo_reply_of event.entry
 
   next : next_action view (process q) (s.histories q) ≡ Some made
   next = enabled.next
@@ -213,7 +213,7 @@ module _ {S Y K T F : Type 0} (tells : Tells S Y K T) (faults : F → ℕ) (old 
     | inr not ↦ same-count _ _ (ap (λ (c : Printing K). tells.paper.faults c.sink) (causes.paper_stays not))
   ]
 
-  module _ (before : Peripherals S Y K T F) (was : AreCounted (counts_of tells faults) before (devices_of old) (outcomes_in s)) where
+  module _ (before : Peripherals S Y K T F) (was : AreCounted (solo_counts_of tells faults) before (devices_of old) (outcomes_in s)) where
     abbrev After : ℕ → Outcome
     After n = outcome_by (caused view (process n) ((next_state s event).histories n))
 
@@ -330,7 +330,7 @@ module _ {S Y K T F : Type 0} (tells : Tells S Y K T) (faults : F → ℕ) (old 
           | inr gave ↦ then-rose _ _ _ was.print_on ((causes.prints gave.1.0).failed gave.1.1)
         ]
 
-    pub counted : AreCounted (counts_of tells faults) before (devices_of new) (outcomes_in (next_state s event))
+    pub counted : AreCounted (solo_counts_of tells faults) before (devices_of new) (outcomes_in (next_state s event))
     counted = record {
       read = read;
       limit = limit;

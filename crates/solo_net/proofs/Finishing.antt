@@ -1,8 +1,6 @@
 -- How each process ended follows from its cause, and how all did together from the law.
 use Rattle.std.specs.Prelude.{is_some}
-use Rattle.std.proofs.Common.{◌≡◌, ◌⊎◌, inl, inr, ℕ, ◌&&◌, ◌||◌, Bool, true, false, List, [], ◌∷◌, Option, None, Some, refl, sym, ◌∙◌, ap, subst, lit≤}
-use Rattle.std.specs.List.{AllByRecursion}
-use Rattle.std.proofs.lemmas.Bool.{eqb-true}
+use Rattle.std.proofs.Common.{◌≡◌, inl, inr, ℕ, true, List, [], ◌∷◌, Option, None, Some, refl, sym, ◌∙◌, ap, subst, lit≤}
 use Rattle.solo_base.specs.declared.item.Item.{Item}
 use Rattle.solo_base.specs.declared.outcome.Side.{Side}
 use Rattle.solo_base.specs.declared.outcome.Outcome.{Outcome}
@@ -12,17 +10,17 @@ use Rattle.solo_base.specs.Text.{text}
 use Rattle.solo_devices.specs.PrinterUnit.{Gains}
 use Rattle.queue_var.specs.declared.stops.Stops.{Stops as Marks}
 use Rattle.queue_var.specs.declared.stops.Stops.TheVariants.{Neither, One, Both}
-use Rattle.queue_var.specs.Sides.{first_of, is_among, same_side, stopped_by}
+use Rattle.queue_var.specs.Sides.{first_of, is_among, stopped_by}
 use Rattle.solo_base.specs.declared.outcome.Side.TheVariants.{Sender, Receiver}
-use Rattle.network_run.specs.Law.{Placed, AllEnded}
-use Rattle.network_law.specs.Acts.{Call, At, Stops, stops_at, made_stop, is_same}
+use Rattle.network_run.specs.Law.{Placed}
+use Rattle.network_law.specs.Acts.{stops_at, made_stop}
 use Rattle.network_law.specs.Network.{Follows, acts}
 use Rattle.network_law.specs.Kept.{Stands}
 use Rattle.network_law.proofs.KeepsBuffers.{or-tells}
 use Rattle.network_law.proofs.Reached.{reached-stands}
-use Rattle.network_law.proofs.Seats.{AreSame, same-tells}
-use Rattle.place_law.specs.Process.{Process, action_of, caused, how_ended, next_action}
-use Rattle.place_law.specs.Ending.{outcome_by, EndsRightly, GivenBy, HasEndedSo, HasEnded, AllDone, EndsTogether}
+use Rattle.network_law.proofs.Seats.{same-tells}
+use Rattle.place_law.specs.Process.{action_of, caused, how_ended, next_action}
+use Rattle.place_law.specs.Ending.{outcome_by, GivenBy, HasEndedSo, HasEnded, AllDone, EndsTogether}
 use Rattle.place_law.proofs.Ended.{none-ended, ends-rightly}
 use Rattle.place_law.proofs.Given.{given-by}
 use Rattle.solo_needs.specs.Handing.{no_command, HandsOn}
@@ -34,7 +32,7 @@ use Rattle.solo_law.specs.Replies.{view}
 use Rattle.solo_law.specs.InputPlaces.{input as the_input}
 use Rattle.solo_law.specs.OutputPlaces.{output as the_output}
 use Rattle.solo_law.specs.JobPlaces.{job as the_job}
-use Rattle.solo_law.specs.Told.{on_console, on_paper, lines_of_all, needs, needs_of, begun}
+use Rattle.solo_law.specs.Told.{on_console, on_paper, lines_of_all, needs, begun}
 use Rattle.solo_law.specs.Solo.{process, table, solo, SoloState, SoloEntry, IsProcess, opened, openings, the_law}
 use Rattle.solo_law.specs.Holds.{IsBuffer, Holds}
 use Rattle.solo_law.proofs.Placed.{each-process, is-1, is-2, is-3, placed, calls-so, seats, solo-lawful}
@@ -45,11 +43,11 @@ use Rattle.solo_procs.specs.Job.{job_at, JobStands}
 use Rattle.solo_ends.specs.declared.units.SoloRan.{SoloRan}
 use Rattle.solo_ends.specs.Ends.{outcome_at, stopped_at, all_done, none_stopped, StoppedBeside, SomeFault, EndTogether, FaultsAre}
 use Rattle.solo_net.specs.declared.net.SoloNet.{SoloNet}
-use Rattle.solo_net.specs.Actions.{HasPlace}
+use Rattle.solo_net.specs.Actions.{SoloHasPlace}
 use Rattle.solo_net.specs.SixBuffers.{first_stops}
 use Rattle.solo_net.specs.Telling.{Tells}
-use Rattle.solo_net.specs.Net.{CommandsOf, input_at, output_at, NetStands, AreSome}
-use Rattle.solo_net.specs.Ended.{HaveEnded, EndsSo, JobDone, BothDone, TellsPlan}
+use Rattle.solo_net.specs.Net.{CommandsOf, input_at, output_at, SoloNetStands, AreSome}
+use Rattle.solo_net.specs.Ended.{SoloHaveEnded, EndsSo, JobDone, BothDone, TellsPlan}
 use Rattle.solo_net.proofs.Placing.{next-place}
 use Rattle.solo_net.proofs.Visiting.{each-buffer}
 
@@ -106,7 +104,7 @@ made-buffer p b side (entry ∷ h) one follows e =
       | inl now ↦
           let is : action_of entry ≡ act.Stop b
           = stop-of b p side (action_of entry) (ap (stops_at b side) (sym (calls-so p one (action_of entry))) ∙ now) in
-          subst HasPlace is (next-place p h (action_of entry) one follows.0)
+          subst SoloHasPlace is (next-place p h (action_of entry) one follows.0)
       | inr old ↦ made-buffer p b side h one follows.2 old
     ]
 
@@ -150,7 +148,7 @@ gains-where before now whole X Y if gains = record {
 }
 
 module _ {C F S Y K T : Type 0} (commands : CommandsOf C F) (tells : Tells S Y K T) (net : SoloNet C S Y K T F) (a b c : Outcome)
-    (stops : List (Option Side)) (some : HaveEnded commands tells net)
+    (stops : List (Option Side)) (some : SoloHaveEnded commands tells net)
     (a-is : (h : List SoloEntry) → StandsFor the_input input_at input_at net.input h → a ≡ outcome_by (caused view the_input h))
     (b-is : (h : List SoloEntry) → StandsFor the_job job_at (JobStands commands.awaits) net.job h → b ≡ outcome_by (caused view the_job h))
     (c-is : (h : List SoloEntry) → StandsFor the_output output_at output_at net.output h → c ≡ outcome_by (caused view the_output h))
@@ -159,7 +157,7 @@ module _ {C F S Y K T : Type 0} (commands : CommandsOf C F) (tells : Tells S Y K
   outcomes = a ∷ b ∷ c ∷ []
 
   -- ---- for a place
-  module _ (at : Placed the_law (NetStands commands tells net)) where
+  module _ (at : Placed the_law (SoloNetStands commands tells net)) where
     abbrev s : SoloState
     s = at.state
 
@@ -246,20 +244,20 @@ module _ {C F S Y K T : Type 0} (commands : CommandsOf C F) (tells : Tells S Y K
           by (Some how) is = is
 
   -- ---- together
-  abbrev first_place : Placed the_law (NetStands commands tells net)
-  first_place = some.at
+  abbrev solo_first_place : Placed the_law (SoloNetStands commands tells net)
+  solo_first_place = some.at
 
   abbrev t : SoloState
   t = some.at.state
 
   law : EndsTogether table t
-  law = (holds first_place).ends
+  law = (holds solo_first_place).ends
 
   all-done : outcomes ≡ all_done → AllDone table t
-  all-done e p one = subst (HasEndedSo table t p) (ap (λ o. outcome_at o p) e ∙ done-at p one) (ended first_place p one)
+  all-done e p one = subst (HasEndedSo table t p) (ap (λ o. outcome_at o p) e ∙ done-at p one) (ended solo_first_place p one)
 
   all-ended : (p : ℕ) → IsProcess p → HasEnded table t p
-  all-ended p one = (outcome_at outcomes p, ended first_place p one)
+  all-ended p one = (outcome_at outcomes p, ended solo_first_place p one)
 
   none-by : (six : List (Option Side)) → six ≡ first_stops net.shared.buffers → ((n : ℕ) → IsBuffer n → stopped_at six n ≡ None) → six ≡ none_stopped
   none-by six is none =
@@ -269,10 +267,10 @@ module _ {C F S Y K T : Type 0} (commands : CommandsOf C F) (tells : Tells S Y K
       (at 5 (lit≤ tt, lit≤ tt)) (at 6 (lit≤ tt, lit≤ tt))
 
   done-none : outcomes ≡ all_done → stops ≡ none_stopped
-  done-none e = none-by stops stops-are (λ n is. first first_place n is ∙ law.done (all-done e) n)
+  done-none e = none-by stops stops-are (λ n is. first solo_first_place n is ∙ law.done (all-done e) n)
 
   none-stopped : stops ≡ none_stopped → (n : ℕ) → IsBuffer n → stopped_by (t.buffers n).sides ≡ None
-  none-stopped e n is = sym (first first_place n is) ∙ ap (λ all. stopped_at all n) e ∙ none-at n is
+  none-stopped e n is = sym (first solo_first_place n is) ∙ ap (λ all. stopped_at all n) e ∙ none-at n is
 
   none-done : stops ≡ none_stopped → outcomes ≡ all_done
   none-done e =
@@ -283,18 +281,18 @@ module _ {C F S Y K T : Type 0} (commands : CommandsOf C F) (tells : Tells S Y K
       let four = free 4 (lit≤ tt, lit≤ tt) in
       let five = free 5 (lit≤ tt, lit≤ tt) in
       let six = free 6 (lit≤ tt, lit≤ tt) in
-      done-so a b c (law.unstopped 1 a is-1 (ended first_place 1 is-1) (one, (two, (three, tt))))
-      (law.unstopped 2 b is-2 (ended first_place 2 is-2) (one, (two, (three, (four, (five, (six, tt)))))))
-      (law.unstopped 3 c is-3 (ended first_place 3 is-3) (four, (five, (six, tt))))
+      done-so a b c (law.unstopped 1 a is-1 (ended solo_first_place 1 is-1) (one, (two, (three, tt))))
+      (law.unstopped 2 b is-2 (ended solo_first_place 2 is-2) (one, (two, (three, (four, (five, (six, tt)))))))
+      (law.unstopped 3 c is-3 (ended solo_first_place 3 is-3) (four, (five, (six, tt))))
 
   beside : (p : ℕ) → IsProcess p → outcome_at outcomes p ≡ outcome.Stopped → StoppedBeside stops p × SomeFault outcomes
   beside p one e =
-      let (told, found) = law.stopped all-ended p one (subst (HasEndedSo table t p) e (ended first_place p one)) in
+      let (told, found) = law.stopped all-ended p one (subst (HasEndedSo table t p) e (ended solo_first_place p one)) in
       let (q, why, q_one, fault) = found in
-      let centre = reached-stands solo-lawful openings first_place.opening t first_place.reached in
-      let is = stopped-buffer (opened first_place.opening.devices) t centre told.buffer _ told.by in (
-        record { buffer = told.buffer; side = told.side; is_buffer = is; seated = told.seated; by = first first_place told.buffer is ∙ told.by },
-        record { process = q; cause = why; one = q_one; is = same-end (how_ended view (t.histories q)) _ _ (ended first_place q q_one) fault },
+      let centre = reached-stands solo-lawful openings solo_first_place.opening t solo_first_place.reached in
+      let is = stopped-buffer (opened solo_first_place.opening.devices) t centre told.buffer _ told.by in (
+        record { buffer = told.buffer; side = told.side; is_buffer = is; seated = told.seated; by = first solo_first_place told.buffer is ∙ told.by },
+        record { process = q; cause = why; one = q_one; is = same-end (how_ended view (t.histories q)) _ _ (ended solo_first_place q q_one) fault },
       )
 
   pub together : EndTogether outcomes stops
@@ -302,9 +300,9 @@ module _ {C F S Y K T : Type 0} (commands : CommandsOf C F) (tells : Tells S Y K
 
   pub faults : FaultsAre outcomes
   faults =
-      let causes = (holds first_place).causes in
+      let causes = (holds solo_first_place).causes in
       record {
-        input = λ why e. causes.input why (fault-so 1 is-1 input_at input_at net.input a a-is (t.histories 1) first_place.stands.input why e);
-        job = λ why e. causes.job why (fault-so 2 is-2 job_at (JobStands commands.awaits) net.job b b-is (t.histories 2) first_place.stands.job why e);
-        output = λ why e. causes.output why (fault-so 3 is-3 output_at output_at net.output c c-is (t.histories 3) first_place.stands.output why e);
+        input = λ why e. causes.input why (fault-so 1 is-1 input_at input_at net.input a a-is (t.histories 1) solo_first_place.stands.input why e);
+        job = λ why e. causes.job why (fault-so 2 is-2 job_at (JobStands commands.awaits) net.job b b-is (t.histories 2) solo_first_place.stands.job why e);
+        output = λ why e. causes.output why (fault-so 3 is-3 output_at output_at net.output c c-is (t.histories 3) solo_first_place.stands.output why e);
       }

@@ -1,5 +1,5 @@
 -- What an entry tells that gave its process no cause, and what one tells that did.
-use Rattle.std.proofs.Common.{◌≡◌, ◌≢◌, ◌⊎◌, inl, inr, ℕ, List, ◌∷◌, Option, None, Some, refl, sym, ◌∙◌, ap, subst}
+use Rattle.std.proofs.Common.{◌≡◌, ◌≢◌, ◌⊎◌, inl, inr, List, ◌∷◌, Option, None, Some, refl, ap, subst}
 use Rattle.solo_base.specs.declared.outcome.Outcome.{Outcome}
 use Rattle.solo_base.specs.declared.outcome.Outcome.TheVariants as outcome
 use Rattle.solo_base.specs.declared.outcome.Cause.{Cause}
@@ -13,8 +13,8 @@ use Rattle.solo_law.specs.Actions.{Action, Reply}
 use Rattle.solo_law.specs.Actions as act
 use Rattle.solo_law.specs.Replies.{view, Fits, fault_at, fault_read, reply_cause}
 use Rattle.solo_law.specs.Solo.{SoloEntry}
-use Rattle.solo_net.specs.Replies.{reply_of}
-use Rattle.solo_net.specs.Telling.{Displays, Prints}
+use Rattle.solo_net.specs.Replies.{solo_reply_of}
+use Rattle.solo_net.specs.Telling.{Displays, SoloPrints}
 
 pub lacking-some : (old : Option Outcome) (how : Outcome) → or_new old (Some how) ≡ None → ⊥
 lacking-some None how e = cc
@@ -26,10 +26,10 @@ some-reply r s e = cc
 -- ---- without a cause
 pub record IsFree (p : Process Action Reply) (entry : SoloEntry) (h : List SoloEntry) : Type 0 where
   pub before : caused view p h ≡ None
-  pub no_failed : reply_of entry ≢ Some (act.OfCard read.Failed)
-  pub no_limit : reply_of entry ≢ Some (act.OfCard read.Limit)
-  pub no_failure : reply_of entry ≢ Some act.Failed
-  pub no_memory : reply_of entry ≢ Some act.NoMemory
+  pub no_failed : solo_reply_of entry ≢ Some (act.OfCard read.Failed)
+  pub no_limit : solo_reply_of entry ≢ Some (act.OfCard read.Limit)
+  pub no_failure : solo_reply_of entry ≢ Some act.Failed
+  pub no_memory : solo_reply_of entry ≢ Some act.NoMemory
 
 -- the reply by itself is no cause
 no-cause : (p : Process Action Reply) (a : Action) (r : Reply) (h : List SoloEntry) → caused view p (Does a r ∷ h) ≡ None → reply_cause a r ≡ None
@@ -50,7 +50,7 @@ free-of p (Delays a) h none =
     record { before = none; no_failed = λ e. cc; no_limit = λ e. cc; no_failure = λ e. cc; no_memory = λ e. cc }
 
 -- a line that is given to a sink is done then
-line-done : (p : Process Action Reply) (a : Action) (r : Reply) (h : List SoloEntry) → Fits a r → (Displays a ⊎ Prints a)
+line-done : (p : Process Action Reply) (a : Action) (r : Reply) (h : List SoloEntry) → Fits a r → (Displays a ⊎ SoloPrints a)
     → IsFree p (Does a r) h → r ≡ act.Done
 line-done p (act.Display line) act.Done h fits is free = refl
 line-done p (act.Display line) act.Failed h fits is free = absurd (free.no_failure refl)
@@ -63,14 +63,14 @@ line-done p (act.Print line) r h fits is free = absurd fits
 line-done p a r h fits (inl shows) free = absurd shows
 line-done p a r h fits (inr prints) free = absurd prints
 
-line-waits : (a : Action) → view.MayWait a → (Displays a ⊎ Prints a) → ⊥
+line-waits : (a : Action) → view.MayWait a → (Displays a ⊎ SoloPrints a) → ⊥
 line-waits (act.Display line) may is = may
 line-waits (act.Print line) may is = may
 line-waits a may (inl shows) = shows
 line-waits a may (inr prints) = prints
 
 pub given-done : (p : Process Action Reply) (entry : SoloEntry) (h : List SoloEntry) → EntrySuits view p entry → caused view p (entry ∷ h) ≡ None
-    → (Displays (action_of entry) ⊎ Prints (action_of entry)) → reply_of entry ≡ Some act.Done
+    → (Displays (action_of entry) ⊎ SoloPrints (action_of entry)) → solo_reply_of entry ≡ Some act.Done
 given-done p (Does a r) h suits none is = ap Some (line-done p a r h suits is (free-of p (Does a r) h none))
 given-done p (LacksMemory a r) h suits none is = absurd (lacking-some (caused view p h) _ none)
 given-done p (Delays a) h suits none is = absurd (line-waits a suits is)
@@ -81,8 +81,8 @@ abbrev pub Told : Cause → Action → Option Reply → Type 0
 Told cause.ReadFault a r = ((a ≡ act.ReadCard) ⊎ (a ≡ act.Accept)) × (r ≡ Some (act.OfCard read.Failed))
 Told cause.DeckLimit a r = ((a ≡ act.ReadCard) ⊎ (a ≡ act.Accept)) × (r ≡ Some (act.OfCard read.Limit))
 Told cause.ConsoleFault a r = Displays a × (r ≡ Some act.Failed)
-Told cause.PrintFault a r = Prints a × (r ≡ Some act.Failed)
-Told cause.DiskFault a r = (view.Fits a act.Failed) × (Displays a → ⊥) × (Prints a → ⊥) × (r ≡ Some act.Failed)
+Told cause.PrintFault a r = SoloPrints a × (r ≡ Some act.Failed)
+Told cause.DiskFault a r = (view.Fits a act.Failed) × (Displays a → ⊥) × (SoloPrints a → ⊥) × (r ≡ Some act.Failed)
 Told other a r = Unit {0}
 
 same-fault : (c d : Cause) → Some (outcome.Fault c) ≡ Some (outcome.Fault d) → c ≡ d
@@ -142,7 +142,7 @@ told-reply c a (act.OfPage page) fits e = absurd cc
 told-reply c a (act.Found need) fits e = absurd cc
 
 pub told-so : (p : Process Action Reply) → IsPageFault p → (entry : SoloEntry) (h : List SoloEntry) (c : Cause) → EntrySuits view p entry
-    → cause_by p entry h ≡ Some (outcome.Fault c) → Told c (action_of entry) (reply_of entry)
+    → cause_by p entry h ≡ Some (outcome.Fault c) → Told c (action_of entry) (solo_reply_of entry)
 told-so p pages (Does a r) h c suits e =
     elim (or-gave (reply_cause a r) (fault_in (p.finds (place p h) r)) (outcome.Fault c) e) as (λ _. Told c a (Some r)) [
       | inl by_reply ↦ told-reply c a r suits by_reply
@@ -173,7 +173,8 @@ lack-limit : (a : Action) → view.MayLack a (act.OfCard read.Limit) → ⊥
 lack-limit (act.TakePage b) may = may
 lack-limit a may = may
 
-pub limit-gives : (p : Process Action Reply) (entry : SoloEntry) (h : List SoloEntry) → EntrySuits view p entry → reply_of entry ≡ Some (act.OfCard read.Limit)
+pub limit-gives : (p : Process Action Reply) (entry : SoloEntry) (h : List SoloEntry) → EntrySuits view p entry
+    → solo_reply_of entry ≡ Some (act.OfCard read.Limit)
     → caused view p h ≡ None → caused view p (entry ∷ h) ≡ Some (outcome.Fault cause.DeckLimit)
 limit-gives p (Does a r) h suits told none = (let same = some-reply r (act.OfCard read.Limit) told in rw (none, same) refl)
 limit-gives p (LacksMemory a r) h suits told none = absurd (lack-limit a (subst (view.MayLack a) (some-reply r (act.OfCard read.Limit) told) suits.1))

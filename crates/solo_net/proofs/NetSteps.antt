@@ -1,31 +1,27 @@
 -- A step of one of the machines is a step of the network.
 use Rattle.std.specs.Prelude.{◌==◌, if◌then◌else◌, is_none}
-use Rattle.std.proofs.Common.{◌≡◌, ◌≢◌, ◌≤◌, ℕ, Bool, true, List, [], ◌∷◌, ◌++◌, Option, None, Some, inl, inr, refl, sym, ◌∙◌, ap, subst, arith}
+use Rattle.std.proofs.Common.{◌≡◌, ◌≤◌, ℕ, Bool, true, List, [], ◌∷◌, Option, None, Some, inl, inr, refl, sym, ◌∙◌, ap, subst, arith}
 use Rattle.std.proofs.lemmas.Bool.Decides.{eqb_tells}
 use Rattle.std.proofs.lemmas.List.{append-nil}
-use Rattle.std.specs.Option.{option_map}
 use Rattle.solo_base.specs.declared.outcome.Outcome.{Outcome}
 use Rattle.solo_base.specs.declared.outcome.Outcome.TheVariants as outcome
 use Rattle.solo_base.specs.declared.outcome.Cause.TheVariants as cause
-use Rattle.solo_devices.specs.Count.{Rose}
 use Rattle.solo_devices.specs.CardUnit.{Held}
 use Rattle.solo_devices.specs.PrinterUnit.{Printing}
-use Rattle.solo_devices.specs.declared.card_read.CardRead.TheVariants as read
 use Rattle.network_run.specs.declared.stepped.Stepped.{Stepped}
-use Rattle.network_run.specs.declared.stepped.Stepped.TheVariants as stepped
 use Rattle.network_run.specs.Law.{Placed}
 use Rattle.network_run.specs.Law as law
-use Rattle.network_law.specs.Acts.{is_delayed, Done}
+use Rattle.network_law.specs.Acts.{is_delayed}
 use Rattle.network_law.specs.Buffer.{Buffer}
-use Rattle.network_law.specs.Network.{MayCall, Fits, IsEnabled, buffers_after, set}
+use Rattle.network_law.specs.Network.{MayCall, Fits, IsEnabled, buffers_after}
 use Rattle.network_law.specs.Stepping.{MayGo, is_again, stepped_so}
 use Rattle.network_law.specs.Kept.{Stands}
 use Rattle.network_law.proofs.Numbers.{set-same}
 use Rattle.network_law.proofs.Reached.{reached-stands}
 use Rattle.exchange_law.specs.Parcels.{Parcel, mark}
-use Rattle.place_law.specs.Process.{Does, LacksMemory, Delays, action_of, caused, given_cause, or_new, place, EntrySuits, went, next_action}
+use Rattle.place_law.specs.Process.{Does, LacksMemory, Delays, action_of, caused, EntrySuits, went, next_action}
 use Rattle.place_law.specs.Ending.{outcome_by}
-use Rattle.solo_law.specs.Work.{Given, Work, Plan}
+use Rattle.solo_law.specs.Work.{Given}
 use Rattle.solo_law.specs.Actions.{Action, Reply}
 use Rattle.solo_law.specs.Actions as act
 use Rattle.solo_law.specs.Buffers.{call}
@@ -33,7 +29,7 @@ use Rattle.solo_law.specs.Replies.{view}
 use Rattle.solo_law.specs.InputPlaces.{input as the_input}
 use Rattle.solo_law.specs.OutputPlaces.{output as the_output}
 use Rattle.solo_law.specs.JobPlaces.{job as the_job}
-use Rattle.solo_law.specs.Devices.{Devices, Allows, given, plan_behind}
+use Rattle.solo_law.specs.Devices.{Devices, Allows, given}
 use Rattle.solo_law.specs.Told.{begun}
 use Rattle.solo_law.specs.Solo.{process, solo, SoloState, SoloEntry, SoloEvent, IsProcess, opened, openings, the_law}
 use Rattle.solo_law.proofs.Placed.{calls-so, is-1, is-2, is-3, solo-lawful}
@@ -44,18 +40,16 @@ use Rattle.solo_procs.specs.declared.machine.Machine.{Machine}
 use Rattle.solo_procs.specs.Said.{said, is_end}
 use Rattle.solo_procs.specs.Machine.{StandsFor}
 use Rattle.solo_procs.specs.Job.{job_at, JobStands}
-use Rattle.solo_ends.specs.declared.units.SoloUnits.{SoloUnits}
-use Rattle.solo_ends.specs.Faults.{Peripherals, devices_of, AreCounted}
+use Rattle.solo_ends.specs.Faults.{devices_of, AreCounted}
 use Rattle.solo_net.specs.declared.net.SoloNet.{SoloNet}
 use Rattle.solo_net.specs.declared.shared.Shared.{Shared}
-use Rattle.solo_net.specs.Actions.{HasPlace, IsNoWork}
-use Rattle.solo_net.specs.Replies.{reply_of}
-use Rattle.solo_net.specs.SixBuffers.{BuffersStand}
-use Rattle.solo_net.specs.Telling.{Tells, SourceTells, counts_of, total_of, ReadSo, Displays, Prints, HasCauses}
-use Rattle.solo_net.specs.Sharing.{SharedStands, MayPerform, Enters}
-use Rattle.solo_net.specs.Steps.{MayStep, Steps, IsAtWork, ComesTo, LedTo, WorkSteps}
-use Rattle.solo_net.specs.Net.{CommandsOf, input_at, output_at, NetStands, AreSome, IsCounted, outcomes_of, KeepsSo, MovesSo}
-use Rattle.solo_net.proofs.Placing.{Owned, next-owned, next-place, free-next}
+use Rattle.solo_net.specs.Actions.{IsNoWork}
+use Rattle.solo_net.specs.Replies.{solo_reply_of}
+use Rattle.solo_net.specs.Telling.{Tells, solo_counts_of, total_of, Displays, SoloPrints, SoloHasCauses}
+use Rattle.solo_net.specs.Sharing.{SoloSharedStands, SoloMayPerform, SoloEnters}
+use Rattle.solo_net.specs.Steps.{Steps}
+use Rattle.solo_net.specs.Net.{CommandsOf, input_at, output_at, SoloNetStands, AreSome, outcomes_of, KeepsSo, MovesSo}
+use Rattle.solo_net.proofs.Placing.{Owned, next-owned, next-place}
 use Rattle.solo_net.proofs.Freed.{IsFree, free-of, given-done}
 use Rattle.solo_net.proofs.Counted.{next_state, event-keeps, free-before, outcomes_in, FilesCause, counted, cards-or-not, keys-or-not, displays-or-not, prints-or-not}
 use Rattle.solo_net.proofs.Turning.{may-perform, goes-so}
@@ -108,13 +102,13 @@ module _ {F : Type 0} (passes : List Given → F → Type 0) (givens : List Give
 -- an enabled event of a process, and what is shared stands for the state behind it
 pub record IsEvent {S Y K T F : Type 0} (tells : Tells S Y K T) (new : Shared S Y K T F) (s : SoloState) (event : SoloEvent) : Type 0 where
   pub enabled : IsEnabled solo s event
-  pub after : SharedStands tells new (next_state s event).devices (next_state s event).buffers
+  pub after : SoloSharedStands tells new (next_state s event).devices (next_state s event).buffers
 
 module _ {S Y K T F : Type 0} (tells : Tells S Y K T) (new : Shared S Y K T F) (s : SoloState) (p : ℕ) (one : IsProcess p) (entry : SoloEntry)
     (gained : List ℕ) (next : next_action view (process p) (s.histories p) ≡ Some (action_of entry))
     (suits : EntrySuits view (process p) entry) where
   pub is-event : MayCall s p (call p (action_of entry)) → Fits mark s (call p (action_of entry)) (went view entry) → Allows s.devices entry gained
-      → SharedStands tells new (given s.devices entry gained) (buffers_after mark (call p (action_of entry)) p (went view entry) s.buffers)
+      → SoloSharedStands tells new (given s.devices entry gained) (buffers_after mark (call p (action_of entry)) p (went view entry) s.buffers)
       → IsEvent tells new s record { process = p; entry = entry; gained = gained }
   is-event may fits allowed after =
       let same = sym (calls-so p one (action_of entry)) in
@@ -127,7 +121,7 @@ module _ {S Y K T F : Type 0} (tells : Tells S Y K T) (new : Shared S Y K T F) (
           fits = subst (λ c. Fits mark s c (went view entry)) same fits;
           allowed = allowed;
         };
-        after = subst (λ c. SharedStands tells new (given s.devices entry gained) (buffers_after mark c p (went view entry) s.buffers)) same after;
+        after = subst (λ c. SoloSharedStands tells new (given s.devices entry gained) (buffers_after mark c p (went view entry) s.buffers)) same after;
       }
 
 -- ---- the network behind it
@@ -135,38 +129,38 @@ same-three : (a b c x y z : Outcome) → a ≡ x → b ≡ y → c ≡ z → (a 
 same-three a b c x y z i j k = cc
 
 pub outcomes-are : {C F S Y K T : Type 0} (commands : CommandsOf C F) (tells : Tells S Y K T) (net : SoloNet C S Y K T F) (s : SoloState)
-    → NetStands commands tells net s → outcomes_of net ≡ outcomes_in s
+    → SoloNetStands commands tells net s → outcomes_of net ≡ outcomes_in s
 outcomes-are commands tells net s st =
     same-three _ _ _ _ _ _ (ap outcome_by st.input.tracks.cause) (ap outcome_by st.job.tracks.cause) (ap outcome_by st.output.tracks.cause)
 
 module _ {C F S Y K T : Type 0} (commands : CommandsOf C F) (tells : Tells S Y K T) (net : SoloNet C S Y K T F)
-    (at : Placed the_law (NetStands commands tells net)) where
+    (at : Placed the_law (SoloNetStands commands tells net)) where
   abbrev s : SoloState
   s = at.state
 
-  abbrev stands : NetStands commands tells net s
+  abbrev stands : SoloNetStands commands tells net s
   stands = at.stands
 
   centre : Stands solo (opened at.opening.devices) s
   centre = reached-stands solo-lawful openings at.opening s at.reached
 
   pub may-now : (p : ℕ) (action : Action) → IsProcess p → IsNoWork action → next_action view (process p) (s.histories p) ≡ Some action
-      → MayCall s p (call p action) → MayPerform net.shared p action
+      → MayCall s p (call p action) → SoloMayPerform net.shared p action
   may-now p action one no_work next may =
       may-perform (opened at.opening.devices) s centre net.shared stands.shared.six p one stands.cards_live stands.keys_live stands.console_live
       stands.paper_live action no_work next may
 
   -- what an event keeps
   pub keeps-so : (event : SoloEvent) (behind : SoloNet C S Y K T F) → IsEnabled solo s event → EntrySuits view (process event.process) event.entry
-      → HasCauses tells net.shared.units behind.shared.units (action_of event.entry) (reply_of event.entry)
-      → FilesCause commands.faults net.shared.units.files behind.shared.units.files (action_of event.entry) (reply_of event.entry)
-      → behind.first_files ≡ net.first_files → NetStands commands tells behind (next_state s event) → KeepsSo commands tells net behind
+      → SoloHasCauses tells net.shared.units behind.shared.units (action_of event.entry) (solo_reply_of event.entry)
+      → FilesCause commands.faults net.shared.units.files behind.shared.units.files (action_of event.entry) (solo_reply_of event.entry)
+      → behind.first_files ≡ net.first_files → SoloNetStands commands tells behind (next_state s event) → KeepsSo commands tells net behind
   keeps-so event behind enabled suits causes files first now = record {
     counted = λ before were.
-        subst (AreCounted (counts_of tells commands.faults) before (devices_of behind.shared.units)) (sym (outcomes-are commands tells behind
+        subst (AreCounted (solo_counts_of tells commands.faults) before (devices_of behind.shared.units)) (sym (outcomes-are commands tells behind
         (next_state s event) now))
         (counted tells commands.faults net.shared.units behind.shared.units s event enabled suits causes files before
-        (subst (AreCounted (counts_of tells commands.faults) before (devices_of net.shared.units)) (outcomes-are commands tells net s stands) were));
+        (subst (AreCounted (solo_counts_of tells commands.faults) before (devices_of net.shared.units)) (outcomes-are commands tells net s stands) were));
     cards_total = elim (cards-or-not (action_of event.entry)) as
         (λ _. total_of tells.cards behind.shared.units.cards ≡ total_of tells.cards net.shared.units.cards) [
           | inl is ↦ (causes.reads is).total
@@ -184,22 +178,23 @@ module _ {C F S Y K T : Type 0} (commands : CommandsOf C F) (tells : Tells S Y K
   module _ (p : ℕ) (one : IsProcess p) (action : Action) (no_work : IsNoWork action)
       (next : next_action view (process p) (s.histories p) ≡ Some action) (may : MayCall s p (call p action)) (new : Shared S Y K T F)
       (entry : SoloEntry) (same : action_of entry ≡ action) (suits : EntrySuits view (process p) entry)
-      (enters : Enters tells net.shared new p action entry) where
+      (enters : SoloEnters tells net.shared new p action entry) where
     abbrev event : SoloEvent
     event = record { process = p; entry = entry; gained = enters.gained }
 
     abbrev made : Action
     made = action_of entry
 
-    abbrev own : Enters tells net.shared new p made entry
+    abbrev own : SoloEnters tells net.shared new p made entry
     own = record {
       gained = enters.gained;
-      fits = subst (λ a. (s : SoloState) → SharedStands tells net.shared s.devices s.buffers → Fits mark s (call p a) (went view entry)) (sym same) enters.fits;
+      fits = subst (λ a. (s : SoloState) → SoloSharedStands tells net.shared s.devices s.buffers → Fits mark s (call p a) (went view entry))
+        (sym same) enters.fits;
       allowed = enters.allowed;
-      after = subst (λ a. (devices : Devices) (buffers : ℕ → Buffer Parcel) → SharedStands tells net.shared devices buffers
-          → SharedStands tells new (given devices entry enters.gained) (buffers_after mark (call p a) p (went view entry) buffers)) (sym same) enters.after;
+      after = subst (λ a. (devices : Devices) (buffers : ℕ → Buffer Parcel) → SoloSharedStands tells net.shared devices buffers
+          → SoloSharedStands tells new (given devices entry enters.gained) (buffers_after mark (call p a) p (went view entry) buffers)) (sym same) enters.after;
       work = enters.work;
-      causes = subst (λ a. HasCauses tells net.shared.units new.units a (reply_of entry)) (sym same) enters.causes;
+      causes = subst (λ a. SoloHasCauses tells net.shared.units new.units a (solo_reply_of entry)) (sym same) enters.causes;
       files = enters.files;
     }
 
@@ -249,7 +244,7 @@ module _ {C F S Y K T : Type 0} (commands : CommandsOf C F) (tells : Tells S Y K
     console-owned (act.Display line) shows is = is
     console-owned a shows is = absurd shows
 
-    paper-owned : (a : Action) → Prints a → Owned p a → p ≡ 3
+    paper-owned : (a : Action) → SoloPrints a → Owned p a → p ≡ 3
     paper-owned (act.Print line) prints is = is
     paper-owned a prints is = absurd prints
 
@@ -273,13 +268,13 @@ module _ {C F S Y K T : Type 0} (commands : CommandsOf C F) (tells : Tells S Y K
     same-count : (a b : ℕ) → b ≡ a → a ≤ b
     same-count a b e = omega (arith, e)
 
-    no-failure : (a : Action) → IsNoWork a → (Displays a → ⊥) → (Prints a → ⊥) → view.Fits a act.Failed → ⊥
+    no-failure : (a : Action) → IsNoWork a → (Displays a → ⊥) → (SoloPrints a → ⊥) → view.Fits a act.Failed → ⊥
     no-failure (act.Display line) is shows prints fits = shows tt
     no-failure (act.Print line) is shows prints fits = prints tt
     no-failure (act.Works work) is shows prints fits = is
     no-failure a is shows prints fits = fits
 
-    files-cause : FilesCause commands.faults net.shared.units.files new.units.files made (reply_of entry)
+    files-cause : FilesCause commands.faults net.shared.units.files new.units.files made (solo_reply_of entry)
     files-cause = record {
       failed = λ shows prints fits e. absurd (no-failure made made-no_work shows prints fits);
       on = same-count _ _ (ap commands.faults own.files);
@@ -294,7 +289,7 @@ module _ {C F S Y K T : Type 0} (commands : CommandsOf C F) (tells : Tells S Y K
       abbrev behind : SoloNet C S Y K T F
       behind = record { input = input; job = job; output = output; shared = new; first_files = net.first_files }
 
-      behind-stands : NetStands commands tells behind (next_state s event)
+      behind-stands : SoloNetStands commands tells behind (next_state s event)
       behind-stands = record {
         input = input-stands;
         job = job-stands;
@@ -324,7 +319,7 @@ module _ {C F S Y K T : Type 0} (commands : CommandsOf C F) (tells : Tells S Y K
       }
 
       pub step-of : (result : Stepped) → result ≡ stepped_so (is_delayed (went view entry)) (is_end (said action)) (is_again s (call p action))
-          → law.Steps the_law (NetStands commands tells) (MovesSo commands tells) net behind s p result
+          → law.Steps the_law (SoloNetStands commands tells) (MovesSo commands tells) net behind s p result
       step-of result told = record {
         event = event;
         process_is = refl;
@@ -362,7 +357,7 @@ module _ {C F S Y K T : Type 0} (commands : CommandsOf C F) (tells : Tells S Y K
 
   pub at-input : (m : Machine InputProc) (new : Shared S Y K T F) (result : Stepped) (may : MayGo solo s 1)
       → Steps (StandsFor the_input input_at input_at m) tells net.shared new 1 may.action (s.histories 1) result
-      → law.Steps the_law (NetStands commands tells) (MovesSo commands tells) net (record net { input = m; shared = new }) s 1 result
+      → law.Steps the_law (SoloNetStands commands tells) (MovesSo commands tells) net (record net { input = m; shared = new }) s 1 result
   at-input m new result may st =
       let no = no-work 1 may.action is-1 (λ e. cc) may.next in
       step-of 1 is-1 may.action no may.next (may-own 1 may) new st.entry st.action_is st.stands.tracks.follows.1 st.enters m net.job net.output st.stands
@@ -370,7 +365,7 @@ module _ {C F S Y K T : Type 0} (commands : CommandsOf C F) (tells : Tells S Y K
 
   pub at-output : (m : Machine OutputProc) (new : Shared S Y K T F) (result : Stepped) (may : MayGo solo s 3)
       → Steps (StandsFor the_output output_at output_at m) tells net.shared new 3 may.action (s.histories 3) result
-      → law.Steps the_law (NetStands commands tells) (MovesSo commands tells) net (record net { output = m; shared = new }) s 3 result
+      → law.Steps the_law (SoloNetStands commands tells) (MovesSo commands tells) net (record net { output = m; shared = new }) s 3 result
   at-output m new result may st =
       let no = no-work 3 may.action is-3 (λ e. cc) may.next in
       step-of 3 is-3 may.action no may.next (may-own 3 may) new st.entry st.action_is st.stands.tracks.follows.1 st.enters net.input net.job m stands.input
@@ -379,7 +374,7 @@ module _ {C F S Y K T : Type 0} (commands : CommandsOf C F) (tells : Tells S Y K
   pub at-job : (m : Machine (JobProc C)) (new : Shared S Y K T F) (result : Stepped) (may : MayGo solo s 2) → IsNoWork may.action
       → m.process.commands ≡ net.job.process.commands
       → Steps (StandsFor the_job job_at (JobStands commands.awaits) m) tells net.shared new 2 may.action (s.histories 2) result
-      → law.Steps the_law (NetStands commands tells) (MovesSo commands tells) net (record net { job = m; shared = new }) s 2 result
+      → law.Steps the_law (SoloNetStands commands tells) (MovesSo commands tells) net (record net { job = m; shared = new }) s 2 result
   at-job m new result may none kept st =
       step-of 2 is-2 may.action none may.next (may-own 2 may) new st.entry st.action_is st.stands.tracks.follows.1 st.enters net.input m net.output stands.input
       st.stands stands.output kept result (st.told s stands.shared.six (next-place 2 (s.histories 2) may.action is-2 may.next))

@@ -1,5 +1,5 @@
 -- What a call on the buffers or on a device is to all that is shared.
-use Rattle.std.proofs.Common.{◌≡◌, ◌≢◌, ◌≤◌, ◌<◌, ◌↔◌, ℕ, true, List, [], Option, None, Some, Result, Ok, Err, refl, sym, ◌∙◌, ap, subst, option_map}
+use Rattle.std.proofs.Common.{◌≡◌, ◌≢◌, ◌≤◌, ◌<◌, ◌↔◌, ℕ, true, List, [], Option, None, Some, Result, Ok, Err, refl, sym, ◌∙◌, ap, subst}
 use Rattle.std.specs.Prelude.{IsOk, IsErrOf, OnOk}
 use Rattle.solo_base.specs.declared.outcome.Outcome.{Outcome}
 use Rattle.solo_base.specs.Text.{line_text}
@@ -22,11 +22,11 @@ use Rattle.solo_procs.specs.Said.{heard}
 use Rattle.solo_ends.specs.declared.units.SoloUnits.{SoloUnits}
 use Rattle.solo_net.specs.declared.buffers.Buffers.{Buffers}
 use Rattle.solo_net.specs.declared.shared.Shared.{Shared}
-use Rattle.solo_net.specs.Replies.{print_said, entry_of, ReplyFits, reply_of}
-use Rattle.solo_net.specs.SixBuffers.{Visited}
-use Rattle.solo_net.specs.Telling.{SourceTells, SinkTells, Tells, total_of, ReadSo, PrintedSo, Displays, Prints, HasCauses}
+use Rattle.solo_net.specs.Replies.{print_said, entry_of, SoloReplyFits, solo_reply_of}
+use Rattle.solo_net.specs.SixBuffers.{SoloVisited}
+use Rattle.solo_net.specs.Telling.{SourceTells, SinkTells, Tells, total_of, ReadSo, PrintedSo, Displays, SoloPrints, SoloHasCauses}
 use Rattle.solo_net.specs.Sharing.{UnitsStand, Performs}
-use Rattle.solo_net.proofs.DeviceCalls.{ReadsNext, reads-next, GaveBy, GaveLine, gave-line}
+use Rattle.solo_net.proofs.DeviceCalls.{reads-next, GaveBy, gave-line}
 
 -- ---- at the buffers, of which no device hears
 abbrev pub Silent : Action → Type 0
@@ -60,12 +60,12 @@ silent-displays : (action : Action) → Silent action → Displays action → �
 silent-displays (act.Display line) is shows = is
 silent-displays action is shows = shows
 
-silent-prints : (action : Action) → Silent action → Prints action → ⊥
+silent-prints : (action : Action) → Silent action → SoloPrints action → ⊥
 silent-prints (act.Print line) is prints = is
 silent-prints action is prints = prints
 
 quiet-causes : {S Y K T F : Type 0} (tells : Tells S Y K T) (units : SoloUnits S Y K T F) (action : Action) (reply : Option Reply) → Silent action
-    → HasCauses tells units units action reply
+    → SoloHasCauses tells units units action reply
 quiet-causes tells units action reply is = record {
   reads = λ e. absurd (subst Silent e is);
   accepts = λ e. absurd (subst Silent e is);
@@ -78,7 +78,7 @@ quiet-causes tells units action reply is = record {
 }
 
 module _ {S Y K T F : Type 0} (tells : Tells S Y K T) (old : Shared S Y K T F) (p : ℕ) where
-  pub at-six : (action : Action) (result : Option SoloReply) (new : Buffers) → Silent action → Visited old.buffers new p action result
+  pub at-six : (action : Action) (result : Option SoloReply) (new : Buffers) → Silent action → SoloVisited old.buffers new p action result
       → Performs tells old (record old { buffers = new }) p action result
   at-six action result new is v = record {
     suits = v.suits;
@@ -91,7 +91,7 @@ module _ {S Y K T F : Type 0} (tells : Tells S Y K T) (old : Shared S Y K T F) (
         six = v.after buffers st.six;
       };
       work = λ devices. ap (λ (d : Devices). d.work) (silent-given action result is devices);
-      causes = quiet-causes tells old.units action (reply_of (entry_of action result)) is;
+      causes = quiet-causes tells old.units action (solo_reply_of (entry_of action result)) is;
       files = refl;
     };
   }
@@ -203,12 +203,12 @@ module _ {S Y K T F : Type 0} (tells : Tells S Y K T) (old : Shared S Y K T F) (
       }
 
 -- ---- a line
-print-suits : {X : Type 0} (line : List ℕ) (answer : Result X PrintFault) → ReplyFits (act.Print line) (Some (print_said answer))
+print-suits : {X : Type 0} (line : List ℕ) (answer : Result X PrintFault) → SoloReplyFits (act.Print line) (Some (print_said answer))
 print-suits line (Ok done) = tt
 print-suits line (Err PrintFault.Failed) = tt
 print-suits line (Err PrintFault.NoMemory) = tt
 
-display-suits : {X : Type 0} (line : List ℕ) (answer : Result X PrintFault) → ReplyFits (act.Display line) (Some (print_said answer))
+display-suits : {X : Type 0} (line : List ℕ) (answer : Result X PrintFault) → SoloReplyFits (act.Display line) (Some (print_said answer))
 display-suits line (Ok done) = tt
 display-suits line (Err PrintFault.Failed) = tt
 display-suits line (Err PrintFault.NoMemory) = tt

@@ -1,5 +1,5 @@
 -- At which buffers a process calls, which devices it uses, and that it uses one only without a cause.
-use Rattle.std.proofs.Common.{◌≡◌, ℕ, Bool, true, false, if◌then◌else◌, List, [], ◌∷◌, Option, None, Some, inl, inr, refl, sym, ap, subst, lit≤}
+use Rattle.std.proofs.Common.{◌≡◌, ℕ, Bool, true, false, if◌then◌else◌, List, [], ◌∷◌, Option, None, Some, inl, inr, refl, subst, lit≤}
 use Rattle.std.specs.List.{AllByRecursion}
 use Rattle.solo_base.specs.declared.outcome.Outcome.{Outcome}
 use Rattle.place_law.specs.Process.{Process, caused, has_stopped, how_ended, stops_next, next_by, place, next_action}
@@ -16,23 +16,23 @@ use Rattle.solo_law.specs.JobPlaces as at
 use Rattle.solo_law.specs.Solo.{process, table, SoloEntry, IsProcess}
 use Rattle.solo_law.specs.Holds.{IsBuffer}
 use Rattle.solo_law.proofs.Placed.{each-process, placed}
-use Rattle.solo_net.specs.Actions.{HasPlace}
+use Rattle.solo_net.specs.Actions.{SoloHasPlace}
 
 -- ---- the buffers of calls
-input-place : (a : InputPlace) → HasPlace (input_does a)
+input-place : (a : InputPlace) → SoloHasPlace (input_does a)
 input-place input_at.AwaitsOrder = inl refl
 input-place (input_at.PutsFull page pages hand) = inl refl
 input-place (input_at.PutsLast page sound) = inl refl
 input-place (input_at.Reports sound) = inr (inl refl)
 input-place other = tt
 
-output-place : (a : OutputPlace) → HasPlace (output_does a)
+output-place : (a : OutputPlace) → SoloHasPlace (output_does a)
 output-place output_at.AwaitsPrinting = inr (inr (inl refl))
 output-place (output_at.TakesPage pages) = inr refl
 output-place output_at.ReportsPrinted = inr (inr (inr refl))
 output-place other = tt
 
-job-place : (a : JobPlace) → HasPlace (job_does a)
+job-place : (a : JobPlace) → SoloHasPlace (job_does a)
 job-place (at.OrdersCards pages) = inl refl
 job-place (at.TakesCards taken items pages) = inl refl
 job-place (at.TakesReport items pages) = inr (inl refl)
@@ -44,10 +44,10 @@ job-place at.DismissesOutput = inr (inr (inl refl))
 job-place other = tt
 
 stop-place : (p : Process Action Reply) (h : List SoloEntry) (how : Outcome) (buffers : List ℕ) → AllByRecursion IsBuffer buffers
-    → HasPlace (stops_next view p buffers how h)
+    → SoloHasPlace (stops_next view p buffers how h)
 stop-place p h how [] all = tt
 stop-place p h how (b ∷ later) all =
-    let P : Bool → Type 0 = λ t. HasPlace (if t then stops_next view p later how h else act.Stop b) in
+    let P : Bool → Type 0 = λ t. SoloHasPlace (if t then stops_next view p later how h else act.Stop b) in
     elim (has_stopped p b h) as P [
       | true ↦ stop-place p h how later all.1
       | false ↦ all.0
@@ -60,14 +60,14 @@ all-buffers p one =
     ((lit≤ tt, lit≤ tt), ((lit≤ tt, lit≤ tt), ((lit≤ tt, lit≤ tt), ((lit≤ tt, lit≤ tt), ((lit≤ tt, lit≤ tt), ((lit≤ tt, lit≤ tt), tt))))))
     ((lit≤ tt, lit≤ tt), ((lit≤ tt, lit≤ tt), ((lit≤ tt, lit≤ tt), tt)))
 
-place-by : (p : ℕ) (h : List SoloEntry) → IsProcess p → (cause : Option Outcome) → HasPlace (next_by view (process p) cause h)
+place-by : (p : ℕ) (h : List SoloEntry) → IsProcess p → (cause : Option Outcome) → SoloHasPlace (next_by view (process p) cause h)
 place-by p h one None =
-    each-process (λ p. (a : (process p).Place) → HasPlace ((process p).does a)) p one input-place job-place output-place (place (process p) h)
+    each-process (λ p. (a : (process p).Place) → SoloHasPlace ((process p).does a)) p one input-place job-place output-place (place (process p) h)
 place-by p h one (Some how) = stop-place (process p) h how (process p).buffers (all-buffers p one)
 
-pub next-place : (p : ℕ) (h : List SoloEntry) (a : Action) → IsProcess p → next_action view (process p) h ≡ Some a → HasPlace a
+pub next-place : (p : ℕ) (h : List SoloEntry) (a : Action) → IsProcess p → next_action view (process p) h ≡ Some a → SoloHasPlace a
 next-place p h a one next =
-    subst HasPlace (unless-some (how_ended view h) (next_by view (process p) (caused view (process p) h) h) a next).1
+    subst SoloHasPlace (unless-some (how_ended view h) (next_by view (process p) (caused view (process p) h) h) a next).1
     (place-by p h one (caused view (process p) h))
 
 -- ---- whose devices they are

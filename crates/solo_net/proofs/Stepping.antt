@@ -5,7 +5,7 @@ use Rattle.network_run.specs.declared.stepped.Stepped.TheVariants as stepped
 use Rattle.network_law.specs.Acts.{Went, Delayed, is_delayed}
 use Rattle.network_law.specs.Stepping.{is_again, stepped_so}
 use Rattle.exchange_law.specs.Parcels.{Parcel}
-use Rattle.place_law.specs.Process.{Process, Does, LacksMemory, Delays, next_action, went}
+use Rattle.place_law.specs.Process.{Process, Does, LacksMemory, Delays}
 use Rattle.solo_law.specs.Work.{Need}
 use Rattle.solo_law.specs.Actions.{Action, Reply}
 use Rattle.solo_law.specs.Actions as act
@@ -20,10 +20,10 @@ use Rattle.solo_procs.specs.declared.machine.Machine.{Machine}
 use Rattle.solo_procs.specs.Said.{said, heard, Hears, is_end}
 use Rattle.solo_procs.specs.Machine.{StandsFor, SaysNext, IsTold}
 use Rattle.solo_net.specs.declared.shared.Shared.{Shared}
-use Rattle.solo_net.specs.Actions.{unsaid, IsNoWork, HasPlace}
-use Rattle.solo_net.specs.SixBuffers.{BuffersStand}
+use Rattle.solo_net.specs.Actions.{unsaid, IsNoWork, SoloHasPlace}
+use Rattle.solo_net.specs.SixBuffers.{SoloBuffersStand}
 use Rattle.solo_net.specs.Telling.{Tells}
-use Rattle.solo_net.specs.Sharing.{MayPerform, Enters, Performs}
+use Rattle.solo_net.specs.Sharing.{SoloMayPerform, SoloEnters, Performs}
 use Rattle.solo_net.specs.Steps.{Steps}
 
 -- ---- what is said
@@ -48,8 +48,8 @@ pub unsaid-is : (r : SoloAction) (a : Action) → said a ≡ r → IsNoWork a �
 unsaid-is r a same no_work = ap unsaid (sym same) ∙ unsaid-said a no_work
 
 pub may-unsaid : {S Y K T F : Type 0} (shared : Shared S Y K T F) (p : ℕ) (r : SoloAction) (a : Action) → said a ≡ r → IsNoWork a
-    → MayPerform shared p a → MayPerform shared p (unsaid r)
-may-unsaid shared p r a same no_work may = subst (MayPerform shared p) (sym (unsaid-is r a same no_work)) may
+    → SoloMayPerform shared p a → SoloMayPerform shared p (unsaid r)
+may-unsaid shared p r a same no_work may = subst (SoloMayPerform shared p) (sym (unsaid-is r a same no_work)) may
 
 -- ---- what is heard
 hears : (Ready : Type 0) (Came : Need → Type 0) (reply : SoloReply) → Ready → Hears Ready Came reply (heard reply)
@@ -83,10 +83,10 @@ module _ {S Y K T F : Type 0} (Stands : List SoloEntry → Type 0) (tells : Tell
       let is = own None is in
       record { entry = Delays a; told = λ s stood place. refl; action_is = refl; stands = stands is.suits; enters = is.enters }
 
-  enters-lacking : (reply : Reply) → MayLack a reply → Enters tells old new p a (Does a reply) → Enters tells old new p a (LacksMemory a reply)
+  enters-lacking : (reply : Reply) → MayLack a reply → SoloEnters tells old new p a (Does a reply) → SoloEnters tells old new p a (LacksMemory a reply)
   enters-lacking reply may is = by a reply may is
     where
-      by : (a : Action) (reply : Reply) → MayLack a reply → Enters tells old new p a (Does a reply) → Enters tells old new p a (LacksMemory a reply)
+      by : (a : Action) (reply : Reply) → MayLack a reply → SoloEnters tells old new p a (Does a reply) → SoloEnters tells old new p a (LacksMemory a reply)
       by (act.TakePage b) (act.OfPage page) may is = record {
         gained = is.gained;
         fits = is.fits;
@@ -99,13 +99,13 @@ module _ {S Y K T F : Type 0} (Stands : List SoloEntry → Type 0) (tells : Tell
       by action reply may is = absurd may
 
   module _ (ends again : Bool) (result : Stepped) (result-is : result ≡ stepped_so false ends again) (ends-is : ends ≡ is_end r)
-      (again-is : (s : SoloState) → BuffersStand old.buffers s.buffers → HasPlace (unsaid r) → again ≡ is_again s (call p (unsaid r))) where
-    told-so : (reply : Reply) (s : SoloState) → BuffersStand old.buffers s.buffers → HasPlace a
+      (again-is : (s : SoloState) → SoloBuffersStand old.buffers s.buffers → SoloHasPlace (unsaid r) → again ≡ is_again s (call p (unsaid r))) where
+    told-so : (reply : Reply) (s : SoloState) → SoloBuffersStand old.buffers s.buffers → SoloHasPlace a
         → result ≡ stepped_so (is_delayed (view.went a reply)) (is_end (said a)) (is_again s (call p a))
     told-so reply s stood place =
         let a-is = unsaid-is r a same no_work in
         result-is ∙ same-stepped _ _ _ _ _ _ (sym (not-delayed (view.went a reply) (placed.answered a reply))) (ends-is ∙ ap is_end (sym same))
-        (again-is s stood (subst HasPlace (sym a-is) place) ∙ ap (λ a. is_again s (call p a)) a-is)
+        (again-is s stood (subst SoloHasPlace (sym a-is) place) ∙ ap (λ a. is_again s (call p a)) a-is)
 
     pub steps-acted : (reply : SoloReply) → Performs tells old new p (unsaid r) (Some reply) → (Fits a (heard reply) → Stands (Does a (heard reply) ∷ h))
         → Steps Stands tells old new p a h result

@@ -1,21 +1,21 @@
 -- A process that may go on is at its turn, and what is next at its turn may be performed.
-use Rattle.std.proofs.Common.{◌≡◌, ◌↔◌, ◌≤◌, ◌<◌, ℕ, Bool, true, false, List, ◌∷◌, Option, None, Some, refl, sym, ◌∙◌, ap, subst, arith}
+use Rattle.std.proofs.Common.{◌≡◌, ◌↔◌, ℕ, Bool, true, false, List, ◌∷◌, Option, None, Some, refl, sym, ◌∙◌, ap, subst, arith}
 use Rattle.std.specs.Prelude.{IsTrue, is_none}
 use Rattle.solo_base.specs.declared.outcome.Outcome.{Outcome}
 use Rattle.solo_base.specs.declared.outcome.Side.{Side}
 use Rattle.solo_base.specs.declared.outcome.Side.TheVariants.{Sender, Receiver}
 use Rattle.queue_var.specs.Sides.{MayEnter, MayStop, has_stopped}
-use Rattle.network_law.specs.Acts.{Visit, At, Passes, Stops, is_delayed, made_stop}
+use Rattle.network_law.specs.Acts.{Visit, At, Passes, is_delayed, made_stop}
 use Rattle.network_law.specs.Network.{MayCall, acts}
 use Rattle.network_law.specs.Processes.{CallsNext}
 use Rattle.network_law.specs.Kept.{Stands}
 use Rattle.network_law.specs.Stepping.{MayGo, stepped_so}
-use Rattle.place_law.specs.Process.{Process, Entry, Does, LacksMemory, Delays, action_of, caused, how_ended, or_new, next_by, unless_ended, next_action, EntrySuits, went}
+use Rattle.place_law.specs.Process.{Process, Does, LacksMemory, Delays, action_of, caused, how_ended, or_new, next_by, unless_ended, next_action, EntrySuits, went}
 use Rattle.place_law.proofs.Ended.{none-ended, ended-none}
 use Rattle.place_law.proofs.Nexts.{goes-on}
 use Rattle.solo_law.specs.Actions.{Action, Reply}
 use Rattle.solo_law.specs.Actions as act
-use Rattle.solo_law.specs.Buffers.{call, seat, side_at}
+use Rattle.solo_law.specs.Buffers.{call, side_at}
 use Rattle.solo_law.specs.Replies.{view, ends_so}
 use Rattle.solo_law.specs.InputPlaces.{input}
 use Rattle.solo_law.specs.OutputPlaces.{output}
@@ -27,10 +27,10 @@ use Rattle.solo_procs.specs.declared.actions.SoloAction.{SoloAction}
 use Rattle.solo_procs.specs.Said.{said, is_end}
 use Rattle.solo_procs.specs.Machine.{HasEnded}
 use Rattle.solo_net.specs.declared.shared.Shared.{Shared}
-use Rattle.solo_net.specs.Actions.{unsaid, HasPlace, IsNoWork}
-use Rattle.solo_net.specs.SixBuffers.{BuffersStand, WaitsAt, sides_at}
-use Rattle.solo_net.specs.Sharing.{MayPerform}
-use Rattle.solo_net.specs.Turns.{IsAtTurn}
+use Rattle.solo_net.specs.Actions.{unsaid, SoloHasPlace, IsNoWork}
+use Rattle.solo_net.specs.SixBuffers.{SoloBuffersStand, SoloWaitsAt, sides_at}
+use Rattle.solo_net.specs.Sharing.{SoloMayPerform}
+use Rattle.solo_net.specs.Turns.{SoloIsAtTurn}
 use Rattle.solo_net.proofs.Placing.{next-place, next-owned, IsOpen, free-next}
 use Rattle.solo_net.proofs.Visiting.{sides-are, arg-is, page-is}
 
@@ -54,7 +54,7 @@ none-has p h e = unless-none (how_ended view h) (next_by view p (caused view p h
 has-none : (p : Process Action Reply) (h : List SoloEntry) → HasEnded h → next_action view p h ≡ None
 has-none p h (how, ended) = ap (λ how. unless_ended how (next_by view p (caused view p h) h)) ended
 
-pub never-at-turn : (p : Process Action Reply) (h : List SoloEntry) (s : SoloState) (n : ℕ) → HasEnded h → IsAtTurn p h s n → ⊥
+pub never-at-turn : (p : Process Action Reply) (h : List SoloEntry) (s : SoloState) (n : ℕ) → HasEnded h → SoloIsAtTurn p h s n → ⊥
 never-at-turn p h s n ended at = (let none = has-none p h ended in let some = at.next in cc)
 
 pub some-next : (p : Process Action Reply) (h : List SoloEntry) (t : Bool) → (IsTrue t ↔ HasEnded h) → t ≡ false
@@ -82,7 +82,7 @@ unsaid-call p (act.Works work) = refl
 unsaid-call p (act.Stop b) = refl
 unsaid-call p (act.Ended how) = refl
 
-unsaid-place : (a : Action) → HasPlace a → HasPlace (unsaid (said a))
+unsaid-place : (a : Action) → SoloHasPlace a → SoloHasPlace (unsaid (said a))
 unsaid-place act.Accept is = is
 unsaid-place (act.Display line) is = is
 unsaid-place act.ReadCard is = is
@@ -96,19 +96,19 @@ unsaid-place (act.Stop b) is = is
 unsaid-place (act.Ended how) is = is
 
 pub at-turn : (p : Process Action Reply) (h : List SoloEntry) (s : SoloState) (n : ℕ) (a : Action) (r : SoloAction) (t : Bool) → next_action view p h ≡ Some a
-    → said a ≡ r → HasPlace a → (HasPlace (unsaid r) → IsTrue t ↔ MayCall s n (call n (unsaid r))) → IsTrue t ↔ IsAtTurn p h s n
+    → said a ≡ r → SoloHasPlace a → (SoloHasPlace (unsaid r) → IsTrue t ↔ MayCall s n (call n (unsaid r))) → IsTrue t ↔ SoloIsAtTurn p h s n
 at-turn p h s n a r t next same has_place each =
     let both : IsTrue t ↔ MayCall s n (call n a) =
     subst (λ c. IsTrue t ↔ MayCall s n c) (ap (λ r. call n (unsaid r)) (sym same) ∙ unsaid-call n a)
-    (each (subst (λ r. HasPlace (unsaid r)) same (unsaid-place a has_place))) in (
+    (each (subst (λ r. SoloHasPlace (unsaid r)) same (unsaid-place a has_place))) in (
       λ yes. record { action = a; next = next; may = both.0 yes },
       λ at. both.1 (subst (λ a. MayCall s n (call n a)) (same-action at.action a (next_action view p h) at.next next) at.may),
     )
 
 -- ---- the three
 turn-own : (s : SoloState) (p : ℕ) → IsProcess p → (t : Bool)
-    → (((action : Action) → next_action view (process p) (s.histories p) ≡ Some action → HasPlace action)
-    → IsTrue t ↔ IsAtTurn (process p) (s.histories p) s p) → IsTrue t ↔ MayGo solo s p
+    → (((action : Action) → next_action view (process p) (s.histories p) ≡ Some action → SoloHasPlace action)
+    → IsTrue t ↔ SoloIsAtTurn (process p) (s.histories p) s p) → IsTrue t ↔ MayGo solo s p
 turn-own s p one t each =
     let both = each (λ action next. next-place p (s.histories p) action one next) in (
       λ yes. (let at = both.0 yes in record {
@@ -121,12 +121,12 @@ turn-own s p one t each =
     )
 
 pub turn-at : (s : SoloState) (p q : ℕ) → p ≡ q → IsProcess q → (t : Bool)
-    → (((action : Action) → next_action view (process q) (s.histories q) ≡ Some action → HasPlace action)
-    → IsTrue t ↔ IsAtTurn (process q) (s.histories q) s p) → IsTrue t ↔ MayGo solo s p
+    → (((action : Action) → next_action view (process q) (s.histories q) ≡ Some action → SoloHasPlace action)
+    → IsTrue t ↔ SoloIsAtTurn (process q) (s.histories q) s p) → IsTrue t ↔ MayGo solo s p
 turn-at s p q e =
     subst (λ q. IsProcess q → (t : Bool)
-    → (((action : Action) → next_action view (process q) (s.histories q) ≡ Some action → HasPlace action)
-    → IsTrue t ↔ IsAtTurn (process q) (s.histories q) s p) → IsTrue t ↔ MayGo solo s p) e (turn-own s p)
+    → (((action : Action) → next_action view (process q) (s.histories q) ≡ Some action → SoloHasPlace action)
+    → IsTrue t ↔ SoloIsAtTurn (process q) (s.histories q) s p) → IsTrue t ↔ MayGo solo s p) e (turn-own s p)
 
 -- another number is no process
 pub no-other : (p : ℕ) → IsProcess p → (p ≡ 1 → ⊥) → (p ≡ 2 → ⊥) → (p ≡ 3 → ⊥) → ⊥
@@ -169,7 +169,7 @@ goes-so q (Delays a) h again suits next = refl
 
 -- ---- what may be performed
 module _ {S Y K T F : Type 0} (opening s : SoloState) (st : Stands solo opening s) (shared : Shared S Y K T F)
-    (six : BuffersStand shared.buffers s.buffers) (p : ℕ) (one : IsProcess p) where
+    (six : SoloBuffersStand shared.buffers s.buffers) (p : ℕ) (one : IsProcess p) where
   -- its side has not stopped there
   side-open : (a : Action) (b : ℕ) (side : Side) (visit : Visit) → next_action view (process p) (s.histories p) ≡ Some a → call p a ≡ At b side visit
       → has_stopped (s.buffers b).sides side ≡ false
@@ -181,7 +181,7 @@ module _ {S Y K T F : Type 0} (opening s : SoloState) (st : Stands solo opening 
       (solo-lawful.unstopped p (s.histories p) b side visit one (st.follows p) calls)
 
   waits : (a : Action) (b : ℕ) (side : Side) → next_action view (process p) (s.histories p) ≡ Some a → MayCall s p (call p a)
-      → call p a ≡ At b side Passes → IsBuffer b → WaitsAt (sides_at shared.buffers b) side p
+      → call p a ≡ At b side Passes → IsBuffer b → SoloWaitsAt (sides_at shared.buffers b) side p
   waits a b side next may e is =
       let same = sides-are shared.buffers s.buffers six b is in (
         subst (λ sides. MayEnter sides side p) same (subst (MayCall s p) e may),
@@ -197,7 +197,7 @@ module _ {S Y K T F : Type 0} (opening s : SoloState) (st : Stands solo opening 
       → (caused view job (s.histories 2) ≡ None → shared.units.typewriter.keys.live ≡ true)
       → (caused view job (s.histories 2) ≡ None → shared.units.typewriter.console.live ≡ true)
       → (caused view output (s.histories 3) ≡ None → shared.units.paper.live ≡ true)
-      → (a : Action) → IsNoWork a → next_action view (process p) (s.histories p) ≡ Some a → MayCall s p (call p a) → MayPerform shared p a
+      → (a : Action) → IsNoWork a → next_action view (process p) (s.histories p) ≡ Some a → MayCall s p (call p a) → SoloMayPerform shared p a
   may-perform cards keys console paper act.Accept no_work next may =
       keys (free-at 2 act.Accept next tt (next-owned p (s.histories p) act.Accept one next))
   may-perform cards keys console paper (act.Display line) no_work next may =

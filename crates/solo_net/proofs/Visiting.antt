@@ -1,15 +1,14 @@
 -- A call on one of the six buffers.
-use Rattle.std.proofs.Common.{◌≡◌, inl, inr, ℕ, Option, None, Some, refl, sym, ◌∙◌, ap, subst, arith, lit≤}
+use Rattle.std.proofs.Common.{◌≡◌, inl, inr, ℕ, Option, Some, refl, sym, ◌∙◌, ap, subst, arith, lit≤}
 use Rattle.std.proofs.lemmas.Bool.Decides.{eqb_tells}
 use Rattle.solo_base.specs.declared.page.Page.{Page}
 use Rattle.solo_base.specs.declared.system_call.Arg.{Arg}
 use Rattle.solo_base.specs.declared.outcome.Side.{Side}
 use Rattle.solo_base.specs.declared.outcome.Side.TheVariants.{Sender, Receiver}
-use Rattle.queue_var.specs.Sides.{Sides}
 use Rattle.slot_buffer.specs.declared.answers.Put.{Put}
 use Rattle.slot_buffer.specs.declared.answers.Take.{Take}
 use Rattle.slot_buffer.specs.Slot.{Slot, put_answer, after_put, take_answer, after_take, after_stop}
-use Rattle.network_law.specs.Acts.{Visit, At, Passes, Stops, Done}
+use Rattle.network_law.specs.Acts.{Visit, At, Passes, Stops}
 use Rattle.network_law.specs.Buffer.{Buffer}
 use Rattle.exchange_law.specs.Parcels.{Parcel, OfArg, OfPage}
 use Rattle.place_law.specs.Process.{went}
@@ -22,8 +21,8 @@ use Rattle.solo_procs.specs.declared.actions.SoloReply.{SoloReply}
 use Rattle.solo_procs.specs.declared.actions.SoloReply.TheVariants as hear
 use Rattle.solo_net.specs.declared.buffers.Buffers.{Buffers}
 use Rattle.solo_net.specs.Actions.{IsArgBuffer, IsPageBuffer}
-use Rattle.solo_net.specs.Replies.{put_said, arg_said, page_said, entry_of, ReplyFits}
-use Rattle.solo_net.specs.SixBuffers.{SlotStands, BuffersStand, sides_at, Visited}
+use Rattle.solo_net.specs.Replies.{put_said, arg_said, page_said, entry_of, SoloReplyFits}
+use Rattle.solo_net.specs.SixBuffers.{SoloBuffersStand, sides_at, SoloVisited}
 use Rattle.solo_net.proofs.SlotCalls.{put_went, take_went, SlotVisited, put-visited, take-visited, stop-visited}
 
 -- ---- numbers
@@ -72,7 +71,7 @@ page-is b (inl is) = subst IsBuffer (sym is) (lit≤ tt, lit≤ tt)
 page-is b (inr is) = subst IsBuffer (sym is) (lit≤ tt, lit≤ tt)
 
 -- ---- the sides are those of the law's buffers
-pub sides-are : (six : Buffers) (buffers : ℕ → Buffer Parcel) → BuffersStand six buffers → (b : ℕ) → IsBuffer b → (buffers b).sides ≡ sides_at six b
+pub sides-are : (six : Buffers) (buffers : ℕ → Buffer Parcel) → SoloBuffersStand six buffers → (b : ℕ) → IsBuffer b → (buffers b).sides ≡ sides_at six b
 sides-are six buffers st b is =
     each-buffer (λ b. (buffers b).sides ≡ sides_at six b) b is
     (ap (λ (x : Buffer Parcel). x.sides) st.card_orders.is)
@@ -84,8 +83,9 @@ sides-are six buffers st b is =
 
 -- ---- a call on one
 at-1 : (old : Buffers) (new : Slot Arg) (p : ℕ) (action : Action) (result : Option SoloReply) (side : Side) (visit : Visit)
-    → call p action ≡ At 1 side visit → ReplyFits action result
-    → SlotVisited OfArg old.card_orders new side visit p (went view (entry_of action result)) → Visited old (record old { card_orders = new }) p action result
+    → call p action ≡ At 1 side visit → SoloReplyFits action result
+    → SlotVisited OfArg old.card_orders new side visit p (went view (entry_of action result))
+    → SoloVisited old (record old { card_orders = new }) p action result
 at-1 old new p action result side visit e suits v = record {
   suits = suits;
   fits = λ s st. rw e (v.fits (s.buffers 1) st.card_orders);
@@ -100,8 +100,9 @@ at-1 old new p action result side visit e suits v = record {
 }
 
 at-2 : (old : Buffers) (new : Slot Page) (p : ℕ) (action : Action) (result : Option SoloReply) (side : Side) (visit : Visit)
-    → call p action ≡ At 2 side visit → ReplyFits action result
-    → SlotVisited OfPage old.card_pages new side visit p (went view (entry_of action result)) → Visited old (record old { card_pages = new }) p action result
+    → call p action ≡ At 2 side visit → SoloReplyFits action result
+    → SlotVisited OfPage old.card_pages new side visit p (went view (entry_of action result))
+    → SoloVisited old (record old { card_pages = new }) p action result
 at-2 old new p action result side visit e suits v = record {
   suits = suits;
   fits = λ s st. rw e (v.fits (s.buffers 2) st.card_pages);
@@ -116,8 +117,9 @@ at-2 old new p action result side visit e suits v = record {
 }
 
 at-3 : (old : Buffers) (new : Slot Arg) (p : ℕ) (action : Action) (result : Option SoloReply) (side : Side) (visit : Visit)
-    → call p action ≡ At 3 side visit → ReplyFits action result
-    → SlotVisited OfArg old.card_reports new side visit p (went view (entry_of action result)) → Visited old (record old { card_reports = new }) p action result
+    → call p action ≡ At 3 side visit → SoloReplyFits action result
+    → SlotVisited OfArg old.card_reports new side visit p (went view (entry_of action result))
+    → SoloVisited old (record old { card_reports = new }) p action result
 at-3 old new p action result side visit e suits v = record {
   suits = suits;
   fits = λ s st. rw e (v.fits (s.buffers 3) st.card_reports);
@@ -132,8 +134,9 @@ at-3 old new p action result side visit e suits v = record {
 }
 
 at-4 : (old : Buffers) (new : Slot Arg) (p : ℕ) (action : Action) (result : Option SoloReply) (side : Side) (visit : Visit)
-    → call p action ≡ At 4 side visit → ReplyFits action result
-    → SlotVisited OfArg old.print_orders new side visit p (went view (entry_of action result)) → Visited old (record old { print_orders = new }) p action result
+    → call p action ≡ At 4 side visit → SoloReplyFits action result
+    → SlotVisited OfArg old.print_orders new side visit p (went view (entry_of action result))
+    → SoloVisited old (record old { print_orders = new }) p action result
 at-4 old new p action result side visit e suits v = record {
   suits = suits;
   fits = λ s st. rw e (v.fits (s.buffers 4) st.print_orders);
@@ -148,8 +151,9 @@ at-4 old new p action result side visit e suits v = record {
 }
 
 at-5 : (old : Buffers) (new : Slot Page) (p : ℕ) (action : Action) (result : Option SoloReply) (side : Side) (visit : Visit)
-    → call p action ≡ At 5 side visit → ReplyFits action result
-    → SlotVisited OfPage old.print_pages new side visit p (went view (entry_of action result)) → Visited old (record old { print_pages = new }) p action result
+    → call p action ≡ At 5 side visit → SoloReplyFits action result
+    → SlotVisited OfPage old.print_pages new side visit p (went view (entry_of action result))
+    → SoloVisited old (record old { print_pages = new }) p action result
 at-5 old new p action result side visit e suits v = record {
   suits = suits;
   fits = λ s st. rw e (v.fits (s.buffers 5) st.print_pages);
@@ -164,8 +168,8 @@ at-5 old new p action result side visit e suits v = record {
 }
 
 at-6 : (old : Buffers) (new : Slot Arg) (p : ℕ) (action : Action) (result : Option SoloReply) (side : Side) (visit : Visit)
-    → call p action ≡ At 6 side visit → ReplyFits action result
-    → SlotVisited OfArg old.print_reports new side visit p (went view (entry_of action result)) → Visited old
+    → call p action ≡ At 6 side visit → SoloReplyFits action result
+    → SlotVisited OfArg old.print_reports new side visit p (went view (entry_of action result)) → SoloVisited old
     (record old { print_reports = new }) p action result
 at-6 old new p action result side visit e suits v = record {
   suits = suits;
@@ -181,7 +185,7 @@ at-6 old new p action result side visit e suits v = record {
 }
 
 -- ---- puts and takes: arguments
-put_arg-suits : (b : ℕ) (x : Arg) (answer : Put Arg) → ReplyFits (act.PutArg b x) (put_said answer)
+put_arg-suits : (b : ℕ) (x : Arg) (answer : Put Arg) → SoloReplyFits (act.PutArg b x) (put_said answer)
 put_arg-suits b x Put.Done = tt
 put_arg-suits b x (Put.Delayed back) = tt
 put_arg-suits b x (Put.Stopped back) = tt
@@ -191,7 +195,7 @@ put_arg-went b x Put.Done = refl
 put_arg-went b x (Put.Delayed back) = refl
 put_arg-went b x (Put.Stopped back) = refl
 
-take_arg-suits : (b : ℕ) (answer : Take Arg) → ReplyFits (act.TakeArg b) (arg_said answer)
+take_arg-suits : (b : ℕ) (answer : Take Arg) → SoloReplyFits (act.TakeArg b) (arg_said answer)
 take_arg-suits b (Take.Item x) = tt
 take_arg-suits b Take.Delayed = tt
 take_arg-suits b Take.Stopped = tt
@@ -202,7 +206,7 @@ take_arg-went b Take.Delayed = refl
 take_arg-went b Take.Stopped = refl
 
 -- ---- puts and takes: pages
-put_page-suits : (b : ℕ) (x : Page) (answer : Put Page) → ReplyFits (act.PutPage b x) (put_said answer)
+put_page-suits : (b : ℕ) (x : Page) (answer : Put Page) → SoloReplyFits (act.PutPage b x) (put_said answer)
 put_page-suits b x Put.Done = tt
 put_page-suits b x (Put.Delayed back) = tt
 put_page-suits b x (Put.Stopped back) = tt
@@ -212,7 +216,7 @@ put_page-went b x Put.Done = refl
 put_page-went b x (Put.Delayed back) = refl
 put_page-went b x (Put.Stopped back) = refl
 
-take_page-suits : (b : ℕ) (answer : Take Page) → ReplyFits (act.TakePage b) (page_said answer)
+take_page-suits : (b : ℕ) (answer : Take Page) → SoloReplyFits (act.TakePage b) (page_said answer)
 take_page-suits b (Take.Item x) = tt
 take_page-suits b Take.Delayed = tt
 take_page-suits b Take.Stopped = tt
@@ -224,134 +228,134 @@ take_page-went b Take.Stopped = refl
 
 module _ (old : Buffers) (p b : ℕ) (result : Option SoloReply) where
   pub put-1 : (x : Arg) (answer : Put Arg) (new : Slot Arg) → result ≡ put_said answer → answer ≡ put_answer old.card_orders x
-      → new ≡ after_put old.card_orders p x answer → b ≡ 1 → Visited old (record old { card_orders = new }) p (act.PutArg b x) result
+      → new ≡ after_put old.card_orders p x answer → b ≡ 1 → SoloVisited old (record old { card_orders = new }) p (act.PutArg b x) result
   put-1 x answer new said is now number =
-      subst (λ r. Visited old (record old { card_orders = new }) p (act.PutArg b x) r) (sym said)
+      subst (λ r. SoloVisited old (record old { card_orders = new }) p (act.PutArg b x) r) (sym said)
       (at-1 old new p (act.PutArg b x) (put_said answer) Sender Passes (ap (λ b. At b Sender Passes) number) (put_arg-suits b x answer)
       (subst (SlotVisited OfArg old.card_orders new Sender Passes p) (sym (put_arg-went b x answer))
       (put-visited OfArg old.card_orders p x answer new is now)))
 
   pub take-1 : (answer : Take Arg) (new : Slot Arg) → result ≡ arg_said answer → answer ≡ take_answer old.card_orders
-      → new ≡ after_take old.card_orders p answer → b ≡ 1 → Visited old (record old { card_orders = new }) p (act.TakeArg b) result
+      → new ≡ after_take old.card_orders p answer → b ≡ 1 → SoloVisited old (record old { card_orders = new }) p (act.TakeArg b) result
   take-1 answer new said is now number =
-      subst (λ r. Visited old (record old { card_orders = new }) p (act.TakeArg b) r) (sym said)
+      subst (λ r. SoloVisited old (record old { card_orders = new }) p (act.TakeArg b) r) (sym said)
       (at-1 old new p (act.TakeArg b) (arg_said answer) Receiver Passes (ap (λ b. At b Receiver Passes) number) (take_arg-suits b answer)
       (subst (SlotVisited OfArg old.card_orders new Receiver Passes p) (sym (take_arg-went b answer))
       (take-visited OfArg old.card_orders p answer new is now)))
 
   pub put-2 : (x : Page) (answer : Put Page) (new : Slot Page) → result ≡ put_said answer → answer ≡ put_answer old.card_pages x
-      → new ≡ after_put old.card_pages p x answer → b ≡ 2 → Visited old (record old { card_pages = new }) p (act.PutPage b x) result
+      → new ≡ after_put old.card_pages p x answer → b ≡ 2 → SoloVisited old (record old { card_pages = new }) p (act.PutPage b x) result
   put-2 x answer new said is now number =
-      subst (λ r. Visited old (record old { card_pages = new }) p (act.PutPage b x) r) (sym said)
+      subst (λ r. SoloVisited old (record old { card_pages = new }) p (act.PutPage b x) r) (sym said)
       (at-2 old new p (act.PutPage b x) (put_said answer) Sender Passes (ap (λ b. At b Sender Passes) number) (put_page-suits b x answer)
       (subst (SlotVisited OfPage old.card_pages new Sender Passes p) (sym (put_page-went b x answer))
       (put-visited OfPage old.card_pages p x answer new is now)))
 
   pub take-2 : (answer : Take Page) (new : Slot Page) → result ≡ page_said answer → answer ≡ take_answer old.card_pages
-      → new ≡ after_take old.card_pages p answer → b ≡ 2 → Visited old (record old { card_pages = new }) p (act.TakePage b) result
+      → new ≡ after_take old.card_pages p answer → b ≡ 2 → SoloVisited old (record old { card_pages = new }) p (act.TakePage b) result
   take-2 answer new said is now number =
-      subst (λ r. Visited old (record old { card_pages = new }) p (act.TakePage b) r) (sym said)
+      subst (λ r. SoloVisited old (record old { card_pages = new }) p (act.TakePage b) r) (sym said)
       (at-2 old new p (act.TakePage b) (page_said answer) Receiver Passes (ap (λ b. At b Receiver Passes) number) (take_page-suits b answer)
       (subst (SlotVisited OfPage old.card_pages new Receiver Passes p) (sym (take_page-went b answer))
       (take-visited OfPage old.card_pages p answer new is now)))
 
   pub put-3 : (x : Arg) (answer : Put Arg) (new : Slot Arg) → result ≡ put_said answer → answer ≡ put_answer old.card_reports x
-      → new ≡ after_put old.card_reports p x answer → b ≡ 3 → Visited old (record old { card_reports = new }) p (act.PutArg b x) result
+      → new ≡ after_put old.card_reports p x answer → b ≡ 3 → SoloVisited old (record old { card_reports = new }) p (act.PutArg b x) result
   put-3 x answer new said is now number =
-      subst (λ r. Visited old (record old { card_reports = new }) p (act.PutArg b x) r) (sym said)
+      subst (λ r. SoloVisited old (record old { card_reports = new }) p (act.PutArg b x) r) (sym said)
       (at-3 old new p (act.PutArg b x) (put_said answer) Sender Passes (ap (λ b. At b Sender Passes) number) (put_arg-suits b x answer)
       (subst (SlotVisited OfArg old.card_reports new Sender Passes p) (sym (put_arg-went b x answer))
       (put-visited OfArg old.card_reports p x answer new is now)))
 
   pub take-3 : (answer : Take Arg) (new : Slot Arg) → result ≡ arg_said answer → answer ≡ take_answer old.card_reports
-      → new ≡ after_take old.card_reports p answer → b ≡ 3 → Visited old (record old { card_reports = new }) p (act.TakeArg b) result
+      → new ≡ after_take old.card_reports p answer → b ≡ 3 → SoloVisited old (record old { card_reports = new }) p (act.TakeArg b) result
   take-3 answer new said is now number =
-      subst (λ r. Visited old (record old { card_reports = new }) p (act.TakeArg b) r) (sym said)
+      subst (λ r. SoloVisited old (record old { card_reports = new }) p (act.TakeArg b) r) (sym said)
       (at-3 old new p (act.TakeArg b) (arg_said answer) Receiver Passes (ap (λ b. At b Receiver Passes) number) (take_arg-suits b answer)
       (subst (SlotVisited OfArg old.card_reports new Receiver Passes p) (sym (take_arg-went b answer))
       (take-visited OfArg old.card_reports p answer new is now)))
 
   pub put-4 : (x : Arg) (answer : Put Arg) (new : Slot Arg) → result ≡ put_said answer → answer ≡ put_answer old.print_orders x
-      → new ≡ after_put old.print_orders p x answer → b ≡ 4 → Visited old (record old { print_orders = new }) p (act.PutArg b x) result
+      → new ≡ after_put old.print_orders p x answer → b ≡ 4 → SoloVisited old (record old { print_orders = new }) p (act.PutArg b x) result
   put-4 x answer new said is now number =
-      subst (λ r. Visited old (record old { print_orders = new }) p (act.PutArg b x) r) (sym said)
+      subst (λ r. SoloVisited old (record old { print_orders = new }) p (act.PutArg b x) r) (sym said)
       (at-4 old new p (act.PutArg b x) (put_said answer) Sender Passes (ap (λ b. At b Sender Passes) number) (put_arg-suits b x answer)
       (subst (SlotVisited OfArg old.print_orders new Sender Passes p) (sym (put_arg-went b x answer))
       (put-visited OfArg old.print_orders p x answer new is now)))
 
   pub take-4 : (answer : Take Arg) (new : Slot Arg) → result ≡ arg_said answer → answer ≡ take_answer old.print_orders
-      → new ≡ after_take old.print_orders p answer → b ≡ 4 → Visited old (record old { print_orders = new }) p (act.TakeArg b) result
+      → new ≡ after_take old.print_orders p answer → b ≡ 4 → SoloVisited old (record old { print_orders = new }) p (act.TakeArg b) result
   take-4 answer new said is now number =
-      subst (λ r. Visited old (record old { print_orders = new }) p (act.TakeArg b) r) (sym said)
+      subst (λ r. SoloVisited old (record old { print_orders = new }) p (act.TakeArg b) r) (sym said)
       (at-4 old new p (act.TakeArg b) (arg_said answer) Receiver Passes (ap (λ b. At b Receiver Passes) number) (take_arg-suits b answer)
       (subst (SlotVisited OfArg old.print_orders new Receiver Passes p) (sym (take_arg-went b answer))
       (take-visited OfArg old.print_orders p answer new is now)))
 
   pub put-5 : (x : Page) (answer : Put Page) (new : Slot Page) → result ≡ put_said answer → answer ≡ put_answer old.print_pages x
-      → new ≡ after_put old.print_pages p x answer → b ≡ 5 → Visited old (record old { print_pages = new }) p (act.PutPage b x) result
+      → new ≡ after_put old.print_pages p x answer → b ≡ 5 → SoloVisited old (record old { print_pages = new }) p (act.PutPage b x) result
   put-5 x answer new said is now number =
-      subst (λ r. Visited old (record old { print_pages = new }) p (act.PutPage b x) r) (sym said)
+      subst (λ r. SoloVisited old (record old { print_pages = new }) p (act.PutPage b x) r) (sym said)
       (at-5 old new p (act.PutPage b x) (put_said answer) Sender Passes (ap (λ b. At b Sender Passes) number) (put_page-suits b x answer)
       (subst (SlotVisited OfPage old.print_pages new Sender Passes p) (sym (put_page-went b x answer))
       (put-visited OfPage old.print_pages p x answer new is now)))
 
   pub take-5 : (answer : Take Page) (new : Slot Page) → result ≡ page_said answer → answer ≡ take_answer old.print_pages
-      → new ≡ after_take old.print_pages p answer → b ≡ 5 → Visited old (record old { print_pages = new }) p (act.TakePage b) result
+      → new ≡ after_take old.print_pages p answer → b ≡ 5 → SoloVisited old (record old { print_pages = new }) p (act.TakePage b) result
   take-5 answer new said is now number =
-      subst (λ r. Visited old (record old { print_pages = new }) p (act.TakePage b) r) (sym said)
+      subst (λ r. SoloVisited old (record old { print_pages = new }) p (act.TakePage b) r) (sym said)
       (at-5 old new p (act.TakePage b) (page_said answer) Receiver Passes (ap (λ b. At b Receiver Passes) number) (take_page-suits b answer)
       (subst (SlotVisited OfPage old.print_pages new Receiver Passes p) (sym (take_page-went b answer))
       (take-visited OfPage old.print_pages p answer new is now)))
 
   pub put-6 : (x : Arg) (answer : Put Arg) (new : Slot Arg) → result ≡ put_said answer → answer ≡ put_answer old.print_reports x
-      → new ≡ after_put old.print_reports p x answer → b ≡ 6 → Visited old (record old { print_reports = new }) p (act.PutArg b x) result
+      → new ≡ after_put old.print_reports p x answer → b ≡ 6 → SoloVisited old (record old { print_reports = new }) p (act.PutArg b x) result
   put-6 x answer new said is now number =
-      subst (λ r. Visited old (record old { print_reports = new }) p (act.PutArg b x) r) (sym said)
+      subst (λ r. SoloVisited old (record old { print_reports = new }) p (act.PutArg b x) r) (sym said)
       (at-6 old new p (act.PutArg b x) (put_said answer) Sender Passes (ap (λ b. At b Sender Passes) number) (put_arg-suits b x answer)
       (subst (SlotVisited OfArg old.print_reports new Sender Passes p) (sym (put_arg-went b x answer))
       (put-visited OfArg old.print_reports p x answer new is now)))
 
   pub take-6 : (answer : Take Arg) (new : Slot Arg) → result ≡ arg_said answer → answer ≡ take_answer old.print_reports
-      → new ≡ after_take old.print_reports p answer → b ≡ 6 → Visited old (record old { print_reports = new }) p (act.TakeArg b) result
+      → new ≡ after_take old.print_reports p answer → b ≡ 6 → SoloVisited old (record old { print_reports = new }) p (act.TakeArg b) result
   take-6 answer new said is now number =
-      subst (λ r. Visited old (record old { print_reports = new }) p (act.TakeArg b) r) (sym said)
+      subst (λ r. SoloVisited old (record old { print_reports = new }) p (act.TakeArg b) r) (sym said)
       (at-6 old new p (act.TakeArg b) (arg_said answer) Receiver Passes (ap (λ b. At b Receiver Passes) number) (take_arg-suits b answer)
       (subst (SlotVisited OfArg old.print_reports new Receiver Passes p) (sym (take_arg-went b answer))
       (take-visited OfArg old.print_reports p answer new is now)))
 
 module _ (old : Buffers) (p b : ℕ) (side : Side) (side-is : side ≡ side_at p b) where
   pub stop-1 : (new : Slot Arg) → new ≡ after_stop old.card_orders side → b ≡ 1
-      → Visited old (record old { card_orders = new }) p (act.Stop b) (Some hear.Done)
+      → SoloVisited old (record old { card_orders = new }) p (act.Stop b) (Some hear.Done)
   stop-1 new now number =
       at-1 old new p (act.Stop b) (Some hear.Done) side Stops
       (ap (λ c. At c (side_at p b) Stops) number ∙ ap (λ side. At 1 side Stops) (sym side-is)) tt (stop-visited OfArg old.card_orders p side new now)
 
   pub stop-2 : (new : Slot Page) → new ≡ after_stop old.card_pages side → b ≡ 2
-      → Visited old (record old { card_pages = new }) p (act.Stop b) (Some hear.Done)
+      → SoloVisited old (record old { card_pages = new }) p (act.Stop b) (Some hear.Done)
   stop-2 new now number =
       at-2 old new p (act.Stop b) (Some hear.Done) side Stops
       (ap (λ c. At c (side_at p b) Stops) number ∙ ap (λ side. At 2 side Stops) (sym side-is)) tt (stop-visited OfPage old.card_pages p side new now)
 
   pub stop-3 : (new : Slot Arg) → new ≡ after_stop old.card_reports side → b ≡ 3
-      → Visited old (record old { card_reports = new }) p (act.Stop b) (Some hear.Done)
+      → SoloVisited old (record old { card_reports = new }) p (act.Stop b) (Some hear.Done)
   stop-3 new now number =
       at-3 old new p (act.Stop b) (Some hear.Done) side Stops
       (ap (λ c. At c (side_at p b) Stops) number ∙ ap (λ side. At 3 side Stops) (sym side-is)) tt (stop-visited OfArg old.card_reports p side new now)
 
   pub stop-4 : (new : Slot Arg) → new ≡ after_stop old.print_orders side → b ≡ 4
-      → Visited old (record old { print_orders = new }) p (act.Stop b) (Some hear.Done)
+      → SoloVisited old (record old { print_orders = new }) p (act.Stop b) (Some hear.Done)
   stop-4 new now number =
       at-4 old new p (act.Stop b) (Some hear.Done) side Stops
       (ap (λ c. At c (side_at p b) Stops) number ∙ ap (λ side. At 4 side Stops) (sym side-is)) tt (stop-visited OfArg old.print_orders p side new now)
 
   pub stop-5 : (new : Slot Page) → new ≡ after_stop old.print_pages side → b ≡ 5
-      → Visited old (record old { print_pages = new }) p (act.Stop b) (Some hear.Done)
+      → SoloVisited old (record old { print_pages = new }) p (act.Stop b) (Some hear.Done)
   stop-5 new now number =
       at-5 old new p (act.Stop b) (Some hear.Done) side Stops
       (ap (λ c. At c (side_at p b) Stops) number ∙ ap (λ side. At 5 side Stops) (sym side-is)) tt (stop-visited OfPage old.print_pages p side new now)
 
   pub stop-6 : (new : Slot Arg) → new ≡ after_stop old.print_reports side → b ≡ 6
-      → Visited old (record old { print_reports = new }) p (act.Stop b) (Some hear.Done)
+      → SoloVisited old (record old { print_reports = new }) p (act.Stop b) (Some hear.Done)
   stop-6 new now number =
       at-6 old new p (act.Stop b) (Some hear.Done) side Stops
       (ap (λ c. At c (side_at p b) Stops) number ∙ ap (λ side. At 6 side Stops) (sym side-is)) tt (stop-visited OfArg old.print_reports p side new now)

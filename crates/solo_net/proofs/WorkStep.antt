@@ -1,40 +1,36 @@
 -- A piece of work is a step of the network.
-use Rattle.std.proofs.Common.{◌≡◌, ◌≤◌, ℕ, false, List, [], ◌∷◌, ◌++◌, Option, None, Some, inl, inr, refl, sym, ◌∙◌, ap, subst}
+use Rattle.std.proofs.Common.{◌≡◌, ℕ, false, List, [], ◌∷◌, ◌++◌, Option, None, Some, inr, refl, sym, ◌∙◌, ap, subst}
 use Rattle.std.proofs.lemmas.List.{append-nil}
 use Rattle.std.specs.Option.{option_map}
-use Rattle.solo_base.specs.declared.outcome.Outcome.{Outcome}
 use Rattle.solo_base.specs.declared.outcome.Outcome.TheVariants as outcome
 use Rattle.solo_base.specs.declared.outcome.Cause.TheVariants as cause
-use Rattle.solo_devices.specs.Count.{Rose}
 use Rattle.network_run.specs.declared.stepped.Stepped.{Stepped}
 use Rattle.network_run.specs.declared.stepped.Stepped.TheVariants as stepped
 use Rattle.network_run.specs.Law.{Placed}
 use Rattle.network_run.specs.Law as law
 use Rattle.network_law.specs.Acts.{Done, is_delayed}
 use Rattle.network_law.specs.Stepping.{goes, stepped_so}
-use Rattle.place_law.specs.Process.{Does, caused, given_cause, or_new, fault_in, place, next_action}
-use Rattle.solo_law.specs.Work.{Given, Work, Need, Plan}
+use Rattle.place_law.specs.Process.{Does, caused, next_action}
+use Rattle.solo_law.specs.Work.{Given, Work, Plan}
 use Rattle.solo_law.specs.Actions.{Action, Reply}
 use Rattle.solo_law.specs.Actions as act
 use Rattle.solo_law.specs.Buffers.{went_by}
 use Rattle.solo_law.specs.Replies.{view, Fits}
-use Rattle.solo_law.specs.JobPlaces.{job_finds, job as the_job}
+use Rattle.solo_law.specs.JobPlaces.{job as the_job}
 use Rattle.solo_law.specs.Devices.{Devices, Allows, given, plan_behind}
 use Rattle.solo_law.specs.Told.{begun}
-use Rattle.solo_law.specs.Solo.{process, solo, SoloState, SoloEntry, SoloEvent, the_law}
-use Rattle.solo_law.proofs.Placed.{calls-so, is-2}
+use Rattle.solo_law.specs.Solo.{solo, SoloState, SoloEntry, SoloEvent, the_law}
+use Rattle.solo_law.proofs.Placed.{is-2}
 use Rattle.solo_procs.specs.declared.job_proc.JobProc.{JobProc}
 use Rattle.solo_procs.specs.declared.machine.Machine.{Machine}
 use Rattle.solo_procs.specs.Said.{said, is_end}
 use Rattle.solo_procs.specs.Machine.{StandsFor}
 use Rattle.solo_procs.specs.Job.{job_at, JobStands}
-use Rattle.solo_ends.specs.declared.units.SoloUnits.{SoloUnits}
 use Rattle.solo_net.specs.declared.net.SoloNet.{SoloNet}
 use Rattle.solo_net.specs.declared.shared.Shared.{Shared}
-use Rattle.solo_net.specs.Telling.{Tells, HasCauses}
-use Rattle.solo_net.specs.Sharing.{UnitsStand}
+use Rattle.solo_net.specs.Telling.{Tells, SoloHasCauses}
 use Rattle.solo_net.specs.Steps.{IsAtWork, ComesTo, LedTo, WorkSteps}
-use Rattle.solo_net.specs.Net.{CommandsOf, NetStands, AreSome, MovesSo}
+use Rattle.solo_net.specs.Net.{CommandsOf, SoloNetStands, AreSome, MovesSo}
 use Rattle.solo_net.proofs.Placing.{free-next}
 use Rattle.solo_net.proofs.Counted.{next_state, FilesCause}
 use Rattle.solo_net.proofs.NetSteps.{passed, IsEvent, is-event, keeps-so}
@@ -127,14 +123,14 @@ some-reply r s e = cc
 
 -- ---- of the network
 module _ {C F S Y K T : Type 0} (commands : CommandsOf C F) (tells : Tells S Y K T) (net : SoloNet C S Y K T F)
-    (at : Placed the_law (NetStands commands tells net)) (work : Work)
+    (at : Placed the_law (SoloNetStands commands tells net)) (work : Work)
     (next : next_action view the_job (at.state.histories 2) ≡ Some (act.Works work)) (job : Machine (JobProc C)) (files : F)
     (w : WorkSteps (StandsFor the_job job_at (JobStands commands.awaits) job) commands.sound commands.faults commands.plans commands.follows
     commands.passes net.job.process.commands job.process.commands net.shared.units.files files (at.state.histories 2) work) where
   abbrev s : SoloState
   s = at.state
 
-  abbrev stands : NetStands commands tells net s
+  abbrev stands : SoloNetStands commands tells net s
   stands = at.stands
 
   abbrev entry : SoloEntry
@@ -171,7 +167,7 @@ module _ {C F S Y K T : Type 0} (commands : CommandsOf C F) (tells : Tells S Y K
         six = stands.shared.six;
       }
 
-  causes : HasCauses tells net.shared.units new.units (act.Works work) (Some w.reply)
+  causes : SoloHasCauses tells net.shared.units new.units (act.Works work) (Some w.reply)
   causes = record {
     reads = λ e. absurd cc;
     accepts = λ e. absurd cc;
@@ -191,7 +187,7 @@ module _ {C F S Y K T : Type 0} (commands : CommandsOf C F) (tells : Tells S Y K
     on = w.counts;
   }
 
-  behind-stands : NetStands commands tells behind (next_state s event)
+  behind-stands : SoloNetStands commands tells behind (next_state s event)
   behind-stands = record {
     input = stands.input;
     job = w.stands;
@@ -208,7 +204,7 @@ module _ {C F S Y K T : Type 0} (commands : CommandsOf C F) (tells : Tells S Y K
   }
 
   pub at-work_step : (result : Stepped) → result ≡ stepped.Acted
-      → law.Steps the_law (NetStands commands tells) (MovesSo commands tells) net behind s 2 result
+      → law.Steps the_law (SoloNetStands commands tells) (MovesSo commands tells) net behind s 2 result
   at-work_step result acted = record {
     event = event;
     process_is = refl;
@@ -226,13 +222,13 @@ module _ {C F S Y K T : Type 0} (commands : CommandsOf C F) (tells : Tells S Y K
         ∙ goes-so 2 entry (s.histories 2) false w.fits next
 
 pub is-at-work : {C F S Y K T : Type 0} (commands : CommandsOf C F) (tells : Tells S Y K T) (net : SoloNet C S Y K T F)
-    (at : Placed the_law (NetStands commands tells net)) (work : Work) → next_action view the_job (at.state.histories 2) ≡ Some (act.Works work)
+    (at : Placed the_law (SoloNetStands commands tells net)) (work : Work) → next_action view the_job (at.state.histories 2) ≡ Some (act.Works work)
     → IsAtWork (StandsFor the_job job_at (JobStands commands.awaits) net.job)
 is-at-work commands tells net at work next =
     record { history = at.state.histories 2; work = work; stands = at.stands.job; next = next }
 
 pub work-sound : {C F S Y K T : Type 0} (commands : CommandsOf C F) (tells : Tells S Y K T) (net : SoloNet C S Y K T F)
-    (at : Placed the_law (NetStands commands tells net)) (work : Work) → next_action view the_job (at.state.histories 2) ≡ Some (act.Works work)
+    (at : Placed the_law (SoloNetStands commands tells net)) (work : Work) → next_action view the_job (at.state.histories 2) ≡ Some (act.Works work)
     → commands.sound net.shared.units.files
 work-sound commands tells net at work next =
     at.stands.files_sound (free-next 2 (at.state.histories 2) (act.Works work) is-2 next tt)

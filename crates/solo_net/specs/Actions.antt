@@ -37,10 +37,10 @@ abbrev pub IsPageBuffer : ℕ → Type 0
 IsPageBuffer b = (b ≡ 2) ⊎ (b ≡ 5)
 
 -- A call is one at a buffer that hands over what the call moves, and a stop is one of a buffer.
-abbrev pub HasPlace : Action → Type 0
-HasPlace (act.PutArg b a) = IsArgBuffer b
-HasPlace (act.TakeArg b) = IsArgBuffer b
-HasPlace (act.PutPage b page) = IsPageBuffer b
-HasPlace (act.TakePage b) = IsPageBuffer b
-HasPlace (act.Stop b) = IsBuffer b
-HasPlace action = Unit {0}
+abbrev pub SoloHasPlace : Action → Type 0
+SoloHasPlace (act.PutArg b a) = IsArgBuffer b
+SoloHasPlace (act.TakeArg b) = IsArgBuffer b
+SoloHasPlace (act.PutPage b page) = IsPageBuffer b
+SoloHasPlace (act.TakePage b) = IsPageBuffer b
+SoloHasPlace (act.Stop b) = IsBuffer b
+SoloHasPlace action = Unit {0}

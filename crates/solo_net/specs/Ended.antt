@@ -1,5 +1,5 @@
 -- How Solo ended, once all three have.
-use Rattle.std.specs.Prelude.{◌≡◌, ◌↔◌, ℕ, List, [], ◌∷◌, Option, None, Some}
+use Rattle.std.specs.Prelude.{◌≡◌, ℕ, List, [], Option, None, Some}
 use Rattle.solo_base.specs.declared.item.Item.{Item}
 use Rattle.solo_base.specs.declared.outcome.Side.{Side}
 use Rattle.solo_base.specs.declared.outcome.Side.TheVariants.{Sender, Receiver}
@@ -25,7 +25,7 @@ use Rattle.solo_ends.specs.declared.units.SoloRan.{SoloRan}
 use Rattle.solo_ends.specs.Ends.{outcome_at, stopped_at}
 use Rattle.solo_net.specs.declared.net.SoloNet.{SoloNet}
 use Rattle.solo_net.specs.Telling.{Tells}
-use Rattle.solo_net.specs.Net.{CommandsOf, NetStands, AreSome}
+use Rattle.solo_net.specs.Net.{CommandsOf, SoloNetStands, AreSome}
 
 abbrev pub JobDone : List Outcome → Type 0
 JobDone outcomes = outcome_at outcomes 2 ≡ outcome.Done
@@ -39,9 +39,9 @@ abbrev pub AreLedTo : {F S Y K T : Type 0} → (List Given → F → Type 0) →
 AreLedTo passes h ran = AreSome passes (begun h) ran.units.files (Some (outcome_at ran.outcomes 2))
 
 -- It stands for some reached state in which all three have ended.
-pub record HaveEnded {C F S Y K T : Type 0} (commands : CommandsOf C F) (tells : Tells S Y K T)
+pub record SoloHaveEnded {C F S Y K T : Type 0} (commands : CommandsOf C F) (tells : Tells S Y K T)
     (net : SoloNet C S Y K T F) : Type 0 where
-  pub at : Placed the_law (NetStands commands tells net)
+  pub at : Placed the_law (SoloNetStands commands tells net)
   pub all : AllEnded the_law at.state
 
 -- Each process ended so in this state, one that isn't done by an entry that gave it that cause. Each buffer

@@ -25,9 +25,9 @@ use Rattle.solo_procs.specs.Machine.{StandsFor}
 use Rattle.solo_ends.specs.declared.units.SoloUnits.{SoloUnits}
 use Rattle.solo_ends.specs.Faults.{Peripherals, AreCounted, devices_of}
 use Rattle.solo_net.specs.declared.net.SoloNet.{SoloNet}
-use Rattle.solo_net.specs.Replies.{reply_of}
-use Rattle.solo_net.specs.Telling.{Tells, HasCauses, counts_of, total_of}
-use Rattle.solo_net.specs.Sharing.{SharedStands}
+use Rattle.solo_net.specs.Replies.{solo_reply_of}
+use Rattle.solo_net.specs.Telling.{Tells, SoloHasCauses, solo_counts_of, total_of}
+use Rattle.solo_net.specs.Sharing.{SoloSharedStands}
 
 -- what the commands say of themselves and of their files
 pub record CommandsOf (C F : Type 0) : Type 1 where
@@ -67,12 +67,12 @@ AreSome passes begun files other = passes begun files
 
 -- Each machine stands for the history of its process, and what is shared for the rest. A device may be used
 -- as long as its process has no cause to stop, and so long the work comes to what told files make of it.
-pub record NetStands {C F S Y K T : Type 0} (commands : CommandsOf C F) (tells : Tells S Y K T)
+pub record SoloNetStands {C F S Y K T : Type 0} (commands : CommandsOf C F) (tells : Tells S Y K T)
     (net : SoloNet C S Y K T F) (s : SoloState) : Type 0 where
   pub input : StandsFor the_input input_at input_at net.input (s.histories 1)
   pub job : StandsFor the_job job_at (JobStands commands.awaits) net.job (s.histories 2)
   pub output : StandsFor the_output output_at output_at net.output (s.histories 3)
-  pub shared : SharedStands tells net.shared s.devices s.buffers
+  pub shared : SoloSharedStands tells net.shared s.devices s.buffers
   pub cards_live : caused view the_input (s.histories 1) ≡ None → net.shared.units.cards.live ≡ true
   pub keys_live : caused view the_job (s.histories 2) ≡ None → net.shared.units.typewriter.keys.live ≡ true
   pub console_live : caused view the_job (s.histories 2) ≡ None
@@ -92,8 +92,8 @@ abbrev pub IsOpenedBy : (Plan → Type 0) → Option Plan → Type 0
 IsOpenedBy opens told = (plan : Plan) → told ≡ Some plan → opens plan × PlanFits plan
 
 -- what these units tell, with a plan or none
-abbrev pub told_by : {S Y K T F : Type 0} → Tells S Y K T → SoloUnits S Y K T F → Option Plan → Devices
-told_by tells units plan = record {
+abbrev pub solo_told_by : {S Y K T F : Type 0} → Tells S Y K T → SoloUnits S Y K T F → Option Plan → Devices
+solo_told_by tells units plan = record {
   cards = items_ahead (tells.cards.left units.cards.source) units.cards.pending;
   keys = items_ahead (tells.keys.left units.typewriter.keys.source) units.typewriter.keys.pending;
   paper = tells.paper.given units.paper.sink;
@@ -102,18 +102,18 @@ told_by tells units plan = record {
 }
 
 -- What is told is sound, and the network stands for the opening state over it.
-pub record OpensOver {C F S Y K T : Type 0} (commands : CommandsOf C F) (tells : Tells S Y K T)
+pub record SoloOpensOver {C F S Y K T : Type 0} (commands : CommandsOf C F) (tells : Tells S Y K T)
     (net : SoloNet C S Y K T F) (units : SoloUnits S Y K T F) (plan : Option Plan) : Type 0 where
-  pub sound : AreSound (told_by tells units plan)
-  pub stands : NetStands commands tells net (opened (told_by tells units plan))
+  pub sound : AreSound (solo_told_by tells units plan)
+  pub stands : SoloNetStands commands tells net (opened (solo_told_by tells units plan))
 
 -- the place where it stands at its opening
-abbrev pub first_place : {C F S Y K T : Type 0} {commands : CommandsOf C F} {tells : Tells S Y K T}
+abbrev pub solo_first_place : {C F S Y K T : Type 0} {commands : CommandsOf C F} {tells : Tells S Y K T}
     {net : SoloNet C S Y K T F} {units : SoloUnits S Y K T F} {plan : Option Plan}
-    → OpensOver commands tells net units plan → Placed the_law (NetStands commands tells net)
-first_place {tells = tells} {units = units} {plan = plan} at = record {
-  opening = record { devices = told_by tells units plan; sound = at.sound };
-  state = opened (told_by tells units plan);
+    → SoloOpensOver commands tells net units plan → Placed the_law (SoloNetStands commands tells net)
+solo_first_place {tells = tells} {units = units} {plan = plan} at = record {
+  opening = record { devices = solo_told_by tells units plan; sound = at.sound };
+  state = opened (solo_told_by tells units plan);
   reached = record { events = []; enabled = tt; leads = refl };
   stands = at.stands;
 }
@@ -124,16 +124,16 @@ abbrev pub outcomes_of : {C F S Y K T : Type 0} → SoloNet C S Y K T F → List
 outcomes_of net = outcome_by net.input.cause ∷ outcome_by net.job.cause ∷ outcome_by net.output.cause ∷ []
 
 -- the faults so far were counted by their devices since
-abbrev pub IsCounted : {C F S Y K T : Type 0} → CommandsOf C F → Tells S Y K T → Peripherals S Y K T F
+abbrev pub SoloIsCounted : {C F S Y K T : Type 0} → CommandsOf C F → Tells S Y K T → Peripherals S Y K T F
     → SoloNet C S Y K T F → Type 0
-IsCounted commands tells before net =
-    AreCounted (counts_of tells commands.faults) before (devices_of net.shared.units) (outcomes_of net)
+SoloIsCounted commands tells before net =
+    AreCounted (solo_counts_of tells commands.faults) before (devices_of net.shared.units) (outcomes_of net)
 
 -- The faults that were counted so far are, and no byte of the cards or of the keys is lost.
 pub record KeepsSo {C F S Y K T : Type 0} (commands : CommandsOf C F) (tells : Tells S Y K T)
     (old new : SoloNet C S Y K T F) : Type 0 where
-  pub counted : (before : Peripherals S Y K T F) → IsCounted commands tells before old
-      → IsCounted commands tells before new
+  pub counted : (before : Peripherals S Y K T F) → SoloIsCounted commands tells before old
+      → SoloIsCounted commands tells before new
   pub cards_total : total_of tells.cards new.shared.units.cards ≡ total_of tells.cards old.shared.units.cards
   pub keys_total : total_of tells.keys new.shared.units.typewriter.keys
       ≡ total_of tells.keys old.shared.units.typewriter.keys
@@ -142,6 +142,6 @@ pub record KeepsSo {C F S Y K T : Type 0} (commands : CommandsOf C F) (tells : T
 -- An event: a device changes by its own calls alone, and what it counts is the cause of a failure.
 pub record MovesSo {C F S Y K T : Type 0} (commands : CommandsOf C F) (tells : Tells S Y K T)
     (old : SoloNet C S Y K T F) (event : SoloEvent) (new : SoloNet C S Y K T F) : Type 0 where
-  pub causes : HasCauses tells old.shared.units new.shared.units (action_of event.entry)
-      (reply_of event.entry)
+  pub causes : SoloHasCauses tells old.shared.units new.shared.units (action_of event.entry)
+      (solo_reply_of event.entry)
   pub keeps : KeepsSo commands tells old new

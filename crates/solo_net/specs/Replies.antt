@@ -39,11 +39,11 @@ abbrev pub entry_of : Action → Option SoloReply → SoloEntry
 entry_of action None = Delays action
 entry_of action (Some reply) = Does action (heard reply)
 
-abbrev pub ReplyFits : Action → Option SoloReply → Type 0
-ReplyFits action None = MayWait action
-ReplyFits action (Some reply) = Fits action (heard reply)
+abbrev pub SoloReplyFits : Action → Option SoloReply → Type 0
+SoloReplyFits action None = MayWait action
+SoloReplyFits action (Some reply) = Fits action (heard reply)
 
-abbrev pub reply_of : SoloEntry → Option Reply
-reply_of (Does action reply) = Some reply
-reply_of (LacksMemory action reply) = Some reply
-reply_of (Delays action) = None
+abbrev pub solo_reply_of : SoloEntry → Option Reply
+solo_reply_of (Does action reply) = Some reply
+solo_reply_of (LacksMemory action reply) = Some reply
+solo_reply_of (Delays action) = None

@@ -13,7 +13,7 @@ use Rattle.solo_law.specs.Replies.{view}
 use Rattle.solo_law.specs.Solo.{SoloState}
 use Rattle.solo_procs.specs.declared.actions.SoloReply.{SoloReply}
 use Rattle.solo_net.specs.declared.buffers.Buffers.{Buffers}
-use Rattle.solo_net.specs.Replies.{entry_of, ReplyFits}
+use Rattle.solo_net.specs.Replies.{entry_of, SoloReplyFits}
 pub use Rattle.solo_net.specs.Actions.{IsArgBuffer, IsPageBuffer}
 
 -- ---- one buffer: it has room for one, and what is inside is told
@@ -31,7 +31,7 @@ pub record SlotStands {X : Type 0} (of : X → Parcel) (slot : Slot X) (b : Buff
   pub within : length slot.inside ≤ 1
 
 -- ---- the six, by their numbers
-pub record BuffersStand (six : Buffers) (buffers : ℕ → Buffer Parcel) : Type 0 where
+pub record SoloBuffersStand (six : Buffers) (buffers : ℕ → Buffer Parcel) : Type 0 where
   pub card_orders : SlotStands OfArg six.card_orders (buffers 1)
   pub card_pages : SlotStands OfPage six.card_pages (buffers 2)
   pub card_reports : SlotStands OfArg six.card_reports (buffers 3)
@@ -55,13 +55,15 @@ first_stops six =
 
 -- ---- a call
 -- A side may make a call that waits, and hasn't stopped.
-abbrev pub WaitsAt : Sides → Side → ℕ → Type 0
-WaitsAt sides side p = MayEnter sides side p × (has_stopped sides side ≡ false)
+abbrev pub SoloWaitsAt : Sides → Side → ℕ → Type 0
+SoloWaitsAt sides side p = MayEnter sides side p × (has_stopped sides side ≡ false)
 
 -- It goes as the law allows, and the six stand for the buffers behind it.
-pub record Visited (old new : Buffers) (p : ℕ) (action : Action) (result : Option SoloReply) : Type 0 where
-  pub suits : ReplyFits action result
-  pub fits : (s : SoloState) → BuffersStand old s.buffers
+pub record SoloVisited (old new : Buffers) (p : ℕ) (action : Action) (result : Option SoloReply)
+  : Type 0 where
+  pub suits : SoloReplyFits action result
+  pub fits : (s : SoloState) → SoloBuffersStand old s.buffers
       → Fits mark s (call p action) (went view (entry_of action result))
-  pub after : (buffers : ℕ → Buffer Parcel) → BuffersStand old buffers
-      → BuffersStand new (buffers_after mark (call p action) p (went view (entry_of action result)) buffers)
+  pub after : (buffers : ℕ → Buffer Parcel) → SoloBuffersStand old buffers
+      → SoloBuffersStand new
+        (buffers_after mark (call p action) p (went view (entry_of action result)) buffers)

@@ -15,10 +15,10 @@ use Rattle.solo_law.specs.Replies.{view, Fits}
 use Rattle.solo_law.specs.Solo.{SoloState, SoloEntry}
 use Rattle.solo_procs.specs.Said.{is_end, said}
 use Rattle.solo_net.specs.declared.shared.Shared.{Shared}
-use Rattle.solo_net.specs.Actions.{HasPlace, IsNoWork}
-use Rattle.solo_net.specs.SixBuffers.{BuffersStand}
+use Rattle.solo_net.specs.Actions.{SoloHasPlace, IsNoWork}
+use Rattle.solo_net.specs.SixBuffers.{SoloBuffersStand}
 use Rattle.solo_net.specs.Telling.{Tells}
-use Rattle.solo_net.specs.Sharing.{MayPerform, Enters}
+use Rattle.solo_net.specs.Sharing.{SoloMayPerform, SoloEnters}
 
 -- ---- no piece of work
 -- A machine of this process stands for a history behind which it does this, and that may be performed.
@@ -29,7 +29,7 @@ pub record MayStep {S Y K T F : Type 0} (process : Process Action Reply) (Stands
   pub no_work : IsNoWork action
   pub stands : Stands history
   pub next : next_action view process history ≡ Some action
-  pub may : MayPerform shared p action
+  pub may : SoloMayPerform shared p action
 
 -- Behind a history behind which it does this, the machine stands for one entry more, and the answer says how
 -- that went.
@@ -37,11 +37,11 @@ pub record Steps {S Y K T F : Type 0} (Stands : List SoloEntry → Type 0) (tell
     (old new : Shared S Y K T F) (p : ℕ) (action : Action) (history : List SoloEntry) (result : Stepped)
     : Type 0 where
   pub entry : SoloEntry
-  pub told : (s : SoloState) → BuffersStand old.buffers s.buffers → HasPlace action
+  pub told : (s : SoloState) → SoloBuffersStand old.buffers s.buffers → SoloHasPlace action
       → result ≡ stepped_so (is_delayed (went view entry)) (is_end (said action)) (is_again s (call p action))
   pub action_is : action_of entry ≡ action
   pub stands : Stands (entry ∷ history)
-  pub enters : Enters tells old new p action entry
+  pub enters : SoloEnters tells old new p action entry
 
 -- ---- a piece of work
 pub record IsAtWork (Stands : List SoloEntry → Type 0) : Type 0 where

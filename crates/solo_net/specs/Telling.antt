@@ -26,10 +26,10 @@ pub record Tells (S Y K T : Type 0) : Type 0 where
   pub paper : SinkTells K
   pub console : SinkTells T
 
-abbrev pub telling : {S Y K T : Type 0} → (S → Option (List ℕ)) → (S → ℕ) → (S → ℕ)
+abbrev pub solo_telling : {S Y K T : Type 0} → (S → Option (List ℕ)) → (S → ℕ) → (S → ℕ)
     → (Y → Option (List ℕ)) → (Y → ℕ) → (Y → ℕ) → (K → Option (List ℕ)) → (K → ℕ)
     → (T → Option (List ℕ)) → (T → ℕ) → Tells S Y K T
-telling cards_left cards_taken cards_faults keys_left keys_taken keys_faults paper_given paper_faults
+solo_telling cards_left cards_taken cards_faults keys_left keys_taken keys_faults paper_given paper_faults
     console_given console_faults = record {
       cards = record { left = cards_left; taken = cards_taken; faults = cards_faults };
       keys = record { left = keys_left; taken = keys_taken; faults = keys_faults };
@@ -38,8 +38,8 @@ telling cards_left cards_taken cards_faults keys_left keys_taken keys_faults pap
     }
 
 -- what they count, with what the files do
-abbrev pub counts_of : {S Y K T F : Type 0} → Tells S Y K T → (F → ℕ) → Counts S Y K T F
-counts_of tells file_faults = record {
+abbrev pub solo_counts_of : {S Y K T F : Type 0} → Tells S Y K T → (F → ℕ) → Counts S Y K T F
+solo_counts_of tells file_faults = record {
   card_faults = tells.cards.faults;
   cards_taken = tells.cards.taken;
   key_faults = tells.keys.faults;
@@ -78,18 +78,18 @@ abbrev pub Displays : Action → Type 0
 Displays (act.Display line) = Unit {0}
 Displays action = ⊥
 
-abbrev pub Prints : Action → Type 0
-Prints (act.Print line) = Unit {0}
-Prints action = ⊥
+abbrev pub SoloPrints : Action → Type 0
+SoloPrints (act.Print line) = Unit {0}
+SoloPrints action = ⊥
 
-pub record HasCauses {S Y K T F : Type 0} (tells : Tells S Y K T) (old new : SoloUnits S Y K T F)
+pub record SoloHasCauses {S Y K T F : Type 0} (tells : Tells S Y K T) (old new : SoloUnits S Y K T F)
     (action : Action) (reply : Option Reply) : Type 0 where
   pub reads : action ≡ act.ReadCard → ReadSo tells.cards old.cards new.cards reply
   pub accepts : action ≡ act.Accept → ReadSo tells.keys old.typewriter.keys new.typewriter.keys reply
   pub displays : Displays action
       → PrintedSo tells.console old.typewriter.console new.typewriter.console reply
-  pub prints : Prints action → PrintedSo tells.paper old.paper new.paper reply
+  pub prints : SoloPrints action → PrintedSo tells.paper old.paper new.paper reply
   pub cards_stay : action ≢ act.ReadCard → new.cards ≡ old.cards
   pub keys_stay : action ≢ act.Accept → new.typewriter.keys ≡ old.typewriter.keys
   pub console_stays : (Displays action → ⊥) → new.typewriter.console ≡ old.typewriter.console
-  pub paper_stays : (Prints action → ⊥) → new.paper ≡ old.paper
+  pub paper_stays : (SoloPrints action → ⊥) → new.paper ≡ old.paper

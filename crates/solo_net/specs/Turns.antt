@@ -8,7 +8,7 @@ use Rattle.solo_law.specs.Replies.{view}
 use Rattle.solo_law.specs.Solo.{SoloState, SoloEntry}
 
 -- Behind this history the process has a next action, and is at its turn.
-pub record IsAtTurn (process : Process Action Reply) (h : List SoloEntry) (s : SoloState) (p : ℕ)
+pub record SoloIsAtTurn (process : Process Action Reply) (h : List SoloEntry) (s : SoloState) (p : ℕ)
     : Type 0 where
   pub action : Action
   pub next : next_action view process h ≡ Some action

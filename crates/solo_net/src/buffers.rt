@@ -9,7 +9,7 @@ ghost use Rattle.solo_law.specs.Devices.{Devices};
 ghost use Rattle.solo_law.specs.Solo.{SoloState, opened};
 ghost use Rattle.solo_law.specs.Holds.{IsBuffer};
 ghost use Rattle.solo_procs.specs.declared.actions.SoloReply.TheVariants as hear;
-ghost use Rattle.solo_net.specs.SixBuffers.{BuffersStand, Visited, WaitsAt, IsArgBuffer, IsPageBuffer, sides_at, first_stops};
+ghost use Rattle.solo_net.specs.SixBuffers.{SoloBuffersStand, SoloVisited, SoloWaitsAt, IsArgBuffer, IsPageBuffer, sides_at, first_stops};
 
 use crate::{arg_reply, page_reply, put_reply};
 use slot_buffer::{ArgBuffer, PageBuffer, SlotBuffer};
@@ -32,7 +32,7 @@ pub struct Buffers {
 impl Buffers {
     /// Empty buffers.
     pub fn new() -> Buffers
-        ensures { (devices : Devices) → BuffersStand result (opened devices).buffers }
+        ensures { (devices : Devices) → SoloBuffersStand result (opened devices).buffers }
     {
         Buffers {
             card_orders: SlotBuffer::new(),
@@ -47,8 +47,8 @@ impl Buffers {
     /// Puts an argument into a buffer. No reply: the process waits.
     pub fn put_arg(&mut self, p: ProcNo, b: BufferNo, arg: Arg) -> Option<SoloReply>
         requires one { IsArgBuffer b }
-        requires waits { WaitsAt (sides_at self.old b) Sender p }
-        ensures { Visited self.old self.new p (act.PutArg b arg) result }
+        requires waits { SoloWaitsAt (sides_at self.old b) Sender p }
+        ensures { SoloVisited self.old self.new p (act.PutArg b arg) result }
     {
         if b == 1 {
             put_reply(self.card_orders.put(p, arg))
@@ -64,8 +64,8 @@ impl Buffers {
     /// Takes an argument from a buffer. No reply: the process waits.
     pub fn take_arg(&mut self, p: ProcNo, b: BufferNo) -> Option<SoloReply>
         requires one { IsArgBuffer b }
-        requires waits { WaitsAt (sides_at self.old b) Receiver p }
-        ensures { Visited self.old self.new p (act.TakeArg b) result }
+        requires waits { SoloWaitsAt (sides_at self.old b) Receiver p }
+        ensures { SoloVisited self.old self.new p (act.TakeArg b) result }
     {
         if b == 1 {
             arg_reply(self.card_orders.take(p))
@@ -81,8 +81,8 @@ impl Buffers {
     /// Puts a page into a buffer. No reply: the process waits.
     pub fn put_page(&mut self, p: ProcNo, b: BufferNo, page: Page) -> Option<SoloReply>
         requires one { IsPageBuffer b }
-        requires waits { WaitsAt (sides_at self.old b) Sender p }
-        ensures { Visited self.old self.new p (act.PutPage b page) result }
+        requires waits { SoloWaitsAt (sides_at self.old b) Sender p }
+        ensures { SoloVisited self.old self.new p (act.PutPage b page) result }
     {
         if b == 2 {
             put_reply(self.card_pages.put(p, page))
@@ -94,8 +94,8 @@ impl Buffers {
     /// Takes a page from a buffer. No reply: the process waits.
     pub fn take_page(&mut self, p: ProcNo, b: BufferNo) -> Option<SoloReply>
         requires one { IsPageBuffer b }
-        requires waits { WaitsAt (sides_at self.old b) Receiver p }
-        ensures { Visited self.old self.new p (act.TakePage b) result }
+        requires waits { SoloWaitsAt (sides_at self.old b) Receiver p }
+        ensures { SoloVisited self.old self.new p (act.TakePage b) result }
     {
         if b == 2 {
             page_reply(self.card_pages.take(p))
@@ -108,7 +108,7 @@ impl Buffers {
     pub fn stop(&mut self, p: ProcNo, b: BufferNo)
         requires one { IsBuffer b }
         requires may { MayStop (sides_at self.old b) (side_at p b) }
-        ensures { Visited self.old self.new p (act.Stop b) (Some hear.Done) }
+        ensures { SoloVisited self.old self.new p (act.Stop b) (Some hear.Done) }
     {
         let side = side_at(p, b);
         if b == 1 {

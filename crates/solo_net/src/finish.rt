@@ -11,12 +11,12 @@ ghost use Rattle.solo_law.specs.Work.{Plan};
 ghost use Rattle.solo_law.specs.Told.{on_console, on_paper, lines_of_all, needs};
 ghost use Rattle.solo_law.specs.Solo.{SoloState, the_law};
 ghost use Rattle.solo_procs.specs.Machine.{StandsFor};
-ghost use Rattle.solo_net.specs.Telling.{telling};
+ghost use Rattle.solo_net.specs.Telling.{solo_telling};
 ghost use Rattle.solo_ends.specs.Ends.{EndTogether, FaultsAre};
 ghost use Rattle.solo_ends.specs.Faults.{Peripherals, FaultsAreCounted};
-ghost use Rattle.solo_net.specs.Net.{commands_of, NetStands, IsCounted};
-ghost use Rattle.solo_net.specs.Ended.{HaveEnded, EndsSo, JobDone, BothDone, TellsPlan, AreLedTo};
-ghost use Rattle.solo_net.specs.Telling.{counts_of};
+ghost use Rattle.solo_net.specs.Net.{commands_of, SoloNetStands, SoloIsCounted};
+ghost use Rattle.solo_net.specs.Ended.{SoloHaveEnded, EndsSo, JobDone, BothDone, TellsPlan, AreLedTo};
+ghost use Rattle.solo_net.specs.Telling.{solo_counts_of};
 
 use crate::{Shared, SoloNet};
 use solo_base::Outcome;
@@ -27,64 +27,64 @@ use solo_procs::{Commands, Machine, Proc};
 impl<C: Commands + Drop, S: Source, Y: Source, K: Sink, T: Sink> SoloNet<C, S, Y, K, T> {
     /// How Solo ended, once all three processes have.
     pub fn finish(self) -> SoloRan<S, Y, K, T, C::Files>
-        requires ended { HaveEnded
+        requires ended { SoloHaveEnded
             (commands_of C.awaits C.plans C.sound C.faults C.follows C.passes)
-            (telling S.left S.taken S.faults Y.left Y.taken Y.faults
+            (solo_telling S.left S.taken S.faults Y.left Y.taken Y.faults
             K.given K.faults T.given T.faults) self }
 
         // In each state that it stands for, the three ended so and the buffers handed over in order.
-        ensures ends { (at : Placed the_law (NetStands
+        ensures ends { (at : Placed the_law (SoloNetStands
             (commands_of C.awaits C.plans C.sound C.faults C.follows C.passes)
-            (telling S.left S.taken S.faults Y.left Y.taken Y.faults
+            (solo_telling S.left S.taken S.faults Y.left Y.taken Y.faults
             K.given K.faults T.given T.faults) self)) →
             EndsSo at.state result.outcomes result.stopped_by }
         ensures together { EndTogether result.outcomes result.stopped_by }
         ensures faults { FaultsAre result.outcomes }
         ensures counted { (before : Peripherals S Y K T C.Files) →
-            IsCounted (commands_of C.awaits C.plans C.sound C.faults C.follows C.passes)
-            (telling S.left S.taken S.faults Y.left Y.taken Y.faults
+            SoloIsCounted (commands_of C.awaits C.plans C.sound C.faults C.follows C.passes)
+            (solo_telling S.left S.taken S.faults Y.left Y.taken Y.faults
             K.given K.faults T.given T.faults)
             before self →
-            FaultsAreCounted (counts_of
-            (telling S.left S.taken S.faults Y.left Y.taken Y.faults
+            FaultsAreCounted (solo_counts_of
+            (solo_telling S.left S.taken S.faults Y.left Y.taken Y.faults
             K.given K.faults T.given T.faults)
             C.faults) before result }
 
         // For each place where it stands: the console gained what the needs of the commands show or a
         // part of it, and all of it where the job process is done; and so did the paper what they print,
         // all of it where the output process is done too.
-        ensures shows { (at : Placed the_law (NetStands
+        ensures shows { (at : Placed the_law (SoloNetStands
             (commands_of C.awaits C.plans C.sound C.faults C.follows C.passes)
-            (telling S.left S.taken S.faults Y.left Y.taken Y.faults
+            (solo_telling S.left S.taken S.faults Y.left Y.taken Y.faults
             K.given K.faults T.given T.faults) self)) →
             Gains at.opening.devices.console (T.given result.units.typewriter.console.sink)
             (text (lines_of_all on_console (needs (at.state.histories 2))))
             (JobDone result.outcomes) }
-        ensures prints { (at : Placed the_law (NetStands
+        ensures prints { (at : Placed the_law (SoloNetStands
             (commands_of C.awaits C.plans C.sound C.faults C.follows C.passes)
-            (telling S.left S.taken S.faults Y.left Y.taken Y.faults
+            (solo_telling S.left S.taken S.faults Y.left Y.taken Y.faults
             K.given K.faults T.given T.faults) self)) →
             Gains at.opening.devices.paper (K.given result.units.paper.sink)
             (text (lines_of_all on_paper (needs (at.state.histories 2))))
             (BothDone result.outcomes) }
 
         // Over told cards, typed lines and files these needs are those of the plan.
-        ensures tells { (at : Placed the_law (NetStands
+        ensures tells { (at : Placed the_law (SoloNetStands
             (commands_of C.awaits C.plans C.sound C.faults C.follows C.passes)
-            (telling S.left S.taken S.faults Y.left Y.taken Y.faults
+            (solo_telling S.left S.taken S.faults Y.left Y.taken Y.faults
             K.given K.faults T.given T.faults) self)) →
             (cards keys : List Item) (plan : Plan) → at.opening.devices.cards ≡ Some cards →
             at.opening.devices.keys ≡ Some keys → at.opening.devices.work ≡ Some plan →
             TellsPlan
-            (telling S.left S.taken S.faults Y.left Y.taken Y.faults
+            (solo_telling S.left S.taken S.faults Y.left Y.taken Y.faults
             K.given K.faults T.given T.faults)
             cards keys plan at.opening.devices result }
 
         // Where no call on the files failed they are some to which the work comes, from those with which
         // it began.
-        ensures files { (at : Placed the_law (NetStands
+        ensures files { (at : Placed the_law (SoloNetStands
             (commands_of C.awaits C.plans C.sound C.faults C.follows C.passes)
-            (telling S.left S.taken S.faults Y.left Y.taken Y.faults
+            (solo_telling S.left S.taken S.faults Y.left Y.taken Y.faults
             K.given K.faults T.given T.faults) self)) →
             AreLedTo (C.passes self.first_files.value) (at.state.histories 2) result }
         ensures units { result.units ≡ self.shared.units }

@@ -4,8 +4,8 @@ ghost use Rattle.network_run.specs.Law.{Placed, MayStep, Steps};
 ghost use Rattle.solo_law.specs.Work.{Plan};
 ghost use Rattle.solo_law.specs.Solo.{the_law};
 ghost use Rattle.solo_law.proofs.Law.{sound};
-ghost use Rattle.solo_net.specs.Telling.{telling};
-ghost use Rattle.solo_net.specs.Net.{commands_of, NetStands, MovesSo, KeepsSo, IsCounted, OpensOver, IsOpenedBy};
+ghost use Rattle.solo_net.specs.Telling.{solo_telling};
+ghost use Rattle.solo_net.specs.Net.{commands_of, SoloNetStands, MovesSo, KeepsSo, SoloIsCounted, SoloOpensOver, IsOpenedBy};
 ghost use Rattle.solo_ends.specs.Faults.{devices_of};
 
 use crate::step::is_work;
@@ -42,14 +42,14 @@ impl<C: Commands, S: Source, Y: Source, K: Sink, T: Sink> SoloNet<C, S, Y, K, T>
         // It stands for the opening state over what these units tell, whatever plan the files open
         // with.
         ensures opens { (plan : Option Plan) → IsOpenedBy (C.opens units.files) plan →
-            OpensOver (commands_of C.awaits C.plans C.sound C.faults C.follows C.passes)
-            (telling S.left S.taken S.faults Y.left Y.taken Y.faults
+            SoloOpensOver (commands_of C.awaits C.plans C.sound C.faults C.follows C.passes)
+            (solo_telling S.left S.taken S.faults Y.left Y.taken Y.faults
             K.given K.faults T.given T.faults)
             result units plan }
         ensures units { (result.shared.units ≡ units) × (result.first_files.value ≡ units.files) }
-        ensures counted { IsCounted
+        ensures counted { SoloIsCounted
             (commands_of C.awaits C.plans C.sound C.faults C.follows C.passes)
-            (telling S.left S.taken S.faults Y.left Y.taken Y.faults
+            (solo_telling S.left S.taken S.faults Y.left Y.taken Y.faults
             K.given K.faults T.given T.faults)
             (devices_of units) result }
     {
@@ -68,22 +68,22 @@ impl<C: Commands, S: Source, Y: Source, K: Sink, T: Sink> SoloNet<C, S, Y, K, T>
 
     /// The next action of the job process.
     fn step_job(&mut self) -> Stepped
-        requires may { MayStep the_law (NetStands
+        requires may { MayStep the_law (SoloNetStands
             (commands_of C.awaits C.plans C.sound C.faults C.follows C.passes)
-            (telling S.left S.taken S.faults Y.left Y.taken Y.faults
+            (solo_telling S.left S.taken S.faults Y.left Y.taken Y.faults
             K.given K.faults T.given T.faults)
             self.old) 2 }
-        ensures steps { (at : Placed the_law (NetStands
+        ensures steps { (at : Placed the_law (SoloNetStands
             (commands_of C.awaits C.plans C.sound C.faults C.follows C.passes)
-            (telling S.left S.taken S.faults Y.left Y.taken Y.faults
+            (solo_telling S.left S.taken S.faults Y.left Y.taken Y.faults
             K.given K.faults T.given T.faults)
             self.old)) → the_law.MayGo at.state 2 →
-            Steps the_law (NetStands
+            Steps the_law (SoloNetStands
             (commands_of C.awaits C.plans C.sound C.faults C.follows C.passes)
-            (telling S.left S.taken S.faults Y.left Y.taken Y.faults
+            (solo_telling S.left S.taken S.faults Y.left Y.taken Y.faults
             K.given K.faults T.given T.faults))
             (MovesSo (commands_of C.awaits C.plans C.sound C.faults C.follows C.passes)
-            (telling S.left S.taken S.faults Y.left Y.taken Y.faults
+            (solo_telling S.left S.taken S.faults Y.left Y.taken Y.faults
             K.given K.faults T.given T.faults))
             self.old self.new at.state 2 result }
     {
@@ -99,19 +99,19 @@ impl<C: Commands, S: Source, Y: Source, K: Sink, T: Sink> SoloNet<C, S, Y, K, T>
 impl<C: Commands, S: Source, Y: Source, K: Sink, T: Sink> Network for SoloNet<C, S, Y, K, T> {
     ghost law = { the_law };
 
-    ghost Stands = { λ net s. NetStands
+    ghost Stands = { λ net s. SoloNetStands
         (commands_of C.awaits C.plans C.sound C.faults C.follows C.passes)
-        (telling S.left S.taken S.faults Y.left Y.taken Y.faults
+        (solo_telling S.left S.taken S.faults Y.left Y.taken Y.faults
         K.given K.faults T.given T.faults) net s };
 
     ghost Moves = { λ old event new. MovesSo
         (commands_of C.awaits C.plans C.sound C.faults C.follows C.passes)
-        (telling S.left S.taken S.faults Y.left Y.taken Y.faults K.given K.faults T.given T.faults)
+        (solo_telling S.left S.taken S.faults Y.left Y.taken Y.faults K.given K.faults T.given T.faults)
         old event new };
 
     ghost Keeps = { λ old new. KeepsSo
         (commands_of C.awaits C.plans C.sound C.faults C.follows C.passes)
-        (telling S.left S.taken S.faults Y.left Y.taken Y.faults
+        (solo_telling S.left S.taken S.faults Y.left Y.taken Y.faults
         K.given K.faults T.given T.faults) old new };
 
     ghost left = { λ net s. 0 };

@@ -4,9 +4,9 @@ ghost use Rattle.solo_law.specs.Actions as act;
 ghost use Rattle.solo_law.specs.Devices.{Devices};
 ghost use Rattle.solo_law.specs.Solo.{opened};
 ghost use Rattle.solo_procs.specs.declared.actions.SoloReply.TheVariants as hear;
-ghost use Rattle.solo_net.specs.Telling.{telling};
+ghost use Rattle.solo_net.specs.Telling.{solo_telling};
 ghost use Rattle.solo_net.specs.Actions.{unsaid};
-ghost use Rattle.solo_net.specs.Sharing.{MayPerform, Performs};
+ghost use Rattle.solo_net.specs.Sharing.{SoloMayPerform, Performs};
 
 use crate::{Buffers, print_reply};
 use solo_base::{Line, ProcNo};
@@ -24,9 +24,9 @@ pub struct Shared<S: Source, Y: Source, K: Sink, T: Sink, F> {
 impl<S: Source, Y: Source, K: Sink, T: Sink, F> Shared<S, Y, K, T, F> {
     /// Performs the action of a process, which is no piece of work. No reply: the process waits.
     pub fn perform(&mut self, p: ProcNo, action: SoloAction) -> Option<SoloReply>
-        requires may { MayPerform self.old p (unsaid action) }
+        requires may { SoloMayPerform self.old p (unsaid action) }
         ensures performs { Performs
-            (telling S.left S.taken S.faults Y.left Y.taken Y.faults
+            (solo_telling S.left S.taken S.faults Y.left Y.taken Y.faults
             K.given K.faults T.given T.faults)
             self.old self.new p (unsaid action) result }
     {
@@ -49,9 +49,9 @@ impl<S: Source, Y: Source, K: Sink, T: Sink, F> Shared<S, Y, K, T, F> {
     }
 
     fn read_card(&mut self, p: ProcNo) -> SoloReply
-        requires may { MayPerform self.old p act.ReadCard }
+        requires may { SoloMayPerform self.old p act.ReadCard }
         ensures performs { Performs
-            (telling S.left S.taken S.faults Y.left Y.taken Y.faults
+            (solo_telling S.left S.taken S.faults Y.left Y.taken Y.faults
             K.given K.faults T.given T.faults)
             self.old self.new p act.ReadCard (Some result) }
     {
@@ -62,9 +62,9 @@ impl<S: Source, Y: Source, K: Sink, T: Sink, F> Shared<S, Y, K, T, F> {
     }
 
     fn accept(&mut self, p: ProcNo) -> SoloReply
-        requires may { MayPerform self.old p act.Accept }
+        requires may { SoloMayPerform self.old p act.Accept }
         ensures performs { Performs
-            (telling S.left S.taken S.faults Y.left Y.taken Y.faults
+            (solo_telling S.left S.taken S.faults Y.left Y.taken Y.faults
             K.given K.faults T.given T.faults)
             self.old self.new p act.Accept (Some result) }
     {
@@ -75,9 +75,9 @@ impl<S: Source, Y: Source, K: Sink, T: Sink, F> Shared<S, Y, K, T, F> {
     }
 
     fn display(&mut self, p: ProcNo, line: Line) -> SoloReply
-        requires may { MayPerform self.old p (act.Display line) }
+        requires may { SoloMayPerform self.old p (act.Display line) }
         ensures performs { Performs
-            (telling S.left S.taken S.faults Y.left Y.taken Y.faults
+            (solo_telling S.left S.taken S.faults Y.left Y.taken Y.faults
             K.given K.faults T.given T.faults)
             self.old self.new p (act.Display line) (Some result) }
     {
@@ -86,9 +86,9 @@ impl<S: Source, Y: Source, K: Sink, T: Sink, F> Shared<S, Y, K, T, F> {
     }
 
     fn print(&mut self, p: ProcNo, line: Line) -> SoloReply
-        requires may { MayPerform self.old p (act.Print line) }
+        requires may { SoloMayPerform self.old p (act.Print line) }
         ensures performs { Performs
-            (telling S.left S.taken S.faults Y.left Y.taken Y.faults
+            (solo_telling S.left S.taken S.faults Y.left Y.taken Y.faults
             K.given K.faults T.given T.faults)
             self.old self.new p (act.Print line) (Some result) }
     {

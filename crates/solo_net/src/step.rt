@@ -11,7 +11,7 @@ ghost use Rattle.solo_procs.specs.Said.{is_end};
 ghost use Rattle.solo_procs.specs.Machine.{StandsFor};
 ghost use Rattle.solo_procs.specs.Job.{job_at, JobStands};
 ghost use Rattle.solo_net.specs.Actions.{IsNoWork, is_work};
-ghost use Rattle.solo_net.specs.Telling.{telling};
+ghost use Rattle.solo_net.specs.Telling.{solo_telling};
 ghost use Rattle.solo_net.specs.Steps.{MayStep, Steps, IsAtWork, WorkSteps};
 
 use crate::Shared;
@@ -32,7 +32,7 @@ pub fn step_machine<P: Proc, S: Source, Y: Source, K: Sink, T: Sink, F>(
         StandsFor P.process P.is_at P.ready machine.old h →
         next_action view P.process h ≡ Some action →
         Steps (StandsFor P.process P.is_at P.ready machine.new)
-        (telling S.left S.taken S.faults Y.left Y.taken Y.faults K.given K.faults T.given T.faults)
+        (solo_telling S.left S.taken S.faults Y.left Y.taken Y.faults K.given K.faults T.given T.faults)
         shared.old shared.new p action h result }
     ensures kept { P.kept machine.new.process ≡ P.kept machine.old.process }
 {

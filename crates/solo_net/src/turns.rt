@@ -8,9 +8,9 @@ ghost use Rattle.solo_law.specs.Buffers.{call};
 ghost use Rattle.solo_law.specs.Replies.{view};
 ghost use Rattle.solo_law.specs.Solo.{SoloState};
 ghost use Rattle.solo_procs.specs.Machine.{StandsFor};
-ghost use Rattle.solo_net.specs.Actions.{unsaid, HasPlace};
-ghost use Rattle.solo_net.specs.SixBuffers.{BuffersStand};
-ghost use Rattle.solo_net.specs.Turns.{IsAtTurn};
+ghost use Rattle.solo_net.specs.Actions.{unsaid, SoloHasPlace};
+ghost use Rattle.solo_net.specs.SixBuffers.{SoloBuffersStand};
+ghost use Rattle.solo_net.specs.Turns.{SoloIsAtTurn};
 
 use crate::Buffers;
 use crate::buffers::side_at;
@@ -20,7 +20,7 @@ use solo_procs::{Machine, Proc, SoloAction};
 impl Buffers {
     /// Whether the buffers let a process make its call now.
     pub fn may_call(&self, p: ProcNo, action: &SoloAction) -> bool
-        ensures { (s : SoloState) → BuffersStand self.now s.buffers → HasPlace (unsaid action.now)
+        ensures { (s : SoloState) → SoloBuffersStand self.now s.buffers → SoloHasPlace (unsaid action.now)
             → IsTrue result ↔ MayCall s p (call p (unsaid action.now)) }
     {
         match action {
@@ -40,7 +40,7 @@ impl Buffers {
 
     /// Whether a call that waits is made at a handed turn, and so is made again.
     pub fn is_again(&self, p: ProcNo, action: &SoloAction) -> bool
-        ensures { (s : SoloState) → BuffersStand self.now s.buffers → HasPlace (unsaid action.now)
+        ensures { (s : SoloState) → SoloBuffersStand self.now s.buffers → SoloHasPlace (unsaid action.now)
             → result ≡ is_again s (call p (unsaid action.now)) }
     {
         let _ = p;
@@ -63,9 +63,9 @@ impl Buffers {
 /// Whether a process has a next action, and is at its turn.
 pub fn may_step<P: Proc>(machine: &Machine<P>, p: ProcNo, buffers: &Buffers) -> bool
     ensures { (h : List (Entry Action Reply)) (s : SoloState)
-        → StandsFor P.process P.is_at P.ready machine.now h → BuffersStand buffers.now s.buffers
-        → ((action : Action) → next_action view P.process h ≡ Some action → HasPlace action)
-        → IsTrue result ↔ IsAtTurn P.process h s p }
+        → StandsFor P.process P.is_at P.ready machine.now h → SoloBuffersStand buffers.now s.buffers
+        → ((action : Action) → next_action view P.process h ≡ Some action → SoloHasPlace action)
+        → IsTrue result ↔ SoloIsAtTurn P.process h s p }
 {
     if machine.has_ended() {
         return false;

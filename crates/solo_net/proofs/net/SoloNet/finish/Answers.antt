@@ -1,5 +1,5 @@
 use Rattle.std.proofs.Common.{refl}
-use Rattle.solo_net.proofs.Finishing.{ends, together, faults, shows, prints, tells-plan, files}
+use Rattle.solo_net.proofs.Finishing.{ends, together, faults, shows, prints, tells-plan}
 use Rattle.solo_net.proofs.net.SoloNet.finish.Goals as goal
 
 pub returns-clause-ends : goal.returns-clause-ends

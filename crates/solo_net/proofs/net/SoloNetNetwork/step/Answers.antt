@@ -1,5 +1,3 @@
-use Rattle.solo_law.proofs.Placed.{is-1, is-3}
-use Rattle.solo_net.proofs.NetSteps.{no-work}
 use Rattle.solo_net.proofs.Stepped.{may-step, may-two, input-goes, job-goes, output-goes, no-work-one, no-work-three}
 use Rattle.solo_net.proofs.Turning.{last-number}
 use Rattle.solo_net.proofs.net.SoloNetNetwork.step.Goals as goal
