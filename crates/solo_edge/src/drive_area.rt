@@ -3,7 +3,8 @@ ghost use Rattle.solo_devices.specs.Area.{ReadsFrom, Writes, CountsFaults, HasWh
 
 use solo_base::{PAGE_LENGTH, Page};
 use solo_devices::{Area, Moved};
-use std::io::{self, ErrorKind, Read, Seek, SeekFrom, Write};
+use std::io::{self, ErrorKind, Seek, SeekFrom};
+use std::os::unix::fs::FileExt;
 
 /// A range of pages of a drive, which is a file or anything else that is read and written at positions.
 /// A drive that couldn't be opened is none: each call fails then. So does a call on a page that the drive
@@ -16,7 +17,7 @@ pub struct DriveArea<D> {
     faults: u64,
 }
 
-impl<D: Read + Write + Seek> DriveArea<D> {
+impl<D: FileExt + Seek> DriveArea<D> {
     /// The area of so many pages of the drive, from page `first` on.
     pub fn new(drive: Option<D>, first: u16, pages: u16) -> DriveArea<D>
         ensures untold { ⟦<DriveArea<D> as Area>⟧.pages result ≡ None }
@@ -39,7 +40,7 @@ impl<D: Read + Write + Seek> DriveArea<D> {
     }
 }
 
-impl<D: Read + Write + Seek> Area for DriveArea<D> {
+impl<D: FileExt + Seek> Area for DriveArea<D> {
     ghost pages = { λ _. None };
 
     ghost size = { λ area. area.pages };
@@ -107,23 +108,21 @@ fn counted(faults: &mut u64, is_done: bool) -> Moved
 }
 
 /// Reads the page at this address of the drive.
-fn read_page<D: Read + Seek>(drive: &mut D, address: u64, page: &mut Page) -> io::Result<()>
+fn read_page<D: FileExt>(drive: &D, address: u64, page: &mut Page) -> io::Result<()>
     requires { address < 2 ^ 17 }
 {
-    drive.seek(SeekFrom::Start(address * PAGE_LENGTH as u64))?;
-    drive.read_exact(&mut page.0)
+    drive.read_exact_at(&mut page.0, address * PAGE_LENGTH as u64)
 }
 
 /// Writes the page at this address of the drive, where the drive has it.
-fn write_page<D: Write + Seek>(drive: &mut D, address: u64, page: &Page) -> io::Result<()>
+fn write_page<D: FileExt + Seek>(drive: &mut D, address: u64, page: &Page) -> io::Result<()>
     requires { address < 2 ^ 17 }
 {
     let length = drive.seek(SeekFrom::End(0))?;
     if !has_page(length, address) {
         return Err(io::Error::from(ErrorKind::UnexpectedEof));
     }
-    drive.seek(SeekFrom::Start(address * PAGE_LENGTH as u64))?;
-    drive.write_all(&page.0)
+    drive.write_all_at(&page.0, address * PAGE_LENGTH as u64)
 }
 
 /// Whether a drive of so many bytes has the whole page of this address.
