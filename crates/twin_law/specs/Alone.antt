@@ -1,5 +1,5 @@
--- A process alone: what it puts for what stands in its buffers, where nothing fails and each file is loaded as
--- these files say. And what a history tells of that.
+-- A process alone: what it puts for what stands in its buffers, where nothing fails and each file is loaded
+-- as these files say. And what a history tells of that.
 use Rattle.std.specs.Prelude.{◌≡◌, ℕ, zero, suc, ◌==◌, Bool, true, false, if◌then◌else◌, List, [], ◌∷◌, ◌++◌, drop}
 use Rattle.batch_procs.specs.declared.actions.Reply.{Reply}
 use Rattle.batch_procs.specs.Jobs.{FilesAs}
@@ -37,7 +37,8 @@ pub record Step {L : Type 0} (p : Process L) : Type 0 where
   pub inside : ℕ → List (Parcel L)
   pub ended : Bool
 
-abbrev pub answered : {L : Type 0} → (p : Process L) → p.Place → (ℕ → List (Parcel L)) → List (Put L) → Reply L
+abbrev pub answered : {L : Type 0} → (p : Process L) → p.Place → (ℕ → List (Parcel L)) → List (Put L)
+    → Reply L
     → Step p
 answered p at inside puts r = record { puts = puts; at = p.behind at r; inside = inside; ended = false }
 

@@ -19,8 +19,8 @@ use Rattle.twin_law.specs.Outcomes.{HasEndedSo, AllDone, EndsRightly, HaveCauses
 -- Where the jobs can be worked on unit by unit: over told areas what the paper gained is a prefix of what one
 -- thread prints, and all of it where all six ended with their work done.
 abbrev pub Prints : {L : Type 0} {J : Jobs L} → Opening J → TwinState L → Type 0
-Prints {L} {J} o s = AreByUnits J → AreTold o.spools → (items : List Item) (found : FilesAs L) → o.deck ≡ Some items
-    → o.files ≡ Some found
+Prints {L} {J} o s = AreByUnits J → AreTold o.spools → (items : List Item) (found : FilesAs L)
+    → o.deck ≡ Some items → o.files ≡ Some found
     → Gains o.paper s.devices.paper (text (one_thread J items found)) (AllDone s)
 
 -- What was read of a told deck, and what is left of it, are its cards; nothing is left where all are done.

@@ -67,7 +67,8 @@ with_page s items = record s { pages = s.pages + 1; items = s.items ++ items }
 -- A damaged page leaves it where it is. A stream without items needs no work.
 abbrev pub behind_page : {L : Type 0} → Jobs L → Stream L → Result PageContent BadPage → JobPlace L
 behind_page J s (Err bad) = TakesItems s
-behind_page J s (Ok content) = behind_items J (s.items ++ content.items) (with_page s content.items) content.last
+behind_page J s (Ok content) =
+    behind_items J (s.items ++ content.items) (with_page s content.items) content.last
 
 -- the page that is taken next, read at its place in the stream
 abbrev pub page_taken : {L : Type 0} → Stream L → Page → Bool → Result PageContent BadPage

@@ -35,8 +35,8 @@ AllDone s = (p : ℕ) → IsProcess p → HasEndedSo s outcome.Done p
 abbrev pub AreStopped : {L : Type 0} → List ℕ → List (Entry L) → Type 0
 AreStopped buffers h = AllByRecursion (λ b. has_stopped b h ≡ true) buffers
 
--- It ended as its cause says; without one where it had done all its work, behind the stops of its spools; with
--- one behind the stops of all its buffers.
+-- It ended as its cause says; without one where it had done all its work, behind the stops of its spools;
+-- with one behind the stops of all its buffers.
 pub record EndsRightly {L : Type 0} (p : Process L) (h : List (Entry L)) (how : Outcome) : Type 0 where
   pub by_cause : outcome_by (caused p h) ≡ how
   pub done : caused p h ≡ None → (aim p h ≡ Finishes) × AreStopped p.spools h
@@ -57,7 +57,8 @@ pub record HaveCauses {L : Type 0} (J : Jobs L) (s : TwinState L) : Type 0 where
       → GivenBy (process J p) how (s.histories p)
   pub card : (c : Cause) → caused (process J 1) (s.histories 1) ≡ Some (outcome.Fault c)
       → (c ≡ cause.ReadFault) ⊎ (c ≡ cause.DeckLimit)
-  pub input : (c : Cause) → caused (process J 2) (s.histories 2) ≡ Some (outcome.Fault c) → c ≡ cause.DiskFault
+  pub input : (c : Cause) → caused (process J 2) (s.histories 2) ≡ Some (outcome.Fault c)
+      → c ≡ cause.DiskFault
   pub job_a : (c : Cause) → caused (process J 3) (s.histories 3) ≡ Some (outcome.Fault c)
       → (c ≡ cause.DiskFault) ⊎ (IsDamaged c ⊎ (c ≡ cause.NoMemory))
   pub job_b : (c : Cause) → caused (process J 4) (s.histories 4) ≡ Some (outcome.Fault c)

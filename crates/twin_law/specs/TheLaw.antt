@@ -8,7 +8,7 @@ use Rattle.twin_law.specs.Process.{Entry, has_ended}
 use Rattle.twin_law.specs.Twin.{Devices, twin, TwinState, TwinEvent, IsProcess}
 use Rattle.twin_law.specs.Opening.{size_of, told_of, Opening, devices_at, IsSmooth}
 
--- No opening is taken to tell all, so no run is said to be bounded.
+-- No opening is taken to tell all: that nothing is open but who steps next isn't claimed.
 abbrev pub the_openings : {L : Type 0} → Jobs L → Openings (Devices L) (Entry L)
 the_openings J = record {
   Opening = Opening J;

@@ -64,8 +64,8 @@ went (LacksMemory action r) = went_by action r
 went (Delays action) = Delayed
 
 -- ---- which replies an action may have
--- A take is given what it takes. A call at a buffer may be told that the other side has stopped, and a call of
--- a device that it failed; a load and a print may be refused memory. Any other call is done.
+-- A take is given what it takes. A call at a buffer may be told that the other side has stopped, and a call
+-- of a device that it failed; a load and a print may be refused memory. Any other call is done.
 abbrev pub Fits : {L : Type 0} → Action → Reply L → Type 0
 Fits ReadCard (reply.Card answer) = Unit {0}
 Fits (PutFeed b f) reply.Done = Unit {0}

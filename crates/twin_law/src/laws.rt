@@ -1,11 +1,16 @@
 // Each law is in a contract.
 
-ghost use Rattle.std.specs.Prelude.{◌≡◌};
+ghost use Rattle.std.specs.Prelude.{◌≡◌, ◌≤◌, ℕ, List, length, Some};
+ghost use Rattle.network_run.specs.Law.{AreEnabled};
 ghost use Rattle.network_run.specs.Sound.{IsSoundLaw};
-ghost use Rattle.twin_law.specs.Twin.{TwinState};
-ghost use Rattle.twin_law.specs.Opening.{Opening};
-ghost use Rattle.twin_law.specs.TheLaw.{the_law, IsReached, IsStuck};
+ghost use Rattle.solo_base.specs.declared.item.Item.{Item};
+ghost use Rattle.batch_procs.specs.Jobs.{FilesAs};
+ghost use Rattle.twin_law.specs.Twin.{TwinState, TwinEvent};
+ghost use Rattle.twin_law.specs.Opening.{AreTold, Opening};
+ghost use Rattle.twin_law.specs.TheLaw.{the_law, first_state, IsReached, IsStuck};
+ghost use Rattle.twin_law.specs.UnitWork.{AreByUnits};
 ghost use Rattle.twin_law.specs.Holds.{Holds};
+ghost use Rattle.twin_law.specs.Bound.{longest_run};
 
 use batch_procs::JobWork;
 
@@ -25,8 +30,19 @@ pub fn no_state_is_stuck<J: JobWork>()
     ensures { (opening : Opening J.jobs) (s : TwinState J.Load) → IsReached opening s → IsStuck J.jobs s → ⊥ }
 {}
 
-/// Whatever the devices do, no reached state is stuck for who steps the network, and each grant is seen at the
-/// holder. Nothing is done here: the contract is the law.
+/// Over told devices no run is longer than the cards of its deck, its units and the lines that one thread
+/// prints for them allow, whichever calls fail and wherever memory is refused, where the jobs can be worked
+/// on unit by unit. Nothing is done here: the contract is the law.
+pub fn no_run_is_longer<J: JobWork>()
+    ensures { (opening : Opening J.jobs) (items : List Item) (found : FilesAs J.Load)
+        (events : List (TwinEvent J.Load)) → AreByUnits J.jobs → AreTold opening.spools
+        → opening.deck ≡ Some items → opening.files ≡ Some found
+        → AreEnabled (the_law J.jobs) (first_state opening) events
+        → length events ≤ longest_run J.jobs found items }
+{}
+
+/// Whatever the devices do, no reached state is stuck for who steps the network, and each grant is seen at
+/// the holder. Nothing is done here: the contract is the law.
 pub fn law_of_the_twins<J: JobWork>()
     ensures sound { IsSoundLaw (the_law J.jobs) }
 {}
