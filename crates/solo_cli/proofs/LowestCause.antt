@@ -21,12 +21,12 @@ none-is (Some it) none = cc
 
 module _ (outcomes : Outcomes) (stops : List (Option Side)) (together : EndTogether outcomes stops) (faults : FaultsAre outcomes)
     (Behind : Cause → Type 0) where
-  one-of : (found : Option Cause) → decides (list_of outcomes) ≡ found
+  pub one-of : (found : Option Cause) → decides (list_of outcomes) ≡ found
       → IfSome (as_refusal found) (OfFault (λ why. IsIn (outcome.Fault why) (list_of outcomes) ⊎ ((outcomes ≡ all_done) × Behind why)))
   one-of None is = tt
   one-of (Some why) is = inl (among (list_of outcomes) why is)
 
-  none-lower : (found : Option Cause) → decides (list_of outcomes) ≡ found → (fault : Cause) → IsIn (outcome.Fault fault) (list_of outcomes)
+  pub none-lower : (found : Option Cause) → decides (list_of outcomes) ≡ found → (fault : Cause) → IsIn (outcome.Fault fault) (list_of outcomes)
       → (why : Cause) × (as_refusal found ≡ Some (Fault why)) × (number_of why ≤ number_of fault)
   none-lower None is fault at = absurd (no-fault (list_of outcomes) is fault at)
   none-lower (Some why) is fault at = (why, refl, least (list_of outcomes) why is fault at)
@@ -43,7 +43,7 @@ module _ (outcomes : Outcomes) (stops : List (Option Side)) (together : EndToget
     done = λ none. all-done outcomes stops together (none-is (decides (list_of outcomes)) none);
   }
 
-  behind-of : (answer : Option Refusal) → outcomes ≡ all_done → IfSome answer (OfFault Behind)
+  pub behind-of : (answer : Option Refusal) → outcomes ≡ all_done → IfSome answer (OfFault Behind)
       → IfSome answer (OfFault (λ why. IsIn (outcome.Fault why) (list_of outcomes) ⊎ ((outcomes ≡ all_done) × Behind why)))
   behind-of None all later = tt
   behind-of (Some (Fault why)) all later = inr (all, later)
