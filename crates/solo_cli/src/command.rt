@@ -124,11 +124,11 @@ pub fn top<
         input,
         output,
     };
-    finish(run(rt, alloc, command_of(words), devices))
+    finish(run_asked(rt, alloc, command_of(words), devices))
 }
 
 // Runs a command, or none.
-fn run<
+fn run_asked<
     S: Source + Drop + Send,
     Y: Source,
     K: Sink + Drop + Send,
@@ -152,17 +152,47 @@ fn run<
         (kit_of S.Source Y.Source K.Sink T.Sink F.Area I.Area O.Area result.devices) result.cause }
 {
     match command {
+        Some(command) => run(rt, alloc, command, devices),
         None => Done {
             cause: Some(Refusal::Fault(Cause::Usage)),
             devices,
         },
-        Some(Command::Batch) => batch(rt, alloc, devices),
-        Some(Command::Core { schedule }) => core(alloc, schedule, devices),
-        Some(Command::Make { number }) => make(alloc, number, devices),
-        Some(Command::Format) => format(devices),
-        Some(Command::Migrate) => migrate(alloc, devices),
-        Some(Command::Check) => check(alloc, devices),
-        Some(Command::Times { schedule }) => times(schedule, devices),
+    }
+}
+
+// Runs a command.
+fn run<
+    S: Source + Drop + Send,
+    Y: Source,
+    K: Sink + Drop + Send,
+    T: Sink,
+    F: Area + Drop + Send,
+    I: Area + Send,
+    O: Area + Send,
+    R: Threads + Wait + Sync,
+>(
+    rt: &R,
+    alloc: Global,
+    command: Command,
+    devices: Devices<S, Y, K, T, F, I, O>,
+) -> Done<S, Y, K, T, F, I, O>
+    requires ready { MayBeGiven (kit_of S.Source Y.Source K.Sink T.Sink F.Area I.Area O.Area devices) }
+    requires number { HasNumber (Some command) }
+    ensures does { DoesItsWork (Some command)
+        (kit_of S.Source Y.Source K.Sink T.Sink F.Area I.Area O.Area devices)
+        (kit_of S.Source Y.Source K.Sink T.Sink F.Area I.Area O.Area result.devices) result.cause }
+    ensures answers { Answers (uses (Some command)) (MayBeRefused (Some command))
+        (kit_of S.Source Y.Source K.Sink T.Sink F.Area I.Area O.Area devices)
+        (kit_of S.Source Y.Source K.Sink T.Sink F.Area I.Area O.Area result.devices) result.cause }
+{
+    match command {
+        Command::Batch => batch(rt, alloc, devices),
+        Command::Core { schedule } => core(alloc, schedule, devices),
+        Command::Make { number } => make(alloc, number, devices),
+        Command::Format => format(devices),
+        Command::Migrate => migrate(alloc, devices),
+        Command::Check => check(alloc, devices),
+        Command::Times { schedule } => times(schedule, devices),
     }
 }
 

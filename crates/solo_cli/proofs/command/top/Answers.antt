@@ -12,17 +12,17 @@ use Rattle.solo_cli.proofs.Statuses.{no_cause}
 use Rattle.solo_cli.proofs.WordNumbers.{has-number}
 use Rattle.solo_cli.proofs.command.top.Goals as goal
 
-pub run-requires-clause-number : goal.run-requires-clause-number
-run-requires-clause-number g c = λ lives outlives.
+pub run_asked-requires-clause-number : goal.run_asked-requires-clause-number
+run_asked-requires-clause-number g c = λ lives outlives.
     subst HasNumber (sym c.command_of.ensures) (has-number (map (λ word. string_bytes word) c.args.words.now))
 
 pub returns-clause-output : goal.returns-clause-output
 returns-clause-output g c = λ bytes found is told_left files input output.
     let a = c.args in
-    let done = c.run.result in
+    let done = c.run_asked.result in
     let before = kit g.S.Source g.Y.Source g.K.Sink g.T.Sink g.F.Area g.I.Area g.O.Area a.deck a.keys a.paper a.console a.files a.input a.output in
     let after = kit_of g.S.Source g.Y.Source g.K.Sink g.T.Sink g.F.Area g.I.Area g.O.Area done.devices in
-    let does = subst (λ asked. DoesItsWork asked before after done.cause) (c.command_of.ensures ∙ is) c.run.ensures.does in
+    let does = subst (λ asked. DoesItsWork asked before after done.cause) (c.command_of.ensures ∙ is) c.run_asked.ensures.does in
     rw c.finish.ensures
     (gains-same _ _ _ _ _ _ _ _ refl refl refl (λ zero. no_cause done.cause zero)
     (does.0.prints bytes found told_left files record { input = input; output = output }))
@@ -30,35 +30,35 @@ returns-clause-output g c = λ bytes found is told_left files input output.
 pub returns-clause-does : goal.returns-clause-does
 returns-clause-does g c =
     let a = c.args in
-    let done = c.run.result in
+    let done = c.run_asked.result in
     let before = kit g.S.Source g.Y.Source g.K.Sink g.T.Sink g.F.Area g.I.Area g.O.Area a.deck a.keys a.paper a.console a.files a.input a.output in
     let after = kit_of g.S.Source g.Y.Source g.K.Sink g.T.Sink g.F.Area g.I.Area g.O.Area done.devices in
-    rw c.finish.ensures (subst (λ asked. DoesItsWork asked before after done.cause) c.command_of.ensures c.run.ensures.does)
+    rw c.finish.ensures (subst (λ asked. DoesItsWork asked before after done.cause) c.command_of.ensures c.run_asked.ensures.does)
 
 pub returns-clause-answers : goal.returns-clause-answers
 returns-clause-answers g c =
     let a = c.args in
-    let done = c.run.result in
+    let done = c.run_asked.result in
     let before = kit g.S.Source g.Y.Source g.K.Sink g.T.Sink g.F.Area g.I.Area g.O.Area a.deck a.keys a.paper a.console a.files a.input a.output in
     let after = kit_of g.S.Source g.Y.Source g.K.Sink g.T.Sink g.F.Area g.I.Area g.O.Area done.devices in
     rw c.finish.ensures
-    (subst (λ asked. Answers (uses asked) (MayBeRefused asked) before after done.cause) c.command_of.ensures c.run.ensures.answers)
+    (subst (λ asked. Answers (uses asked) (MayBeRefused asked) before after done.cause) c.command_of.ensures c.run_asked.ensures.answers)
 
 pub returns-clause-usage : goal.returns-clause-usage
 returns-clause-usage g c =
     let a = c.args in
-    let done = c.run.result in
+    let done = c.run_asked.result in
     let before = kit g.S.Source g.Y.Source g.K.Sink g.T.Sink g.F.Area g.I.Area g.O.Area a.deck a.keys a.paper a.console a.files a.input a.output in
     let after = kit_of g.S.Source g.Y.Source g.K.Sink g.T.Sink g.F.Area g.I.Area g.O.Area done.devices in
     rw c.finish.ensures
     (usage {before = before} {after = after} (asked a.words.now) done.cause
-    (subst (λ asked. DoesItsWork asked before after done.cause) c.command_of.ensures c.run.ensures.does)
-    (subst (λ asked. Answers (uses asked) (MayBeRefused asked) before after done.cause) c.command_of.ensures c.run.ensures.answers))
+    (subst (λ asked. DoesItsWork asked before after done.cause) c.command_of.ensures c.run_asked.ensures.does)
+    (subst (λ asked. Answers (uses asked) (MayBeRefused asked) before after done.cause) c.command_of.ensures c.run_asked.ensures.answers))
 
 pub returns-clause-complete : goal.returns-clause-complete
 returns-clause-complete g c = λ some nothing.
     let a = c.args in
-    let done = c.run.result in
+    let done = c.run_asked.result in
     let before = kit g.S.Source g.Y.Source g.K.Sink g.T.Sink g.F.Area g.I.Area g.O.Area a.deck a.keys a.paper a.console a.files a.input a.output in
     let after = kit_of g.S.Source g.Y.Source g.K.Sink g.T.Sink g.F.Area g.I.Area g.O.Area done.devices in
     rw c.finish.ensures
@@ -72,8 +72,8 @@ returns-clause-complete g c = λ some nothing.
       input = c.requires.input;
       output = c.requires.output;
     }
-    (subst (λ asked. DoesItsWork asked before after done.cause) c.command_of.ensures c.run.ensures.does)
-    (subst (λ asked. Answers (uses asked) (MayBeRefused asked) before after done.cause) c.command_of.ensures c.run.ensures.answers))
+    (subst (λ asked. DoesItsWork asked before after done.cause) c.command_of.ensures c.run_asked.ensures.does)
+    (subst (λ asked. Answers (uses asked) (MayBeRefused asked) before after done.cause) c.command_of.ensures c.run_asked.ensures.answers))
 
 pub returns-clause-files_size : goal.returns-clause-files_size
-returns-clause-files_size g c = rw c.finish.ensures c.run.ensures.answers.size
+returns-clause-files_size g c = rw c.finish.ensures c.run_asked.ensures.answers.size
