@@ -1,0 +1,9 @@
+pub mod Ends
+pub mod Devices
+pub mod Input
+pub mod Output
+pub mod Job
+pub mod Places
+pub mod Running
+pub mod Row
+pub mod Whole
