@@ -34,11 +34,7 @@ pub fn batch<
     I: Area + Send,
     O: Area + Send,
     R: Threads + Wait + Sync,
->(
-    rt: &R,
-    alloc: Global,
-    devices: Devices<S, Y, K, T, F, I, O>,
-) -> Done<S, Y, K, T, F, I, O>
+>(rt: &R, alloc: Global, devices: Devices<S, Y, K, T, F, I, O>) -> Done<S, Y, K, T, F, I, O>
     requires { MayBeGiven (kit_of S.Source Y.Source K.Sink T.Sink F.Area I.Area O.Area devices) }
     ensures runs { RunsBatch (kit_of S.Source Y.Source K.Sink T.Sink F.Area I.Area O.Area devices)
         (kit_of S.Source Y.Source K.Sink T.Sink F.Area I.Area O.Area result.devices) result.cause }

@@ -214,7 +214,9 @@ fn run_in_memory<F: Area + Drop, I: Area, O: Area>(
         output,
     };
     let rule = Rule::Numbered { number };
-    let (ran, counts) = run_core::<DeckWork, SureSource, SureSink, DeckFiles<F>, I, O>(alloc, units, rule);
+    let (ran, counts) = run_core::<DeckWork, SureSource, SureSink, DeckFiles<F>, I, O>(
+        alloc, units, rule,
+    );
     let Done { cause, devices } = came_to(ran, (), ());
     let Devices {
         deck: _,

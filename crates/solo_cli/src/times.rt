@@ -66,11 +66,7 @@ pub fn times<S: Source, Y: Source, K: Sink, T: Sink, F: Area, I: Area, O: Area>(
 
 // Runs what is typed at the keys, and displays what it counted.
 #[inline(never)]
-fn run_script<Y: Source, T: Sink>(
-    schedule: u32,
-    keys: Y,
-    console: T,
-) -> (Option<Refusal>, Y, T)
+fn run_script<Y: Source, T: Sink>(schedule: u32, keys: Y, console: T) -> (Option<Refusal>, Y, T)
     requires { Y.taken keys ≡ 0 }
     ensures output { (bytes : List ℕ) → Y.left keys ≡ Some bytes →
         GainsTimes (Rule.Numbered schedule) (cards bytes) (T.given console) (T.given result.2)

@@ -189,7 +189,7 @@ module _ {C F S Y K T : Type 0} (commands : CommandsOf C F) (tells : Tells S Y K
     own = record {
       gained = enters.gained;
       fits = subst (λ a. (s : SoloState) → SoloSharedStands tells net.shared s.devices s.buffers → Fits mark s (call p a) (went view entry))
-        (sym same) enters.fits;
+          (sym same) enters.fits;
       allowed = enters.allowed;
       after = subst (λ a. (devices : Devices) (buffers : ℕ → Buffer Parcel) → SoloSharedStands tells net.shared devices buffers
           → SoloSharedStands tells new (given devices entry enters.gained) (buffers_after mark (call p a) p (went view entry) buffers)) (sym same) enters.after;

@@ -44,7 +44,7 @@ SoloMayPerform shared p (act.Print line) = shared.units.paper.live ≡ true
 SoloMayPerform shared p (act.PutArg b a) = IsArgBuffer b × SoloWaitsAt (sides_at shared.buffers b) Sender p
 SoloMayPerform shared p (act.TakeArg b) = IsArgBuffer b × SoloWaitsAt (sides_at shared.buffers b) Receiver p
 SoloMayPerform shared p (act.PutPage b page) =
-  IsPageBuffer b × SoloWaitsAt (sides_at shared.buffers b) Sender p
+    IsPageBuffer b × SoloWaitsAt (sides_at shared.buffers b) Sender p
 SoloMayPerform shared p (act.TakePage b) = IsPageBuffer b × SoloWaitsAt (sides_at shared.buffers b) Receiver p
 SoloMayPerform shared p (act.Works work) = ⊥
 SoloMayPerform shared p (act.Stop b) = IsBuffer b × MayStop (sides_at shared.buffers b) (side_at p b)

@@ -60,10 +60,10 @@ SoloWaitsAt sides side p = MayEnter sides side p × (has_stopped sides side ≡ 
 
 -- It goes as the law allows, and the six stand for the buffers behind it.
 pub record SoloVisited (old new : Buffers) (p : ℕ) (action : Action) (result : Option SoloReply)
-  : Type 0 where
+    : Type 0 where
   pub suits : SoloReplyFits action result
   pub fits : (s : SoloState) → SoloBuffersStand old s.buffers
       → Fits mark s (call p action) (went view (entry_of action result))
   pub after : (buffers : ℕ → Buffer Parcel) → SoloBuffersStand old buffers
       → SoloBuffersStand new
-        (buffers_after mark (call p action) p (went view (entry_of action result)) buffers)
+      (buffers_after mark (call p action) p (went view (entry_of action result)) buffers)

@@ -15,8 +15,10 @@ returns-clause-opens g c = λ plan is.
         input = c.new.ensures.stands;
         job = c.new-2.ensures.stands;
         output = c.new-3.ensures.stands;
-        shared = record { units = record { cards = refl; keys = refl; paper = refl; console = refl };
-          six = c.new-4.ensures (solo_told_by tells c.args.units plan) };
+        shared = record {
+          units = record { cards = refl; keys = refl; paper = refl; console = refl };
+          six = c.new-4.ensures (solo_told_by tells c.args.units plan);
+        };
         cards_live = λ free. c.requires.cards;
         keys_live = λ free. c.requires.keys;
         console_live = λ free. c.requires.console;
