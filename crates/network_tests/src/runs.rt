@@ -187,11 +187,7 @@ pub fn run_over<
     F: Area + Counted + Drop + Send,
     A: Area + Counted + Drop + Send,
     B: Area + Counted + Drop + Send,
->(
-    rt: &R,
-    by: By,
-    units: Devices<F, A, B>,
-) -> Result<Came, Fail>
+>(rt: &R, by: By, units: Devices<F, A, B>) -> Result<Came, Fail>
     requires deck { (units.deck.live ≡ true) × (units.deck.pending ≡ []) }
     requires unread { ⟦<MemSource as Source>⟧.taken units.deck.source ≡ 0 }
     requires paper { units.paper.live ≡ true }
@@ -202,18 +198,21 @@ pub fn run_over<
     let alloc = rt.alloc();
     match by {
         By::Core(rule) => {
-            let (ran, counts) =
-                run_core::<DeckWork, MemSource, MemSink, DeckFiles<F>, A, B>(alloc, units, rule);
+            let (ran, counts) = run_core::<DeckWork, MemSource, MemSink, DeckFiles<F>, A, B>(
+                alloc, units, rule,
+            );
             seen(alloc, ran, Some(counts))
         }
         By::Schedule(number) => {
-            let (ran, counts) =
-                run_schedule::<DeckWork, MemSource, MemSink, DeckFiles<F>, A, B>(alloc, units, number);
+            let (ran, counts) = run_schedule::<DeckWork, MemSource, MemSink, DeckFiles<F>, A, B>(
+                alloc, units, number,
+            );
             seen(alloc, ran, Some(counts))
         }
         By::Threads => {
-            let ran = run_batch::<DeckWork, MemSource, MemSink, DeckFiles<F>, A, B, R>(rt, alloc, units)
-                .ok()
+            let ran = run_batch::<DeckWork, MemSource, MemSink, DeckFiles<F>, A, B, R>(
+                rt, alloc, units,
+            ).ok()
                 .expect(rt, "ample memory");
             seen(alloc, ran, None)
         }
