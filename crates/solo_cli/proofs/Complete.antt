@@ -9,7 +9,7 @@ use Rattle.solo_cli.specs.declared.refusal.Refusal.{Refusal}
 use Rattle.solo_cli.specs.declared.refusal.Refusal.TheVariants.{Fault, NoRoom}
 use Rattle.solo_cli.specs.declared.words.Command.{Command}
 use Rattle.solo_cli.specs.declared.words.Command.TheVariants as command
-use Rattle.solo_cli.specs.Answers.{Answers, NothingFails}
+use Rattle.solo_cli.specs.Reasons.{Answers, NothingFails}
 use Rattle.solo_cli.specs.Causes.{IsMakeCause, IsCheckCause, IsWithinLimit}
 use Rattle.solo_cli.specs.Devices.{Kit}
 use Rattle.solo_cli.specs.Does.{DoesItsWork}

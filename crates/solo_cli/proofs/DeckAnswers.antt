@@ -11,7 +11,7 @@ use Rattle.batch_ends.specs.declared.ends.Outcomes.{Outcomes}
 use Rattle.batch_ends.specs.Ended.{FaultsAre, NoneDamaged, TellsWhere, all_done}
 use Rattle.solo_cli.specs.declared.refusal.Refusal.{Refusal}
 use Rattle.solo_cli.specs.declared.refusal.Refusal.TheVariants.{Fault, NoRoom}
-use Rattle.solo_cli.specs.Answers.{Answers}
+use Rattle.solo_cli.specs.Reasons.{Answers}
 use Rattle.solo_cli.specs.Causes.{IsPrintCause, IsRunCause}
 use Rattle.solo_cli.specs.Decides.{FaultsCounted, DeckEnds, LineBehind, LowestDecides, IsIn, list_of}
 use Rattle.solo_cli.specs.Devices.{Kit}

@@ -19,7 +19,7 @@ use Rattle.network_run.specs.declared.rules.Rule.TheVariants.{Numbered}
 use Rattle.page_codec.proofs.CardItems.{card-items}
 use Rattle.solo_cli.specs.declared.refusal.Refusal.{Refusal}
 use Rattle.solo_cli.specs.declared.refusal.Refusal.TheVariants.{Fault, NoRoom}
-use Rattle.solo_cli.specs.Answers.{Answers, AsRun}
+use Rattle.solo_cli.specs.Reasons.{Answers, AsRun}
 use Rattle.solo_cli.specs.Causes.{IsPrintCause, IsRunCause}
 use Rattle.solo_cli.specs.CountsLine.{counts_line}
 use Rattle.solo_cli.specs.DeckRuns.{CoreEnds, GainsCounted, RunsBatch, RunsCore, SpoolsTell, core_over, spools_told}

@@ -8,7 +8,7 @@ use Rattle.solo_devices.specs.CardUnit.{byte_limit, bytes_total}
 use Rattle.batch_ends.specs.Ended.{TellsWhere}
 use Rattle.solo_cli.specs.declared.refusal.Refusal.{Refusal}
 use Rattle.solo_cli.specs.declared.refusal.Refusal.TheVariants.{Fault, NoRoom}
-use Rattle.solo_cli.specs.Answers.{Answers}
+use Rattle.solo_cli.specs.Reasons.{Answers}
 use Rattle.solo_cli.specs.Devices.{Kit}
 use Rattle.solo_cli.specs.Ready.{MayBeGiven}
 use Rattle.solo_cli.specs.Refusals.{IsMigrateCause, MayBeRefused, MayRefuseMigration, TellsPlace}

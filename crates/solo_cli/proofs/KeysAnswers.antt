@@ -9,7 +9,7 @@ use Rattle.time_net.specs.TimeStands.{IsTimesCause}
 use Rattle.batch_ends.specs.Ended.{TellsWhere}
 use Rattle.solo_cli.specs.declared.refusal.Refusal.{Refusal}
 use Rattle.solo_cli.specs.declared.refusal.Refusal.TheVariants.{Fault, NoRoom}
-use Rattle.solo_cli.specs.Answers.{Answers}
+use Rattle.solo_cli.specs.Reasons.{Answers}
 use Rattle.solo_cli.specs.Causes.{IsCheckCause}
 use Rattle.solo_cli.specs.Devices.{Kit}
 use Rattle.solo_cli.specs.Refusals.{OfFault, TellsPlace}

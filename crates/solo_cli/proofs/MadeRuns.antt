@@ -20,7 +20,7 @@ use Rattle.network_run.specs.declared.counts.Counts.{Counts}
 use Rattle.network_run.specs.declared.rules.Rule.TheVariants.{Numbered}
 use Rattle.solo_cli.specs.declared.refusal.Refusal.{Refusal}
 use Rattle.solo_cli.specs.declared.refusal.Refusal.TheVariants.{Fault, NoRoom}
-use Rattle.solo_cli.specs.Answers.{Answers, AsRun}
+use Rattle.solo_cli.specs.Reasons.{Answers, AsRun}
 use Rattle.solo_cli.specs.Causes.{IsMakeCause, IsPrintCause}
 use Rattle.solo_cli.specs.DeckNumbers.{deck_lines}
 use Rattle.solo_cli.specs.DeckRuns.{SpoolsTell, core_over, spools_told}

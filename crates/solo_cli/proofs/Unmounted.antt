@@ -18,7 +18,7 @@ use Rattle.made_deck.specs.MadeDeck.{made_deck}
 use Rattle.network_run.specs.declared.rules.Rule.TheVariants.{Numbered}
 use Rattle.solo_cli.specs.declared.refusal.Refusal.{Refusal}
 use Rattle.solo_cli.specs.declared.refusal.Refusal.TheVariants.{Fault}
-use Rattle.solo_cli.specs.Answers.{Answers}
+use Rattle.solo_cli.specs.Reasons.{Answers}
 use Rattle.solo_cli.specs.DeckRuns.{GainsCounted, RunsBatch, RunsCore, SpoolsTell, core_over, spools_told}
 use Rattle.solo_cli.specs.Devices.{Kit}
 use Rattle.solo_cli.specs.FileCommands.{RefusesFiles}

@@ -16,7 +16,7 @@ pub mod Uses
 pub mod Causes
 pub mod Refusals
 pub mod FileCommands
-pub mod Answers
+pub mod Reasons
 pub mod Ready
 pub mod Decides
 pub mod Reading

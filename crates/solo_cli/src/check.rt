@@ -6,7 +6,7 @@ ghost use Rattle.solo_devices.specs.Count.{Rose};
 ghost use Rattle.solo_devices.specs.CardUnit.{IsAllTaken, StandsFor, bytes_total, byte_limit, work_ahead};
 ghost use Rattle.access_check.specs.Judgement.{judge};
 ghost use Rattle.solo_cli.specs.AccessLines.{judgement_line};
-ghost use Rattle.solo_cli.specs.Answers.{Answers};
+ghost use Rattle.solo_cli.specs.Reasons.{Answers};
 ghost use Rattle.solo_cli.specs.Causes.{IsReadCause};
 ghost use Rattle.solo_cli.specs.Devices.{sink_told, kit_of};
 ghost use Rattle.solo_cli.specs.Does.{Checks};

@@ -6,7 +6,7 @@ ghost use Rattle.solo_devices.specs.PrinterUnit.{Gains};
 ghost use Rattle.batch_job.specs.Report.{Loads};
 ghost use Rattle.batch_job.specs.OneThread.{one_thread_output};
 ghost use Rattle.deck_work.specs.DeckJobs.{AreFound, files_found};
-ghost use Rattle.solo_cli.specs.Answers.{Answers, NothingFails};
+ghost use Rattle.solo_cli.specs.Reasons.{Answers, NothingFails};
 ghost use Rattle.solo_cli.specs.Devices.{kit, kit_after, kit_of};
 ghost use Rattle.solo_cli.specs.Does.{DoesItsWork};
 ghost use Rattle.solo_cli.specs.Ready.{MayBeGiven};

@@ -9,7 +9,7 @@ ghost use Rattle.solo_cli.specs.Mounting.{MountsFiles};
 ghost use Rattle.solo_cli.specs.Printing.{PrintsBytes};
 ghost use Rattle.solo_cli.specs.Ready.{MayBeGiven};
 ghost use Rattle.solo_cli.specs.Refusals.{MayBeRefused};
-ghost use Rattle.solo_cli.specs.Answers.{Answers, AsRun};
+ghost use Rattle.solo_cli.specs.Reasons.{Answers, AsRun};
 ghost use Rattle.solo_cli.specs.Uses.{deck_used, uses};
 
 use crate::counts::counts_line;

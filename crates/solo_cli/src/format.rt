@@ -1,6 +1,6 @@
 //! The command that makes an area one without a file.
 ghost use Rattle.std.specs.Prelude.{◌≡◌, Some};
-ghost use Rattle.solo_cli.specs.Answers.{Answers};
+ghost use Rattle.solo_cli.specs.Reasons.{Answers};
 ghost use Rattle.solo_cli.specs.Devices.{kit_of};
 ghost use Rattle.solo_cli.specs.Does.{Formats};
 ghost use Rattle.solo_cli.specs.Ready.{MayBeGiven};

@@ -15,7 +15,7 @@ ghost use Rattle.core_law.specs.TheLaw.{the_law};
 ghost use Rattle.batch_ends.specs.Openings.{spools_over};
 ghost use Rattle.network_run.specs.OneRun.{AreItsCounts};
 ghost use Rattle.deck_work.specs.DeckJobs.{AreFound, files_found, deck_jobs};
-ghost use Rattle.solo_cli.specs.Answers.{Answers, AsRun};
+ghost use Rattle.solo_cli.specs.Reasons.{Answers, AsRun};
 ghost use Rattle.solo_cli.specs.Causes.{IsMakeCause, IsPrintCause};
 ghost use Rattle.solo_cli.specs.Decides.{LowestDecides, Nothing};
 ghost use Rattle.solo_cli.specs.DeckNumbers.{five_lines, characters_of};

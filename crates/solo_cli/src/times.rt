@@ -7,7 +7,7 @@ ghost use Rattle.solo_devices.specs.CardUnit.{IsAllTaken, byte_limit, bytes_tota
 ghost use Rattle.solo_devices.specs.PrinterUnit.{Gains};
 ghost use Rattle.time_net.specs.TimeStands.{IsTimesCause};
 ghost use Rattle.time_net.specs.TimesRuns.{fault_told};
-ghost use Rattle.solo_cli.specs.Answers.{Answers};
+ghost use Rattle.solo_cli.specs.Reasons.{Answers};
 ghost use Rattle.solo_cli.specs.CountsLine.{counts_line};
 ghost use Rattle.solo_cli.specs.Devices.{kit_of};
 ghost use Rattle.solo_cli.specs.Does.{RunsTimes};

@@ -1,6 +1,6 @@
 use Rattle.std.proofs.Common.{◌≡◌, Some, map, refl, sym, ◌∙◌, subst}
 use Rattle.std.specs.Prelude.{string_bytes}
-use Rattle.solo_cli.specs.Answers.{Answers, NothingFails}
+use Rattle.solo_cli.specs.Reasons.{Answers, NothingFails}
 use Rattle.solo_cli.specs.Devices.{kit, kit_after, kit_of}
 use Rattle.solo_cli.specs.Does.{DoesItsWork}
 use Rattle.solo_cli.specs.Refusals.{MayBeRefused}

@@ -8,7 +8,7 @@ use Rattle.deck_work.specs.DeckJobs.{deck_jobs, files_found, one_thread_is}
 use Rattle.network_run.specs.declared.rules.Rule.TheVariants.{Numbered}
 use Rattle.solo_devices.specs.CardUnit.{bytes_total, items_ahead}
 use Rattle.solo_cli.specs.Decides.{LineBehind, decides, list_of}
-use Rattle.solo_cli.specs.Answers.{AsRun}
+use Rattle.solo_cli.specs.Reasons.{AsRun}
 use Rattle.solo_cli.specs.Causes.{IsRunCause}
 use Rattle.solo_cli.specs.CountsLine.{counts_line}
 use Rattle.solo_cli.specs.DeckRuns.{RunsCore, spools_told}
