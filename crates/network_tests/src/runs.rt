@@ -167,6 +167,7 @@ pub fn units<F: Area + Drop, A: Area, B: Area>(
     input: A,
     output: B,
 ) -> Devices<F, A, B>
+    requires { ⟦<MemSource as Source>⟧.taken deck ≡ 0 }
     ensures deck { result.deck ≡ fresh_unit deck }
     ensures paper { (result.paper.live ≡ true) }
     ensures files { result.files.files ≡ files }
