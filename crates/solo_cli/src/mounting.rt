@@ -37,7 +37,74 @@ pub fn mount<S: Source, Y: Source, K: Sink, T: Sink, F: Area, I: Area, O: Area>(
         output,
     } = devices;
     match FileArea::mount(alloc, files) {
-        Ok(files) => Ok(Devices {
+        Ok(files) => mounted(deck, keys, paper, console, files, input, output),
+        Err((files, fault)) => unmounted(fault, deck, keys, paper, console, files, input, output),
+    }
+}
+
+// The devices with their files mounted. Each of the two ends of a mount stands in a function of its own:
+// both together, of devices that have kilobytes in them, would take the compiler of the program many minutes.
+#[inline(never)]
+fn mounted<S, Y, K, T, F: Area, I, O>(
+    deck: S,
+    keys: Y,
+    paper: K,
+    console: T,
+    files: FileArea<F>,
+    input: I,
+    output: O,
+) -> Result<Devices<S, Y, K, T, FileArea<F>, I, O>, Done<S, Y, K, T, F, I, O>>
+    ensures whole { IfOk result (λ all. all ≡ record {
+      deck = deck;
+      keys = keys;
+      paper = paper;
+      console = console;
+      files = files;
+      input = input;
+      output = output;
+    }) }
+    ensures never { IfErr result (λ done. ⊥) }
+{
+    Ok(Devices {
+        deck,
+        keys,
+        paper,
+        console,
+        files,
+        input,
+        output,
+    })
+}
+
+// The devices as they came, and why their files weren't mounted.
+#[inline(never)]
+fn unmounted<S, Y, K, T, F: Area, I, O>(
+    fault: FileFault,
+    deck: S,
+    keys: Y,
+    paper: K,
+    console: T,
+    files: F,
+    input: I,
+    output: O,
+) -> Result<Devices<S, Y, K, T, FileArea<F>, I, O>, Done<S, Y, K, T, F, I, O>>
+    ensures refused { IfErr result (λ done. done ≡ record {
+      cause = Some (Refusal.Fault (mount_cause fault));
+      devices = record {
+        deck = deck;
+        keys = keys;
+        paper = paper;
+        console = console;
+        files = files;
+        input = input;
+        output = output;
+      };
+    }) }
+    ensures never { IfOk result (λ all. ⊥) }
+{
+    Err(Done {
+        cause: Some(Refusal::Fault(mount_cause(fault))),
+        devices: Devices {
             deck,
             keys,
             paper,
@@ -45,20 +112,8 @@ pub fn mount<S: Source, Y: Source, K: Sink, T: Sink, F: Area, I: Area, O: Area>(
             files,
             input,
             output,
-        }),
-        Err((files, fault)) => Err(Done {
-            cause: Some(Refusal::Fault(mount_cause(fault))),
-            devices: Devices {
-                deck,
-                keys,
-                paper,
-                console,
-                files,
-                input,
-                output,
-            },
-        }),
-    }
+        },
+    })
 }
 
 /// Gives the devices back, with this cause.
