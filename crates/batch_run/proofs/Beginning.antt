@@ -83,18 +83,20 @@ module _ {L : Type 0} (J : Jobs L) where
       (deck : Held S) (paper : Printing K) (files : F) (row : Row S K F A B)
       (fresh : AreFresh (from_size gates.input.area) (to_size gates.output.area) gates ends) (begins : BeginsBy gates ends deck paper files row)
       (deck_live : deck.live ≡ true) (paper_live : paper.live ≡ true) (files_sound : loader.IsSound files) where
-    card-begins : CardRan {L = L} left taken source_faults row.cards row.cards []
+    card-begins : CardRan {L = L} left taken source_faults row.cards row.cards None []
     card-begins = record {
       gate = (refl, ap (λ e. e.gate) (begins.card_end ∙ fresh.cards_sender) ∙ sym begins.card_gate);
       calls = ap (λ e. e.calls) (begins.card_end ∙ fresh.cards_sender);
       deck = deck-begins left taken source_faults row.cards.deck (ap (λ d. d.live) begins.deck_is ∙ deck_live);
+      none = refl;
     }
 
-    printer-begins : PrinterRan {L = L} given sink_faults row.paper row.paper []
+    printer-begins : PrinterRan {L = L} given sink_faults row.paper row.paper None []
     printer-begins = record {
       gate = (refl, ap (λ e. e.gate) (begins.printer_end ∙ fresh.lines_receiver) ∙ sym begins.printer_gate);
       calls = ap (λ e. e.calls) (begins.printer_end ∙ fresh.lines_receiver);
       paper = paper-begins given sink_faults row.paper.paper (ap (λ p. p.live) begins.paper_is ∙ paper_live);
+      none = refl;
     }
 
     input-begins : InputRan {L = L} from_size row.pages row.pages None []

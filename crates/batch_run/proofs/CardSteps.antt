@@ -2,6 +2,7 @@
 use Rattle.std.proofs.Common.{◌≡◌, ◌⊎◌, inl, inr, ℕ, Bool, List, [], ◌∷◌, ◌++◌, Option, None, Some, refl, sym, ◌∙◌, ap, subst}
 use Rattle.solo_base.specs.declared.outcome.Side.TheVariants.{Sender}
 use Rattle.monitor_gate.specs.Calls.{after_call}
+use Rattle.resource_mon.specs.Seats.{Pass}
 use Rattle.solo_base.specs.declared.item.Feed.{Feed}
 use Rattle.solo_devices.specs.CardUnit.{Held}
 use Rattle.slot_buffer.specs.declared.call.SlotCall.{SlotCall}
@@ -20,16 +21,12 @@ use Rattle.batch_procs.proofs.Closing.{or-none}
 use Rattle.batch_procs.proofs.Relay.{open-next}
 use Rattle.batch_run.specs.declared.card_side.CardSide.{CardSide}
 use Rattle.batch_run.specs.Calls.{line_calls}
-use Rattle.batch_run.specs.Cards.{CardMay, CardPerforms, CardRan, DeckRan, cards_read, does_card, newest_read}
+use Rattle.batch_run.specs.Cards.{CardMayMake, CardMade, CardRan, DeckRan, cards_read, does_card, newest_read}
 use Rattle.batch_run.specs.Running.{Performed}
 use Rattle.batch_run.proofs.Decks.{deck-read}
 use Rattle.batch_run.proofs.LineCalls.{not-stopped}
-use Rattle.batch_procs.specs.Machine.{NextIs, StandsFor}
-use Rattle.batch_procs.specs.Parcels.{Parcel}
-use Rattle.batch_procs.specs.declared.machine.Machine.{Machine}
 use Rattle.batch_run.specs.DoesOnly.{card-does}
-use Rattle.batch_run.proofs.Going.{Going, does-next, follows-now, next-is}
-use Rattle.batch_run.proofs.Performing.{only-does}
+use Rattle.batch_run.proofs.Performing.{both-as, only-does}
 
 module _ {L : Type 0} {J : Jobs L} (jobs : AreJobs J) where
   module _ {S : Type 0} (left : S → Option (List ℕ)) (taken faults : S → ℕ) where
@@ -49,8 +46,9 @@ module _ {L : Type 0} {J : Jobs L} (jobs : AreJobs J) where
       live = λ none. ran.live (or-none (caused h) (given_cause a r h) none);
     }
 
-    module _ (start old : CardSide S) (h : List (Entry L)) (follows : Follows J card h) (ran : CardRan left taken faults start old h) where
-      pub card-may : (a : Action) → does_card a → next_action card h ≡ Some a → CardMay old a
+    module _ (start old : CardSide S) (h : List (Entry L)) (follows : Follows J card h) (had : Option Pass)
+        (ran : CardRan left taken faults start old had h) where
+      pub card-may : (a : Action) → does_card a → next_action card h ≡ Some a → CardMayMake old a
       card-may act.ReadCard does next = ran.deck.live (open-next J card h act.ReadCard next tt)
       card-may (act.PutFeed f) does next =
           (ran.gate.1, not-stopped jobs card Sender 1 h (act.PutFeed f) old.lines.calls (card-relay L) follows next tt ran.calls)
@@ -61,30 +59,32 @@ module _ {L : Type 0} {J : Jobs L} (jobs : AreJobs J) where
       -- a call of the line buffer
       called : (a : Action) (r : Reply L) (call : SlotCall Feed) → line_calls Sender 1 (Does a r ∷ h) ≡ line_calls Sender 1 h ++ call ∷ []
           → cards_read (Does a r ∷ h) ≡ cards_read h → newest_read (Does a r ∷ h) ≡ newest_read h
-          → CardRan left taken faults start (record old { lines = after_call old.lines call }) (Does a r ∷ h)
+          → CardRan left taken faults start (record old { lines = after_call old.lines call }) had (Does a r ∷ h)
       called a r call calls cards newest = record {
         gate = ran.gate;
         calls = ap (λ calls. calls ++ call ∷ []) ran.calls ∙ sym calls;
         deck = deck-still start.deck old.deck h a r cards newest ran.deck;
+        none = ran.none;
       }
 
-      module _ (new : CardSide S) where
+      module _ (new : CardSide S) (has : Option Pass) where
         abbrev Stood : List (Entry L) → Type 0
-        Stood = CardRan left taken faults start new
+        Stood = CardRan left taken faults start new has
 
-        as-new : (h : List (Entry L)) (after : CardSide S) → new ≡ after → CardRan left taken faults start after h → Stood h
-        as-new h after e stands = subst (λ new. CardRan left taken faults start new h) (sym e) stands
+        as-new : (h : List (Entry L)) (after : CardSide S) → (new ≡ after) × (has ≡ had) → CardRan left taken faults start after had h → Stood h
+        as-new h after e stands = both-as (λ new has. CardRan left taken faults start new has h) e.0 e.1 stands
 
-        pub card-did : (a : Action) (r : Reply L) → does_card a → next_action card h ≡ Some a → CardPerforms left taken faults old new a r
+        pub card-did : (a : Action) (r : Reply L) → does_card a → next_action card h ≡ Some a → CardMade left taken faults old had new has a r
             → Performed J Stood a r h
         card-did act.ReadCard (reply.Card answer) does next did =
-            let read = did.1 in
+            let read = did.2 in
             only-does J act.ReadCard (reply.Card answer) h read.items (λ may. may)
-            (as-new (Does act.ReadCard (reply.Card answer) ∷ h) (record old { deck = new.deck }) did.0 record {
+            (as-new (Does act.ReadCard (reply.Card answer) ∷ h) (record old { deck = new.deck }) (did.0, did.1) record {
               gate = ran.gate;
               calls = ran.calls;
               deck = deck-read jobs start.deck old.deck new.deck h answer ran.deck read.next read.all_taken read.counts read.failed read.limit
                   read.live read.total;
+              none = ran.none;
             })
         card-did (act.PutFeed f) reply.Done does next did =
             only-does J (act.PutFeed f) reply.Done h tt (λ may. may) (as-new _ _ did (called (act.PutFeed f) reply.Done (slot.Put f) refl refl refl))
@@ -100,19 +100,17 @@ module _ {L : Type 0} {J : Jobs L} (jobs : AreJobs J) where
               gate = ran.gate;
               calls = ran.calls;
               deck = deck-still start.deck old.deck h (act.Ended how) reply.Done refl refl ran.deck;
+              none = ran.none;
             })
         card-did a r does next did = absurd did
 
-  -- ---- with its machine beside it
-  module _ {S : Type 0} {left : S → Option (List ℕ)} {taken faults : S → ℕ} {W X : Type 0} {keeps : W → List (Parcel L) → List (Parcel L) → Bool → Type 0} {machine : Machine X W}
-      {start old : CardSide S} {a : Action} (going : Going jobs card keeps machine (CardRan left taken faults start old))
-      (next : (h : List (Entry L)) → StandsFor J card keeps machine h → NextIs (next_action card h) a) where
-    pub card-may_next : CardMay old a
-    card-may_next =
-        card-may left taken faults start old going.history (follows-now jobs refl going next) going.connected a (does-next jobs refl going next (card-does jobs))
-        (next-is jobs refl going next)
+  -- ---- behind a history of its side
+  module _ {S : Type 0} {left : S → Option (List ℕ)} {taken faults : S → ℕ} (start old : CardSide S) (had : Option Pass) (h : List (Entry L)) (a : Action)
+      (ran : CardRan left taken faults start old had h)
+      (follows : Follows J card h) (next : next_action card h ≡ Some a) where
+    pub card-may_next : CardMayMake old a
+    card-may_next = card-may left taken faults start old h follows had ran a (card-does jobs h a follows next) next
 
-    pub card-did_next : (new : CardSide S) (r : Reply L) → CardPerforms left taken faults old new a r → Performed J (CardRan left taken faults start new) a r going.history
-    card-did_next new r did =
-        card-did left taken faults start old going.history (follows-now jobs refl going next) going.connected new a r
-        (does-next jobs refl going next (card-does jobs)) (next-is jobs refl going next) did
+    pub card-did_next : (new : CardSide S) (has : Option Pass) (r : Reply L) → CardMade left taken faults old had new has a r → Performed J
+        (CardRan left taken faults start new has) a r h
+    card-did_next new has r did = card-did left taken faults start old h follows had ran new has a r (card-does jobs h a follows next) next did

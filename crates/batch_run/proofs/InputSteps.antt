@@ -13,7 +13,7 @@ use Rattle.batch_procs.specs.declared.actions.Action.{Action}
 use Rattle.batch_procs.specs.declared.actions.Action.TheVariants as act
 use Rattle.batch_procs.specs.declared.actions.Reply.{Reply}
 use Rattle.batch_procs.specs.declared.actions.Reply.TheVariants as reply
-use Rattle.batch_procs.specs.History.{Entry, Does, holds}
+use Rattle.batch_procs.specs.History.{Entry, Does, holds, newest}
 use Rattle.batch_procs.specs.Jobs.{Jobs, AreJobs}
 use Rattle.batch_procs.specs.Process.{Follows, next_action}
 use Rattle.batch_procs.specs.Relays.{input-relay}
@@ -22,24 +22,20 @@ use Rattle.batch_procs.proofs.Holding.{moves-holding, release-holds, request-hol
 use Rattle.batch_run.specs.declared.input_side.InputSide.{InputSide}
 use Rattle.batch_run.specs.Calls.{line_calls, spool_calls}
 use Rattle.batch_run.specs.Desks.{DeskRan, IsAt}
-use Rattle.batch_run.specs.Input.{InputAtGates, InputMay, InputPerforms, InputRan, does_input, input_stopped}
-use Rattle.batch_run.specs.Running.{EndsSo, Performed}
+use Rattle.batch_run.specs.Input.{InputEndsAtGates, InputMayMake, InputMade, InputRan, does_input, input_with_stop}
+use Rattle.batch_run.specs.Running.{Performed}
 use Rattle.batch_run.proofs.LineCalls as lines
-use Rattle.batch_procs.specs.Machine.{NextIs, StandsFor}
-use Rattle.batch_procs.specs.Parcels.{Parcel}
-use Rattle.batch_procs.specs.declared.machine.Machine.{Machine}
 use Rattle.batch_run.specs.DoesOnly.{input-does}
-use Rattle.batch_run.proofs.Going.{Going, does-next, follows-now, next-is}
 use Rattle.batch_run.proofs.Performing.{both-as, ended-without, only-does}
 use Rattle.batch_run.proofs.SpoolCalls as spools
 
 module _ {L : Type 0} {J : Jobs L} (jobs : AreJobs J) where
   module _ {A : Type 0} (size : A → ℕ) (start old : InputSide A) (had : Option Pass) (h : List (Entry L)) (follows : Follows J input h)
       (ran : InputRan size start old had h) where
-    gates : InputAtGates size old
+    gates : InputEndsAtGates size old
     gates = (ran.from_gate.1, ran.to_gate.1)
 
-    pub input-may : (a : Action) → does_input a → next_action input h ≡ Some a → InputMay size old had a
+    pub input-may : (a : Action) → does_input a → next_action input h ≡ Some a → InputMayMake size old had a
     input-may act.TakeFeed does next =
         (gates, lines.not-stopped jobs input Receiver 1 h act.TakeFeed old.cards.calls (input-relay L) follows next tt ran.from_calls)
     input-may act.AwaitRoom does next =
@@ -107,17 +103,17 @@ module _ {L : Type 0} {J : Jobs L} (jobs : AreJobs J) where
               desk = (number ∙ ran.desk.0, subst (λ held. IsAt old.disk.now seat has held) (sym holding) at);
             }
 
-      stop-did : (b : ℕ) → (b ≡ 1) ⊎ (b ≡ 2) → (new ≡ input_stopped b old) × (has ≡ had) → Performed J Stood (act.Stop b) reply.Done h
+      stop-did : (b : ℕ) → (b ≡ 1) ⊎ (b ≡ 2) → (new ≡ input_with_stop b old) × (has ≡ had) → Performed J Stood (act.Stop b) reply.Done h
       stop-did b (inl is) =
-          subst (λ b. (new ≡ input_stopped b old) × (has ≡ had) → Performed J Stood (act.Stop b) reply.Done h) (sym is)
+          subst (λ b. (new ≡ input_with_stop b old) × (has ≡ had) → Performed J Stood (act.Stop b) reply.Done h) (sym is)
           (λ did. only-does J (act.Stop 1) reply.Done h tt (λ may. may)
           (as-new _ _ did (from-called (act.Stop 1) reply.Done (slot.Stop Receiver) refl refl refl)))
       stop-did b (inr is) =
-          subst (λ b. (new ≡ input_stopped b old) × (has ≡ had) → Performed J Stood (act.Stop b) reply.Done h) (sym is)
+          subst (λ b. (new ≡ input_with_stop b old) × (has ≡ had) → Performed J Stood (act.Stop b) reply.Done h) (sym is)
           (λ did. only-does J (act.Stop 2) reply.Done h tt (λ may. may)
           (as-new _ _ did (to-called (act.Stop 2) reply.Done (spool.Stop Sender) refl refl refl)))
 
-      pub input-did : (a : Action) (r : Reply L) → does_input a → InputPerforms old had new has a r → Performed J Stood a r h
+      pub input-did : (a : Action) (r : Reply L) → does_input a → InputMade old had new has a r → Performed J Stood a r h
       input-did act.TakeFeed (reply.Feed f) does did =
           only-does J act.TakeFeed (reply.Feed f) h tt (λ may. may)
           (as-new _ _ did (from-called act.TakeFeed (reply.Feed f) (slot.Take f) refl refl refl))
@@ -153,24 +149,16 @@ module _ {L : Type 0} {J : Jobs L} (jobs : AreJobs J) where
           })
       input-did a r does did = absurd did
 
-  -- ---- with its machine beside it
-  module _ {A : Type 0} {size : A → ℕ} {W X : Type 0} {keeps : W → List (Parcel L) → List (Parcel L) → Bool → Type 0} {machine : Machine X W}
-      {start old : InputSide A} {had : Option Pass} {a : Action} (going : Going jobs input keeps machine (InputRan size start old had))
-      (next : (h : List (Entry L)) → StandsFor J input keeps machine h → NextIs (next_action input h) a) where
-    pub input-may_next : InputMay size old had a
-    input-may_next =
-        input-may size start old had going.history (follows-now jobs refl going next) going.connected a (does-next jobs refl going next (input-does jobs))
-        (next-is jobs refl going next)
+  -- ---- behind a history of its side
+  module _ {A : Type 0} {size : A → ℕ} (start old : InputSide A) (had : Option Pass) (h : List (Entry L)) (a : Action) (ran : InputRan size start old had h)
+      (follows : Follows J input h) (next : next_action input h ≡ Some a) where
+    pub input-may_next : InputMayMake size old had a
+    input-may_next = input-may size start old had h follows ran a (input-does jobs h a follows next) next
 
-    pub input-did_next : (new : InputSide A) (has : Option Pass) (r : Reply L) → InputPerforms old had new has a r → Performed J (InputRan size start new has) a r going.history
-    input-did_next new has r did =
-        input-did size start old had going.history (follows-now jobs refl going next) going.connected new has a r
-        (does-next jobs refl going next (input-does jobs)) did
+    pub input-did_next : (new : InputSide A) (has : Option Pass) (r : Reply L) → InputMade old had new has a r → Performed J (InputRan size start new has) a r h
+    input-did_next new has r did = input-did size start old had h follows ran new has a r (input-does jobs h a follows next) did
 
-  -- ---- once it has ended it hasn't got the disk
-  module _ {A : Type 0} {size : A → ℕ} {start now : InputSide A} {pass : Option Pass} {how : Outcome} (ends : EndsSo J input (InputRan size start now pass) how) where
-    pub input-without : pass ≡ None
-    input-without = ended-without J input ends.history how now.disk.now now.seat pass (input-relay L) ends.follows ends.ended ends.stands.desk.1
-
-    pub input-ended : EndsSo J input (InputRan size start now None) how
-    input-ended = subst (λ pass. EndsSo J input (InputRan size start now pass) how) input-without ends
+  pub input-without : {A : Type 0} {size : A → ℕ} {start now : InputSide A} (pass : Option Pass) (h : List (Entry L)) (how : Outcome)
+      → InputRan size start now pass h → Follows J input h
+      → newest h ≡ Some (act.Ended how) → pass ≡ None
+  input-without {now = now} pass h how ran follows last = ended-without J input h how now.disk.now now.seat pass (input-relay L) follows last ran.desk.1

@@ -13,7 +13,7 @@ use Rattle.batch_procs.specs.declared.actions.Reply.{Reply}
 use Rattle.batch_procs.specs.declared.actions.Reply.TheVariants as reply
 use Rattle.batch_procs.specs.Causes.{caused}
 use Rattle.batch_procs.specs.Fits.{MayLack}
-use Rattle.batch_procs.specs.History.{Entry, Does, LacksMemory, holds}
+use Rattle.batch_procs.specs.History.{Entry, Does, LacksMemory, holds, newest}
 use Rattle.batch_procs.specs.Jobs.{FilesAs, Jobs, AreJobs}
 use Rattle.batch_procs.specs.Process.{Follows, next_action}
 use Rattle.batch_procs.specs.Relays.{job-relay}
@@ -25,14 +25,10 @@ use Rattle.batch_run.specs.declared.job_side.JobSide.{JobSide}
 use Rattle.batch_run.specs.Calls.{spool_calls}
 use Rattle.batch_run.specs.Desks.{DeskRan, IsAt}
 use Rattle.batch_run.specs.Files.{AreLoadedAs, FileTells, FilesRan, newest_load}
-use Rattle.batch_run.specs.Job.{JobAtGates, JobMay, JobPerforms, JobRan, does_job, job_stopped}
-use Rattle.batch_run.specs.Running.{EndsSo, Performed}
+use Rattle.batch_run.specs.Job.{JobEndsAtGates, JobMayMake, JobMade, JobRan, does_job, job_with_stop}
+use Rattle.batch_run.specs.Running.{Performed}
 use Rattle.batch_run.proofs.FileLoads.{file-loaded, load-fits}
-use Rattle.batch_procs.specs.Machine.{NextIs, StandsFor}
-use Rattle.batch_procs.specs.Parcels.{Parcel}
-use Rattle.batch_procs.specs.declared.machine.Machine.{Machine}
 use Rattle.batch_run.specs.DoesOnly.{job-does}
-use Rattle.batch_run.proofs.Going.{Going, does-next, follows-now, next-is}
 use Rattle.batch_run.proofs.Performing.{both-as, ended-without, only-does}
 use Rattle.batch_run.proofs.SpoolCalls.{may-put, may-take, not-stopped}
 
@@ -55,10 +51,10 @@ module _ {L : Type 0} {J : Jobs L} (jobs : AreJobs J) where
 
   module _ {F A B : Type 0} (loader : FileTells L F) (from_size : A → ℕ) (to_size : B → ℕ) (start old : JobSide F A B) (had : Option Pass)
       (h : List (Entry L)) (follows : Follows J (job J) h) (ran : JobRan loader from_size to_size start old had h) where
-    gates : JobAtGates from_size to_size old
+    gates : JobEndsAtGates from_size to_size old
     gates = (ran.from_gate.1, ran.to_gate.1)
 
-    pub job-may : (a : Action) → does_job a → next_action (job J) h ≡ Some a → JobMay loader.IsSound from_size to_size old had a
+    pub job-may : (a : Action) → does_job a → next_action (job J) h ≡ Some a → JobMayMake loader.IsSound from_size to_size old had a
     job-may act.AwaitItem does next =
         (gates, not-stopped jobs (job J) Receiver 2 h act.AwaitItem old.cards.calls (job-relay jobs) follows next tt ran.from_calls)
     job-may act.AwaitRoom does next =
@@ -163,14 +159,14 @@ module _ {L : Type 0} {J : Jobs L} (jobs : AreJobs J) where
       none-before : (a : Action) (r : Reply L) → caused (Does a r ∷ h) ≡ None → caused h ≡ None
       none-before a r none = or-none (caused h) _ none
 
-      stop-did : (b : ℕ) → (b ≡ 2) ⊎ (b ≡ 3) → (new ≡ job_stopped b old) × (has ≡ had) → Performed J Stood (act.Stop b) reply.Done h
+      stop-did : (b : ℕ) → (b ≡ 2) ⊎ (b ≡ 3) → (new ≡ job_with_stop b old) × (has ≡ had) → Performed J Stood (act.Stop b) reply.Done h
       stop-did b (inl is) =
-          subst (λ b. (new ≡ job_stopped b old) × (has ≡ had) → Performed J Stood (act.Stop b) reply.Done h) (sym is)
+          subst (λ b. (new ≡ job_with_stop b old) × (has ≡ had) → Performed J Stood (act.Stop b) reply.Done h) (sym is)
           (λ did. only-does J (act.Stop 2) reply.Done h tt (λ may. may)
           (as-new _ _ did (from-called (Does (act.Stop 2) reply.Done) (spool.Stop Receiver)
           (record { loads = λ found are. are; newest = refl; causes = none-before (act.Stop 2) reply.Done }) refl refl refl)))
       stop-did b (inr is) =
-          subst (λ b. (new ≡ job_stopped b old) × (has ≡ had) → Performed J Stood (act.Stop b) reply.Done h) (sym is)
+          subst (λ b. (new ≡ job_with_stop b old) × (has ≡ had) → Performed J Stood (act.Stop b) reply.Done h) (sym is)
           (λ did. only-does J (act.Stop 3) reply.Done h tt (λ may. may)
           (as-new _ _ did (to-called (Does (act.Stop 3) reply.Done) (spool.Stop Sender)
           (record { loads = λ found are. are; newest = refl; causes = none-before (act.Stop 3) reply.Done }) refl refl refl)))
@@ -195,7 +191,7 @@ module _ {L : Type 0} {J : Jobs L} (jobs : AreJobs J) where
             (record { loads = λ found are. are; newest = refl; causes = λ none. or-none (caused h) _ none }) refl refl refl);
       }
 
-      pub job-did : (a : Action) (r : Reply L) → does_job a → JobPerforms J loader old had new has a r → Performed J Stood a r h
+      pub job-did : (a : Action) (r : Reply L) → does_job a → JobMade J loader old had new has a r → Performed J Stood a r h
       job-did act.AwaitItem reply.Done does did =
           only-does J act.AwaitItem reply.Done h tt (λ may. may)
           (as-new _ _ did (from-called (Does act.AwaitItem reply.Done) (spool.Await Receiver)
@@ -253,24 +249,18 @@ module _ {L : Type 0} {J : Jobs L} (jobs : AreJobs J) where
           (record { loads = λ found are. are; newest = refl; causes = none-before (act.Ended how) reply.Done }) refl refl refl))
       job-did a r does did = absurd did
 
-  -- ---- with its machine beside it
-  module _ {F A B : Type 0} {loader : FileTells L F} {from_size : A → ℕ} {to_size : B → ℕ} {W X : Type 0} {keeps : W → List (Parcel L) → List (Parcel L) → Bool → Type 0} {machine : Machine X W}
-      {start old : JobSide F A B} {had : Option Pass} {a : Action} (going : Going jobs (job J) keeps machine (JobRan loader from_size to_size start old had))
-      (next : (h : List (Entry L)) → StandsFor J (job J) keeps machine h → NextIs (next_action (job J) h) a) where
-    pub job-may_next : JobMay loader.IsSound from_size to_size old had a
-    job-may_next =
-        job-may loader from_size to_size start old had going.history (follows-now jobs refl going next) going.connected a (does-next jobs refl going next (job-does jobs))
-        (next-is jobs refl going next)
+  -- ---- behind a history of its side
+  module _ {F A B : Type 0} {loader : FileTells L F} {from_size : A → ℕ} {to_size : B → ℕ} (start old : JobSide F A B) (had : Option Pass) (h : List (Entry L))
+      (a : Action) (ran : JobRan loader from_size to_size start old had h)
+      (follows : Follows J (job J) h) (next : next_action (job J) h ≡ Some a) where
+    pub job-may_next : JobMayMake loader.IsSound from_size to_size old had a
+    job-may_next = job-may loader from_size to_size start old had h follows ran a (job-does jobs h a follows next) next
 
-    pub job-did_next : (new : JobSide F A B) (has : Option Pass) (r : Reply L) → JobPerforms J loader old had new has a r → Performed J (JobRan loader from_size to_size start new has) a r going.history
-    job-did_next new has r did =
-        job-did loader from_size to_size start old had going.history (follows-now jobs refl going next) going.connected new has a r
-        (does-next jobs refl going next (job-does jobs)) did
+    pub job-did_next : (new : JobSide F A B) (has : Option Pass) (r : Reply L) → JobMade J loader old had new has a r → Performed J
+        (JobRan loader from_size to_size start new has) a r h
+    job-did_next new has r did = job-did loader from_size to_size start old had h follows ran new has a r (job-does jobs h a follows next) did
 
-  -- ---- once it has ended it hasn't got the disk
-  module _ {F A B : Type 0} {loader : FileTells L F} {from_size : A → ℕ} {to_size : B → ℕ} {start now : JobSide F A B} {pass : Option Pass} {how : Outcome} (ends : EndsSo J (job J) (JobRan loader from_size to_size start now pass) how) where
-    pub job-without : pass ≡ None
-    job-without = ended-without J (job J) ends.history how now.disk.now now.seat pass (job-relay jobs) ends.follows ends.ended ends.stands.desk.1
-
-    pub job-ended : EndsSo J (job J) (JobRan loader from_size to_size start now None) how
-    job-ended = subst (λ pass. EndsSo J (job J) (JobRan loader from_size to_size start now pass) how) job-without ends
+  pub job-without : {F A B : Type 0} {loader : FileTells L F} {from_size : A → ℕ} {to_size : B → ℕ} {start now : JobSide F A B} (pass : Option Pass) (h : List
+      (Entry L)) (how : Outcome) → JobRan loader from_size to_size start now pass h → Follows J (job J) h
+      → newest h ≡ Some (act.Ended how) → pass ≡ None
+  job-without {now = now} pass h how ran follows last = ended-without J (job J) h how now.disk.now now.seat pass (job-relay jobs) follows last ran.desk.1

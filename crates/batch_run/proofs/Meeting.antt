@@ -43,10 +43,10 @@ seat-stays disk number parted is = record {
 abbrev known-by : {X : Type 0} → (X → ℕ) → Opened X → Known X
 known-by size gate = known (size gate.area) gate
 
-same-units : {S K F A B : Type 0} (deck d : Held S) (paper p : Printing K) (files f : F) (input i : A) (output o : B) → deck ≡ d → paper ≡ p → files ≡ f
-    → input ≡ i → output ≡ o
-    → record { deck = deck; paper = paper; files = files; input = input; output = output } ≡ (record { deck = d; paper = p; files = f; input = i; output = o } : Units S K F A B)
-same-units deck d paper p files f input i output o a b c e g = rw (a, b, c, e, g) refl
+same-units : {S K F A B : Type 0} (units : Units S K F A B) (deck : Held S) (paper : Printing K) (files : F) (input : A) (output : B) → deck ≡ units.deck
+    → paper ≡ units.paper → files ≡ units.files → input ≡ units.input → output ≡ units.output
+    → record { deck = deck; paper = paper; files = files; input = input; output = output } ≡ units
+same-units units deck paper files input output a b c e g = rw (a, b, c, e, g) refl
 
 none-moved : (calls others : List (SpoolCall (List ℕ))) → calls ≡ [] → others ≡ [] → (side : Side) → has_move (by_side calls others side) ≡ false
 none-moved calls others none no_others Sender = ap has_move none
@@ -125,14 +125,15 @@ module _ {S K F A B : Type 0} (from_size : A → ℕ) (to_size : B → ℕ) {gat
         → record { deck = parted.deck; paper = parted.paper; files = parted.files; input = met.input; output = met.output }
         ≡ units_at gates deck paper files
     units-back {met = met} meets =
-        same-units parted.deck deck parted.paper paper parted.files files met.input gates.input.area met.output gates.output.area
+        same-units (units_at gates deck paper files) parted.deck parted.paper parted.files met.input met.output
         (is.deck ∙ ap (λ s. s.deck) stays.cards ∙ begins.deck_is) (is.paper ∙ ap (λ s. s.paper) stays.paper ∙ begins.paper_is)
         (is.files ∙ ap (λ s. s.files) stays.jobs ∙ begins.files_are)
         (meets.input.of_area.untouched (none-moved _ _ (ap (λ e. e.calls) input-sends) (ap (λ e. e.calls) input-takes)))
         (meets.output.of_area.untouched (none-moved _ _ (ap (λ e. e.calls) output-sends) (ap (λ e. e.calls) output-takes)))
 
   pub ends-of : {L : Type 0} {J : Jobs L} {left : S → Option (List ℕ)} {taken source_faults : S → ℕ} {given : K → Option (List ℕ)}
-      {sink_faults : K → ℕ} {loader : FileTells L F} → (whole : Bool) → RowCame J left taken source_faults given sink_faults loader from_size to_size whole row ended
+      {sink_faults : K → ℕ} {loader : FileTells L F} → (whole : Bool)
+      → RowCame J left taken source_faults given sink_faults loader from_size to_size whole row ended
       → AreEndsOf (from_size gates.input.area) (to_size gates.output.area) gates parted.ends
   ends-of true came = ends-ran (came.ran refl)
   ends-of false came = ends-stay (came.stays refl)

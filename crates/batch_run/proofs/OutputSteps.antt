@@ -14,7 +14,7 @@ use Rattle.batch_procs.specs.declared.actions.Action.{Action}
 use Rattle.batch_procs.specs.declared.actions.Action.TheVariants as act
 use Rattle.batch_procs.specs.declared.actions.Reply.{Reply}
 use Rattle.batch_procs.specs.declared.actions.Reply.TheVariants as reply
-use Rattle.batch_procs.specs.History.{Entry, Does, LacksMemory, holds}
+use Rattle.batch_procs.specs.History.{Entry, Does, LacksMemory, holds, newest}
 use Rattle.batch_procs.specs.Jobs.{Jobs, AreJobs}
 use Rattle.batch_procs.specs.Process.{Follows, next_action}
 use Rattle.batch_procs.specs.Relays.{output-relay}
@@ -23,24 +23,20 @@ use Rattle.batch_procs.proofs.Holding.{moves-holding, release-holds, request-hol
 use Rattle.batch_run.specs.declared.output_side.OutputSide.{OutputSide}
 use Rattle.batch_run.specs.Calls.{line_calls, spool_calls}
 use Rattle.batch_run.specs.Desks.{DeskRan, IsAt}
-use Rattle.batch_run.specs.Output.{OutputAtGates, OutputMay, OutputPerforms, OutputRan, does_output, output_stopped}
-use Rattle.batch_run.specs.Running.{EndsSo, Performed}
+use Rattle.batch_run.specs.Output.{OutputEndsAtGates, OutputMayMake, OutputMade, OutputRan, does_output, output_with_stop}
+use Rattle.batch_run.specs.Running.{Performed}
 use Rattle.batch_run.proofs.LineCalls as lines
-use Rattle.batch_procs.specs.Machine.{NextIs, StandsFor}
-use Rattle.batch_procs.specs.Parcels.{Parcel}
-use Rattle.batch_procs.specs.declared.machine.Machine.{Machine}
 use Rattle.batch_run.specs.DoesOnly.{output-does}
-use Rattle.batch_run.proofs.Going.{Going, does-next, follows-now, next-is}
 use Rattle.batch_run.proofs.Performing.{both-as, ended-without, only-does}
 use Rattle.batch_run.proofs.SpoolCalls as spools
 
 module _ {L : Type 0} {J : Jobs L} (jobs : AreJobs J) where
   module _ {B : Type 0} (size : B → ℕ) (start old : OutputSide B) (had : Option Pass) (h : List (Entry L)) (follows : Follows J output h)
       (ran : OutputRan size start old had h) where
-    gates : OutputAtGates size old
+    gates : OutputEndsAtGates size old
     gates = (ran.from_gate.1, ran.to_gate.1)
 
-    pub output-may : (a : Action) → does_output a → next_action output h ≡ Some a → OutputMay size old had a
+    pub output-may : (a : Action) → does_output a → next_action output h ≡ Some a → OutputMayMake size old had a
     output-may act.AwaitItem does next =
         (gates, spools.not-stopped jobs output Receiver 3 h act.AwaitItem old.pages.calls (output-relay L) follows next tt ran.from_calls)
     output-may act.Request does next =
@@ -108,13 +104,13 @@ module _ {L : Type 0} {J : Jobs L} (jobs : AreJobs J) where
               desk = (number ∙ ran.desk.0, subst (λ held. IsAt old.disk.now seat has held) (sym holding) at);
             }
 
-      stop-did : (b : ℕ) → (b ≡ 3) ⊎ (b ≡ 4) → (new ≡ output_stopped b old) × (has ≡ had) → Performed J Stood (act.Stop b) reply.Done h
+      stop-did : (b : ℕ) → (b ≡ 3) ⊎ (b ≡ 4) → (new ≡ output_with_stop b old) × (has ≡ had) → Performed J Stood (act.Stop b) reply.Done h
       stop-did b (inl is) =
-          subst (λ b. (new ≡ output_stopped b old) × (has ≡ had) → Performed J Stood (act.Stop b) reply.Done h) (sym is)
+          subst (λ b. (new ≡ output_with_stop b old) × (has ≡ had) → Performed J Stood (act.Stop b) reply.Done h) (sym is)
           (λ did. only-does J (act.Stop 3) reply.Done h tt (λ may. may)
           (as-new _ _ did (from-called (act.Stop 3) reply.Done (spool.Stop Receiver) refl refl refl)))
       stop-did b (inr is) =
-          subst (λ b. (new ≡ output_stopped b old) × (has ≡ had) → Performed J Stood (act.Stop b) reply.Done h) (sym is)
+          subst (λ b. (new ≡ output_with_stop b old) × (has ≡ had) → Performed J Stood (act.Stop b) reply.Done h) (sym is)
           (λ did. only-does J (act.Stop 4) reply.Done h tt (λ may. may)
           (as-new _ _ did (to-called (act.Stop 4) reply.Done (slot.Stop Sender) refl refl refl)))
 
@@ -126,7 +122,10 @@ module _ {L : Type 0} {J : Jobs L} (jobs : AreJobs J) where
           record {
             fits = tt;
             done = as-new _ _ did took;
-            lacks = λ may. as-new (LacksMemory act.TakePage (reply.Page page last) ∷ h) (record old { pages = after_call old.pages (spool.Take page.0 last) }) did
+            lacks = λ may. as-new (LacksMemory act.TakePage (reply.Page page last) ∷ h) (record old {
+              pages = after_call old.pages
+                  (spool.Take page.0 last);
+            }) did
                 record {
                   from_gate = ran.from_gate;
                   from_calls = took.from_calls;
@@ -137,7 +136,7 @@ module _ {L : Type 0} {J : Jobs L} (jobs : AreJobs J) where
                 };
           }
 
-      pub output-did : (a : Action) (r : Reply L) → does_output a → OutputPerforms old had new has a r → Performed J Stood a r h
+      pub output-did : (a : Action) (r : Reply L) → does_output a → OutputMade old had new has a r → Performed J Stood a r h
       output-did act.AwaitItem reply.Done does did =
           only-does J act.AwaitItem reply.Done h tt (λ may. may)
           (as-new _ _ did (from-called act.AwaitItem reply.Done (spool.Await Receiver) refl refl refl))
@@ -171,24 +170,17 @@ module _ {L : Type 0} {J : Jobs L} (jobs : AreJobs J) where
           })
       output-did a r does did = absurd did
 
-  -- ---- with its machine beside it
-  module _ {B : Type 0} {size : B → ℕ} {W X : Type 0} {keeps : W → List (Parcel L) → List (Parcel L) → Bool → Type 0} {machine : Machine X W}
-      {start old : OutputSide B} {had : Option Pass} {a : Action} (going : Going jobs output keeps machine (OutputRan size start old had))
-      (next : (h : List (Entry L)) → StandsFor J output keeps machine h → NextIs (next_action output h) a) where
-    pub output-may_next : OutputMay size old had a
-    output-may_next =
-        output-may size start old had going.history (follows-now jobs refl going next) going.connected a (does-next jobs refl going next (output-does jobs))
-        (next-is jobs refl going next)
+  -- ---- behind a history of its side
+  module _ {B : Type 0} {size : B → ℕ} (start old : OutputSide B) (had : Option Pass) (h : List (Entry L)) (a : Action) (ran : OutputRan size start old had h)
+      (follows : Follows J output h) (next : next_action output h ≡ Some a) where
+    pub output-may_next : OutputMayMake size old had a
+    output-may_next = output-may size start old had h follows ran a (output-does jobs h a follows next) next
 
-    pub output-did_next : (new : OutputSide B) (has : Option Pass) (r : Reply L) → OutputPerforms old had new has a r → Performed J (OutputRan size start new has) a r going.history
-    output-did_next new has r did =
-        output-did size start old had going.history (follows-now jobs refl going next) going.connected new has a r
-        (does-next jobs refl going next (output-does jobs)) did
+    pub output-did_next : (new : OutputSide B) (has : Option Pass) (r : Reply L) → OutputMade old had new has a r → Performed J
+        (OutputRan size start new has) a r h
+    output-did_next new has r did = output-did size start old had h follows ran new has a r (output-does jobs h a follows next) did
 
-  -- ---- once it has ended it hasn't got the disk
-  module _ {B : Type 0} {size : B → ℕ} {start now : OutputSide B} {pass : Option Pass} {how : Outcome} (ends : EndsSo J output (OutputRan size start now pass) how) where
-    pub output-without : pass ≡ None
-    output-without = ended-without J output ends.history how now.disk.now now.seat pass (output-relay L) ends.follows ends.ended ends.stands.desk.1
-
-    pub output-ended : EndsSo J output (OutputRan size start now None) how
-    output-ended = subst (λ pass. EndsSo J output (OutputRan size start now pass) how) output-without ends
+  pub output-without : {B : Type 0} {size : B → ℕ} {start now : OutputSide B} (pass : Option Pass) (h : List (Entry L)) (how : Outcome)
+      → OutputRan size start now pass h → Follows J output h
+      → newest h ≡ Some (act.Ended how) → pass ≡ None
+  output-without {now = now} pass h how ran follows last = ended-without J output h how now.disk.now now.seat pass (output-relay L) follows last ran.desk.1

@@ -12,7 +12,7 @@ use Rattle.batch_procs.specs.Laws.{IsRelay}
 use Rattle.batch_procs.specs.Process.{Process, Follows}
 use Rattle.batch_procs.proofs.Holding.{ended-holds_not}
 use Rattle.batch_run.specs.Desks.{IsAt, pass_of}
-use Rattle.batch_run.specs.Running.{Performed}
+use Rattle.batch_run.specs.Running.{EndsSo, Performed}
 
 pub both-as : {A B : Type 0} (P : A → B → Type 0) {x y : A} {u v : B} → x ≡ y → u ≡ v → P y v → P x u
 both-as P {x} {y} {u} {v} e f is = subst (λ x. P x u) (sym e) (subst (λ u. P y u) (sym f) is)
@@ -28,3 +28,8 @@ module _ {L : Type 0} (J : Jobs L) where
       → newest h ≡ Some (act.Ended how) → IsAt disk seat pass (holds h) → pass ≡ None
   ended-without p h how disk seat pass relay follows last at =
       at.pass_is ∙ ap (λ has. pass_of has seat) (ended-holds_not J p h how relay follows last)
+
+  pub ended-so : {C : Type 0} (p : Process L) (Ran : C → Option Pass → List (Entry L) → Type 0) {now side : C} {pass : Option Pass} {how : Outcome}
+      → EndsSo J p (Ran side pass) how → pass ≡ None → now ≡ side → EndsSo J p (Ran now None) how
+  ended-so p Ran {now} {side} {pass} {how} ends none same =
+      subst (λ now. EndsSo J p (Ran now None) how) (sym same) (subst (λ pass. EndsSo J p (Ran side pass) how) none ends)

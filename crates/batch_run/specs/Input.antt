@@ -28,53 +28,55 @@ does_input (act.Ended how) = Unit {0}
 does_input other = ⊥
 
 -- each end is one of its gate
-abbrev pub InputAtGates : {A : Type 0} → (A → ℕ) → InputSide A → Type 0
-InputAtGates size c =
+abbrev pub InputEndsAtGates : {A : Type 0} → (A → ℕ) → InputSide A → Type 0
+InputEndsAtGates size c =
     (c.cards.gate ≡ c.cards_gate.now) × (c.pages.gate ≡ known (size c.pages_gate.now.area) c.pages_gate.now)
 
 -- an action that it may perform
-abbrev pub InputMay : {A : Type 0} → (A → ℕ) → InputSide A → Option Pass → Action → Type 0
-InputMay size c pass act.TakeFeed = InputAtGates size c × (lines.has_stop c.cards.calls ≡ false)
-InputMay size c pass act.AwaitRoom = InputAtGates size c × (spools.has_stop c.pages.calls ≡ false)
-InputMay size c pass act.Request = IsAt c.disk.now c.seat pass false
-InputMay size c pass (act.PutPage page) = InputAtGates size c × (spools.has_stop c.pages.calls ≡ false)
+abbrev pub InputMayMake : {A : Type 0} → (A → ℕ) → InputSide A → Option Pass → Action → Type 0
+InputMayMake size c pass act.TakeFeed = InputEndsAtGates size c × (lines.has_stop c.cards.calls ≡ false)
+InputMayMake size c pass act.AwaitRoom = InputEndsAtGates size c × (spools.has_stop c.pages.calls ≡ false)
+InputMayMake size c pass act.Request = IsAt c.disk.now c.seat pass false
+InputMayMake size c pass (act.PutPage page) = InputEndsAtGates size c
+    × (spools.has_stop c.pages.calls ≡ false)
     × (spools.is_ready c.pages.calls ≡ true) × IsAt c.disk.now c.seat pass true
-InputMay size c pass act.Release = IsAt c.disk.now c.seat pass true
-InputMay size c pass (act.Stop b) = InputAtGates size c × ((b ≡ 1) ⊎ (b ≡ 2))
-InputMay size c pass (act.Ended how) = Unit {0}
-InputMay size c pass other = ⊥
+InputMayMake size c pass act.Release = IsAt c.disk.now c.seat pass true
+InputMayMake size c pass (act.Stop b) = InputEndsAtGates size c × ((b ≡ 1) ⊎ (b ≡ 2))
+InputMayMake size c pass (act.Ended how) = Unit {0}
+InputMayMake size c pass other = ⊥
 
-abbrev pub input_stopped : {A : Type 0} → ℕ → InputSide A → InputSide A
-input_stopped b c =
+abbrev pub input_with_stop : {A : Type 0} → ℕ → InputSide A → InputSide A
+input_with_stop b c =
     if b == 1 then record c { cards = after_call c.cards (slot.Stop Receiver) }
     else record c { pages = after_call c.pages (spool.Stop Sender) }
 
 -- and what it made of its side and its pass, by what was answered
-abbrev pub InputPerforms : {L A : Type 0} → InputSide A → Option Pass → InputSide A → Option Pass → Action
+abbrev pub InputMade : {L A : Type 0} → InputSide A → Option Pass → InputSide A → Option Pass → Action
     → Reply L → Type 0
-InputPerforms old had new has act.TakeFeed (reply.Feed feed) =
+InputMade old had new has act.TakeFeed (reply.Feed feed) =
     (new ≡ record old { cards = after_call old.cards (slot.Take feed) }) × (has ≡ had)
-InputPerforms old had new has act.TakeFeed reply.Stopped =
+InputMade old had new has act.TakeFeed reply.Stopped =
     (new ≡ record old { cards = after_call old.cards slot.TakeRefused }) × (has ≡ had)
-InputPerforms old had new has act.AwaitRoom reply.Done =
+InputMade old had new has act.AwaitRoom reply.Done =
     (new ≡ record old { pages = after_call old.pages (spool.Await Sender) }) × (has ≡ had)
-InputPerforms old had new has act.AwaitRoom reply.Stopped =
+InputMade old had new has act.AwaitRoom reply.Stopped =
     (new ≡ record old { pages = after_call old.pages (spool.AwaitRefused Sender) }) × (has ≡ had)
-InputPerforms old had new has act.Request reply.Done =
+InputMade old had new has act.Request reply.Done =
     (new ≡ record old { seat = new.seat }) × (new.seat.number ≡ old.seat.number)
     × IsAt old.disk.now new.seat has true
-InputPerforms old had new has (act.PutPage page) reply.Done =
+InputMade old had new has (act.PutPage page) reply.Done =
     (new ≡ record old { pages = after_call old.pages (spool.Put page.0) }) × (has ≡ had)
-InputPerforms old had new has (act.PutPage page) reply.Failed =
+InputMade old had new has (act.PutPage page) reply.Failed =
     (new ≡ record old { pages = after_call old.pages (spool.PutFailed page.0) }) × (has ≡ had)
-InputPerforms old had new has act.Release reply.Done =
+InputMade old had new has act.Release reply.Done =
     (new ≡ record old { seat = new.seat }) × (new.seat.number ≡ old.seat.number)
     × IsAt old.disk.now new.seat has false
-InputPerforms old had new has (act.Stop b) reply.Done = (new ≡ input_stopped b old) × (has ≡ had)
-InputPerforms old had new has (act.Ended how) reply.Done = (new ≡ old) × (has ≡ had)
-InputPerforms old had new has action r = ⊥
+InputMade old had new has (act.Stop b) reply.Done = (new ≡ input_with_stop b old) × (has ≡ had)
+InputMade old had new has (act.Ended how) reply.Done = (new ≡ old) × (has ≡ had)
+InputMade old had new has action r = ⊥
 
--- From its first action on: each buffer has had the calls of the history at its side, and it has the disk or not.
+-- From its first action on: each buffer has had the calls of the history at its side, and it has the disk or
+-- not.
 pub record InputRan {L A : Type 0} (size : A → ℕ) (start now : InputSide A) (pass : Option Pass)
     (h : List (Entry L)) : Type 0 where
   pub from_gate : (start.cards_gate.now ≡ now.cards_gate.now) × (now.cards.gate ≡ now.cards_gate.now)

@@ -33,35 +33,36 @@ does_job (act.Ended how) = Unit {0}
 does_job other = ⊥
 
 -- each end is one of its gate
-abbrev pub JobAtGates : {F A B : Type 0} → (A → ℕ) → (B → ℕ) → JobSide F A B → Type 0
-JobAtGates from_size to_size c =
+abbrev pub JobEndsAtGates : {F A B : Type 0} → (A → ℕ) → (B → ℕ) → JobSide F A B → Type 0
+JobEndsAtGates from_size to_size c =
     (c.cards.gate ≡ known (from_size c.cards_gate.now.area) c.cards_gate.now)
     × (c.pages.gate ≡ known (to_size c.pages_gate.now.area) c.pages_gate.now)
 
 -- an action that it may perform
-abbrev pub JobMay : {F A B : Type 0} → (F → Type 0) → (A → ℕ) → (B → ℕ) → JobSide F A B → Option Pass → Action
+abbrev pub JobMayMake : {F A B : Type 0} → (F → Type 0) → (A → ℕ) → (B → ℕ) → JobSide F A B → Option Pass
+    → Action
     → Type 0
-JobMay sound from_size to_size c pass act.AwaitItem =
-    JobAtGates from_size to_size c × (has_stop c.cards.calls ≡ false)
-JobMay sound from_size to_size c pass act.AwaitRoom =
-    JobAtGates from_size to_size c × (has_stop c.pages.calls ≡ false)
-JobMay sound from_size to_size c pass act.Request = IsAt c.disk.now c.seat pass false
-JobMay sound from_size to_size c pass act.TakePage =
-    JobAtGates from_size to_size c × (has_stop c.cards.calls ≡ false) × (is_ready c.cards.calls ≡ true)
+JobMayMake sound from_size to_size c pass act.AwaitItem =
+    JobEndsAtGates from_size to_size c × (has_stop c.cards.calls ≡ false)
+JobMayMake sound from_size to_size c pass act.AwaitRoom =
+    JobEndsAtGates from_size to_size c × (has_stop c.pages.calls ≡ false)
+JobMayMake sound from_size to_size c pass act.Request = IsAt c.disk.now c.seat pass false
+JobMayMake sound from_size to_size c pass act.TakePage =
+    JobEndsAtGates from_size to_size c × (has_stop c.cards.calls ≡ false) × (is_ready c.cards.calls ≡ true)
     × IsAt c.disk.now c.seat pass true
-JobMay sound from_size to_size c pass (act.PutPage page) =
-    JobAtGates from_size to_size c × (has_stop c.pages.calls ≡ false) × (is_ready c.pages.calls ≡ true)
+JobMayMake sound from_size to_size c pass (act.PutPage page) =
+    JobEndsAtGates from_size to_size c × (has_stop c.pages.calls ≡ false) × (is_ready c.pages.calls ≡ true)
     × IsAt c.disk.now c.seat pass true
-JobMay sound from_size to_size c pass (act.Load file) = sound c.files
-JobMay sound from_size to_size c pass act.Release = IsAt c.disk.now c.seat pass true
-JobMay sound from_size to_size c pass act.Local = Unit {0}
-JobMay sound from_size to_size c pass (act.Stop b) =
-    JobAtGates from_size to_size c × ((b ≡ 2) ⊎ (b ≡ 3))
-JobMay sound from_size to_size c pass (act.Ended how) = Unit {0}
-JobMay sound from_size to_size c pass other = ⊥
+JobMayMake sound from_size to_size c pass (act.Load file) = sound c.files
+JobMayMake sound from_size to_size c pass act.Release = IsAt c.disk.now c.seat pass true
+JobMayMake sound from_size to_size c pass act.Local = Unit {0}
+JobMayMake sound from_size to_size c pass (act.Stop b) =
+    JobEndsAtGates from_size to_size c × ((b ≡ 2) ⊎ (b ≡ 3))
+JobMayMake sound from_size to_size c pass (act.Ended how) = Unit {0}
+JobMayMake sound from_size to_size c pass other = ⊥
 
-abbrev pub job_stopped : {F A B : Type 0} → ℕ → JobSide F A B → JobSide F A B
-job_stopped b c =
+abbrev pub job_with_stop : {F A B : Type 0} → ℕ → JobSide F A B → JobSide F A B
+job_with_stop b c =
     if b == 2 then record c { cards = after_call c.cards (spool.Stop Receiver) }
     else record c { pages = after_call c.pages (spool.Stop Sender) }
 
@@ -76,38 +77,39 @@ pub record LoadsOne {L F : Type 0} (J : Jobs L) (loader : FileTells L F) (old ne
   pub sound : r ≢ reply.Failed → loader.IsSound new
 
 -- and what it made of its side and its pass, by what was answered
-abbrev pub JobPerforms : {L F A B : Type 0} → Jobs L → FileTells L F → JobSide F A B → Option Pass
+abbrev pub JobMade : {L F A B : Type 0} → Jobs L → FileTells L F → JobSide F A B → Option Pass
     → JobSide F A B → Option Pass → Action → Reply L → Type 0
-JobPerforms J loader old had new has act.AwaitItem reply.Done =
+JobMade J loader old had new has act.AwaitItem reply.Done =
     (new ≡ record old { cards = after_call old.cards (spool.Await Receiver) }) × (has ≡ had)
-JobPerforms J loader old had new has act.AwaitItem reply.Stopped =
+JobMade J loader old had new has act.AwaitItem reply.Stopped =
     (new ≡ record old { cards = after_call old.cards (spool.AwaitRefused Receiver) }) × (has ≡ had)
-JobPerforms J loader old had new has act.AwaitRoom reply.Done =
+JobMade J loader old had new has act.AwaitRoom reply.Done =
     (new ≡ record old { pages = after_call old.pages (spool.Await Sender) }) × (has ≡ had)
-JobPerforms J loader old had new has act.AwaitRoom reply.Stopped =
+JobMade J loader old had new has act.AwaitRoom reply.Stopped =
     (new ≡ record old { pages = after_call old.pages (spool.AwaitRefused Sender) }) × (has ≡ had)
-JobPerforms J loader old had new has act.Request reply.Done =
+JobMade J loader old had new has act.Request reply.Done =
     (new ≡ record old { seat = new.seat }) × (new.seat.number ≡ old.seat.number)
     × IsAt old.disk.now new.seat has true
-JobPerforms J loader old had new has act.TakePage (reply.Page page last) =
+JobMade J loader old had new has act.TakePage (reply.Page page last) =
     (new ≡ record old { cards = after_call old.cards (spool.Take page.0 last) }) × (has ≡ had)
-JobPerforms J loader old had new has act.TakePage reply.Failed =
+JobMade J loader old had new has act.TakePage reply.Failed =
     (new ≡ record old { cards = after_call old.cards spool.TakeFailed }) × (has ≡ had)
-JobPerforms J loader old had new has (act.PutPage page) reply.Done =
+JobMade J loader old had new has (act.PutPage page) reply.Done =
     (new ≡ record old { pages = after_call old.pages (spool.Put page.0) }) × (has ≡ had)
-JobPerforms J loader old had new has (act.PutPage page) reply.Failed =
+JobMade J loader old had new has (act.PutPage page) reply.Failed =
     (new ≡ record old { pages = after_call old.pages (spool.PutFailed page.0) }) × (has ≡ had)
-JobPerforms J loader old had new has (act.Load file) r =
+JobMade J loader old had new has (act.Load file) r =
     (new ≡ record old { files = new.files }) × (has ≡ had) × LoadsOne J loader old.files new.files file r
-JobPerforms J loader old had new has act.Release reply.Done =
+JobMade J loader old had new has act.Release reply.Done =
     (new ≡ record old { seat = new.seat }) × (new.seat.number ≡ old.seat.number)
     × IsAt old.disk.now new.seat has false
-JobPerforms J loader old had new has act.Local reply.Done = (new ≡ old) × (has ≡ had)
-JobPerforms J loader old had new has (act.Stop b) reply.Done = (new ≡ job_stopped b old) × (has ≡ had)
-JobPerforms J loader old had new has (act.Ended how) reply.Done = (new ≡ old) × (has ≡ had)
-JobPerforms J loader old had new has action r = ⊥
+JobMade J loader old had new has act.Local reply.Done = (new ≡ old) × (has ≡ had)
+JobMade J loader old had new has (act.Stop b) reply.Done = (new ≡ job_with_stop b old) × (has ≡ had)
+JobMade J loader old had new has (act.Ended how) reply.Done = (new ≡ old) × (has ≡ had)
+JobMade J loader old had new has action r = ⊥
 
--- From its first action on: each buffer has had the calls of the history at its side, it has the disk or not, and
+-- From its first action on: each buffer has had the calls of the history at its side, it has the disk or
+-- not, and
 -- the files were loaded.
 pub record JobRan {L F A B : Type 0} (loader : FileTells L F) (from_size : A → ℕ) (to_size : B → ℕ)
     (start now : JobSide F A B) (pass : Option Pass) (h : List (Entry L)) : Type 0 where

@@ -1,4 +1,5 @@
--- The printer process: what became of the paper in the course of a history, and of its side of the line buffer.
+-- The printer process: what became of the paper in the course of a history, and of its side of the line
+-- buffer.
 use Rattle.std.specs.Prelude.{◌≡◌, ◌≤◌, ℕ, true, false, List, [], ◌∷◌, ◌++◌, Option, None, Some}
 use Rattle.solo_base.specs.Text.{line_text}
 use Rattle.solo_devices.specs.Count.{Rose}
@@ -13,6 +14,7 @@ use Rattle.batch_procs.specs.Causes.{caused}
 use Rattle.batch_procs.specs.Jobs.{Jobs}
 use Rattle.batch_ends.specs.Devices.{PrintsLine}
 use Rattle.monitor_gate.specs.Calls.{after_call}
+use Rattle.resource_mon.specs.Seats.{Pass}
 use Rattle.slot_buffer.specs.declared.call.SlotCall.TheVariants as slot
 use Rattle.slot_buffer.specs.Calls.{has_stop}
 use Rattle.solo_base.specs.declared.outcome.Side.TheVariants.{Receiver}
@@ -55,12 +57,12 @@ does_printer (act.Ended how) = Unit {0}
 does_printer other = ⊥
 
 -- an action that it may perform
-abbrev pub PrinterMay : {K : Type 0} → PrinterSide K → Action → Type 0
-PrinterMay c act.TakeFeed = (c.lines.gate ≡ c.gate.now) × (has_stop c.lines.calls ≡ false)
-PrinterMay c (act.Print line) = c.paper.live ≡ true
-PrinterMay c (act.Stop b) = c.lines.gate ≡ c.gate.now
-PrinterMay c (act.Ended how) = Unit {0}
-PrinterMay c other = ⊥
+abbrev pub PrinterMayMake : {K : Type 0} → PrinterSide K → Action → Type 0
+PrinterMayMake c act.TakeFeed = (c.lines.gate ≡ c.gate.now) × (has_stop c.lines.calls ≡ false)
+PrinterMayMake c (act.Print line) = c.paper.live ≡ true
+PrinterMayMake c (act.Stop b) = c.lines.gate ≡ c.gate.now
+PrinterMayMake c (act.Ended how) = Unit {0}
+PrinterMayMake c other = ⊥
 
 -- A line was printed whole, or a part of it where that failed; a failure was counted.
 pub record PrintsOne {L K : Type 0} (J : Jobs L) (given : K → Option (List ℕ)) (faults : K → ℕ)
@@ -71,23 +73,26 @@ pub record PrintsOne {L K : Type 0} (J : Jobs L) (given : K → Option (List ℕ
   pub live : r ≡ reply.Done → new.live ≡ true
 
 -- and what it made of its side, by what was answered
-abbrev pub PrinterPerforms : {L K : Type 0} → Jobs L → (K → Option (List ℕ)) → (K → ℕ) → PrinterSide K
-    → PrinterSide K → Action → Reply L → Type 0
-PrinterPerforms J given faults old new act.TakeFeed (reply.Feed feed) =
-    new ≡ record old { lines = after_call old.lines (slot.Take feed) }
-PrinterPerforms J given faults old new act.TakeFeed reply.Stopped =
-    new ≡ record old { lines = after_call old.lines slot.TakeRefused }
-PrinterPerforms J given faults old new (act.Print line) r =
-    (new ≡ record old { paper = new.paper }) × PrintsOne J given faults old.paper new.paper line r
-PrinterPerforms J given faults old new (act.Stop b) reply.Done =
-    new ≡ record old { lines = after_call old.lines (slot.Stop Receiver) }
-PrinterPerforms J given faults old new (act.Ended how) reply.Done = new ≡ old
-PrinterPerforms J given faults old new action r = ⊥
+abbrev pub PrinterMade : {L K : Type 0} → Jobs L → (K → Option (List ℕ)) → (K → ℕ) → PrinterSide K
+    → Option Pass → PrinterSide K → Option Pass → Action → Reply L → Type 0
+PrinterMade J given faults old had new has act.TakeFeed (reply.Feed feed) =
+    (new ≡ record old { lines = after_call old.lines (slot.Take feed) }) × (has ≡ had)
+PrinterMade J given faults old had new has act.TakeFeed reply.Stopped =
+    (new ≡ record old { lines = after_call old.lines slot.TakeRefused }) × (has ≡ had)
+PrinterMade J given faults old had new has (act.Print line) r =
+    (new ≡ record old { paper = new.paper }) × (has ≡ had)
+    × PrintsOne J given faults old.paper new.paper line r
+PrinterMade J given faults old had new has (act.Stop b) reply.Done =
+    (new ≡ record old { lines = after_call old.lines (slot.Stop Receiver) }) × (has ≡ had)
+PrinterMade J given faults old had new has (act.Ended how) reply.Done = (new ≡ old) × (has ≡ had)
+PrinterMade J given faults old had new has action r = ⊥
 
--- From its first action on: the line buffer has had the calls of the history at its receiver's side, and the paper was
--- printed on.
+-- From its first action on: the line buffer has had the calls of the history at its receiver's side, and the
+-- paper was
+-- printed on. It never has the disk.
 pub record PrinterRan {L K : Type 0} (given : K → Option (List ℕ)) (faults : K → ℕ)
-    (start now : PrinterSide K) (h : List (Entry L)) : Type 0 where
+    (start now : PrinterSide K) (pass : Option Pass) (h : List (Entry L)) : Type 0 where
   pub gate : (start.gate.now ≡ now.gate.now) × (now.lines.gate ≡ now.gate.now)
   pub calls : now.lines.calls ≡ line_calls Receiver 4 h
   pub paper : PaperRan given faults start.paper now.paper h
+  pub none : pass ≡ None

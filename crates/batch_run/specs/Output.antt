@@ -28,53 +28,55 @@ does_output (act.Ended how) = Unit {0}
 does_output other = ⊥
 
 -- each end is one of its gate
-abbrev pub OutputAtGates : {B : Type 0} → (B → ℕ) → OutputSide B → Type 0
-OutputAtGates size c =
+abbrev pub OutputEndsAtGates : {B : Type 0} → (B → ℕ) → OutputSide B → Type 0
+OutputEndsAtGates size c =
     (c.pages.gate ≡ known (size c.pages_gate.now.area) c.pages_gate.now) × (c.lines.gate ≡ c.lines_gate.now)
 
 -- an action that it may perform
-abbrev pub OutputMay : {B : Type 0} → (B → ℕ) → OutputSide B → Option Pass → Action → Type 0
-OutputMay size c pass act.AwaitItem = OutputAtGates size c × (spools.has_stop c.pages.calls ≡ false)
-OutputMay size c pass act.Request = IsAt c.disk.now c.seat pass false
-OutputMay size c pass act.TakePage = OutputAtGates size c × (spools.has_stop c.pages.calls ≡ false)
+abbrev pub OutputMayMake : {B : Type 0} → (B → ℕ) → OutputSide B → Option Pass → Action → Type 0
+OutputMayMake size c pass act.AwaitItem = OutputEndsAtGates size c × (spools.has_stop c.pages.calls ≡ false)
+OutputMayMake size c pass act.Request = IsAt c.disk.now c.seat pass false
+OutputMayMake size c pass act.TakePage = OutputEndsAtGates size c × (spools.has_stop c.pages.calls ≡ false)
     × (spools.is_ready c.pages.calls ≡ true) × IsAt c.disk.now c.seat pass true
-OutputMay size c pass act.Release = IsAt c.disk.now c.seat pass true
-OutputMay size c pass (act.PutFeed feed) = OutputAtGates size c × (lines.has_stop c.lines.calls ≡ false)
-OutputMay size c pass (act.Stop b) = OutputAtGates size c × ((b ≡ 3) ⊎ (b ≡ 4))
-OutputMay size c pass (act.Ended how) = Unit {0}
-OutputMay size c pass other = ⊥
+OutputMayMake size c pass act.Release = IsAt c.disk.now c.seat pass true
+OutputMayMake size c pass (act.PutFeed feed) = OutputEndsAtGates size c
+    × (lines.has_stop c.lines.calls ≡ false)
+OutputMayMake size c pass (act.Stop b) = OutputEndsAtGates size c × ((b ≡ 3) ⊎ (b ≡ 4))
+OutputMayMake size c pass (act.Ended how) = Unit {0}
+OutputMayMake size c pass other = ⊥
 
-abbrev pub output_stopped : {B : Type 0} → ℕ → OutputSide B → OutputSide B
-output_stopped b c =
+abbrev pub output_with_stop : {B : Type 0} → ℕ → OutputSide B → OutputSide B
+output_with_stop b c =
     if b == 3 then record c { pages = after_call c.pages (spool.Stop Receiver) }
     else record c { lines = after_call c.lines (slot.Stop Sender) }
 
 -- and what it made of its side and its pass, by what was answered
-abbrev pub OutputPerforms : {L B : Type 0} → OutputSide B → Option Pass → OutputSide B → Option Pass → Action
+abbrev pub OutputMade : {L B : Type 0} → OutputSide B → Option Pass → OutputSide B → Option Pass → Action
     → Reply L → Type 0
-OutputPerforms old had new has act.AwaitItem reply.Done =
+OutputMade old had new has act.AwaitItem reply.Done =
     (new ≡ record old { pages = after_call old.pages (spool.Await Receiver) }) × (has ≡ had)
-OutputPerforms old had new has act.AwaitItem reply.Stopped =
+OutputMade old had new has act.AwaitItem reply.Stopped =
     (new ≡ record old { pages = after_call old.pages (spool.AwaitRefused Receiver) }) × (has ≡ had)
-OutputPerforms old had new has act.Request reply.Done =
+OutputMade old had new has act.Request reply.Done =
     (new ≡ record old { seat = new.seat }) × (new.seat.number ≡ old.seat.number)
     × IsAt old.disk.now new.seat has true
-OutputPerforms old had new has act.TakePage (reply.Page page last) =
+OutputMade old had new has act.TakePage (reply.Page page last) =
     (new ≡ record old { pages = after_call old.pages (spool.Take page.0 last) }) × (has ≡ had)
-OutputPerforms old had new has act.TakePage reply.Failed =
+OutputMade old had new has act.TakePage reply.Failed =
     (new ≡ record old { pages = after_call old.pages spool.TakeFailed }) × (has ≡ had)
-OutputPerforms old had new has act.Release reply.Done =
+OutputMade old had new has act.Release reply.Done =
     (new ≡ record old { seat = new.seat }) × (new.seat.number ≡ old.seat.number)
     × IsAt old.disk.now new.seat has false
-OutputPerforms old had new has (act.PutFeed feed) reply.Done =
+OutputMade old had new has (act.PutFeed feed) reply.Done =
     (new ≡ record old { lines = after_call old.lines (slot.Put feed) }) × (has ≡ had)
-OutputPerforms old had new has (act.PutFeed feed) reply.Stopped =
+OutputMade old had new has (act.PutFeed feed) reply.Stopped =
     (new ≡ record old { lines = after_call old.lines (slot.PutRefused feed) }) × (has ≡ had)
-OutputPerforms old had new has (act.Stop b) reply.Done = (new ≡ output_stopped b old) × (has ≡ had)
-OutputPerforms old had new has (act.Ended how) reply.Done = (new ≡ old) × (has ≡ had)
-OutputPerforms old had new has action r = ⊥
+OutputMade old had new has (act.Stop b) reply.Done = (new ≡ output_with_stop b old) × (has ≡ had)
+OutputMade old had new has (act.Ended how) reply.Done = (new ≡ old) × (has ≡ had)
+OutputMade old had new has action r = ⊥
 
--- From its first action on: each buffer has had the calls of the history at its side, and it has the disk or not.
+-- From its first action on: each buffer has had the calls of the history at its side, and it has the disk or
+-- not.
 pub record OutputRan {L B : Type 0} (size : B → ℕ) (start now : OutputSide B) (pass : Option Pass)
     (h : List (Entry L)) : Type 0 where
   pub from_gate : (start.pages_gate.now ≡ now.pages_gate.now)

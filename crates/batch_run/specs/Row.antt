@@ -23,7 +23,8 @@ use Rattle.batch_run.specs.Output.{OutputRan}
 abbrev pub CardsCame : {L S : Type 0} → Jobs L → (S → Option (List ℕ)) → (S → ℕ) → (S → ℕ) → ℕ → ℕ → Bool
     → CardSide S → (CardSide S × Outcome) → Type 0
 CardsCame J left taken faults start here all cards ended =
-    Came start here all (EndsSo J card (CardRan left taken faults cards ended.0) ended.1) (ended.0 ≡ cards)
+    Came start here all (EndsSo J card (CardRan left taken faults cards ended.0 None) ended.1)
+    (ended.0 ≡ cards)
 
 abbrev pub PagesCame : {L A : Type 0} → Jobs L → (A → ℕ) → ℕ → ℕ → Bool → InputSide A →
     (InputSide A × Outcome) → Type 0
@@ -49,18 +50,19 @@ LinesCame J size start here all lines ended =
 abbrev pub PaperCame : {L K : Type 0} → Jobs L → (K → Option (List ℕ)) → (K → ℕ) → ℕ → ℕ → Bool
     → PrinterSide K → (PrinterSide K × Outcome) → Type 0
 PaperCame J given faults start here all paper ended =
-    Came start here all (EndsSo J printer (PrinterRan given faults paper ended.0) ended.1) (ended.0 ≡ paper)
+    Came start here all (EndsSo J printer (PrinterRan given faults paper ended.0 None) ended.1)
+    (ended.0 ≡ paper)
 
 -- ---- side by side
 module _ {L S A : Type 0} (J : Jobs L) (left : S → Option (List ℕ)) (taken faults : S → ℕ) (size : A → ℕ)
   where
     pub record FrontBegins (cards : CardSide S) (pages : InputSide A) : Type 0 where
-      pub cards_begin : CardRan {L = L} left taken faults cards cards []
+      pub cards_begin : CardRan {L = L} left taken faults cards cards None []
       pub pages_begin : InputRan {L = L} size pages pages None []
 
     pub record FrontRan (cards : CardSide S) (pages : InputSide A)
         (ended : (CardSide S × Outcome) × (InputSide A × Outcome)) : Type 0 where
-      pub cards_ended : EndsSo J card (CardRan left taken faults cards ended.0.0) ended.0.1
+      pub cards_ended : EndsSo J card (CardRan left taken faults cards ended.0.0 None) ended.0.1
       pub pages_ended : EndsSo J input
           (InputRan size pages ended.1.0 None) ended.1.1
 
@@ -72,13 +74,13 @@ module _ {L S A : Type 0} (J : Jobs L) (left : S → Option (List ℕ)) (taken f
 module _ {L K B : Type 0} (J : Jobs L) (given : K → Option (List ℕ)) (faults : K → ℕ) (size : B → ℕ) where
   pub record BackBegins (lines : OutputSide B) (paper : PrinterSide K) : Type 0 where
     pub lines_begin : OutputRan {L = L} size lines lines None []
-    pub paper_begins : PrinterRan {L = L} given faults paper paper []
+    pub paper_begins : PrinterRan {L = L} given faults paper paper None []
 
   pub record BackRan (lines : OutputSide B) (paper : PrinterSide K)
       (ended : (OutputSide B × Outcome) × (PrinterSide K × Outcome)) : Type 0 where
     pub lines_ended : EndsSo J output
         (OutputRan size lines ended.0.0 None) ended.0.1
-    pub paper_ended : EndsSo J printer (PrinterRan given faults paper ended.1.0) ended.1.1
+    pub paper_ended : EndsSo J printer (PrinterRan given faults paper ended.1.0 None) ended.1.1
 
   abbrev pub BackCame : ℕ → ℕ → Bool → OutputSide B → PrinterSide K
       → ((OutputSide B × Outcome) × (PrinterSide K × Outcome)) → Type 0
@@ -139,5 +141,6 @@ pub record RowCame {L S K F A B : Type 0} (J : Jobs L) (left : S → Option (Lis
     (given : K → Option (List ℕ)) (sink_faults : K → ℕ) (loader : FileTells L F)
     (from_size : A → ℕ) (to_size : B → ℕ) (whole : Bool) (row : Row S K F A B)
     (ended : RowEnded S K F A B) : Type 0 where
-  pub ran : whole ≡ true → RowRan J left taken source_faults given sink_faults loader from_size to_size row ended
+  pub ran : whole ≡ true
+      → RowRan J left taken source_faults given sink_faults loader from_size to_size row ended
   pub stays : whole ≡ false → RowStays row ended

@@ -1,5 +1,5 @@
 //! A process at the disk: its seat, and its pass while it has the disk.
-ghost use Rattle.std.specs.Prelude.{◌≡◌, true, false, None, IsSome};
+ghost use Rattle.std.specs.Prelude.{◌≡◌, true, false, IsSome};
 ghost use Rattle.batch_run.specs.Desks.{IsAt};
 
 use resource_mon::{DiskPass, DiskResource, DiskSeat};
@@ -45,15 +45,5 @@ pub(crate) fn release<R: Threads + Wait + Sync>(
     match pass.take() {
         Some(pass) => disk.release(seat, pass, rt),
         None => unreachable!(),
-    }
-}
-
-/// The pass of a process that has ended is none.
-pub(crate) fn without(pass: Option<DiskPass>)
-    requires { pass ≡ None }
-{
-    match pass {
-        None => {}
-        Some(_) => unreachable!(),
     }
 }

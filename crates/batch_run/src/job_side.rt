@@ -1,18 +1,16 @@
 ghost use Rattle.std.specs.Prelude.{None, []};
 ghost use Rattle.batch_run.specs.Files.{loading};
-ghost use Rattle.batch_run.specs.Job.{JobMay, JobPerforms, JobRan};
+ghost use Rattle.batch_run.specs.Job.{JobMayMake, JobMade, JobRan};
 ghost use Rattle.batch_run.specs.Row.{JobsCame};
 
-use crate::desk::{held, release, request, without};
-use crate::row::Ended;
-use crate::run::{end_of, run_to_end};
-use batch_procs::{Action, JobProcWork, JobWork, Loader, Machine, Reply};
+use crate::desk::{held, release, request};
+use crate::run::{Coming, Ended, Running, Side, begin};
+use batch_procs::{Action, JobProcWork, JobWork, Loader, Reply};
 use disk_spool::{Fetched, SpoolGate, SpoolRecv, SpoolSend};
-use resource_mon::{DiskPass, DiskResource, DiskSeat};
-use side_by_side::{Start, Told};
-use solo_base::{Outcome, Page};
+use resource_mon::{DiskResource, DiskSeat};
+use side_by_side::Told;
+use solo_base::Page;
 use solo_devices::{Area, Moved};
-use std::alloc::Global;
 use std::sync::Wait;
 use std::thread::Threads;
 
@@ -29,70 +27,102 @@ pub struct JobSide<'a, F, A: Area + Send, B: Area + Send> {
     pub files: F,
 }
 
-impl<'a, F, A: Area + Send, B: Area + Send> JobSide<'a, F, A, B> {
-    /// Performs an action of the process, which has its pass while it has the disk, and waits where the other
-    /// side of a buffer isn't ready.
-    #[inline(always)]
-    fn perform<J: JobWork, R: Threads + Wait + Sync>(
-        &mut self,
-        pass: &mut Option<DiskPass>,
-        action: Action,
-        rt: &R,
-        alloc: Global,
-    ) -> Reply<J::Load>
-    where
-        F: Loader<J>,
-        requires may { JobMay F.sound A.size B.size self.old pass.old action }
-        ensures performs { JobPerforms J.jobs (loading F.found F.pages F.faults F.sound)
-            self.old pass.old self.new pass.new action result }
-    {
-        if let Action::Load(file) = &action {
-            return self.files.load(alloc, file);
+impl<'a, J: JobWork, F: Loader<J>, A: Area + Send, B: Area + Send> Side<J>
+    for JobSide<'a, F, A, B> {
+    ghost ran = { λ start now pass h. JobRan (loading F.found F.pages F.faults F.sound) A.size B.size
+        start now pass h };
+}
+
+/// Performs an action of the process, and waits where the other side of a buffer isn't ready.
+#[inline(always)]
+fn perform<
+    'r,
+    'a,
+    J: JobWork,
+    F: Loader<J>,
+    A: Area + Send,
+    B: Area + Send,
+    R: Threads + Wait + Sync,
+>(running: &mut Running<'r, R, JobSide<'a, F, A, B>>, action: Action) -> Reply<J::Load>
+    requires may { JobMayMake F.sound A.size B.size running.old.side running.old.pass action }
+    ensures performs { JobMade J.jobs (loading F.found F.pages F.faults F.sound)
+        running.old.side running.old.pass running.new.side running.new.pass action result }
+{
+    if let Action::Load(file) = &action {
+        return running.side.files.load(running.alloc, file);
+    }
+    match action {
+        Action::AwaitItem => match running
+            .side
+            .cards
+            .await_item(running.side.cards_gate, running.rt)
+        {
+            Ok(()) => Reply::Done,
+            Err(_) => Reply::Stopped,
+        },
+        Action::AwaitRoom => match running
+            .side
+            .pages
+            .await_room(running.side.pages_gate, running.rt)
+        {
+            Ok(()) => Reply::Done,
+            Err(_) => Reply::Stopped,
+        },
+        Action::Request => {
+            request(
+                running.side.disk,
+                &mut running.side.seat,
+                &mut running.pass,
+                running.rt,
+            );
+            Reply::Done
         }
-        match action {
-            Action::AwaitItem => match self.cards.await_item(self.cards_gate, rt) {
-                Ok(()) => Reply::Done,
-                Err(_) => Reply::Stopped,
-            },
-            Action::AwaitRoom => match self.pages.await_room(self.pages_gate, rt) {
-                Ok(()) => Reply::Done,
-                Err(_) => Reply::Stopped,
-            },
-            Action::Request => {
-                request(self.disk, &mut self.seat, pass, rt);
-                Reply::Done
+        Action::TakePage => {
+            let mut page = Page::zeros();
+            match running.side.cards.take(
+                running.side.cards_gate,
+                held(&running.pass),
+                &mut page,
+                running.rt,
+            ) {
+                Fetched::Done { last } => Reply::Page { page, last },
+                Fetched::Failed => Reply::Failed,
             }
-            Action::TakePage => {
-                let mut page = Page::zeros();
-                match self.cards.take(self.cards_gate, held(pass), &mut page, rt) {
-                    Fetched::Done { last } => Reply::Page { page, last },
-                    Fetched::Failed => Reply::Failed,
-                }
-            }
-            Action::PutPage(page) => match self.pages.put(self.pages_gate, held(pass), &page, rt) {
-                Moved::Done => Reply::Done,
-                Moved::Failed => Reply::Failed,
-            },
-            Action::Release => {
-                release(self.disk, &mut self.seat, pass, rt);
-                Reply::Done
-            }
-            Action::Stop(2) => {
-                self.cards.stop(self.cards_gate, rt);
-                Reply::Done
-            }
-            Action::Stop(_) => {
-                self.pages.stop(self.pages_gate, rt);
-                Reply::Done
-            }
-            Action::Local | Action::Ended(_) => Reply::Done,
-            _ => unreachable!(),
         }
+        Action::PutPage(page) => match running.side.pages.put(
+            running.side.pages_gate,
+            held(&running.pass),
+            &page,
+            running.rt,
+        ) {
+            Moved::Done => Reply::Done,
+            Moved::Failed => Reply::Failed,
+        },
+        Action::Release => {
+            release(
+                running.side.disk,
+                &mut running.side.seat,
+                &mut running.pass,
+                running.rt,
+            );
+            Reply::Done
+        }
+        Action::Stop(2) => {
+            running.side.cards.stop(running.side.cards_gate, running.rt);
+            Reply::Done
+        }
+        Action::Stop(_) => {
+            running.side.pages.stop(running.side.pages_gate, running.rt);
+            Reply::Done
+        }
+        Action::Local | Action::Ended(_) => Reply::Done,
+        _ => unreachable!(),
     }
 }
 
 /// Runs the job process up to its end, where all have come to the start.
 pub(crate) fn begin_jobs<
+    'r,
     'a,
     's,
     J: JobWork,
@@ -100,29 +130,11 @@ pub(crate) fn begin_jobs<
     A: Area + Send,
     B: Area + Send,
     R: Threads + Wait + Sync,
->(
-    rt: &R,
-    alloc: Global,
-    start: &'s Start,
-    jobs: JobSide<'a, F, A, B>,
-) -> (Ended<JobSide<'a, F, A, B>>, Told<'s>)
+>(coming: Coming<'r, 's, R, JobSide<'a, F, A, B>>) -> (Ended<JobSide<'a, F, A, B>>, Told<'s>)
     requires { JobRan {L = J.Load} (loading F.found F.pages F.faults F.sound) A.size B.size
-        jobs jobs None [] }
+        coming.side coming.side None [] }
     ensures { JobsCame J.jobs (loading F.found F.pages F.faults F.sound) A.size B.size
-        start.now result.1.of result.1.value jobs.entry result.0 }
+        coming.entry.start.now result.1.of result.1.value coming.entry.side result.0 }
 {
-    let mut side = jobs;
-    let mut pass = None;
-    run_to_end!(
-        J,
-        JobProcWork<J>,
-        start,
-        rt,
-        alloc,
-        |action| side.perform::<J, R>(&mut pass, action, rt, alloc),
-        {
-            without(pass);
-            side
-        }
-    )
+    begin::<J, JobProcWork<J>, R, JobSide<'a, F, A, B>, _>(coming, perform::<J, F, A, B, R>)
 }

@@ -21,4 +21,5 @@ pub use input_side::InputSide;
 pub use job_side::JobSide;
 pub use output_side::OutputSide;
 pub use printer_side::PrinterSide;
-pub use row::{Ended, Row, RowEnded};
+pub use row::{Row, RowEnded};
+pub use run::{Coming, Ended, Running, Side};

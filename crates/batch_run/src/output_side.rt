@@ -1,18 +1,16 @@
 ghost use Rattle.std.specs.Prelude.{None, []};
-ghost use Rattle.batch_run.specs.Output.{OutputMay, OutputPerforms, OutputRan};
+ghost use Rattle.batch_run.specs.Output.{OutputMayMake, OutputMade, OutputRan};
 ghost use Rattle.batch_run.specs.Row.{LinesCame};
 
-use crate::desk::{held, release, request, without};
-use crate::row::Ended;
-use crate::run::{end_of, run_to_end};
-use batch_procs::{Action, JobWork, Machine, OutputWork, Reply};
+use crate::desk::{held, release, request};
+use crate::run::{Coming, Ended, Running, Side, begin};
+use batch_procs::{Action, JobWork, OutputWork, Reply};
 use disk_spool::{Fetched, SpoolGate, SpoolRecv};
-use resource_mon::{DiskPass, DiskResource, DiskSeat};
-use side_by_side::{Start, Told};
+use resource_mon::{DiskResource, DiskSeat};
+use side_by_side::Told;
 use slot_buffer::{SendEnd, SlotGate};
-use solo_base::{Feed, Outcome, Page};
+use solo_base::{Feed, Page};
 use solo_devices::Area;
-use std::alloc::Global;
 use std::sync::Wait;
 use std::thread::Threads;
 
@@ -28,80 +26,87 @@ pub struct OutputSide<'a, B: Area + Send> {
     pub seat: DiskSeat,
 }
 
-impl<'a, B: Area + Send> OutputSide<'a, B> {
-    /// Performs an action of the process, which has its pass while it has the disk, and waits where the other
-    /// side of a buffer isn't ready.
-    #[inline(always)]
-    fn perform<L, R: Threads + Wait + Sync>(
-        &mut self,
-        pass: &mut Option<DiskPass>,
-        action: Action,
-        rt: &R,
-    ) -> Reply<L>
-        requires may { OutputMay B.size self.old pass.old action }
-        ensures performs { OutputPerforms self.old pass.old self.new pass.new action result }
-    {
-        match action {
-            Action::AwaitItem => match self.pages.await_item(self.pages_gate, rt) {
-                Ok(()) => Reply::Done,
-                Err(_) => Reply::Stopped,
-            },
-            Action::Request => {
-                request(self.disk, &mut self.seat, pass, rt);
-                Reply::Done
-            }
-            Action::TakePage => {
-                let mut page = Page::zeros();
-                match self.pages.take(self.pages_gate, held(pass), &mut page, rt) {
-                    Fetched::Done { last } => Reply::Page { page, last },
-                    Fetched::Failed => Reply::Failed,
-                }
-            }
-            Action::Release => {
-                release(self.disk, &mut self.seat, pass, rt);
-                Reply::Done
-            }
-            Action::PutFeed(feed) => match self.lines.put(self.lines_gate, feed, rt) {
-                Ok(()) => Reply::Done,
-                Err(_) => Reply::Stopped,
-            },
-            Action::Stop(3) => {
-                self.pages.stop(self.pages_gate, rt);
-                Reply::Done
-            }
-            Action::Stop(_) => {
-                self.lines.stop(self.lines_gate, rt);
-                Reply::Done
-            }
-            Action::Ended(_) => Reply::Done,
-            _ => unreachable!(),
+impl<'a, J: JobWork, B: Area + Send> Side<J> for OutputSide<'a, B> {
+    ghost ran = { λ start now pass h. OutputRan B.size start now pass h };
+}
+
+/// Performs an action of the process, and waits where the other side of a buffer isn't ready.
+#[inline(always)]
+fn perform<'r, 'a, L, B: Area + Send, R: Threads + Wait + Sync>(
+    running: &mut Running<'r, R, OutputSide<'a, B>>,
+    action: Action,
+) -> Reply<L>
+    requires may { OutputMayMake B.size running.old.side running.old.pass action }
+    ensures performs { OutputMade running.old.side running.old.pass
+        running.new.side running.new.pass action result }
+{
+    match action {
+        Action::AwaitItem => match running
+            .side
+            .pages
+            .await_item(running.side.pages_gate, running.rt)
+        {
+            Ok(()) => Reply::Done,
+            Err(_) => Reply::Stopped,
+        },
+        Action::Request => {
+            request(
+                running.side.disk,
+                &mut running.side.seat,
+                &mut running.pass,
+                running.rt,
+            );
+            Reply::Done
         }
+        Action::TakePage => {
+            let mut page = Page::zeros();
+            match running.side.pages.take(
+                running.side.pages_gate,
+                held(&running.pass),
+                &mut page,
+                running.rt,
+            ) {
+                Fetched::Done { last } => Reply::Page { page, last },
+                Fetched::Failed => Reply::Failed,
+            }
+        }
+        Action::Release => {
+            release(
+                running.side.disk,
+                &mut running.side.seat,
+                &mut running.pass,
+                running.rt,
+            );
+            Reply::Done
+        }
+        Action::PutFeed(feed) => match running
+            .side
+            .lines
+            .put(running.side.lines_gate, feed, running.rt)
+        {
+            Ok(()) => Reply::Done,
+            Err(_) => Reply::Stopped,
+        },
+        Action::Stop(3) => {
+            running.side.pages.stop(running.side.pages_gate, running.rt);
+            Reply::Done
+        }
+        Action::Stop(_) => {
+            running.side.lines.stop(running.side.lines_gate, running.rt);
+            Reply::Done
+        }
+        Action::Ended(_) => Reply::Done,
+        _ => unreachable!(),
     }
 }
 
 /// Runs the output process up to its end, where all have come to the start.
-pub(crate) fn begin_lines<'a, 's, J: JobWork, B: Area + Send, R: Threads + Wait + Sync>(
-    rt: &R,
-    alloc: Global,
-    start: &'s Start,
-    lines: OutputSide<'a, B>,
+pub(crate) fn begin_lines<'r, 'a, 's, J: JobWork, B: Area + Send, R: Threads + Wait + Sync>(
+    coming: Coming<'r, 's, R, OutputSide<'a, B>>,
 ) -> (Ended<OutputSide<'a, B>>, Told<'s>)
-    requires { OutputRan {L = J.Load} B.size lines lines None [] }
+    requires { OutputRan {L = J.Load} B.size coming.side coming.side None [] }
     ensures { LinesCame J.jobs B.size
-        start.now result.1.of result.1.value lines.entry result.0 }
+        coming.entry.start.now result.1.of result.1.value coming.entry.side result.0 }
 {
-    let mut side = lines;
-    let mut pass = None;
-    run_to_end!(
-        J,
-        OutputWork,
-        start,
-        rt,
-        alloc,
-        |action| side.perform(&mut pass, action, rt),
-        {
-            without(pass);
-            side
-        }
-    )
+    begin::<J, OutputWork, R, OutputSide<'a, B>, _>(coming, perform::<J::Load, B, R>)
 }

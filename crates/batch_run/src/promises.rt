@@ -7,7 +7,7 @@ use crate::card_side::CardSide;
 use crate::input_side::InputSide;
 use crate::job_side::JobSide;
 use crate::output_side::OutputSide;
-use crate::row::Ended;
+use crate::run::Ended;
 use batch_procs::{JobWork, Loader};
 use side_by_side::{Start, Told};
 use solo_devices::{Area, Source};
@@ -94,10 +94,7 @@ pub struct FrontComing<'a, 'b, 's, J, S: Source + Drop, A: Area + Send> {
 }
 
 impl<'a, 'b, 's, J: JobWork, S: Source + Drop, A: Area + Send> Promise<
-    (
-        (Ended<CardSide<'a, S>>, Ended<InputSide<'b, A>>),
-        Told<'s>,
-    ),
+    ((Ended<CardSide<'a, S>>, Ended<InputSide<'b, A>>), Told<'s>),
 > for FrontComing<'a, 'b, 's, J, S, A> {
     ghost kept_by = { λ coming came. FrontCame J.jobs S.left S.taken S.faults A.size
         coming.start.now came.1.of came.1.value coming.cards.value coming.pages.value came.0 };

@@ -1,25 +1,16 @@
-use Rattle.std.proofs.Common.{refl, sym, ◌∙◌}
-use Rattle.batch_run.proofs.Going.{going-first, ends-here, going-on}
+use Rattle.std.proofs.Common.{rules, refl}
+use Rattle.batch_run.specs.Cards.{CardMayMake, CardMade}
 use Rattle.batch_run.proofs.CardSteps.{card-may_next, card-did_next}
 use Rattle.batch_run.proofs.card_side.begin_cards.Goals as goal
 
-pub loop-init : goal.loop-init
-loop-init g c = going-first g.met.J.JobWork.are_jobs c.new-machine.ensures c.requires
-
-pub perform-reply-requires-clause-may : goal.perform-reply-requires-clause-may
-perform-reply-requires-clause-may g c κs within = card-may_next g.met.J.JobWork.are_jobs c.loop.invariant c.next-action.ensures.next
-
-pub returns-in-Some-end : goal.returns-in-Some-end
-returns-in-Some-end g c = record {
-  came = c.come-told.ensures;
-  did = λ whole. ends-here g.met.J.JobWork.are_jobs refl c.loop.invariant c.next-action.ensures.next
-      (card-did_next g.met.J.JobWork.are_jobs c.loop.invariant c.next-action.ensures.next c.perform-reply.new.self c.perform-reply.result
-      c.perform-reply.ensures.performs) (sym c.end_of-end.ensures ∙ c.in-Some-end.is);
-  stay = λ none. absurd cc;
+pub begin-requires-clause-runs : goal.begin-requires-clause-runs
+begin-requires-clause-runs g c κs within = record {
+  may = λ at h a ran follows next.
+      let may : CardMayMake at.now.side a = card-may_next g.met.J.JobWork.are_jobs _ at.now.side at.now.pass h a ran follows next in
+      search (rules, may);
+  performs = λ at after h a r ran follows next did.
+      let performs : CardMade g.S.Source.left g.S.Source.taken g.S.Source.faults at.now.side at.now.pass after.now.side after.now.pass a r = search
+      (rules, did) in
+      card-did_next g.met.J.JobWork.are_jobs _ at.now.side at.now.pass h a ran follows next after.now.side after.now.pass r performs;
+  without = λ side pass h how ran follows last. ran.none;
 }
-
-pub loop-preserved : goal.loop-preserved
-loop-preserved g c =
-    going-on g.met.J.JobWork.are_jobs refl c.loop.invariant c.next-action.ensures.next c.give.result
-    (card-did_next g.met.J.JobWork.are_jobs c.loop.invariant c.next-action.ensures.next c.perform-reply.new.self c.perform-reply.result
-    c.perform-reply.ensures.performs) (sym c.end_of-end.ensures ∙ c.in_default.is) c.give.ensures.ok c.give.ensures.err

@@ -1,33 +1,15 @@
-use Rattle.std.proofs.Common.{refl, sym, ◌∙◌}
-use Rattle.batch_run.proofs.Going.{going-first, ends-here, going-on}
-use Rattle.batch_run.proofs.InputSteps.{input-may_next, input-did_next, input-ended, input-without}
+use Rattle.std.proofs.Common.{rules, refl}
+use Rattle.batch_run.specs.Input.{InputMayMake, InputMade}
+use Rattle.batch_run.proofs.InputSteps.{input-may_next, input-did_next, input-without}
 use Rattle.batch_run.proofs.input_side.begin_pages.Goals as goal
 
-pub loop-init : goal.loop-init
-loop-init g c = going-first g.met.J.JobWork.are_jobs c.new-machine.ensures c.requires
-
-pub perform-reply-requires-clause-may : goal.perform-reply-requires-clause-may
-perform-reply-requires-clause-may g c κs within = input-may_next g.met.J.JobWork.are_jobs c.loop.invariant c.next-action.ensures.next
-
-pub without-requires : goal.without-requires
-without-requires g c =
-    input-without g.met.J.JobWork.are_jobs
-    (ends-here g.met.J.JobWork.are_jobs refl c.loop.invariant c.next-action.ensures.next
-      (input-did_next g.met.J.JobWork.are_jobs c.loop.invariant c.next-action.ensures.next c.perform-reply.new.self c.perform-reply.new.pass
-      c.perform-reply.result c.perform-reply.ensures.performs) (sym c.end_of-end.ensures ∙ c.in-Some-end.is))
-
-pub returns-in-Some-end : goal.returns-in-Some-end
-returns-in-Some-end g c = record {
-  came = c.come-told.ensures;
-  did = λ whole. input-ended g.met.J.JobWork.are_jobs
-      (ends-here g.met.J.JobWork.are_jobs refl c.loop.invariant c.next-action.ensures.next
-      (input-did_next g.met.J.JobWork.are_jobs c.loop.invariant c.next-action.ensures.next c.perform-reply.new.self c.perform-reply.new.pass
-      c.perform-reply.result c.perform-reply.ensures.performs) (sym c.end_of-end.ensures ∙ c.in-Some-end.is));
-  stay = λ none. absurd cc;
+pub begin-requires-clause-runs : goal.begin-requires-clause-runs
+begin-requires-clause-runs g c κs within = record {
+  may = λ at h a ran follows next.
+      let may : InputMayMake g.A.Area.size at.now.side at.now.pass a = input-may_next g.met.J.JobWork.are_jobs _ at.now.side at.now.pass h a ran follows next in
+      search (rules, may);
+  performs = λ at after h a r ran follows next did.
+      let performs : InputMade at.now.side at.now.pass after.now.side after.now.pass a r = search (rules, did) in
+      input-did_next g.met.J.JobWork.are_jobs _ at.now.side at.now.pass h a ran follows next after.now.side after.now.pass r performs;
+  without = λ side pass h how ran follows last. input-without g.met.J.JobWork.are_jobs pass h how ran follows last;
 }
-
-pub loop-preserved : goal.loop-preserved
-loop-preserved g c =
-    going-on g.met.J.JobWork.are_jobs refl c.loop.invariant c.next-action.ensures.next c.give.result
-    (input-did_next g.met.J.JobWork.are_jobs c.loop.invariant c.next-action.ensures.next c.perform-reply.new.self c.perform-reply.new.pass c.perform-reply.result
-    c.perform-reply.ensures.performs) (sym c.end_of-end.ensures ∙ c.in_default.is) c.give.ensures.ok c.give.ensures.err
