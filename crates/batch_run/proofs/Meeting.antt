@@ -77,11 +77,14 @@ module _ {S K F A B : Type 0} (from_size : A → ℕ) (to_size : B → ℕ) {gat
         lines_receiver = ap (λ e. e.gate) is.lines_receiver ∙ printer.gate.1 ∙ sym printer.gate.0 ∙ begins.printer_gate;
         seats = record {
           three = fresh.seats.three;
-          input = seat-ran gates.disk _ 1 ends.seats.input row.pages.seat _ _ _ _ is.input_seat input.desk (sym input.disk ∙ begins.input_disk)
+          input = seat-ran gates.disk _ 1 ends.seats.input row.pages.seat _ _ _ ran.front_ended.pages_ended.history is.input_seat input.desk (sym input.disk
+              ∙ begins.input_disk)
               begins.input_seat fresh.seats.input;
-          job = seat-ran gates.disk _ 2 ends.seats.job row.jobs.seat _ _ _ _ is.job_seat job.desk (sym job.disk ∙ begins.job_disk) begins.job_seat
+          job = seat-ran gates.disk _ 2 ends.seats.job row.jobs.seat _ _ _ ran.rest_ended.jobs_ended.history is.job_seat job.desk (sym job.disk
+              ∙ begins.job_disk) begins.job_seat
               fresh.seats.job;
-          output = seat-ran gates.disk _ 3 ends.seats.output row.lines.seat _ _ _ _ is.output_seat output.desk (sym output.disk ∙ begins.output_disk)
+          output = seat-ran gates.disk _ 3 ends.seats.output row.lines.seat _ _ _ ran.rest_ended.back_ended.lines_ended.history is.output_seat output.desk
+              (sym output.disk ∙ begins.output_disk)
               begins.output_seat fresh.seats.output;
         };
       }

@@ -1,9 +1,6 @@
 -- A process that runs over its side of the buffers: the actions that it makes, what it did by now, and how
 -- it ended.
 use Rattle.std.specs.Prelude.{◌≡◌, List, ◌∷◌, Option, None, Some}
-use Rattle.std.specs.Borrow.{MutBor}
-use Rattle.resource_mon.specs.Seats.{Pass}
-use Rattle.batch_run.specs.declared.run.Running.{Running}
 use Rattle.solo_base.specs.declared.outcome.Outcome.{Outcome}
 use Rattle.batch_procs.specs.declared.actions.Action.{Action}
 use Rattle.batch_procs.specs.declared.actions.Action.TheVariants as act
@@ -26,21 +23,6 @@ pub record Performed {L : Type 0} (J : Jobs L) (Stands : List (Entry L) → Type
   pub fits : Fits J a r
   pub done : Stands (Does a r ∷ before)
   pub lacks : MayLack a r → Stands (LacksMemory a r ∷ before)
-
--- A process can run over its side: each action that it makes behind a history of this side may be performed,
--- and is;
--- and once it has ended it hasn't got the disk.
-pub record CanPerform {L R C : Type 0} (J : Jobs L) (p : Process L) (Ran : C → Option Pass → List (Entry L)
-    → Type 0)
-    (May : MutBor (Running R C) → Action → Type 0)
-    (Did : MutBor (Running R C) → Action → Reply L → MutBor (Running R C) → Type 0) : Type 0 where
-  pub may : (at : MutBor (Running R C)) (h : List (Entry L)) (a : Action) → Ran at.now.side at.now.pass h
-      → Follows J p h → next_action p h ≡ Some a → May at a
-  pub performs : (at after : MutBor (Running R C)) (h : List (Entry L)) (a : Action) (r : Reply L)
-      → Ran at.now.side at.now.pass h → Follows J p h → next_action p h ≡ Some a → Did at a r after
-      → Performed J (Ran after.now.side after.now.pass) a r h
-  pub without : (side : C) (pass : Option Pass) (h : List (Entry L)) (how : Outcome) → Ran side pass h
-      → Follows J p h → newest h ≡ Some (act.Ended how) → pass ≡ None
 
 -- The process did what its history asks for, and ended so.
 pub record EndsSo {L : Type 0} (J : Jobs L) (p : Process L) (Stands : List (Entry L) → Type 0) (how : Outcome)

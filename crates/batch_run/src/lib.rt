@@ -22,4 +22,4 @@ pub use job_side::JobSide;
 pub use output_side::OutputSide;
 pub use printer_side::PrinterSide;
 pub use row::{Row, RowEnded};
-pub use run::{Coming, Ended, Running, Side};
+pub use run::{Ended, Running};

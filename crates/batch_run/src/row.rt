@@ -1,7 +1,14 @@
 //! The five processes, each on a thread of its own.
+ghost use Rattle.std.specs.Prelude.{None, []};
+ghost use Rattle.batch_run.specs.Cards.{CardRan};
 ghost use Rattle.batch_run.specs.Files.{loading};
+ghost use Rattle.batch_run.specs.Input.{InputRan};
+ghost use Rattle.batch_run.specs.Job.{JobRan};
+ghost use Rattle.batch_run.specs.Lines.{PrinterRan};
+ghost use Rattle.batch_run.specs.Row.{CardsCame, JobsCame, LinesCame, PagesCame, PaperCame};
 ghost use Rattle.batch_run.specs.Row.{BackBegins, BackCame, FrontBegins, FrontCame, RestBegins, RestCame};
 ghost use Rattle.batch_run.specs.Row.{RowBegins, RowCame};
+ghost use Rattle.batch_run.specs.Output.{OutputRan};
 
 use crate::card_side::{CardSide, begin_cards};
 use crate::input_side::{InputSide, begin_pages};
@@ -9,9 +16,9 @@ use crate::job_side::{JobSide, begin_jobs};
 use crate::output_side::{OutputSide, begin_lines};
 use crate::printer_side::{PrinterSide, begin_paper};
 use crate::promises::{CardsComing, FrontComing, JobsComing, LinesComing};
-use crate::run::{Coming, Ended};
+use crate::run::Ended;
 use batch_procs::{JobWork, Loader};
-use side_by_side::{Start, Told, beside_with};
+use side_by_side::{Start, Told, beside};
 use solo_devices::{Area, Sink, Source};
 use std::alloc::Global;
 use std::marker::PhantomData;
@@ -39,7 +46,6 @@ pub struct RowEnded<'a, S: Source + Drop, K: Sink + Drop, F, A: Area + Send, B: 
 
 /// Runs the card and the input process side by side, where all have come to the start.
 fn run_front<
-    'r,
     'a,
     'b,
     's,
@@ -48,22 +54,19 @@ fn run_front<
     A: Area + Send,
     R: Threads + Wait + Sync,
 >(
-    coming: Coming<'r, 's, R, (CardSide<'a, S>, InputSide<'b, A>)>,
+    rt: &R,
+    alloc: Global,
+    start: &'s Start,
+    cards: CardSide<'a, S>,
+    pages: InputSide<'b, A>,
 ) -> ((Ended<CardSide<'a, S>>, Ended<InputSide<'b, A>>), Told<'s>)
 where
     J::Load: Send,
-    requires { FrontBegins J.jobs S.left S.taken S.faults A.size coming.side.0 coming.side.1 }
-    ensures { FrontCame J.jobs S.left S.taken S.faults A.size coming.entry.start.now
-        result.1.of result.1.value coming.entry.side.0 coming.entry.side.1 result.0 }
+    requires { FrontBegins J.jobs S.left S.taken S.faults A.size cards pages }
+    ensures { FrontCame J.jobs S.left S.taken S.faults A.size
+        start.now result.1.of result.1.value cards.entry pages.entry result.0 }
 {
-    let Coming {
-        rt,
-        alloc,
-        start,
-        side,
-    } = coming;
-    let (cards, pages) = side;
-    let ((cards, told), (pages, also)) = beside_with(
+    let ((cards, told), (pages, also)) = beside(
         rt,
         start,
         CardsComing {
@@ -71,20 +74,16 @@ where
             cards: Snapshot::of(&cards),
             of: PhantomData::<J>,
         },
-        begin_cards::<J, S, R>,
-        Coming {
-            rt,
-            alloc,
-            start,
-            side: cards,
-        },
-        begin_pages::<J, A, R>,
-        Coming {
-            rt,
-            alloc,
-            start,
-            side: pages,
-        },
+        move || -> (Ended<CardSide<S>>, Told<'_>)
+            requires { CardRan {L = J.Load} S.left S.taken S.faults cards cards None [] }
+            ensures { CardsCame J.jobs S.left S.taken S.faults
+                start.entry.now result.1.of result.1.value cards.entry result.0 }
+        { begin_cards::<J, S, R>(rt, alloc, start, cards) },
+        move || -> (Ended<InputSide<A>>, Told<'_>)
+            requires { InputRan {L = J.Load} A.size pages pages None [] }
+            ensures { PagesCame J.jobs A.size
+                start.entry.now result.1.of result.1.value pages.entry result.0 }
+        { begin_pages::<J, A, R>(rt, alloc, start, pages) },
     );
     told.agrees(&also);
     ((cards, pages), told)
@@ -92,7 +91,6 @@ where
 
 /// Runs the output and the printer process side by side, where all have come to the start.
 fn run_back<
-    'r,
     'a,
     'b,
     's,
@@ -101,25 +99,22 @@ fn run_back<
     B: Area + Send,
     R: Threads + Wait + Sync,
 >(
-    coming: Coming<'r, 's, R, (OutputSide<'a, B>, PrinterSide<'b, K>)>,
+    rt: &R,
+    alloc: Global,
+    start: &'s Start,
+    lines: OutputSide<'a, B>,
+    paper: PrinterSide<'b, K>,
 ) -> (
     (Ended<OutputSide<'a, B>>, Ended<PrinterSide<'b, K>>),
     Told<'s>,
 )
 where
     J::Load: Send,
-    requires { BackBegins J.jobs K.given K.faults B.size coming.side.0 coming.side.1 }
-    ensures { BackCame J.jobs K.given K.faults B.size coming.entry.start.now
-        result.1.of result.1.value coming.entry.side.0 coming.entry.side.1 result.0 }
+    requires { BackBegins J.jobs K.given K.faults B.size lines paper }
+    ensures { BackCame J.jobs K.given K.faults B.size
+        start.now result.1.of result.1.value lines.entry paper.entry result.0 }
 {
-    let Coming {
-        rt,
-        alloc,
-        start,
-        side,
-    } = coming;
-    let (lines, paper) = side;
-    let ((lines, told), (paper, also)) = beside_with(
+    let ((lines, told), (paper, also)) = beside(
         rt,
         start,
         LinesComing {
@@ -127,20 +122,16 @@ where
             lines: Snapshot::of(&lines),
             of: PhantomData::<J>,
         },
-        begin_lines::<J, B, R>,
-        Coming {
-            rt,
-            alloc,
-            start,
-            side: lines,
-        },
-        begin_paper::<J, K, R>,
-        Coming {
-            rt,
-            alloc,
-            start,
-            side: paper,
-        },
+        move || -> (Ended<OutputSide<B>>, Told<'_>)
+            requires { OutputRan {L = J.Load} B.size lines lines None [] }
+            ensures { LinesCame J.jobs B.size
+                start.entry.now result.1.of result.1.value lines.entry result.0 }
+        { begin_lines::<J, B, R>(rt, alloc, start, lines) },
+        move || -> (Ended<PrinterSide<K>>, Told<'_>)
+            requires { PrinterRan {L = J.Load} K.given K.faults paper paper None [] }
+            ensures { PaperCame J.jobs K.given K.faults
+                start.entry.now result.1.of result.1.value paper.entry result.0 }
+        { begin_paper::<J, K, R>(rt, alloc, start, paper) },
     );
     told.agrees(&also);
     ((lines, paper), told)
@@ -148,7 +139,6 @@ where
 
 /// Runs the job process beside the output and the printer process, where all have come to the start.
 fn run_rest<
-    'r,
     'a,
     'b,
     'c,
@@ -160,15 +150,12 @@ fn run_rest<
     B: Area + Send,
     R: Threads + Wait + Sync,
 >(
-    coming: Coming<
-        'r,
-        's,
-        R,
-        (
-            JobSide<'a, F, A, B>,
-            (OutputSide<'b, B>, PrinterSide<'c, K>),
-        ),
-    >,
+    rt: &R,
+    alloc: Global,
+    start: &'s Start,
+    jobs: JobSide<'a, F, A, B>,
+    lines: OutputSide<'b, B>,
+    paper: PrinterSide<'c, K>,
 ) -> (
     (
         Ended<JobSide<'a, F, A, B>>,
@@ -178,20 +165,13 @@ fn run_rest<
 )
 where
     J::Load: Send,
-    requires { RestBegins J.jobs K.given K.faults (loading F.found F.pages F.faults F.sound)
-        A.size B.size coming.side.0 coming.side.1.0 coming.side.1.1 }
-    ensures { RestCame J.jobs K.given K.faults (loading F.found F.pages F.faults F.sound)
-        A.size B.size coming.entry.start.now result.1.of result.1.value
-        coming.entry.side.0 coming.entry.side.1.0 coming.entry.side.1.1 result.0 }
+    requires { RestBegins J.jobs K.given K.faults
+        (loading F.found F.pages F.faults F.sound) A.size B.size jobs lines paper }
+    ensures { RestCame J.jobs K.given K.faults
+        (loading F.found F.pages F.faults F.sound) A.size B.size
+        start.now result.1.of result.1.value jobs.entry lines.entry paper.entry result.0 }
 {
-    let Coming {
-        rt,
-        alloc,
-        start,
-        side,
-    } = coming;
-    let (jobs, back) = side;
-    let ((jobs, told), (back, also)) = beside_with(
+    let ((jobs, told), (back, also)) = beside(
         rt,
         start,
         JobsComing {
@@ -199,20 +179,17 @@ where
             jobs: Snapshot::of(&jobs),
             of: PhantomData::<J>,
         },
-        begin_jobs::<J, F, A, B, R>,
-        Coming {
-            rt,
-            alloc,
-            start,
-            side: jobs,
-        },
-        run_back::<J, K, B, R>,
-        Coming {
-            rt,
-            alloc,
-            start,
-            side: back,
-        },
+        move || -> (Ended<JobSide<F, A, B>>, Told<'_>)
+            requires { JobRan {L = J.Load} (loading F.found F.pages F.faults F.sound)
+                A.size B.size jobs jobs None [] }
+            ensures { JobsCame J.jobs (loading F.found F.pages F.faults F.sound) A.size B.size
+                start.entry.now result.1.of result.1.value jobs.entry result.0 }
+        { begin_jobs::<J, F, A, B, R>(rt, alloc, start, jobs) },
+        move || -> ((Ended<OutputSide<B>>, Ended<PrinterSide<K>>), Told<'_>)
+            requires { BackBegins J.jobs K.given K.faults B.size lines paper }
+            ensures { BackCame J.jobs K.given K.faults B.size
+                start.entry.now result.1.of result.1.value lines.entry paper.entry result.0 }
+        { run_back::<J, K, B, R>(rt, alloc, start, lines, paper) },
     );
     told.agrees(&also);
     ((jobs, back), told)
@@ -246,7 +223,7 @@ where
         paper,
     } = row;
     let start = &Start::new(5);
-    let ((front, told), (rest, also)) = beside_with(
+    let ((front, told), (rest, also)) = beside(
         rt,
         start,
         FrontComing {
@@ -255,20 +232,25 @@ where
             pages: Snapshot::of(&pages),
             of: PhantomData::<J>,
         },
-        run_front::<J, S, A, R>,
-        Coming {
-            rt,
-            alloc,
-            start,
-            side: (cards, pages),
-        },
-        run_rest::<J, K, F, A, B, R>,
-        Coming {
-            rt,
-            alloc,
-            start,
-            side: (jobs, (lines, paper)),
-        },
+        move || -> ((Ended<CardSide<S>>, Ended<InputSide<A>>), Told<'_>)
+            requires { FrontBegins J.jobs S.left S.taken S.faults A.size cards pages }
+            ensures { FrontCame J.jobs S.left S.taken S.faults A.size
+                start.entry.now result.1.of result.1.value cards.entry pages.entry result.0 }
+        { run_front::<J, S, A, R>(rt, alloc, start, cards, pages) },
+        move || -> (
+            (
+                Ended<JobSide<F, A, B>>,
+                (Ended<OutputSide<B>>, Ended<PrinterSide<K>>),
+            ),
+            Told<'_>,
+        )
+            requires { RestBegins J.jobs K.given K.faults
+                (loading F.found F.pages F.faults F.sound) A.size B.size jobs lines paper }
+            ensures { RestCame J.jobs K.given K.faults
+                (loading F.found F.pages F.faults F.sound) A.size B.size
+                start.entry.now result.1.of result.1.value
+                jobs.entry lines.entry paper.entry result.0 }
+        { run_rest::<J, K, F, A, B, R>(rt, alloc, start, jobs, lines, paper) },
     );
     told.agrees(&also);
     let whole = start.is_whole(&told);

@@ -4,5 +4,5 @@
 mod pair;
 mod start;
 
-pub use pair::{beside, beside_with};
+pub use pair::beside;
 pub use start::{Start, Told};

@@ -43,34 +43,3 @@ pub fn beside<
         },
     )
 }
-
-/// The same with two functions, each called with what it is given.
-pub fn beside_with<
-    R: Threads + Wait,
-    P: Promise<A> + Drop,
-    C: Send + Drop,
-    D: Drop,
-    F: FnOnce(C) -> A + Send + Drop,
-    G: FnOnce(D) -> B + Drop,
-    A: Send + Drop,
-    B,
->(rt: &R, start: &Start, promise: P, first: F, given: C, second: G, other: D) -> (A, B)
-    requires begin { F.pre first given × G.pre second other }
-    requires keeps { (answer : A) → F.post first given answer → P.kept_by promise answer }
-    ensures first { P.kept_by promise result.0 }
-    ensures second { G.post second other result.1 }
-{
-    beside(
-        rt,
-        start,
-        promise,
-        move || -> A
-            requires { F.pre first given }
-            ensures { F.post first given result }
-        { first(given) },
-        move || -> B
-            requires { G.pre second other }
-            ensures { G.post second other result }
-        { second(other) },
-    )
-}

@@ -11,8 +11,8 @@ run_five-ended-requires-after_bounds g c κs within =
     c.args.gates c.args.ends c.args.deck c.args.paper c.args.files c.row.result c.requires.fresh c.row.ensures c.requires.live.0 c.requires.live.1
     c.requires.sound
 
-pub meet-input-requires : goal.meet-input-requires
-meet-input-requires g c =
+pub meet-input-requires-after_bounds : goal.meet-input-requires-after_bounds
+meet-input-requires-after_bounds g c κs within =
     ends-of g.A.Area.size g.B.Area.size c.requires.fresh c.row.ensures c.take_apart-ends.ensures c.run_five-ended.result.1 c.run_five-ended.ensures
 
 pub returns-then-whole-clause-ran : goal.returns-then-whole-clause-ran
