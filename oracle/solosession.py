@@ -1,14 +1,15 @@
 """A session of Solo, and its three processes, written from their tables alone, for `oracle/solo` and `oracle/sessions`.
 
 A command is a generator of needs: ("cards",) is sent a card file, ("typed",) a typed line; ("display", line) and ("print", line) are
-shown. It returns the lines that answer it. `session` meets the needs at once; `Net` by the three processes, one event at a time."""
+shown, and a line that is printed is told whether the page in hand had room for it. It returns the lines that answer it. `session`
+meets the needs at once; `Net` by the three processes, one event at a time."""
 import re
 
 import seqcode
 import seqpascal
 from solodrive import IN_A_PART, ENTRIES, KINDS, LONGEST, PAGE, File, free_pages, taken_pages
 
-END, NIL = "end", "nil"
+END, NIL, ROOM = "end", "nil", "room"
 SPOILED = None
 TICKS, STACK = 1_000_000, 5
 SIX = [b"COPY", b"COMPILE", b"LIST", b"DELETE", b"RENAME", b"PROTECT"]
@@ -380,7 +381,7 @@ class Told:
     """What a session tells: the lines of the console and of the paper, and the maps of the files."""
 
     def __init__(self):
-        self.console, self.paper, self.maps, self.needs = [], [], [], []
+        self.console, self.paper, self.maps = [], [], []
 
 
 def card_file(cards):
@@ -496,7 +497,7 @@ def next_need(needs, reply, held):
             return ("end",), ended.value
         if need[0] != "print":
             return need, None
-        full, reply = packed(held, need[1]), None
+        full, reply = packed(held, need[1]), ROOM
         if full is not None:
             return ("page", full), None
 
@@ -548,7 +549,7 @@ class Net:
         self.typed, self.deck, self.area, self.fails = items(keys), items(cards), Files(files), fails or {}
         self.console, self.paper, self.events, self.delays = [], [], 0, 0
         self.buffers = {b: Buffer() for b in ENDS}
-        self.calls, self.outcomes, self.places = dict.fromkeys(FAULTS, 0), {}, set()
+        self.calls, self.outcomes, self.trace = dict.fromkeys(FAULTS, 0), {}, []
         self.processes = {INPUT: input_process(), JOB: job_process(commands, self.area), OUTPUT: output_process()}
         self.next = {p: next(process) for p, process in self.processes.items()}
 
@@ -588,7 +589,7 @@ class Net:
     def step(self, p):
         self.events += 1
         kind, *rest = self.next[p]
-        self.places.add((p, kind, rest[0] if kind in ("put", "take", "stop") else None))
+        self.trace.append((p, kind, *rest))
         if kind == "ended":
             self.outcomes[p], self.next[p] = rest[0], None
         elif kind == "stop":
