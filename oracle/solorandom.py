@@ -4,10 +4,11 @@ import random
 
 import seqcode
 import seqpascal
-from solodrive import IN_A_PART, KINDS, File, free_pages
+from solodrive import IN_A_PART, File, free_pages
 from solosession import pages_of
 
 NAMES = ["A", "B", "TEXT", "PROG", "P1", "LOOP", "LongName1234", "list"]
+WEIGHTS = [2, 1, 6, 6, 2, 2, 1, 1]
 ROOM_NAMES = [f"N{number}" for number in range(240)]
 HEAD = """VAR A, B, C, I, F: INTEGER; X: CHAR; Q: BOOLEAN;
 ID: ARRAY (.1..12.) OF CHAR; PG: ARRAY (.1..512.) OF CHAR; T: ARRAY (.1..8.) OF INTEGER;
@@ -27,6 +28,11 @@ BEGIN I := 1; F := 1; NAME('T', 'E', 'X', 'T');""".split("\n")
 PLAIN = "ABCXYZ 0123456789abc.,;~"
 
 
+def named(rng, count=len(NAMES)):
+    """One of the first names, some of them more often, so that commands and programs meet the same files."""
+    return rng.choices(NAMES[:count], WEIGHTS[:count])[0]
+
+
 # ---- programs
 def expression(rng, depth=0):
     if depth > 1 or rng.random() < 0.4:
@@ -35,7 +41,7 @@ def expression(rng, depth=0):
 
 
 def spelled(rng):
-    letters = rng.choice(NAMES[:6]).ljust(4)
+    letters = named(rng, 6).ljust(4)
     return "NAME(" + ", ".join(f"'{letter}'" for letter in letters) + ")"
 
 
@@ -51,6 +57,7 @@ CALLS = [
     "WRITEARG(A, B, ID)", "RUN(ID, A, B); SHOW(A); SHOW(B)", "WRITEARG(2, C + 1, ID); RUN(ID, A, B); READARG(C, B, ID); SHOW(C)",
     "GROW(A)", "B := SUM(C MOD 20)", "B := SUM(70)", "F := 3 - F",
 ]
+FIRST_WITH_NAME = 12
 # Statements that break a rule, each another one or another part of one.
 WRONG = [
     "A := X", "X := A", "SHOW(X)", "SHOW(A, B)", "SHOW", "READ(A)", "READ(SUM(1))", "UNKNOWN(A)", "UNKNOWN := 1", "A := UNKNOWN",
@@ -67,8 +74,8 @@ def statement(rng, depth=0):
     kind = rng.randrange(6 if depth > 2 else 9)
     if kind == 0:
         return [f"{rng.choice(['A', 'B', 'C', 'T(.I.)', 'T(.A.)'])} := {expression(rng)}"]
-    if kind == 1:
-        return [spelled(rng) + ";", rng.choice(CALLS[12:])]
+    if kind < 4:
+        return [spelled(rng) + ";", rng.choice(CALLS[FIRST_WITH_NAME:])]
     if kind < 6:
         return [rng.choice(CALLS)]
     inner = statement(rng, depth + 1)
@@ -82,10 +89,10 @@ def statement(rng, depth=0):
 def program(rng):
     """The cards of a program; some have one character that is another one."""
     cards = list(HEAD)
-    for _ in range(rng.choice([0, 1, 2, 4, 8])):
+    for _ in range(rng.choice([0, 1, 3, 6, 12])):
         cards += statement(rng) if rng.random() < 0.98 else [rng.choice(WRONG)]
         cards[-1] += ";"
-    cards.append(rng.choice(["END."] * 60 + ["WHILE TRUE DO END.", '"NOT CLOSED', ""]))
+    cards.append(rng.choice(["END."] * 90 + ["WHILE TRUE DO END.", '"NOT CLOSED', ""]))
     cards = [piece for card in cards for piece in pieces(card)]
     if rng.random() < 0.1:
         place = rng.randrange(len(cards))
@@ -112,8 +119,9 @@ def plain(rng):
     return "".join(rng.choice(PLAIN) for _ in range(rng.choice([0, 1, 5, 20, 79, 80])))
 
 
-def card_file(rng):
-    cards = program(rng) if rng.random() < 0.7 else [plain(rng) for _ in range(rng.choice([0, 1, 3, 8, 40]))]
+def card_file(rng, programs):
+    """A program with this chance, or plain cards."""
+    cards = program(rng) if rng.random() < programs else [plain(rng) for _ in range(rng.choice([0, 1, 3, 8, 40]))]
     if rng.random() < 0.05:
         cards.insert(rng.randrange(len(cards) + 1), rng.choice(["Y" * 81, "#END X", "#JOB A", "A\tB"]))
     return cards + [rng.choice(["#END", "#END", "#end  "])]
@@ -133,26 +141,28 @@ def arguments(rng):
 
 
 def typed(rng):
-    """The typed lines of a turn, and how many card files they take, where none is refused."""
-    name, other, kind = rng.choice(NAMES), rng.choice(NAMES), rng.randrange(14)
-    if kind < 4:
+    """The typed lines of a turn, and for each card file that they may take the chance that it is a program."""
+    name, other, kind = named(rng), named(rng), rng.randrange(16)
+    if kind < 5:
+        name, other = rng.choice(["TEXT", "A", name]), rng.choice(["PROG", "P1", "LOOP", other])
         lines = [f"delete({word})" for word in (name, other) if rng.random() < 0.7]
         lines += [f"copy(cards, {name})", f"compile({name}, {other})", other + arguments(rng)]
-        return lines + [plain(rng) for _ in range(rng.choice([0, 0, 1, 3]))], 1 + rng.randrange(2)
-    if kind < 6:
-        return [name + arguments(rng), *[plain(rng) for _ in range(rng.choice([0, 0, 1, 3]))]], rng.randrange(2)
+        return lines + [plain(rng) for _ in range(rng.choice([0, 0, 1, 3]))], [0.97, 0.1][:1 + rng.randrange(2)]
+    if kind < 8:
+        name = rng.choice(["PROG", "P1", "LOOP", name])
+        return [name + arguments(rng), *[plain(rng) for _ in range(rng.choice([0, 0, 1, 3]))]], [0.1][:rng.randrange(2)]
     rows = [f"copy({name}, printer)", f"copy({name}, {other})", f"copy(cards, {rng.choice([name, 'printer'])})", f"delete({name})",
             f"rename({name}, {other})", f"protect({name}, {rng.choice(['on', 'off'])})", f"compile({name}, {other})",
             rng.choice(["list", "list", "list", plain(rng), "", "list()", "copy(cards)", "delete(cards)", "copy(printer, a)", f"{name}()", "("])]
-    return [rows[kind - 6]], int(kind == 8)
+    return [rows[kind - 8]], [0.5] if kind == 10 else []
 
 
 # ---- drives
 def files_of(rng):
     kind, files = rng.randrange(12), {}
-    if kind < 6:
+    if kind < 4:
         return files
-    for name in NAMES[:rng.randrange(6)]:
+    for name in NAMES[:rng.randrange(7)]:
         files[name.upper().encode()] = file_of(rng)
     if kind == 9:
         files.update((name.encode(), File(1, False, [])) for name in ROOM_NAMES[:rng.choice([233, 237, 239]) - len(files)])
@@ -174,7 +184,7 @@ def fill(files, left):
 
 
 def file_of(rng):
-    kind, protected = rng.choice(list(KINDS)), rng.random() < 0.2
+    kind, protected = rng.choice([1, 2, 2, 3, 3, 3, 4]), rng.random() < 0.2
     if kind != 3:
         text = "\n".join(program(rng) if rng.random() < 0.5 else [plain(rng) for _ in range(9)]).encode()
         return File(kind, protected, list(pages_of(text + bytes([25]))) if rng.random() < 0.9 else [])
@@ -182,7 +192,7 @@ def file_of(rng):
         data = bytearray(seqcode.encode(seqpascal.compile_lines([card.encode() for card in program(rng)])))
     except seqpascal.Refused:
         return File(kind, protected, [bytes(512)])
-    if rng.random() < 0.3:
+    if rng.random() < 0.15:
         data[rng.randrange(len(data))] = rng.randrange(256)
     return File(kind, protected, list(pages_of(bytes(data))))
 
@@ -200,6 +210,6 @@ def session_of(seed, number):
     for _ in range(rng.choice([0, 1, 3, 8, 20])):
         made, wanted = typed(rng)
         lines += [line if line[:1] in PLAIN[:6] else varied(rng, line) for line in made]
-        for _ in range(wanted if rng.random() < 0.9 else rng.randrange(3)):
-            cards += card_file(rng)
+        for programs in wanted if rng.random() < 0.95 else [0.5] * rng.randrange(3):
+            cards += card_file(rng, programs)
     return joined(rng, lines), joined(rng, cards), files, rng.randrange(2147483648)

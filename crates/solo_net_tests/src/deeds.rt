@@ -1,6 +1,6 @@
 // Commands that need no programs: each letter of a typed line is a deed.
 ghost use Rattle.std.specs.Prelude.{◌≡◌, ℕ, IfOk};
-ghost use Rattle.solo_net_tests.specs.Deeds.{HasHand, ComesTo};
+ghost use Rattle.solo_net_tests.specs.Hands.{HasHand, ComesTo};
 
 use solo_base::{Feed, Item, Line, LineList, NoMemory, Page};
 use solo_devices::{Area, MemArea, Moved};
@@ -31,7 +31,7 @@ impl Commands for Deeds {
     type Files = MemArea;
 
     ghost use Rattle.std.specs.Prelude.{◌<◌};
-    ghost use Rattle.solo_net_tests.specs.Deeds.{HasHand};
+    ghost use Rattle.solo_net_tests.specs.Hands.{HasHand};
 
     ghost sound = { λ area. 0 < ⟦<MemArea as Area>⟧.size area };
 

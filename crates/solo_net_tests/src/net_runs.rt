@@ -1,5 +1,5 @@
 // Whole runs of the network by a rule, and what they came to.
-ghost use Rattle.std.specs.Prelude.{◌≡◌, ◌<◌, IfSome};
+ghost use Rattle.std.specs.Prelude.{◌≡◌, ◌<◌, true, IfSome};
 ghost use Rattle.network_run.specs.Law.{Placed, MayStep, AllEnded};
 
 use crate::deeds::Deeds;
@@ -171,8 +171,14 @@ pub fn run(rt: &impl Abort, alloc: Global, session: Session, rule: Rule, failing
 fn seen(rt: &impl Abort, alloc: Global, ran: Ran, story: Story) -> Came {
     let mut ended = String::new(alloc);
     tell_end(&mut ended, &ran).expect(rt, "memory");
-    let (_, console) = ran.units.typewriter.into_inner();
-    let paper = ran.units.paper.into_inner();
+    let SoloUnits {
+        cards: _,
+        typewriter,
+        paper,
+        files: _,
+    } = ran.units;
+    let (_, console) = typewriter.into_inner();
+    let paper = paper.into_inner();
     Came {
         story,
         ended,
