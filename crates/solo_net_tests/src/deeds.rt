@@ -80,6 +80,7 @@ fn nothing(alloc: Global) -> Printing {
 
 impl Deeds {
     // Up to the next need.
+    #[tactic(auto, using(crate::proofs::Fitting::page_printed, crate::proofs::Fitting::all_printed))]
     fn go_on(&mut self, given: Given) -> Result<Need, NoMemory>
         ensures { (pages : ℕ) → HasHand self.old.paper pages
             → IfOk result (λ need. ComesTo pages need self.new.paper) }
@@ -131,6 +132,7 @@ impl Deeds {
         }
     }
 
+    #[tactic(auto, using(crate::proofs::Fitting::cards_needed, crate::proofs::Fitting::line_needed, crate::proofs::Fitting::display_needed))]
     fn needed(&mut self, letter: u8) -> Need
         ensures { (pages : ℕ) → HasHand self.old.paper pages → ComesTo pages result self.new.paper }
     {
@@ -143,6 +145,7 @@ impl Deeds {
     }
 
     // Prints a line, which is displayed where no page is full by it.
+    #[tactic(auto, using(crate::proofs::Fitting::row_put, crate::proofs::Fitting::row_kept))]
     fn print_row(&mut self) -> Need
         ensures { (pages : ℕ) → HasHand self.old.paper pages → ComesTo pages result self.new.paper }
     {
@@ -152,6 +155,7 @@ impl Deeds {
         }
     }
 
+    #[tactic(auto, using(crate::proofs::Fitting::ended))]
     fn end(&mut self) -> Result<Need, NoMemory>
         ensures { (pages : ℕ) → HasHand self.old.paper pages
             → IfOk result (λ need. ComesTo pages need self.new.paper) }

@@ -1,5 +1,6 @@
-// Each call of each of the five devices fails in turn: how the three end, who stopped which buffer, and what was
-// displayed and printed by then. What is wanted is told by `oracle/solo --deeds`, by the rules of the processes.
+// Each call of each of the five devices fails in turn: how the three end, who stopped which buffer, and what
+// was displayed and printed by then. What is wanted is told by `oracle/solo --deeds`, by the rules of the
+// processes.
 
 use crate::net_runs::{Came, Failing, NONE_FAILS, run};
 use crate::sessions::{CONSOLE, DEEDS, PAPER, line_count};
@@ -179,4 +180,3 @@ const FILES_ROWS: [&str; 19] = [
 fn each_call_of_the_files_that_fails_ends_the_job_process(rt: HostRuntime) {
     fails(&rt, rt.alloc(), Device::Files, &FILES_ROWS);
 }
-

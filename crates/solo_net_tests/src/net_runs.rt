@@ -97,9 +97,10 @@ fn turn<N: Network + Shown>(rt: &impl Abort, net: &mut N, p: ProcNo, story: &mut
         .extend_from_slice(&event)
         .ok()
         .expect(rt, "memory");
-    if net.step(p) == Stepped::Delayed {
-        story.delays = story.delays.saturating_add(1);
-    }
+    let stepped = net.step(p);
+    story.delays = story
+        .delays
+        .saturating_add(u32::from(stepped == Stepped::Delayed));
 }
 
 // Runs to the end by a rule, within 1,000 events.
@@ -124,13 +125,7 @@ fn run_on<N: Network + Shown>(
 }
 
 // Runs over these devices to the end.
-fn run_over(
-    rt: &impl Abort,
-    alloc: Global,
-    units: Devices,
-    rule: Rule,
-    story: &mut Story,
-) -> Ran
+fn run_over(rt: &impl Abort, alloc: Global, units: Devices, rule: Rule, story: &mut Story) -> Ran
     requires cards { units.cards.live ≡ true }
     requires keys { units.typewriter.keys.live ≡ true }
     requires console { units.typewriter.console.live ≡ true }
@@ -138,20 +133,16 @@ fn run_over(
     requires files { 0 < ⟦<MemArea as Area>⟧.size units.files }
 {
     let mut net = SoloNet::<Deeds, MemSource, MemSource, MemSink, MemSink>::make(alloc, units);
-    run_on(rt, &mut net, rule, story).expect(rt, "an end");
-    net.finish()
+    match run_on(rt, &mut net, rule, story) {
+        Some(()) => net.finish(),
+        None => panic!(rt; "no end within 1,000 events"),
+    }
 }
 
 /// Runs a session by a rule, where these calls fail.
 pub fn run(rt: &impl Abort, alloc: Global, session: Session, rule: Rule, failing: Failing) -> Came {
     let units = SoloUnits {
-        cards: CardUnit::new(source(
-            rt,
-            alloc,
-            session.cards,
-            session.card_piece,
-            failing.cards,
-        )),
+        cards: CardUnit::new(source(rt, alloc, session.cards, session.card_piece, failing.cards)),
         typewriter: Typewriter::new(
             source(rt, alloc, session.keys, session.key_piece, failing.keys),
             sink(rt, alloc, failing.console),
