@@ -23,7 +23,7 @@ pub display_needed : (paper : Paper) (line : List ℕ) (pages : ℕ) → HasHand
 display_needed paper line pages has = record { needed = law.DisplayNeeded line; is = refl; fits = tt; hand = has }
 
 -- ---- a line more
-Adds : Paper → List ℕ → Option Page → Paper → Type 0
+abbrev Adds : Paper → List ℕ → Option Page → Paper → Type 0
 Adds old line result now = (pages : ℕ) (hand : List (List ℕ)) → IsHand old pages hand → AddsLine pages hand line result now
 
 pub row_put : (old now : Paper) (line : List ℕ) (result : Option Page) (page : Page) → Adds old line result now → result ≡ Some page
@@ -39,7 +39,7 @@ row_kept old now line shown result adds e pages (hand, is) =
     display_needed now shown pages (hand ++ line ∷ [], so.1)
 
 -- ---- the lines of a card file
-Prints : Paper → List (List ℕ) → ℕ → Option Page → ℕ → Paper → Type 0
+abbrev Prints : Paper → List (List ℕ) → ℕ → Option Page → ℕ → Paper → Type 0
 Prints old lines next result next_now now =
     (pages : ℕ) (hand : List (List ℕ)) → IsHand old pages hand → PrintsOn lines next pages hand result next_now now
 

@@ -57,6 +57,7 @@ impl Commands for Deeds {
         }
     }
 
+    #[tactic(auto, using(crate::proofs::Fitting::comes))]
     fn work(&mut self, given: Given, files: &mut MemArea) -> Result<Need, WorkFault> {
         let mut page = Page::zeros();
         match files.read(0, &mut page) {

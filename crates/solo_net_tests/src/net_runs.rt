@@ -162,12 +162,17 @@ pub fn run(rt: &impl Abort, alloc: Global, session: Session, rule: Rule, failing
 fn seen(rt: &impl Abort, alloc: Global, ran: Ran, story: Story) -> Came {
     let mut ended = String::new(alloc);
     tell_end(&mut ended, &ran).expect(rt, "memory");
+    let SoloRan {
+        outcomes: _,
+        stopped_by: _,
+        units,
+    } = ran;
     let SoloUnits {
         cards: _,
         typewriter,
         paper,
         files: _,
-    } = ran.units;
+    } = units;
     let (_, console) = typewriter.into_inner();
     let paper = paper.into_inner();
     Came {
