@@ -57,7 +57,6 @@ impl Commands for Deeds {
         }
     }
 
-    #[tactic(auto, using(crate::proofs::Fitting::comes))]
     fn work(&mut self, given: Given, files: &mut MemArea) -> Result<Need, WorkFault> {
         let mut page = Page::zeros();
         match files.read(0, &mut page) {
@@ -81,7 +80,6 @@ fn nothing(alloc: Global) -> Printing {
 
 impl Deeds {
     // Up to the next need.
-    #[tactic(auto, using(crate::proofs::Fitting::page_printed, crate::proofs::Fitting::all_printed))]
     fn go_on(&mut self, given: Given) -> Result<Need, NoMemory>
         ensures { (pages : ℕ) → HasHand self.old.paper pages
             → IfOk result (λ need. ComesTo pages need self.new.paper) }
@@ -133,7 +131,7 @@ impl Deeds {
         }
     }
 
-    #[tactic(auto, using(crate::proofs::Fitting::cards_needed, crate::proofs::Fitting::line_needed, crate::proofs::Fitting::display_needed))]
+    #[tactic(auto, using(crate::proofs::Fit::cards, crate::proofs::Fit::line, crate::proofs::Fit::show))]
     fn needed(&mut self, letter: u8) -> Need
         ensures { (pages : ℕ) → HasHand self.old.paper pages → ComesTo pages result self.new.paper }
     {
@@ -146,7 +144,6 @@ impl Deeds {
     }
 
     // Prints a line, which is displayed where no page is full by it.
-    #[tactic(auto, using(crate::proofs::Fitting::row_put, crate::proofs::Fitting::row_kept))]
     fn print_row(&mut self) -> Need
         ensures { (pages : ℕ) → HasHand self.old.paper pages → ComesTo pages result self.new.paper }
     {
@@ -156,7 +153,6 @@ impl Deeds {
         }
     }
 
-    #[tactic(auto, using(crate::proofs::Fitting::ended))]
     fn end(&mut self) -> Result<Need, NoMemory>
         ensures { (pages : ℕ) → HasHand self.old.paper pages
             → IfOk result (λ need. ComesTo pages need self.new.paper) }

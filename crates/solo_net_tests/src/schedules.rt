@@ -37,11 +37,11 @@ fn a_hundred_schedules_display_and_print_the_same(rt: HostRuntime) {
 #[test]
 fn events_and_delays_are_counted_by_the_table(rt: HostRuntime) {
     let alloc = rt.alloc();
-    let mut number = 0;
+    let mut number: u32 = 0;
     for (events, delays) in &COUNTS {
         let came = told_by(&rt, alloc, Rule::Numbered { number });
-        assert!(rt; came.story.text.len() == *events * 3, "{number}");
+        assert!(rt; came.story.text.len() / 3 == *events, "{number}");
         assert!(rt; came.story.delays == *delays, "{number}");
-        number += 1;
+        number = number.saturating_add(1);
     }
 }

@@ -13,14 +13,14 @@ use Rattle.solo_work.specs.Paper.{IsHand, AddsLine}
 use Rattle.solo_work.specs.Printing.{PrintsOn}
 use Rattle.solo_net_tests.specs.Hands.{HasHand, ComesTo}
 
-pub cards_needed : (paper : Paper) (pages : ℕ) → HasHand paper pages → ComesTo pages needs.Cards paper
-cards_needed paper pages has = record { needed = law.CardsNeeded; is = tt; fits = tt; hand = has }
+pub cards : (paper : Paper) (pages : ℕ) → HasHand paper pages → ComesTo pages needs.Cards paper
+cards paper pages has = record { needed = law.CardsNeeded; is = tt; fits = tt; hand = has }
 
-pub line_needed : (paper : Paper) (pages : ℕ) → HasHand paper pages → ComesTo pages needs.Line paper
-line_needed paper pages has = record { needed = law.LineNeeded; is = tt; fits = tt; hand = has }
+pub line : (paper : Paper) (pages : ℕ) → HasHand paper pages → ComesTo pages needs.Line paper
+line paper pages has = record { needed = law.LineNeeded; is = tt; fits = tt; hand = has }
 
-pub display_needed : (paper : Paper) (line : List ℕ) (pages : ℕ) → HasHand paper pages → ComesTo pages (needs.Display line) paper
-display_needed paper line pages has = record { needed = law.DisplayNeeded line; is = refl; fits = tt; hand = has }
+pub show : (paper : Paper) (line : List ℕ) (pages : ℕ) → HasHand paper pages → ComesTo pages (needs.Display line) paper
+show paper line pages has = record { needed = law.DisplayNeeded line; is = refl; fits = tt; hand = has }
 
 -- ---- a line more
 abbrev Adds : Paper → List ℕ → Option Page → Paper → Type 0
@@ -36,7 +36,7 @@ pub row_kept : (old now : Paper) (line shown : List ℕ) (result : Option Page) 
     → (pages : ℕ) → HasHand old pages → ComesTo pages (needs.Display shown) now
 row_kept old now line shown result adds e pages (hand, is) =
     let so : AddsLine pages hand line None now = subst (λ r. AddsLine pages hand line r now) e (adds pages hand is) in
-    display_needed now shown pages (hand ++ line ∷ [], so.1)
+    show now shown pages (hand ++ line ∷ [], so.1)
 
 -- ---- the lines of a card file
 abbrev Prints : Paper → List (List ℕ) → ℕ → Option Page → ℕ → Paper → Type 0
@@ -70,6 +70,9 @@ ended paper now last answers is fresh pages (hand, has) = record {
   fits = last-page hand (record { lines = has.lines; room = has.fits });
   hand = ([], fresh);
 }
+
+pub none_some : (plan : law.Plan) → None ≡ Some plan → ⊥
+none_some plan is = cc
 
 -- so all that the job process asks of them holds
 pub comes : (now : Paper) (given : law.Given) (pages : ℕ) (need : Need) → ComesTo pages need now
