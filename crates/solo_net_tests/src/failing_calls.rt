@@ -10,7 +10,7 @@ use std::process::Abort;
 
 /// The devices.
 #[derive(Clone, Copy)]
-enum Device {
+pub enum Device {
     Cards,
     Keys,
     Console,
@@ -19,7 +19,8 @@ enum Device {
 }
 
 impl Device {
-    fn fails_at(self, call: u64) -> Failing {
+    /// This call of it fails, from 1 on.
+    pub fn fails_at(self, call: u64) -> Failing {
         match self {
             Device::Cards => Failing {
                 cards: call,

@@ -13,3 +13,5 @@ mod schedules;
 mod sessions;
 #[cfg(test)]
 mod telling;
+#[cfg(test)]
+mod thread_runs;

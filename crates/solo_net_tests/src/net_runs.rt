@@ -56,9 +56,9 @@ pub struct Story {
     pub delays: u32,
 }
 
-type Devices = SoloUnits<MemSource, MemSource, MemSink, MemSink, MemArea>;
+pub type Devices = SoloUnits<MemSource, MemSource, MemSink, MemSink, MemArea>;
 
-type Ran = SoloRan<MemSource, MemSource, MemSink, MemSink, MemArea>;
+pub type Ran = SoloRan<MemSource, MemSource, MemSink, MemSink, MemArea>;
 
 // The bytes of a text in pieces, of which one call fails.
 fn source(rt: &impl Abort, alloc: Global, text: &str, piece: usize, failing: u64) -> MemSource
@@ -139,9 +139,15 @@ fn run_over(rt: &impl Abort, alloc: Global, units: Devices, rule: Rule, story: &
     }
 }
 
-/// Runs a session by a rule, where these calls fail.
-pub fn run(rt: &impl Abort, alloc: Global, session: Session, rule: Rule, failing: Failing) -> Came {
-    let units = SoloUnits {
+/// The devices of a session, of which these calls fail.
+pub fn devices(rt: &impl Abort, alloc: Global, session: Session, failing: Failing) -> Devices
+    ensures cards { result.cards.live ≡ true }
+    ensures keys { result.typewriter.keys.live ≡ true }
+    ensures console { result.typewriter.console.live ≡ true }
+    ensures paper { result.paper.live ≡ true }
+    ensures files { 0 < ⟦<MemArea as Area>⟧.size result.files }
+{
+    SoloUnits {
         cards: CardUnit::new(source(rt, alloc, session.cards, session.card_piece, failing.cards)),
         typewriter: Typewriter::new(
             source(rt, alloc, session.keys, session.key_piece, failing.keys),
@@ -149,7 +155,12 @@ pub fn run(rt: &impl Abort, alloc: Global, session: Session, rule: Rule, failing
         ),
         paper: PrinterUnit::new(sink(rt, alloc, failing.paper)),
         files: area(rt, alloc, failing.files),
-    };
+    }
+}
+
+/// Runs a session by a rule, where these calls fail.
+pub fn run(rt: &impl Abort, alloc: Global, session: Session, rule: Rule, failing: Failing) -> Came {
+    let units = devices(rt, alloc, session, failing);
     let mut story = Story {
         text: Vec::new(alloc),
         delays: 0,
@@ -158,8 +169,8 @@ pub fn run(rt: &impl Abort, alloc: Global, session: Session, rule: Rule, failing
     seen(rt, alloc, ran, story)
 }
 
-// What is seen of a run.
-fn seen(rt: &impl Abort, alloc: Global, ran: Ran, story: Story) -> Came {
+/// What is seen of a run.
+pub fn seen(rt: &impl Abort, alloc: Global, ran: Ran, story: Story) -> Came {
     let mut ended = String::new(alloc);
     tell_end(&mut ended, &ran).expect(rt, "memory");
     let SoloRan {

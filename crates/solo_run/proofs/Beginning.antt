@@ -14,7 +14,6 @@ use Rattle.solo_ends.specs.declared.units.SoloUnits.{SoloUnits}
 use Rattle.solo_run.specs.declared.ends.Sending.{Sending}
 use Rattle.solo_run.specs.declared.ends.Taking.{Taking}
 use Rattle.solo_run.specs.declared.gates.Gates.{Gates}
-use Rattle.solo_run.specs.declared.gates.Ends.{Ends}
 use Rattle.solo_run.specs.declared.row.Row.{Row}
 use Rattle.solo_run.specs.declared.row.RowEnded.{RowEnded}
 use Rattle.solo_run.specs.declared.solo.Parted.{Parted}

@@ -1,5 +1,5 @@
 -- Three processes that ran side by side, whose buffers' ends have met, are a run of the network.
-use Rattle.std.proofs.Common.{◌≡◌, ◌⊎◌, inl, inr, ℕ, ◌<◌, ◌≤◌, true, List, [], ◌∷◌, ◌++◌, Option, None, Some, refl, sym, ◌∙◌, ap, subst}
+use Rattle.std.proofs.Common.{◌≡◌, inl, inr, ℕ, List, [], ◌∷◌, ◌++◌, Option, None, Some, refl, sym, ◌∙◌, ap, subst}
 use Rattle.solo_base.specs.Text.{text}
 use Rattle.solo_base.specs.declared.item.Item.{Item}
 use Rattle.solo_base.specs.declared.outcome.Side.{Side}
@@ -17,22 +17,21 @@ use Rattle.place_law.specs.Ending.{outcome_by, HasEndedSo}
 use Rattle.place_law.proofs.Ended.{ends-rightly}
 use Rattle.place_law.proofs.Together.{never-done}
 use Rattle.solo_needs.specs.Handing.{no_command, HandsOn}
-use Rattle.solo_law.specs.Work.{Given, Plan, PlanFits}
+use Rattle.solo_law.specs.Work.{Plan, PlanFits}
 use Rattle.solo_law.specs.Actions.{Works, NoMemory}
 use Rattle.solo_law.specs.Buffers.{seat}
 use Rattle.solo_law.specs.Devices.{Devices, AreSound}
-use Rattle.solo_law.specs.JobPlaces.{job, Toils}
+use Rattle.solo_law.specs.JobPlaces.{job}
 use Rattle.solo_law.specs.Replies.{view}
 use Rattle.solo_law.specs.Told.{begun, needs, on_console, on_paper, lines_of_all}
-use Rattle.solo_law.specs.Solo.{process, table, solo, SoloState, SoloEntry, IsReached, IsProcess}
-use Rattle.solo_law.specs.Holds.{IsBuffer}
+use Rattle.solo_law.specs.Solo.{process, table, solo, SoloState, SoloEntry, IsProcess}
 use Rattle.solo_law.proofs.Placed.{each-process, is-1, is-2, is-3, placed, seats}
 use Rattle.solo_law.proofs.Reached.{reached-holds}
 use Rattle.solo_ends.specs.declared.units.SoloUnits.{SoloUnits}
 use Rattle.solo_ends.specs.declared.units.SoloRan.{SoloRan}
 use Rattle.solo_ends.specs.Ends.{outcome_at, stopped_at, EndTogether, FaultsAre}
 use Rattle.solo_ends.specs.Faults.{counting, devices_of, FaultsAreCounted}
-use Rattle.solo_threads.specs.Threads.{Deed, entries, stood, acts_by, HaveMet, SideBySide, IsOneRun, stops_of}
+use Rattle.solo_threads.specs.Threads.{Deed, entries, acts_by, HaveMet, SideBySide, IsOneRun, stops_of}
 use Rattle.solo_threads.proofs.Schedule.{one-run}
 use Rattle.solo_run.specs.declared.row.Row.{Row}
 use Rattle.solo_run.specs.declared.row.RowEnded.{RowEnded}
@@ -42,7 +41,7 @@ use Rattle.solo_run.specs.Row.{RowRan}
 use Rattle.solo_run.specs.Whole.{RowTold, AllMeet}
 use Rattle.solo_run.specs.Begun.{units_of, behind, SoloDid}
 use Rattle.solo_run.specs.Ran.{IsOpenedBy, told_by, BrokenOff, HavePassed, IsRunOf, JobDone, BothDone, TellsPlan, LosesNothing}
-use Rattle.solo_run.proofs.Reaching.{WentThrough, went-through}
+use Rattle.solo_run.proofs.Reaching.{went-through}
 use Rattle.solo_run.proofs.WholeRun.{told-items, deeds, side-by-side, ends-together, ends-faults}
 
 -- ---- the cause of one that ended so
