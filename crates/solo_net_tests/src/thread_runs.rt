@@ -1,5 +1,5 @@
-// The same sessions on three threads: they display and print what the network does, and end as it does; where a
-// call of a device fails its own process has the fault, and console and paper have a part.
+// The same sessions on three threads: they display and print what the network does, and end as it does;
+// where a call of a device fails its own process has the fault, and console and paper have a part.
 
 ghost use Rattle.std.specs.Prelude.{◌≡◌, ◌<◌, true};
 
