@@ -150,8 +150,10 @@ unfolding most_left
 begun_left c ticks limit code few =
     let bound = price_bound c code in
     let weight = heaviest c 0 in
-    let product = mul-le ticks (price c) limit highest_price few bound in
-    omega (arith, bound, weight, product)
+    let fewer : ticks - 0 ≤ limit = omega (arith, few) in
+    let product = mul-le (ticks - 0) (price c) limit highest_price fewer bound in
+    let small : (ticks - 0) * price c + 0 + weight_at c 0 + 1 < limit * highest_price + highest_price + 2 = omega (arith, bound, weight, product) in
+    small
 
 begun_within : (code : CodeLists) (ticks limit : ℕ) (args : List Arg) → IsCode code → ticks ≤ limit → IsWithin limit (begun code ticks args)
 begun_within code ticks limit args is few = record { ticks = few; left = begun_left code ticks limit is few }

@@ -15,7 +15,9 @@ use Rattle.program_task.specs.Program.{Runner, begins_with}
 use Rattle.program_task.specs.Run.{runner, program_room, run_for}
 use Rattle.stack_machine.specs.Left.{left_until_end}
 use Rattle.stack_machine.specs.Machine.{start_state}
-use Rattle.prog_stack.specs.Answers.{sharing}
+use Rattle.prog_stack.specs.declared.frame.Frame.{Frame}
+use Rattle.prog_stack.specs.Answers.{Hand, sharing}
+use Rattle.prog_stack.specs.Programs.{begun}
 use Rattle.prog_stack.specs.Callers.{TopBegins}
 use Rattle.prog_stack.proofs.Measure.{begins_within}
 use Rattle.prog_stack.proofs.Steps.{begins}
@@ -27,10 +29,13 @@ use Rattle.program_run.specs.Work.{Begins}
 use Rattle.program_run.specs.declared.program_run.Begun.{Begun}
 use Rattle.program_run.specs.declared.program_run.Begun.TheVariants.{Runs, Answer}
 
-pub begun_under_way : (name : List ℕ) (args : List Arg) (code : CodeLists) (p : Sight) → p ≡ at_beginning name args code → TopBegins p.programs → IsUnderWay p
-begun_under_way name args code p is begins =
-    let first = subst (λ (s : Sight). TopBegins s.programs) is begins in
-    subst IsUnderWay (sym is) (record { there = tt; stack = (omega arith, tt); within = (begins_within code tick_limit args first.1, tt) })
+pub begun_way : (name : List ℕ) (args : List Arg) (code : CodeLists) (programs rest : List Frame) (hand : Hand) → programs ≡ begun code tick_limit args ∷ rest → rest ≡ []
+    → TopBegins programs → IsUnderWay (record { name = name; programs = programs; hand = hand })
+begun_way name args code programs rest hand some none begins =
+    let is : programs ≡ begun code tick_limit args ∷ [] = some ∙ ap (λ l. begun code tick_limit args ∷ l) none in
+    let first = subst TopBegins is begins in
+    subst (λ l. IsUnderWay (record { name = name; programs = l; hand = hand })) (sym is)
+    (record { there = tt; stack = (omega arith, tt); within = (begins_within code tick_limit args first.1, tt) })
 
 -- ---- By what is found
 

@@ -30,9 +30,9 @@ use Rattle.program_run.specs.Steps.{IsPrinted, IsWritten, IsDisplayed, IsReplied
 use Rattle.program_run.specs.Work.{ComesTo, CameTo, EndsSo, Came}
 use Rattle.program_run.specs.declared.progress.Progress.{Progress}
 use Rattle.program_run.specs.declared.progress.Progress.TheVariants.{Needs, Ends}
-use Rattle.program_run.proofs.Answers.{replied_with, reads_one, accepts_one, displays_so, writes_so}
+use Rattle.program_run.proofs.Table.{replied_with, reads_one, accepts_one, displays_so, writes_so}
 use Rattle.program_run.proofs.Tasks.{GoesTo}
-use Rattle.program_run.proofs.Going.{ran_left, asks_first, AsksFirst, replies_told, runs_told, answers_told, displays_told, PrintsFirst, prints_first, prints_told, fills_told, cards_told, line_told, end_told, ends_told}
+use Rattle.program_run.proofs.ToldSteps.{ran_left, asks_first, AsksFirst, replies_told, runs_told, answers_told, displays_told, PrintsFirst, prints_first, prints_told, fills_told, cards_told, line_told, end_told, ends_told}
 use Rattle.program_run.proofs.Steady.{Steady, steady_step, ran_to_call, ran_to_end}
 
 -- it goes on from here

@@ -23,13 +23,12 @@ use Rattle.solo_procs.specs.Commands.{Kind, AtLine, AtCards, AtTyped, AtNothing}
 use Rattle.solo_task.specs.Answers.{Doing}
 use Rattle.solo_task.specs.Doing.{ends_program, tick_limit}
 use Rattle.solo_task.specs.Needs.{Pause, WantsCards, WantsLine, GoesOn}
+use Rattle.program_run.specs.declared.program_run.ProgramRun.{ProgramRun}
 
 -- the name of the program, the programs on the stack, the top one first, and what they share but for the
 -- files
-pub record Sight : Type 0 where
-  pub name : List ℕ
-  pub programs : List Frame
-  pub hand : Hand
+abbrev pub Sight : Type 0
+Sight = ProgramRun
 
 -- nothing was read, typed or printed yet
 abbrev pub no_hand : Hand

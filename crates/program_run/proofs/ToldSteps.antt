@@ -42,8 +42,8 @@ use Rattle.program_run.specs.Sight.{Sight, IsLeftOf, IsThere, Takes, TakesCards,
 use Rattle.program_run.specs.Steps.{IsReplied, IsAsking, EndsWith, answers_of}
 use Rattle.program_run.specs.Sharing.{ReadsSo, AcceptsSo, WritesSo, DisplaysSo}
 use Rattle.program_run.specs.Work.{CameTo, Reaches}
-use Rattle.program_run.proofs.Answers.{replied_with, reads_one, reads_none, accepts_one, accepts_none, displays_so, writes_so}
-use Rattle.program_run.proofs.Tasks.{GoesTo, here, changing, printing, full-page}
+use Rattle.program_run.proofs.Table.{replied_with, reads_one, reads_none, accepts_one, accepts_none, displays_so, writes_so}
+use Rattle.program_run.proofs.Tasks.{GoesTo, here, changing, on-page, full-page}
 
 -- what holds of a sight with these parts
 of_parts : (P : Sight → Type 0) (now : Sight) (name : List ℕ) (programs : List Frame) (hand : Hand) → now.name ≡ name → now.programs ≡ programs → now.hand ≡ hand
@@ -230,7 +230,7 @@ prints_first p now all doing left call line asks is replied =
 pub prints_told : (hand : List (List ℕ)) (now : Sight) (old : List (List ℕ)) (line : List ℕ) (doing : Doing) (after : Option (List (List ℕ))) → after ≡ Some old
     → PrintsFirst now (files old) line doing → fits_behind hand line ≡ true → GoesTo hand (files old) doing now (hand ++ line ∷ []) after
 prints_told hand now old line doing after told prints room =
-    record { later = prints.later; reaches = printing hand line doing prints.later old after told room prints.is; left = prints.left }
+    record { later = prints.later; reaches = on-page hand line doing prints.later old after told room prints.is; left = prints.left }
 
 pub fills_told : (hand : List (List ℕ)) (now : Sight) (old : List (List ℕ)) (line : List ℕ) (doing : Doing) (after : Option (List (List ℕ))) → after ≡ Some old
     → PrintsFirst now (files old) line doing → fits_behind hand line ≡ false → CameTo hand (files old) doing (law.PageNeeded hand) now (line ∷ []) after
@@ -266,14 +266,14 @@ cards_told hand p now old doing after told left asks reads is =
         λ file next takes.
             of_parts (λ s. IsLeftOf s (files old) (more file)) next p.name (with_reply (replies.Char (next_character (text file.cards))) p.programs)
             (record p.hand { input = Some (but_the_first (text file.cards)); spoiled = file.spoiled })
-            (ap (λ s. s.name) takes.is ∙ is.name)
-            (ap (λ s. s.programs) takes.is ∙ ap (with_reply (replies.Char (next_character (text file.cards)))) is.programs)
-            (ap (λ s. s.hand) takes.is ∙ ap (λ h. record h { input = Some (but_the_first (text file.cards)); spoiled = file.spoiled }) none.1)
+            (ap (λ (s : Sight). s.name) takes.is ∙ is.name)
+            (ap (λ (s : Sight). s.programs) takes.is ∙ ap (with_reply (replies.Char (next_character (text file.cards)))) is.programs)
+            (ap (λ (s : Sight). s.hand) takes.is ∙ ap {A = Hand} (λ h. record h { input = Some (but_the_first (text file.cards)); spoiled = file.spoiled }) none.1)
             (record {
               task = a.later (gives file);
               left = a.goes_on (replies.Char (next_character (text file.cards)))
                   (sharing (files old) (record p.hand { input = Some (but_the_first (text file.cards)); spoiled = file.spoiled }))
-                  (subst TopWell (ap (λ s. s.programs) takes.is ∙ ap (with_reply (replies.Char (next_character (text file.cards)))) is.programs) takes.well);
+                  (subst TopWell (ap (λ (s : Sight). s.programs) takes.is ∙ ap (with_reply (replies.Char (next_character (text file.cards)))) is.programs) takes.well);
               is = refl;
             }),
       );
@@ -299,14 +299,14 @@ line_told hand p now old doing after told left asks accepts is =
         λ typed next takes.
             of_parts (λ s. IsLeftOf s (files old) (more typed)) next p.name (with_reply (replies.Char (next_character (typed_text typed))) p.programs)
             (record p.hand { typed = but_the_first (typed_text typed) })
-            (ap (λ s. s.name) takes.is ∙ is.name)
-            (ap (λ s. s.programs) takes.is ∙ ap (with_reply (replies.Char (next_character (typed_text typed)))) is.programs)
-            (ap (λ s. s.hand) takes.is ∙ ap (λ h. record h { typed = but_the_first (typed_text typed) }) none.1)
+            (ap (λ (s : Sight). s.name) takes.is ∙ is.name)
+            (ap (λ (s : Sight). s.programs) takes.is ∙ ap (with_reply (replies.Char (next_character (typed_text typed)))) is.programs)
+            (ap (λ (s : Sight). s.hand) takes.is ∙ ap {A = Hand} (λ h. record h { typed = but_the_first (typed_text typed) }) none.1)
             (record {
               task = a.later (gives typed);
               left = a.goes_on (replies.Char (next_character (typed_text typed)))
                   (sharing (files old) (record p.hand { typed = but_the_first (typed_text typed) }))
-                  (subst TopWell (ap (λ s. s.programs) takes.is ∙ ap (with_reply (replies.Char (next_character (typed_text typed)))) is.programs) takes.well);
+                  (subst TopWell (ap (λ (s : Sight). s.programs) takes.is ∙ ap (with_reply (replies.Char (next_character (typed_text typed)))) is.programs) takes.well);
               is = refl;
             }),
       );
@@ -345,11 +345,16 @@ last_left : (finish : Finish) (programs : List Frame) (args : List Arg) (w : Sha
 last_left finish [] args w t at ended pops = absurd at
 last_left finish (top ∷ below) args w t at ended pops = record { own = top.own; is = popped_so program_room finish top below args [] w t at ended pops }
 
+drop_none : (lines : List (List ℕ)) → drop 0 lines ≡ lines
+drop_none [] = refl
+drop_none (line ∷ lines) = refl
+
 left_to_print : (name : List ℕ) (finish : Finish) (h : Hand) (printing : Printing) → EndsWith name finish h printing
     → prints_all (last_line h.print) (Gives (answers_of name finish h)) ≡ prints_then printing.lines printing.next printing.answers
 left_to_print name finish h printing is =
     ap (λ l. prints_all l (Gives (answers_of name finish h))) (sym is.lines)
     ∙ ap (λ a. prints_all printing.lines (Gives a)) (sym is.answers)
+    ∙ ap (λ l. prints_all l (Gives printing.answers)) (sym (drop_none printing.lines))
     ∙ ap (λ n. prints_all (drop n printing.lines) (Gives printing.answers)) (sym is.next)
 
 pub ends_told : (hand : List (List ℕ)) (finish : Finish) (p : Sight) (old : List (List ℕ)) (doing : Doing) (args : List Arg) (printing : Printing) (after : Option (List (List ℕ)))
