@@ -7,3 +7,4 @@ pub mod Loop
 pub mod Beginning
 pub mod Taken
 pub mod Done
+pub mod Fitting

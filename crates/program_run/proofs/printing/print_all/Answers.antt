@@ -1,5 +1,5 @@
 use Rattle.std.proofs.Common.{◌-◌, length, ◌∙◌}
-use Rattle.batch_program.proofs.Fitting.{fits_whole, goes_over, first_prints, rest_prints}
+use Rattle.program_run.proofs.Fitting.{fits_whole, goes_over, first_prints, rest_prints}
 use Rattle.program_run.proofs.printing.print_all.Goals as goal
 
 pub returns-then-codes-room : goal.returns-then-codes-room
