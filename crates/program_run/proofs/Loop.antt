@@ -1,25 +1,23 @@
 -- A piece of work: step after step, up to the next need.
-use Rattle.std.proofs.Common.{◌≡◌, ℕ, ◌<◌, ◌≤◌, Bool, true, List, [], ◌∷◌, ◌++◌, Option, Some, None, Result, Ok, Err, refl, sym, ◌∙◌, ap, subst, arith}
+use Rattle.std.proofs.Common.{◌≡◌, ℕ, ◌<◌, Bool, true, List, ◌++◌, Option, Some, None, Result, Ok, Err, refl, ◌∙◌, ap, subst, arith}
 use Rattle.std.specs.Prelude.{IsTrue}
-use Rattle.disk_layout.specs.Files.{Files, files}
+use Rattle.disk_layout.specs.Files.{files}
 use Rattle.disk_files.specs.Answers.{FaultsOnly}
 use Rattle.disk_files.specs.declared.fault.FileFault.{FileFault}
 use Rattle.disk_files.specs.declared.fault.FileFault.TheVariants.{DiskFault as AreaFails}
 use Rattle.file_commands.specs.declared.fault.CommandFault.{CommandFault}
 use Rattle.file_commands.specs.declared.fault.CommandFault.TheVariants.{DiskFault, NoMemory}
 use Rattle.file_commands.specs.Faults.{of_command}
-use Rattle.solo_task.specs.Answers.{Doing}
-use Rattle.solo_procs.specs.declared.commands.Need.{Need}
 use Rattle.solo_work.specs.declared.paper.Paper.{Paper}
 use Rattle.solo_work.specs.Paper.{IsHand}
 use Rattle.solo_work.specs.Printing.{prints_then}
-use Rattle.program_run.specs.Sight.{Sight, IsLeftOf, IsUnderWay}
+use Rattle.program_run.specs.Sight.{Sight, IsUnderWay}
 use Rattle.program_run.specs.Steps.{StepDone}
-use Rattle.program_run.specs.Work.{ComesTo, CameTo, EndsSo, Reaches, Came, MayGoOn, passes_all}
+use Rattle.program_run.specs.Work.{Came, MayGoOn, passes_all}
 use Rattle.program_run.specs.declared.progress.Progress.{Progress}
 use Rattle.program_run.specs.declared.progress.Progress.TheVariants.{Needs, Ends}
-use Rattle.program_run.proofs.Tasks.{GoesTo, here, then-reaches, are-passed}
-use Rattle.program_run.proofs.Steady.{Steady, steady_step, left_in}
+use Rattle.program_run.proofs.Tasks.{here, then-reaches, are-passed}
+use Rattle.program_run.proofs.Steady.{steady_step, left_in}
 use Rattle.program_run.proofs.Stepping.{GoesSo, StepComes, step_comes}
 
 -- no fault so far

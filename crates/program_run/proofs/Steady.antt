@@ -1,31 +1,26 @@
 -- What holds of a program behind each step, over every area: it goes on to stand well, and less is left.
-use Rattle.std.proofs.Common.{◌≡◌, ℕ, ◌+◌, ◌<◌, ◌≤◌, List, [], ◌∷◌, length, Option, Some, None, ℤ, refl, sym, ◌∙◌, ap, subst, arith}
+use Rattle.std.proofs.Common.{◌≡◌, ℕ, ◌<◌, ◌≤◌, List, [], ◌∷◌, Option, Some, None, ℤ, sym, ◌∙◌, ap, subst, arith}
 use Rattle.solo_base.specs.declared.system_call.Arg.{Arg}
 use Rattle.solo_base.specs.declared.system_call.SysCall.{SysCall}
 use Rattle.solo_base.specs.declared.system_call.SysCall.TheVariants as calls
 use Rattle.solo_base.specs.declared.system_call.SysReply.{SysReply}
 use Rattle.solo_base.specs.declared.system_call.SysReply.TheVariants as replies
-use Rattle.program_task.specs.Program.{Own}
 use Rattle.program_task.specs.Run.{program_room}
 use Rattle.stack_machine.specs.declared.running.Pause.{Pause}
 use Rattle.stack_machine.specs.declared.running.Pause.TheVariants as pause
 use Rattle.stack_machine.specs.declared.state.Finish.{Finish}
-use Rattle.stack_machine.specs.States.{State}
-use Rattle.stack_machine.specs.State.{Asks}
-use Rattle.stack_machine.specs.Standing.{StandsWell}
 use Rattle.prog_stack.specs.declared.frame.Frame.{Frame}
 use Rattle.prog_stack.specs.declared.served.Served.TheVariants as served
-use Rattle.prog_stack.specs.Answers.{Hand}
 use Rattle.prog_stack.specs.Callers.{IsStack, TopAsks, TopWell, TopBegins, RunsTop, with_reply}
-use Rattle.prog_stack.specs.Programs.{AsksFor, in_state, behind_reply, begun, calling, called_back, ran}
-use Rattle.prog_stack.specs.Serves.{ServesTop, Pushes, PopsTop, top_ended}
-use Rattle.prog_stack.specs.WorkLeft.{AllWithin, work_left, Falls, NeverRises}
+use Rattle.prog_stack.specs.Programs.{AsksFor, ran}
+use Rattle.prog_stack.specs.Serves.{ServesTop, PopsTop, top_ended}
+use Rattle.prog_stack.specs.WorkLeft.{AllWithin, work_left}
 use Rattle.prog_stack.proofs.Measure.{itself_never_rises, reply_lowers_all, run_lowers, end_lowers}
 use Rattle.solo_procs.specs.declared.commands.Need.TheVariants as need
 use Rattle.solo_task.specs.Doing.{tick_limit}
 use Rattle.solo_work.specs.declared.paper.Paper.{Paper}
-use Rattle.program_run.specs.Sight.{Sight, IsThere, IsUnderWay, MayTake}
-use Rattle.program_run.specs.Steps.{IsWritten, IsDisplayed, IsReplied, IsAsking, DoesDevice, DoesCall, Replies, Runs, OfDevice, DoesEnd, DoesBy, StepDone}
+use Rattle.program_run.specs.Sight.{Sight, IsThere, IsUnderWay}
+use Rattle.program_run.specs.Steps.{IsWritten, IsDisplayed, DoesDevice, DoesCall, Replies, Runs, OfDevice, DoesEnd, DoesBy, StepDone}
 use Rattle.program_run.specs.Work.{MayGoOn}
 use Rattle.program_run.specs.declared.progress.Progress.{Progress}
 use Rattle.program_run.specs.declared.progress.Progress.TheVariants.{Needs, Ends}
@@ -107,7 +102,7 @@ popped finish (top ∷ caller ∷ below) args now (some, stack, within) (given, 
     let waits = stack.1.0 in
     let few = stack.0 in
     let falls = end_lowers program_room tick_limit (calls.Run waits.name waits.left) (ran finish) (record caller.own { incoming = top.own.outgoing; outgoing = [] }) top caller below
-        within (subst TopWell is well).good waits.asks few in
+    within (subst TopWell is well).good waits.asks few in
     subst (λ l. AreUnderWay l × (left_in l < left_in (top ∷ caller ∷ below))) (sym is) ((tt, (omega (arith, few), stack.1.1), falls.within), falls.less)
 
 -- ---- A step

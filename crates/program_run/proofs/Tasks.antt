@@ -1,5 +1,5 @@
 -- From need to need: where a task goes on, and which files it passes.
-use Rattle.std.proofs.Common.{◌≡◌, ◌⊎◌, inl, inr, ℕ, Bool, true, false, List, [], ◌∷◌, ◌++◌, Option, Some, None, refl, sym, ◌∙◌, ap, subst, append_assoc}
+use Rattle.std.proofs.Common.{◌≡◌, inl, inr, ℕ, true, false, List, [], ◌∷◌, ◌++◌, Option, Some, refl, sym, ◌∙◌, ap, subst, append_assoc}
 use Rattle.disk_layout.specs.Files.{Files, files}
 use Rattle.program_task.specs.Task.{Prints, Changes}
 use Rattle.solo_task.specs.Answers.{Doing}
@@ -7,7 +7,7 @@ use Rattle.solo_task.specs.Laws.{last_of}
 use Rattle.solo_task.specs.Needs.{Paused, PageNeeded, GoesOn, comes_to, needs, either, fits_behind}
 use Rattle.solo_work.specs.Passing.{IsAmong}
 use Rattle.program_run.specs.Sight.{Sight, IsLeftOf}
-use Rattle.program_run.specs.Work.{Reaches, CameTo, passes_all}
+use Rattle.program_run.specs.Work.{Reaches, passes_all}
 
 -- it goes on from here
 pub record GoesTo (hand : List (List ℕ)) (all : Files) (doing : Doing) (now : Sight) (hand_now : List (List ℕ)) (after : Option (List (List ℕ))) : Type 0 where

@@ -4,7 +4,6 @@ use Rattle.solo_base.specs.Text.{text}
 use Rattle.solo_base.specs.declared.item.Feed.{Feed}
 use Rattle.solo_base.specs.declared.system_call.Arg.{Arg}
 use Rattle.solo_base.specs.declared.system_call.SysCall.TheVariants as calls
-use Rattle.solo_base.specs.declared.system_call.SysReply.{SysReply}
 use Rattle.solo_base.specs.declared.system_call.SysReply.TheVariants as replies
 use Rattle.disk_layout.specs.Files.{Files}
 use Rattle.pascal_mean.specs.Batch.{next_character, but_the_first}

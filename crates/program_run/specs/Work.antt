@@ -1,5 +1,5 @@
 -- What a piece of work on a program comes to.
-use Rattle.std.specs.Prelude.{◌≡◌, ◌≤◌, ℕ, List, [], ◌∷◌, ◌++◌, Option, Some, None, Result, Ok, Err}
+use Rattle.std.specs.Prelude.{◌≡◌, ℕ, List, [], ◌∷◌, ◌++◌, Option, Some, Result, Ok, Err}
 use Rattle.solo_base.specs.declared.system_call.Arg.{Arg}
 use Rattle.disk_layout.specs.Files.{Files, files}
 use Rattle.solo_commands.specs.declared.command.Command.TheVariants as command

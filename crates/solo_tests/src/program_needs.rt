@@ -8,7 +8,7 @@ ghost use Rattle.solo_procs.specs.Commands.{AtNothing};
 use crate::made_files::{Stored, add_programs, blank_files, name};
 use crate::made_programs::Step::{Accept, Display, Pass, Read, Run, Write, WriteLine};
 use disk_files::FileArea;
-use program_run::{Begun, Progress, ProgramRun};
+use program_run::{Begun, ProgramRun, Progress};
 use solo_base::{ArgList, Feed, Item, Line, LineList};
 use solo_devices::SureArea;
 use solo_procs::Need;
@@ -123,7 +123,12 @@ fn run(
 }
 
 // What is told of a command that runs this program.
-fn told_of(rt: &impl Abort, alloc: Global, files: &mut FileArea<SureArea>, letters: &str) -> String {
+fn told_of(
+    rt: &impl Abort,
+    alloc: Global,
+    files: &mut FileArea<SureArea>,
+    letters: &str,
+) -> String {
     let mut text = String::new(alloc);
     assert!(rt; files.sound());
     match ProgramRun::begin(alloc, name(rt, letters), ArgList::new(), files) {
@@ -138,14 +143,44 @@ const PROGRAMS: [Stored; 4] = [
     (
         "DEVICES",
         &[
-            Read, WriteLine, Write(32), Read, WriteLine, Write(32), Read, WriteLine, Write(32), Read,
-            WriteLine, Write(10), Accept, WriteLine, Write(32), Accept, WriteLine, Write(32), Accept,
-            WriteLine, Display(68), Display(10), Display(70),
+            Read,
+            WriteLine,
+            Write(32),
+            Read,
+            WriteLine,
+            Write(32),
+            Read,
+            WriteLine,
+            Write(32),
+            Read,
+            WriteLine,
+            Write(10),
+            Accept,
+            WriteLine,
+            Write(32),
+            Accept,
+            WriteLine,
+            Write(32),
+            Accept,
+            WriteLine,
+            Display(68),
+            Display(10),
+            Display(70),
         ],
     ),
     ("LONG", &[Write(65); 532]),
     ("CALLED", &[Accept, Accept, Accept, WriteLine]),
-    ("CALLS", &[Accept, Run("CALLED"), Accept, WriteLine, Run("NOTHING"), WriteLine]),
+    (
+        "CALLS",
+        &[
+            Accept,
+            Run("CALLED"),
+            Accept,
+            WriteLine,
+            Run("NOTHING"),
+            WriteLine,
+        ],
+    ),
 ];
 
 const ROWS: [(&str, &str); 4] = [
@@ -157,7 +192,10 @@ const ROWS: [(&str, &str); 4] = [
     // four lines of 132 are complete, and the fourth has no room behind the others
     ("LONG", "page;prints AAAA;answers LONG: TERMINATED;"),
     // what is left of a typed line is shared
-    ("CALLS", "line;line;line;prints 10670;answers CALLS: TERMINATED;"),
+    (
+        "CALLS",
+        "line;line;line;prints 10670;answers CALLS: TERMINATED;",
+    ),
     ("NOTHING", "NOTHING: NO FILE;"),
 ];
 

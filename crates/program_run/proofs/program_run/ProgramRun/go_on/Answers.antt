@@ -1,9 +1,7 @@
 use Rattle.std.proofs.Common.{Option, ◌∙◌, ap}
-use Rattle.disk_files.specs.Answers.{stays_sound}
-use Rattle.file_commands.specs.Faults.{of_command}
 use Rattle.file_commands.specs.declared.fault.CommandFault.{CommandFault}
 use Rattle.program_run.specs.declared.progress.Progress.{Progress}
-use Rattle.program_run.proofs.Loop.{begins, goes_on, falls, came, may_go_on, lacks, all_counts, failed, same_failed}
+use Rattle.program_run.proofs.Loop.{begins, goes_on, falls, came, may_go_on, lacks, failed}
 use Rattle.program_run.proofs.program_run.ProgramRun.go_on.Goals as goal
 
 pub going-init : goal.going-init
