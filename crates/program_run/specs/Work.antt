@@ -85,7 +85,8 @@ pub record EndsSo (pages : ℕ) (hand : List (List ℕ)) (before : Option (List 
   pub hand_now : List (List ℕ)
   pub hand_is : IsHand paper pages hand_now
   pub told : (old : List (List ℕ)) (doing : Doing) → before ≡ Some old → IsLeftOf p (files old) doing
-      → Reaches hand (files old) doing hand_now (prints_then printing.lines printing.next printing.answers) after
+      → Reaches hand (files old) doing hand_now
+      (prints_then printing.lines printing.next printing.answers) after
 
 -- ---- A piece of work
 
@@ -102,8 +103,8 @@ abbrev pub MayGoOn : Progress → Sight → Type 0
 MayGoOn (Needs n) now = MayTake (kind_of n) now
 MayGoOn (Ends printing) now = Unit {0}
 
--- Where memory lacks, the files are some of those to which the task changes. Where the area failed, nothing is
--- said.
+-- Where memory lacks, the files are some of those to which the task changes. Where the area failed, nothing
+-- is said.
 abbrev pub Came : ℕ → List (List ℕ) → Option (List (List ℕ)) → Sight → Result Progress CommandFault → Sight
     → Paper → Option (List (List ℕ)) → Type 0
 Came pages hand before p (Ok (Needs need)) now paper after = ComesTo pages hand before p need now paper after
