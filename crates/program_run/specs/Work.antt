@@ -48,7 +48,8 @@ pub record CameTo (hand : List (List ℕ)) (all : Files) (doing : Doing) (needed
   pub told : after ≡ Some pages
   pub maps : List Files
   pub pause : Pause
-  pub comes : comes_to hand all doing ≡ record { need = needed; maps = maps; files = files pages; pause = pause }
+  pub comes : comes_to hand all doing
+      ≡ record { need = needed; maps = maps; files = files pages; pause = pause }
   pub stands : StandsFor (kind_behind needed) now hand_now (files pages) pause
 
 -- Of a command that has put so many pages, with these lines in hand: the need fits, over every area, and by

@@ -10,8 +10,8 @@ use solo_base::{Feed, Item, LineList, NoMemory, SysReply};
 use std::alloc::Global;
 
 impl ProgramRun {
-    /// Gives the program the card file that it needs: its cards up to the first spoiled one, and whether there
-    /// is one.
+    /// Gives the program the card file that it needs: its cards up to the first spoiled one, and whether
+    /// there is one.
     pub fn take_cards(
         &mut self,
         alloc: Global,
