@@ -123,6 +123,7 @@ fn each_call_of_the_files_of_a_session_fails_in_turn(rt: HostRuntime) -> Result<
 }
 
 /// A session of fifty lines: sixteen card files are copied, printed and deleted.
+#[derive(Drop)]
 struct Fifty {
     keys: Vec<u8>,
     cards: Vec<u8>,

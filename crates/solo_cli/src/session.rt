@@ -1,5 +1,5 @@
 //! The command that runs a session of Solo on threads.
-ghost use Rattle.std.specs.Prelude.{◌≡◌, true, Some};
+ghost use Rattle.std.specs.Prelude.{◌≡◌, length, true, Some};
 ghost use Rattle.solo_cli.specs.Causes.{IsSessionCause};
 ghost use Rattle.solo_cli.specs.Decides.{decides};
 ghost use Rattle.solo_cli.specs.Devices.{kit, kit_of};
@@ -105,6 +105,7 @@ fn came_to<S: Source, Y: Source, K: Sink, T: Sink, F: Area + Drop, I, O>(
     output: O,
 ) -> Done<S, Y, K, T, F, I, O>
     ensures decided { result.cause ≡ as_refusal (decides ran.outcomes) }
+    ensures three { length ran.outcomes ≡ 3 }
     ensures devices { result.devices ≡ record {
       deck = ran.units.cards.source;
       keys = ran.units.typewriter.keys.source;

@@ -28,7 +28,7 @@ returns-in-Ok g c =
     let counted = counted-kit s y k t f i o start now d.input d.output ran.outcomes
     (subst (λ begun. AreCounted (counts_of s y k t f i o) begun now ran.outcomes) same e.counted) in
     rw (c.came_to.ensures.devices, c.came_to.ensures.decided)
-    record { ran = session-ran (session-ends before after ran.outcomes ran.stopped_by e.three e.together e.faults counted) e.three c.requires.ready
+    record { ran = session-ran (session-ends before after ran.outcomes ran.stopped_by c.came_to.ensures.three e.together e.faults counted) c.came_to.ensures.three c.requires.ready
     (e.total.cards ∙ ap (λ unit. bytes_total (s.taken unit.source) (s.left unit.source)) c.new.ensures)
     (e.total.keys ∙ ap (λ unit. bytes_total (y.taken unit.source) (y.left unit.source)) c.new-2.ensures.keys)
     record { deck = tt; keys = tt; paper = tt; console = tt; files = tt; input = refl; output = refl }
