@@ -26,3 +26,9 @@ mod Scripts
 mod KeysAnswers
 mod FilesAnswers
 mod Judging
+mod SessionEnding
+mod SessionFiles
+mod SessionTold
+mod NoSession
+mod SessionMounted
+mod SessionRuns

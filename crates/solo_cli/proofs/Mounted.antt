@@ -29,13 +29,13 @@ pub no-solo : (pages : List (List ℕ)) (n : ℕ) → IsSoloDisk pages → IsBad
 no-solo pages n solo bad = bad.breaks (solo n)
 
 -- the devices with the area that was mounted
-abbrev moved : {S Y K T F I O : Type 0} → Kit S Y K T F I O → Kit S Y K T F I O → Kit S Y K T F I O
+abbrev pub moved : {S Y K T F I O : Type 0} → Kit S Y K T F I O → Kit S Y K T F I O → Kit S Y K T F I O
 moved before mid = record before { files = mid.files }
 
-untouched : {S Y K T F I O : Type 0} (before mid after : Kit S Y K T F I O) → Untouched (moved before mid) after → Untouched before after
+pub untouched : {S Y K T F I O : Type 0} (before mid after : Kit S Y K T F I O) → Untouched (moved before mid) after → Untouched before after
 untouched before mid after u = record { deck = u.deck; paper = u.paper; input = u.input; output = u.output }
 
-disk-on : {S Y K T F I O : Type 0} (before mid after : Kit S Y K T F I O) → before.files.faults ≤ mid.files.faults
+pub disk-on : {S Y K T F I O : Type 0} (before mid after : Kit S Y K T F I O) → before.files.faults ≤ mid.files.faults
     → Rose before.input.faults after.input.faults ⊎ Rose before.output.faults after.output.faults ⊎ Rose mid.files.faults after.files.faults
     → Rose before.input.faults after.input.faults ⊎ Rose before.output.faults after.output.faults ⊎ Rose before.files.faults after.files.faults
 disk-on before mid after later (inl rose) = inl rose
