@@ -6,11 +6,11 @@ use Rattle.disk_spool.specs.Ends.{Meets}
 use Rattle.solo_devices.specs.declared.area.Area.{Ghosts as Area}
 use Rattle.batch_procs.specs.Jobs.{Jobs}
 use Rattle.batch_run.specs.FiveRan.{FiveRan}
-use Rattle.solo_cli.specs.DeckRuns.{faults_of, pages_of}
+use Rattle.solo_cli.specs.DeckRuns.{faults_told, pages_told}
 use Rattle.solo_cli.specs.Devices.{area_told}
 
 pub meets-told : {F : Type 0} (a : Area F) (opening area : F) (calls : Side → List (SpoolCall (List ℕ))) (left : ℕ) (by : Option Side)
-    → Meets a.pages a.faults opening area calls left by → Meets pages_of faults_of (area_told a opening) (area_told a area) calls left by
+    → Meets a.pages a.faults opening area calls left by → Meets pages_told faults_told (area_told a opening) (area_told a area) calls left by
 meets-told a opening area calls left by meets = record {
   marks = meets.marks;
   pages = meets.pages;
@@ -27,7 +27,7 @@ meets-told a opening area calls left by meets = record {
 
 abbrev pub five-told : {L I O : Type 0} {J : Jobs L} (i : Area I) (o : Area O) (input input_then : I) (output output_then : O) (first : ℕ → Option Side)
     → FiveRan J i.pages i.faults o.pages o.faults input input_then output output_then first
-    → FiveRan J pages_of faults_of pages_of faults_of (area_told i input) (area_told i input_then) (area_told o output) (area_told o output_then) first
+    → FiveRan J pages_told faults_told pages_told faults_told (area_told i input) (area_told i input_then) (area_told o output) (area_told o output_then) first
 five-told i o input input_then output output_then first five = record {
   card_history = five.card_history;
   input_history = five.input_history;

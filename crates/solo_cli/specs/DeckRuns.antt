@@ -44,18 +44,18 @@ abbrev pub core_over : {S Y K T F I O : Type 0} → Kit S Y K T F I O → Option
 core_over told deck paper = opened (spools_told told) deck paper (files_found told.files.pages)
 
 -- ---- `batch`
-abbrev pub pages_of : {F : Type 0} → AreaTold F → Option (List (List ℕ))
-pages_of area = area.pages
+abbrev pub pages_told : {F : Type 0} → AreaTold F → Option (List (List ℕ))
+pages_told area = area.pages
 
-abbrev pub faults_of : {F : Type 0} → AreaTold F → ℕ
-faults_of area = area.faults
+abbrev pub faults_told : {F : Type 0} → AreaTold F → ℕ
+faults_told area = area.faults
 
 -- The five that ran so: each has a history of its own, by which the calls of both sides of each of the four
 -- buffers have met, and ended as this history says; by these outcomes the cause is decided.
 pub record BatchEnds {S Y K T F I O : Type 0} (before after : Kit S Y K T F I O) (answer : Option Refusal)
     : Type 0 where
   pub ends : DeckEnds Nothing before after answer
-  pub histories_are : FiveRan deck_jobs pages_of faults_of pages_of faults_of before.input after.input
+  pub histories_are : FiveRan deck_jobs pages_told faults_told pages_told faults_told before.input after.input
       before.output after.output (stopped_at ends.five.stopped_by)
   pub each : (p : ℕ) → IsProcess p
       → EndedSo (process deck_jobs p) (histories histories_are p) (outcome_at ends.five.outcomes p)
