@@ -86,7 +86,8 @@ fn tell_end(rt: &impl Abort, text: &mut String, printing: &Printing) {
 fn work(
     rt: &impl Abort,
     alloc: Global,
-    (program, paper): (&mut ProgramRun, &mut Paper),
+    program: &mut ProgramRun,
+    paper: &mut Paper,
     files: &mut FileArea<SureArea>,
     text: &mut String,
 ) -> Option<()>
@@ -116,7 +117,7 @@ fn run(
 {
     let mut paper = Paper::new();
     for _ in 0..100 {
-        let Some(()) = work(rt, alloc, (program, &mut paper), files, text) else {
+        let Some(()) = work(rt, alloc, program, &mut paper, files, text) else {
             return;
         };
     }
