@@ -1,10 +1,9 @@
 -- No reached state has more events behind it than come of the cards that were read, whatever the devices are.
-use Rattle.std.proofs.Common.{◌≡◌, ℕ, suc, ◌+◌, ◌*◌, ◌-◌, ◌≤◌, List, [], ◌∷◌, ◌++◌, length, length-append, map, refl, sym, ◌∙◌, ap, subst, arith}
+use Rattle.std.proofs.Common.{◌≡◌, ℕ, ◌+◌, ◌*◌, ◌-◌, ◌≤◌, List, [], ◌∷◌, length, length-append, map, refl, sym, ◌∙◌, ap, subst, arith}
 use Rattle.std.proofs.lemmas.List.{length-map, append-nil}
 use Rattle.network_run.specs.Law.{AreEnabled, run}
-use Rattle.network_law.specs.Network.{IsEnabled, IsOne, happens, acts, set}
+use Rattle.network_law.specs.Network.{IsOne, happens, set}
 use Rattle.network_law.specs.Kept.{Stands, passed}
-use Rattle.solo_base.specs.declared.item.Item.{Item}
 use Rattle.solo_base.specs.declared.outcome.Side.TheVariants.{Sender, Receiver}
 use Rattle.batch_procs.specs.Jobs.{Jobs, AreJobs}
 use Rattle.batch_procs.specs.Parcels.{is_last}
@@ -17,7 +16,7 @@ use Rattle.twin_law.specs.Left.{entries_in, events_so_far, line_pages, most_with
 use Rattle.twin_law.proofs.Lawful.{each-process}
 use Rattle.twin_law.proofs.InputAlone.{deck_feeds}
 use Rattle.twin_law.proofs.CardReads.{put-first}
-use Rattle.twin_law.proofs.Devices.{Centre, reached-centre}
+use Rattle.twin_law.proofs.Devices.{reached-centre}
 use Rattle.twin_law.proofs.CallsMade.{made, made-most}
 use Rattle.twin_law.proofs.Todo.{Any, card_todo, none_todo, card-has, input-has, output-has, printer-has}
 use Rattle.twin_law.proofs.Pays.{spot, sum_of, reads_one, prints_one, nothing, paid-most, card-pays, input-pays, output-pays, printer-pays}
@@ -62,7 +61,7 @@ in-all : (c kn rd pr s1 r1 s2 r2 s3 r3 s4 r4 s5 r5 s6 r6 n2 n5 m1 m2 m3 m4 m5 m6
     → m3 ≤ 7 * (r2 + (s4 + 0)) + 2530 * (r2 + 0) + 21 → m4 ≤ 7 * (r3 + (s5 + 0)) + 2530 * (r3 + 0) + 21
     → m5 ≤ 2 * (s6 + 0) + 7 * (r4 + (r5 + 0)) + 5 * 0 + n5 + (8 + 2 * 3) → m6 ≤ 2 * (r6 + 0) + 7 * 0 + 5 * 0 + pr + (8 + 2 * 1)
     → s1 ≤ c + 1 → r1 ≤ s1 → s2 + s3 ≤ 3 * r1 → r2 ≤ s2 → r3 ≤ s3 → s4 + s5 ≤ 3 * kn → r4 ≤ s4 → r5 ≤ s5 → s6 ≤ 507 * (r4 + r5) → r6 ≤ s6 → pr ≤ r6
-        → asleep ≤ 18
+    → asleep ≤ 18
     → m1 + m2 + m3 + m4 + m5 + m6 + asleep ≤ 7647 * kn + 7744 * (c + 1)
 in-all c kn rd pr s1 r1 s2 r2 s3 r3 s4 r4 s5 r5 s6 r6 n2 n5 m1 m2 m3 m4 m5 m6 asleep e0 e2 e5 a1 a2 a3 a4 a5 a6 b1 b2 b3 b4 b5 b6 b7 b8 b9 b10 b11 b12 =
     omega (arith, e0, e2, e5, a1, a2, a3, a4, a5, a6, b1, b2, b3, b4, b5, b6, b7, b8, b9, b10, b11, b12)
@@ -137,7 +136,7 @@ module _ {L : Type 0} {J : Jobs L} (jobs : AreJobs J) (o : Opening J) (s : TwinS
   sent-23 =
       let none = no-sum {L = L} (s.histories 2) in
       let few = (owes J 2 (sends (2 ∷ 3 ∷ [])) (spot 1 Receiver ∷ []) nothing 3 Any input_worth (omega arith, omega arith) (input-credit J) (s.histories 2)
-          (st.follows 2)).few in
+      (st.follows 2)).few in
       omega (arith, none, few)
 
   sent-4 : sent 4 ≤ line_pages J * (got 2 + 0)
@@ -165,13 +164,13 @@ module _ {L : Type 0} {J : Jobs L} (jobs : AreJobs J) (o : Opening J) (s : TwinS
   made-2 = behind-other _ _ _ _ (made-most J 2 (omega arith, omega arith) Any none_todo (input-has L) (s.histories 2) 3 (st.follows 2) (omega arith)
       (omega arith))
       (paid-most J 2 (omega arith, omega arith) (spot 1 Receiver ∷ []) (spot 2 Sender ∷ spot 3 Sender ∷ []) [] nothing (input-pays J) (s.histories 2)
-          (st.follows 2))
+      (st.follows 2))
 
   made-5 : made (s.histories 5) ≤ 2 * (sent 6 + 0) + 7 * (got 4 + (got 5 + 0)) + 5 * 0 + sum_of {L = L} nothing (s.histories 5) + (8 + 2 * 3)
   made-5 = behind-other _ _ _ _ (made-most J 5 (omega arith, omega arith) Any none_todo (output-has L) (s.histories 5) 3 (st.follows 5) (omega arith)
       (omega arith))
       (paid-most J 5 (omega arith, omega arith) (spot 6 Sender ∷ []) (spot 4 Receiver ∷ spot 5 Receiver ∷ []) [] nothing (output-pays J) (s.histories 5)
-          (st.follows 5))
+      (st.follows 5))
 
   made-6 : made (s.histories 6) ≤ 2 * (got 6 + 0) + 7 * 0 + 5 * 0 + sum_of prints_one (s.histories 6) + (8 + 2 * 1)
   made-6 = behind-other _ _ _ _ (made-most J 6 (omega arith, omega arith) Any none_todo (printer-has L) (s.histories 6) 1 (st.follows 6) (omega arith)

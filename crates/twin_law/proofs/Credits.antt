@@ -1,6 +1,6 @@
 -- What a process put is no more than so many times what it took, by what it is still worth at each place.
 use Rattle.std.proofs.Common.{◌≡◌, inl, inr, ℕ, ◌+◌, ◌*◌, ◌≤◌, ◌==◌, ◌&&◌, true, false, List, [], ◌∷◌, length, refl, sym, ◌∙◌, ap, subst, arith}
-use Rattle.network_law.specs.Acts.{Call, Alone, At, Asks, Gives, Visit, Moves, Went, Delayed, Told, Moved, moved_by, if_at}
+use Rattle.network_law.specs.Acts.{Call, Alone, At, Asks, Gives, Moves, Went, Delayed, Told, Moved, moved_by, if_at}
 use Rattle.network_law.specs.Acts as go
 use Rattle.network_law.specs.Network.{IsOne, acts}
 use Rattle.network_law.specs.Network as law
@@ -11,8 +11,7 @@ use Rattle.batch_procs.specs.Jobs.{Jobs}
 use Rattle.batch_procs.specs.Parcels.{Parcel, OfPage}
 use Rattle.place_law.specs.Process.{Does, LacksMemory, Delays}
 use Rattle.batch_procs.specs.declared.actions.Reply.TheVariants as reply
-use Rattle.twin_law.specs.Process.{Action, AwaitRoom, AwaitItem, Request, TakePage, Release, Local, Stop, Ended, Entry, Process, stands_behind, place, aim}
-use Rattle.twin_law.specs.Sides.{other}
+use Rattle.twin_law.specs.Process.{Action, AwaitRoom, AwaitItem, Request, TakePage, Release, Local, Stop, Ended, Entry, Process, stands_behind, place}
 use Rattle.twin_law.specs.Table.{process}
 use Rattle.twin_law.specs.Twin.{call, went_by, Fits, IsGood, MayLack, twin}
 use Rattle.twin_law.proofs.Marks.{makes, IsAround, made}
@@ -180,7 +179,7 @@ module _ {L : Type 0} (J : Jobs L) (p : ℕ) (outs ins : List Spot) (extra : Ent
               (extra (Delays a))
               (worth (place (process J p) h)) (k * many_by ins (call p a) Delayed) was.few
               (still (many_by outs (call p a) Delayed) (extra (Delays a)) (worth (place (process J p) h)) (worth (place (process J p) h))
-                  (k * many_by ins (call p a) Delayed)
+              (k * many_by ins (call p a) Delayed)
               (still-many outs (call p a) Delayed tt) (has.waits a) refl)
               (many-more outs (call p a) Delayed ac) (times-more (call p a) Delayed h);
         }

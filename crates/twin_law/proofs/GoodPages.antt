@@ -1,5 +1,5 @@
 -- A page that is read has 506 items at most, and these are items.
-use Rattle.std.proofs.Common.{◌≡◌, ◌≤◌, ℕ, zero, suc, ◌==◌, Bool, true, false, ◌&&◌, not, if◌then◌else◌, List, [], ◌∷◌, length, take, drop, Option, None, Some, Result, Ok, Err, refl, sym, ap, subst, arith}
+use Rattle.std.proofs.Common.{◌≡◌, ◌≤◌, ℕ, zero, suc, ◌==◌, Bool, true, false, ◌&&◌, not, if◌then◌else◌, List, [], ◌∷◌, length, take, drop, Option, None, Some, Result, Ok, Err, refl, arith}
 use Rattle.std.specs.Prelude.{nat_le, slice_index}
 use Rattle.std.proofs.lemmas.Bool.Decides.{nat_tests}
 use Rattle.solo_base.specs.PageBytes.{number_at}
@@ -8,7 +8,7 @@ use Rattle.solo_base.specs.declared.page.Page.{Page}
 use Rattle.page_codec.specs.declared.judge.BadPage.{BadPage}
 use Rattle.page_codec.specs.Form.{mark}
 use Rattle.page_codec.specs.Places.{content_length, content_of}
-use Rattle.page_codec.specs.Reading.{PageContent, characters, items_after, bad_item_after, has_length, or_else, bad_body, bad_place, content_or_bad, page_read}
+use Rattle.page_codec.specs.Reading.{PageContent, characters, items_after, has_length, or_else, bad_body, bad_place, content_or_bad, page_read}
 use Rattle.page_codec.specs.Items.{AreItems}
 use Rattle.page_codec.proofs.Scan.{all_read}
 use Rattle.place_law.specs.Process.{fault_in}
@@ -65,7 +65,7 @@ sound place last bytes e =
 -- what holds of a page with few items, and of a damaged one, holds of a page
 pub good-page : (P : Result PageContent BadPage → Type 0) (n : ℕ) (last : Bool) (page : Page)
     → ((items : List Item) → length items ≤ 506 → AreItems items → P (Ok (record { items = items; last = last }))) → ((bad : BadPage) → P (Err bad))
-        → P (page_read n last page)
+    → P (page_read n last page)
 good-page P n last page good bad = by (bad_place n last page.0) refl where
   by : (at : Option ℕ) → bad_place n last page.0 ≡ at → P (content_or_bad n last page.0 at)
   by None e = (let s = sound n last page.0 e in good (items_after 0 (content_of page.0)) s.few s.are)

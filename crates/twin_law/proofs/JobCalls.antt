@@ -1,5 +1,5 @@
 -- How many calls a job process makes, whatever pages it is given: only a page that is read makes it load files.
-use Rattle.std.proofs.Common.{◌≡◌, inl, inr, ℕ, ◌+◌, ◌*◌, ◌≤◌, ◌%◌, ◌^◌, List, [], ◌∷◌, length, Option, None, Some, refl, sym, ◌∙◌, ap, subst, arith}
+use Rattle.std.proofs.Common.{◌≡◌, inl, inr, ℕ, ◌+◌, ◌*◌, ◌≤◌, ◌%◌, ◌^◌, List, [], ◌∷◌, length, Option, None, Some, refl, sym, ap, subst, arith}
 use Rattle.network_law.specs.Acts.{Call, Went, Delayed, moved_by}
 use Rattle.network_law.specs.Network.{IsOne, acts}
 use Rattle.network_law.specs.Network as law
@@ -9,9 +9,9 @@ use Rattle.page_codec.specs.Packing.{fits}
 use Rattle.batch_procs.specs.declared.actions.Reply.{Reply}
 use Rattle.batch_procs.specs.Jobs.{Jobs, AreJobs}
 use Rattle.batch_procs.specs.Parcels.{Parcel}
-use Rattle.place_law.specs.Process.{Does, LacksMemory, Delays, or_new}
+use Rattle.place_law.specs.Process.{Does, LacksMemory, Delays}
 use Rattle.batch_procs.specs.declared.actions.Reply.TheVariants as reply
-use Rattle.twin_law.specs.Process.{Action, Entry, place, aim, given_cause, caused, Closing, closing, closing_by, closes, next_action}
+use Rattle.twin_law.specs.Process.{Action, Entry, place, aim, given_cause, caused, closing, closing_by, next_action}
 use Rattle.twin_law.specs.Sides.{A, B}
 use Rattle.twin_law.specs.Job.{JobPlace, TakesItems, LoadsFile, Toils, PutsLines, PutsLastLines, HasWorked, job_aims, job}
 use Rattle.twin_law.specs.Table.{process}
@@ -68,11 +68,11 @@ module _ {L : Type 0} {J : Jobs L} (jobs : AreJobs J) (p : ℕ) (one : IsOne (tw
     (todo : (process J p).Place → ℕ)
     (has : HasTodo (process J p) Is todo)
     (pays : (x : (process J p).Place) (r : Reply L) → Fits (makes ((process J p).aims x)) r
-        → PaidSo J p one [] pages taken nothing (process J p).works (makes ((process J p).aims x)) r)
+    → PaidSo J p one [] pages taken nothing (process J p).works (makes ((process J p).aims x)) r)
     (two : length (process J p).buffers ≤ 2) (two_spools : length (process J p).spools ≤ 2)
     (few : (x : (process J p).Place) (r : Reply L) → Fits (makes ((process J p).aims x)) r → given_cause (process J p) x (makes ((process J p).aims x)) r ≡ None
     → items_by_spots taken (call p (makes ((process J p).aims x))) (went_by (makes ((process J p).aims x)) r) ≤ 506 * many_by taken
-        (call p (makes ((process J p).aims x))) (went_by (makes ((process J p).aims x)) r)) where
+    (call p (makes ((process J p).aims x))) (went_by (makes ((process J p).aims x)) r)) where
   abbrev Few : Action → Reply L → Type 0
   Few a r = items_by_spots taken (call p a) (went_by a r) ≤ 506 * many_by taken (call p a) (went_by a r)
 
@@ -103,7 +103,7 @@ module _ {L : Type 0} {J : Jobs L} (jobs : AreJobs J) (p : ℕ) (one : IsOne (tw
       let items = items-more taken (call p a) (went_by a r) ac in
       subst (λ n. n ≤ 506 * many taken (acts (twin J) p (Does a r ∷ h))) (sym items)
       (few-then (many taken ac) (many taken (acts (twin J) p (Does a r ∷ h))) (items_at taken ac) (items_by_spots taken (call p a) (went_by a r))
-          (many_by taken (call p a) (went_by a r)) was here
+      (many_by taken (call p a) (went_by a r)) was here
       (many-more taken (call p a) (went_by a r) ac))
   few-items (LacksMemory a r ∷ h) follows none = absurd (not-lacking (caused (process J p) h) _ none)
   few-items (Delays a ∷ h) follows none =
@@ -124,7 +124,7 @@ module _ {L : Type 0} {J : Jobs L} (jobs : AreJobs J) (p : ℕ) (one : IsOne (tw
   free-calls : (h : List (Entry L)) → law.Follows (twin J) p h → caused (process J p) h ≡ None → calls h ≤ 7 * moves-of h + 2530 * takes-of h + 12
   free-calls h follows none =
       in-calls _ _ _ _ _ _ (made-most J p one Is todo has h 2 follows two two_spools) (paid-most J p one [] pages taken nothing pays h follows) (no-sum h)
-          (few-items h follows none)
+      (few-items h follows none)
 
   more-spots : (spots : List Spot) (c : Call) (w : Went (Parcel L)) (h : List (Entry L))
       → many spots (acts (twin J) p h) ≤ many spots (record { call = c; went = w } ∷ acts (twin J) p h)
@@ -148,9 +148,9 @@ module _ {L : Type 0} {J : Jobs L} (jobs : AreJobs J) (p : ℕ) (one : IsOne (tw
     by closed (Some was) some =
         let next = next-closes J p one Is todo has h a (record { stops = (process J p).buffers; how = was }) (closing-of h was some) follows.0 in
         let less = subst (λ a. counts_by a r + end_left (process J p).buffers (Does a r ∷ h) ≤ end_left (process J p).buffers h) next.1
-            (closes-less (process J p).buffers was h r next.0) in
+        (closes-less (process J p).buffers was h r next.0) in
         still-less (calls h) (counts_by a r) (moves-of h) (takes-of h) _ _ (end_left (process J p).buffers h) (end_left (process J p).buffers (Does a r ∷ h))
-            (closed was some) less
+        (closed was some) less
         (more-spots pages (call p a) (went_by a r) h) (more-spots taken (call p a) (went_by a r) h)
   caused-calls (LacksMemory a r ∷ h) how follows e = by (caused (process J p) h) refl where
     by : (before : Option Outcome) → caused (process J p) h ≡ before → Closes (LacksMemory a r ∷ h)

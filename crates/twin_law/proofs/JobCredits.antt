@@ -1,5 +1,5 @@
 -- What a job process put comes of what it took: of each page of items so many pages of lines.
-use Rattle.std.proofs.Common.{◌≡◌, ℕ, suc, ◌+◌, ◌*◌, ◌-◌, ◌≤◌, ◌%◌, ◌^◌, Bool, true, false, List, [], ◌∷◌, ◌++◌, length, length-append, length-drop, drop, Option, None, Some, refl, ◌∙◌, sym, ap, arith}
+use Rattle.std.proofs.Common.{◌≡◌, ℕ, ◌+◌, ◌*◌, ◌-◌, ◌≤◌, ◌%◌, ◌^◌, Bool, true, false, List, [], ◌∷◌, ◌++◌, length, length-append, length-drop, Option, None, Some, refl, ◌∙◌, sym, ap, arith}
 use Rattle.std.specs.List.{AllByRecursion}
 use Rattle.solo_base.specs.declared.item.Item.{Item}
 use Rattle.solo_base.specs.declared.item.Item.TheVariants.{Line}
@@ -12,14 +12,13 @@ use Rattle.batch_procs.specs.Jobs.{Jobs, AreJobs}
 use Rattle.batch_procs.specs.declared.actions.Reply.TheVariants as reply
 use Rattle.twin_law.specs.Process.{Action, PutPage, TakePage, stands_behind}
 use Rattle.twin_law.specs.Sides.{Twin, A, B}
-use Rattle.twin_law.specs.Input.{empty_page, last_of}
-use Rattle.twin_law.specs.Job.{Stream, no_stream, JobPlace, TakesItems, LoadsFile, Toils, PutsLines, PutsLastLines, HasWorked, job_aims, wanted, toils, behind_items, with_page, behind_page, page_taken, with_load, Packed, packed_on, packs_lines, with_packed, rests, behind_packed, lines_ahead, behind_work, next_stream, job}
+use Rattle.twin_law.specs.Job.{Stream, no_stream, JobPlace, TakesItems, LoadsFile, Toils, PutsLines, PutsLastLines, HasWorked, job_aims, wanted, toils, behind_items, with_page, behind_page, page_taken, with_load, Packed, packed_on, packs_lines, with_packed, behind_packed, lines_ahead, behind_work, next_stream, job}
 use Rattle.twin_law.specs.Twin.{call, went_by, Fits, IsGood}
 use Rattle.twin_law.specs.Left.{line_pages}
 use Rattle.twin_law.proofs.Marks.{makes}
 use Rattle.twin_law.proofs.Pays.{spot, many_by, nothing}
 use Rattle.twin_law.proofs.GoodPages.{good-page}
-use Rattle.twin_law.proofs.Credits.{sends, lacks-none, Spends, HasCredit}
+use Rattle.twin_law.proofs.Credits.{sends, lacks-none, HasCredit}
 
 -- ---- plain numbers
 parts : (m a n : ℕ) → m * (a + n) ≡ m * a + m * n
@@ -70,8 +69,12 @@ packed-so hand n (line ∷ rest) =
     let on = packed-so next (n + 1) rest in
     let P : Option Page → Type 0 = λ g. PackedIs n (line ∷ rest) (packed_on g next (n + 1) (packs_lines next (n + 1) rest)) in
     elim (page_given hand (Line line)) as P [
-      | None ↦ record { least = (let a = on.least in omega (arith, a)); most = (let a = on.most in omega (arith, a)); some = λ page e.
-          (let a = on.some page e in omega (arith, a)) }
+      | None ↦ record {
+        least = (let a = on.least in omega (arith, a));
+        most = (let a = on.most in omega (arith, a));
+        some = λ page e.
+            (let a = on.some page e in omega (arith, a));
+      }
       | Some page ↦ record { least = omega arith; most = omega arith; some = λ page e. omega arith }
     ]
 
@@ -133,12 +136,14 @@ module _ {L : Type 0} {J : Jobs L} (jobs : AreJobs J) where
 
   page-began : (s : Stream L) (items : List Item) → length items ≤ 506 → AreItems items → IsGoodStream s → Began (with_page s items)
   page-began s items few are good =
-      let more = grows J.most (length s.items) (length items) (length (s.items ++ items)) few (length-append s.items items) in
-      (record {
-        items = both-so IsItem s.items items good.items are;
-        loads = good.loads;
-        filled = fills-on (J.most * length s.items) (J.most * length (s.items ++ items)) s.pages s.packed more.1 good.filled;
-      }, omega arith)
+      let more = grows J.most (length s.items) (length items) (length (s.items ++ items)) few (length-append s.items items) in (
+        record {
+          items = both-so IsItem s.items items good.items are;
+          loads = good.loads;
+          filled = fills-on (J.most * length s.items) (J.most * length (s.items ++ items)) s.pages s.packed more.1 good.filled;
+        },
+        omega arith,
+      )
 
   page-comes : (s : Stream L) (page : Page) (last : Bool) → IsGoodStream s → Comes (behind_page J s (page_taken s page last)) (line_pages J + rest_of s)
   page-comes s page last good =
@@ -167,7 +172,7 @@ module _ {L : Type 0} {J : Jobs L} (jobs : AreJobs J) where
       let so = packed-so s.hand s.packed ahead in
       let all = J.most * length s.items in
       let fill = packs-few all s.pages s.packed (length (J.lines s.items s.loads last)) (length ahead) p.packed
-          (jobs.few_lines s.items s.loads last began.0.items began.0.loads) began.1
+      (jobs.few_lines s.items s.loads last began.0.items began.0.loads) began.1
       began.0.filled (length-drop s.packed (J.lines s.items s.loads last)) so.most in
       packed-comes (with_packed s p.packed p.hand) last p.page (rest_of s) (record { items = began.0.items; loads = began.0.loads; filled = fill }, began.1)
       (falls all s.pages s.packed p.packed so.least) (leaves-one all s.pages s.packed began.0.filled began.1)
@@ -188,7 +193,7 @@ module _ {L : Type 0} {J : Jobs L} (jobs : AreJobs J) where
   job-turns side (TakesItems s) reply.Failed fits good is = record { is = is; few = omega arith }
   job-turns side (LoadsFile file s last) (reply.Loaded load) fits good is =
       (let now = with_load s load in let next = toils-comes (wanted J now) now last
-          (load-began s load good is) in let few = next.few in record { is = next.is; few = omega (arith, few) })
+      (load-began s load good is) in let few = next.few in record { is = next.is; few = omega (arith, few) })
   job-turns side (LoadsFile file s last) reply.Failed fits good is = record { is = is; few = omega arith }
   job-turns side (LoadsFile file s last) reply.NoMemory fits good is = record { is = is; few = omega arith }
   job-turns side (Toils s last) reply.Done fits good is =

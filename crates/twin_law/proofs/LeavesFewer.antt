@@ -1,11 +1,10 @@
 -- Each event leaves fewer, whatever the devices are; and from an opening there are no more than can be counted.
-use Rattle.std.proofs.Common.{◌≡◌, inl, inr, ℕ, suc, ◌+◌, ◌*◌, ◌-◌, ◌≤◌, ◌<◌, List, [], ◌∷◌, ◌++◌, length, length-append, Option, None, Some, refl, sym, ◌∙◌, ap, subst, arith}
+use Rattle.std.proofs.Common.{◌≡◌, inl, inr, ℕ, ◌+◌, ◌*◌, ◌-◌, ◌≤◌, ◌<◌, List, [], ◌∷◌, length, length-append, Option, None, Some, refl, sym, ◌∙◌, ap, subst, arith}
 use Rattle.std.proofs.lemmas.List.{append-nil}
 use Rattle.std.proofs.lemmas.Bool.Decides.{eqb_tells}
 use Rattle.network_run.specs.Runs.{most_events}
 use Rattle.network_run.proofs.Along.{reached-more}
 use Rattle.network_law.specs.Network.{IsEnabled, IsOne, happens}
-use Rattle.network_law.specs.Network as law
 use Rattle.network_law.proofs.Numbers.{set-same, set-other}
 use Rattle.solo_base.specs.declared.outcome.Outcome.{Outcome}
 use Rattle.page_codec.specs.Packing.{fits}
@@ -22,7 +21,7 @@ use Rattle.twin_law.specs.Opening.{Opening}
 use Rattle.twin_law.specs.TheLaw.{the_law, first_state, IsReached}
 use Rattle.twin_law.specs.Told.{read_all}
 use Rattle.twin_law.specs.Left.{still_read, cards_in_all, events_so_far, line_pages, most_with, events_left, DrawsFrom}
-use Rattle.twin_law.proofs.Lawful.{Shape, Closes, SeatedAt, next-shape}
+use Rattle.twin_law.proofs.Lawful.{Shape, SeatedAt, next-shape}
 use Rattle.twin_law.proofs.Marks.{makes, IsAround, made, made-closes}
 use Rattle.twin_law.proofs.Open.{reads-first}
 use Rattle.twin_law.proofs.AllEvents.{times-less, one-entry, few-events}
@@ -114,14 +113,14 @@ module _ {L : Type 0} where
     card-fewer h (Does a r) c d next suits draws =
         let x = place (card {L = L}) h in
         let now = subst (λ cause. length (read_off (Does a r)) + still_read (or_new cause (given_cause (card {L = L}) x a r))
-            (stands_behind (card {L = L}) x a r) d ≤ still_read cause x c)
+        (stands_behind (card {L = L}) x a r) d ≤ still_read cause x c)
         refl (one-fewer h a r c d (caused (card {L = L}) h) refl next suits.0 draws) in
         let both = length-append (read_all h) (read_off (Does a r)) in
         omega (arith, now, both)
     card-fewer h (LacksMemory a r) c d next suits draws = absurd (let never = suits.0 in cc)
     card-fewer h (Delays a) c d next suits draws =
         let same : in_all (Delays a ∷ h) d ≡ in_all h d = ap (λ (all : List _). length all + still_read (caused (card {L = L}) h) (place (card {L = L}) h) d)
-            (append-nil (read_all h)) in
+        (append-nil (read_all h)) in
         subst (λ n. n ≤ in_all h c) (sym same) (subst (λ d. in_all h d ≤ in_all h c) (sym draws) (omega arith))
 
     all-fewer : (s : TwinState L) (event : TwinEvent L) (c d : ℕ) → IsEnabled (twin J) s event → DrawsFrom event.entry c d
@@ -133,7 +132,7 @@ module _ {L : Type 0} where
         elim (eqb_tells p 1) as (λ _. in_all (after.histories 1) d ≤ in_all (s.histories 1) c) [
           | inl e ↦
               subst (λ h. in_all h d ≤ in_all (s.histories 1) c)
-                  (sym (subst (λ q. after.histories q ≡ event.entry ∷ s.histories q) e.1 (set-same s.histories p own)))
+              (sym (subst (λ q. after.histories q ≡ event.entry ∷ s.histories q) e.1 (set-same s.histories p own)))
               (card-fewer (s.histories 1) event.entry c d (subst (λ q. next_action (process J q) (s.histories q) ≡ Some (action_of event.entry)) e.1 is.next)
               (subst (λ q. Suits J (process J q) event.entry) e.1 is.suits) draws)
           | inr differ ↦
@@ -191,9 +190,9 @@ module _ {L : Type 0} {J : Jobs L} (jobs : AreJobs J) where
       let one = one-entry J s event is.one in
       subst (λ n. most_with J (cards_in_all left after) - n < events_left J cards s) (sym one)
       (fewer-left (most_with J (cards_in_all cards s)) (most_with J (cards_in_all left after)) (events_so_far s)
-          (most-less (cards_in_all left after) (cards_in_all cards s) fewer)
+      (most-less (cards_in_all left after) (cards_in_all cards s) fewer)
       (let a : events_so_far s + 1 ≤ most_with J (length (read_all (after.histories 1))) = subst
-          (λ n. n ≤ most_with J (length (read_all (after.histories 1)))) one few in omega (arith, a, within)))
+      (λ n. n ≤ most_with J (length (read_all (after.histories 1)))) one few in omega (arith, a, within)))
 
   pub opening-within : (o : Opening J) (cards : ℕ) → cards ≤ 33555457 → events_left J cards (first_state o) ≤ most_events
   opening-within o cards few =
