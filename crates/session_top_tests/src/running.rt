@@ -76,12 +76,16 @@ pub struct Came {
 }
 
 impl Came {
-    /// Whether the whole session was done, and no typed line is left.
-    pub fn is_whole(&self, session: Session) -> bool {
+    /// Whether the whole session was told.
+    pub fn is_told(&self, session: Session) -> bool {
         self.status == 0
             && self.console.as_slice() == session.console
             && self.paper.as_slice() == session.paper
-            && self.next == Took::Bytes(0)
+    }
+
+    /// Whether it was told, and no typed line is left.
+    pub fn is_whole(&self, session: Session) -> bool {
+        self.is_told(session) && self.next == Took::Bytes(0)
     }
 
     /// Whether console and paper gained a part of those of the session.
