@@ -8,7 +8,7 @@ use Rattle.deck_format.specs.declared.job.Job.{Job}
 use Rattle.deck_format.specs.declared.job.Job.TheVariants as job
 use Rattle.deck_format.specs.Jobs.{jobs}
 use Rattle.deck_units.specs.Units.{units}
-use Rattle.deck_units.specs.Laws.{IsUnit, AreUnits}
+use Rattle.deck_units.specs.Laws.{IsUnit}
 use Rattle.deck_units.proofs.UnitJobs.{are-units}
 use Rattle.batch_job.specs.Report.{Loads, report}
 use Rattle.batch_job.specs.OneThread.{one_thread_lines}
