@@ -43,10 +43,10 @@ fn give(
     rt: &impl Abort,
     alloc: Global,
     program: &mut ProgramRun,
-    need: Need,
+    need: &Need,
     text: &mut String,
 ) -> Option<()>
-    requires { MayTake (kind_of need) program.old }
+    requires { MayTake (kind_of need.now) program.old }
     ensures { IfSome result (λ _. MayTake AtNothing program.new) }
 {
     match need {
@@ -63,7 +63,7 @@ fn give(
         }
         Need::Display(shown) => {
             tell(rt, text, "display ");
-            tell_line(rt, text, &shown);
+            tell_line(rt, text, shown);
             Some(())
         }
         Need::Page(_) => {
@@ -86,7 +86,8 @@ fn tell_end(rt: &impl Abort, text: &mut String, printing: &Printing) {
 fn work(
     rt: &impl Abort,
     alloc: Global,
-    (program, paper): (&mut ProgramRun, &mut Paper),
+    program: &mut ProgramRun,
+    paper: &mut Paper,
     files: &mut FileArea<SureArea>,
     text: &mut String,
 ) -> Option<()>
@@ -95,7 +96,7 @@ fn work(
 {
     assert!(rt; files.sound());
     match program.go_on(alloc, paper, files) {
-        Ok(Progress::Needs(need)) => give(rt, alloc, program, need, text),
+        Ok(Progress::Needs(need)) => give(rt, alloc, program, &need, text),
         Ok(Progress::Ends(printing)) => {
             tell_end(rt, text, &printing);
             None
@@ -116,7 +117,7 @@ fn run(
 {
     let mut paper = Paper::new();
     for _ in 0..100 {
-        let Some(()) = work(rt, alloc, (program, &mut paper), files, text) else {
+        let Some(()) = work(rt, alloc, program, &mut paper, files, text) else {
             return;
         };
     }
