@@ -1,0 +1,5 @@
+pub mod Working
+pub mod Words
+pub mod CardLines
+pub mod Answering
+pub mod Programs

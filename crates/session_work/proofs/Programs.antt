@@ -1,0 +1,118 @@
+-- Programs under way.
+use Rattle.std.proofs.Common.{◌≡◌, ℕ, zero, suc, Bool, List, [], ◌∷◌, ◌++◌, Option, None, Some, Result, Ok, Err, refl, sym, ◌∙◌, ap, subst}
+use Rattle.disk_layout.specs.Files.{Files, files as file_map}
+use Rattle.solo_law.specs.Work.{Given, OfCards, OfTyped, OfNothing}
+use Rattle.solo_law.specs.Work as law
+use Rattle.solo_procs.specs.Commands.{Kind, AtLine, AtCards, AtTyped, AtNothing, kind_behind, pages_behind, IsNeed}
+use Rattle.solo_procs.specs.declared.commands.Need.{Need}
+use Rattle.solo_procs.specs.declared.commands.Need.TheVariants as needs
+use Rattle.solo_procs.specs.declared.commands.WorkFault.TheVariants.{Failed, NoMemory}
+use Rattle.solo_task.specs.Answers.{Doing}
+use Rattle.solo_task.specs.Needs.{Pause, Paused, comes_to, resumes}
+use Rattle.solo_work.specs.declared.paper.Paper.{Paper}
+use Rattle.solo_work.specs.declared.printing.Printing.{Printing}
+use Rattle.solo_work.specs.Paper.{IsHand}
+use Rattle.solo_work.specs.Printing.{prints_then}
+use Rattle.solo_work.specs.Passing.{IsAmong}
+use Rattle.solo_base.specs.declared.item.Feed.{Feed}
+use Rattle.program_task.specs.Task.{CardFile}
+use Rattle.program_run.specs.Sight.{Sight, IsLeftOf, MayTake, StandsFor, TakesCards, TakesLine}
+use Rattle.program_run.specs.Work as run
+use Rattle.session_work.specs.declared.session.Session.{Session}
+use Rattle.session_work.specs.declared.session.UnderWay.{UnderWay}
+use Rattle.session_work.specs.declared.session.UnderWay.TheVariants as under_way
+use Rattle.session_work.specs.Pausing.{PausesAt, StandsAt, Awaits, MayGoOn, kind_of}
+use Rattle.session_work.specs.Working.{Reaches, CameTo, StopsAmong, WorkedSo, awaiting}
+use Rattle.session_work.proofs.Answering.{at-pause, reaches-so}
+
+-- what a piece of work on a program comes to, with these lines in hand
+abbrev pub RunIs : Sight → List (List ℕ) → Files → Paused → Type 0
+RunIs p hand all c = (doing : Doing) × IsLeftOf p all doing × (c ≡ comes_to hand all doing)
+
+-- ---- By its need
+
+kind-is : (pages : ℕ) (need : Need) (needed : law.Need) (p : Sight) → IsNeed pages need needed → MayTake (kind_behind needed) p
+    → (kind_behind needed ≡ kind_of (awaiting need p)) × (kind_behind needed ≡ AtLine → pages_behind needed pages ≡ 0)
+kind-is pages needs.Cards law.CardsNeeded p is may = (refl, λ e. absurd cc)
+kind-is pages needs.Line law.LineNeeded p is may = (refl, λ e. absurd cc)
+kind-is pages (needs.Display line) (law.DisplayNeeded needed) p is may = (refl, λ e. absurd cc)
+kind-is pages (needs.Page page) (law.PageNeeded lines) p is may = (refl, λ e. absurd cc)
+kind-is pages (needs.End last answers) (law.EndNeeded lines needed) p is may = absurd may
+
+pub may-go-on : (pages : ℕ) (need : Need) (needed : law.Need) (p : Sight) → IsNeed pages need needed → MayTake (kind_behind needed) p
+    → MayGoOn (awaiting need p)
+may-go-on pages needs.Cards law.CardsNeeded p is may = may
+may-go-on pages needs.Line law.LineNeeded p is may = may
+may-go-on pages (needs.Display line) (law.DisplayNeeded needed) p is may = may
+may-go-on pages (needs.Page page) (law.PageNeeded lines) p is may = may
+may-go-on pages (needs.End last answers) (law.EndNeeded lines needed) p is may = absurd may
+
+pauses-so : (pages : ℕ) (need : Need) (needed : law.Need) (p : Sight) (hand : List (List ℕ)) (all : Files) (pause : Pause) → IsNeed pages need needed
+    → MayTake (kind_behind needed) p → StandsFor (kind_behind needed) p hand all pause → PausesAt (awaiting need p) hand all pause
+pauses-so pages needs.Cards law.CardsNeeded p hand all pause is may stands = stands
+pauses-so pages needs.Line law.LineNeeded p hand all pause is may stands = stands
+pauses-so pages (needs.Display line) (law.DisplayNeeded needed) p hand all pause is may stands = stands
+pauses-so pages (needs.Page page) (law.PageNeeded lines) p hand all pause is may stands = stands
+pauses-so pages (needs.End last answers) (law.EndNeeded lines needed) p hand all pause is may stands = absurd may
+
+pub needs-so : (pages : ℕ) (hand : List (List ℕ)) (before after : Option (List (List ℕ))) (p now_p : Sight) (need : Need) (paper : Paper) (now : Session)
+    → run.ComesTo pages hand before p need now_p paper after → now.under_way ≡ awaiting need now_p → now.paper ≡ paper
+    → CameTo pages (RunIs p hand) before need now after
+needs-so pages hand before after p now_p need paper now comes is paper_is =
+    let kind = kind-is pages need comes.needed now_p comes.is comes.may in
+    let hand_is = subst (λ (q : Paper). IsHand q (pages_behind comes.needed pages) comes.hand_now) (sym paper_is) comes.hand_is in
+    record {
+      needed = comes.needed;
+      is = comes.is;
+      fits = comes.fits;
+      awaited = record { is = kind.0 ∙ sym (ap kind_of is); begins = kind.1; hand = comes.hand_now; hand_is = hand_is };
+      told = λ told here c makes.
+          let (doing, left, same) = makes in
+          let came = comes.told told doing here left in
+          reaches-so c (record { need = comes.needed; maps = came.maps; files = file_map came.pages; pause = came.pause }) before after now came.pages came.told
+          (same ∙ came.comes) refl
+          (at-pause now (file_map came.pages) came.pause (pages_behind comes.needed pages) comes.hand_now (awaiting need now_p) is hand_is
+          (pauses-so pages need comes.needed now_p comes.hand_now (file_map came.pages) came.pause comes.is comes.may came.stands));
+    }
+
+-- ---- By its end
+
+pub ends-so : (pages : ℕ) (hand : List (List ℕ)) (before after : Option (List (List ℕ))) (p : Sight) (printing : Printing) (paper : Paper)
+    (need : Need) (now : Session) (e : run.EndsSo pages hand before p printing paper after)
+    → CameTo pages (λ all c. c ≡ comes_to e.hand_now all (prints_then printing.lines printing.next printing.answers)) after need now after
+    → CameTo pages (RunIs p hand) before need now after
+ends-so pages hand before after p printing paper need now e printed = record {
+  needed = printed.needed;
+  is = printed.is;
+  fits = printed.fits;
+  awaited = printed.awaited;
+  told = λ told here c makes.
+      let (doing, left, same) = makes in
+      let reached = e.told told doing here left in
+      let later = prints_then printing.lines printing.next printing.answers in
+      let r = printed.told reached.pages reached.told (comes_to e.hand_now (file_map reached.pages) later) refl in
+      subst (λ (x : Paused). Reaches x printed.needed after now) (sym (same ∙ reached.comes))
+      (record { left = r.left; told = r.told; need = r.need; files = r.files; stands = r.stands });
+}
+
+pub lacks-so : (pages : ℕ) (hand : List (List ℕ)) (before after : Option (List (List ℕ))) (p : Sight) (now : Session)
+    → ((old : List (List ℕ)) (doing : Doing) → before ≡ Some old → IsLeftOf p (file_map old) doing
+    → (left : List (List ℕ)) × (after ≡ Some left) × IsAmong (file_map left) (file_map old) (comes_to hand (file_map old) doing).maps)
+    → WorkedSo pages (RunIs p hand) before (Err NoMemory) now after
+lacks-so pages hand before after p now among = λ told here c makes.
+    let (doing, is_left, same) = makes in
+    let (left, told_left, is) = among told doing here is_left in
+    record { left = left; told_left = told_left; among = subst (λ (x : Paused). IsAmong (file_map left) (file_map told) x.maps) (sym same) is }
+
+-- ---- By what it takes
+
+pub takes-cards : (cards : List (List ℕ)) (spoiled : Bool) (p now : Sight) (hand : List (List ℕ)) (all : Files) (c : Paused)
+    → TakesCards (record { cards = cards; spoiled = spoiled }) p now
+    → (pause : Pause) × StandsFor AtCards p hand all pause × (c ≡ resumes (OfCards cards spoiled) all pause) → RunIs now hand all c
+takes-cards cards spoiled p now hand all c takes (pause, (more, is, waits), same) =
+    (more (record { cards = cards; spoiled = spoiled }), waits (record { cards = cards; spoiled = spoiled }) now takes, same ∙ ap (resumes (OfCards cards spoiled) all) is)
+
+pub takes-line : (typed : Feed) (p now : Sight) (hand : List (List ℕ)) (all : Files) (c : Paused) → TakesLine typed p now
+    → (pause : Pause) × StandsFor AtTyped p hand all pause × (c ≡ resumes (OfTyped typed) all pause) → RunIs now hand all c
+takes-line typed p now hand all c takes (pause, (more, is, waits), same) =
+    (more typed, waits typed now takes, same ∙ ap (resumes (OfTyped typed) all) is)
