@@ -11,3 +11,15 @@ pub fn stacks_do_their_tasks()
     ensures served { ServedSo }
     ensures popped { PoppedSo }
 {}
+
+ghost use Rattle.prog_stack.specs.WorkLeft.{BeginsWithin, ItselfNeverRises, ReplyLowers, RunLowers, EndLowers};
+
+/// Each call that is answered leaves less to the programs of a stack, and so does each program that ends, whatever
+/// programs are run above others. Nothing is done here: the contract is the law.
+pub fn less_is_left_behind_each_call()
+    ensures begins { BeginsWithin }
+    ensures itself { ItselfNeverRises }
+    ensures reply { ReplyLowers }
+    ensures run { RunLowers }
+    ensures end { EndLowers }
+{}
