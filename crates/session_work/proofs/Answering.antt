@@ -1,14 +1,17 @@
 -- How a command is answered.
-use Rattle.std.proofs.Common.{◌≡◌, ◌⊎◌, inl, inr, ℕ, zero, suc, List, [], ◌∷◌, ◌++◌, Option, None, Some, Result, Ok, Err, refl, sym, ◌∙◌, ap, subst}
+use Rattle.std.proofs.Common.{◌≡◌, ◌⊎◌, inl, inr, codes, ℕ, zero, suc, List, [], ◌∷◌, ◌++◌, Option, None, Some, Result, Ok, Err, refl, sym, ◌∙◌, ap, subst}
 use Rattle.std.specs.FinMap as fin
 use Rattle.solo_base.specs.declared.page.Page.{Page}
 use Rattle.disk_layout.specs.Files.{Files, files as file_map}
 use Rattle.exchange_law.specs.Pages.{ArePage}
 use Rattle.exchange_law.proofs.Lines.{last-page}
-use Rattle.program_task.specs.Task.{Gives, Changes}
-use Rattle.solo_task.specs.Answers.{Doing}
-use Rattle.solo_task.specs.Needs.{Pause, Idle, Paused, PageNeeded, EndNeeded, CardsNeeded, GoesOn, comes_to, needs as pauses_for, passes}
-use Rattle.solo_procs.specs.Commands.{Kind, AtLine, AtNothing, last_page}
+use Rattle.program_task.specs.Task.{CardFile, Gives, ReadsCards, Changes}
+use Rattle.pascal_mean.specs.Batch.{lines_in, with_characters, nothing_printed}
+use Rattle.solo_task.specs.Answers.{Doing, answer_line}
+use Rattle.solo_task.specs.Copying.{copier, prints_text}
+use Rattle.solo_task.specs.Needs.{Pause, Idle, Paused, PageNeeded, EndNeeded, CardsNeeded, WantsCards, GoesOn, comes_to, needs as pauses_for, passes}
+use Rattle.solo_needs.specs.Needs.{Need as Need0}
+use Rattle.solo_procs.specs.Commands.{Kind, AtLine, AtCards, AtNothing, last_page}
 use Rattle.solo_procs.specs.declared.commands.Need.{Need}
 use Rattle.solo_procs.specs.declared.commands.Need.TheVariants as needs
 use Rattle.solo_procs.specs.declared.commands.WorkFault.{WorkFault}
@@ -20,12 +23,13 @@ use Rattle.solo_work.specs.Passing.{IsAmong}
 use Rattle.solo_work.specs.Printing.{prints_then, PrintsAll, PrintsPage}
 use Rattle.file_commands.specs.declared.fault.CommandFault.{CommandFault}
 use Rattle.file_commands.specs.declared.fault.CommandFault.TheVariants as fault
-use Rattle.file_commands.specs.Settling.{Settles, SettledIn, IsAnsweredSo}
+use Rattle.file_commands.specs.Settling.{Settles, SettledIn, IsSettledSo, IsAnsweredSo}
 use Rattle.session_work.specs.declared.session.Session.{Session}
 use Rattle.session_work.specs.declared.session.UnderWay.{UnderWay}
 use Rattle.session_work.specs.declared.session.UnderWay.TheVariants as under_way
 use Rattle.session_work.specs.Pausing.{PausesAt, StandsAt, Awaits, kind_of}
 use Rattle.session_work.specs.Working.{Reaches, CameTo, StopsAmong, WorkedSo, as_work}
+use Rattle.session_work.proofs.Working.{worked-from}
 
 not-at-line : (n : ℕ) → AtNothing ≡ AtLine → n ≡ 0
 not-at-line n e = absurd cc
@@ -87,14 +91,15 @@ first-among first (next ∷ maps) = inl refl
 pub stops-at-once : (told : List (List ℕ)) (c : Paused) (after : Option (List (List ℕ))) → after ≡ Some told → StopsAmong told c after
 stops-at-once told c after is = record { left = told; told_left = is; among = first-among (file_map told) c.maps }
 
-settles-need : (told pages lines hand : List (List ℕ)) (doing : Doing) (c : Paused) (after : Option (List (List ℕ))) (now : Session) → after ≡ Some pages
+settles-so : (told pages lines hand : List (List ℕ)) (doing : Doing) (c : Paused) (needed : Need0) (after : Option (List (List ℕ))) (now : Session)
     → Settles doing (file_map told) lines (file_map pages) → c ≡ comes_to hand (file_map told) doing
-    → StandsAt now (file_map pages) Idle → Reaches c (EndNeeded hand lines) after now
-settles-need told pages lines hand doing c after now is (inl (gives, same)) e stands =
-    reaches-so c (pauses_for (EndNeeded hand lines) (file_map told) Idle) after after now pages is (e ∙ ap (comes_to hand (file_map told)) gives) same stands
-settles-need told pages lines hand doing c after now is (inr changes) e stands =
-    reaches-so c (passes (file_map pages) (pauses_for (EndNeeded hand lines) (file_map pages) Idle)) after after now pages is
-    (e ∙ ap (comes_to hand (file_map told)) changes) refl stands
+    → Reaches (comes_to hand (file_map pages) (Gives lines)) needed after now → Reaches c needed after now
+settles-so told pages lines hand doing c needed after now (inl (gives, same)) e r =
+    subst (λ (x : Paused). Reaches x needed after now)
+    (sym (e ∙ ap (comes_to hand (file_map told)) gives ∙ ap (λ all. comes_to hand all (Gives lines)) same)) r
+settles-so told pages lines hand doing c needed after now (inr changes) e r =
+    subst (λ (x : Paused). Reaches x needed after now) (sym (e ∙ ap (comes_to hand (file_map told)) changes))
+    (record { left = r.left; told = r.told; need = r.need; files = r.files; stands = r.stands })
 
 settles-among : (told pages lines hand : List (List ℕ)) (doing : Doing) (c : Paused) (after : Option (List (List ℕ))) → after ≡ Some pages
     → Settles doing (file_map told) lines (file_map pages) → c ≡ comes_to hand (file_map told) doing → StopsAmong told c after
@@ -113,19 +118,45 @@ settles-among told pages lines hand doing c after is (inr changes) e =
     }
 
 -- these lines answer it
-pub settled : (pages : ℕ) (hand lines answers : List (List ℕ)) (doing : Files → Doing) (last : Option Page) (old : Paper) (now : Session)
-    (before after : Option (List (List ℕ))) → IsHand old pages hand → last ≡ last_page pages hand → now.under_way ≡ under_way.Idle → IsHand now.paper 0 []
-    → answers ≡ lines → ((told : List (List ℕ)) → before ≡ Some told → SettledIn (doing (file_map told)) told lines after)
-    → CameTo pages (λ all c. c ≡ comes_to hand all (doing all)) before (needs.End last answers) now after
-settled pages hand lines answers doing last old now before after is last_is idle fresh same settles = record {
-  needed = EndNeeded hand lines;
-  is = (last_is, same);
-  fits = last-page hand (record { lines = is.lines; room = is.fits });
-  awaited = record { is = sym (ap kind_of idle); begins = λ at. refl; hand = []; hand_is = fresh };
+pub settled-by : (pages : ℕ) (hand lines answers : List (List ℕ)) (doing : Files → Doing) (need : Need) (now : Session)
+    (before after : Option (List (List ℕ))) → answers ≡ lines
+    → ((told : List (List ℕ)) → before ≡ Some told → SettledIn (doing (file_map told)) told lines after)
+    → CameTo pages (λ all c. c ≡ comes_to hand all (Gives answers)) after need now after
+    → CameTo pages (λ all c. c ≡ comes_to hand all (doing all)) before need now after
+settled-by pages hand lines answers doing need now before after same settles came = record {
+  needed = came.needed;
+  is = came.is;
+  fits = came.fits;
+  awaited = came.awaited;
   told = λ told here c e.
       let s = settles told here in
-      settles-need told s.pages lines hand (doing (file_map told)) c after now s.told s.settles e
-      (at-pause now (file_map s.pages) Idle 0 [] under_way.Idle idle fresh refl);
+      settles-so told s.pages lines hand (doing (file_map told)) c came.needed after now s.settles e
+      (subst (λ ls. Reaches (comes_to hand (file_map s.pages) (Gives ls)) came.needed after now) same
+      (came.told s.pages s.told (comes_to hand (file_map s.pages) (Gives answers)) refl));
+}
+
+-- lines that one call gives over files that stay
+pub gives-at-once : (lines told : List (List ℕ)) (doing : Doing) (before : Option (List (List ℕ))) → doing ≡ Gives lines → before ≡ Some told
+    → SettledIn doing told lines before
+gives-at-once lines told doing before gives here = record { pages = told; told = here; settles = inl (gives, refl) }
+
+-- ---- A card file is awaited
+
+pub awaits-cards : (doing : Files → Doing) (more : Files → CardFile → Doing) (what : UnderWay) (now : Session) (before after : Option (List (List ℕ)))
+    → AtCards ≡ kind_of what → now.under_way ≡ what → IsHand now.paper 0 [] → after ≡ before
+    → ((told : List (List ℕ)) → before ≡ Some told
+    → (doing (file_map told) ≡ ReadsCards (more (file_map told))) × PausesAt what [] (file_map told) (WantsCards [] (more (file_map told))))
+    → CameTo 0 (λ all c. c ≡ comes_to [] all (doing all)) before needs.Cards now after
+awaits-cards doing more what now before after kind is hand_is left reads = record {
+  needed = CardsNeeded;
+  is = tt;
+  fits = tt;
+  awaited = record { is = kind ∙ sym (ap kind_of is); begins = λ e. refl; hand = []; hand_is = hand_is };
+  told = λ told here c same.
+      let (does, pauses) = reads told here in
+      reaches-so c (pauses_for CardsNeeded (file_map told) (WantsCards [] (more (file_map told)))) before after now told (left ∙ here)
+      (same ∙ ap (comes_to [] (file_map told)) does) refl
+      (at-pause now (file_map told) (WantsCards [] (more (file_map told))) 0 [] what is hand_is pauses);
 }
 
 -- memory was refused behind it
@@ -151,3 +182,60 @@ pub refused-so : (pages : ℕ) (Is : Files → Paused → Type 0) (now : Session
     → WorkedSo pages Is before (Err (as_work why)) now after
 refused-so pages Is now before after fault.DiskFault same = tt
 refused-so pages Is now before after fault.NoMemory same = lacks-memory pages Is now before after same
+
+-- all lines are printed, and the command ends then
+pub printed-all : (pages : ℕ) (hand : List (List ℕ)) (p left : Printing) (paper : Paper) (need : Need) (now : Session) (before : Option (List (List ℕ)))
+    (all : PrintsAll p.lines p.next pages hand paper) → left.answers ≡ p.answers
+    → CameTo pages (λ a c. c ≡ comes_to all.last a (Gives left.answers)) before need now before
+    → CameTo pages (λ a c. c ≡ comes_to hand a (prints_then p.lines p.next p.answers)) before need now before
+printed-all pages hand p left paper need now before all same came = record {
+  needed = came.needed;
+  is = came.is;
+  fits = came.fits;
+  awaited = came.awaited;
+  told = λ told here c e.
+      came.told told here c (e ∙ all.is (file_map told) p.answers ∙ ap (λ a. comes_to all.last (file_map told) (Gives a)) (sym same));
+}
+
+-- the same work of tasks that are the same
+pub same-work : (pages : ℕ) (hand : List (List ℕ)) (doing was : Files → Doing) (before mid : Option (List (List ℕ))) (result : Result Need WorkFault) (now : Session)
+    (after : Option (List (List ℕ))) → mid ≡ before → ((told : List (List ℕ)) → before ≡ Some told → doing (file_map told) ≡ was (file_map told))
+    → WorkedSo pages (λ all c. c ≡ comes_to hand all (was all)) mid result now after
+    → WorkedSo pages (λ all c. c ≡ comes_to hand all (doing all)) before result now after
+same-work pages hand doing was before mid result now after left same worked =
+    worked-from pages (λ all c. c ≡ comes_to hand all (doing all)) (λ all c. c ≡ comes_to hand all (was all)) before mid result now after left
+    (λ told here c e. e ∙ ap (comes_to hand (file_map told)) (same told here)) worked
+
+-- a line answers at once
+pub answered-by : (told : List (List ℕ)) (text line : List ℕ) (before : Option (List (List ℕ))) → line ≡ text → before ≡ Some told
+    → IsAnsweredSo (Gives (text ∷ [])) told (Ok line) before
+answered-by told text line before same here = record {
+  pages = told;
+  told = here;
+  settles = inl (ap (λ l. Gives (l ∷ [])) (sym same), refl);
+}
+
+-- the lines of a text
+pub text-printed : (pages : ℕ) (hand : List (List ℕ)) (text : List ℕ) (printing : Printing) (need : Need) (now : Session) (before : Option (List (List ℕ)))
+    → printing.lines ≡ lines_in (with_characters nothing_printed text) → printing.next ≡ 0
+    → printing.answers ≡ answer_line copier (codes "OK") ∷ []
+    → CameTo pages (λ all c. c ≡ comes_to hand all (prints_then printing.lines printing.next printing.answers)) before need now before
+    → CameTo pages (λ all c. c ≡ comes_to hand all (prints_text text)) before need now before
+text-printed pages hand text printing need now before lines next answers came = record {
+  needed = came.needed;
+  is = came.is;
+  fits = came.fits;
+  awaited = came.awaited;
+  told = λ told here c e.
+      came.told told here c
+      (e ∙ ap (comes_to hand (file_map told))
+      (sym (ap (λ ls. prints_then ls printing.next printing.answers) lines
+      ∙ ap (λ n. prints_then (lines_in (with_characters nothing_printed text)) n printing.answers) next
+      ∙ ap (λ a. prints_then (lines_in (with_characters nothing_printed text)) 0 a) answers)));
+}
+
+pub refused-as : (pages : ℕ) (hand : List (List ℕ)) (doing : Files → Doing) (now : Session) (before after : Option (List (List ℕ))) (why : CommandFault)
+    → ((told : List (List ℕ)) → before ≡ Some told → IsSettledSo (doing (file_map told)) told (Err why) after)
+    → WorkedSo pages (λ all c. c ≡ comes_to hand all (doing all)) before (Err (as_work why)) now after
+refused-as pages hand doing now before after fault.DiskFault answers = tt
+refused-as pages hand doing now before after fault.NoMemory answers = λ told here c e. stops-at-once told c after (answers told here)

@@ -1,8 +1,9 @@
 -- The lines of a text, and its first bad word where a line is none.
-use Rattle.std.proofs.Common.{◌≡◌, ◌≤◌, ◌<◌, ℕ, zero, suc, ◌+◌, ◌-◌, min, Bool, true, false, cond, not, ◌&&◌, List, [], ◌∷◌, ◌++◌, length, take, drop, Option, None, Some, Ok, Err, Result, refl, sym, ◌∙◌, ap, subst, arith, append_assoc, length-append}
-use Rattle.std.specs.Prelude.{◌==◌, nat_le, if◌then◌else◌}
+use Rattle.std.proofs.Common.{◌≡◌, ◌⊎◌, inl, inr, ◌≤◌, ◌<◌, ℕ, zero, suc, ◌+◌, ◌-◌, Bool, true, false, cond, not, ◌&&◌, List, [], ◌∷◌, ◌++◌, length, take, drop, Option, None, Some, Ok, Err, Result, refl, sym, ◌∙◌, ap, subst, arith, append_assoc, length-append}
+use Rattle.std.specs.Prelude.{◌==◌, nat_le, if◌then◌else◌, min}
 use Rattle.std.specs.List.{list_all, position_or_len, AllByRecursion}
 use Rattle.std.proofs.lemmas.Bool.Decides.{nat_tests}
+use Rattle.std.proofs.lemmas.Bool.{cases_eq, eq-eqb, ne_eqb}
 use Rattle.std.proofs.lemmas.List.{append-nil}
 use Rattle.solo_base.specs.Card.{lines, before_lines}
 use Rattle.solo_base.specs.Text.{text, line_text}
@@ -10,7 +11,9 @@ use Rattle.solo_base.specs.Line.{is_printable, IsLine, line_of}
 use Rattle.solo_base.specs.LineList.{AreLines}
 use Rattle.pascal_read.specs.Scan.{words, words_from, line_after, next_line}
 use Rattle.pascal_read.proofs.Steps.{same_line}
-use Rattle.pascal_compile.specs.Compiling.{Compiling, compiling, compiled, bad_word}
+use Rattle.stack_code.specs.CodeLists.{CodeLists}
+use Rattle.pascal_compile.specs.declared.compile_fault.CompileFault.{CompileFault}
+use Rattle.pascal_compile.specs.Compiling.{Compiling, compiling, compiled, bad_word, IsCodeFor, Explains}
 use Rattle.solo_task.specs.Compiles.{is_line, bad_line_from, first_bad, by_bad_line, compiling_text}
 use Rattle.session_work.specs.Cards.{card_of, stops_at, NextCard, line_behind, ReadsOn, ReadSo, closing_if, closing, IsCodeOfText}
 use Rattle.session_work.proofs.Words.{has_quote, Ends, line_through, same-front}
@@ -18,6 +21,22 @@ use Rattle.session_work.proofs.Words.{has_quote, Ends, line_through, same-front}
 both : (a b : Bool) → a && b ≡ true → (a ≡ true) × (b ≡ true)
 both true b is = (refl, is)
 both false b is = cc
+
+not-empty : (code : ℕ) (rest : List ℕ) → ◌≡◌ {A = List ℕ} (code ∷ rest) [] → ⊥
+not-empty code rest e = cc
+
+not-none : (card : List ℕ) → ◌≡◌ {A = Option (List ℕ)} None (Some card) → ⊥
+not-none card e = cc
+
+not-some : (card : List ℕ) → ◌≡◌ {A = Option (List ℕ)} (Some card) None → ⊥
+not-some card e = cc
+
+some-same : (a b : List ℕ) → Some a ≡ Some b → a ≡ b
+some-same a b e = cc
+
+and-true : (a b : Bool) → a ≡ true → b ≡ true → a && b ≡ true
+and-true true b e f = f
+and-true false b e f = absurd cc
 
 -- ---- One line of a text
 
@@ -32,12 +51,9 @@ cut-step false code e [] none some =
 cut-step false code e (next ∷ text) none some =
     let one : 1 + e ≡ suc e = omega arith in
     let two : suc e + 1 ≡ suc (e + 1) = omega arith in
-    ap (before_lines code) (some (λ empty. nothing next text empty))
+    ap (before_lines code) (some (not-empty next text))
     ∙ ap (λ n. (code ∷ take e (next ∷ text)) ∷ lines (drop n (code ∷ next ∷ text))) (sym two)
     ∙ ap (λ n. take n (code ∷ next ∷ text) ∷ lines (drop (n + 1) (code ∷ next ∷ text))) (sym one)
-  where
-    nothing : (next : ℕ) (text : List ℕ) → ◌≡◌ {A = List ℕ} (next ∷ text) [] → ⊥
-    nothing next text empty = cc
 
 none-before : (text : List ℕ) → text ≡ [] → position_or_len (λ code. code == 10) text ≡ 0
 none-before text empty = ap (position_or_len (λ code. code == 10)) empty
@@ -48,75 +64,60 @@ line-cut [] some = absurd (some refl)
 line-cut (code ∷ text) some =
     cut-step (code == 10) code (position_or_len (λ code. code == 10) text) text (none-before text) (line-cut text)
 
+few-left : (n : ℕ) (text : List ℕ) → length (drop n text) < suc (length text)
+few-left zero text = omega arith
+few-left (suc n) [] = omega arith
+few-left (suc n) (code ∷ text) = let rest = few-left n text in omega (arith, rest)
+
 shorter : (n : ℕ) (text : List ℕ) (code : ℕ) → length (drop (n + 1) (code ∷ text)) < length (code ∷ text)
 shorter n text code =
     let one : n + 1 ≡ suc n = omega arith in
-    subst (λ k. length (drop k (code ∷ text)) < suc (length text)) (sym one) (few n text)
-  where
-    few : (n : ℕ) (text : List ℕ) → length (drop n text) < suc (length text)
-    few zero text = omega arith
-    few (suc n) [] = omega arith
-    few (suc n) (code ∷ text) = let rest = few n text in omega (arith, rest)
+    subst (λ k. length (drop k (code ∷ text)) < suc (length text)) (sym one) (few-left n text)
 
-line-by : (bytes : List ℕ) (test : Bool) → is_line bytes ≡ test → if test then Some bytes else None ≡ line_of bytes
+line-by : (bytes : List ℕ) (test : Bool) → is_line bytes ≡ test → (if test then Some bytes else None) ≡ line_of bytes
 line-by bytes test is = ap (λ (b : Bool). if b then Some bytes else None) (sym is)
 
+card-by : (bytes card : List ℕ) (test : Bool) → is_line bytes ≡ test → line_of bytes ≡ Some card → (is_line bytes ≡ true) × (bytes ≡ card)
+card-by bytes card true is found = (is, some-same bytes card (line-by bytes true is ∙ found))
+card-by bytes card false is found = absurd (not-none card (line-by bytes false is ∙ found))
+
 is-card : (bytes card : List ℕ) → line_of bytes ≡ Some card → (is_line bytes ≡ true) × (bytes ≡ card)
-is-card bytes card found = by (is_line bytes) refl
-  where
-    by : (test : Bool) → is_line bytes ≡ test → (is_line bytes ≡ true) × (bytes ≡ card)
-    by true is = (is, same bytes card (line-by bytes true is ∙ found))
-      where
-        same : (a b : List ℕ) → Some a ≡ Some b → a ≡ b
-        same a b e = cc
-    by false is = absurd (let e = line-by bytes false is ∙ found in none card e)
-      where
-        none : (card : List ℕ) → ◌≡◌ {A = Option (List ℕ)} None (Some card) → ⊥
-        none card e = cc
+is-card bytes card found = card-by bytes card (is_line bytes) refl found
+
+no-card-by : (bytes : List ℕ) (test : Bool) → is_line bytes ≡ test → line_of bytes ≡ None → is_line bytes ≡ false
+no-card-by bytes true is none = absurd (not-some bytes (line-by bytes true is ∙ none))
+no-card-by bytes false is none = is
 
 no-card : (bytes : List ℕ) → line_of bytes ≡ None → is_line bytes ≡ false
-no-card bytes none = by (is_line bytes) refl
-  where
-    by : (test : Bool) → is_line bytes ≡ test → is_line bytes ≡ false
-    by true is = absurd (let e = line-by bytes true is ∙ none in some bytes e)
-      where
-        some : (card : List ℕ) → ◌≡◌ {A = Option (List ℕ)} (Some card) None → ⊥
-        some card e = cc
-    by false is = is
+no-card bytes none = no-card-by bytes (is_line bytes) refl none
+
+short-by : (n : ℕ) → nat_le n 132 ≡ true → n ≤ 132
+short-by n is = grind (arith, nat_tests)
+
+short-is : (n : ℕ) → n ≤ 132 → nat_le n 132 ≡ true
+short-is n short = grind (arith, nat_tests)
 
 valid : (bytes : List ℕ) → is_line bytes ≡ true → IsLine bytes
 valid bytes is =
     let (short, printable) = both (nat_le (length bytes) 132) (list_all is_printable bytes) is in
-    record { short = within (length bytes) short; printable = printable }
-  where
-    within : (n : ℕ) → nat_le n 132 ≡ true → n ≤ 132
-    within n is = grind (arith, nat_tests)
+    record { short = short-by (length bytes) short; printable = printable }
 
 valid-is : (bytes : List ℕ) → IsLine bytes → is_line bytes ≡ true
-valid-is bytes line = rw (test (length bytes) line.short, line.printable) refl
-  where
-    test : (n : ℕ) → n ≤ 132 → nat_le n 132 ≡ true
-    test n short = grind (arith, nat_tests)
+valid-is bytes line = and-true (nat_le (length bytes) 132) (list_all is_printable bytes) (short-is (length bytes) line.short) line.printable
 
 -- a line that is a card is taken
 pub card-taken : (rest : List ℕ) (line end : ℕ) (card rest_now : List ℕ) (line_now : ℕ) → end ≡ position_or_len (λ code. code == 10) rest
     → card_of rest end ≡ Some card → rest_now ≡ drop (end + 1) rest → line_now ≡ next_line line → NextCard rest line (Some card) rest_now line_now
-card-taken [] line end card rest_now line_now at found behind number = absurd (none card found)
-  where
-    none : (card : List ℕ) → ◌≡◌ {A = Option (List ℕ)} None (Some card) → ⊥
-    none card e = cc
+card-taken [] line end card rest_now line_now at found behind number = absurd (not-none card found)
 card-taken (code ∷ rest) line end card rest_now line_now at found behind number =
     let (is, same) = is-card (take end (code ∷ rest)) card found in
-    let cut = line-cut (code ∷ rest) (λ empty. some code rest empty) in (
+    let cut = line-cut (code ∷ rest) (not-empty code rest) in (
       cut ∙ ap (λ n. take n (code ∷ rest) ∷ lines (drop (n + 1) (code ∷ rest))) (sym at)
           ∙ ap (λ c. c ∷ lines (drop (end + 1) (code ∷ rest))) same ∙ ap (λ r. card ∷ lines r) (sym behind),
       subst IsLine same (valid (take end (code ∷ rest)) is),
       number,
       subst (λ r. length r < length (code ∷ rest)) (sym behind) (shorter end rest code),
     )
-  where
-    some : (code : ℕ) (rest : List ℕ) → ◌≡◌ {A = List ℕ} (code ∷ rest) [] → ⊥
-    some code rest e = cc
 
 -- and any other ends the reading
 pub no-card-left : (rest : List ℕ) (line end : ℕ) → end ≡ position_or_len (λ code. code == 10) rest
@@ -124,12 +125,9 @@ pub no-card-left : (rest : List ℕ) (line end : ℕ) → end ≡ position_or_le
 no-card-left [] line end at none = refl
 no-card-left (code ∷ rest) line end at none =
     let bad = no-card (take end (code ∷ rest)) none in
-    ap (bad_line_from line) (line-cut (code ∷ rest) (λ empty. some code rest empty)
+    ap (bad_line_from line) (line-cut (code ∷ rest) (not-empty code rest)
     ∙ ap (λ n. take n (code ∷ rest) ∷ lines (drop (n + 1) (code ∷ rest))) (sym at))
     ∙ ap (λ (b : Bool). if b then bad_line_from (next_line line) (lines (drop (end + 1) (code ∷ rest))) else Some line) bad
-  where
-    some : (code : ℕ) (rest : List ℕ) → ◌≡◌ {A = List ℕ} (code ∷ rest) [] → ⊥
-    some code rest e = cc
 
 -- ---- Line by line
 
@@ -205,19 +203,22 @@ through-text : (cards : List (List ℕ)) (line : ℕ) → AreLines cards → lin
 through-text [] line are = refl
 through-text (card ∷ cards) line (is, are) = through-line card (text cards) line is.printable ∙ through-text cards (next_line line) are
 
+code-is : (a b : ℕ) → a == b ≡ true → a ≡ b
+code-is a b is = grind (arith, nat_tests)
+
 -- the quotes of a text stand on its lines
 quote-before : (code : ℕ) (ls : List (List ℕ)) (rest : List ℕ) → has_quote (text ls) ≡ has_quote rest
     → has_quote (text (before_lines code ls)) ≡ cond (code == 34) true (has_quote rest)
 quote-before code [] rest same = ap (λ q. cond (code == 34) true q) same
 quote-before code (first ∷ others) rest same = ap (λ q. cond (code == 34) true q) same
 
+end-no-quote : (code : ℕ) → code == 10 ≡ true → false ≡ (code == 34)
+end-no-quote code is = let ten = code-is code 10 is in subst (λ c. false ≡ (c == 34)) (sym ten) refl
+
 quote-step : (ends : Bool) (code : ℕ) (rest : List ℕ) → code == 10 ≡ ends → has_quote (text (lines rest)) ≡ has_quote rest
     → has_quote (text (cond ends ([] ∷ lines rest) (before_lines code (lines rest)))) ≡ cond (code == 34) true (has_quote rest)
 quote-step true code rest is same =
-    same ∙ ap (λ (b : Bool). cond b true (has_quote rest)) (other code is)
-  where
-    other : (code : ℕ) → code == 10 ≡ true → false ≡ (code == 34)
-    other code is = grind (arith, nat_tests)
+    same ∙ ap (λ (b : Bool). cond b true (has_quote rest)) (end-no-quote code is)
 quote-step false code rest is same = quote-before code (lines rest) rest same
 
 quote-lines : (rest : List ℕ) → has_quote (text (lines rest)) ≡ has_quote rest
@@ -225,12 +226,16 @@ quote-lines [] = refl
 quote-lines (code ∷ rest) = quote-step (code == 10) code rest refl (quote-lines rest)
 
 -- and where there is one is told by the place of the first
+same-test : (a b : ℕ) → (a == b) ≡ (1 + a == suc b)
+same-test a b = elim (cases_eq a b) [
+  | inl same ↦ eq-eqb a b same ∙ sym (eq-eqb (1 + a) (suc b) (omega (arith, same)))
+  | inr other ↦ ne_eqb a b other ∙ sym (ne_eqb (1 + a) (suc b) (λ e. other (omega (arith, e))))
+]
+
 found-step : (quote : Bool) (place many : ℕ) (found : Bool) → found ≡ not (place == many)
     → cond quote true found ≡ not (cond (not quote) (1 + place) 0 == suc many)
-found-step true place many found is = refl
-found-step false place many found is =
-    let one : 1 + place ≡ suc place = omega arith in
-    is ∙ ap (λ n. not (n == suc many)) (sym one)
+found-step true place many found is = ap not (sym (ne_eqb 0 (suc many) (λ e. absurd (omega (arith, e)))))
+found-step false place many found is = is ∙ ap not (same-test place many)
 
 quote-found : (rest : List ℕ) → has_quote rest ≡ not (position_or_len (λ code. code == 34) rest == length rest)
 quote-found [] = refl
@@ -252,12 +257,52 @@ words-same text0 rest cards line so =
     (through-text cards 1 so.reads.are_cards ∙ sym so.reads.number) (quotes-same rest)
     ∙ ap (λ t. first_bad line (words_from 1 0 t)) (sym (text-append cards (closing rest)))
 
+stops-here : (rest : List ℕ) (line : ℕ) → (rest ≡ [] → ⊥) → stops_at rest line ≡ Some line
+stops-here [] line some = absurd (some refl)
+stops-here (code ∷ rest) line some = refl
+
 -- its first bad word is that of the cards, with a comment ended where a later line would end it
 pub bad-word : (text0 rest : List ℕ) (cards : List (List ℕ)) (line : ℕ) → (rest ≡ [] → ⊥) → ReadSo text0 cards rest line
     → compiling_text text0 ≡ bad_word (first_bad line (words (cards ++ closing rest)))
 bad-word text0 rest cards line some so =
-    ap (by_bad_line (lines text0)) (bad-is text0 rest cards line so ∙ stops rest line some) ∙ ap bad_word (words-same text0 rest cards line so)
-  where
-    stops : (rest : List ℕ) (line : ℕ) → (rest ≡ [] → ⊥) → stops_at rest line ≡ Some line
-    stops [] line some = absurd (some refl)
-    stops (code ∷ rest) line some = refl
+    ap (by_bad_line (lines text0)) (bad-is text0 rest cards line so ∙ stops-here rest line some) ∙ ap bad_word (words-same text0 rest cards line so)
+
+-- ---- In the words of the code
+
+pub begins-so : (text : List ℕ) (cards : List (List ℕ)) (line : ℕ) → cards ≡ [] → line ≡ 1 → ReadsOn text cards text line
+begins-so text cards line none first =
+    subst (λ c. ReadsOn text c text line) (sym none) (subst (λ n. ReadsOn text [] text n) (sym first) (reading-begins text))
+
+pub no-more : (given : Option (List ℕ)) → ((card : List ℕ) → given ≡ Some card → ⊥) → given ≡ None
+no-more None not_some = refl
+no-more (Some card) not_some = absurd (not_some card refl)
+
+pub less-left : (rest rest_now : List ℕ) (line line_now : ℕ) (card : List ℕ) → NextCard rest line (Some card) rest_now line_now
+    → length rest_now < length rest
+less-left rest rest_now line line_now card (next, is, number, less) = less
+
+nothing-left : (rest : List ℕ) → length rest ≡ 0 → rest ≡ []
+nothing-left [] e = refl
+nothing-left (code ∷ rest) e = absurd (omega (arith, e))
+
+-- the code of cards that are the whole text
+pub code-of : (text : List ℕ) (cards : List (List ℕ)) (line : ℕ) (rest : List ℕ) (code : CodeLists) → length rest ≡ 0 → ReadSo text cards rest line
+    → IsCodeFor cards code → IsCodeOfText text code
+code-of text cards line rest code empty so is = record {
+  program = is.program;
+  comes_to = all-cards text cards line rest (nothing-left rest empty) so ∙ is.comes_to;
+  is = is.is_code.is;
+}
+
+-- and why they have none
+pub why-none : (text : List ℕ) (cards : List (List ℕ)) (line : ℕ) (rest : List ℕ) (why : CompileFault) → length rest ≡ 0 → ReadSo text cards rest line
+    → Explains why (compiling cards) → Explains why (compiling_text text)
+why-none text cards line rest why empty so explains =
+    subst (Explains why) (sym (all-cards text cards line rest (nothing-left rest empty) so)) explains
+
+pub bad-so : (text : List ℕ) (cards : List (List ℕ)) (line : ℕ) (rest : List ℕ) (now : List (List ℕ)) (why : CompileFault)
+    → (length rest ≡ 0 → ⊥) → ReadSo text cards rest line → now ≡ cards ++ closing rest → Explains why (bad_word (first_bad line (words now)))
+    → Explains why (compiling_text text)
+bad-so text cards line rest now why some so is explains =
+    subst (Explains why)
+    (sym (bad-word text rest cards line (λ empty. some (ap length empty)) so ∙ ap (λ c. bad_word (first_bad line (words c))) (sym is))) explains

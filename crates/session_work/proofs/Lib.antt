@@ -3,3 +3,8 @@ pub mod Words
 pub mod CardLines
 pub mod Answering
 pub mod Programs
+pub mod Pieces
+pub mod Face
+pub mod Compiling
+pub mod Copying
+pub mod Storing

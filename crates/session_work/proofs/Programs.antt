@@ -15,14 +15,23 @@ use Rattle.solo_work.specs.Paper.{IsHand}
 use Rattle.solo_work.specs.Printing.{prints_then}
 use Rattle.solo_work.specs.Passing.{IsAmong}
 use Rattle.solo_base.specs.declared.item.Feed.{Feed}
-use Rattle.program_task.specs.Task.{CardFile}
 use Rattle.program_run.specs.Sight.{Sight, IsLeftOf, MayTake, StandsFor, TakesCards, TakesLine}
 use Rattle.program_run.specs.Work as run
+use Rattle.program_run.specs.declared.progress.Progress.{Progress}
+use Rattle.program_run.specs.declared.progress.Progress.TheVariants.{Needs, Ends}
+use Rattle.solo_base.specs.declared.system_call.Arg.{Arg}
+use Rattle.solo_commands.specs.declared.command.Command.TheVariants as command
+use Rattle.solo_task.specs.Doing.{does}
+use Rattle.program_task.specs.Task.{CardFile, Gives}
+use Rattle.file_commands.specs.declared.fault.CommandFault.{CommandFault}
+use Rattle.file_commands.specs.declared.fault.CommandFault.TheVariants as fault
+use Rattle.solo_procs.specs.declared.commands.WorkFault.{WorkFault}
 use Rattle.session_work.specs.declared.session.Session.{Session}
 use Rattle.session_work.specs.declared.session.UnderWay.{UnderWay}
 use Rattle.session_work.specs.declared.session.UnderWay.TheVariants as under_way
 use Rattle.session_work.specs.Pausing.{PausesAt, StandsAt, Awaits, MayGoOn, kind_of}
-use Rattle.session_work.specs.Working.{Reaches, CameTo, StopsAmong, WorkedSo, awaiting}
+use Rattle.session_work.specs.Working.{Reaches, CameTo, StopsAmong, WorkedSo, as_work, awaiting}
+use Rattle.session_work.proofs.Working.{worked-from}
 use Rattle.session_work.proofs.Answering.{at-pause, reaches-so}
 
 -- what a piece of work on a program comes to, with these lines in hand
@@ -116,3 +125,50 @@ pub takes-line : (typed : Feed) (p now : Sight) (hand : List (List ℕ)) (all : 
     → (pause : Pause) × StandsFor AtTyped p hand all pause × (c ≡ resumes (OfTyped typed) all pause) → RunIs now hand all c
 takes-line typed p now hand all c takes (pause, (more, is, waits), same) =
     (more typed, waits typed now takes, same ∙ ap (resumes (OfTyped typed) all) is)
+
+-- ---- In the words of the code
+
+pub ran-needs : (pages : ℕ) (hand : List (List ℕ)) (before after : Option (List (List ℕ))) (p now_p : Sight) (progress : Progress) (need : Need)
+    (paper : Paper) (now : Session) → progress ≡ Needs need
+    → run.Came pages hand before p (Ok progress) now_p paper after → now.under_way ≡ awaiting need now_p → now.paper ≡ paper
+    → CameTo pages (RunIs p hand) before need now after
+ran-needs pages hand before after p now_p progress need paper now is came way same =
+    needs-so pages hand before after p now_p need paper now
+    (subst (λ (x : Progress). run.Came pages hand before p (Ok x) now_p paper after) is came) way same
+
+pub ran-ends : (pages : ℕ) (hand : List (List ℕ)) (before after : Option (List (List ℕ))) (p now_p : Sight) (progress : Progress) (printing : Printing)
+    (paper : Paper) (need : Need) (now : Session) → progress ≡ Ends printing → run.Came pages hand before p (Ok progress) now_p paper after
+    → ((lines : List (List ℕ)) → IsHand paper pages lines
+    → CameTo pages (λ all c. c ≡ comes_to lines all (prints_then printing.lines printing.next printing.answers)) after need now after)
+    → CameTo pages (RunIs p hand) before need now after
+ran-ends pages hand before after p now_p progress printing paper need now is came printed =
+    let ended = subst (λ (x : Progress). run.Came pages hand before p (Ok x) now_p paper after) is came in
+    ends-so pages hand before after p printing paper need now ended (printed ended.hand_now ended.hand_is)
+
+pub ran-not : (pages : ℕ) (hand : List (List ℕ)) (before after : Option (List (List ℕ))) (p now_p : Sight) (why : CommandFault) (paper : Paper)
+    (now : Session) → run.Came pages hand before p (Err why) now_p paper after → WorkedSo pages (RunIs p hand) before (Err (as_work why)) now after
+ran-not pages hand before after p now_p fault.DiskFault paper now came = tt
+ran-not pages hand before after p now_p fault.NoMemory paper now came = lacks-so pages hand before after p now came
+
+pub ran-may : (pages : ℕ) (hand : List (List ℕ)) (before after : Option (List (List ℕ))) (p now_p : Sight) (progress : Progress) (need : Need)
+    (paper : Paper) → progress ≡ Needs need → run.Came pages hand before p (Ok progress) now_p paper after → MayGoOn (awaiting need now_p)
+ran-may pages hand before after p now_p progress need paper is came =
+    let comes = subst (λ (x : Progress). run.Came pages hand before p (Ok x) now_p paper after) is came in
+    may-go-on pages need comes.needed now_p comes.is comes.may
+
+-- a program is begun
+pub begun-so : (name : List ℕ) (args given : List Arg) (before mid after : Option (List (List ℕ))) (program : Sight) (result : Result Need WorkFault)
+    (now : Session) → given ≡ args → mid ≡ before
+    → ((pages : List (List ℕ)) → before ≡ Some pages → IsLeftOf program (file_map pages) (does (command.Program name given) (file_map pages)))
+    → WorkedSo 0 (RunIs program []) mid result now after
+    → WorkedSo 0 (λ all c. c ≡ comes_to [] all (does (command.Program name args) all)) before result now after
+begun-so name args given before mid after program result now same left begins worked =
+    worked-from 0 (λ all c. c ≡ comes_to [] all (does (command.Program name args) all)) (RunIs program []) before mid result now after left
+    (λ told here c e.
+    (does (command.Program name given) (file_map told), begins told here,
+    e ∙ ap (λ a. comes_to [] (file_map told) (does (command.Program name a) (file_map told))) (sym same))) worked
+
+-- or this line answers
+pub begun-answer : (name : List ℕ) (args given : List Arg) (told : List (List ℕ)) (line : List ℕ) → given ≡ args
+    → does (command.Program name given) (file_map told) ≡ Gives (line ∷ []) → does (command.Program name args) (file_map told) ≡ Gives (line ∷ [])
+begun-answer name args given told line same gives = ap (λ a. does (command.Program name a) (file_map told)) (sym same) ∙ gives

@@ -1,6 +1,6 @@
 -- The first bad word of a text before a line: it hangs on what stands before that line, and on whether a `"` stands behind.
-use Rattle.std.proofs.Common.{◌≡◌, ◌≤◌, ℕ, zero, suc, ◌+◌, ◌-◌, min, Bool, true, false, cond, List, [], ◌∷◌, ◌++◌, Option, None, Some, Ok, Err, refl, sym, ◌∙◌, ap, subst, arith, append_assoc}
-use Rattle.std.specs.Prelude.{◌==◌, ◌||◌}
+use Rattle.std.proofs.Common.{◌≡◌, ◌≤◌, ℕ, zero, suc, ◌+◌, ◌-◌, Bool, true, false, cond, List, [], ◌∷◌, ◌++◌, Option, None, Some, Ok, Err, refl, sym, ◌∙◌, ap, subst, arith, append_assoc}
+use Rattle.std.specs.Prelude.{◌==◌, ◌||◌, min}
 use Rattle.std.proofs.lemmas.Bool.Decides.{nat_tests}
 use Rattle.solo_base.specs.Ident.{is_letter, is_digit}
 use Rattle.pascal_tree.specs.Word.{Spot}
@@ -11,17 +11,14 @@ use Rattle.pascal_read.proofs.CardEnd.{ended, name_at-ended, number_at-ended, ch
 use Rattle.pascal_read.proofs.Comments.{comment_step}
 use Rattle.solo_task.specs.Compiles.{first_bad}
 
-abbrev last_line : ℕ
-last_line = 4294967295
-
 -- ---- Behind a line there is no bad word before it
 
-line-later-by : (ends : Bool) (line k : ℕ) → k ≤ line → line ≤ last_line
-    → (k ≤ cond ends (next_line line) line) × (cond ends (next_line line) line ≤ last_line)
+line-later-by : (ends : Bool) (line k : ℕ) → k ≤ line → line ≤ 4294967295
+    → (k ≤ cond ends (next_line line) line) × (cond ends (next_line line) line ≤ 4294967295)
 line-later-by true line k later small = (omega (arith, later, small), omega (arith, later, small))
 line-later-by false line k later small = (later, small)
 
-line-later : (code line k : ℕ) → k ≤ line → line ≤ last_line → (k ≤ line_after code line) × (line_after code line ≤ last_line)
+line-later : (code line k : ℕ) → k ≤ line → line ≤ 4294967295 → (k ≤ line_after code line) × (line_after code line ≤ 4294967295)
 line-later code line k later small = line-later-by (code == 10) line k later small
 
 first-before : (k : ℕ) (s : Spot) (w : Words) → first_bad k (before s w) ≡ first_bad k w
@@ -36,7 +33,7 @@ first-at line k (Gap n) behind later rest = rest n
 first-at line k (Spells found n) behind later rest = first-before k (spot found line) (behind n) ∙ rest n
 first-at line k Bad behind later rest = least line k later
 
-first-behind : (text : List ℕ) (line covered k : ℕ) → k ≤ line → line ≤ last_line → first_bad k (words_from line covered text) ≡ k
+first-behind : (text : List ℕ) (line covered k : ℕ) → k ≤ line → line ≤ 4294967295 → first_bad k (words_from line covered text) ≡ k
 first-behind [] line covered k later small = refl
 first-behind (code ∷ text) line (suc covered) k later small =
     let (still, few) = line-later code line k later small in first-behind text (line_after code line) covered k still few
@@ -56,7 +53,7 @@ inside-step : (quote : Bool) (k first : ℕ) (w v : Words) (found : Bool) → fi
 inside-step true k first w v found closed open = closed
 inside-step false k first w v found closed open = open
 
-inside-behind : (text : List ℕ) (first line k : ℕ) → k ≤ line → line ≤ last_line
+inside-behind : (text : List ℕ) (first line k : ℕ) → k ≤ line → line ≤ 4294967295
     → first_bad k (words_inside first line text) ≡ cond (has_quote text) k (min first k)
 inside-behind [] first line k later small = refl
 inside-behind (code ∷ text) first line k later small =
@@ -123,7 +120,7 @@ at-same line k (Gap n) b c same = same n
 at-same line k (Spells found n) b c same = first-before k (spot found line) (b n) ∙ same n ∙ sym (first-before k (spot found line) (c n))
 at-same line k Bad b c same = refl
 
-still-small : (code line : ℕ) → line ≤ last_line → line_after code line ≤ last_line
+still-small : (code line : ℕ) → line ≤ 4294967295 → line_after code line ≤ 4294967295
 still-small code line small = (line-later code line 0 (omega arith) small).1
 
 is-quote : (code : ℕ) → code == 34 ≡ true → code ≡ 34
@@ -132,8 +129,29 @@ is-quote code e = grind (arith, nat_tests)
 no-quote : false ≡ true → ⊥
 no-quote e = cc
 
-pub same-front : (p r t : List ℕ) (open : Option ℕ) (line covered k : ℕ) → Ends p → line ≤ last_line → line_through line p ≡ k → has_quote r ≡ has_quote t
-    → first_bad k (walk open line covered (p ++ r)) ≡ first_bad k (walk open line covered (p ++ t))
+-- at a word or a comment
+word-here : (code : ℕ) (p r t : List ℕ) (line k : ℕ) → Ends (code ∷ p)
+    → (code == 34 ≡ true → first_bad k (words_inside line line (p ++ r)) ≡ first_bad k (words_inside line line (p ++ t)))
+    → ((n : ℕ) → first_bad k (words_from (line_after code line) (n - 1) (p ++ r)) ≡ first_bad k (words_from (line_after code line) (n - 1) (p ++ t)))
+    → (quote : Bool) → code == 34 ≡ quote → first_bad k (words_from line 0 (code ∷ (p ++ r))) ≡ first_bad k (words_from line 0 (code ∷ (p ++ t)))
+word-here code p r t line k ends inside behind true e =
+    let is = is-quote code e in
+    ap (λ c. first_bad k (words_from line 0 (c ∷ (p ++ r)))) is ∙ ap (first_bad k) (comment_step line (p ++ r)) ∙ inside e
+    ∙ sym (ap (first_bad k) (comment_step line (p ++ t))) ∙ ap (λ c. first_bad k (words_from line 0 (c ∷ (p ++ t)))) (sym is)
+word-here code p r t line k ends inside behind false e =
+    ap (λ piece. first_bad k (words_at line piece (λ n. words_from (line_after code line) (n - 1) (p ++ r))))
+    (piece-same code p r t ends (λ q. no-quote (sym e ∙ q)))
+    ∙ at-same line k (piece_at (code ∷ (p ++ t))) (λ n. words_from (line_after code line) (n - 1) (p ++ r))
+    (λ n. words_from (line_after code line) (n - 1) (p ++ t)) behind
+
+-- inside a comment
+inside-here : (quote : Bool) (k : ℕ) (a b c d : Words) → (quote ≡ true → first_bad k a ≡ first_bad k c) → first_bad k b ≡ first_bad k d
+    → first_bad k (cond quote a b) ≡ first_bad k (cond quote c d)
+inside-here true k a b c d closed open = closed refl
+inside-here false k a b c d closed open = open
+
+pub same-front : (p r t : List ℕ) (open_at : Option ℕ) (line covered k : ℕ) → Ends p → line ≤ 4294967295 → line_through line p ≡ k → has_quote r ≡ has_quote t
+    → first_bad k (walk open_at line covered (p ++ r)) ≡ first_bad k (walk open_at line covered (p ++ t))
 same-front [] r t None line covered k ends small through quotes =
     first-behind r line covered k (omega (arith, through)) small ∙ sym (first-behind t line covered k (omega (arith, through)) small)
 same-front [] r t (Some first) line covered k ends small through quotes =
@@ -141,28 +159,15 @@ same-front [] r t (Some first) line covered k ends small through quotes =
     ∙ sym (inside-behind t first line k (omega (arith, through)) small)
 same-front (code ∷ p) r t None line (suc covered) k ends small through quotes =
     same-front p r t None (line_after code line) covered k (ends-behind code p ends) (still-small code line small) through quotes
-same-front (code ∷ p) r t None line zero k ends small through quotes = by (code == 34) refl
-  where
-    by : (quote : Bool) → code == 34 ≡ quote → first_bad k (words_from line 0 (code ∷ (p ++ r))) ≡ first_bad k (words_from line 0 (code ∷ (p ++ t)))
-    by true e =
-        let is = is-quote code e in
-        ap (λ c. first_bad k (words_from line 0 (c ∷ (p ++ r)))) is ∙ ap (first_bad k) (comment_step line (p ++ r))
-        ∙ same-front p r t (Some line) line 0 k (ends-behind code p ends) small
-        (subst (λ c. line_through (line_after c line) p ≡ k) is through) quotes
-        ∙ sym (ap (first_bad k) (comment_step line (p ++ t))) ∙ ap (λ c. first_bad k (words_from line 0 (c ∷ (p ++ t)))) (sym is)
-    by false e =
-        ap (λ piece. first_bad k (words_at line piece (λ n. words_from (line_after code line) (n - 1) (p ++ r))))
-        (piece-same code p r t ends (λ q. no-quote (sym e ∙ q)))
-        ∙ at-same line k (piece_at (code ∷ (p ++ t))) (λ n. words_from (line_after code line) (n - 1) (p ++ r))
-        (λ n. words_from (line_after code line) (n - 1) (p ++ t))
-        (λ n. same-front p r t None (line_after code line) (n - 1) k (ends-behind code p ends) (still-small code line small) through quotes)
+same-front (code ∷ p) r t None line zero k ends small through quotes =
+    word-here code p r t line k ends
+    (λ e. same-front p r t (Some line) line 0 k (ends-behind code p ends) small
+    (subst (λ c. line_through (line_after c line) p ≡ k) (is-quote code e) through) quotes)
+    (λ n. same-front p r t None (line_after code line) (n - 1) k (ends-behind code p ends) (still-small code line small) through quotes)
+    (code == 34) refl
 same-front (code ∷ p) r t (Some first) line covered k ends small through quotes =
-    by (code == 34) refl
-  where
-    by : (quote : Bool) → code == 34 ≡ quote
-        → first_bad k (cond quote (words_from line 0 (p ++ r)) (words_inside first (line_after code line) (p ++ r)))
-        ≡ first_bad k (cond quote (words_from line 0 (p ++ t)) (words_inside first (line_after code line) (p ++ t)))
-    by true e =
-        same-front p r t None line 0 k (ends-behind code p ends) small
-        (subst (λ c. line_through (line_after c line) p ≡ k) (is-quote code e) through) quotes
-    by false e = same-front p r t (Some first) (line_after code line) 0 k (ends-behind code p ends) (still-small code line small) through quotes
+    inside-here (code == 34) k (words_from line 0 (p ++ r)) (words_inside first (line_after code line) (p ++ r)) (words_from line 0 (p ++ t))
+    (words_inside first (line_after code line) (p ++ t))
+    (λ e. same-front p r t None line 0 k (ends-behind code p ends) small
+    (subst (λ c. line_through (line_after c line) p ≡ k) (is-quote code e) through) quotes)
+    (same-front p r t (Some first) (line_after code line) 0 k (ends-behind code p ends) (still-small code line small) through quotes)

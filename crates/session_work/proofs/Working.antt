@@ -55,7 +55,7 @@ worked-from pages Is Was before mid (Err NoMemory) now after same from worked = 
 
 -- ---- What leads on
 
-leads-on : (pages : ℕ) (Is : Files → Paused → Type 0) (before : Option (List (List ℕ))) (result : Result Need WorkFault) (now : Session)
+pub leads-on : (pages : ℕ) (Is : Files → Paused → Type 0) (before : Option (List (List ℕ))) (result : Result Need WorkFault) (now : Session)
     (after : Option (List (List ℕ))) → WorkedSo pages Is before result now after
     → (told : List (List ℕ)) → before ≡ Some told → (c : Paused) → Is (file_map told) c → LeadsTo told c result now after
 leads-on pages Is before (Ok need) now after worked told is c makes =

@@ -49,7 +49,7 @@ pub record ReadSo (text : List ℕ) (cards : List (List ℕ)) (rest : List ℕ) 
 -- a card that ends a comment, where a text has a `"`
 abbrev pub closing_if : Bool → List (List ℕ)
 closing_if true = []
-closing_if false = codes "\"" ∷ []
+closing_if false = (34 ∷ []) ∷ []
 
 abbrev pub closing : List ℕ → List (List ℕ)
 closing rest = closing_if (position_or_len (λ code. code == 34) rest == length rest)

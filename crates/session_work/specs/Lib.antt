@@ -1,4 +1,4 @@
 pub mod Pausing
 pub mod Working
-pub mod Face
+pub mod Facing
 pub mod Cards

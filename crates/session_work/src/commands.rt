@@ -1,10 +1,7 @@
 // The commands of a session, as the job process knows them.
-ghost use Rattle.std.specs.Prelude.{◌≡◌, List, Some, IsTrue};
-ghost use Rattle.disk_layout.specs.Format.{IsSoloDisk};
-ghost use Rattle.solo_procs.specs.Commands.{given_of};
-ghost use Rattle.session_work.specs.declared.session.Session.{Session};
-ghost use Rattle.session_work.specs.Pausing.{Awaits, MayGoOn};
-ghost use Rattle.session_work.specs.Face.{OpensWith, PlansFrom, Follows, Passes};
+ghost use Rattle.std.specs.Prelude.{IsTrue};
+ghost use Rattle.session_work.specs.Pausing.{Awaits};
+ghost use Rattle.session_work.specs.Facing.{OpensWith, PlansFrom, Follows, Passes};
 
 use crate::session::Session;
 use disk_files::FileArea;
@@ -36,7 +33,7 @@ impl<A: Area> Commands for SessionCommands<A> {
 
     ghost use Rattle.std.specs.Prelude.{IsTrue};
     ghost use Rattle.session_work.specs.Pausing.{Awaits};
-    ghost use Rattle.session_work.specs.Face.{OpensWith, PlansFrom, Follows, Passes};
+    ghost use Rattle.session_work.specs.Facing.{OpensWith, PlansFrom, Follows, Passes};
 
     ghost sound = { λ files. IsTrue files.sound };
 
@@ -61,16 +58,6 @@ impl<A: Area> Commands for SessionCommands<A> {
     }
 
     fn work(&mut self, given: Given, files: &mut FileArea<A>) -> Result<Need, WorkFault> {
-        let need = self.session.work(given, files)?;
-        is_solo(files);
-        Ok(need)
+        self.session.work(given, files)
     }
-}
-
-// The files of an area that tells its pages are a Solo disk's. Nothing is done here.
-fn is_solo<A: Area>(files: &FileArea<A>)
-    requires { IsTrue files.now.sound }
-    ensures { (pages : List (List ℕ)) → A.pages files.now.area ≡ Some pages → IsSoloDisk pages }
-{
-    let _ = files;
 }

@@ -168,10 +168,12 @@ impl Session {
         if spoiled {
             return self.answer(Ok(answer_line(b"COPY", b"SPOILED CARD")));
         }
-        let stored = match text_of_cards(self.alloc, cards) {
-            Ok(text) => store_cards(self.alloc, files, to, &text),
-            Err(_) => return Err(WorkFault::NoMemory),
-        };
-        self.answer(stored)
+        match text_of_cards(self.alloc, cards) {
+            Ok(text) => {
+                let stored = store_cards(self.alloc, files, to, &text);
+                self.answer(stored)
+            }
+            Err(_) => Err(WorkFault::NoMemory),
+        }
     }
 }

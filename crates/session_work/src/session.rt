@@ -4,15 +4,16 @@ ghost use Rattle.disk_files.specs.Answers.{FaultsOnly, stays_sound};
 ghost use Rattle.solo_procs.specs.Commands.{given_of};
 ghost use Rattle.solo_law.specs.Work.{OfLine, OfCards, OfTyped, OfNothing};
 ghost use Rattle.solo_task.specs.Needs.{comes_to, or_idle};
-ghost use Rattle.solo_task.specs.Doing.{line_does};
+ghost use Rattle.solo_commands.specs.Commands.{line_says};
+ghost use Rattle.solo_task.specs.Doing.{done_if, line_does};
 ghost use Rattle.solo_work.specs.Paper.{IsHand};
 ghost use Rattle.session_work.specs.Pausing.{MayGoOn};
 ghost use Rattle.session_work.specs.Working.{of_work, WorkedSo, PieceSo};
 
 use disk_files::FileArea;
 use program_run::ProgramRun;
-use solo_base::{Feed, Ident, Item, LineList};
-use solo_commands::{BadCommand, read_command};
+use solo_base::{Feed, Ident, Item, Line, LineList};
+use solo_commands::read_command;
 use solo_devices::Area;
 use solo_procs::{Given, Need, WorkFault};
 use solo_work::{Paper, Printing};
@@ -110,13 +111,31 @@ impl Session {
         ensures sound { files.new.sound ≡ stays_sound (of_work result) }
         ensures cause { FaultsOnly (A.faults files.old.area) (A.faults files.new.area) (of_work result) }
     {
-        let Item::Line(line) = item else {
-            return self.says(b"BAD COMMAND");
-        };
+        match item {
+            Item::Line(line) => self.begin_line(line, files),
+            Item::Spoiled => self.says(b"BAD COMMAND"),
+        }
+    }
+
+    // Begins the command that this line is, if it is one.
+    fn begin_line<A: Area>(
+        &mut self,
+        line: &Line,
+        files: &mut FileArea<A>,
+    ) -> Result<Need, WorkFault>
+        requires sound { IsTrue files.old.sound }
+        requires paper { IsHand self.old.paper 0 [] }
+        requires idle { self.old.under_way ≡ UnderWay.Idle }
+        ensures worked { WorkedSo 0 (λ all c. c ≡ comes_to [] all (or_idle (done_if (line_says line.now) all)))
+            (A.pages files.old.area) result self.new (A.pages files.new.area) }
+        ensures may { MayGoOn self.new.under_way }
+        ensures sound { files.new.sound ≡ stays_sound (of_work result) }
+        ensures cause { FaultsOnly (A.faults files.old.area) (A.faults files.new.area) (of_work result) }
+    {
         match read_command(line) {
             Ok(Some(command)) => self.command(&command, files),
             Ok(None) => Ok(self.end(LineList::new(self.alloc))),
-            Err(BadCommand) => self.says(b"BAD COMMAND"),
+            Err(_) => self.says(b"BAD COMMAND"),
         }
     }
 

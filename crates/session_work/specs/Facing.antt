@@ -1,7 +1,6 @@
 -- What a session's commands are to the job process, over files of an area that may tell its pages.
-use Rattle.std.specs.Prelude.{◌≡◌, List, Option, Some}
+use Rattle.std.specs.Prelude.{◌≡◌, ℕ, List, Option, Some}
 use Rattle.disk_layout.specs.Files.{files as file_map}
-use Rattle.disk_layout.specs.Format.{IsSoloDisk}
 use Rattle.solo_law.specs.Work.{Given, Plan}
 use Rattle.session_law.specs.Plans.{session_plan, plan_from}
 use Rattle.solo_task.specs.Needs.{Pause}
@@ -31,16 +30,14 @@ pub record LedTo (opening : List (List ℕ)) (before : List Given) (s : Session)
   pub files : file_map left ≡ (stands_behind (file_map opening) before).files
   pub stands : StandsAt s (file_map left) (stands_behind (file_map opening) before).pause
 
--- the area tells a Solo disk whose files are some to which work that began so comes
+-- the files are some to which work that began so comes
 pub record PassedTo (opening : List (List ℕ)) (before : List Given) (now : Option (List (List ℕ))) : Type 0 where
   pub left : List (List ℕ)
   pub told : now ≡ Some left
-  pub solo : IsSoloDisk left
   pub comes : ComesBy (file_map opening) before (file_map left)
 
 abbrev pub Follows : Session → Option (List (List ℕ)) → List Given → Option (List (List ℕ)) → Type 0
 Follows s opening before now = (pages : List (List ℕ)) → opening ≡ Some pages → LedTo pages before s now
 
 abbrev pub Passes : Option (List (List ℕ)) → List Given → Option (List (List ℕ)) → Type 0
-Passes opening before now =
-    (pages : List (List ℕ)) → opening ≡ Some pages → IsSoloDisk pages → PassedTo pages before now
+Passes opening before now = (pages : List (List ℕ)) → opening ≡ Some pages → PassedTo pages before now
