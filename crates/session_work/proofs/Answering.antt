@@ -239,3 +239,12 @@ pub refused-as : (pages : ℕ) (hand : List (List ℕ)) (doing : Files → Doing
     → WorkedSo pages (λ all c. c ≡ comes_to hand all (doing all)) before (Err (as_work why)) now after
 refused-as pages hand doing now before after fault.DiskFault answers = tt
 refused-as pages hand doing now before after fault.NoMemory answers = λ told here c e. stops-at-once told c after (answers told here)
+
+-- the same of a task
+pub lacks-doing : (pages : ℕ) (hand : List (List ℕ)) (doing : Files → Doing) (now : Session) (before after : Option (List (List ℕ))) → after ≡ before
+    → WorkedSo pages (λ all c. c ≡ comes_to hand all (doing all)) before (Err NoMemory) now after
+lacks-doing pages hand doing now before after same = lacks-memory pages (λ all c. c ≡ comes_to hand all (doing all)) now before after same
+
+pub refused-doing : (pages : ℕ) (hand : List (List ℕ)) (doing : Files → Doing) (now : Session) (before after : Option (List (List ℕ))) (why : CommandFault)
+    → after ≡ before → WorkedSo pages (λ all c. c ≡ comes_to hand all (doing all)) before (Err (as_work why)) now after
+refused-doing pages hand doing now before after why same = refused-so pages (λ all c. c ≡ comes_to hand all (doing all)) now before after why same

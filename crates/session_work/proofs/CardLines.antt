@@ -1,6 +1,6 @@
 -- The lines of a text, and its first bad word where a line is none.
 use Rattle.std.proofs.Common.{◌≡◌, ◌⊎◌, inl, inr, ◌≤◌, ◌<◌, ℕ, zero, suc, ◌+◌, ◌-◌, Bool, true, false, cond, not, ◌&&◌, List, [], ◌∷◌, ◌++◌, length, take, drop, Option, None, Some, Ok, Err, Result, refl, sym, ◌∙◌, ap, subst, arith, append_assoc, length-append}
-use Rattle.std.specs.Prelude.{◌==◌, nat_le, if◌then◌else◌, min}
+use Rattle.std.specs.Prelude.{◌==◌, nat_le, if◌then◌else◌, min, IfOk, IfErr}
 use Rattle.std.specs.List.{list_all, position_or_len, AllByRecursion}
 use Rattle.std.proofs.lemmas.Bool.Decides.{nat_tests}
 use Rattle.std.proofs.lemmas.Bool.{cases_eq, eq-eqb, ne_eqb}
@@ -306,3 +306,24 @@ pub bad-so : (text : List ℕ) (cards : List (List ℕ)) (line : ℕ) (rest : Li
 bad-so text cards line rest now why some so is explains =
     subst (Explains why)
     (sym (bad-word text rest cards line (λ empty. some (ap length empty)) so ∙ ap (λ c. bad_word (first_bad line (words c))) (sym is))) explains
+
+no-length : (n : ℕ) → (n == 0) ≡ true → n ≡ 0
+no-length n is = grind (arith, nat_tests)
+
+some-length : (n : ℕ) → (n == 0) ≡ false → n ≡ 0 → ⊥
+some-length n is e = grind (arith, nat_tests)
+
+pub compiled-if : (text : List ℕ) (cards : List (List ℕ)) (line : ℕ) (rest : List ℕ) (result : Result CodeLists CompileFault) → (length rest == 0) ≡ true
+    → ReadSo text cards rest line → IfOk result (IsCodeFor cards) → IfOk result (IsCodeOfText text)
+compiled-if text cards line rest (Ok code) empty so is = code-of text cards line rest code (no-length (length rest) empty) so is
+compiled-if text cards line rest (Err why) empty so is = tt
+
+pub refused-if : (text : List ℕ) (cards : List (List ℕ)) (line : ℕ) (rest : List ℕ) (result : Result CodeLists CompileFault) → (length rest == 0) ≡ true
+    → ReadSo text cards rest line → IfErr result (λ why. Explains why (compiling cards)) → IfErr result (λ why. Explains why (compiling_text text))
+refused-if text cards line rest (Ok code) empty so explains = tt
+refused-if text cards line rest (Err why) empty so explains = why-none text cards line rest why (no-length (length rest) empty) so explains
+
+pub bad-if : (text : List ℕ) (cards now : List (List ℕ)) (line : ℕ) (rest : List ℕ) (why : CompileFault) → (length rest == 0) ≡ false
+    → ReadSo text cards rest line → now ≡ cards ++ closing rest → Explains why (bad_word (first_bad line (words now)))
+    → Explains why (compiling_text text)
+bad-if text cards now line rest why some so is explains = bad-so text cards line rest now why (some-length (length rest) some) so is explains

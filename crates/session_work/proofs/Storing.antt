@@ -20,11 +20,11 @@ use Rattle.session_work.proofs.Copying.{spoiled-so, sound-so}
 use Rattle.session_work.proofs.Answering.{answered-by}
 
 -- what is told, where the file isn't there
-new_if : Option File → List (List ℕ) → Option (List (List ℕ))
+abbrev new_if : Option File → List (List ℕ) → Option (List (List ℕ))
 new_if None told = Some told
 new_if (Some file) told = None
 
-new_before : List ℕ → Option (List (List ℕ)) → Option (List (List ℕ))
+abbrev new_before : List ℕ → Option (List (List ℕ)) → Option (List (List ℕ))
 new_before to None = None
 new_before to (Some told) = new_if (fin.get (file_map told) to) told
 

@@ -50,8 +50,8 @@ has_quote (code ∷ text) = cond (code == 34) true (has_quote text)
 
 inside-step : (quote : Bool) (k first : ℕ) (w v : Words) (found : Bool) → first_bad k w ≡ k → first_bad k v ≡ cond found k (min first k)
     → first_bad k (cond quote w v) ≡ cond (cond quote true found) k (min first k)
-inside-step true k first w v found closed open = closed
-inside-step false k first w v found closed open = open
+inside-step true k first w v found closed runs = closed
+inside-step false k first w v found closed runs = runs
 
 inside-behind : (text : List ℕ) (first line k : ℕ) → k ≤ line → line ≤ 4294967295
     → first_bad k (words_inside first line text) ≡ cond (has_quote text) k (min first k)
@@ -147,8 +147,8 @@ word-here code p r t line k ends inside behind false e =
 -- inside a comment
 inside-here : (quote : Bool) (k : ℕ) (a b c d : Words) → (quote ≡ true → first_bad k a ≡ first_bad k c) → first_bad k b ≡ first_bad k d
     → first_bad k (cond quote a b) ≡ first_bad k (cond quote c d)
-inside-here true k a b c d closed open = closed refl
-inside-here false k a b c d closed open = open
+inside-here true k a b c d closed runs = closed refl
+inside-here false k a b c d closed runs = runs
 
 pub same-front : (p r t : List ℕ) (open_at : Option ℕ) (line covered k : ℕ) → Ends p → line ≤ 4294967295 → line_through line p ≡ k → has_quote r ≡ has_quote t
     → first_bad k (walk open_at line covered (p ++ r)) ≡ first_bad k (walk open_at line covered (p ++ t))

@@ -4,7 +4,7 @@ use Rattle.solo_task.specs.Answers.{file_exists}
 use Rattle.solo_task.specs.Copying.{copier, copies_cards, with_cards}
 use Rattle.session_work.specs.declared.session.UnderWay.TheVariants as under_way
 use Rattle.session_work.specs.Pausing.{prints_cards, stores_these}
-use Rattle.session_work.proofs.Answering.{same-work, awaits-cards, refused-so, answered-by}
+use Rattle.session_work.proofs.Answering.{same-work, awaits-cards, refused-doing, answered-by}
 use Rattle.session_work.proofs.Copying.{to-printer, exists-so, new-so}
 use Rattle.session_work.proofs.session.Session.copy_cards.Goals as goal
 
@@ -34,4 +34,4 @@ returns-in-Ok-None-clause-worked g c =
 
 pub returns-in-Err-clause-worked : goal.returns-in-Err-clause-worked
 returns-in-Err-clause-worked g c =
-    rw c.as_work.ensures (refused-so 0 _ _ (g.A.Area.pages c.args.files.now.area) (g.A.Area.pages c.find.new.files.area) c.in-Err.fault c.find.ensures.left)
+    rw c.as_work.ensures (refused-doing 0 [] (λ all. copies_cards all c.args.to.now) c.args.self.now (g.A.Area.pages c.args.files.now.area) (g.A.Area.pages c.find.new.files.area) c.in-Err.fault c.find.ensures.left)

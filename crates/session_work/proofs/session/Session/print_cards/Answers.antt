@@ -4,7 +4,7 @@ use Rattle.solo_base.specs.Text.{text}
 use Rattle.program_task.specs.Task.{Gives}
 use Rattle.solo_task.specs.Copying.{with_cards, prints_text}
 use Rattle.session_work.specs.Pausing.{prints_cards}
-use Rattle.session_work.proofs.Answering.{same-work, lacks-memory, answered-by}
+use Rattle.session_work.proofs.Answering.{same-work, lacks-doing, answered-by}
 use Rattle.session_work.proofs.Copying.{spoiled-so, sound-so}
 use Rattle.session_work.proofs.session.Session.print_cards.Goals as goal
 
@@ -25,4 +25,4 @@ returns-in-Ok-clause-worked c = λ before pages hand is.
     (c.print_text.ensures.worked before pages hand is)
 
 pub returns-in-Err-clause-worked : goal.returns-in-Err-clause-worked
-returns-in-Err-clause-worked c = λ before pages hand is. lacks-memory pages _ _ before before refl
+returns-in-Err-clause-worked c = λ before pages hand is. lacks-doing pages hand (λ all. with_cards prints_cards (record { cards = c.args.cards.now; spoiled = c.args.spoiled })) c.args.self.now before before refl

@@ -4,7 +4,7 @@ use Rattle.disk_layout.specs.Files.{files as file_map}
 use Rattle.program_task.specs.Task.{Gives}
 use Rattle.solo_task.specs.Copying.{copies_file, prints_text}
 use Rattle.file_commands.specs.Stores.{ToPrint}
-use Rattle.session_work.proofs.Answering.{same-work, refused-so, answered-by}
+use Rattle.session_work.proofs.Answering.{same-work, refused-doing, answered-by}
 use Rattle.session_work.proofs.Copying.{printed-file, answered-file}
 use Rattle.session_work.proofs.session.Session.print_file.Goals as goal
 
@@ -31,5 +31,5 @@ returns-in-Ok-Answer-clause-worked g c =
 
 pub returns-in-Err-clause-worked : goal.returns-in-Err-clause-worked
 returns-in-Err-clause-worked g c =
-    rw c.as_work.ensures (refused-so 0 _ _ (g.A.Area.pages c.args.files.now.area) (g.A.Area.pages c.text_to_print.new.files.area) c.in-Err.fault
+    rw c.as_work.ensures (refused-doing 0 [] (λ all. copies_file (fin.get all c.args.from.now) all c.args.to.now) c.args.self.now (g.A.Area.pages c.args.files.now.area) (g.A.Area.pages c.text_to_print.new.files.area) c.in-Err.fault
     c.text_to_print.ensures.left)

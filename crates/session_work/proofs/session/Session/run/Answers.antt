@@ -4,7 +4,7 @@ use Rattle.solo_commands.specs.declared.command.Command.TheVariants as command
 use Rattle.program_task.specs.Task.{Gives}
 use Rattle.solo_task.specs.Doing.{does}
 use Rattle.program_run.specs.Work.{Begins}
-use Rattle.session_work.proofs.Answering.{same-work, refused-so, answered-by}
+use Rattle.session_work.proofs.Answering.{same-work, refused-doing, answered-by}
 use Rattle.session_work.proofs.Programs.{begun-so, begun-answer}
 use Rattle.session_work.proofs.session.Session.run.Goals as goal
 
@@ -26,4 +26,4 @@ returns-in-Ok-Answer-clause-worked g c =
 
 pub returns-in-Err-clause-worked : goal.returns-in-Err-clause-worked
 returns-in-Err-clause-worked g c =
-    rw c.as_work.ensures (refused-so 0 _ _ (g.A.Area.pages c.args.files.now.area) (g.A.Area.pages c.begin.new.files.area) c.in-Err.fault c.begin.ensures.left)
+    rw c.as_work.ensures (refused-doing 0 [] (λ all. does (command.Program c.args.name.now c.args.args.now) all) c.args.self.now (g.A.Area.pages c.args.files.now.area) (g.A.Area.pages c.begin.new.files.area) c.in-Err.fault c.begin.ensures.left)

@@ -16,4 +16,4 @@ returns-in-Ok-Ends-clause-worked g c = λ pages hand is.
 pub returns-in-Err-clause-worked : goal.returns-in-Err-clause-worked
 returns-in-Err-clause-worked g c = λ pages hand is.
     rw c.as_work.ensures (ran-not pages hand (g.A.Area.pages c.args.files.now.area) (g.A.Area.pages c.go_on.new.files.area) c.args.program c.go_on.new.self c.in-Err.fault
-    c.go_on.new.paper _ (c.in-Err.ensures.came pages hand is))
+    c.go_on.new.paper c.args.self.now (c.in-Err.ensures.came pages hand is))
