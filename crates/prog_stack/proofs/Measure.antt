@@ -1,5 +1,5 @@
 -- Less is left to run after each round, whatever programs are run above.
-use Rattle.std.proofs.Common.{◌≡◌, ℕ, zero, suc, ◌+◌, ◌-◌, ◌*◌, ◌<◌, ◌≤◌, List, [], ◌∷◌, length, Some, None, Option, pos, ℤ, refl, sym, ◌∙◌, ap, subst, arith}
+use Rattle.std.proofs.Common.{◌≡◌, ℕ, zero, suc, ◌+◌, ◌-◌, ◌*◌, ◌<◌, ◌≤◌, List, ◌∷◌, length, pos, ℤ, refl, sym, ap, subst, arith}
 use Rattle.std.specs.Prelude.{FitsSigned}
 use Rattle.std.specs.Int.{w16}
 use Rattle.std.proofs.lemmas.Nat.{mul-le}
@@ -13,10 +13,8 @@ use Rattle.stack_code.specs.CodeLists.{CodeLists, IsCode}
 use Rattle.stack_code.specs.Rules.{IsGood}
 use Rattle.stack_machine.specs.declared.running.Pause.{Pause}
 use Rattle.stack_machine.specs.declared.running.Pause.TheVariants as pause
-use Rattle.stack_machine.specs.declared.state.Finish.{Finish}
 use Rattle.stack_machine.specs.States.{State}
-use Rattle.stack_machine.specs.State.{Goes, Asks}
-use Rattle.stack_machine.specs.Machine.{next, start_state, answered}
+use Rattle.stack_machine.specs.Machine.{start_state}
 use Rattle.stack_machine.specs.Run.{Moves, Pauses}
 use Rattle.stack_machine.specs.Left.{instr_count, price, weight_at, left_until_end, left_to_run, left_by}
 use Rattle.stack_machine.specs.Standing.{StandsWell}
@@ -28,7 +26,7 @@ use Rattle.program_task.specs.Program.{Own}
 use Rattle.prog_stack.specs.declared.frame.Frame.{Frame}
 use Rattle.prog_stack.specs.Programs.{AsksFor, in_state, begun, behind_reply, calling}
 use Rattle.prog_stack.specs.Rest.{left_of}
-use Rattle.prog_stack.specs.WorkLeft.{highest_price, most_left, IsWithin, AllWithin, value, spread, work_left, Falls, NeverRises, BeginsWithin, ItselfNeverRises, ReplyLowers, RunLowers, EndLowers}
+use Rattle.prog_stack.specs.WorkLeft.{highest_price, most_left, IsWithin, value, spread, work_left, BeginsWithin, ItselfNeverRises, ReplyLowers, RunLowers, EndLowers}
 use Rattle.prog_stack.proofs.Steps.{goes_lower}
 
 -- ---- Products
@@ -150,8 +148,10 @@ unfolding most_left
 begun_left c ticks limit code few =
     let bound = price_bound c code in
     let weight = heaviest c 0 in
-    let product = mul-le ticks (price c) limit highest_price few bound in
-    omega (arith, bound, weight, product)
+    let fewer : ticks - 0 ≤ limit = omega (arith, few) in
+    let product = mul-le (ticks - 0) (price c) limit highest_price fewer bound in
+    let small : (ticks - 0) * price c + 0 + weight_at c 0 + 1 < limit * highest_price + highest_price + 2 = omega (arith, bound, weight, product) in
+    small
 
 begun_within : (code : CodeLists) (ticks limit : ℕ) (args : List Arg) → IsCode code → ticks ≤ limit → IsWithin limit (begun code ticks args)
 begun_within code ticks limit args is few = record { ticks = few; left = begun_left code ticks limit is few }

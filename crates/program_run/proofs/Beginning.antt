@@ -1,5 +1,5 @@
 -- A program command, by what its file is loaded as.
-use Rattle.std.proofs.Common.{◌≡◌, ◌⊎◌, inl, inr, ℕ, ◌+◌, List, [], ◌∷◌, Option, Some, None, Result, Ok, Err, refl, sym, ◌∙◌, ap, subst, arith}
+use Rattle.std.proofs.Common.{◌≡◌, inl, inr, ℕ, ◌+◌, List, [], ◌∷◌, Option, Some, Result, Ok, Err, refl, sym, ◌∙◌, ap, subst, arith}
 use Rattle.solo_base.specs.declared.system_call.Arg.{Arg}
 use Rattle.disk_layout.specs.Files.{Files, files}
 use Rattle.disk_system.specs.Loading.{program_of, FindsSo}
@@ -8,29 +8,32 @@ use Rattle.disk_system.specs.declared.loading.Loaded.TheVariants as load
 use Rattle.disk_system.specs.declared.loading.LoadFault.{LoadFault}
 use Rattle.file_commands.specs.declared.fault.CommandFault.{CommandFault}
 use Rattle.file_commands.specs.declared.fault.CommandFault.TheVariants.{DiskFault, NoMemory}
-use Rattle.program_lines.specs.Texts.{no_file_line, not_code_line, bad_code_line}
-use Rattle.stack_code.specs.CodeLists.{CodeLists, IsCode}
-use Rattle.program_task.specs.Task.{Gives, and_then}
+use Rattle.stack_code.specs.CodeLists.{CodeLists}
+use Rattle.program_task.specs.Task.{Gives}
 use Rattle.program_task.specs.Program.{Runner, begins_with}
 use Rattle.program_task.specs.Run.{runner, program_room, run_for}
 use Rattle.stack_machine.specs.Left.{left_until_end}
 use Rattle.stack_machine.specs.Machine.{start_state}
-use Rattle.prog_stack.specs.Answers.{sharing}
+use Rattle.prog_stack.specs.declared.frame.Frame.{Frame}
+use Rattle.prog_stack.specs.Answers.{Hand}
+use Rattle.prog_stack.specs.Programs.{begun}
 use Rattle.prog_stack.specs.Callers.{TopBegins}
 use Rattle.prog_stack.proofs.Measure.{begins_within}
 use Rattle.prog_stack.proofs.Steps.{begins}
-use Rattle.solo_task.specs.Doing.{does, runs_loaded, ends_program, tick_limit, first_share}
-use Rattle.solo_commands.specs.declared.command.Command.TheVariants as command
-use Rattle.program_run.specs.Sight.{Sight, IsLeftOf, IsUnderWay, at_beginning, no_hand}
+use Rattle.solo_task.specs.Doing.{runs_loaded, tick_limit, first_share}
+use Rattle.program_run.specs.Sight.{Sight, IsLeftOf, IsUnderWay, at_beginning}
 use Rattle.program_run.specs.Beginning.{RunsCode, TellsOf, BeginsSo}
 use Rattle.program_run.specs.Work.{Begins}
 use Rattle.program_run.specs.declared.program_run.Begun.{Begun}
 use Rattle.program_run.specs.declared.program_run.Begun.TheVariants.{Runs, Answer}
 
-pub begun_under_way : (name : List ℕ) (args : List Arg) (code : CodeLists) (p : Sight) → p ≡ at_beginning name args code → TopBegins p.programs → IsUnderWay p
-begun_under_way name args code p is begins =
-    let first = subst (λ (s : Sight). TopBegins s.programs) is begins in
-    subst IsUnderWay (sym is) (record { there = tt; stack = (omega arith, tt); within = (begins_within code tick_limit args first.1, tt) })
+pub begun_way : (name : List ℕ) (args : List Arg) (code : CodeLists) (programs rest : List Frame) (hand : Hand) → programs ≡ begun code tick_limit args ∷ rest → rest ≡ []
+    → TopBegins programs → IsUnderWay (record { name = name; programs = programs; hand = hand })
+begun_way name args code programs rest hand some none begins =
+    let is : programs ≡ begun code tick_limit args ∷ [] = some ∙ ap (λ l. begun code tick_limit args ∷ l) none in
+    let first = subst TopBegins is begins in
+    subst (λ l. IsUnderWay (record { name = name; programs = l; hand = hand })) (sym is)
+    (record { there = tt; stack = (omega arith, tt); within = (begins_within code tick_limit args first.1, tt) })
 
 -- ---- By what is found
 
@@ -77,7 +80,7 @@ begins_of name args before r loaded (Ok (Runs program)) is begun finds = (
 )
 begins_of name args before r loaded (Ok (Answer line)) is tells finds =
     λ pages told. ap (runs_loaded (runner program_room) name args (files pages)) (found_is (program_of (files pages) name) loaded r is (finds pages told))
-        ∙ tells_line name args (files pages) loaded line tells
+    ∙ tells_line name args (files pages) loaded line tells
 begins_of name args before r loaded (Err fault) is begun finds = tt
 
 -- only memory lacks where a program was loaded

@@ -1,8 +1,10 @@
 pub mod Tasks
-pub mod Answers
-pub mod Going
+pub mod Table
+pub mod ToldSteps
 pub mod Steady
 pub mod Stepping
 pub mod Loop
 pub mod Beginning
-pub mod Taking
+pub mod Taken
+pub mod Done
+pub mod Fitting

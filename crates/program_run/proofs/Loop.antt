@@ -1,28 +1,31 @@
 -- A piece of work: step after step, up to the next need.
-use Rattle.std.proofs.Common.{◌≡◌, ℕ, ◌<◌, ◌≤◌, Bool, true, List, [], ◌∷◌, ◌++◌, Option, Some, None, Result, Ok, Err, refl, sym, ◌∙◌, ap, subst, arith}
+use Rattle.std.proofs.Common.{◌≡◌, ℕ, ◌<◌, Bool, true, List, ◌++◌, Option, Some, None, Result, Ok, Err, refl, ◌∙◌, ap, subst, arith}
 use Rattle.std.specs.Prelude.{IsTrue}
-use Rattle.disk_layout.specs.Files.{Files, files}
+use Rattle.disk_layout.specs.Files.{files}
 use Rattle.disk_files.specs.Answers.{FaultsOnly}
 use Rattle.disk_files.specs.declared.fault.FileFault.{FileFault}
+use Rattle.disk_files.specs.declared.fault.FileFault.TheVariants.{DiskFault as AreaFails}
 use Rattle.file_commands.specs.declared.fault.CommandFault.{CommandFault}
 use Rattle.file_commands.specs.declared.fault.CommandFault.TheVariants.{DiskFault, NoMemory}
 use Rattle.file_commands.specs.Faults.{of_command}
-use Rattle.solo_task.specs.Answers.{Doing}
-use Rattle.solo_procs.specs.declared.commands.Need.{Need}
 use Rattle.solo_work.specs.declared.paper.Paper.{Paper}
 use Rattle.solo_work.specs.Paper.{IsHand}
-use Rattle.program_run.specs.Sight.{Sight, IsLeftOf, IsUnderWay}
+use Rattle.solo_work.specs.Printing.{prints_then}
+use Rattle.program_run.specs.Sight.{Sight, IsUnderWay}
 use Rattle.program_run.specs.Steps.{StepDone}
-use Rattle.program_run.specs.Work.{ComesTo, CameTo, EndsSo, Reaches, Came, passes_all}
+use Rattle.program_run.specs.Work.{Came, MayGoOn, passes_all}
 use Rattle.program_run.specs.declared.progress.Progress.{Progress}
 use Rattle.program_run.specs.declared.progress.Progress.TheVariants.{Needs, Ends}
-use Rattle.program_run.proofs.Tasks.{GoesTo, here, then-reaches, are-passed}
-use Rattle.program_run.proofs.Steady.{Steady, steady_step, left_in}
+use Rattle.program_run.proofs.Tasks.{here, then-reaches, are-passed}
+use Rattle.program_run.proofs.Steady.{steady_step, left_in}
 use Rattle.program_run.proofs.Stepping.{GoesSo, StepComes, step_comes}
 
 -- no fault so far
 abbrev pub done : Result (Unit {0}) FileFault
 done = Ok tt
+
+no_fault : done ≡ Err AreaFails → ⊥
+no_fault e = cc
 
 pub record IsSoFar (before : Option (List (List ℕ))) (p : Sight) (paper : Paper) (faults : ℕ) (now : Sight) (paper_now : Paper) (after : Option (List (List ℕ))) (faults_now : ℕ)
     (sound : Bool) : Type 0 where
@@ -36,7 +39,7 @@ pub begins : (before : Option (List (List ℕ))) (p : Sight) (paper : Paper) (fa
 begins before p paper faults sound way is = record {
   under_way = way;
   is_sound = is;
-  counts = record { later = omega arith; stays = λ few. few; cause = λ e. absurd cc };
+  counts = record { later = omega arith; stays = λ few. few; cause = λ e. absurd (no_fault e) };
   goes = λ pages hand hand_is. record {
     hand_now = hand;
     hand_is = hand_is;
@@ -85,14 +88,14 @@ step_more pages hand before middle p mid paper_mid so (Some (Ends printing)) now
   hand_is = next.hand_is;
   told = λ old doing told left.
       let g = so.told old doing told left in
-      then-reaches hand (files old) doing mid so.hand_now middle g next.hand_now _ after (next.told g.reaches.pages g.later g.reaches.told g.left);
+      then-reaches hand (files old) doing mid so.hand_now middle g next.hand_now (prints_then printing.lines printing.next printing.answers) after (next.told g.reaches.pages g.later g.reaches.told g.left);
 }
 
 more_counts : (a b c : ℕ) → FaultsOnly a b done → FaultsOnly b c done → FaultsOnly a c done
 more_counts a b c first second = record {
   later = (let x = first.later in let y = second.later in omega (arith, x, y));
   stays = λ few. second.stays (first.stays few);
-  cause = λ e. absurd cc;
+  cause = λ e. absurd (no_fault e);
 }
 
 -- the same where the last step failed or came to its need
@@ -132,6 +135,11 @@ came before middle after p mid now paper paper_mid paper_now faults faults_mid s
     step_more pages hand before middle p mid paper_mid so (Some progress) now paper_now after
     (step_comes pages so.hand_now middle mid paper_mid (Some progress) now paper_now after so.hand_is far.under_way one)
 
+pub may_go_on : (middle after : Option (List (List ℕ))) (mid now : Sight) (paper_mid paper_now : Paper) (o : Option Progress) (progress : Progress) → o ≡ Some progress → IsUnderWay mid
+    → StepDone middle mid paper_mid o now paper_now after → MayGoOn progress now
+may_go_on middle after mid now paper_mid paper_now o progress is way step =
+    steady_step middle mid paper_mid (Some progress) now paper_now after way (subst (λ x. StepDone middle mid paper_mid x now paper_now after) is step)
+
 -- ---- A step that isn't done
 
 pub lacks : (before middle after : Option (List (List ℕ))) (p mid now : Sight) (paper paper_mid paper_now : Paper) (faults faults_mid : ℕ) (sound_mid : Bool) (fault : CommandFault)
@@ -143,6 +151,11 @@ lacks before middle after p mid now paper paper_mid paper_now faults faults_mid 
     let passed = are-passed hand (files old) doing mid so.hand_now middle g in
     (passed.0, same refl ∙ passed.1, passed.2)
 lacks before middle after p mid now paper paper_mid paper_now faults faults_mid sound_mid DiskFault far same pages hand hand_is = tt
+
+-- a fault is the same for the files, whatever the answer would have been
+pub same_failed : (A B : Type 0) (fault : CommandFault) → of_command {T = A} (Err fault) ≡ of_command {T = B} (Err fault)
+same_failed A B DiskFault = refl
+same_failed A B NoMemory = refl
 
 -- the same fault, beside another answer
 abbrev pub failed : (A E : Type 0) → E → Result A E

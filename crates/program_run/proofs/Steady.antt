@@ -1,51 +1,36 @@
 -- What holds of a program behind each step, over every area: it goes on to stand well, and less is left.
-use Rattle.std.proofs.Common.{◌≡◌, ℕ, ◌+◌, ◌<◌, ◌≤◌, List, [], ◌∷◌, length, Option, Some, None, ℤ, refl, sym, ◌∙◌, ap, subst, arith}
+use Rattle.std.proofs.Common.{◌≡◌, ℕ, ◌<◌, ◌≤◌, List, [], ◌∷◌, Option, Some, None, ℤ, sym, ◌∙◌, ap, subst, arith}
 use Rattle.solo_base.specs.declared.system_call.Arg.{Arg}
 use Rattle.solo_base.specs.declared.system_call.SysCall.{SysCall}
 use Rattle.solo_base.specs.declared.system_call.SysCall.TheVariants as calls
 use Rattle.solo_base.specs.declared.system_call.SysReply.{SysReply}
 use Rattle.solo_base.specs.declared.system_call.SysReply.TheVariants as replies
-use Rattle.program_task.specs.Program.{Own}
 use Rattle.program_task.specs.Run.{program_room}
 use Rattle.stack_machine.specs.declared.running.Pause.{Pause}
 use Rattle.stack_machine.specs.declared.running.Pause.TheVariants as pause
 use Rattle.stack_machine.specs.declared.state.Finish.{Finish}
-use Rattle.stack_machine.specs.States.{State}
-use Rattle.stack_machine.specs.State.{Asks}
-use Rattle.stack_machine.specs.Standing.{StandsWell}
 use Rattle.prog_stack.specs.declared.frame.Frame.{Frame}
 use Rattle.prog_stack.specs.declared.served.Served.TheVariants as served
-use Rattle.prog_stack.specs.Answers.{Hand}
 use Rattle.prog_stack.specs.Callers.{IsStack, TopAsks, TopWell, TopBegins, RunsTop, with_reply}
-use Rattle.prog_stack.specs.Programs.{AsksFor, in_state, behind_reply, begun, calling, called_back, ran}
-use Rattle.prog_stack.specs.Serves.{ServesTop, Pushes, PopsTop, top_ended}
-use Rattle.prog_stack.specs.WorkLeft.{AllWithin, work_left, Falls, NeverRises}
+use Rattle.prog_stack.specs.Programs.{AsksFor, ran}
+use Rattle.prog_stack.specs.Serves.{ServesTop, PopsTop, top_ended}
+use Rattle.prog_stack.specs.WorkLeft.{AllWithin, work_left}
 use Rattle.prog_stack.proofs.Measure.{itself_never_rises, reply_lowers_all, run_lowers, end_lowers}
-use Rattle.solo_procs.specs.Commands.{Kind, AtLine, AtCards, AtTyped, AtNothing}
-use Rattle.solo_procs.specs.declared.commands.Need.{Need}
 use Rattle.solo_procs.specs.declared.commands.Need.TheVariants as need
 use Rattle.solo_task.specs.Doing.{tick_limit}
 use Rattle.solo_work.specs.declared.paper.Paper.{Paper}
-use Rattle.program_run.specs.Sight.{Sight, IsThere, IsUnderWay, MayTake}
-use Rattle.program_run.specs.Steps.{IsWritten, IsDisplayed, IsReplied, IsAsking, DoesDevice, DoesCall, Replies, Runs, OfDevice, DoesEnd, DoesBy, StepDone}
+use Rattle.program_run.specs.Sight.{Sight, IsThere, IsUnderWay}
+use Rattle.program_run.specs.Steps.{IsWritten, IsDisplayed, DoesDevice, DoesCall, Replies, Runs, OfDevice, DoesEnd, DoesBy, StepDone}
+use Rattle.program_run.specs.Work.{MayGoOn}
 use Rattle.program_run.specs.declared.progress.Progress.{Progress}
 use Rattle.program_run.specs.declared.progress.Progress.TheVariants.{Needs, Ends}
 
 abbrev pub left_in : List Frame → ℕ
 left_in programs = work_left program_room tick_limit programs
 
--- what may be done behind a need
-abbrev pub kind_of : Need → Kind
-kind_of need.Cards = AtCards
-kind_of need.Line = AtTyped
-kind_of (need.Display line) = AtNothing
-kind_of (need.Page page) = AtNothing
-kind_of (need.End last answers) = AtLine
-
 abbrev pub Steady : Option Progress → List Frame → Sight → Type 0
 Steady None before now = IsUnderWay now × (left_in now.programs < left_in before)
-Steady (Some (Needs n)) before now = MayTake (kind_of n) now
-Steady (Some (Ends printing)) before now = Unit {0}
+Steady (Some progress) before now = MayGoOn progress now
 
 -- ---- The programs alone
 
@@ -89,7 +74,7 @@ pub served_reply : (call : SysCall) (reply : SysReply) (before programs now : Li
     → ServesTop program_room call before told (served.Reply reply) programs after → now ≡ with_reply reply programs
     → AreUnderWay now × (left_in now < left_in before)
 served_reply call reply [] programs now told after (there, stack, within) well asks serves is = absurd there
-served_reply call reply (top ∷ below) programs now told after (there, stack, within) well asks (own, not_device, fits, programs_are, others) is =
+served_reply call reply (top ∷ below) programs now told after (there, stack, within) well asks (own, not_device, fits, programs_are, anywhere, not_run, answers) is =
     let falls = reply_lowers_all program_room tick_limit call reply own top below within well.good asks in
     subst (λ l. AreUnderWay l × (left_in l < left_in (top ∷ below))) (sym (is ∙ ap (with_reply reply) programs_are)) ((tt, stack, falls.within), falls.less)
 
@@ -117,7 +102,7 @@ popped finish (top ∷ caller ∷ below) args now (some, stack, within) (given, 
     let waits = stack.1.0 in
     let few = stack.0 in
     let falls = end_lowers program_room tick_limit (calls.Run waits.name waits.left) (ran finish) (record caller.own { incoming = top.own.outgoing; outgoing = [] }) top caller below
-        within (subst TopWell is well).good waits.asks few in
+    within (subst TopWell is well).good waits.asks few in
     subst (λ l. AreUnderWay l × (left_in l < left_in (top ∷ caller ∷ below))) (sym is) ((tt, (omega (arith, few), stack.1.1), falls.within), falls.less)
 
 -- ---- A step
@@ -196,8 +181,7 @@ steady_end finish p (Some (Needs n)) now are does = absurd does
 
 no_more : (n : Option Progress) (before middle : List Frame) (now : Sight) → left_in middle ≤ left_in before → Steady n middle now → Steady n before now
 no_more None before middle now most (is, less) = (is, omega (arith, most, less))
-no_more (Some (Needs n)) before middle now most is = is
-no_more (Some (Ends printing)) before middle now most is = is
+no_more (Some progress) before middle now most is = is
 
 steady_by : (paused : Pause) (before : Option (List (List ℕ))) (p : Sight) (middle : List Frame) (paper : Paper) (n : Option Progress) (now : Sight) (paper_now : Paper) (after : Option (List (List ℕ)))
     → AreUnderWay p.programs → RunsTop p.programs (Some paused) middle → TopWell middle → DoesBy paused before (record p { programs = middle }) paper n now paper_now after

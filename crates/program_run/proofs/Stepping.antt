@@ -1,6 +1,5 @@
 -- A step, over every area and by told files.
-use Rattle.std.proofs.Common.{◌≡◌, ℕ, ◌<◌, Bool, true, false, List, [], ◌∷◌, ◌++◌, Option, Some, None, Ok, refl, sym, ◌∙◌, ap, subst}
-use Rattle.solo_base.specs.declared.page.Page.{Page}
+use Rattle.std.proofs.Common.{◌≡◌, ℕ, List, [], ◌∷◌, ◌++◌, Option, Some, None, Ok, refl, sym, ◌∙◌, subst}
 use Rattle.solo_base.specs.declared.system_call.SysCall.{SysCall}
 use Rattle.solo_base.specs.declared.system_call.SysCall.TheVariants as calls
 use Rattle.solo_base.specs.declared.system_call.SysReply.TheVariants as replies
@@ -8,31 +7,29 @@ use Rattle.disk_layout.specs.Files.{Files, files}
 use Rattle.pascal_mean.specs.Batch.{characters_of}
 use Rattle.program_task.specs.Program.{Own, Shared}
 use Rattle.program_task.specs.Table.{answer}
-use Rattle.program_task.specs.Run.{runner, program_room}
+use Rattle.program_task.specs.Run.{runner}
 use Rattle.program_task.specs.Characters.{writes}
 use Rattle.stack_machine.specs.declared.running.Pause.{Pause}
 use Rattle.stack_machine.specs.declared.running.Pause.TheVariants as pause
 use Rattle.stack_machine.specs.declared.state.Finish.{Finish}
 use Rattle.prog_stack.specs.declared.frame.Frame.{Frame}
-use Rattle.prog_stack.specs.Answers.{Hand, sharing}
+use Rattle.prog_stack.specs.Answers.{sharing}
 use Rattle.prog_stack.specs.Callers.{TopAsks, TopWell, RunsTop}
 use Rattle.prog_stack.specs.Serves.{top_ended}
 use Rattle.solo_law.specs.Work as law
-use Rattle.solo_procs.specs.Commands.{kind_behind}
-use Rattle.solo_procs.specs.declared.commands.Need.{Need}
 use Rattle.solo_procs.specs.declared.commands.Need.TheVariants as need
 use Rattle.solo_task.specs.Answers.{Doing}
 use Rattle.solo_work.specs.declared.paper.Paper.{Paper}
-use Rattle.solo_work.specs.Paper.{IsHand, AddsLine}
-use Rattle.program_run.specs.Sight.{Sight, IsLeftOf, IsUnderWay, MayTake}
+use Rattle.solo_work.specs.Paper.{IsHand}
+use Rattle.program_run.specs.Sight.{Sight, IsLeftOf, IsUnderWay}
 use Rattle.program_run.specs.Sharing.{WritesSo, DisplaysSo}
-use Rattle.program_run.specs.Steps.{IsPrinted, IsWritten, IsDisplayed, IsReplied, IsAsking, DoesDevice, DoesCall, Replies, Runs, OfDevice, DoesEnd, DoesBy, StepDone}
-use Rattle.program_run.specs.Work.{ComesTo, CameTo, EndsSo, Came}
+use Rattle.program_run.specs.Steps.{IsPrinted, IsWritten, IsDisplayed, IsReplied, DoesDevice, DoesCall, Replies, Runs, OfDevice, DoesEnd, DoesBy, StepDone}
+use Rattle.program_run.specs.Work.{Came}
 use Rattle.program_run.specs.declared.progress.Progress.{Progress}
 use Rattle.program_run.specs.declared.progress.Progress.TheVariants.{Needs, Ends}
-use Rattle.program_run.proofs.Answers.{replied_with, reads_one, accepts_one, displays_so, writes_so}
+use Rattle.program_run.proofs.Table.{reads_one, accepts_one, displays_so, writes_so}
 use Rattle.program_run.proofs.Tasks.{GoesTo}
-use Rattle.program_run.proofs.Going.{ran_left, asks_first, AsksFirst, replies_told, runs_told, answers_told, displays_told, PrintsFirst, prints_first, prints_told, fills_told, cards_told, line_told, end_told, ends_told}
+use Rattle.program_run.proofs.ToldSteps.{ran_left, asks_first, replies_told, runs_told, answers_told, displays_told, PrintsFirst, prints_first, prints_told, fills_told, cards_told, line_told, end_told, ends_told}
 use Rattle.program_run.proofs.Steady.{Steady, steady_step, ran_to_call, ran_to_end}
 
 -- it goes on from here

@@ -1,5 +1,5 @@
 -- From need to need: where a task goes on, and which files it passes.
-use Rattle.std.proofs.Common.{◌≡◌, ◌⊎◌, inl, inr, ℕ, Bool, true, false, List, [], ◌∷◌, ◌++◌, Option, Some, None, refl, sym, ◌∙◌, ap, subst, append_assoc}
+use Rattle.std.proofs.Common.{◌≡◌, inl, inr, ℕ, true, false, List, [], ◌∷◌, ◌++◌, Option, Some, refl, sym, ◌∙◌, ap, subst, append_assoc}
 use Rattle.disk_layout.specs.Files.{Files, files}
 use Rattle.program_task.specs.Task.{Prints, Changes}
 use Rattle.solo_task.specs.Answers.{Doing}
@@ -7,7 +7,7 @@ use Rattle.solo_task.specs.Laws.{last_of}
 use Rattle.solo_task.specs.Needs.{Paused, PageNeeded, GoesOn, comes_to, needs, either, fits_behind}
 use Rattle.solo_work.specs.Passing.{IsAmong}
 use Rattle.program_run.specs.Sight.{Sight, IsLeftOf}
-use Rattle.program_run.specs.Work.{Reaches, CameTo, passes_all}
+use Rattle.program_run.specs.Work.{Reaches, passes_all}
 
 -- it goes on from here
 pub record GoesTo (hand : List (List ℕ)) (all : Files) (doing : Doing) (now : Sight) (hand_now : List (List ℕ)) (after : Option (List (List ℕ))) : Type 0 where
@@ -17,7 +17,7 @@ pub record GoesTo (hand : List (List ℕ)) (all : Files) (doing : Doing) (now : 
 
 -- ---- Files
 
-last-append : (first : Files) (some more : List Files) → last_of first (some ++ more) ≡ last_of (last_of first some) more
+pub last-append : (first : Files) (some more : List Files) → last_of first (some ++ more) ≡ last_of (last_of first some) more
 last-append first [] more = refl
 last-append first (next ∷ some) more = last-append next some more
 
@@ -40,10 +40,10 @@ are-passed hand all doing now hand_now after g =
 
 -- ---- One after the other
 
-passes-append : (some more : List Files) (c : Paused) → passes_all some (passes_all more c) ≡ passes_all (some ++ more) c
+pub passes-append : (some more : List Files) (c : Paused) → passes_all some (passes_all more c) ≡ passes_all (some ++ more) c
 passes-append some more c = ap (λ maps. record c { maps = maps }) (sym (append_assoc some more c.maps))
 
-pub then-reaches : (hand : List (List ℕ)) (all : Files) (doing : Doing) (mid : Sight) (hand_mid : List (List ℕ)) (middle : Option (List (List ℕ)))
+abbrev pub then-reaches : (hand : List (List ℕ)) (all : Files) (doing : Doing) (mid : Sight) (hand_mid : List (List ℕ)) (middle : Option (List (List ℕ)))
     (g : GoesTo hand all doing mid hand_mid middle) (hand_now : List (List ℕ)) (later : Doing) (after : Option (List (List ℕ)))
     → Reaches hand_mid (files g.reaches.pages) g.later hand_now later after → Reaches hand all doing hand_now later after
 then-reaches hand all doing mid hand_mid middle g hand_now later after r =
@@ -58,19 +58,19 @@ then-reaches hand all doing mid hand_mid middle g hand_now later after r =
 
 -- ---- What a task does first
 
-pub here : (hand : List (List ℕ)) (doing : Doing) (pages : List (List ℕ)) (all : Files) (after : Option (List (List ℕ))) → after ≡ Some pages → all ≡ files pages
+abbrev pub here : (hand : List (List ℕ)) (doing : Doing) (pages : List (List ℕ)) (all : Files) (after : Option (List (List ℕ))) → after ≡ Some pages → all ≡ files pages
     → Reaches hand all doing hand doing after
 here hand doing pages all after told same =
     record { pages = pages; told = told; maps = []; last = sym same; comes = ap (λ a. comes_to hand a doing) same }
 
-pub changing : (hand : List (List ℕ)) (all : Files) (doing later : Doing) (pages : List (List ℕ)) (after : Option (List (List ℕ))) → after ≡ Some pages
+abbrev pub changing : (hand : List (List ℕ)) (all : Files) (doing later : Doing) (pages : List (List ℕ)) (after : Option (List (List ℕ))) → after ≡ Some pages
     → doing ≡ Changes (files pages) later → Reaches hand all doing hand later after
 changing hand all doing later pages after told is =
     record { pages = pages; told = told; maps = files pages ∷ []; last = refl; comes = ap (comes_to hand all) is }
 
-pub printing : (hand : List (List ℕ)) (line : List ℕ) (doing later : Doing) (pages : List (List ℕ)) (after : Option (List (List ℕ))) → after ≡ Some pages
+abbrev pub on-page : (hand : List (List ℕ)) (line : List ℕ) (doing later : Doing) (pages : List (List ℕ)) (after : Option (List (List ℕ))) → after ≡ Some pages
     → fits_behind hand line ≡ true → doing ≡ Prints line later → Reaches hand (files pages) doing (hand ++ line ∷ []) later after
-printing hand line doing later pages after told room is =
+on-page hand line doing later pages after told room is =
     record {
       pages = pages;
       told = told;

@@ -4,7 +4,6 @@ use Rattle.solo_base.specs.Text.{text}
 use Rattle.solo_base.specs.declared.item.Feed.{Feed}
 use Rattle.solo_base.specs.declared.system_call.Arg.{Arg}
 use Rattle.solo_base.specs.declared.system_call.SysCall.TheVariants as calls
-use Rattle.solo_base.specs.declared.system_call.SysReply.{SysReply}
 use Rattle.solo_base.specs.declared.system_call.SysReply.TheVariants as replies
 use Rattle.disk_layout.specs.Files.{Files}
 use Rattle.pascal_mean.specs.Batch.{next_character, but_the_first}
@@ -23,13 +22,12 @@ use Rattle.solo_procs.specs.Commands.{Kind, AtLine, AtCards, AtTyped, AtNothing}
 use Rattle.solo_task.specs.Answers.{Doing}
 use Rattle.solo_task.specs.Doing.{ends_program, tick_limit}
 use Rattle.solo_task.specs.Needs.{Pause, WantsCards, WantsLine, GoesOn}
+use Rattle.program_run.specs.declared.program_run.ProgramRun.{ProgramRun}
 
 -- the name of the program, the programs on the stack, the top one first, and what they share but for the
 -- files
-pub record Sight : Type 0 where
-  pub name : List ℕ
-  pub programs : List Frame
-  pub hand : Hand
+abbrev pub Sight : Type 0
+Sight = ProgramRun
 
 -- nothing was read, typed or printed yet
 abbrev pub no_hand : Hand

@@ -5,7 +5,6 @@ use Rattle.solo_base.specs.declared.system_call.SysCall.{SysCall}
 use Rattle.solo_base.specs.declared.system_call.SysCall.TheVariants as calls
 use Rattle.solo_base.specs.declared.system_call.SysReply.{SysReply}
 use Rattle.solo_base.specs.declared.system_call.SysReply.TheVariants as replies
-use Rattle.solo_base.specs.declared.page.Page.{Page}
 use Rattle.pascal_mean.specs.Batch.{last_line}
 use Rattle.program_lines.specs.Texts.{note, result_line}
 use Rattle.program_task.specs.Run.{program_room}

@@ -1,5 +1,5 @@
 -- What a piece of work on a program comes to.
-use Rattle.std.specs.Prelude.{◌≡◌, ◌≤◌, ℕ, List, [], ◌∷◌, ◌++◌, Option, Some, None, Result, Ok, Err}
+use Rattle.std.specs.Prelude.{◌≡◌, ℕ, List, [], ◌∷◌, ◌++◌, Option, Some, Result, Ok, Err}
 use Rattle.solo_base.specs.declared.system_call.Arg.{Arg}
 use Rattle.disk_layout.specs.Files.{Files, files}
 use Rattle.solo_commands.specs.declared.command.Command.TheVariants as command
@@ -8,8 +8,9 @@ use Rattle.file_commands.specs.declared.fault.CommandFault.{CommandFault}
 use Rattle.file_commands.specs.declared.fault.CommandFault.TheVariants.{DiskFault, NoMemory}
 use Rattle.solo_law.specs.Work.{NeedFits}
 use Rattle.solo_law.specs.Work as law
-use Rattle.solo_procs.specs.Commands.{AtNothing, IsNeed, kind_behind, pages_behind}
+use Rattle.solo_procs.specs.Commands.{Kind, AtLine, AtCards, AtTyped, AtNothing, IsNeed, kind_behind, pages_behind}
 use Rattle.solo_procs.specs.declared.commands.Need.{Need}
+use Rattle.solo_procs.specs.declared.commands.Need.TheVariants as need
 use Rattle.solo_task.specs.Answers.{Doing}
 use Rattle.solo_task.specs.Doing.{does}
 use Rattle.solo_task.specs.Laws.{last_of}
@@ -87,6 +88,19 @@ pub record EndsSo (pages : ℕ) (hand : List (List ℕ)) (before : Option (List 
       → Reaches hand (files old) doing hand_now (prints_then printing.lines printing.next printing.answers) after
 
 -- ---- A piece of work
+
+-- what it begins with behind a need
+abbrev pub kind_of : Need → Kind
+kind_of need.Cards = AtCards
+kind_of need.Line = AtTyped
+kind_of (need.Display line) = AtNothing
+kind_of (need.Page page) = AtNothing
+kind_of (need.End last answers) = AtLine
+
+-- and that it may be done then, over every area
+abbrev pub MayGoOn : Progress → Sight → Type 0
+MayGoOn (Needs n) now = MayTake (kind_of n) now
+MayGoOn (Ends printing) now = Unit {0}
 
 -- Where memory lacks, the files are some of those to which the task changes. Where the area failed, nothing is
 -- said.

@@ -10,8 +10,8 @@ ghost use Rattle.prog_stack.specs.Serves.{top_ended};
 ghost use Rattle.solo_procs.specs.Commands.{AtNothing};
 ghost use Rattle.solo_work.specs.Paper.{IsHand};
 ghost use Rattle.program_run.specs.Sight.{IsUnderWay, MayTake};
-ghost use Rattle.program_run.specs.Steps.{IsWritten, DoesDevice, DoesCall, DoesEnd, EndsWith, StepDone, spoiled_note};
-ghost use Rattle.program_run.specs.Work.{Came};
+ghost use Rattle.program_run.specs.Steps.{IsWritten, IsDisplayed, DoesDevice, DoesCall, DoesEnd, EndsWith, StepDone, spoiled_note};
+ghost use Rattle.program_run.specs.Work.{Came, MayGoOn};
 
 use crate::program_run::ProgramRun;
 use crate::progress::Progress;
@@ -39,6 +39,7 @@ impl ProgramRun {
         ensures came { (pages : ℕ) (hand : List (List ℕ)) → IsHand paper.old pages hand
             → Came pages hand (A.pages files.old.area) self.old result self.new paper.new
             (A.pages files.new.area) }
+        ensures may { IfOk result (λ progress. MayGoOn progress self.new) }
         ensures sound { files.new.sound ≡ stays_sound (of_command result) }
         ensures cause { FaultsOnly (A.faults files.old.area) (A.faults files.new.area) (of_command result) }
     {
@@ -66,13 +67,16 @@ impl ProgramRun {
         ensures sound { files.new.sound ≡ stays_sound (of_command result) }
         ensures cause { FaultsOnly (A.faults files.old.area) (A.faults files.new.area) (of_command result) }
     {
-        match self.programs.go() {
-            Some(Pause::Call(call)) => self.call(call, paper, files),
-            Some(Pause::Finished(finish)) => match self.end(alloc, finish) {
+        let pause = match self.programs.go() {
+            Some(pause) => pause,
+            None => unreachable!(),
+        };
+        match pause {
+            Pause::Call(call) => self.call(call, paper, files),
+            Pause::Finished(finish) => match self.end(alloc, finish) {
                 Ok(progress) => Ok(progress),
                 Err(_) => Err(CommandFault::NoMemory),
             },
-            None => unreachable!(),
         }
     }
 
@@ -111,14 +115,14 @@ impl ProgramRun {
         ensures { DoesDevice call.now self.old paper.old result self.new paper.new }
     {
         match call {
-            SysCall::Read => match self.hands.read() {
+            SysCall::Read => match self.hand.read() {
                 None => Some(Progress::Needs(Need::Cards)),
                 Some(code) => {
                     self.programs.answer(SysReply::Char(code));
                     None
                 }
             },
-            SysCall::Accept => match self.hands.accept() {
+            SysCall::Accept => match self.hand.accept() {
                 None => Some(Progress::Needs(Need::Line)),
                 Some(code) => {
                     self.programs.answer(SysReply::Char(code));
@@ -127,14 +131,11 @@ impl ProgramRun {
             },
             SysCall::Display(code) => {
                 self.programs.answer(SysReply::Done);
-                match self.hands.display(*code) {
-                    None => None,
-                    Some(line) => Some(Progress::Needs(Need::Display(line))),
-                }
+                display(self.hand.display(*code))
             }
             SysCall::Write(_) | SysCall::WriteInt(_) => {
                 self.programs.answer(SysReply::Done);
-                print_on(self.hands.write(call), paper)
+                print(self.hand.write(call), paper)
             }
             _ => unreachable!(),
         }
@@ -146,26 +147,24 @@ impl ProgramRun {
         requires ended { top_ended self.old.programs ≡ Some finish }
         ensures { IfOk result (λ n. DoesEnd finish self.old n self.new) }
     {
-        let Some(_ended) = self.programs.pop() else {
-            unreachable!();
-        };
-        if !self.programs.is_empty() {
-            return Ok(None);
+        let _ = self.programs.pop();
+        if self.programs.is_empty() {
+            return match self.ending(alloc, finish) {
+                Ok(printing) => Ok(Some(Progress::Ends(printing))),
+                Err(refused) => Err(refused),
+            };
         }
-        match self.ending(alloc, finish) {
-            Ok(printing) => Ok(Some(Progress::Ends(printing))),
-            Err(refused) => Err(refused),
-        }
+        Ok(None)
     }
 
     // What is left behind the last program.
     fn ending(&self, alloc: Global, finish: Finish) -> Result<Printing, NoMemory>
         ensures { IfOk result (λ printing. EndsWith self.now.name finish self.now.hand printing) }
     {
-        let lines = with_last(LineList::new(alloc), self.hands.printed())?;
-        let mut answers = with_last(LineList::new(alloc), self.hands.displayed())?;
+        let lines = with_last(LineList::new(alloc), self.hand.printed())?;
+        let mut answers = with_last(LineList::new(alloc), self.hand.displayed())?;
         answers.push(&result_line(&self.name, finish.result, finish.line))?;
-        let answers = with_note(answers, self.hands.spoiled(), &self.name)?;
+        let answers = with_note(answers, self.hand.spoiled(), &self.name)?;
         Ok(Printing {
             lines,
             next: 0,
@@ -174,16 +173,26 @@ impl ProgramRun {
     }
 }
 
+// A line that was completed, if one was, is to be displayed.
+fn display(line: Option<Line>) -> Option<Progress>
+    ensures { IsDisplayed line result }
+{
+    match line {
+        None => None,
+        Some(line) => Some(Progress::Needs(Need::Display(line))),
+    }
+}
+
 // Prints a line that was completed, if one was.
-fn print_on(line: Option<Line>, paper: &mut Paper) -> Option<Progress>
+fn print(line: Option<Line>, paper: &mut Paper) -> Option<Progress>
     ensures { IsWritten paper.old line result paper.new }
 {
-    let Some(line) = line else {
-        return None;
-    };
-    match paper.print(&line) {
+    match line {
         None => None,
-        Some(page) => Some(Progress::Needs(Need::Page(page))),
+        Some(line) => match paper.print(&line) {
+            None => None,
+            Some(page) => Some(Progress::Needs(Need::Page(page))),
+        },
     }
 }
 

@@ -1,6 +1,7 @@
 ghost use Rattle.std.specs.Prelude.{◌≡◌, ℕ, List, IsTrue, IfOk};
 ghost use Rattle.disk_files.specs.Answers.{FaultsOnly, stays_sound};
 ghost use Rattle.file_commands.specs.Faults.{of_command};
+ghost use Rattle.prog_stack.specs.Callers.{TopBegins};
 ghost use Rattle.program_run.specs.Beginning.{BeginsSo};
 ghost use Rattle.program_run.specs.Sight.{at_beginning, IsUnderWay};
 ghost use Rattle.program_run.specs.Work.{Begins};
@@ -15,25 +16,17 @@ use solo_base::{ArgList, Ident, Line, NoMemory};
 use solo_devices::Area;
 use stack_code::Verified;
 use std::alloc::Global;
-use std::marker::Model;
 
 /// The ticks that the programs of a command may take together.
 const TICK_LIMIT: u32 = 1_000_000;
 
-/// A program of a command that is under way, with those that it runs.
+/// A program of a command that is under way: its name, the programs on the stack, and what they share but for the
+/// files.
 #[derive(Drop)]
 pub struct ProgramRun {
     pub(crate) name: Ident,
     pub(crate) programs: ProgStack<5>,
-    pub(crate) hands: Hands,
-}
-
-impl Model for ProgramRun {
-    ghost use Rattle.program_run.specs.Sight.{Sight};
-
-    ghost Value = { Sight };
-
-    ghost view = { λ p. record { name = p.name; programs = p.programs; hand = p.hands } };
+    pub(crate) hand: Hands,
 }
 
 /// What a program command begins with.
@@ -82,14 +75,12 @@ impl ProgramRun {
             Ok(()) => Ok(ProgramRun {
                 name,
                 programs,
-                hands: Hands::new(alloc),
+                hand: Hands::new(alloc),
             }),
             Err(refused) => Err(refused),
         }
     }
 }
-
-ghost use Rattle.prog_stack.specs.Callers.{TopBegins};
 
 // The program that was loaded, or why there is none.
 fn begin_loaded(

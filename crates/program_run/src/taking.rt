@@ -25,7 +25,7 @@ impl ProgramRun {
             Ok(text) => text,
             Err(refused) => return Err(refused),
         };
-        let code = self.hands.take_cards(text, spoiled);
+        let code = self.hand.take_cards(text, spoiled);
         self.programs.answer(SysReply::Char(code));
         Ok(())
     }
@@ -39,7 +39,7 @@ impl ProgramRun {
             Ok(text) => text,
             Err(refused) => return Err(refused),
         };
-        let code = self.hands.take_line(text);
+        let code = self.hand.take_line(text);
         self.programs.answer(SysReply::Char(code));
         Ok(())
     }

@@ -1,5 +1,5 @@
 -- What a step of the code is of the task that is left, by told files.
-use Rattle.std.proofs.Common.{◌≡◌, ℕ, Bool, true, false, List, [], ◌∷◌, ◌++◌, drop, Option, Some, None, Ok, refl, sym, ◌∙◌, ap, subst}
+use Rattle.std.proofs.Common.{◌≡◌, ℕ, true, false, List, [], ◌∷◌, ◌++◌, drop, Option, Some, None, refl, sym, ◌∙◌, ap, subst}
 use Rattle.solo_base.specs.Text.{text}
 use Rattle.solo_base.specs.declared.system_call.Arg.{Arg}
 use Rattle.solo_base.specs.declared.system_call.SysCall.{SysCall}
@@ -7,43 +7,37 @@ use Rattle.solo_base.specs.declared.system_call.SysCall.TheVariants as calls
 use Rattle.solo_base.specs.declared.system_call.SysReply.{SysReply}
 use Rattle.solo_base.specs.declared.system_call.SysReply.TheVariants as replies
 use Rattle.disk_layout.specs.Files.{Files, files}
-use Rattle.pascal_mean.specs.Batch.{next_character, but_the_first, last_line, characters_of}
-use Rattle.batch_program.specs.Printing.{completed}
-use Rattle.program_task.specs.Task.{Task, CardFile, and_then, Gives, ReadsCards, Accepts, Displays, Prints, Changes, prints_all, displays_all}
+use Rattle.pascal_mean.specs.Batch.{next_character, but_the_first, last_line}
+use Rattle.program_task.specs.Task.{Task, CardFile, and_then, Gives, ReadsCards, Accepts, Displays, Prints, prints_all}
 use Rattle.program_task.specs.Program.{Own, Shared, Answer, Ended}
 use Rattle.program_task.specs.Table.{answer}
 use Rattle.program_task.specs.Run.{runner, program_room}
 use Rattle.program_task.specs.Characters.{typed_text}
 use Rattle.stack_machine.specs.declared.running.Pause.{Pause}
-use Rattle.stack_machine.specs.declared.running.Pause.TheVariants as pause
 use Rattle.stack_machine.specs.declared.state.Finish.{Finish}
-use Rattle.stack_machine.specs.Standing.{StandsWell}
 use Rattle.prog_stack.specs.declared.frame.Frame.{Frame}
 use Rattle.prog_stack.specs.declared.served.Served.{Served}
 use Rattle.prog_stack.specs.declared.served.Served.TheVariants as served
 use Rattle.prog_stack.specs.Answers.{Hand, sharing}
 use Rattle.prog_stack.specs.Callers.{TopAsks, TopWell, TopBegins, RunsTop, with_reply}
-use Rattle.prog_stack.specs.Laws.{IsAsked, Comes, Now, Behind, ComesBack, end_of}
-use Rattle.prog_stack.specs.Programs.{AsksFor, in_state, behind_reply}
-use Rattle.prog_stack.specs.Rest.{IsLeft, IsAt}
-use Rattle.prog_stack.specs.Serves.{ServesTop, PopsTop, Pops, top_ended}
+use Rattle.prog_stack.specs.Laws.{Comes, Now, Behind, ComesBack, end_of}
+use Rattle.prog_stack.specs.Programs.{behind_reply}
+use Rattle.prog_stack.specs.Rest.{IsAt}
+use Rattle.prog_stack.specs.Serves.{ServesTop, PopsTop, top_ended}
 use Rattle.prog_stack.proofs.Steps.{runs_itself, asked, served_so, popped_so}
 use Rattle.solo_base.specs.declared.item.Feed.{Feed}
 use Rattle.solo_law.specs.Work as law
-use Rattle.solo_procs.specs.declared.commands.Need.TheVariants as need
 use Rattle.solo_task.specs.Answers.{Doing}
 use Rattle.solo_task.specs.Doing.{ends_program}
 use Rattle.solo_task.specs.Needs.{comes_to, fits_behind, WantsCards, WantsLine, GoesOn}
-use Rattle.solo_work.specs.declared.paper.Paper.{Paper}
 use Rattle.solo_work.specs.declared.printing.Printing.{Printing}
-use Rattle.solo_work.specs.Paper.{IsHand, AddsLine}
 use Rattle.solo_work.specs.Printing.{prints_then}
-use Rattle.program_run.specs.Sight.{Sight, IsLeftOf, IsThere, Takes, TakesCards, TakesLine, WaitsForCards, WaitsForLine}
+use Rattle.program_run.specs.Sight.{Sight, IsLeftOf, IsThere}
 use Rattle.program_run.specs.Steps.{IsReplied, IsAsking, EndsWith, answers_of}
-use Rattle.program_run.specs.Sharing.{ReadsSo, AcceptsSo, WritesSo, DisplaysSo}
+use Rattle.program_run.specs.Sharing.{ReadsSo, AcceptsSo}
 use Rattle.program_run.specs.Work.{CameTo, Reaches}
-use Rattle.program_run.proofs.Answers.{replied_with, reads_one, reads_none, accepts_one, accepts_none, displays_so, writes_so}
-use Rattle.program_run.proofs.Tasks.{GoesTo, here, changing, printing, full-page}
+use Rattle.program_run.proofs.Table.{replied_with, reads_none, accepts_none}
+use Rattle.program_run.proofs.Tasks.{GoesTo, here, changing, on-page, full-page}
 
 -- what holds of a sight with these parts
 of_parts : (P : Sight → Type 0) (now : Sight) (name : List ℕ) (programs : List Frame) (hand : Hand) → now.name ≡ name → now.programs ≡ programs → now.hand ≡ hand
@@ -230,7 +224,7 @@ prints_first p now all doing left call line asks is replied =
 pub prints_told : (hand : List (List ℕ)) (now : Sight) (old : List (List ℕ)) (line : List ℕ) (doing : Doing) (after : Option (List (List ℕ))) → after ≡ Some old
     → PrintsFirst now (files old) line doing → fits_behind hand line ≡ true → GoesTo hand (files old) doing now (hand ++ line ∷ []) after
 prints_told hand now old line doing after told prints room =
-    record { later = prints.later; reaches = printing hand line doing prints.later old after told room prints.is; left = prints.left }
+    record { later = prints.later; reaches = on-page hand line doing prints.later old after told room prints.is; left = prints.left }
 
 pub fills_told : (hand : List (List ℕ)) (now : Sight) (old : List (List ℕ)) (line : List ℕ) (doing : Doing) (after : Option (List (List ℕ))) → after ≡ Some old
     → PrintsFirst now (files old) line doing → fits_behind hand line ≡ false → CameTo hand (files old) doing (law.PageNeeded hand) now (line ∷ []) after
@@ -252,7 +246,7 @@ cards_told hand p now old doing after told left asks reads is =
     let a = asks_first calls.Read p.programs (sharing (files old) p.hand) left.task left.left asks in
     let none = reads_none a.own (files old) p.hand now.hand reads in
     let gives : CardFile → Answer = λ file. replied_with (replies.Char (next_character (text file.cards))) a.own (files old)
-        (record p.hand { input = Some (but_the_first (text file.cards)); spoiled = file.spoiled }) in
+    (record p.hand { input = Some (but_the_first (text file.cards)); spoiled = file.spoiled }) in
     let more : CardFile → Doing = λ file. and_then (a.later (gives file)) (ends_program p.name) in
     record {
       pages = old;
@@ -266,14 +260,14 @@ cards_told hand p now old doing after told left asks reads is =
         λ file next takes.
             of_parts (λ s. IsLeftOf s (files old) (more file)) next p.name (with_reply (replies.Char (next_character (text file.cards))) p.programs)
             (record p.hand { input = Some (but_the_first (text file.cards)); spoiled = file.spoiled })
-            (ap (λ s. s.name) takes.is ∙ is.name)
-            (ap (λ s. s.programs) takes.is ∙ ap (with_reply (replies.Char (next_character (text file.cards)))) is.programs)
-            (ap (λ s. s.hand) takes.is ∙ ap (λ h. record h { input = Some (but_the_first (text file.cards)); spoiled = file.spoiled }) none.1)
+            (ap (λ (s : Sight). s.name) takes.is ∙ is.name)
+            (ap (λ (s : Sight). s.programs) takes.is ∙ ap (with_reply (replies.Char (next_character (text file.cards)))) is.programs)
+            (ap (λ (s : Sight). s.hand) takes.is ∙ ap {A = Hand} (λ h. record h { input = Some (but_the_first (text file.cards)); spoiled = file.spoiled }) none.1)
             (record {
               task = a.later (gives file);
               left = a.goes_on (replies.Char (next_character (text file.cards)))
                   (sharing (files old) (record p.hand { input = Some (but_the_first (text file.cards)); spoiled = file.spoiled }))
-                  (subst TopWell (ap (λ s. s.programs) takes.is ∙ ap (with_reply (replies.Char (next_character (text file.cards)))) is.programs) takes.well);
+                  (subst TopWell (ap (λ (s : Sight). s.programs) takes.is ∙ ap (with_reply (replies.Char (next_character (text file.cards)))) is.programs) takes.well);
               is = refl;
             }),
       );
@@ -285,7 +279,7 @@ line_told hand p now old doing after told left asks accepts is =
     let a = asks_first calls.Accept p.programs (sharing (files old) p.hand) left.task left.left asks in
     let none = accepts_none a.own (files old) p.hand now.hand accepts in
     let gives : Feed → Answer = λ typed. replied_with (replies.Char (next_character (typed_text typed))) a.own (files old)
-        (record p.hand { typed = but_the_first (typed_text typed) }) in
+    (record p.hand { typed = but_the_first (typed_text typed) }) in
     let more : Feed → Doing = λ typed. and_then (a.later (gives typed)) (ends_program p.name) in
     record {
       pages = old;
@@ -299,14 +293,14 @@ line_told hand p now old doing after told left asks accepts is =
         λ typed next takes.
             of_parts (λ s. IsLeftOf s (files old) (more typed)) next p.name (with_reply (replies.Char (next_character (typed_text typed))) p.programs)
             (record p.hand { typed = but_the_first (typed_text typed) })
-            (ap (λ s. s.name) takes.is ∙ is.name)
-            (ap (λ s. s.programs) takes.is ∙ ap (with_reply (replies.Char (next_character (typed_text typed)))) is.programs)
-            (ap (λ s. s.hand) takes.is ∙ ap (λ h. record h { typed = but_the_first (typed_text typed) }) none.1)
+            (ap (λ (s : Sight). s.name) takes.is ∙ is.name)
+            (ap (λ (s : Sight). s.programs) takes.is ∙ ap (with_reply (replies.Char (next_character (typed_text typed)))) is.programs)
+            (ap (λ (s : Sight). s.hand) takes.is ∙ ap {A = Hand} (λ h. record h { typed = but_the_first (typed_text typed) }) none.1)
             (record {
               task = a.later (gives typed);
               left = a.goes_on (replies.Char (next_character (typed_text typed)))
                   (sharing (files old) (record p.hand { typed = but_the_first (typed_text typed) }))
-                  (subst TopWell (ap (λ s. s.programs) takes.is ∙ ap (with_reply (replies.Char (next_character (typed_text typed)))) is.programs) takes.well);
+                  (subst TopWell (ap (λ (s : Sight). s.programs) takes.is ∙ ap (with_reply (replies.Char (next_character (typed_text typed)))) is.programs) takes.well);
               is = refl;
             }),
       );
@@ -345,11 +339,16 @@ last_left : (finish : Finish) (programs : List Frame) (args : List Arg) (w : Sha
 last_left finish [] args w t at ended pops = absurd at
 last_left finish (top ∷ below) args w t at ended pops = record { own = top.own; is = popped_so program_room finish top below args [] w t at ended pops }
 
+drop_none : (lines : List (List ℕ)) → drop 0 lines ≡ lines
+drop_none [] = refl
+drop_none (line ∷ lines) = refl
+
 left_to_print : (name : List ℕ) (finish : Finish) (h : Hand) (printing : Printing) → EndsWith name finish h printing
     → prints_all (last_line h.print) (Gives (answers_of name finish h)) ≡ prints_then printing.lines printing.next printing.answers
 left_to_print name finish h printing is =
     ap (λ l. prints_all l (Gives (answers_of name finish h))) (sym is.lines)
     ∙ ap (λ a. prints_all printing.lines (Gives a)) (sym is.answers)
+    ∙ ap (λ l. prints_all l (Gives printing.answers)) (sym (drop_none printing.lines))
     ∙ ap (λ n. prints_all (drop n printing.lines) (Gives printing.answers)) (sym is.next)
 
 pub ends_told : (hand : List (List ℕ)) (finish : Finish) (p : Sight) (old : List (List ℕ)) (doing : Doing) (args : List Arg) (printing : Printing) (after : Option (List (List ℕ)))

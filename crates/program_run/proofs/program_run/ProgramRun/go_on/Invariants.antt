@@ -1,7 +1,7 @@
 -- The steps so far lead from the beginning to here, and less is left.
 use Rattle.program_run.proofs.Loop.{IsSoFar}
 use Rattle.program_run.proofs.Steady.{left_in}
-use Rattle.program_run.proofs.going.ProgramRun.go_on.Given as goal
+use Rattle.program_run.proofs.program_run.ProgramRun.go_on.Given as goal
 
 abbrev pub invariant-going : goal.invariant-going
 invariant-going g l =

@@ -3,14 +3,13 @@ use Rattle.std.proofs.Common.{◌≡◌, ℕ, List, [], ◌∷◌, Option, Some,
 use Rattle.std.specs.Option.{option_map}
 use Rattle.solo_base.specs.Text.{text}
 use Rattle.solo_base.specs.declared.system_call.SysCall.{SysCall}
-use Rattle.solo_base.specs.declared.system_call.SysCall.TheVariants as calls
 use Rattle.solo_base.specs.declared.system_call.SysReply.{SysReply}
 use Rattle.solo_base.specs.declared.system_call.SysReply.TheVariants as replies
 use Rattle.disk_layout.specs.Files.{Files}
-use Rattle.pascal_mean.specs.Batch.{Printed, next_character, but_the_first, characters_of, with_characters}
+use Rattle.pascal_mean.specs.Batch.{Printed, next_character, but_the_first, characters_of}
 use Rattle.batch_program.specs.Printing.{completed}
-use Rattle.program_task.specs.Task.{Task, Gives, ReadsCards, Accepts, Displays, Prints, prints_all, displays_all}
-use Rattle.program_task.specs.Program.{Own, Shared, Answer, Runner, simply}
+use Rattle.program_task.specs.Task.{Task, Gives, ReadsCards, Accepts, prints_all, displays_all}
+use Rattle.program_task.specs.Program.{Own, Shared, Answer, simply}
 use Rattle.program_task.specs.Characters.{reads_from, reads, accepts, accepted, writes, displays, typed_text}
 use Rattle.prog_stack.specs.Answers.{Hand, sharing}
 use Rattle.program_run.specs.Characters.{first_of}
