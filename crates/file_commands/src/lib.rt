@@ -9,6 +9,6 @@ mod texts;
 
 pub use answers::answer_line;
 pub use catalogue::{delete, list, protect, rename};
-pub use copying::{Copied, copy_file, find, store_cards, stored, text_to_print};
-pub use fault::{CommandFault, as_system_command};
+pub use copying::{Copied, copy_file, find, store_cards, text_to_print};
+pub use fault::CommandFault;
 pub use texts::{lines_of_text, print, text_of_cards};

@@ -40,48 +40,57 @@ RunIs p hand all c = (doing : Doing) × IsLeftOf p all doing × (c ≡ comes_to 
 
 -- ---- By its need
 
-kind-is : (pages : ℕ) (need : Need) (needed : law.Need) (p : Sight) → IsNeed pages need needed → MayTake (kind_behind needed) p
-    → (kind_behind needed ≡ kind_of (awaiting need p)) × (kind_behind needed ≡ AtLine → pages_behind needed pages ≡ 0)
-kind-is pages needs.Cards law.CardsNeeded p is may = (refl, λ e. absurd cc)
-kind-is pages needs.Line law.LineNeeded p is may = (refl, λ e. absurd cc)
-kind-is pages (needs.Display line) (law.DisplayNeeded needed) p is may = (refl, λ e. absurd cc)
-kind-is pages (needs.Page page) (law.PageNeeded lines) p is may = (refl, λ e. absurd cc)
-kind-is pages (needs.End last answers) (law.EndNeeded lines needed) p is may = absurd may
+-- a need that isn't an end, by what the program awaits then
+record NeedSo (need : Need) (needed : law.Need) (p : Sight) : Type 0 where
+  kind : kind_behind needed ≡ kind_of (awaiting need p)
+  goes_on : kind_behind needed ≡ AtLine → ⊥
+  pauses : (hand : List (List ℕ)) (all : Files) (pause : Pause) → StandsFor (kind_behind needed) p hand all pause → PausesAt (awaiting need p) hand all pause
 
-pub may-go-on : (pages : ℕ) (need : Need) (needed : law.Need) (p : Sight) → IsNeed pages need needed → MayTake (kind_behind needed) p
-    → MayGoOn (awaiting need p)
-may-go-on pages needs.Cards law.CardsNeeded p is may = may
-may-go-on pages needs.Line law.LineNeeded p is may = may
-may-go-on pages (needs.Display line) (law.DisplayNeeded needed) p is may = may
-may-go-on pages (needs.Page page) (law.PageNeeded lines) p is may = may
-may-go-on pages (needs.End last answers) (law.EndNeeded lines needed) p is may = absurd may
-
-pauses-so : (pages : ℕ) (need : Need) (needed : law.Need) (p : Sight) (hand : List (List ℕ)) (all : Files) (pause : Pause) → IsNeed pages need needed
-    → MayTake (kind_behind needed) p → StandsFor (kind_behind needed) p hand all pause → PausesAt (awaiting need p) hand all pause
-pauses-so pages needs.Cards law.CardsNeeded p hand all pause is may stands = stands
-pauses-so pages needs.Line law.LineNeeded p hand all pause is may stands = stands
-pauses-so pages (needs.Display line) (law.DisplayNeeded needed) p hand all pause is may stands = stands
-pauses-so pages (needs.Page page) (law.PageNeeded lines) p hand all pause is may stands = stands
-pauses-so pages (needs.End last answers) (law.EndNeeded lines needed) p hand all pause is may stands = absurd may
+need-so : (pages : ℕ) (need : Need) (needed : law.Need) (p : Sight) → IsNeed pages need needed → MayTake (kind_behind needed) p → NeedSo need needed p
+need-so pages needs.Cards law.CardsNeeded p is may = record { kind = refl; goes_on = λ e. absurd cc; pauses = λ hand all pause stands. stands }
+need-so pages needs.Cards law.LineNeeded p is may = absurd is
+need-so pages needs.Cards (law.DisplayNeeded shown) p is may = absurd is
+need-so pages needs.Cards (law.PageNeeded printed) p is may = absurd is
+need-so pages needs.Cards (law.EndNeeded printed told) p is may = absurd is
+need-so pages needs.Line law.CardsNeeded p is may = absurd is
+need-so pages needs.Line law.LineNeeded p is may = record { kind = refl; goes_on = λ e. absurd cc; pauses = λ hand all pause stands. stands }
+need-so pages needs.Line (law.DisplayNeeded shown) p is may = absurd is
+need-so pages needs.Line (law.PageNeeded printed) p is may = absurd is
+need-so pages needs.Line (law.EndNeeded printed told) p is may = absurd is
+need-so pages (needs.Display line) law.CardsNeeded p is may = absurd is
+need-so pages (needs.Display line) law.LineNeeded p is may = absurd is
+need-so pages (needs.Display line) (law.DisplayNeeded shown) p is may = record { kind = refl; goes_on = λ e. absurd cc; pauses = λ hand all pause stands. stands }
+need-so pages (needs.Display line) (law.PageNeeded printed) p is may = absurd is
+need-so pages (needs.Display line) (law.EndNeeded printed told) p is may = absurd is
+need-so pages (needs.Page page) law.CardsNeeded p is may = absurd is
+need-so pages (needs.Page page) law.LineNeeded p is may = absurd is
+need-so pages (needs.Page page) (law.DisplayNeeded shown) p is may = absurd is
+need-so pages (needs.Page page) (law.PageNeeded printed) p is may = record { kind = refl; goes_on = λ e. absurd cc; pauses = λ hand all pause stands. stands }
+need-so pages (needs.Page page) (law.EndNeeded printed told) p is may = absurd is
+need-so pages (needs.End last answers) law.CardsNeeded p is may = absurd is
+need-so pages (needs.End last answers) law.LineNeeded p is may = absurd is
+need-so pages (needs.End last answers) (law.DisplayNeeded shown) p is may = absurd is
+need-so pages (needs.End last answers) (law.PageNeeded printed) p is may = absurd is
+need-so pages (needs.End last answers) (law.EndNeeded printed told) p is may = absurd may
 
 pub needs-so : (pages : ℕ) (hand : List (List ℕ)) (before after : Option (List (List ℕ))) (p now_p : Sight) (need : Need) (paper : Paper) (now : Session)
     → run.ComesTo pages hand before p need now_p paper after → now.under_way ≡ awaiting need now_p → now.paper ≡ paper
     → CameTo pages (RunIs p hand) before need now after
 needs-so pages hand before after p now_p need paper now comes is paper_is =
-    let kind = kind-is pages need comes.needed now_p comes.is comes.may in
+    let so = need-so pages need comes.needed now_p comes.is comes.may in
     let hand_is = subst (λ (q : Paper). IsHand q (pages_behind comes.needed pages) comes.hand_now) (sym paper_is) comes.hand_is in
     record {
       needed = comes.needed;
       is = comes.is;
       fits = comes.fits;
-      awaited = record { is = kind.0 ∙ sym (ap kind_of is); begins = kind.1; hand = comes.hand_now; hand_is = hand_is };
+      awaited = record { is = so.kind ∙ sym (ap kind_of is); begins = λ e. absurd (so.goes_on e); hand = comes.hand_now; hand_is = hand_is };
       told = λ told here c makes.
           let (doing, left, same) = makes in
           let came = comes.told told doing here left in
           reaches-so c (record { need = comes.needed; maps = came.maps; files = file_map came.pages; pause = came.pause }) before after now came.pages came.told
           (same ∙ came.comes) refl
           (at-pause now (file_map came.pages) came.pause (pages_behind comes.needed pages) comes.hand_now (awaiting need now_p) is hand_is
-          (pauses-so pages need comes.needed now_p comes.hand_now (file_map came.pages) came.pause comes.is comes.may came.stands));
+          (so.pauses comes.hand_now (file_map came.pages) came.pause came.stands));
     }
 
 -- ---- By its end
@@ -150,11 +159,15 @@ pub ran-not : (pages : ℕ) (hand : List (List ℕ)) (before after : Option (Lis
 ran-not pages hand before after p now_p fault.DiskFault paper now came = tt
 ran-not pages hand before after p now_p fault.NoMemory paper now came = lacks-so pages hand before after p now came
 
-pub ran-may : (pages : ℕ) (hand : List (List ℕ)) (before after : Option (List (List ℕ))) (p now_p : Sight) (progress : Progress) (need : Need)
-    (paper : Paper) → progress ≡ Needs need → run.Came pages hand before p (Ok progress) now_p paper after → MayGoOn (awaiting need now_p)
-ran-may pages hand before after p now_p progress need paper is came =
-    let comes = subst (λ (x : Progress). run.Came pages hand before p (Ok x) now_p paper after) is came in
-    may-go-on pages need comes.needed now_p comes.is comes.may
+may-so : (need : Need) (p : Sight) → MayTake (run.kind_of need) p → MayGoOn (awaiting need p)
+may-so needs.Cards p may = may
+may-so needs.Line p may = may
+may-so (needs.Display line) p may = may
+may-so (needs.Page page) p may = may
+may-so (needs.End last answers) p may = absurd may
+
+pub ran-may : (progress : Progress) (need : Need) (p : Sight) → progress ≡ Needs need → run.MayGoOn progress p → MayGoOn (awaiting need p)
+ran-may progress need p is may = may-so need p (subst (λ (x : Progress). run.MayGoOn x p) is may)
 
 -- a program is begun
 pub begun-so : (name : List ℕ) (args given : List Arg) (before mid after : Option (List (List ℕ))) (program : Sight) (result : Result Need WorkFault)

@@ -1,5 +1,7 @@
 // `compile`: the text of a file to a new file of code.
-ghost use Rattle.std.specs.Prelude.{◌≡◌, ◌∷◌, [], List, ℕ, Some, None, IsTrue, IfOk, IfErr};
+ghost use Rattle.std.specs.Prelude.{◌≡◌, ◌≤◌, ◌∷◌, [], length, List, ℕ, Some, None, Ok, Err, IsTrue, IfOk, IfErr};
+ghost use Rattle.std.specs.List.{list_all};
+ghost use Rattle.solo_base.specs.Line.{is_printable};
 ghost use Rattle.std.specs.FinMap as fin;
 ghost use Rattle.disk_layout.specs.Files.{File, Files, files as file_map};
 ghost use Rattle.disk_layout.specs.Format.{IsSoloDisk};
@@ -7,16 +9,17 @@ ghost use Rattle.disk_files.specs.Answers.{FaultsOnly, stays_sound};
 ghost use Rattle.disk_system.specs.Contents.{file_bytes, code_file};
 ghost use Rattle.program_task.specs.Task.{Gives};
 ghost use Rattle.pascal_compile.specs.Compiling.{Compiling, Explains};
-ghost use Rattle.solo_task.specs.Answers.{stores};
+ghost use Rattle.solo_task.specs.Answers.{stores, answer_line};
 ghost use Rattle.solo_task.specs.Compiles.{compiler, compiles, compiles_to, compiles_file, compiling_text, stores_program};
-ghost use Rattle.file_commands.specs.Faults.{of_command};
-ghost use Rattle.file_commands.specs.Settling.{IsAnsweredSo};
+ghost use Rattle.file_commands.specs.Faults.{as_command, as_system_command, of_command};
+ghost use Rattle.file_commands.specs.Settling.{change_line, IsAnsweredSo};
+ghost use Rattle.file_commands.specs.Stores.{store_line};
 ghost use Rattle.session_work.specs.Cards.{compiler_name};
 
 use crate::cards::code_of_text;
 use disk_files::{FileArea, FileFault};
 use disk_system::{SystemFault, store_code, text_of};
-use file_commands::{CommandFault, answer_line, as_system_command, find, stored};
+use file_commands::{CommandFault, answer_line, find};
 use pascal_compile::CompileFault;
 use program_lines::compile_line;
 use solo_base::{Ident, Line};
@@ -86,7 +89,7 @@ fn compile_new<A: Area>(
         Ok(text) => compile_text(alloc, files, &text, to),
         Err(SystemFault::File(FileFault::NoFile)) => Ok(answer_line(b"COMPILE", b"NO FILE")),
         Err(SystemFault::NotText) => Ok(answer_line(b"COMPILE", b"NOT TEXT")),
-        Err(fault) => Err(as_system_command(fault)),
+        Err(fault) => Err(system_fault(fault)),
     }
 }
 
@@ -127,7 +130,61 @@ fn store_program<A: Area>(
     ensures cause { FaultsOnly (A.faults files.old.area) (A.faults files.new.area) (of_command result) }
 {
     let _free = files.free_pages();
-    stored(b"COMPILE", store_code(alloc, files, to, code))
+    stored(store_code(alloc, files, to, code))
+}
+
+// What answers a store of code that came to this.
+fn stored(store: Result<(), SystemFault>) -> Result<Line, CommandFault>
+    ensures { result ≡ store_line compiler store }
+{
+    match store {
+        Ok(()) => says(b"OK"),
+        Err(SystemFault::File(fault)) => store_refused(fault),
+        Err(_) => Err(CommandFault::NoMemory),
+    }
+}
+
+fn says(how: &[u8]) -> Result<Line, CommandFault>
+    requires short { length how.now ≤ 20 }
+    requires printable { IsTrue (list_all is_printable how.now) }
+    ensures { result ≡ Ok (answer_line compiler how.now) }
+{
+    Ok(answer_line(b"COMPILE", how))
+}
+
+fn store_refused(fault: FileFault) -> Result<Line, CommandFault>
+    ensures { result ≡ change_line compiler (Err fault) }
+{
+    match fault {
+        FileFault::DiskFault => Err(CommandFault::DiskFault),
+        FileFault::NoMemory => Err(CommandFault::NoMemory),
+        FileFault::NoFile => says(b"NO FILE"),
+        FileFault::Exists => says(b"FILE EXISTS"),
+        FileFault::Protected => says(b"PROTECTED"),
+        FileFault::CatalogFull => says(b"CATALOG FULL"),
+        FileFault::FileFull => says(b"FILE FULL"),
+        FileFault::DiskFull => says(b"DISK FULL"),
+        _ => says(b""),
+    }
+}
+
+// A fault of the area, or that memory was refused.
+fn system_fault(fault: SystemFault) -> CommandFault
+    ensures { result ≡ as_system_command fault }
+{
+    match fault {
+        SystemFault::File(fault) => file_fault(fault),
+        _ => CommandFault::NoMemory,
+    }
+}
+
+fn file_fault(fault: FileFault) -> CommandFault
+    ensures { result ≡ as_command fault }
+{
+    match fault {
+        FileFault::DiskFault => CommandFault::DiskFault,
+        _ => CommandFault::NoMemory,
+    }
 }
 
 // Why a text has no code.

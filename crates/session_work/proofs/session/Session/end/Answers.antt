@@ -1,4 +1,4 @@
-use Rattle.std.proofs.Common.{refl, sym, subst}
+use Rattle.std.proofs.Common.{refl, sym, subst, []}
 use Rattle.solo_work.specs.Paper.{IsHand}
 use Rattle.session_work.proofs.Answering.{ended}
 use Rattle.session_work.proofs.session.Session.end.Goals as goal
@@ -6,4 +6,5 @@ use Rattle.session_work.proofs.session.Session.end.Goals as goal
 pub returns-clause-worked : goal.returns-clause-worked
 returns-clause-worked c = λ before pages hand is.
     ended pages hand c.args.answers c.last.result c.args.self.now.paper _ before is
-    (c.last.ensures pages hand (subst (λ p. IsHand p pages hand) (sym c.replace-paper.ensures.value) is)) refl c.new.ensures
+    (c.last.ensures pages hand (subst (λ p. IsHand p pages hand) (sym c.replace-paper.ensures.value) is)) refl
+    (subst (λ p. IsHand p 0 []) (sym c.replace-paper.ensures.after) c.new.ensures)

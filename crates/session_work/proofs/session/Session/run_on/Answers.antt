@@ -1,4 +1,5 @@
 use Rattle.std.proofs.Common.{refl, sym, subst}
+use Rattle.session_work.specs.Pausing.{MayGoOn}
 use Rattle.session_work.proofs.Programs.{ran-needs, ran-ends, ran-not, ran-may}
 use Rattle.session_work.proofs.session.Session.run_on.Goals as goal
 
@@ -16,4 +17,9 @@ returns-in-Ok-Ends-clause-worked g c = λ pages hand is.
 pub returns-in-Err-clause-worked : goal.returns-in-Err-clause-worked
 returns-in-Err-clause-worked g c = λ pages hand is.
     rw c.as_work.ensures (ran-not pages hand (g.A.Area.pages c.args.files.now.area) (g.A.Area.pages c.go_on.new.files.area) c.args.program c.go_on.new.self c.in-Err.fault
-    c.go_on.new.paper c.args.self.now (c.in-Err.ensures.came pages hand is))
+    c.go_on.new.paper (record { alloc = c.args.self.now.alloc; paper = c.go_on.new.paper; under_way = c.args.self.now.under_way })
+    (c.in-Err.ensures.came pages hand is))
+
+pub returns-in-Ok-Needs-clause-may : goal.returns-in-Ok-Needs-clause-may
+returns-in-Ok-Needs-clause-may g c =
+    subst MayGoOn (sym c.awaiting.ensures) (ran-may c.in-Ok-Needs.field-0 c.in-Ok-Needs.need c.go_on.new.self c.in-Ok-Needs.field-0-is c.in-Ok-Needs.ensures.may)
