@@ -174,7 +174,7 @@ impl Session {
         let mut program = program;
         match program.go_on(self.alloc, &mut self.paper, files) {
             Ok(Progress::Needs(need)) => {
-                self.under_way = awaiting(&need, program);
+                self.set(awaiting(&need, program));
                 Ok(need)
             }
             Ok(Progress::Ends(printing)) => Ok(self.print(printing)),

@@ -60,13 +60,13 @@ impl Session {
         ensures cause { FaultsOnly (A.faults files.old.area) (A.faults files.new.area) (of_work result) }
     {
         if is_printer(to) {
-            self.under_way = UnderWay::PrintsCards;
+            self.set(UnderWay::PrintsCards);
             return Ok(Need::Cards);
         }
         match find(files, to) {
             Ok(Some(_)) => self.answer(Ok(answer_line(b"COPY", b"FILE EXISTS"))),
             Ok(None) => {
-                self.under_way = UnderWay::StoresCards(*to);
+                self.set(UnderWay::StoresCards(*to));
                 Ok(Need::Cards)
             }
             Err(fault) => Err(as_work(fault)),

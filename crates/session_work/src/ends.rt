@@ -31,7 +31,7 @@ impl Session {
             before }
         ensures may { MayGoOn self.new.under_way }
     {
-        self.under_way = UnderWay::Idle;
+        self.set(UnderWay::Idle);
         let paper = mem::replace(&mut self.paper, Paper::new());
         Need::End {
             last: paper.last(),
@@ -39,12 +39,13 @@ impl Session {
         }
     }
 
-    /// No command is under way, and nothing is in hand.
-    pub(crate) fn pass_over(&mut self) -> Need
+    /// No command is under way any more, and nothing is in hand.
+    pub(crate) fn pass_over(&mut self, under_way: UnderWay) -> Need
         ensures over { IsOver result self.new }
         ensures may { MayGoOn self.new.under_way }
     {
-        self.under_way = UnderWay::Idle;
+        let _ = under_way;
+        self.set(UnderWay::Idle);
         self.paper = Paper::new();
         Need::End {
             last: None,
@@ -64,7 +65,7 @@ impl Session {
         let mut printing = printing;
         match printing.print(&mut self.paper) {
             Some(page) => {
-                self.under_way = UnderWay::Prints(printing);
+                self.set(UnderWay::Prints(printing));
                 Need::Page(page)
             }
             None => self.end(printing.answers),

@@ -60,6 +60,13 @@ impl Session {
         }
     }
 
+    /// From now on this is under way.
+    pub(crate) fn set(&mut self, under_way: UnderWay)
+        ensures { self.new ≡ record self.old { under_way = under_way } }
+    {
+        self.under_way = under_way;
+    }
+
     /// Works up to the next need.
     pub fn work<A: Area>(
         &mut self,
@@ -96,7 +103,7 @@ impl Session {
         ensures cause { FaultsOnly (A.faults files.old.area) (A.faults files.new.area) (of_work result) }
     {
         self.paper = Paper::new();
-        self.under_way = UnderWay::Idle;
+        self.set(UnderWay::Idle);
         self.begin(item, files)
     }
 
@@ -158,7 +165,7 @@ impl Session {
             UnderWay::PrintsCards => self.print_cards(cards, spoiled),
             UnderWay::StoresCards(to) => self.store_cards(&to, cards, spoiled, files),
             UnderWay::ReadsCards(program) => self.read_cards(program, cards, spoiled, files),
-            _other => Ok(self.pass_over()),
+            other => Ok(self.pass_over(other)),
         }
     }
 
@@ -178,7 +185,7 @@ impl Session {
     {
         match mem::replace(&mut self.under_way, UnderWay::Idle) {
             UnderWay::AcceptsLine(program) => self.accept(program, typed, files),
-            _other => Ok(self.pass_over()),
+            other => Ok(self.pass_over(other)),
         }
     }
 
@@ -195,7 +202,7 @@ impl Session {
         match mem::replace(&mut self.under_way, UnderWay::Idle) {
             UnderWay::Prints(printing) => Ok(self.print(printing)),
             UnderWay::GoesOn(program) => self.run_on(program, files),
-            _other => Ok(self.pass_over()),
+            other => Ok(self.pass_over(other)),
         }
     }
 }

@@ -10,7 +10,7 @@ use Rattle.session_work.proofs.session.Session.begin.Goals as goal
 
 pub returns-in-Line-clause-worked : goal.returns-in-Line-clause-worked
 returns-in-Line-clause-worked g c =
-    same-work 0 [] (λ all. or_idle (line_does c.args.item.now all)) (λ all. or_idle (done_if (line_says c.in-Line.line.now) all)) (g.A.Area.pages c.args.files.now.area) (g.A.Area.pages c.args.files.now.area)
+    same-work 0 [] (λ all. or_idle (line_does c.args.item.now all)) (λ all. or_idle (done_if (line_says c.in-Line.line) all)) (g.A.Area.pages c.args.files.now.area) (g.A.Area.pages c.args.files.now.area)
     c.begin_line.result c.begin_line.new.self (g.A.Area.pages c.begin_line.new.files.area) refl
     (λ told here. ap (λ i. or_idle (line_does i (file_map told))) c.in-Line.is) c.begin_line.ensures.worked
 

@@ -9,14 +9,14 @@ use Rattle.session_work.proofs.session.Session.command.Goals as goal
 
 pub returns-in-Copy-clause-worked : goal.returns-in-Copy-clause-worked
 returns-in-Copy-clause-worked g c =
-    same-work 0 [] (λ all. does c.args.command.now all) (λ all. copies all c.in-Copy.from.now c.in-Copy.to.now) (g.A.Area.pages c.args.files.now.area) (g.A.Area.pages c.args.files.now.area) c.copy.result c.copy.new.self
+    same-work 0 [] (λ all. does c.args.command.now all) (λ all. copies all c.in-Copy.from c.in-Copy.to) (g.A.Area.pages c.args.files.now.area) (g.A.Area.pages c.args.files.now.area) c.copy.result c.copy.new.self
     (g.A.Area.pages c.copy.new.files.area) refl (λ told here. ap (λ k. does k (file_map told)) c.in-Copy.is) c.copy.ensures.worked
 
 pub returns-in-Compile-clause-worked : goal.returns-in-Compile-clause-worked
 returns-in-Compile-clause-worked g c =
-    same-work 0 [] (λ all. does c.args.command.now all) (λ all. compiles all c.in-Compile.from.now c.in-Compile.to.now) (g.A.Area.pages c.args.files.now.area) (g.A.Area.pages c.args.files.now.area) c.answer-in-Compile.result c.answer-in-Compile.new.self
+    same-work 0 [] (λ all. does c.args.command.now all) (λ all. compiles all c.in-Compile.from c.in-Compile.to) (g.A.Area.pages c.args.files.now.area) (g.A.Area.pages c.args.files.now.area) c.answer-in-Compile.result c.answer-in-Compile.new.self
     (g.A.Area.pages c.compile_file-answer.new.files.area) refl (λ told here. ap (λ k. does k (file_map told)) c.in-Compile.is)
-    (c.answer-in-Compile.ensures.worked (g.A.Area.pages c.args.files.now.area) (g.A.Area.pages c.compile_file-answer.new.files.area) (λ all. compiles all c.in-Compile.from.now c.in-Compile.to.now) 0 [] c.requires.paper
+    (c.answer-in-Compile.ensures.worked (g.A.Area.pages c.args.files.now.area) (g.A.Area.pages c.compile_file-answer.new.files.area) (λ all. compiles all c.in-Compile.from c.in-Compile.to) 0 [] c.requires.paper
     (λ told here. c.compile_file-answer.ensures.told told here))
 
 pub returns-in-List-clause-worked : goal.returns-in-List-clause-worked
@@ -26,27 +26,27 @@ returns-in-List-clause-worked g c =
 
 pub returns-in-Delete-clause-worked : goal.returns-in-Delete-clause-worked
 returns-in-Delete-clause-worked g c =
-    same-work 0 [] (λ all. does c.args.command.now all) (λ all. deletes all c.in-Delete.name.now) (g.A.Area.pages c.args.files.now.area) (g.A.Area.pages c.args.files.now.area) c.answer-in-Delete.result c.answer-in-Delete.new.self
+    same-work 0 [] (λ all. does c.args.command.now all) (λ all. deletes all c.in-Delete.name) (g.A.Area.pages c.args.files.now.area) (g.A.Area.pages c.args.files.now.area) c.answer-in-Delete.result c.answer-in-Delete.new.self
     (g.A.Area.pages c.delete-answer.new.files.area) refl (λ told here. ap (λ k. does k (file_map told)) c.in-Delete.is)
-    (c.answer-in-Delete.ensures.worked (g.A.Area.pages c.args.files.now.area) (g.A.Area.pages c.delete-answer.new.files.area) (λ all. deletes all c.in-Delete.name.now) 0 [] c.requires.paper
+    (c.answer-in-Delete.ensures.worked (g.A.Area.pages c.args.files.now.area) (g.A.Area.pages c.delete-answer.new.files.area) (λ all. deletes all c.in-Delete.name) 0 [] c.requires.paper
     (λ told here. c.delete-answer.ensures.told told here))
 
 pub returns-in-Rename-clause-worked : goal.returns-in-Rename-clause-worked
 returns-in-Rename-clause-worked g c =
-    same-work 0 [] (λ all. does c.args.command.now all) (λ all. renames all c.in-Rename.old.now c.in-Rename.new.now) (g.A.Area.pages c.args.files.now.area) (g.A.Area.pages c.args.files.now.area) c.answer-in-Rename.result c.answer-in-Rename.new.self
+    same-work 0 [] (λ all. does c.args.command.now all) (λ all. renames all c.in-Rename.old c.in-Rename.new) (g.A.Area.pages c.args.files.now.area) (g.A.Area.pages c.args.files.now.area) c.answer-in-Rename.result c.answer-in-Rename.new.self
     (g.A.Area.pages c.rename-answer.new.files.area) refl (λ told here. ap (λ k. does k (file_map told)) c.in-Rename.is)
-    (c.answer-in-Rename.ensures.worked (g.A.Area.pages c.args.files.now.area) (g.A.Area.pages c.rename-answer.new.files.area) (λ all. renames all c.in-Rename.old.now c.in-Rename.new.now) 0 [] c.requires.paper
+    (c.answer-in-Rename.ensures.worked (g.A.Area.pages c.args.files.now.area) (g.A.Area.pages c.rename-answer.new.files.area) (λ all. renames all c.in-Rename.old c.in-Rename.new) 0 [] c.requires.paper
     (λ told here. c.rename-answer.ensures.told told here))
 
 pub returns-in-Protect-clause-worked : goal.returns-in-Protect-clause-worked
 returns-in-Protect-clause-worked g c =
-    same-work 0 [] (λ all. does c.args.command.now all) (λ all. protects all c.in-Protect.name.now c.in-Protect.on.now) (g.A.Area.pages c.args.files.now.area) (g.A.Area.pages c.args.files.now.area) c.answer-in-Protect.result c.answer-in-Protect.new.self
+    same-work 0 [] (λ all. does c.args.command.now all) (λ all. protects all c.in-Protect.name c.in-Protect.on) (g.A.Area.pages c.args.files.now.area) (g.A.Area.pages c.args.files.now.area) c.answer-in-Protect.result c.answer-in-Protect.new.self
     (g.A.Area.pages c.protect-answer.new.files.area) refl (λ told here. ap (λ k. does k (file_map told)) c.in-Protect.is)
-    (c.answer-in-Protect.ensures.worked (g.A.Area.pages c.args.files.now.area) (g.A.Area.pages c.protect-answer.new.files.area) (λ all. protects all c.in-Protect.name.now c.in-Protect.on.now) 0 [] c.requires.paper
+    (c.answer-in-Protect.ensures.worked (g.A.Area.pages c.args.files.now.area) (g.A.Area.pages c.protect-answer.new.files.area) (λ all. protects all c.in-Protect.name c.in-Protect.on) 0 [] c.requires.paper
     (λ told here. c.protect-answer.ensures.told told here))
 
 pub returns-in-Program-clause-worked : goal.returns-in-Program-clause-worked
 returns-in-Program-clause-worked g c =
-    same-work 0 [] (λ all. does c.args.command.now all) (λ all. does (command.Program c.in-Program.name.now c.in-Program.args.now) all) (g.A.Area.pages c.args.files.now.area) (g.A.Area.pages c.args.files.now.area) c.run.result c.run.new.self
+    same-work 0 [] (λ all. does c.args.command.now all) (λ all. does (command.Program c.in-Program.name c.in-Program.args) all) (g.A.Area.pages c.args.files.now.area) (g.A.Area.pages c.args.files.now.area) c.run.result c.run.new.self
     (g.A.Area.pages c.run.new.files.area) refl (λ told here. ap (λ k. does k (file_map told)) c.in-Program.is) c.run.ensures.worked
 
