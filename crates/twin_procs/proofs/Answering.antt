@@ -167,7 +167,8 @@ module _ {L : Type 0} (p : Process L) (at : p.Place) where
   moves-page (TakesPage b) page last fits = record { handed = tt; behind = refl; cause = refl }
   moves-page m page last fits = absurd fits
 
-  hands-page : (s : Step) (m : Aim) (page : Page) (last : Bool) → Fits {L = L} (makes_at s m) (reply.Page page last) → Hands m (makes_at s m) (reply.Page page last)
+  hands-page : (s : Step) (m : Aim) (page : Page) (last : Bool) → Fits {L = L} (makes_at s m) (reply.Page page last)
+      → Hands m (makes_at s m) (reply.Page page last)
   hands-page step.Free m page last fits = begins-page m page last fits
   hands-page step.Awaited m page last fits = absurd fits
   hands-page step.Granted m page last fits = moves-page m page last fits

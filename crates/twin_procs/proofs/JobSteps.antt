@@ -256,7 +256,8 @@ module _ {L X S : Type 0} (J : Jobs L) (keeps : X → JobTold L → Type 0) wher
         → job_stands J keeps (packed here.TakesItems) (behind_work s last (packs_lines s.hand s.packed (lines_ahead J s last)))
     works-all is goes =
         let not_last : last ≡ false = sym works.last_is ∙ goes in
-        subst (λ at. job_stands J keeps (packed here.TakesItems) at) (sym (behind ∙ ap (behind_packed now last) is ∙ ap (λ last. behind_packed now last None) not_last))
+        subst (λ at. job_stands J keeps (packed here.TakesItems) at)
+        (sym (behind ∙ ap (behind_packed now last) is ∙ ap (λ last. behind_packed now last None) not_last))
         (refl, subst (λ last. WorksOn keeps (packed here.TakesItems) now last true) not_last (works-on here.TakesItems true (sym (ap told.rests_behind is))))
 
     pub works-last : (new : JobProc X S) → page ≡ None → j.last ≡ true → FinishesLines (packed j.place) new
@@ -277,8 +278,8 @@ module _ {L X S : Type 0} (J : Jobs L) (keeps : X → JobTold L → Type 0) wher
             → TakesSo (job J side) (job_stands J keeps new) (TakesItems s) (reply.Page page last) result
         by (Ok cause) taken = taken
         by (Err refused) taken = tt
-    job-takes r page last result new is takes (LoadsFile file s other) kept handed = absurd (let P : Reply L → Type 0 = λ r. IsHanded (job_aims side (LoadsFile file s other)) r in
-        subst P is handed)
+    job-takes r page last result new is takes (LoadsFile file s other) kept handed =
+        absurd (let P : Reply L → Type 0 = λ r. IsHanded (job_aims side (LoadsFile file s other)) r in subst P is handed)
     job-takes r page last result new is takes (Toils s other) kept handed = absurd handed
     job-takes r page last result new is takes (PutsLines put s other) kept handed = absurd handed
     job-takes r page last result new is takes (PutsLastLines put some) kept handed = absurd handed
@@ -286,8 +287,10 @@ module _ {L X S : Type 0} (J : Jobs L) (keeps : X → JobTold L → Type 0) wher
 
     pub job-loads : (r : Reply L) (load : L) (jobs : X) → r ≡ reply.Loaded load
         → ((t : JobTold L) (file : List ℕ) (later : List (List ℕ)) → keeps j.jobs t → told.wanted J t ≡ file ∷ later → keeps jobs (told.with_found t load))
-        → (at : JobPlace L) → job_stands J keeps j at → IsHanded (job_aims side at) r → Takes (job J side) (job_stands J keeps (record j { jobs = jobs })) at r None
-    job-loads r load jobs is loaded (TakesItems s) kept handed = absurd (let P : Reply L → Type 0 = λ r. IsHanded (job_aims side (TakesItems s)) r in subst P is handed)
+        → (at : JobPlace L) → job_stands J keeps j at → IsHanded (job_aims side at) r
+        → Takes (job J side) (job_stands J keeps (record j { jobs = jobs })) at r None
+    job-loads r load jobs is loaded (TakesItems s) kept handed =
+        absurd (let P : Reply L → Type 0 = λ r. IsHanded (job_aims side (TakesItems s)) r in subst P is handed)
     job-loads r load jobs is loaded (LoadsFile file s last) kept handed = rw is (
       refl,
       λ none. toils-stand (record j { jobs = jobs }) (with_load s load) last (wanted J (with_load s load)) refl kept.0 record {

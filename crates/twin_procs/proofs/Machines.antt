@@ -244,7 +244,8 @@ module _ {L X P : Type 0} {p : Process L} {stands : P → p.Place → Type 0} {m
   pub closing-caused : (how : Outcome) → m.cause ≡ Some how → closing p h ≡ Some (closing_with p m.cause)
   closing-caused how e = rw (sym st.cause, e) refl
 
-  closing-free : m.cause ≡ None → (s : TwinAction) → ((at : p.Place) → stands m.process at → s ≡ aimed (p.aims at)) → closing p h ≡ done_closing p (is_end_said s)
+  closing-free : m.cause ≡ None → (s : TwinAction) → ((at : p.Place) → stands m.process at → s ≡ aimed (p.aims at))
+      → closing p h ≡ done_closing p (is_end_said s)
   closing-free e s says =
       let none : caused p h ≡ None = sym st.cause ∙ e in
       ap (λ c. closing_by p c (aim p h)) none ∙ closing-aimed p (aim p h) ∙ sym (ap (λ s. done_closing p (is_end_said s)) (says (place p h) (st.at_place none)))
@@ -342,7 +343,8 @@ module _ {L X P : Type 0} {p : Process L} {stands : P → p.Place → Type 0} {m
       held-now = subst (λ a. holds_after (holds h) a ≡ held_at (step_said (said a))) makes (held-on m.step (aim p h) (holds h) st.held)
 
       pub stands-done : (r : Reply L) (process : P) (given : Option Outcome) → IsUsedSo p (stands process) (place p h) a r given
-          → StandsFor p stands record { process = process; step = step_said (said a); cause = or_new m.cause given; stops = stops_said m.stops (said a); of = m.of }
+          → StandsFor p stands
+          record { process = process; step = step_said (said a); cause = or_new m.cause given; stops = stops_said m.stops (said a); of = m.of }
           (Does a r ∷ h)
       stands-done r process given used = record {
         cause = ap (λ c. or_new c given) st.cause ∙ ap (or_new (caused p h)) used.cause_is;
@@ -355,7 +357,13 @@ module _ {L X P : Type 0} {p : Process L} {stands : P → p.Place → Type 0} {m
 
       pub stands-lacking : (r : Reply L) (process : P) → is_end a ≡ false → holds h ≡ held_at (step_said (said a))
           → StandsFor p stands
-          record { process = process; step = step_said (said a); cause = or_new m.cause (Some (outcome.Fault cause.NoMemory)); stops = stops_said m.stops (said a); of = m.of }
+          record {
+            process = process;
+            step = step_said (said a);
+            cause = or_new m.cause (Some (outcome.Fault cause.NoMemory));
+            stops = stops_said m.stops (said a);
+            of = m.of;
+          }
           (LacksMemory a r ∷ h)
       stands-lacking r process on held = record {
         cause = ap (λ c. or_new c (Some (outcome.Fault cause.NoMemory))) st.cause;
@@ -413,7 +421,8 @@ module _ {L X P : Type 0} {p : Process L} {stands : P → p.Place → Type 0} {m
         record {
           kind = tt;
           next_is = closes-end c is off e;
-          stands_then = closed (Ended c.how) refl refl (st.held ∙ off) (stopped-same c.stops m.stops h (Does (Ended c.how) reply.Done ∷ h) (λ b. refl) (stopped c is));
+          stands_then = closed (Ended c.how) refl refl (st.held ∙ off)
+              (stopped-same c.stops m.stops h (Does (Ended c.how) reply.Done ∷ h) (λ b. refl) (stopped c is));
         },
       )
 
@@ -458,7 +467,7 @@ lacking-held s m r lacks = absurd lacks
 -- ---- the beginning
 none-yet : (L : Type 0) (c : Option Closing) (n : ℕ) → n ≡ 0 → StopsSo {L = L} c n []
 none-yet L None n is = (is, λ b. refl)
-none-yet L (Some c) n is = subst (λ n. AreStopped c.stops n []) (sym is) (none-stopped c.stops [] (λ b. refl))
+none-yet L (Some c) n is = subst (λ n. AreStopped {L = L} c.stops n []) (sym is) (none-stopped c.stops [] (λ b. refl))
 
 pub stands-new : {L X P : Type 0} (p : Process L) (stands : P → p.Place → Type 0) (m : TwinMachine X P) → stands m.process p.start → m.step ≡ step.Free
     → m.cause ≡ None → m.stops ≡ 0 → StandsFor p stands m []
@@ -476,8 +485,8 @@ none-is t true e = ap not e
 none-is t false e = ap not e
 
 -- ---- what give does
-module _ {L X P : Type 0} (p : Process L) (stands : P → p.Place → Type 0) (m : TwinMachine X P) (process : P) (s : TwinAction) (r : Reply L) (law : ClosesDown p)
-    (says : (h : List (Entry L)) → StandsFor p stands m h → NextIs (next_action p h) s) where
+module _ {L X P : Type 0} (p : Process L) (stands : P → p.Place → Type 0) (m : TwinMachine X P) (process : P) (s : TwinAction) (r : Reply L)
+    (law : ClosesDown p) (says : (h : List (Entry L)) → StandsFor p stands m h → NextIs (next_action p h) s) where
   abbrev given : TwinAction → Option Outcome → TwinMachine X P
   given s new = record { process = process; step = step_said s; cause = or_new m.cause new; stops = stops_said m.stops s; of = m.of }
 
@@ -530,8 +539,8 @@ module _ {L X P : Type 0} (p : Process L) (stands : P → p.Place → Type 0) (m
     lack-by refused answers (Some c) is = absurd (let used = (answers.closes a (is-closing st law a next c is) same fits).0 in cc)
 
   pub gives-done : (new : Option Outcome) (at : Step) (caused_now : Option Outcome) (n : ℕ) → Answers p stands m.process s r (Ok new) process → at ≡ step_said s
-      → caused_now ≡ or_new m.cause new → n ≡ stops_said m.stops s → (h : List (Entry L)) (a : Action) → StandsFor p stands m h → next_action p h ≡ Some a → Fits a r
-      → StandsFor p stands record { process = process; step = at; cause = caused_now; stops = n; of = m.of } (Does a r ∷ h)
+      → caused_now ≡ or_new m.cause new → n ≡ stops_said m.stops s → (h : List (Entry L)) (a : Action) → StandsFor p stands m h → next_action p h ≡ Some a
+      → Fits a r → StandsFor p stands record { process = process; step = at; cause = caused_now; stops = n; of = m.of } (Does a r ∷ h)
   gives-done new at caused_now n answers stepped caused_is stopped h a st next fits =
       let e = same h a st next fits in
       rw (stepped ∙ ap step_said e, caused_is, stopped ∙ ap (stops_said m.stops) e) (by-closing h a st next fits new answers (closing p h) refl)
@@ -539,7 +548,8 @@ module _ {L X P : Type 0} (p : Process L) (stands : P → p.Place → Type 0) (m
   pub gives-lacking : (refused : NoMemory) (at : Step) (caused_now : Option Outcome) (n : ℕ) → Answers p stands m.process s r (Err refused) process
       → at ≡ step_said s → caused_now ≡ or_new m.cause (Some (outcome.Fault cause.NoMemory)) → n ≡ stops_said m.stops s → (h : List (Entry L)) (a : Action)
       → StandsFor p stands m h → next_action p h ≡ Some a → Fits a r
-      → (p.works ≡ true) × MayLack a r × StandsFor p stands record { process = process; step = at; cause = caused_now; stops = n; of = m.of } (LacksMemory a r ∷ h)
+      → (p.works ≡ true) × MayLack a r
+      × StandsFor p stands record { process = process; step = at; cause = caused_now; stops = n; of = m.of } (LacksMemory a r ∷ h)
   gives-lacking refused at caused_now n answers stepped caused_is stopped h a st next fits =
       let e = same h a st next fits in
       rw (stepped ∙ ap step_said e, caused_is, stopped ∙ ap (stops_said m.stops) e) (lack-by h a st next fits refused answers (closing p h) refl)

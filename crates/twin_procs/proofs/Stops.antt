@@ -53,7 +53,8 @@ module _ {L : Type 0} where
   stops-none (c ∷ later) (suc n) how h are is = rw are.0 (stops-none later n how h are.1 is)
 
   -- no buffer but this one
-  stopped-others : (later : List ℕ) (b : ℕ) (r : Reply L) (h : List (Entry L)) → IsBelow b later → AreStopped later 0 h → AreStopped later 0 (Does (Stop b) r ∷ h)
+  stopped-others : (later : List ℕ) (b : ℕ) (r : Reply L) (h : List (Entry L)) → IsBelow b later → AreStopped later 0 h
+      → AreStopped later 0 (Does (Stop b) r ∷ h)
   stopped-others [] b r h below are = tt
   stopped-others (c ∷ later) b r h below are = (other (c == b) refl, stopped-others later b r h below.1 are.1)
     where
@@ -70,8 +71,8 @@ module _ {L : Type 0} where
   stopped-on (c ∷ later) (suc n) b r h ascending is are = (or-right (c == b) (has_stopped c h) are.0, stopped-on later n b r h ascending.1 is are.1)
 
   -- behind a stop there is one more
-  pub stopped-one : (buffers : List ℕ) (n b : ℕ) (r : Reply L) (h : List (Entry L)) → IsAscending buffers → length buffers < 2 ^ 8 → slice_get buffers n ≡ Some b
-      → AreStopped buffers n h → AreStopped buffers (min (n + 1) 255) (Does (Stop b) r ∷ h)
+  pub stopped-one : (buffers : List ℕ) (n b : ℕ) (r : Reply L) (h : List (Entry L)) → IsAscending buffers → length buffers < 2 ^ 8
+      → slice_get buffers n ≡ Some b → AreStopped buffers n h → AreStopped buffers (min (n + 1) 255) (Does (Stop b) r ∷ h)
   stopped-one buffers n b r h ascending few is are =
       subst (λ n. AreStopped buffers n (Does (Stop b) r ∷ h)) (one-more n (length buffers) (below-length buffers n b is) few)
       (stopped-on buffers n b r h ascending is are)

@@ -36,8 +36,8 @@ pub enum InputAt {
     HasDealt,
 }
 
-/// What the input process keeps: its place, the side in turn, whether the next item stands in a group, and the
-/// page in hand, if a unit is under way.
+/// What the input process keeps: its place, the side in turn, whether the next item stands in a group, and
+/// the page in hand, if a unit is under way.
 #[derive(Drop)]
 pub struct InputProc {
     place: InputAt,

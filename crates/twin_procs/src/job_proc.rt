@@ -35,8 +35,9 @@ pub enum JobAt {
     HasWorked,
 }
 
-/// What a job process keeps: its place, the work on the jobs of the stream under way, the pages that it awaits,
-/// the page of lines in hand, whether the last page of the stream was taken, and whether one had an item.
+/// What a job process keeps: its place, the work on the jobs of the stream under way, the pages that it
+/// awaits, the page of lines in hand, whether the last page of the stream was taken, and whether one had an
+/// item.
 #[derive(Drop)]
 pub struct JobProc<J, S> {
     place: JobAt,
@@ -112,7 +113,8 @@ impl<J: JobWork, S: OnSide> TwinProc<J> for JobProc<J, S> {
 
     // The clauses of `TwinProc`, which the prover does not yet give this method by itself.
     fn take(&mut self, reply: Reply<J::Load>) -> Result<Option<Outcome>, NoMemory>
-        ensures ok { (at : JobPlace J.Load) → job_stands J.jobs J.keeps self.old at → IsHanded (job_aims S.side at) reply →
+        ensures ok { (at : JobPlace J.Load) → job_stands J.jobs J.keeps self.old at →
+            IsHanded (job_aims S.side at) reply →
             TakesSo (job J.jobs S.side) (job_stands J.jobs J.keeps self.new) at reply result }
         ensures err { OnErr result (((job J.jobs S.side).works ≡ true) × IsPage reply) }
     {
@@ -131,7 +133,8 @@ impl<J: JobWork, S: OnSide> JobProc<J, S> {
     /// Takes the next page of the stream. One without items that is its last says that all work is done.
     fn take_page(&mut self, page: &Page, last: bool) -> Result<Option<Outcome>, NoMemory>
         ensures { (s : Stream J.Load) → job_stands J.jobs J.keeps self.old (TakesItems s) →
-            IfOk result (λ cause. TakesPage J.jobs (job_stands J.jobs J.keeps self.new) s page.now last cause) }
+            IfOk result (λ cause.
+                TakesPage J.jobs (job_stands J.jobs J.keeps self.new) s page.now last cause) }
     {
         match self.pages.take(page, last) {
             Ok(items) => {

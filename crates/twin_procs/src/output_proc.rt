@@ -29,9 +29,9 @@ pub enum OutputAt {
     HasGathered,
 }
 
-/// What the output process keeps: its place, the side in turn, the pages that it awaits, what it hasn't put of
-/// the page in hand, whether the stream in turn had a line so far, whether a stream had none, and whether all is
-/// over behind the page in hand.
+/// What the output process keeps: its place, the side in turn, the pages that it awaits, what it hasn't put
+/// of the page in hand, whether the stream in turn had a line so far, whether a stream had none, and whether
+/// all is over behind the page in hand.
 #[derive(Drop)]
 pub struct OutputProc {
     place: OutputAt,

@@ -67,7 +67,8 @@ impl<J: JobWork> TwinProc<J> for PrinterProc {
 
     // The clauses of `TwinProc`, which the prover does not yet give this method by itself.
     fn take(&mut self, reply: Reply<J::Load>) -> Result<Option<Outcome>, NoMemory>
-        ensures ok { (at : PrinterPlace) → PrinterStands self.old.place at → IsHanded (printer_aims at) reply →
+        ensures ok { (at : PrinterPlace) → PrinterStands self.old.place at →
+            IsHanded (printer_aims at) reply →
             TakesSo (printer {L = J.Load}) (PrinterStands self.new.place) at reply result }
         ensures err { OnErr result (((printer {L = J.Load}).works ≡ true) × IsPage reply) }
     {

@@ -10,7 +10,7 @@ returns-in-Some-clause-waits g c = λ h a st. waits-on st a
 
 pub returns-then-is_end-clause-next : goal.returns-then-is_end-clause-next
 returns-then-is_end-clause-next g c = λ h st.
-    c.close-then-is_end.ensures h st (closing-done st c.in-None.is c.aim.result c.aim.ensures
+    c.close-then-is_end.ensures h st (closing-done st c.in-None.is c.aim-aim.result c.aim-aim.ensures
     (sym c.is_end.ensures ∙ c.if-is_end.true))
 
 pub returns-then-is_end-clause-waits : goal.returns-then-is_end-clause-waits
