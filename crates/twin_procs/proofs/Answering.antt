@@ -1,6 +1,6 @@
 -- What a reply is to a process at its place.
 use Rattle.std.proofs.Common.{◌≡◌, Bool, true, false, Option, None, Some, Result, Ok, Err, refl, sym, ◌∙◌, ap, subst}
-use Rattle.std.specs.Prelude.{IfOk, OnOk, OnErr}
+use Rattle.std.specs.Prelude.{IfOk, OnErr}
 use Rattle.solo_base.specs.declared.item.Feed.{Feed}
 use Rattle.solo_base.specs.declared.page.Page.{Page}
 use Rattle.solo_base.specs.declared.no_memory.NoMemory.{NoMemory}
@@ -16,7 +16,7 @@ use Rattle.twin_law.specs.Process.{Action, ReadCard, PutFeed, TakeFeed, AwaitRoo
 use Rattle.twin_law.specs.Twin.{Fits, MayLack}
 use Rattle.twin_procs.specs.declared.actions.TwinAction.{TwinAction}
 use Rattle.twin_procs.specs.Said.{said, changes_said, fault_said}
-use Rattle.twin_procs.specs.Machine.{makes_at, IsDone, IsAtWork, IsHanded, IsPage, handed_cause, Takes, TakesSo, IsClosing, IsUsedSo, Answers}
+use Rattle.twin_procs.specs.Machine.{makes_at, IsDone, IsAtWork, IsHanded, IsPage, handed_cause, TakesSo, IsClosing, IsUsedSo, Answers}
 
 fault-said : (a : Action) → fault_said (said a) ≡ fault_at a
 fault-said ReadCard = refl

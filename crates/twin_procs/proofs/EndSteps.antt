@@ -1,25 +1,15 @@
 -- The steps of the card and the printer process.
-use Rattle.std.proofs.Common.{◌≡◌, Bool, true, false, Option, None, Some, refl, sym, ◌∙◌, ap}
-use Rattle.std.specs.Prelude.{Ok}
-use Rattle.solo_base.specs.declared.item.Item.{Item}
-use Rattle.solo_base.specs.declared.item.Item.TheVariants.{Line}
+use Rattle.std.proofs.Common.{◌≡◌, Option, None, refl}
 use Rattle.solo_base.specs.declared.item.Feed.{Feed}
-use Rattle.solo_base.specs.declared.item.Feed.TheVariants as feed
 use Rattle.solo_base.specs.declared.outcome.Outcome.{Outcome}
-use Rattle.solo_base.specs.declared.outcome.Outcome.TheVariants as outcome
 use Rattle.solo_devices.specs.declared.card_read.CardRead.{CardRead}
 use Rattle.batch_procs.specs.declared.actions.Reply.{Reply}
 use Rattle.batch_procs.specs.declared.actions.Reply.TheVariants as reply
 use Rattle.batch_procs.specs.Causes.{fault_read}
-use Rattle.twin_law.specs.Ends.{CardPlace, ReadsCard, PutsCard, PutsEnd, HasPut, card, card_aims, card_behind, behind_read, PrinterPlace, TakesLine, PrintsLine, HasPrinted, printer, printer_aims, printer_behind, behind_line}
-use Rattle.twin_procs.specs.declared.actions.TwinAction.{TwinAction}
-use Rattle.twin_procs.specs.declared.actions.TwinAction.TheVariants as say
+use Rattle.twin_law.specs.Ends.{CardPlace, ReadsCard, PutsCard, PutsEnd, HasPut, card, card_aims, behind_read, PrinterPlace, TakesLine, PrintsLine, HasPrinted, printer, printer_aims, behind_line}
 use Rattle.twin_procs.specs.declared.card_proc.CardAt.{CardAt}
-use Rattle.twin_procs.specs.declared.card_proc.CardAt.TheVariants as here
 use Rattle.twin_procs.specs.declared.printer_proc.PrinterAt.{PrinterAt}
-use Rattle.twin_procs.specs.declared.printer_proc.PrinterAt.TheVariants as there
-use Rattle.twin_procs.specs.Said.{aimed}
-use Rattle.twin_procs.specs.Machine.{IsDone, IsHanded, Takes}
+use Rattle.twin_procs.specs.Machine.{IsHanded, Takes}
 use Rattle.twin_procs.specs.Standing.{CardStands, PrinterStands}
 
 -- ---- card

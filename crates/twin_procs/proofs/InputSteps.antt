@@ -1,28 +1,17 @@
 -- The steps of the input process.
-use Rattle.std.proofs.Common.{◌≡◌, ℕ, Bool, true, false, if◌then◌else◌, Option, None, Some, refl, sym, ◌∙◌, ap, subst}
+use Rattle.std.proofs.Common.{◌≡◌, Bool, true, false, if◌then◌else◌, Option, None, refl, sym, ◌∙◌, ap, subst}
 use Rattle.solo_base.specs.declared.item.Item.{Item}
-use Rattle.solo_base.specs.declared.item.Item.TheVariants.{Line, Spoiled}
 use Rattle.solo_base.specs.declared.item.Feed.{Feed}
-use Rattle.solo_base.specs.declared.page.Page.{Page}
-use Rattle.solo_base.specs.declared.outcome.Outcome.TheVariants as outcome
-use Rattle.page_codec.specs.Form.{page_of}
-use Rattle.page_codec.specs.Packing.{PageInHand, page_given, hand_after}
+use Rattle.page_codec.specs.Packing.{PageInHand}
 use Rattle.batch_procs.specs.declared.actions.Reply.{Reply}
 use Rattle.batch_procs.specs.declared.actions.Reply.TheVariants as reply
-use Rattle.deck_format.specs.Jobs.{opener_in, opener_of, ends_in, is_end}
-use Rattle.deck_format.specs.JobReader.{control_in}
-use Rattle.deck_units.specs.Units.{opens, is_inside, is_dropped}
-use Rattle.twin_law.specs.Sides.{Twin, other, to_job}
-use Rattle.twin_law.specs.Input.{InputPlace, Takes, PutsFull, PutsLast, PutsEmptyA, PutsEmptyB, HasDealt, input, input_aims, input_behind, last_of, empty_page, begins_unit, pushes, packs, deals, ends_deck, behind_feed, behind_last}
-use Rattle.twin_procs.specs.declared.actions.TwinAction.{TwinAction}
-use Rattle.twin_procs.specs.declared.actions.TwinAction.TheVariants as say
-use Rattle.twin_procs.specs.declared.input_proc.InputAt.{InputAt}
-use Rattle.twin_procs.specs.declared.input_proc.InputAt.TheVariants as here
+use Rattle.deck_units.specs.Units.{is_inside, is_dropped}
+use Rattle.twin_law.specs.Sides.{Twin}
+use Rattle.twin_law.specs.Input.{InputPlace, Takes, PutsFull, PutsLast, PutsEmptyA, PutsEmptyB, HasDealt, input, input_aims, packs, deals, behind_feed}
 use Rattle.twin_procs.specs.declared.input_proc.InputProc.{InputProc}
-use Rattle.twin_procs.specs.Said.{twin, aimed}
 use Rattle.twin_procs.specs.Machine.{IsDone, IsHanded}
 use Rattle.twin_procs.specs.Machine as machine
-use Rattle.twin_procs.specs.Standing.{Deals, InputStands, place_given, PushesInput, BeginsNext}
+use Rattle.twin_procs.specs.Standing.{InputStands}
 
 module _ (L : Type 0) (j : InputProc) where
   -- ---- what was taken

@@ -1,6 +1,6 @@
 -- The steps of a job process.
-use Rattle.std.proofs.Common.{◌≡◌, ◌||◌, ◌&&◌, not, ℕ, zero, suc, ◌+◌, ◌%◌, ◌^◌, Bool, true, false, List, [], ◌∷◌, ◌++◌, length, length-append, drop, Option, None, Some, refl, sym, ◌∙◌, ap, subst, arith, append_assoc}
-use Rattle.std.specs.Prelude.{Result, Ok, Err, OnOk, IfOk, OnErr, option_to_list, slice_get}
+use Rattle.std.proofs.Common.{◌≡◌, ◌||◌, ◌&&◌, not, ℕ, ◌+◌, ◌%◌, ◌^◌, Bool, true, false, List, [], ◌∷◌, ◌++◌, length, length-append, drop, Option, None, Some, refl, sym, ◌∙◌, ap, subst, arith, append_assoc}
+use Rattle.std.specs.Prelude.{Result, Ok, Err, IfOk, OnErr, option_to_list}
 use Rattle.std.proofs.lemmas.List.{append-nil}
 use Rattle.solo_base.specs.declared.item.Item.{Item}
 use Rattle.solo_base.specs.declared.item.Item.TheVariants.{Line}
@@ -10,7 +10,7 @@ use Rattle.solo_base.specs.declared.outcome.Outcome.{Outcome}
 use Rattle.solo_base.specs.declared.outcome.Outcome.TheVariants as outcome
 use Rattle.solo_base.specs.declared.outcome.Cause.{Cause}
 use Rattle.page_codec.specs.declared.judge.BadPage.{BadPage}
-use Rattle.page_codec.specs.Packing.{PageInHand, first_page, page_given, hand_after}
+use Rattle.page_codec.specs.Packing.{PageInHand, page_given, hand_after}
 use Rattle.page_codec.specs.Pushes.{pages_given, hand_behind, IsGivenLast, PushesUpTo}
 use Rattle.page_codec.specs.Reading.{PageContent, page_read}
 use Rattle.batch_procs.specs.declared.actions.Reply.{Reply}
@@ -19,18 +19,15 @@ use Rattle.batch_procs.specs.Jobs.{Jobs}
 use Rattle.batch_procs.specs.JobTold as told
 use Rattle.batch_procs.specs.JobTold.{JobTold, nothing_told, first_of, PushesLines}
 use Rattle.place_law.specs.Process.{fault_in}
-use Rattle.twin_law.specs.Sides.{Twin, to_job, from_job}
+use Rattle.twin_law.specs.Sides.{Twin}
 use Rattle.twin_law.specs.Input.{last_of, empty_page}
 use Rattle.twin_law.specs.Output.{is_some}
-use Rattle.twin_law.specs.Job.{Stream, no_stream, JobPlace, TakesItems, LoadsFile, Toils, PutsLines, PutsLastLines, HasWorked, job, job_aims, job_behind, wanted, toils, behind_items, with_page, behind_page, page_taken, with_load, Packed, packs_lines, packed_on, with_packed, behind_packed, behind_work, lines_ahead, next_stream, damage}
-use Rattle.twin_procs.specs.declared.actions.TwinAction.{TwinAction}
-use Rattle.twin_procs.specs.declared.actions.TwinAction.TheVariants as say
+use Rattle.twin_law.specs.Job.{Stream, JobPlace, TakesItems, LoadsFile, Toils, PutsLines, PutsLastLines, HasWorked, job, job_aims, wanted, toils, behind_items, with_page, behind_page, page_taken, with_load, packs_lines, packed_on, with_packed, behind_packed, behind_work, lines_ahead, damage}
 use Rattle.twin_procs.specs.declared.job_proc.JobAt.{JobAt}
 use Rattle.twin_procs.specs.declared.job_proc.JobAt.TheVariants as here
 use Rattle.twin_procs.specs.declared.job_proc.JobProc.{JobProc}
-use Rattle.twin_procs.specs.Said.{aimed, works_said}
 use Rattle.twin_procs.specs.Hands.{page_behind, place_after}
-use Rattle.twin_procs.specs.Machine.{stops_of, IsDone, IsAtWork, IsHanded, IsPage, Takes, TakesSo}
+use Rattle.twin_procs.specs.Machine.{IsHanded, IsPage, Takes, TakesSo}
 use Rattle.twin_procs.specs.Job.{told_of, WorksOn, job_stands, TakesPage, HasPage, FinishesLines}
 use Rattle.twin_procs.proofs.OutputSteps.{last-read}
 

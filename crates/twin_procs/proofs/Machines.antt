@@ -1,6 +1,6 @@
 -- What a machine says and keeps, for any process.
-use Rattle.std.proofs.Common.{◌≡◌, not, ◌<◌, ◌+◌, ◌^◌, ◌||◌, ℕ, min, Bool, true, false, List, [], ◌∷◌, length, Option, None, Some, refl, sym, ◌∙◌, ap, subst}
-use Rattle.std.specs.Prelude.{slice_get, Ok, Err, IfOk, is_none}
+use Rattle.std.proofs.Common.{◌≡◌, not, ◌<◌, ◌^◌, ◌||◌, ℕ, Bool, true, false, List, [], ◌∷◌, length, Option, None, Some, refl, sym, ◌∙◌, ap, subst}
+use Rattle.std.specs.Prelude.{slice_get, Ok, Err, is_none}
 use Rattle.std.proofs.lemmas.Bool.{eq-eqb}
 use Rattle.solo_base.specs.declared.no_memory.NoMemory.{NoMemory}
 use Rattle.solo_base.specs.declared.outcome.Outcome.{Outcome}
@@ -12,8 +12,7 @@ use Rattle.batch_procs.specs.declared.round.Step.{Step}
 use Rattle.batch_procs.specs.declared.round.Step.TheVariants as step
 use Rattle.batch_procs.specs.Machine.{held_at}
 use Rattle.place_law.specs.Process.{Does, LacksMemory, Delays, or_new}
-use Rattle.place_law.specs.Ending.{outcome_by}
-use Rattle.twin_law.specs.Process.{Action, ReadCard, PutFeed, TakeFeed, AwaitRoom, AwaitItem, Request, PutPage, TakePage, Load, Release, Local, Print, Stop, Ended, Entry, Aim, Reads, PutsFeed, TakesFeed, PutsPage, TakesPage, Loads, Works, Prints, Finishes, Process, Closing, place, aim, stands_behind, given_cause, caused, holds, holds_after, has_stopped, stops_at, is_end, has_ended, newest, begins, moves, working, stops_next, closes, closing_by, closing, next_by, unless_ended, next_action}
+use Rattle.twin_law.specs.Process.{Action, ReadCard, PutFeed, TakeFeed, AwaitRoom, AwaitItem, Request, PutPage, TakePage, Load, Release, Local, Print, Stop, Ended, Entry, Aim, Reads, PutsFeed, TakesFeed, PutsPage, TakesPage, Loads, Works, Prints, Finishes, Process, Closing, place, aim, stands_behind, given_cause, caused, holds, holds_after, has_stopped, stops_at, is_end, has_ended, newest, begins, moves, working, closes, closing_by, closing, next_by, unless_ended, next_action}
 use Rattle.twin_law.specs.Twin.{Fits, MayLack}
 use Rattle.twin_procs.specs.declared.actions.TwinAction.{TwinAction}
 use Rattle.twin_procs.specs.declared.machine.TwinMachine.{TwinMachine}

@@ -1,30 +1,24 @@
 -- The steps of the output process.
-use Rattle.std.proofs.Common.{◌≡◌, ◌||◌, not, ℕ, ◌+◌, ◌%◌, ◌^◌, ◌&&◌, Bool, true, false, List, [], ◌∷◌, ◌++◌, Option, None, Some, refl, sym, ◌∙◌, ap, subst, arith}
-use Rattle.std.specs.Prelude.{Result, Ok, Err, option_to_list}
+use Rattle.std.proofs.Common.{◌≡◌, ◌||◌, not, ℕ, ◌+◌, ◌%◌, ◌^◌, ◌&&◌, Bool, true, false, List, Option, None, Some, refl, sym, ◌∙◌, ap, subst, arith}
+use Rattle.std.specs.Prelude.{Ok, Err}
 use Rattle.solo_base.specs.declared.item.Item.{Item}
-use Rattle.solo_base.specs.declared.item.Item.TheVariants.{Line}
-use Rattle.solo_base.specs.declared.item.Feed.TheVariants as feed
 use Rattle.solo_base.specs.declared.page.Page.{Page}
 use Rattle.solo_base.specs.declared.outcome.Outcome.TheVariants as outcome
 use Rattle.solo_base.specs.declared.outcome.Cause.{Cause}
 use Rattle.page_codec.specs.declared.judge.BadPage.{BadPage}
-use Rattle.page_codec.specs.Reading.{PageContent, page_read, bad_place, content_or_bad, items_left}
+use Rattle.page_codec.specs.Reading.{PageContent, page_read, bad_place, content_or_bad}
 use Rattle.batch_procs.specs.declared.actions.Reply.{Reply}
 use Rattle.batch_procs.specs.declared.actions.Reply.TheVariants as reply
 use Rattle.batch_procs.specs.Sends.{lines_of}
 use Rattle.place_law.specs.Process.{fault_in}
-use Rattle.twin_law.specs.Sides.{other, from_job}
+use Rattle.twin_law.specs.Sides.{other}
 use Rattle.twin_law.specs.Job.{damage}
-use Rattle.twin_law.specs.Output.{Turn, OutputPlace, TakesLines, PutsLine, PutsOver, HasGathered, output, output_aims, output_behind, is_some, puts_line, turn_behind, behind_lines, page_due}
-use Rattle.twin_procs.specs.declared.actions.TwinAction.{TwinAction}
-use Rattle.twin_procs.specs.declared.actions.TwinAction.TheVariants as say
-use Rattle.twin_procs.specs.declared.output_proc.OutputAt.{OutputAt}
-use Rattle.twin_procs.specs.declared.output_proc.OutputAt.TheVariants as here
+use Rattle.twin_law.specs.Output.{Turn, OutputPlace, TakesLines, PutsLine, PutsOver, HasGathered, output, output_aims, is_some, turn_behind, behind_lines, page_due}
 use Rattle.twin_procs.specs.declared.output_proc.OutputProc.{OutputProc}
-use Rattle.twin_procs.specs.Said.{twin, aimed}
-use Rattle.twin_procs.specs.Hands.{page_behind, place_after}
-use Rattle.twin_procs.specs.Machine.{IsDone, IsHanded, Takes}
-use Rattle.twin_procs.specs.Output.{IsInTurn, IsLeft, OutputStands, GoesOn, StaysInTurn, TurnsOver, Turns}
+use Rattle.twin_procs.specs.Said.{twin}
+use Rattle.twin_procs.specs.Hands.{page_behind}
+use Rattle.twin_procs.specs.Machine.{IsHanded, Takes}
+use Rattle.twin_procs.specs.Output.{IsInTurn, OutputStands, GoesOn, Turns}
 
 -- ---- a page
 pub last-read : (n : ℕ) (last : Bool) (page : Page) (content : PageContent) → page_read n last page ≡ Ok content → content.last ≡ last

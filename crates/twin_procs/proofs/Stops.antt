@@ -1,11 +1,11 @@
 -- Which buffers a process has stopped, and what it stops next.
-use Rattle.std.proofs.Common.{◌≡◌, ◌<◌, ◌+◌, ◌^◌, ℕ, zero, suc, min, Bool, true, false, ◌||◌, ◌==◌, List, [], ◌∷◌, length, Option, None, Some, refl, ◌∙◌, ap, subst, arith}
+use Rattle.std.proofs.Common.{◌≡◌, ◌<◌, ◌+◌, ◌^◌, ℕ, zero, suc, min, Bool, true, false, ◌||◌, ◌==◌, List, [], ◌∷◌, length, None, Some, refl, ◌∙◌, ap, subst, arith}
 use Rattle.std.specs.Prelude.{slice_get}
 use Rattle.std.proofs.lemmas.Bool.{eqb-true, eq-eqb}
 use Rattle.solo_base.specs.declared.outcome.Outcome.{Outcome}
 use Rattle.batch_procs.specs.declared.actions.Reply.{Reply}
 use Rattle.place_law.specs.Process.{Does}
-use Rattle.twin_law.specs.Process.{Action, Stop, Ended, Entry, has_stopped, stops_at, stops_next}
+use Rattle.twin_law.specs.Process.{Stop, Ended, Entry, has_stopped, stops_next}
 use Rattle.twin_procs.specs.Machine.{AreStopped, IsBelow, IsAscending}
 
 some-same : {A : Type 0} (a b : A) → Some a ≡ Some b → a ≡ b

@@ -1,5 +1,5 @@
 -- Which place of the law a job process stands at.
-use Rattle.std.specs.Prelude.{◌≡◌, ◌+◌, ℕ, Bool, true, false, List, [], ◌∷◌, length, Option, None, Some}
+use Rattle.std.specs.Prelude.{◌≡◌, ◌+◌, ℕ, Bool, true, false, List, [], ◌∷◌, length, Option, None}
 use Rattle.solo_base.specs.declared.outcome.Outcome.{Outcome}
 use Rattle.solo_base.specs.declared.page.Page.{Page}
 use Rattle.batch_procs.specs.Jobs.{Jobs}
@@ -8,7 +8,6 @@ use Rattle.place_law.specs.Process.{fault_in}
 use Rattle.twin_law.specs.Input.{last_of}
 use Rattle.twin_law.specs.Job.{Stream, JobPlace, TakesItems, LoadsFile, Toils, PutsLines, PutsLastLines, HasWorked, wanted, behind_page, page_taken, damage}
 use Rattle.twin_law.specs.Output.{is_some}
-use Rattle.twin_procs.specs.declared.job_proc.JobAt.{JobAt}
 use Rattle.twin_procs.specs.declared.job_proc.JobAt.TheVariants as here
 use Rattle.twin_procs.specs.declared.job_proc.JobProc.{JobProc}
 use Rattle.twin_procs.specs.Hands.{place_after}

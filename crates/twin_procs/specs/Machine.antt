@@ -10,7 +10,7 @@ use Rattle.batch_procs.specs.Causes.{fault_read}
 use Rattle.batch_procs.specs.Machine.{held_at}
 use Rattle.place_law.specs.Process.{fault_in}
 use Rattle.place_law.specs.Ending.{outcome_by}
-use Rattle.twin_law.specs.Process.{Action, Release, Request, Stop, Ended, Entry, Aim, PutsFeed, PutsPage, Works, Prints, Reads, TakesFeed, TakesPage, Loads, Process, Closing, place, given_cause, caused, stands_behind, begins, moves, closing, holds, has_stopped, has_ended, newest, next_action}
+use Rattle.twin_law.specs.Process.{Action, Release, Request, Stop, Ended, Entry, Aim, PutsFeed, PutsPage, Works, Prints, Reads, TakesFeed, TakesPage, Loads, Process, Closing, place, given_cause, caused, stands_behind, begins, moves, closing, holds, has_stopped, has_ended, newest}
 use Rattle.twin_law.specs.Twin.{Fits, MayLack}
 use Rattle.twin_procs.specs.declared.actions.TwinAction.{TwinAction}
 use Rattle.twin_procs.specs.declared.machine.TwinMachine.{TwinMachine}

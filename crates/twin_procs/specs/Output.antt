@@ -5,7 +5,6 @@ use Rattle.page_codec.specs.Reading.{items_left}
 use Rattle.batch_procs.specs.Sends.{lines_of}
 use Rattle.twin_law.specs.Sides.{other}
 use Rattle.twin_law.specs.Output.{Turn, OutputPlace, TakesLines, PutsLine, PutsOver, HasGathered, is_some, puts_line}
-use Rattle.twin_procs.specs.declared.output_proc.OutputAt.{OutputAt}
 use Rattle.twin_procs.specs.declared.output_proc.OutputAt.TheVariants as here
 use Rattle.twin_procs.specs.declared.output_proc.OutputProc.{OutputProc}
 use Rattle.twin_procs.specs.Said.{twin}

@@ -1,4 +1,3 @@
-use Rattle.std.proofs.Common.{◌∙◌, sym}
 use Rattle.twin_procs.proofs.JobSteps.{works-page, works-all, works-last}
 use Rattle.twin_procs.proofs.job_proc.JobProc.work.Goals as goal
 

@@ -1,5 +1,5 @@
 use Rattle.std.proofs.Common.{sym, ◌∙◌}
-use Rattle.twin_procs.proofs.Machines.{closing-caused, closing-done, next-working, waits-on}
+use Rattle.twin_procs.proofs.Machines.{closing-caused, closing-done, waits-on}
 use Rattle.twin_procs.proofs.machine.TwinMachine.next.Goals as goal
 
 pub returns-in-Some-clause-next : goal.returns-in-Some-clause-next
