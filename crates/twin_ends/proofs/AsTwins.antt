@@ -1,5 +1,5 @@
 -- Each call of the five at a monitor or a device is one of the six, in the words of their law.
-use Rattle.std.proofs.Common.{◌≡◌, ℕ, List, [], Option, None, Some, refl, sym, ◌∙◌, subst}
+use Rattle.std.proofs.Common.{◌≡◌, ℕ, List, Option, None, Some, refl, sym, ◌∙◌, subst}
 use Rattle.solo_base.specs.declared.item.Item.{Item}
 use Rattle.solo_base.specs.declared.item.Feed.{Feed}
 use Rattle.solo_base.specs.declared.page.Page.{Page}
@@ -8,7 +8,6 @@ use Rattle.solo_base.specs.declared.outcome.Side.TheVariants.{Sender, Receiver}
 use Rattle.resource_mon.specs.Claims.{Claims}
 use Rattle.network_law.specs.Acts.{Visit, Awaits, Passes, Moves, Stops}
 use Rattle.network_law.specs.Buffer.{Buffer, VisitFits, after_visit}
-use Rattle.network_law.specs.Desk.{Desk, asked, after_asking}
 use Rattle.batch_procs.specs.declared.actions.Action.TheVariants as act
 use Rattle.batch_procs.specs.declared.actions.Action as core_action
 use Rattle.batch_procs.specs.declared.actions.Reply.{Reply}
@@ -21,7 +20,7 @@ use Rattle.core_law.specs.Replies.{entry_of, ReplyFits}
 use Rattle.batch_ends.specs.Devices.{ReadsCard, PrintsLine}
 use Rattle.core_net.specs.Calls.{Visited}
 use Rattle.core_net.specs.Desks.{Asked, Given}
-use Rattle.twin_law.specs.Process.{Action, PutFeed, TakeFeed, AwaitRoom, AwaitItem, Request, PutPage, TakePage, Release, Stop}
+use Rattle.twin_law.specs.Process.{Action, PutFeed, TakeFeed, AwaitRoom, AwaitItem, PutPage, TakePage, Stop}
 use Rattle.twin_law.specs.Twin.{went}
 use Rattle.twin_ends.specs.TwinCalls.{entry_for, ReplySuits, TwinVisited, TwinAsked, TwinGiven, TwinReads, TwinPrints, TwinLoads}
 

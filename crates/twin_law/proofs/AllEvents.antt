@@ -1,10 +1,9 @@
 -- No reached state has more events behind it than come of the cards that were read, whatever the devices are.
-use Rattle.std.proofs.Common.{◌≡◌, ℕ, suc, ◌+◌, ◌*◌, ◌-◌, ◌≤◌, List, [], ◌∷◌, ◌++◌, length, length-append, map, refl, sym, ◌∙◌, ap, subst, arith}
+use Rattle.std.proofs.Common.{◌≡◌, ℕ, ◌+◌, ◌*◌, ◌-◌, ◌≤◌, List, [], ◌∷◌, length, length-append, map, refl, sym, ◌∙◌, ap, subst, arith}
 use Rattle.std.proofs.lemmas.List.{length-map, append-nil}
 use Rattle.network_run.specs.Law.{AreEnabled, run}
-use Rattle.network_law.specs.Network.{IsEnabled, IsOne, happens, acts, set}
+use Rattle.network_law.specs.Network.{IsOne, happens, set}
 use Rattle.network_law.specs.Kept.{Stands, passed}
-use Rattle.solo_base.specs.declared.item.Item.{Item}
 use Rattle.solo_base.specs.declared.outcome.Side.TheVariants.{Sender, Receiver}
 use Rattle.batch_procs.specs.Jobs.{Jobs, AreJobs}
 use Rattle.batch_procs.specs.Parcels.{is_last}
@@ -17,7 +16,7 @@ use Rattle.twin_law.specs.Left.{entries_in, events_so_far, line_pages, most_with
 use Rattle.twin_law.proofs.Lawful.{each-process}
 use Rattle.twin_law.proofs.InputAlone.{deck_feeds}
 use Rattle.twin_law.proofs.CardReads.{put-first}
-use Rattle.twin_law.proofs.Devices.{Centre, reached-centre}
+use Rattle.twin_law.proofs.Devices.{reached-centre}
 use Rattle.twin_law.proofs.CallsMade.{made, made-most}
 use Rattle.twin_law.proofs.Todo.{Any, card_todo, none_todo, card-has, input-has, output-has, printer-has}
 use Rattle.twin_law.proofs.Pays.{spot, sum_of, reads_one, prints_one, nothing, paid-most, card-pays, input-pays, output-pays, printer-pays}

@@ -1,6 +1,6 @@
 -- What a process put is no more than so many times what it took, by what it is still worth at each place.
 use Rattle.std.proofs.Common.{◌≡◌, inl, inr, ℕ, ◌+◌, ◌*◌, ◌≤◌, ◌==◌, ◌&&◌, true, false, List, [], ◌∷◌, length, refl, sym, ◌∙◌, ap, subst, arith}
-use Rattle.network_law.specs.Acts.{Call, Alone, At, Asks, Gives, Visit, Moves, Went, Delayed, Told, Moved, moved_by, if_at}
+use Rattle.network_law.specs.Acts.{Call, Alone, At, Asks, Gives, Moves, Went, Delayed, Told, Moved, moved_by, if_at}
 use Rattle.network_law.specs.Acts as go
 use Rattle.network_law.specs.Network.{IsOne, acts}
 use Rattle.network_law.specs.Network as law
@@ -11,8 +11,7 @@ use Rattle.batch_procs.specs.Jobs.{Jobs}
 use Rattle.batch_procs.specs.Parcels.{Parcel, OfPage}
 use Rattle.place_law.specs.Process.{Does, LacksMemory, Delays}
 use Rattle.batch_procs.specs.declared.actions.Reply.TheVariants as reply
-use Rattle.twin_law.specs.Process.{Action, AwaitRoom, AwaitItem, Request, TakePage, Release, Local, Stop, Ended, Entry, Process, stands_behind, place, aim}
-use Rattle.twin_law.specs.Sides.{other}
+use Rattle.twin_law.specs.Process.{Action, AwaitRoom, AwaitItem, Request, TakePage, Release, Local, Stop, Ended, Entry, Process, stands_behind, place}
 use Rattle.twin_law.specs.Table.{process}
 use Rattle.twin_law.specs.Twin.{call, went_by, Fits, IsGood, MayLack, twin}
 use Rattle.twin_law.proofs.Marks.{makes, IsAround, made}

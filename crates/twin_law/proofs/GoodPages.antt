@@ -1,5 +1,5 @@
 -- A page that is read has 506 items at most, and these are items.
-use Rattle.std.proofs.Common.{◌≡◌, ◌≤◌, ℕ, zero, suc, ◌==◌, Bool, true, false, ◌&&◌, not, if◌then◌else◌, List, [], ◌∷◌, length, take, drop, Option, None, Some, Result, Ok, Err, refl, sym, ap, subst, arith}
+use Rattle.std.proofs.Common.{◌≡◌, ◌≤◌, ℕ, zero, suc, ◌==◌, Bool, true, false, ◌&&◌, not, if◌then◌else◌, List, [], ◌∷◌, length, take, drop, Option, None, Some, Result, Ok, Err, refl, arith}
 use Rattle.std.specs.Prelude.{nat_le, slice_index}
 use Rattle.std.proofs.lemmas.Bool.Decides.{nat_tests}
 use Rattle.solo_base.specs.PageBytes.{number_at}
@@ -8,7 +8,7 @@ use Rattle.solo_base.specs.declared.page.Page.{Page}
 use Rattle.page_codec.specs.declared.judge.BadPage.{BadPage}
 use Rattle.page_codec.specs.Form.{mark}
 use Rattle.page_codec.specs.Places.{content_length, content_of}
-use Rattle.page_codec.specs.Reading.{PageContent, characters, items_after, bad_item_after, has_length, or_else, bad_body, bad_place, content_or_bad, page_read}
+use Rattle.page_codec.specs.Reading.{PageContent, characters, items_after, has_length, or_else, bad_body, bad_place, content_or_bad, page_read}
 use Rattle.page_codec.specs.Items.{AreItems}
 use Rattle.page_codec.proofs.Scan.{all_read}
 use Rattle.place_law.specs.Process.{fault_in}

@@ -1,5 +1,5 @@
 -- How many calls a job process makes, whatever pages it is given: only a page that is read makes it load files.
-use Rattle.std.proofs.Common.{◌≡◌, inl, inr, ℕ, ◌+◌, ◌*◌, ◌≤◌, ◌%◌, ◌^◌, List, [], ◌∷◌, length, Option, None, Some, refl, sym, ◌∙◌, ap, subst, arith}
+use Rattle.std.proofs.Common.{◌≡◌, inl, inr, ℕ, ◌+◌, ◌*◌, ◌≤◌, ◌%◌, ◌^◌, List, [], ◌∷◌, length, Option, None, Some, refl, sym, ap, subst, arith}
 use Rattle.network_law.specs.Acts.{Call, Went, Delayed, moved_by}
 use Rattle.network_law.specs.Network.{IsOne, acts}
 use Rattle.network_law.specs.Network as law
@@ -9,9 +9,9 @@ use Rattle.page_codec.specs.Packing.{fits}
 use Rattle.batch_procs.specs.declared.actions.Reply.{Reply}
 use Rattle.batch_procs.specs.Jobs.{Jobs, AreJobs}
 use Rattle.batch_procs.specs.Parcels.{Parcel}
-use Rattle.place_law.specs.Process.{Does, LacksMemory, Delays, or_new}
+use Rattle.place_law.specs.Process.{Does, LacksMemory, Delays}
 use Rattle.batch_procs.specs.declared.actions.Reply.TheVariants as reply
-use Rattle.twin_law.specs.Process.{Action, Entry, place, aim, given_cause, caused, Closing, closing, closing_by, closes, next_action}
+use Rattle.twin_law.specs.Process.{Action, Entry, place, aim, given_cause, caused, closing, closing_by, closes, next_action}
 use Rattle.twin_law.specs.Sides.{A, B}
 use Rattle.twin_law.specs.Job.{JobPlace, TakesItems, LoadsFile, Toils, PutsLines, PutsLastLines, HasWorked, job_aims, job}
 use Rattle.twin_law.specs.Table.{process}

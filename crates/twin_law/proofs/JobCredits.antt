@@ -1,5 +1,5 @@
 -- What a job process put comes of what it took: of each page of items so many pages of lines.
-use Rattle.std.proofs.Common.{◌≡◌, ℕ, suc, ◌+◌, ◌*◌, ◌-◌, ◌≤◌, ◌%◌, ◌^◌, Bool, true, false, List, [], ◌∷◌, ◌++◌, length, length-append, length-drop, drop, Option, None, Some, refl, ◌∙◌, sym, ap, arith}
+use Rattle.std.proofs.Common.{◌≡◌, ℕ, ◌+◌, ◌*◌, ◌-◌, ◌≤◌, ◌%◌, ◌^◌, Bool, true, false, List, [], ◌∷◌, ◌++◌, length, length-append, length-drop, Option, None, Some, refl, ◌∙◌, sym, ap, arith}
 use Rattle.std.specs.List.{AllByRecursion}
 use Rattle.solo_base.specs.declared.item.Item.{Item}
 use Rattle.solo_base.specs.declared.item.Item.TheVariants.{Line}
@@ -12,14 +12,13 @@ use Rattle.batch_procs.specs.Jobs.{Jobs, AreJobs}
 use Rattle.batch_procs.specs.declared.actions.Reply.TheVariants as reply
 use Rattle.twin_law.specs.Process.{Action, PutPage, TakePage, stands_behind}
 use Rattle.twin_law.specs.Sides.{Twin, A, B}
-use Rattle.twin_law.specs.Input.{empty_page, last_of}
-use Rattle.twin_law.specs.Job.{Stream, no_stream, JobPlace, TakesItems, LoadsFile, Toils, PutsLines, PutsLastLines, HasWorked, job_aims, wanted, toils, behind_items, with_page, behind_page, page_taken, with_load, Packed, packed_on, packs_lines, with_packed, rests, behind_packed, lines_ahead, behind_work, next_stream, job}
+use Rattle.twin_law.specs.Job.{Stream, no_stream, JobPlace, TakesItems, LoadsFile, Toils, PutsLines, PutsLastLines, HasWorked, job_aims, wanted, toils, behind_items, with_page, behind_page, page_taken, with_load, Packed, packed_on, packs_lines, with_packed, behind_packed, lines_ahead, behind_work, next_stream, job}
 use Rattle.twin_law.specs.Twin.{call, went_by, Fits, IsGood}
 use Rattle.twin_law.specs.Left.{line_pages}
 use Rattle.twin_law.proofs.Marks.{makes}
 use Rattle.twin_law.proofs.Pays.{spot, many_by, nothing}
 use Rattle.twin_law.proofs.GoodPages.{good-page}
-use Rattle.twin_law.proofs.Credits.{sends, lacks-none, Spends, HasCredit}
+use Rattle.twin_law.proofs.Credits.{sends, lacks-none, HasCredit}
 
 -- ---- plain numbers
 parts : (m a n : ℕ) → m * (a + n) ≡ m * a + m * n

@@ -1,11 +1,10 @@
 -- Each event leaves fewer, whatever the devices are; and from an opening there are no more than can be counted.
-use Rattle.std.proofs.Common.{◌≡◌, inl, inr, ℕ, suc, ◌+◌, ◌*◌, ◌-◌, ◌≤◌, ◌<◌, List, [], ◌∷◌, ◌++◌, length, length-append, Option, None, Some, refl, sym, ◌∙◌, ap, subst, arith}
+use Rattle.std.proofs.Common.{◌≡◌, inl, inr, ℕ, ◌+◌, ◌*◌, ◌-◌, ◌≤◌, ◌<◌, List, [], ◌∷◌, length, length-append, Option, None, Some, refl, sym, ◌∙◌, ap, subst, arith}
 use Rattle.std.proofs.lemmas.List.{append-nil}
 use Rattle.std.proofs.lemmas.Bool.Decides.{eqb_tells}
 use Rattle.network_run.specs.Runs.{most_events}
 use Rattle.network_run.proofs.Along.{reached-more}
 use Rattle.network_law.specs.Network.{IsEnabled, IsOne, happens}
-use Rattle.network_law.specs.Network as law
 use Rattle.network_law.proofs.Numbers.{set-same, set-other}
 use Rattle.solo_base.specs.declared.outcome.Outcome.{Outcome}
 use Rattle.page_codec.specs.Packing.{fits}
@@ -22,7 +21,7 @@ use Rattle.twin_law.specs.Opening.{Opening}
 use Rattle.twin_law.specs.TheLaw.{the_law, first_state, IsReached}
 use Rattle.twin_law.specs.Told.{read_all}
 use Rattle.twin_law.specs.Left.{still_read, cards_in_all, events_so_far, line_pages, most_with, events_left, DrawsFrom}
-use Rattle.twin_law.proofs.Lawful.{Shape, Closes, SeatedAt, next-shape}
+use Rattle.twin_law.proofs.Lawful.{Shape, SeatedAt, next-shape}
 use Rattle.twin_law.proofs.Marks.{makes, IsAround, made, made-closes}
 use Rattle.twin_law.proofs.Open.{reads-first}
 use Rattle.twin_law.proofs.AllEvents.{times-less, one-entry, few-events}

@@ -1,10 +1,10 @@
 -- What the input, the output and the printer process put comes of what they took.
-use Rattle.std.proofs.Common.{◌≡◌, ℕ, ◌+◌, ◌*◌, ◌≤◌, ◌%◌, ◌^◌, ◌&&◌, if◌then◌else◌, Bool, true, false, List, [], ◌∷◌, length, Option, None, Some, refl, arith}
+use Rattle.std.proofs.Common.{◌≡◌, ℕ, ◌+◌, ◌≤◌, ◌%◌, ◌^◌, ◌&&◌, if◌then◌else◌, Bool, true, false, List, [], ◌∷◌, length, Option, None, Some, refl, arith}
 use Rattle.solo_base.specs.declared.item.Item.{Item}
 use Rattle.solo_base.specs.declared.item.Item.TheVariants.{Line, Spoiled}
 use Rattle.solo_base.specs.declared.item.Feed.{Feed}
 use Rattle.solo_base.specs.declared.page.Page.{Page}
-use Rattle.solo_base.specs.declared.outcome.Side.TheVariants.{Sender, Receiver}
+use Rattle.solo_base.specs.declared.outcome.Side.TheVariants.{Receiver}
 use Rattle.network_law.specs.Acts.{At, Moves, Moved}
 use Rattle.page_codec.specs.Packing.{PageInHand, page_given, hand_after, fits}
 use Rattle.batch_procs.specs.declared.actions.Reply.{Reply}
@@ -13,16 +13,15 @@ use Rattle.batch_procs.specs.Parcels.{Parcel, OfPage}
 use Rattle.batch_procs.specs.Sends.{lines_of}
 use Rattle.batch_procs.proofs.Bounds.{lines_of-length}
 use Rattle.deck_units.specs.Units.{opens, is_inside, is_dropped}
-use Rattle.place_law.specs.Process.{Does, Delays}
+use Rattle.place_law.specs.Process.{Does}
 use Rattle.solo_base.specs.declared.item.Feed.TheVariants as feed
 use Rattle.batch_procs.specs.declared.actions.Reply.TheVariants as reply
 use Rattle.twin_law.specs.Process.{Action, AwaitRoom, AwaitItem, Request, Release, Stop, Ended}
-use Rattle.twin_law.specs.Sides.{Twin, A, B, other, from_job}
+use Rattle.twin_law.specs.Sides.{Twin, A, B, from_job}
 use Rattle.twin_law.specs.Ends.{PrinterPlace, TakesLine, PrintsLine, HasPrinted, printer_aims}
-use Rattle.twin_law.specs.Input.{InputPlace, Takes, PutsFull, PutsLast, PutsEmptyA, PutsEmptyB, HasDealt, last_of, input_aims, begins_unit, pushes, packs, deals, ends_deck, behind_feed}
+use Rattle.twin_law.specs.Input.{InputPlace, Takes, PutsFull, PutsLast, PutsEmptyA, PutsEmptyB, HasDealt, last_of, input_aims, pushes, packs, behind_feed}
 use Rattle.twin_law.specs.Output.{Turn, OutputPlace, TakesLines, PutsLine, PutsOver, HasGathered, output_aims, puts_line, turn_behind, behind_lines, page_due}
-use Rattle.twin_law.specs.Twin.{Fits, IsGood}
-use Rattle.twin_law.specs.Told.{printed_by}
+use Rattle.twin_law.specs.Twin.{Fits}
 use Rattle.twin_law.proofs.Marks.{bit, makes, IsAround}
 use Rattle.twin_law.proofs.Pays.{spot, many_by, prints_one, nothing}
 use Rattle.twin_law.proofs.Todo.{Any}

@@ -1,17 +1,40 @@
 -- A call at one of the four spools is one at the four, and moves only its own.
-use Rattle.std.proofs.Common.{◌≡◌, ◌≤◌, ℕ, List, Option, Some, refl, sym, subst, arith}
+use Rattle.std.proofs.Common.{◌≡◌, ℕ, List, Option, sym, subst, arith, ◌==◌, Bool, true, false, refl}
+use Rattle.std.proofs.lemmas.Bool.{eqb-true}
 use Rattle.solo_base.specs.declared.outcome.Side.{Side}
 use Rattle.disk_spool.specs.Spool.{Spool}
 use Rattle.batch_procs.specs.declared.actions.Reply.{Reply}
 use Rattle.batch_procs.specs.Jobs.{Jobs}
 use Rattle.core_net.specs.Shared.{Choice}
-use Rattle.core_net.proofs.Performing.{IsLast, choice-rest, choice-last}
 use Rattle.core_net.specs.Spools.{SpoolStands}
 use Rattle.network_law.specs.Acts.{Visit}
 use Rattle.twin_law.specs.Process.{Action}
 use Rattle.twin_ends.specs.TwinCalls.{TwinVisited}
 use Rattle.twin_net.specs.declared.spools.TwinSpools.{TwinSpools}
 use Rattle.twin_net.specs.FourSpools.{AtSpool, SpoolVisited}
+
+-- ---- choices by a number
+refused : (t : Bool) (X Y : Type 0) → t ≡ false → Choice t X Y → Y
+refused false X Y e is = is
+refused true X Y e is = absurd cc
+
+differ : (t : Bool) (p m : ℕ) → (p == m) ≡ t → (p ≡ m → ⊥) → t ≡ false
+differ true p m e never = absurd (never (eqb-true p m e))
+differ false p m e never = refl
+
+pub choice-rest : (p m : ℕ) (X Y : Type 0) → Choice (p == m) X Y → (p ≡ m → ⊥) → Y
+choice-rest p m X Y is never = refused (p == m) X Y (differ (p == m) p m refl never) is
+
+pub record IsLast (p m : ℕ) (X : Type 0) : Type 0 where
+  pub is : X
+  pub number : p ≡ m
+
+last-by : (t : Bool) (p m : ℕ) (X : Type 0) → (p == m) ≡ t → Choice t X ⊥ → IsLast p m X
+last-by true p m X e is = record { is = is; number = eqb-true p m e }
+last-by false p m X e is = absurd is
+
+pub choice-last : (p m : ℕ) (X : Type 0) → Choice (p == m) X ⊥ → IsLast p m X
+choice-last p m X is = last-by (p == m) p m X refl is
 
 -- the last of them has the number 5
 pub last-number : {A : Type 0} (s : TwinSpools A) (b : ℕ) (Holds : Spool A → Type 0) → AtSpool s b Holds → (b ≡ 2 → ⊥) → (b ≡ 3 → ⊥) → (b ≡ 4 → ⊥)

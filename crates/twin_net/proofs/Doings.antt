@@ -1,8 +1,7 @@
 -- What a call at one of the monitors or devices is to all that the six share.
-use Rattle.std.proofs.Common.{◌≡◌, ◌≢◌, ◌<◌, ◌≤◌, ℕ, true, false, not, Bool, List, [], ◌++◌, length, drop, Option, None, Some, refl, sym, ◌∙◌, ap, subst, option_map, arith}
+use Rattle.std.proofs.Common.{◌≡◌, ◌≢◌, ◌<◌, ℕ, true, false, not, Bool, List, [], ◌++◌, length, drop, Option, None, Some, refl, sym, ◌∙◌, ap, subst, option_map, arith}
 use Rattle.std.proofs.lemmas.List.{append-nil}
 use Rattle.solo_base.specs.declared.item.Feed.{Feed}
-use Rattle.solo_base.specs.declared.outcome.Outcome.{Outcome}
 use Rattle.solo_base.specs.declared.outcome.Side.{Side}
 use Rattle.solo_devices.specs.CardUnit.{Held}
 use Rattle.solo_devices.specs.declared.card_read.CardRead.TheVariants as read
@@ -11,26 +10,23 @@ use Rattle.resource_mon.specs.Claims.{Claims}
 use Rattle.slot_buffer.specs.Slot.{Slot}
 use Rattle.batch_procs.specs.declared.actions.Reply.{Reply}
 use Rattle.batch_procs.specs.declared.actions.Reply.TheVariants as reply
-use Rattle.batch_procs.specs.Jobs.{Jobs, FilesAs}
-use Rattle.batch_procs.specs.Loads.{AnswersLoad}
-use Rattle.batch_procs.specs.Parcels.{Parcel, is_last}
+use Rattle.batch_procs.specs.Jobs.{Jobs}
+use Rattle.batch_procs.specs.Parcels.{is_last}
 use Rattle.batch_ends.specs.Devices.{cards_left}
 use Rattle.network_law.specs.Acts.{Visit, At, Done}
-use Rattle.network_law.specs.Buffer.{Buffer, after_visit}
-use Rattle.network_law.specs.Network.{set}
+use Rattle.network_law.specs.Buffer.{after_visit}
 use Rattle.network_law.proofs.Numbers.{set-other}
 use Rattle.core_net.specs.Lines.{LineStands}
-use Rattle.twin_law.specs.Process.{Action, ReadCard, PutFeed, TakeFeed, AwaitRoom, AwaitItem, Request, PutPage, TakePage, Load, Release, Local, Print, Stop, Ended}
+use Rattle.twin_law.specs.Process.{Action, ReadCard, Request, Load, Release, Print}
 use Rattle.twin_law.specs.Twin.{call, went, Devices, Allows, given, items_by, read_off, TwinState}
 use Rattle.twin_law.specs.Left.{DrawsFrom}
 use Rattle.twin_procs.specs.declared.actions.TwinAction.{TwinAction}
 use Rattle.twin_ends.specs.TwinCalls.{entry_for, ReplySuits, TwinVisited, TwinAsked, TwinGiven, TwinReads, TwinPrints, TwinLoads}
 use Rattle.twin_ends.specs.TwinTells.{TwinTells, cards_ahead}
-use Rattle.twin_ends.proofs.AsTwins.{loads}
 use Rattle.twin_net.specs.declared.shared.TwinShared.{TwinShared}
 use Rattle.twin_net.specs.declared.spools.TwinSpools.{TwinSpools}
 use Rattle.twin_net.specs.FourSpools.{SpoolVisited}
-use Rattle.twin_net.specs.TwinStands.{TwinStands, cards_total}
+use Rattle.twin_net.specs.TwinStands.{cards_total}
 use Rattle.twin_net.specs.Doing.{meant, is_failure, MayLoad, DoneSo}
 
 -- ---- the devices stay

@@ -1,5 +1,5 @@
 -- What the law says a process may do next, it may do on what the six share.
-use Rattle.std.proofs.Common.{◌≡◌, ◌≢◌, ◌⊎◌, inl, inr, ℕ, suc, ◌+◌, ◌≤◌, ◌<◌, Bool, true, false, List, [], ◌∷◌, ◌++◌, length, Option, None, Some, refl, sym, ◌∙◌, ap, subst, arith}
+use Rattle.std.proofs.Common.{◌≡◌, inl, inr, ℕ, ◌≤◌, ◌<◌, Bool, true, false, List, [], ◌∷◌, ◌++◌, length, Option, None, Some, refl, sym, ◌∙◌, ap, subst, arith}
 use Rattle.std.specs.Prelude.{option_to_list, IsSome}
 use Rattle.solo_base.specs.declared.item.Feed.{Feed}
 use Rattle.solo_base.specs.declared.page.Page.{Page}
@@ -10,24 +10,22 @@ use Rattle.resource_mon.specs.Claims.{Claims, IsNoneOf, MayRequest, EachOnce}
 use Rattle.disk_spool.specs.Spool.{Spool}
 use Rattle.batch_procs.specs.Jobs.{Jobs}
 use Rattle.batch_procs.specs.Parcels.{Parcel}
-use Rattle.network_law.specs.Acts.{Visit, At, Asks, Gives, Awaits, Passes, Moves, Stops, made_stop, found_ready}
+use Rattle.network_law.specs.Acts.{Visit, At, Awaits, Passes, Moves, Stops, made_stop, found_ready}
 use Rattle.network_law.specs.Acts as go
 use Rattle.network_law.specs.Buffer.{Buffer}
 use Rattle.network_law.specs.Desk.{MayAsk}
 use Rattle.network_law.specs.Network.{IsOne, MayCall, acts}
-use Rattle.network_law.specs.Network as net
 use Rattle.network_law.specs.Kept.{IsReady, Stands}
 use Rattle.core_net.specs.Shared.{WaitsAt, PutsAt, TakesAt}
 use Rattle.core_net.specs.Spools.{SpoolStands}
 use Rattle.twin_law.specs.Process.{Action, ReadCard, PutFeed, TakeFeed, AwaitRoom, AwaitItem, Request, PutPage, TakePage, Load, Release, Local, Print, Stop, Ended, Entry, Aim, Reads, PutsFeed, TakesFeed, PutsPage, TakesPage, Loads, Works, Prints, Finishes, place, aim, caused, newest, begins, moves, working, Closing, closing, next_action}
-use Rattle.twin_law.specs.Sides.{other}
 use Rattle.twin_law.specs.Table.{process}
 use Rattle.twin_law.specs.Twin.{side_at, call, twin, TwinState, IsBuffer}
 use Rattle.twin_law.specs.Opening.{is_line}
 use Rattle.twin_law.proofs.Lawful.{Closes, Shape, SeatedAt, next-shape, lawful}
 use Rattle.twin_law.proofs.Open.{made-free, reads-first, prints-last}
 use Rattle.twin_law.proofs.Numbered.{calls-at}
-use Rattle.twin_law.proofs.Through.{AimsRightly, ActsRightly, aims-rightly, acts-rightly}
+use Rattle.twin_law.proofs.Through.{AimsRightly, aims-rightly, acts-rightly}
 use Rattle.twin_law.proofs.Counted.{each-buffer, waits-one, all-ones}
 use Rattle.twin_law.proofs.Sleeping.{at-most}
 use Rattle.twin_procs.specs.Said.{said}

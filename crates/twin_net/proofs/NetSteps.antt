@@ -24,8 +24,9 @@ use Rattle.twin_law.specs.Output.{output}
 use Rattle.twin_law.specs.Table.{process}
 use Rattle.twin_law.specs.Twin.{call, went, MayLack, Suits, Allows, twin, TwinState, TwinEvent, IsProcess}
 use Rattle.twin_law.specs.Opening.{Opening}
-use Rattle.twin_law.specs.TheLaw.{the_law, IsReached}
+use Rattle.twin_law.specs.TheLaw.{the_law, IsReached, first_state}
 use Rattle.twin_law.specs.Left.{events_left, DrawsFrom}
+use Rattle.twin_law.proofs.Devices.{reached-centre}
 use Rattle.twin_law.proofs.LeavesFewer.{leaves-fewer}
 use Rattle.twin_ends.specs.TwinTells.{TwinTells}
 use Rattle.twin_procs.specs.declared.machine.TwinMachine.{TwinMachine}
@@ -87,6 +88,14 @@ goes-so J p (LacksMemory a r) h again on suits =
     (lacks-not_end a r suits.1 ∙ sym (none-unless (has_ended (LacksMemory a r ∷ h)) (next_by p (closing p (LacksMemory a r ∷ h)) (LacksMemory a r ∷ h)) ∙ on))
 goes-so J p (Delays a) h again on suits = refl
 
+module _ {L : Type 0} (J : Jobs L) where
+  -- ---- by the number
+  pub in-step : (s : TwinState L) (p : ℕ) (may : MayGo (twin J) s p) → TwinMayGo J s p may.action
+  in-step s p may = record { one = may.one; next = may.next; may = may.may }
+
+  pub next-at : (s : TwinState L) (p q : ℕ) (action : Action) → p ≡ q → TwinMayGo J s p action → next_action (process J q) (s.histories q) ≡ Some action
+  next-at s p q action e step = subst (λ q. next_action (process J q) (s.histories q) ≡ Some action) e step.next
+
 module _ {L X S K F P : Type 0} {J : Jobs L} (jobs : AreJobs J) (keeps : X → JobTold L → Type 0) (tells : TwinTells L S K F P) where
   -- an event of the process, from one network to the next
   abbrev pub GoesOn : TwinNet X S K F P → TwinNet X S K F P → TwinState L → ℕ → Stepped → Type 0
@@ -128,7 +137,7 @@ module _ {L X S K F P : Type 0} {J : Jobs L} (jobs : AreJobs J) (keeps : X → J
 
       told : result ≡ goes (twin J) s event
       told =
-          st.told s stands.shared (has-place J o s reached p may.one action may.next)
+          st.told s stands.shared (has-place J (first_state o) s (reached-centre J o s reached).stands p may.one action may.next)
           ∙ ap (λ a. stepped_so (is_delayed (went st.entry)) (is_end a) (is_again s (call p a))) (sym st.action_is)
           ∙ goes-so J (process J p) st.entry (s.histories p) (is_again s (call p (action_of st.entry)))
           (still-there (has_ended (s.histories p)) (next_by (process J p) (closing (process J p) (s.histories p)) (s.histories p)) action may.next) st.suits
@@ -282,13 +291,6 @@ module _ {L X S K F P : Type 0} {J : Jobs L} (jobs : AreJobs J) (keeps : X → J
           sound = sound-after 6 action may (StandsFor printer printer_at m) new result st;
         }
 
-  -- ---- by the number
-  pub in-step : (s : TwinState L) (p : ℕ) (may : MayGo (twin J) s p) → TwinMayGo J s p may.action
-  in-step s p may = record { one = may.one; next = may.next; may = may.may }
-
-  pub next-at : (s : TwinState L) (p q : ℕ) (action : Action) → p ≡ q → TwinMayGo J s p action → next_action (process J q) (s.histories q) ≡ Some action
-  next-at s p q action e step = subst (λ q. next_action (process J q) (s.histories q) ≡ Some action) e step.next
-
   -- that a machine may step
   pub may-step : (net : TwinNet X S K F P) (p q : ℕ) (Stands : List (Entry L) → Type 0) → p ≡ q
       → (m : law.MayStep (the_law J) (TwinStandsWithin J keeps tells net) p) → Stands (m.at.state.histories q)
@@ -297,11 +299,10 @@ module _ {L X S K F P : Type 0} {J : Jobs L} (jobs : AreJobs J) (keeps : X → J
     history = m.at.state.histories q;
     action = m.may.action;
     stands = stands;
-    next = next-at m.at.state p q m.may.action e (in-step m.at.state p m.may);
+    next = next-at J m.at.state p q m.may.action e (in-step J m.at.state p m.may);
     may =
-        may-do J m.at.opening m.at.state m.at.reached tells net.shared m.at.stands.is.shared m.at.stands.is.deck_live m.at.stands.is.paper_live
-        m.at.stands.is.sound p
-        m.may.one m.may.action m.may.next m.may.may;
+        may-do J (first_state m.at.opening) m.at.state (reached-centre J m.at.opening m.at.state m.at.reached).stands p m.may.one tells net.shared
+        m.at.stands.is.shared m.at.stands.is.deck_live m.at.stands.is.paper_live m.at.stands.is.sound m.may.action m.may.next m.may.may;
   }
 
   pub steps-at : (old new : TwinNet X S K F P) (s : TwinState L) (work : Process L) (Stands : List (Entry L) → Type 0) (p q : ℕ) (action : Action)
@@ -335,7 +336,7 @@ module _ {L : Type 0} (J : Jobs L) where
         → (((action : Action) → next_action (process J p) (s.histories p) ≡ Some action → TwinHasPlace s p action)
         → IsTrue t ↔ TwinIsAtTurn (process J p) (s.histories p) s p) → IsTrue t ↔ MayGo (twin J) s p
     turn-own p one t each =
-        let both = each (has-place J o s reached p one) in (
+        let both = each (has-place J (first_state o) s (reached-centre J o s reached).stands p one) in (
           λ yes_it_is. (let at = both.0 yes_it_is in record { action = at.action; one = one; next = at.next; may = at.may }),
           λ may. both.1 record { action = may.action; next = may.next; may = may.may },
         )

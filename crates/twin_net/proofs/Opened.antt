@@ -1,5 +1,6 @@
 -- The network stands for its opening.
-use Rattle.std.proofs.Common.{◌≤◌, ℕ}
+use Rattle.std.proofs.Common.{◌≡◌, ◌≤◌, ◌+◌, ◌*◌, ◌-◌, if◌then◌else◌, ℕ, Bool, true, false, [], length, ap, arith}
+use Rattle.solo_devices.specs.CardUnit.{Held}
 use Rattle.batch_procs.specs.Jobs.{Jobs, AreJobs}
 use Rattle.batch_procs.specs.JobTold.{JobTold}
 use Rattle.batch_ends.specs.Devices.{cards_left}
@@ -31,3 +32,11 @@ opens-over jobs keeps tells units net bounds cards good few stands = record {
     } (cards_left tells.taken net.shared.deck) few;
   };
 }
+
+-- of a deck of which nothing was read
+pub fresh-few : {S : Type 0} (taken : S → ℕ) (deck : Held S) → taken deck.source ≡ 0 → deck.pending ≡ [] → cards_left taken deck ≤ 33555457
+fresh-few taken deck unread none = few (taken deck.source) (length deck.pending) unread (ap length none) deck.ended
+  where
+    few : (taken pending : ℕ) → taken ≡ 0 → pending ≡ 0 → (ended : Bool) → 2 * (16777216 + 512 - taken) + pending + (if ended then 0 else 1) ≤ 33555457
+    few taken pending a b true = omega (arith, a, b)
+    few taken pending a b false = omega (arith, a, b)

@@ -1,9 +1,8 @@
 use Rattle.std.proofs.Common.{◌≤◌, sym, subst, ◌∙◌, ap}
 use Rattle.batch_ends.specs.Devices.{cards_left}
 use Rattle.batch_ends.proofs.ToldCards.{told-cards}
-use Rattle.core_net.proofs.Within.{fresh-few}
 use Rattle.twin_ends.specs.declared.units.TwinUnits.{TwinUnits}
-use Rattle.twin_net.proofs.Opened.{opens-over}
+use Rattle.twin_net.proofs.Opened.{opens-over, fresh-few}
 use Rattle.twin_net.proofs.net.TwinNet.make.Goals as goal
 
 pub make-requires : goal.make-requires

@@ -41,10 +41,10 @@ returns-then-p-eq1 g c = record {
       may.action c.step_machine.result (at.state.histories 1) c.if-p-eq1.true
       (at-card g.met.J.JobWork.are_jobs g.J.JobWork.keeps _ c.args.self.now at.opening at.state at.reached at.stands c.step_machine.new.machine
       c.step_machine.new.shared may.action c.step_machine.result)
-      (in-step g.met.J.JobWork.are_jobs g.J.JobWork.keeps _ at.state c.args.p may)
+      (in-step g.J.JobWork.jobs at.state c.args.p may)
       (c.step_machine.ensures (at.state.histories 1) may.action at.stands.is.card
-      (next-at g.met.J.JobWork.are_jobs g.J.JobWork.keeps _ at.state c.args.p 1 may.action c.if-p-eq1.true
-      (in-step g.met.J.JobWork.are_jobs g.J.JobWork.keeps _ at.state c.args.p may)));
+      (next-at g.J.JobWork.jobs at.state c.args.p 1 may.action c.if-p-eq1.true
+      (in-step g.J.JobWork.jobs at.state c.args.p may)));
 }
 
 pub returns-then-p-eq2 : goal.returns-then-p-eq2
@@ -55,10 +55,10 @@ returns-then-p-eq2 g c = record {
       may.action c.step_machine-then-p-eq2.result (at.state.histories 2) c.if-p-eq2.true
       (at-input g.met.J.JobWork.are_jobs g.J.JobWork.keeps _ c.args.self.now at.opening at.state at.reached at.stands c.step_machine-then-p-eq2.new.machine
       c.step_machine-then-p-eq2.new.shared may.action c.step_machine-then-p-eq2.result)
-      (in-step g.met.J.JobWork.are_jobs g.J.JobWork.keeps _ at.state c.args.p may)
+      (in-step g.J.JobWork.jobs at.state c.args.p may)
       (c.step_machine-then-p-eq2.ensures (at.state.histories 2) may.action at.stands.is.input
-      (next-at g.met.J.JobWork.are_jobs g.J.JobWork.keeps _ at.state c.args.p 2 may.action c.if-p-eq2.true
-      (in-step g.met.J.JobWork.are_jobs g.J.JobWork.keeps _ at.state c.args.p may)));
+      (next-at g.J.JobWork.jobs at.state c.args.p 2 may.action c.if-p-eq2.true
+      (in-step g.J.JobWork.jobs at.state c.args.p may)));
 }
 
 pub returns-then-p-eq3 : goal.returns-then-p-eq3
@@ -69,10 +69,10 @@ returns-then-p-eq3 g c = record {
       may.action c.step_machine-then-p-eq3.result (at.state.histories 3) c.if-p-eq3.true
       (at-job_a g.met.J.JobWork.are_jobs g.J.JobWork.keeps _ c.args.self.now at.opening at.state at.reached at.stands c.step_machine-then-p-eq3.new.machine
       c.step_machine-then-p-eq3.new.shared may.action c.step_machine-then-p-eq3.result)
-      (in-step g.met.J.JobWork.are_jobs g.J.JobWork.keeps _ at.state c.args.p may)
+      (in-step g.J.JobWork.jobs at.state c.args.p may)
       (c.step_machine-then-p-eq3.ensures (at.state.histories 3) may.action at.stands.is.job_a
-      (next-at g.met.J.JobWork.are_jobs g.J.JobWork.keeps _ at.state c.args.p 3 may.action c.if-p-eq3.true
-      (in-step g.met.J.JobWork.are_jobs g.J.JobWork.keeps _ at.state c.args.p may)));
+      (next-at g.J.JobWork.jobs at.state c.args.p 3 may.action c.if-p-eq3.true
+      (in-step g.J.JobWork.jobs at.state c.args.p may)));
 }
 
 pub returns-then-p-eq4 : goal.returns-then-p-eq4
@@ -83,10 +83,10 @@ returns-then-p-eq4 g c = record {
       may.action c.step_machine-then-p-eq4.result (at.state.histories 4) c.if-p-eq4.true
       (at-job_b g.met.J.JobWork.are_jobs g.J.JobWork.keeps _ c.args.self.now at.opening at.state at.reached at.stands c.step_machine-then-p-eq4.new.machine
       c.step_machine-then-p-eq4.new.shared may.action c.step_machine-then-p-eq4.result)
-      (in-step g.met.J.JobWork.are_jobs g.J.JobWork.keeps _ at.state c.args.p may)
+      (in-step g.J.JobWork.jobs at.state c.args.p may)
       (c.step_machine-then-p-eq4.ensures (at.state.histories 4) may.action at.stands.is.job_b
-      (next-at g.met.J.JobWork.are_jobs g.J.JobWork.keeps _ at.state c.args.p 4 may.action c.if-p-eq4.true
-      (in-step g.met.J.JobWork.are_jobs g.J.JobWork.keeps _ at.state c.args.p may)));
+      (next-at g.J.JobWork.jobs at.state c.args.p 4 may.action c.if-p-eq4.true
+      (in-step g.J.JobWork.jobs at.state c.args.p may)));
 }
 
 pub returns-then-p-eq5 : goal.returns-then-p-eq5
@@ -97,10 +97,10 @@ returns-then-p-eq5 g c = record {
       may.action c.step_machine-then-p-eq5.result (at.state.histories 5) c.if-p-eq5.true
       (at-output g.met.J.JobWork.are_jobs g.J.JobWork.keeps _ c.args.self.now at.opening at.state at.reached at.stands c.step_machine-then-p-eq5.new.machine
       c.step_machine-then-p-eq5.new.shared may.action c.step_machine-then-p-eq5.result)
-      (in-step g.met.J.JobWork.are_jobs g.J.JobWork.keeps _ at.state c.args.p may)
+      (in-step g.J.JobWork.jobs at.state c.args.p may)
       (c.step_machine-then-p-eq5.ensures (at.state.histories 5) may.action at.stands.is.output
-      (next-at g.met.J.JobWork.are_jobs g.J.JobWork.keeps _ at.state c.args.p 5 may.action c.if-p-eq5.true
-      (in-step g.met.J.JobWork.are_jobs g.J.JobWork.keeps _ at.state c.args.p may)));
+      (next-at g.J.JobWork.jobs at.state c.args.p 5 may.action c.if-p-eq5.true
+      (in-step g.J.JobWork.jobs at.state c.args.p may)));
 }
 
 pub returns-else-p-eq5 : goal.returns-else-p-eq5
@@ -112,9 +112,9 @@ returns-else-p-eq5 g c = record {
       (last-number c.args.p may.one c.if-p-eq1.false c.if-p-eq2.false c.if-p-eq3.false c.if-p-eq4.false c.if-p-eq5.false)
       (at-printer g.met.J.JobWork.are_jobs g.J.JobWork.keeps _ c.args.self.now at.opening at.state at.reached at.stands c.step_machine-else-p-eq5.new.machine
       c.step_machine-else-p-eq5.new.shared may.action c.step_machine-else-p-eq5.result)
-      (in-step g.met.J.JobWork.are_jobs g.J.JobWork.keeps _ at.state c.args.p may)
+      (in-step g.J.JobWork.jobs at.state c.args.p may)
       (c.step_machine-else-p-eq5.ensures (at.state.histories 6) may.action at.stands.is.printer
-      (next-at g.met.J.JobWork.are_jobs g.J.JobWork.keeps _ at.state c.args.p 6 may.action
+      (next-at g.J.JobWork.jobs at.state c.args.p 6 may.action
       (last-number c.args.p may.one c.if-p-eq1.false c.if-p-eq2.false c.if-p-eq3.false c.if-p-eq4.false c.if-p-eq5.false)
-      (in-step g.met.J.JobWork.are_jobs g.J.JobWork.keeps _ at.state c.args.p may)));
+      (in-step g.J.JobWork.jobs at.state c.args.p may)));
 }

@@ -11,6 +11,6 @@ returns-then-not-self g c =
 
 pub returns : goal.returns
 returns g c =
-    at-files g.J.JobWork.jobs _ c.args.self.now c.args.p c.load.new.self _ c.args.file.now c.load.result
-    (loads g.J.JobWork.jobs _ c.args.file.now c.load.result c.load.ensures.loads) c.load.ensures.found c.load.ensures.left
-    (λ may sound. c.load.ensures.sound (no-failure c.load.result _ c.is_failed.ensures sound))
+    at-files g.J.JobWork.jobs _ c.args.self.now c.args.p c.load-reply.new.self _ c.args.file.now c.load-reply.result
+    (loads g.J.JobWork.jobs _ c.args.file.now c.load-reply.result c.load-reply.ensures.loads) c.load-reply.ensures.found c.load-reply.ensures.left
+    (λ may sound. c.load-reply.ensures.sound (no-failure c.load-reply.result _ c.is_failed.ensures sound))

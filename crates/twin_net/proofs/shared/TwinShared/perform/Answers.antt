@@ -15,21 +15,21 @@ returns-in-ReadCard g c =
 
 pub returns-in-AwaitRoom : goal.returns-in-AwaitRoom
 returns-in-AwaitRoom g c =
-    at-action g.J.JobWork.jobs _ c.args.self.now _ c.args.p c.args.action (say.AwaitRoom c.in-AwaitRoom.field-0) c.await_room.result c.in-AwaitRoom.is
-    (at-spools g.J.JobWork.jobs _ c.args.self.now c.args.p (law.AwaitRoom c.in-AwaitRoom.field-0) c.await_room.result c.await_room.new.self
-        c.in-AwaitRoom.field-0 Sender Awaits tt refl c.await_room.ensures)
+    at-action g.J.JobWork.jobs _ c.args.self.now _ c.args.p c.args.action (say.AwaitRoom c.in-AwaitRoom.buffer) c.await_room.result c.in-AwaitRoom.is
+    (at-spools g.J.JobWork.jobs _ c.args.self.now c.args.p (law.AwaitRoom c.in-AwaitRoom.buffer) c.await_room.result c.await_room.new.self
+        c.in-AwaitRoom.buffer Sender Awaits tt refl c.await_room.ensures)
 
 pub returns-in-AwaitItem : goal.returns-in-AwaitItem
 returns-in-AwaitItem g c =
-    at-action g.J.JobWork.jobs _ c.args.self.now _ c.args.p c.args.action (say.AwaitItem c.in-AwaitItem.field-0) c.await_item.result c.in-AwaitItem.is
-    (at-spools g.J.JobWork.jobs _ c.args.self.now c.args.p (law.AwaitItem c.in-AwaitItem.field-0) c.await_item.result c.await_item.new.self
-        c.in-AwaitItem.field-0 Receiver Awaits tt refl c.await_item.ensures)
+    at-action g.J.JobWork.jobs _ c.args.self.now _ c.args.p c.args.action (say.AwaitItem c.in-AwaitItem.buffer) c.await_item.result c.in-AwaitItem.is
+    (at-spools g.J.JobWork.jobs _ c.args.self.now c.args.p (law.AwaitItem c.in-AwaitItem.buffer) c.await_item.result c.await_item.new.self
+        c.in-AwaitItem.buffer Receiver Awaits tt refl c.await_item.ensures)
 
 pub returns-in-Request : goal.returns-in-Request
 returns-in-Request g c =
     at-action g.J.JobWork.jobs _ c.args.self.now _ c.args.p c.args.action say.Request c.request.result c.in-Request.is
     (at-request g.J.JobWork.jobs _ c.args.self.now c.args.p c.request.new.desk c.request.result
-    (asks g.J.JobWork.jobs _ _ c.args.p c.request.result c.request.ensures))
+        (asks g.J.JobWork.jobs _ _ c.args.p c.request.result c.request.ensures))
 
 pub returns-in-PutPage : goal.returns-in-PutPage
 returns-in-PutPage g c =
@@ -40,9 +40,9 @@ returns-in-PutPage g c =
 
 pub returns-in-TakePage : goal.returns-in-TakePage
 returns-in-TakePage g c =
-    at-action g.J.JobWork.jobs _ c.args.self.now _ c.args.p c.args.action (say.TakePage c.in-TakePage.field-0) (Some c.take_page.result) c.in-TakePage.is
-    (at-spools g.J.JobWork.jobs _ c.args.self.now c.args.p (law.TakePage c.in-TakePage.field-0) (Some c.take_page.result) c.take_page.new.self
-        c.in-TakePage.field-0 Receiver Moves tt refl (c.take_page.ensures c.args.p))
+    at-action g.J.JobWork.jobs _ c.args.self.now _ c.args.p c.args.action (say.TakePage c.in-TakePage.buffer) (Some c.take_page.result) c.in-TakePage.is
+    (at-spools g.J.JobWork.jobs _ c.args.self.now c.args.p (law.TakePage c.in-TakePage.buffer) (Some c.take_page.result) c.take_page.new.self
+        c.in-TakePage.buffer Receiver Moves tt refl (c.take_page.ensures c.args.p))
 
 pub returns-in-Release : goal.returns-in-Release
 returns-in-Release g c =
@@ -56,9 +56,9 @@ returns-in-Local g c =
 
 pub returns-in-Print : goal.returns-in-Print
 returns-in-Print g c =
-    at-action g.J.JobWork.jobs _ c.args.self.now _ c.args.p c.args.action (say.Print c.in-Print.field-0) (Some c.print.result) c.in-Print.is
-    (at-paper g.J.JobWork.jobs _ c.args.self.now c.args.p c.print.new.paper c.in-Print.field-0 c.print.result
-        (prints g.J.JobWork.jobs _ _ c.in-Print.field-0 c.print.result c.print.ensures.prints) c.print.ensures.live)
+    at-action g.J.JobWork.jobs _ c.args.self.now _ c.args.p c.args.action (say.Print c.in-Print.line) (Some c.print.result) c.in-Print.is
+    (at-paper g.J.JobWork.jobs _ c.args.self.now c.args.p c.print.new.paper c.in-Print.line c.print.result
+        (prints g.J.JobWork.jobs _ _ c.in-Print.line c.print.result c.print.ensures.prints) c.print.ensures.live)
 
 pub returns-in-Ended : goal.returns-in-Ended
 returns-in-Ended g c =

@@ -2,9 +2,9 @@ use Rattle.std.proofs.Common.{ap}
 use Rattle.solo_base.specs.declared.outcome.Side.TheVariants.{Receiver}
 use Rattle.network_law.specs.Acts.{At, Passes}
 use Rattle.core_net.specs.Lines.{LineStands}
-use Rattle.core_net.proofs.Performing.{choice-rest, choice-last}
 use Rattle.twin_law.specs.Process.{TakeFeed}
 use Rattle.twin_ends.proofs.AsTwins.{takes-feed}
+use Rattle.twin_net.proofs.AtSpools.{choice-rest, choice-last}
 use Rattle.twin_net.proofs.Doings.{at-cards, at-lines}
 use Rattle.twin_net.proofs.shared.TwinShared.take_feed.Goals as goal
 
