@@ -14,9 +14,9 @@ returns-in-Copy-clause-worked g c =
 
 pub returns-in-Compile-clause-worked : goal.returns-in-Compile-clause-worked
 returns-in-Compile-clause-worked g c =
-    same-work 0 [] (λ all. does c.args.command.now all) (λ all. compiles all c.in-Compile.from c.in-Compile.to) (g.A.Area.pages c.args.files.now.area) (g.A.Area.pages c.args.files.now.area) c.answer-in-Compile.result c.answer-in-Compile.new.self
+    same-work 0 [] (λ all. does c.args.command.now all) (λ all. compiles all c.in-Compile.from c.in-Compile.to) (g.A.Area.pages c.args.files.now.area) (g.A.Area.pages c.args.files.now.area) c.answer.result c.answer.new.self
     (g.A.Area.pages c.compile_file-answer.new.files.area) refl (λ told here. ap (λ k. does k (file_map told)) c.in-Compile.is)
-    (c.answer-in-Compile.ensures.worked (g.A.Area.pages c.args.files.now.area) (g.A.Area.pages c.compile_file-answer.new.files.area) (λ all. compiles all c.in-Compile.from c.in-Compile.to) 0 [] c.requires.paper
+    (c.answer.ensures.worked (g.A.Area.pages c.args.files.now.area) (g.A.Area.pages c.compile_file-answer.new.files.area) (λ all. compiles all c.in-Compile.from c.in-Compile.to) 0 [] c.requires.paper
     (λ told here. c.compile_file-answer.ensures.told told here))
 
 pub returns-in-List-clause-worked : goal.returns-in-List-clause-worked
