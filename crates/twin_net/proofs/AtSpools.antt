@@ -41,7 +41,7 @@ pub last-number : {A : Type 0} (s : TwinSpools A) (b : ℕ) (Holds : Spool A →
     → IsLast b 5 (Holds s.from_b)
 last-number s b Holds is two three four =
     choice-last b 5 (Holds s.from_b) (choice-rest b 4 (Holds s.from_a) _
-        (choice-rest b 3 (Holds s.to_b) _ (choice-rest b 2 (Holds s.to_a) _ is two) three) four)
+    (choice-rest b 3 (Holds s.to_b) _ (choice-rest b 2 (Holds s.to_a) _ is two) three) four)
 
 module _ {L A : Type 0} (J : Jobs L) (told_by : A → Option (List (List ℕ))) (old : TwinSpools A) (new : Spool A) (side : Side) (visit : Visit) (p b : ℕ)
     (action : Action)

@@ -111,7 +111,7 @@ module _ {L : Type 0} (J : Jobs L) where
       by None e = (let none : length s.desk.claims.waiting ≡ 0 = ap length (st.desk.one_holder.idle e) in omega (arith, none))
       by (Some q) e =
           let once : EachOnce (q ∷ s.desk.claims.waiting) = subst
-              (λ holder. EachOnce (option_to_list holder ++ s.desk.claims.waiting)) e st.desk.one_holder.each_once in
+          (λ holder. EachOnce (option_to_list holder ++ s.desk.claims.waiting)) e st.desk.one_holder.each_once in
           let few = at-most 6 (q ∷ s.desk.claims.waiting) once (holder-one q e, all-ones J s opening st s.desk.claims.waiting st.desk.waiting) in
           omega (arith, few)
 
@@ -232,7 +232,7 @@ module _ {L : Type 0} (J : Jobs L) where
             → AtSpool shared.spools b (λ spool. WaitsAt spool.sides Receiver p)
         may-await_item b next may =
             at-each (λ spool. WaitsAt spool.sides Receiver p) b (is-buffer (AwaitItem b) b Receiver Awaits next refl)
-                (awaits-rightly p h (AwaitItem b) one next)
+            (awaits-rightly p h (AwaitItem b) one next)
             (λ spool stands. waits (AwaitItem b) b Receiver Awaits spool.sides next refl may (sides-are tells.pages spool b stands))
 
         may-stop : (b : ℕ) → next_action (process J p) h ≡ Some (Stop b) → MayStop (s.buffers b).sides (side_at p b) → MayStopAt shared p b

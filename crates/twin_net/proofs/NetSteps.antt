@@ -145,7 +145,7 @@ module _ {L X S K F P : Type 0} {J : Jobs L} (jobs : AreJobs J) (keeps : X → J
       pub goes-on : (behind : TwinNet X S K F P) → behind.shared ≡ new → TwinNetStands J keeps tells behind after → GoesOn net behind s p result
       goes-on behind is there =
           let draws = subst (λ (shared : TwinShared X S K F P). DrawsFrom st.entry (cards_left tells.taken net.shared.deck)
-              (cards_left tells.taken shared.deck)) (sym is) st.enters.deck in
+          (cards_left tells.taken shared.deck)) (sym is) st.enters.deck in
           let fewer = leaves-fewer jobs o s event (cards_left tells.taken net.shared.deck) (cards_left tells.taken behind.shared.deck) reached enabled draws in
           record {
             event = event;

@@ -41,4 +41,4 @@ pub record SpoolVisited {L A : Type 0} (J : Jobs L) (told_by : A → Option (Lis
       → VisitFits is_last side (buffers b) visit (went (entry_for action result))
   pub after : (buffers : ℕ → Buffer (Parcel L)) → SpoolsStand told_by old buffers
       → SpoolsStand told_by new
-        (set buffers b (after_visit is_last visit side p (went (entry_for action result)) (buffers b)))
+      (set buffers b (after_visit is_last visit side p (went (entry_for action result)) (buffers b)))

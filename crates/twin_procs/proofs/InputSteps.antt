@@ -42,7 +42,7 @@ module _ (j : InputProc) (item : Item) (side : Twin) (inside : Bool) (hand : Opt
   add-dropped dropped within is yes_it_is now =
       let drops : is_dropped inside item ≡ true = ap (λ t. is_dropped t item) (sym kept.1.inside_is) ∙ sym is ∙ yes_it_is in
       subst (λ t. InputStands (record j { inside = within })
-          (if t then Takes side (is_inside inside item) hand else packs side (is_inside inside item) hand item))
+      (if t then Takes side (is_inside inside item) hand else packs side (is_inside inside item) hand item))
       (sym drops) (
         kept.0,
         record { side_is = kept.1.side_is; inside_is = now ∙ ap (λ t. is_inside t item) kept.1.inside_is; hand_is = kept.1.hand_is },

@@ -134,7 +134,7 @@ impl<J: JobWork, S: OnSide> JobProc<J, S> {
     fn take_page(&mut self, page: &Page, last: bool) -> Result<Option<Outcome>, NoMemory>
         ensures { (s : Stream J.Load) → job_stands J.jobs J.keeps self.old (TakesItems s) →
             IfOk result (λ cause.
-                TakesPage J.jobs (job_stands J.jobs J.keeps self.new) s page.now last cause) }
+            TakesPage J.jobs (job_stands J.jobs J.keeps self.new) s page.now last cause) }
     {
         match self.pages.take(page, last) {
             Ok(items) => {
