@@ -84,7 +84,7 @@ module _ {S Y K T F I O : Type 0} {before after : Kit S Y K T F I O} {answer : O
     first-maps givens first p = (
       files p.left,
       among-maps (files p.left) all (maps_passed givens (at_rest all)) first.0 (session (cards typed) (cards deck) all).maps first.1 p.comes,
-      (p.left, p.told, (p.solo, refl)),
+      (p.left, p.told, refl),
     )
 
     one-of-maps : HavePassed ran.devices (PassedTo pages) (begun (ran.state.histories 2)) after.files.pages
@@ -97,26 +97,13 @@ module _ {S Y K T F I O : Type 0} {before after : Kit S Y K T F I O} {answer : O
     not-failed : Stayed before.files.faults after.files.faults → outcome_at ends.outcomes 2 ≡ outcome.Fault cause.DiskFault → ⊥
     not-failed stayed at = (let rose = ends.counted.disk at in omega (arith, rose, stayed))
 
-    solo-of : HavePassed ran.devices (PassedTo pages) (begun (ran.state.histories 2)) after.files.pages
-        → (left : List (List ℕ)) × (after.files.pages ≡ Some left) × IsSoloDisk left
-    solo-of (inl p) = (p.left, p.told, p.solo)
-    solo-of (inr off) = (off.passed.left, off.passed.told, off.passed.solo)
-
     job-done : answer ≡ None → outcome_at ends.outcomes 2 ≡ outcome.Done
     job-done none = ap (λ row. outcome_at row 2) (ends.done none)
 
-    same-left : (a b : List (List ℕ)) → after.files.pages ≡ Some a → after.files.pages ≡ Some b → a ≡ b
-    same-left a b one two = (let both : Some a ≡ Some b = sym one ∙ two in cc)
-
     last-files : answer ≡ None → Told after.files.pages (HaveFiles (last_map (cards typed) (cards deck) all))
     last-files none =
-        let done = job-done none in
-        let led = ran.led done in
-        let solo = solo-of (ran.passed (λ fault. let no : outcome.Done ≡ outcome.Fault cause.DiskFault = sym done ∙ fault in cc)) in (
-          led.left,
-          led.told,
-          (subst IsSoloDisk (same-left solo.0 led.left solo.1 led.told) solo.2, led.files ∙ told.last_files (ended-at 2 is-2 refl none)),
-        )
+        let led = ran.led (job-done none) in
+        (led.left, led.told, led.files ∙ told.last_files (ended-at 2 is-2 refl none))
 
     -- ---- all of it
     tells-session : before.keys.taken ≡ 0 → bytes_total after.keys.taken after.keys.left ≡ bytes_total before.keys.taken before.keys.left
