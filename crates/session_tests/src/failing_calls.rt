@@ -89,12 +89,26 @@ fn each_call_of_the_keys_that_fails_ends_the_job_process(rt: HostRuntime) {
 
 #[test]
 fn each_call_of_the_console_that_fails_ends_the_job_process(rt: HostRuntime) {
-    assert!(rt; fails(&rt, rt.alloc(), Device::Console, "Stopped ConsoleFault Stopped ") == 5);
+    assert!(rt;
+        fails(
+            &rt,
+            rt.alloc(),
+            Device::Console,
+            "Stopped ConsoleFault Stopped "
+        ) == 5
+    );
 }
 
 #[test]
 fn each_call_of_the_paper_that_fails_ends_the_output_process(rt: HostRuntime) {
-    assert!(rt; fails(&rt, rt.alloc(), Device::Paper, "Stopped Stopped PrintFault ") == 2);
+    assert!(rt;
+        fails(
+            &rt,
+            rt.alloc(),
+            Device::Paper,
+            "Stopped Stopped PrintFault "
+        ) == 2
+    );
 }
 
 #[test]
@@ -104,5 +118,12 @@ fn each_read_of_the_files_that_fails_ends_the_job_process(rt: HostRuntime) {
 
 #[test]
 fn each_write_of_the_files_that_fails_ends_the_job_process(rt: HostRuntime) {
-    assert!(rt; fails(&rt, rt.alloc(), Device::Writes, "Stopped DiskFault Stopped ") > 5);
+    assert!(rt;
+        fails(
+            &rt,
+            rt.alloc(),
+            Device::Writes,
+            "Stopped DiskFault Stopped "
+        ) > 5
+    );
 }

@@ -8,9 +8,7 @@ use disk_system::format;
 use network_run::{Network, Rule, next_by};
 use session_work::SessionCommands;
 use solo_base::{Cause, Outcome, ProcNo};
-use solo_devices::{
-    Area, CardUnit, MemArea, MemSink, MemSource, PrinterUnit, Source, Typewriter,
-};
+use solo_devices::{Area, CardUnit, MemArea, MemSink, MemSource, PrinterUnit, Source, Typewriter};
 use solo_ends::{SoloRan, SoloUnits};
 use solo_net::SoloNet;
 use std::alloc::Global;
@@ -151,13 +149,7 @@ pub fn run(
     let files = no_files(rt, alloc, failing.reads, failing.writes)?;
     assert!(rt; files.sound());
     let units = SoloUnits {
-        cards: CardUnit::new(source(
-            rt,
-            alloc,
-            session.cards,
-            session.piece,
-            failing.cards,
-        )),
+        cards: CardUnit::new(source(rt, alloc, session.cards, session.piece, failing.cards)),
         typewriter: Typewriter::new(
             source(rt, alloc, session.keys, session.piece, failing.keys),
             sink(rt, alloc, failing.console),

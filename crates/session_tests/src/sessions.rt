@@ -52,7 +52,14 @@ fn tells_always(rt: &impl Abort, alloc: Global, session: Session, console: &str,
     tells(rt, alloc, session, Rule::Least, console, paper);
     tells(rt, alloc, session, Rule::Cyclic { last: 3 }, console, paper);
     for number in 0..100 {
-        tells(rt, alloc, session, Rule::Numbered { number }, console, paper);
+        tells(
+            rt,
+            alloc,
+            session,
+            Rule::Numbered { number },
+            console,
+            paper,
+        );
     }
 }
 
@@ -69,9 +76,23 @@ fn a_program_runs_itself_five_deep(rt: HostRuntime) {
 #[test]
 fn a_session_uses_each_command(rt: HostRuntime) {
     let alloc = rt.alloc();
-    tells(&rt, alloc, LONG, Rule::Cyclic { last: 3 }, LONG_CONSOLE, LONG_PAPER);
+    tells(
+        &rt,
+        alloc,
+        LONG,
+        Rule::Cyclic { last: 3 },
+        LONG_CONSOLE,
+        LONG_PAPER,
+    );
     for number in 0..10 {
-        tells(&rt, alloc, LONG, Rule::Numbered { number }, LONG_CONSOLE, LONG_PAPER);
+        tells(
+            &rt,
+            alloc,
+            LONG,
+            Rule::Numbered { number },
+            LONG_CONSOLE,
+            LONG_PAPER,
+        );
     }
 }
 

@@ -177,9 +177,11 @@ pub begun-so : (name : List ℕ) (args given : List Arg) (before mid after : Opt
     → WorkedSo 0 (λ all c. c ≡ comes_to [] all (does (command.Program name args) all)) before result now after
 begun-so name args given before mid after program result now same left begins worked =
     worked-from 0 (λ all c. c ≡ comes_to [] all (does (command.Program name args) all)) (RunIs program []) before mid result now after left
-    (λ told here c e.
-    (does (command.Program name given) (file_map told), begins told here,
-    e ∙ ap (λ a. comes_to [] (file_map told) (does (command.Program name a) (file_map told))) (sym same))) worked
+    (λ told here c e. (
+      does (command.Program name given) (file_map told),
+      begins told here,
+      e ∙ ap (λ a. comes_to [] (file_map told) (does (command.Program name a) (file_map told))) (sym same),
+    )) worked
 
 -- or this line answers
 pub begun-answer : (name : List ℕ) (args given : List Arg) (told : List (List ℕ)) (line : List ℕ) → given ≡ args

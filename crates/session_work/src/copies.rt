@@ -124,11 +124,7 @@ impl Session {
     }
 
     /// The cards of a card file are printed, if none is spoiled.
-    pub(crate) fn print_cards(
-        &mut self,
-        cards: &LineList,
-        spoiled: bool,
-    ) -> Result<Need, WorkFault>
+    pub(crate) fn print_cards(&mut self, cards: &LineList, spoiled: bool) -> Result<Need, WorkFault>
         requires may { MayGoOn self.old.under_way }
         ensures worked { (before : Option (List (List ℕ))) (pages : ℕ) (hand : List (List ℕ))
             → IsHand self.old.paper pages hand

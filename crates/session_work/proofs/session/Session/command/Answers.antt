@@ -49,4 +49,3 @@ pub returns-in-Program-clause-worked : goal.returns-in-Program-clause-worked
 returns-in-Program-clause-worked g c =
     same-work 0 [] (λ all. does c.args.command.now all) (λ all. does (command.Program c.in-Program.name c.in-Program.args) all) (g.A.Area.pages c.args.files.now.area) (g.A.Area.pages c.args.files.now.area) c.run.result c.run.new.self
     (g.A.Area.pages c.run.new.files.area) refl (λ told here. ap (λ k. does k (file_map told)) c.in-Program.is) c.run.ensures.worked
-
