@@ -1,16 +1,14 @@
 //! The gates of the five processes and their ends there: made before the processes begin, and ended once all
 //! have.
-ghost use Rattle.std.specs.Prelude.{◌≡◌, []};
-ghost use Rattle.disk_spool.specs.Ends.{known};
-ghost use Rattle.batch_run.specs.Begun.{AreFresh, BeginsBy};
+ghost use Rattle.batch_run.specs.Begun.{BeginsBy};
 ghost use Rattle.batch_run.specs.Met.{AreEndsOf, AllMeet};
 
-use crate::buffers::{RunningDisk, RunningLine, RunningSpool, Seats};
-use crate::card_connections::CardConnections;
-use crate::input_connections::InputEnds;
-use crate::job_connections::JobEnds;
-use crate::output_connections::OutputEnds;
-use crate::printer_connections::PrinterConnections;
+use crate::buffers::{RunningDisk, Seats};
+use crate::card_side::CardSide;
+use crate::input_side::InputSide;
+use crate::job_side::JobSide;
+use crate::output_side::OutputSide;
+use crate::printer_side::PrinterSide;
 use crate::row::Row;
 use disk_spool::{SpoolGate, SpoolMet, SpoolRecv, SpoolSend};
 use resource_mon::DiskResource;
@@ -63,12 +61,12 @@ impl<A: Area + Send, B: Area + Send> Gates<A, B> {
             seats,
         } = ends;
         Row {
-            cards: CardConnections {
+            cards: CardSide {
                 deck,
                 gate: &self.cards,
                 lines: cards.0,
             },
-            pages: InputEnds {
+            pages: InputSide {
                 cards_gate: &self.cards,
                 cards: cards.1,
                 pages_gate: &self.input,
@@ -76,7 +74,7 @@ impl<A: Area + Send, B: Area + Send> Gates<A, B> {
                 disk: &self.disk,
                 seat: seats.input,
             },
-            jobs: JobEnds {
+            jobs: JobSide {
                 cards_gate: &self.input,
                 cards: input.1,
                 pages_gate: &self.output,
@@ -85,7 +83,7 @@ impl<A: Area + Send, B: Area + Send> Gates<A, B> {
                 seat: seats.job,
                 files,
             },
-            lines: OutputEnds {
+            lines: OutputSide {
                 pages_gate: &self.output,
                 pages: output.1,
                 lines_gate: &self.lines,
@@ -93,34 +91,12 @@ impl<A: Area + Send, B: Area + Send> Gates<A, B> {
                 disk: &self.disk,
                 seat: seats.output,
             },
-            paper: PrinterConnections {
+            paper: PrinterSide {
                 gate: &self.lines,
                 lines: lines.1,
                 paper,
             },
         }
-    }
-
-    /// The areas of the spools, where nobody has used the buffers and the disk.
-    pub(crate) fn unmake(self, ends: Ends<A, B>) -> (A, B)
-        requires { AreFresh (A.size self.input.area) (B.size self.output.area) self ends }
-        ensures { result ≡ (self.input.area, self.output.area) }
-    {
-        let Gates {
-            cards,
-            input,
-            output,
-            lines,
-            disk,
-        } = self;
-        let seats = ends.seats;
-        RunningDisk { disk, seats }.close();
-        unmake_line(cards, ends.cards);
-        unmake_line(lines, ends.lines);
-        (
-            unmake_spool(input, ends.input),
-            unmake_spool(output, ends.output),
-        )
     }
 
     /// Ends the buffers and the disk, once the ends of each have met.
@@ -155,31 +131,4 @@ impl<A: Area + Send, B: Area + Send> Gates<A, B> {
             stopped_by: [cards.stopped_by, input, output, lines.stopped_by],
         }
     }
-}
-
-fn unmake_line(gate: SlotGate<Feed>, ends: (SendEnd<Feed>, RecvEnd<Feed>))
-    requires sender { ends.0 ≡ record { gate = gate; calls = [] } }
-    requires receiver { ends.1 ≡ record { gate = gate; calls = [] } }
-{
-    let (sender, receiver) = ends;
-    let line = RunningLine {
-        gate,
-        sender,
-        receiver,
-    };
-    line.unmake();
-}
-
-fn unmake_spool<A: Area + Send>(gate: SpoolGate<A>, ends: (SpoolSend<A>, SpoolRecv<A>)) -> A
-    requires sender { ends.0 ≡ record { gate = known (A.size gate.area) gate; calls = [] } }
-    requires receiver { ends.1 ≡ record { gate = known (A.size gate.area) gate; calls = [] } }
-    ensures { result ≡ gate.area }
-{
-    let (sender, receiver) = ends;
-    let spool = RunningSpool {
-        gate,
-        sender,
-        receiver,
-    };
-    spool.unmake()
 }

@@ -130,7 +130,9 @@ run_leaves f name left well asks =
     let call = calls.Run name left in
     let runs = asks_running c limit s call s asks in
     let zero : FitsSigned w16 (pos 0) = record { sfits = omega arith } in
-    let found = reply_finds_place c limit s call (replies.Ran (pos 0) (pos 0) left) s well.good runs (well.safe runs) asks (omega arith, zero, zero) (λ e. cc) in
+    let found =
+    reply_finds_place c limit s call (replies.Ran (pos 0) (pos 0) left) s well.good runs (well.safe runs) asks
+    (omega arith, zero, zero) (λ e. cc) in
     let ticks = found.ticks in
     omega (arith, ticks)
 

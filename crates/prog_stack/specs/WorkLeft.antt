@@ -59,14 +59,16 @@ pub record NeverRises (size limit : ℕ) (before now : List Frame) : Type 0 wher
 
 -- a program that is put on the empty stack is within its limit
 abbrev pub BeginsWithin : Type 0
-BeginsWithin = (code : CodeLists) (limit : ℕ) (args : List Arg) → IsCode code → IsWithin limit (begun code limit args)
+BeginsWithin =
+    (code : CodeLists) (limit : ℕ) (args : List Arg) → IsCode code → IsWithin limit (begun code limit args)
 
 -- While the top program runs by itself no more is left.
 abbrev pub ItselfNeverRises : Type 0
 ItselfNeverRises =
     (size limit : ℕ) (top : Frame) (below : List Frame) (pause : Pause) (s : State)
     → AllWithin limit (top ∷ below) → Pauses top.machine.code top.machine.limit top.machine.state pause s
-    → StandsWell (record top.machine { state = s }) → NeverRises size limit (top ∷ below) (in_state top s ∷ below)
+    → StandsWell (record top.machine { state = s })
+    → NeverRises size limit (top ∷ below) (in_state top s ∷ below)
 
 -- A reply leaves less,
 abbrev pub ReplyLowers : Type 0

@@ -1,6 +1,7 @@
 // The law of stacks of programs.
 
 ghost use Rattle.prog_stack.specs.Laws.{Begins, RunsItself, Asked, ServedSo, PoppedSo};
+ghost use Rattle.prog_stack.specs.WorkLeft.{BeginsWithin, ItselfNeverRises, ReplyLowers, RunLowers, EndLowers};
 
 /// A stack of programs does what the task of its command does. Nothing is done here: the contract is the law,
 /// of what the calls of a stack and of its machines say.
@@ -12,10 +13,8 @@ pub fn stacks_do_their_tasks()
     ensures popped { PoppedSo }
 {}
 
-ghost use Rattle.prog_stack.specs.WorkLeft.{BeginsWithin, ItselfNeverRises, ReplyLowers, RunLowers, EndLowers};
-
-/// Each call that is answered leaves less to the programs of a stack, and so does each program that ends, whatever
-/// programs are run above others. Nothing is done here: the contract is the law.
+/// Each call that is answered leaves less to the programs of a stack, and so does each program that ends,
+/// whatever programs are run above others. Nothing is done here: the contract is the law.
 pub fn less_is_left_behind_each_call()
     ensures begins { BeginsWithin }
     ensures itself { ItselfNeverRises }

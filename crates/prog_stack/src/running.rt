@@ -158,7 +158,8 @@ impl Running {
 
     // Runs this code, with the ticks that are left and the arguments that were written.
     fn run_code(&mut self, alloc: Global, code: Verified, left: u32) -> Served
-        ensures runs { RunsCode code left self.old.top (reverse self.old.below.items) result (shown self.new) }
+        ensures runs { RunsCode code left self.old.top (reverse self.old.below.items) result
+            (shown self.new) }
         ensures well { result ≡ served.Pushed → TopBegins (shown self.new) }
     {
         let args = self.top.own.hand_over();

@@ -79,13 +79,15 @@ TakesCards file p now =
 -- and so are those of the typed line
 abbrev pub TakesLine : Feed → Sight → Sight → Type 0
 TakesLine typed p now =
-    Takes (next_character (typed_text typed)) (record p.hand { typed = but_the_first (typed_text typed) }) p now
+    Takes (next_character (typed_text typed)) (record p.hand { typed = but_the_first (typed_text typed) }) p
+    now
 
 -- ---- Where it pauses
 
 -- once it has a card file, this is left
 abbrev pub WaitsForCards : Sight → Files → (CardFile → Doing) → Type 0
-WaitsForCards p all more = (file : CardFile) (now : Sight) → TakesCards file p now → IsLeftOf now all (more file)
+WaitsForCards p all more =
+    (file : CardFile) (now : Sight) → TakesCards file p now → IsLeftOf now all (more file)
 
 abbrev pub WaitsForLine : Sight → Files → (Feed → Doing) → Type 0
 WaitsForLine p all more = (typed : Feed) (now : Sight) → TakesLine typed p now → IsLeftOf now all (more typed)

@@ -60,7 +60,8 @@ pub record IsAsking (p now : Sight) : Type 0 where
 
 abbrev pub DoesDevice : SysCall → Sight → Paper → Option Progress → Sight → Paper → Type 0
 DoesDevice calls.Read p paper None now paper_now =
-    (code : ℕ) × ReadsSo p.hand (Some code) now.hand × IsReplied (replies.Char code) p now × (paper_now ≡ paper)
+    (code : ℕ) × ReadsSo p.hand (Some code) now.hand × IsReplied (replies.Char code) p now
+    × (paper_now ≡ paper)
 DoesDevice calls.Read p paper (Some (Needs need.Cards)) now paper_now =
     ReadsSo p.hand None now.hand × IsAsking p now × (paper_now ≡ paper)
 DoesDevice calls.Accept p paper None now paper_now =
@@ -123,7 +124,8 @@ DoesEnd finish p (Some other) now = ⊥
 
 abbrev pub DoesBy : Pause → Option (List (List ℕ)) → Sight → Paper → Option Progress → Sight → Paper
     → Option (List (List ℕ)) → Type 0
-DoesBy (pause.Call call) before p paper n now paper_now after = DoesCall call before p paper n now paper_now after
+DoesBy (pause.Call call) before p paper n now paper_now after =
+    DoesCall call before p paper n now paper_now after
 DoesBy (pause.Finished finish) before p paper n now paper_now after =
     DoesEnd finish p n now × (paper_now ≡ paper) × (after ≡ before)
 

@@ -48,7 +48,8 @@ pub record CameTo (hand : List (List ℕ)) (all : Files) (doing : Doing) (needed
   pub told : after ≡ Some pages
   pub maps : List Files
   pub pause : Pause
-  pub comes : comes_to hand all doing ≡ record { need = needed; maps = maps; files = files pages; pause = pause }
+  pub comes : comes_to hand all doing
+      ≡ record { need = needed; maps = maps; files = files pages; pause = pause }
   pub stands : StandsFor (kind_behind needed) now hand_now (files pages) pause
 
 -- Of a command that has put so many pages, with these lines in hand: the need fits, over every area, and by
@@ -85,7 +86,8 @@ pub record EndsSo (pages : ℕ) (hand : List (List ℕ)) (before : Option (List 
   pub hand_now : List (List ℕ)
   pub hand_is : IsHand paper pages hand_now
   pub told : (old : List (List ℕ)) (doing : Doing) → before ≡ Some old → IsLeftOf p (files old) doing
-      → Reaches hand (files old) doing hand_now (prints_then printing.lines printing.next printing.answers) after
+      → Reaches hand (files old) doing hand_now
+      (prints_then printing.lines printing.next printing.answers) after
 
 -- ---- A piece of work
 
@@ -102,8 +104,8 @@ abbrev pub MayGoOn : Progress → Sight → Type 0
 MayGoOn (Needs n) now = MayTake (kind_of n) now
 MayGoOn (Ends printing) now = Unit {0}
 
--- Where memory lacks, the files are some of those to which the task changes. Where the area failed, nothing is
--- said.
+-- Where memory lacks, the files are some of those to which the task changes. Where the area failed, nothing
+-- is said.
 abbrev pub Came : ℕ → List (List ℕ) → Option (List (List ℕ)) → Sight → Result Progress CommandFault → Sight
     → Paper → Option (List (List ℕ)) → Type 0
 Came pages hand before p (Ok (Needs need)) now paper after = ComesTo pages hand before p need now paper after

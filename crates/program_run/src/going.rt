@@ -61,8 +61,8 @@ impl ProgramRun {
     ) -> Result<Option<Progress>, CommandFault>
         requires under_way { IsUnderWay self.old }
         requires sound { IsTrue files.old.sound }
-        ensures done { IfOk result (λ n. StepDone (A.pages files.old.area) self.old paper.old n self.new paper.new
-            (A.pages files.new.area)) }
+        ensures done { IfOk result (λ n. StepDone (A.pages files.old.area) self.old paper.old n
+            self.new paper.new (A.pages files.new.area)) }
         ensures left { result ≡ Err fault.NoMemory → A.pages files.new.area ≡ A.pages files.old.area }
         ensures sound { files.new.sound ≡ stays_sound (of_command result) }
         ensures cause { FaultsOnly (A.faults files.old.area) (A.faults files.new.area) (of_command result) }

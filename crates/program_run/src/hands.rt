@@ -13,8 +13,9 @@ use std::marker::Model;
 /// The code that is read where no character is left.
 const END_OF_MEDIUM: u8 = 25;
 
-/// What the programs of a command share, but for the files: what is left of the card file, once one was read, and
-/// whether it had a spoiled card; what is left of the typed line; the lines in hand of typewriter and printer.
+/// What the programs of a command share, but for the files: what is left of the card file, once one was
+/// read, and whether it had a spoiled card; what is left of the typed line; the lines in hand of typewriter
+/// and printer.
 #[derive(Drop)]
 pub struct Hands {
     input: Option<Characters>,
@@ -86,7 +87,10 @@ impl Hands {
     /// Takes the characters of a card file, and gives the first one.
     pub fn take_cards(&mut self, codes: Vec<u8>, spoiled: bool) -> u8
         ensures code { result ≡ next_character codes.items }
-        ensures rest { self.new ≡ record self.old { input = Some (but_the_first codes.items); spoiled = spoiled } }
+        ensures rest { self.new ≡ record self.old {
+          input = Some (but_the_first codes.items);
+          spoiled = spoiled;
+        } }
     {
         let mut input = Characters::of(codes);
         let code = next_or_end(&mut input);

@@ -20,8 +20,8 @@ use std::alloc::Global;
 /// The ticks that the programs of a command may take together.
 const TICK_LIMIT: u32 = 1_000_000;
 
-/// A program of a command that is under way: its name, the programs on the stack, and what they share but for the
-/// files.
+/// A program of a command that is under way: its name, the programs on the stack, and what they share but
+/// for the files.
 #[derive(Drop)]
 pub struct ProgramRun {
     pub(crate) name: Ident,

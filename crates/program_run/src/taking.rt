@@ -10,8 +10,8 @@ use solo_base::{Feed, Item, LineList, NoMemory, SysReply};
 use std::alloc::Global;
 
 impl ProgramRun {
-    /// Gives the program the card file that it needs: its cards up to the first spoiled one, and whether there is
-    /// one.
+    /// Gives the program the card file that it needs: its cards up to the first spoiled one, and whether
+    /// there is one.
     pub fn take_cards(
         &mut self,
         alloc: Global,
@@ -19,7 +19,8 @@ impl ProgramRun {
         spoiled: bool,
     ) -> Result<(), NoMemory>
         requires { MayTake AtCards self.old }
-        ensures { OnOk result (TakesCards (record { cards = cards.now; spoiled = spoiled }) self.old self.new) }
+        ensures { OnOk result (TakesCards (record { cards = cards.now; spoiled = spoiled })
+            self.old self.new) }
     {
         let text = match text_of_cards(alloc, cards) {
             Ok(text) => text,

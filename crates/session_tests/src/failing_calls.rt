@@ -1,5 +1,5 @@
-// Each call of each of the five devices fails in turn, in a session whose program reads, accepts, displays, prints
-// and puts.
+// Each call of each of the five devices fails in turn, in a session whose program reads, accepts, displays,
+// prints and puts.
 
 use crate::net_runs::{Came, Failing, NONE_FAILS, Session, run};
 use network_run::Rule;

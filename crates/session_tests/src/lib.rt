@@ -1,5 +1,6 @@
-//! Tests of whole sessions of Solo: its three processes as a network that is stepped, over the commands on the
-//! files of an area. What is wanted was worked out by the rules of commands and programs, beside the program.
+//! Tests of whole sessions of Solo: its three processes as a network that is stepped, over the commands on
+//! the files of an area. What is wanted was worked out by the rules of commands and programs, beside the
+//! program.
 #![tactic(auto)]
 
 #[cfg(test)]

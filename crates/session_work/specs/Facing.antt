@@ -31,7 +31,8 @@ pub record LedTo (opening : List (List ℕ)) (before : List Given) (s : Session)
   pub stands : StandsAt s (file_map left) (stands_behind (file_map opening) before).pause
 
 -- the files are some to which work that began so comes
-pub record PassedTo (opening : List (List ℕ)) (before : List Given) (now : Option (List (List ℕ))) : Type 0 where
+pub record PassedTo (opening : List (List ℕ)) (before : List Given) (now : Option (List (List ℕ)))
+    : Type 0 where
   pub left : List (List ℕ)
   pub told : now ≡ Some left
   pub comes : ComesBy (file_map opening) before (file_map left)

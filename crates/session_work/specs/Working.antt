@@ -33,7 +33,8 @@ as_work DiskFault = Failed
 as_work lacks.NoMemory = NoMemory
 
 -- it paused for this need, the area tells its files then, and the session stands at its pause
-pub record Reaches (c : Paused) (needed : law.Need) (after : Option (List (List ℕ))) (now : Session) : Type 0 where
+pub record Reaches (c : Paused) (needed : law.Need) (after : Option (List (List ℕ))) (now : Session)
+    : Type 0 where
   pub left : List (List ℕ)
   pub told : after ≡ Some left
   pub need : c.need ≡ needed
@@ -62,10 +63,12 @@ abbrev pub WorkedSo : ℕ → (Files → Paused → Type 0) → Option (List (Li
 WorkedSo pages Makes before (Ok need) now after = CameTo pages Makes before need now after
 WorkedSo pages Makes before (Err Failed) now after = Unit {0}
 WorkedSo pages Makes before (Err NoMemory) now after =
-    (told : List (List ℕ)) → before ≡ Some told → (c : Paused) → Makes (file_map told) c → StopsAmong told c after
+    (told : List (List ℕ)) → before ≡ Some told → (c : Paused) → Makes (file_map told) c
+    → StopsAmong told c after
 
 -- the same, of the files alone
-abbrev pub LeadsTo : List (List ℕ) → Paused → Result Need WorkFault → Session → Option (List (List ℕ)) → Type 0
+abbrev pub LeadsTo : List (List ℕ) → Paused → Result Need WorkFault → Session → Option (List (List ℕ))
+    → Type 0
 LeadsTo told c (Ok need) now after = Reaches c c.need after now
 LeadsTo told c (Err Failed) now after = Unit {0}
 LeadsTo told c (Err NoMemory) now after = StopsAmong told c after

@@ -90,7 +90,8 @@ impl Session {
         requires sound { IsTrue files.old.sound }
         requires may { MayGoOn self.old.under_way }
         requires paper { IsHand self.old.paper 0 [] }
-        ensures worked { WorkedSo 0 (λ all c. c ≡ comes_to [] all (does (command.Program name.now args.now) all))
+        ensures worked { WorkedSo 0 (λ all c. c
+            ≡ comes_to [] all (does (command.Program name.now args.now) all))
             (A.pages files.old.area) result self.new (A.pages files.new.area) }
         ensures may { MayGoOn self.new.under_way }
         ensures sound { files.new.sound ≡ stays_sound (of_work result) }

@@ -58,8 +58,8 @@ impl Session {
         ensures worked { (before : Option (List (List ℕ))) (pages : ℕ) (hand : List (List ℕ))
             → IsHand self.old.paper pages hand
             → WorkedSo pages (λ all c. c
-            ≡ comes_to hand all (prints_then printing.lines printing.next printing.answers)) before (Ok result)
-            self.new before }
+            ≡ comes_to hand all (prints_then printing.lines printing.next printing.answers)) before
+            (Ok result) self.new before }
         ensures may { MayGoOn self.new.under_way }
     {
         let mut printing = printing;

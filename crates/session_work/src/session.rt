@@ -133,7 +133,8 @@ impl Session {
         requires sound { IsTrue files.old.sound }
         requires paper { IsHand self.old.paper 0 [] }
         requires idle { self.old.under_way ≡ UnderWay.Idle }
-        ensures worked { WorkedSo 0 (λ all c. c ≡ comes_to [] all (or_idle (done_if (line_says line.now) all)))
+        ensures worked { WorkedSo 0 (λ all c. c
+            ≡ comes_to [] all (or_idle (done_if (line_says line.now) all)))
             (A.pages files.old.area) result self.new (A.pages files.new.area) }
         ensures may { MayGoOn self.new.under_way }
         ensures sound { files.new.sound ≡ stays_sound (of_work result) }

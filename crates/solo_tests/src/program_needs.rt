@@ -37,8 +37,8 @@ fn line(rt: &impl Abort, letters: &str) -> Line {
     Line::of(letters.as_bytes()).expect(rt, "a line")
 }
 
-// Gives the program what it needs: the card AB, of a card file with a spoiled card, or the line C. `None` where
-// it can't be given anything.
+// Gives the program what it needs: the card AB, of a card file with a spoiled card, or the line C. `None`
+// where it can't be given anything.
 fn give(
     rt: &impl Abort,
     alloc: Global,

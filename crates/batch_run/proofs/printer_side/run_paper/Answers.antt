@@ -1,0 +1,43 @@
+use Rattle.std.proofs.Common.{refl, sym, ◌∙◌}
+use Rattle.batch_procs.specs.Table.{printer}
+use Rattle.batch_run.specs.Lines.{PrinterRan}
+use Rattle.batch_run.proofs.Going.{going-first, ends-here, follows-now, going-on, next-is}
+use Rattle.batch_run.proofs.Performing.{ended-so}
+use Rattle.batch_run.proofs.PrinterSteps.{printer-may_next, printer-did_next}
+use Rattle.batch_run.proofs.printer_side.run_paper.Goals as goal
+
+pub loop-init : goal.loop-init
+loop-init g c = going-first g.met.J.JobWork.are_jobs c.new-machine.ensures c.requires
+
+pub perform-reply-requires-clause-may : goal.perform-reply-requires-clause-may
+perform-reply-requires-clause-may g c κs within =
+    printer-may_next g.met.J.JobWork.are_jobs _ c.loop.at.side c.loop.at.pass c.loop.invariant.history _ c.loop.invariant.connected
+    (follows-now g.met.J.JobWork.are_jobs refl c.loop.invariant c.next-action.ensures.next)
+    (next-is g.met.J.JobWork.are_jobs refl c.loop.invariant c.next-action.ensures.next)
+
+pub without_disk-requires : goal.without_disk-requires
+without_disk-requires g c =
+    let ends = (ends-here g.met.J.JobWork.are_jobs refl c.loop.invariant c.next-action.ensures.next
+    (printer-did_next g.met.J.JobWork.are_jobs _ c.loop.at.side c.loop.at.pass c.loop.invariant.history _ c.loop.invariant.connected
+    (follows-now g.met.J.JobWork.are_jobs refl c.loop.invariant c.next-action.ensures.next)
+    (next-is g.met.J.JobWork.are_jobs refl c.loop.invariant c.next-action.ensures.next) c.perform-reply.new.running.side
+    c.perform-reply.new.running.pass c.perform-reply.result c.perform-reply.ensures.performs) (sym c.end_of-end.ensures ∙ c.in-Some-end.is)) in
+    ends.stands.none
+
+pub returns-in-Some-end : goal.returns-in-Some-end
+returns-in-Some-end g c =
+    let ends = (ends-here g.met.J.JobWork.are_jobs refl c.loop.invariant c.next-action.ensures.next
+    (printer-did_next g.met.J.JobWork.are_jobs _ c.loop.at.side c.loop.at.pass c.loop.invariant.history _ c.loop.invariant.connected
+    (follows-now g.met.J.JobWork.are_jobs refl c.loop.invariant c.next-action.ensures.next)
+    (next-is g.met.J.JobWork.are_jobs refl c.loop.invariant c.next-action.ensures.next) c.perform-reply.new.running.side
+    c.perform-reply.new.running.pass c.perform-reply.result c.perform-reply.ensures.performs) (sym c.end_of-end.ensures ∙ c.in-Some-end.is)) in
+    ended-so g.J.JobWork.jobs printer (PrinterRan g.K.Sink.given g.K.Sink.faults c.args.running.side) ends (ends.stands.none) c.without_disk.ensures
+
+pub loop-preserved : goal.loop-preserved
+loop-preserved g c =
+    going-on g.met.J.JobWork.are_jobs refl c.loop.invariant c.next-action.ensures.next c.give.result
+    (printer-did_next g.met.J.JobWork.are_jobs _ c.loop.at.side c.loop.at.pass c.loop.invariant.history _ c.loop.invariant.connected
+    (follows-now g.met.J.JobWork.are_jobs refl c.loop.invariant c.next-action.ensures.next)
+    (next-is g.met.J.JobWork.are_jobs refl c.loop.invariant c.next-action.ensures.next) c.perform-reply.new.running.side
+    c.perform-reply.new.running.pass c.perform-reply.result c.perform-reply.ensures.performs) (sym c.end_of-end.ensures
+    ∙ c.in_default.is) c.give.ensures.ok c.give.ensures.err
