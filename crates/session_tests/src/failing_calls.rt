@@ -56,23 +56,45 @@ fn is_part(rt: &impl Abort, came: &Came) {
     assert!(rt; ALL_PAPER.as_bytes().starts_with(came.paper.as_slice()));
 }
 
+// How a run came out whose call of a device fails.
+#[derive(Clone, Copy)]
+enum Out {
+    /// The area failed before the run began.
+    Early,
+    Failed,
+    /// The call wasn't made.
+    Whole,
+}
+
+// A run by the schedule of a number, where the call behind as many fails. Where it is made the three end so.
+fn comes_out(rt: &impl Abort, alloc: Global, device: Device, number: u32, ended: &str) -> Out {
+    let failing = device.fails_at(u64::from(number) + 1);
+    match run(rt, alloc, ALL, Rule::Numbered { number }, failing) {
+        None => Out::Early,
+        Some(came) => seen_so(rt, &came, ended),
+    }
+}
+
+fn seen_so(rt: &impl Abort, came: &Came, ended: &str) -> Out {
+    is_part(rt, came);
+    if came.ended.as_str() != "Done Done Done " {
+        assert!(rt; came.ended.as_str() == ended, "{}", came.ended);
+        return Out::Failed;
+    }
+    assert!(rt; came.console.as_slice() == ALL_CONSOLE.as_bytes());
+    assert!(rt; came.paper.as_slice() == ALL_PAPER.as_bytes());
+    Out::Whole
+}
+
 // How many calls of a device fail in turn, each of which ends the three so, up to the first that isn't made.
 fn fails(rt: &impl Abort, alloc: Global, device: Device, ended: &str) -> u64 {
     let mut count: u64 = 0;
-    for number in 0..1000 {
-        let call = u64::from(number) + 1;
-        let rule = Rule::Numbered { number };
-        let Some(came) = run(rt, alloc, ALL, rule, device.fails_at(call)) else {
-            continue;
-        };
-        is_part(rt, &came);
-        if came.ended.as_str() == "Done Done Done " {
-            assert!(rt; came.console.as_slice() == ALL_CONSOLE.as_bytes());
-            assert!(rt; came.paper.as_slice() == ALL_PAPER.as_bytes());
-            return count;
+    for number in 0..1000u32 {
+        match comes_out(rt, alloc, device, number, ended) {
+            Out::Early => {}
+            Out::Failed => count = count.saturating_add(1),
+            Out::Whole => return count,
         }
-        assert!(rt; came.ended.as_str() == ended, "{}", came.ended);
-        count = count.saturating_add(1);
     }
     0
 }

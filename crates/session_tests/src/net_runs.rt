@@ -1,5 +1,5 @@
 // Whole runs of the network by a rule, and what they came to.
-ghost use Rattle.std.specs.Prelude.{◌≡◌, IfSome, IsTrue};
+ghost use Rattle.std.specs.Prelude.{◌≡◌, true, IfSome, IsTrue};
 ghost use Rattle.network_run.specs.Law.{Placed, MayStep, AllEnded};
 
 use disk_files::FileArea;
@@ -134,8 +134,10 @@ fn run_over(rt: &impl Abort, alloc: Global, units: Devices, rule: Rule) -> Ran
     requires files { IsTrue units.files.sound }
 {
     let mut net = Net::make(alloc, units);
-    run_on(&mut net, rule).expect(rt, "an end");
-    net.finish()
+    match run_on(&mut net, rule) {
+        Some(()) => net.finish(),
+        None => panic!(rt; "no end within 10,000 events"),
+    }
 }
 
 /// Runs a session by a rule, where these calls fail. `None` where the area failed before it began.
@@ -164,8 +166,19 @@ pub fn run(
 fn seen(rt: &impl Abort, alloc: Global, ran: Ran) -> Came {
     let mut ended = String::new(alloc);
     tell_end(&mut ended, &ran).expect(rt, "memory");
-    let (_, console) = ran.units.typewriter.into_inner();
-    let paper = ran.units.paper.into_inner();
+    let SoloRan {
+        outcomes: _,
+        stopped_by: _,
+        units,
+    } = ran;
+    let SoloUnits {
+        cards: _,
+        typewriter,
+        paper,
+        files: _,
+    } = units;
+    let (_, console) = typewriter.into_inner();
+    let paper = paper.into_inner();
     Came {
         ended,
         console: console.bytes().to_vec(alloc).ok().expect(rt, "memory"),
