@@ -32,9 +32,7 @@ use Rattle.batch_run.specs.Calls.{line_calls, spool_calls}
 use Rattle.batch_run.specs.FiveRan.{FiveRan, histories}
 use Rattle.batch_run.specs.Cards.{does_card}
 use Rattle.batch_run.specs.Lines.{does_printer}
-use Rattle.batch_run.specs.Input.{does_input}
-use Rattle.batch_run.specs.Job.{does_job}
-use Rattle.batch_run.specs.Output.{does_output}
+use Rattle.batch_run.specs.Pages.{does_input, does_job, does_output}
 use Rattle.batch_run.specs.DoesOnly.{card-does, input-does, job-does, output-does, printer-does}
 use Rattle.batch_run.proofs.LineCalls as line_calls_are
 use Rattle.batch_run.proofs.SpoolCalls as spool_calls_are

@@ -50,9 +50,7 @@ use Rattle.batch_run.specs.DoesOnly.{card-does, input-does, job-does, output-doe
 use Rattle.batch_run.specs.Files.{FileTells}
 use Rattle.batch_run.specs.FiveRan.{BatchRan, FiveRan, histories}
 use Rattle.batch_run.specs.Lines.{does_printer, newest_print}
-use Rattle.batch_run.specs.Input.{does_input}
-use Rattle.batch_run.specs.Job.{does_job}
-use Rattle.batch_run.specs.Output.{does_output}
+use Rattle.batch_run.specs.Pages.{does_input, does_job, does_output}
 use Rattle.batch_run.proofs.Devices.{deck-reads, cards-taken, paper-gained}
 use Rattle.batch_run.proofs.FileLoads.{all-loaded}
 use Rattle.batch_run.proofs.Ending.{each-process, follows, hand-over, are-first}

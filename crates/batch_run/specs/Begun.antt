@@ -5,6 +5,7 @@ use Rattle.solo_devices.specs.PrinterUnit.{Printing}
 use Rattle.resource_mon.specs.Seats.{Desk, Seat}
 use Rattle.disk_spool.specs.Ends.{known}
 use Rattle.batch_ends.specs.declared.units.Units.{Units}
+use Rattle.batch_run.specs.declared.batch.Unbegun.{Unbegun}
 use Rattle.batch_run.specs.declared.buffers.RunningLine.{RunningLine}
 use Rattle.batch_run.specs.declared.buffers.RunningSpool.{RunningSpool}
 use Rattle.batch_run.specs.declared.buffers.RunningDisk.{RunningDisk}
@@ -88,3 +89,16 @@ pub record BeginsBy {S K F A B : Type 0} (gates : Gates A B) (ends : Ends A B) (
   pub input_seat : row.pages.seat ≡ ends.seats.input
   pub job_seat : row.jobs.seat ≡ ends.seats.job
   pub output_seat : row.lines.seat ≡ ends.seats.output
+
+-- ---- the five before their first action, apart from the gates
+pub record IsTakenBack {S K F A B : Type 0} (row : Row S K F A B) (back : Unbegun S K F A B) : Type 0 where
+  pub deck : back.deck ≡ row.cards.deck
+  pub paper : back.paper ≡ row.paper.paper
+  pub files : back.files ≡ row.jobs.files
+  pub ends : back.ends ≡ record {
+    cards = (row.cards.lines, row.pages.cards);
+    input = (row.pages.pages, row.jobs.cards);
+    output = (row.jobs.pages, row.lines.pages);
+    lines = (row.lines.lines, row.paper.lines);
+    seats = record { input = row.pages.seat; job = row.jobs.seat; output = row.lines.seat };
+  }

@@ -1,25 +1,18 @@
--- The card process: what became of a deck that is read in the course of a history, and of its side of the
--- line buffer.
-use Rattle.std.specs.Prelude.{◌≡◌, ◌≢◌, ◌≤◌, ◌<◌, ◌↔◌, ℕ, true, false, List, [], ◌∷◌, ◌++◌, Option, None, Some}
+-- What became of a deck that is read in the course of a history.
+use Rattle.std.specs.Prelude.{◌≡◌, ◌≤◌, ◌<◌, ℕ, true, List, [], ◌∷◌, ◌++◌, Option, None, Some}
 use Rattle.solo_base.specs.declared.item.Item.{Item}
 use Rattle.solo_devices.specs.declared.card_read.CardRead.{CardRead}
 use Rattle.solo_devices.specs.declared.card_read.CardRead.TheVariants as read
 use Rattle.solo_devices.specs.Count.{Rose}
-use Rattle.solo_devices.specs.CardUnit.{Held, GivesNext, items_ahead, item_of, byte_limit, bytes_total, IsAllTaken}
+use Rattle.solo_devices.specs.CardUnit.{Held, items_ahead, byte_limit, bytes_total, IsAllTaken}
 use Rattle.batch_procs.specs.declared.actions.Action.{Action}
 use Rattle.batch_procs.specs.declared.actions.Action.TheVariants as act
-use Rattle.batch_procs.specs.declared.actions.Reply.{Reply}
 use Rattle.batch_procs.specs.declared.actions.Reply.TheVariants as reply
 use Rattle.batch_procs.specs.History.{Entry, Does, LacksMemory, Delays}
 use Rattle.batch_procs.specs.Causes.{caused}
 use Rattle.core_law.specs.Core.{items_by}
-use Rattle.page_codec.specs.Items.{AreItems}
-use Rattle.monitor_gate.specs.Calls.{after_call}
-use Rattle.resource_mon.specs.Seats.{Pass}
-use Rattle.slot_buffer.specs.declared.call.SlotCall.TheVariants as slot
-use Rattle.slot_buffer.specs.Calls.{has_stop}
 use Rattle.solo_base.specs.declared.outcome.Side.TheVariants.{Sender}
-use Rattle.batch_run.specs.declared.card_side.CardSide.{CardSide}
+use Rattle.batch_run.specs.declared.card_connections.CardConnections.{CardConnections}
 use Rattle.batch_run.specs.Calls.{line_calls}
 
 -- the items that were read of the deck
@@ -57,7 +50,7 @@ pub record DeckRan {L S : Type 0} (left : S → Option (List ℕ)) (taken faults
       ≡ bytes_total (taken start.source) (left start.source)
   pub live : caused h ≡ None → now.live ≡ true
 
--- ---- the side of the card process
+-- ---- the connections of the card process
 abbrev pub does_card : Action → Type 0
 does_card act.ReadCard = Unit {0}
 does_card (act.PutFeed feed) = Unit {0}
@@ -65,51 +58,9 @@ does_card (act.Stop b) = b ≡ 1
 does_card (act.Ended how) = Unit {0}
 does_card other = ⊥
 
--- an action that it may perform
-abbrev pub CardMayMake : {S : Type 0} → CardSide S → Action → Type 0
-CardMayMake c act.ReadCard = c.deck.live ≡ true
-CardMayMake c (act.PutFeed feed) = (c.lines.gate ≡ c.gate.now) × (has_stop c.lines.calls ≡ false)
-CardMayMake c (act.Stop b) = c.lines.gate ≡ c.gate.now
-CardMayMake c (act.Ended how) = Unit {0}
-CardMayMake c other = ⊥
-
--- The next item was read, or the end; a failure was counted, and the limit is told exactly where too many
--- bytes were taken.
-pub record ReadsNextCard {S : Type 0} (left : S → Option (List ℕ)) (taken faults : S → ℕ) (old new : Held S)
-    (answer : CardRead) : Type 0 where
-  pub next : GivesNext (items_ahead (left old.source) old.pending) (items_ahead (left new.source) new.pending)
-      answer
-  pub items : AreItems (item_of answer)
-  pub all_taken : answer ≡ read.End → IsAllTaken (left new.source)
-  pub counts : faults old.source ≤ faults new.source
-  pub failed : answer ≡ read.Failed → Rose (faults old.source) (faults new.source)
-  pub limit : (answer ≡ read.Limit) ↔ (byte_limit < taken new.source)
-  pub live : answer ≢ read.Failed → answer ≢ read.Limit → new.live ≡ true
-  pub total : bytes_total (taken new.source) (left new.source) ≡ bytes_total (taken old.source)
-      (left old.source)
-
--- and what it made of its side, by what was answered
-abbrev pub CardMade : {L S : Type 0} → (S → Option (List ℕ)) → (S → ℕ) → (S → ℕ) → CardSide S → Option Pass
-    → CardSide S
-    → Option Pass → Action → Reply L → Type 0
-CardMade left taken faults old had new has act.ReadCard (reply.Card answer) =
-    (new ≡ record old { deck = new.deck }) × (has ≡ had)
-    × ReadsNextCard left taken faults old.deck new.deck answer
-CardMade left taken faults old had new has (act.PutFeed feed) reply.Done =
-    (new ≡ record old { lines = after_call old.lines (slot.Put feed) }) × (has ≡ had)
-CardMade left taken faults old had new has (act.PutFeed feed) reply.Stopped =
-    (new ≡ record old { lines = after_call old.lines (slot.PutRefused feed) }) × (has ≡ had)
-CardMade left taken faults old had new has (act.Stop b) reply.Done =
-    (new ≡ record old { lines = after_call old.lines (slot.Stop Sender) }) × (has ≡ had)
-CardMade left taken faults old had new has (act.Ended how) reply.Done = (new ≡ old) × (has ≡ had)
-CardMade left taken faults old had new has action r = ⊥
-
--- From its first action on: the line buffer has had the calls of the history at its sender's side, and the
--- deck was
--- read. It never has the disk.
+-- The line buffer has had the calls of the history at its sender's side, and the deck was read.
 pub record CardRan {L S : Type 0} (left : S → Option (List ℕ)) (taken faults : S → ℕ)
-    (start now : CardSide S) (pass : Option Pass) (h : List (Entry L)) : Type 0 where
+    (start now : CardConnections S) (h : List (Entry L)) : Type 0 where
   pub gate : (start.gate.now ≡ now.gate.now) × (now.lines.gate ≡ now.gate.now)
   pub calls : now.lines.calls ≡ line_calls Sender 1 h
   pub deck : DeckRan left taken faults start.deck now.deck h
-  pub none : pass ≡ None

@@ -20,12 +20,10 @@ use Rattle.batch_procs.specs.Table.{card, input, job, output, printer}
 use Rattle.solo_base.specs.declared.page.Page.{Page}
 use Rattle.batch_procs.specs.Relays.{card-relay, input-relay, job-relay, output-relay, printer-relay}
 use Rattle.batch_procs.proofs.Relay.{sent-is-part, due-rest, closing-next}
-use Rattle.batch_run.specs.Running.{DoesOnly}
+use Rattle.batch_run.specs.Connections.{DoesOnly}
 use Rattle.batch_run.specs.Cards.{does_card}
 use Rattle.batch_run.specs.Lines.{does_printer}
-use Rattle.batch_run.specs.Input.{does_input}
-use Rattle.batch_run.specs.Job.{does_job}
-use Rattle.batch_run.specs.Output.{does_output}
+use Rattle.batch_run.specs.Pages.{does_input, does_job, does_output}
 use Rattle.batch_procs.specs.Jobs.{Jobs, AreJobs}
 
 module _ {L : Type 0} {J : Jobs L} (jobs : AreJobs J) where

@@ -1,12 +1,10 @@
-pub mod Running
+pub mod Connections
 pub mod Calls
 pub mod Cards
 pub mod Lines
 pub mod Desks
 pub mod Files
-pub mod Input
-pub mod Job
-pub mod Output
+pub mod Pages
 pub mod Row
 pub mod DoesOnly
 pub mod Begun

@@ -1,14 +1,16 @@
 //! The gates of the five processes and their ends there: made before the processes begin, and ended once all
 //! have.
-ghost use Rattle.batch_run.specs.Begun.{BeginsBy};
+ghost use Rattle.std.specs.Prelude.{◌≡◌, []};
+ghost use Rattle.disk_spool.specs.Ends.{known};
+ghost use Rattle.batch_run.specs.Begun.{AreFresh, BeginsBy};
 ghost use Rattle.batch_run.specs.Met.{AreEndsOf, AllMeet};
 
-use crate::buffers::{RunningDisk, Seats};
-use crate::card_side::CardSide;
-use crate::input_side::InputSide;
-use crate::job_side::JobSide;
-use crate::output_side::OutputSide;
-use crate::printer_side::PrinterSide;
+use crate::buffers::{RunningDisk, RunningLine, RunningSpool, Seats};
+use crate::card_connections::CardConnections;
+use crate::input_connections::InputEnds;
+use crate::job_connections::JobEnds;
+use crate::output_connections::OutputEnds;
+use crate::printer_connections::PrinterConnections;
 use crate::row::Row;
 use disk_spool::{SpoolGate, SpoolMet, SpoolRecv, SpoolSend};
 use resource_mon::DiskResource;
@@ -61,12 +63,12 @@ impl<A: Area + Send, B: Area + Send> Gates<A, B> {
             seats,
         } = ends;
         Row {
-            cards: CardSide {
+            cards: CardConnections {
                 deck,
                 gate: &self.cards,
                 lines: cards.0,
             },
-            pages: InputSide {
+            pages: InputEnds {
                 cards_gate: &self.cards,
                 cards: cards.1,
                 pages_gate: &self.input,
@@ -74,7 +76,7 @@ impl<A: Area + Send, B: Area + Send> Gates<A, B> {
                 disk: &self.disk,
                 seat: seats.input,
             },
-            jobs: JobSide {
+            jobs: JobEnds {
                 cards_gate: &self.input,
                 cards: input.1,
                 pages_gate: &self.output,
@@ -83,7 +85,7 @@ impl<A: Area + Send, B: Area + Send> Gates<A, B> {
                 seat: seats.job,
                 files,
             },
-            lines: OutputSide {
+            lines: OutputEnds {
                 pages_gate: &self.output,
                 pages: output.1,
                 lines_gate: &self.lines,
@@ -91,12 +93,34 @@ impl<A: Area + Send, B: Area + Send> Gates<A, B> {
                 disk: &self.disk,
                 seat: seats.output,
             },
-            paper: PrinterSide {
+            paper: PrinterConnections {
                 gate: &self.lines,
                 lines: lines.1,
                 paper,
             },
         }
+    }
+
+    /// The areas of the spools, where nobody has used the buffers and the disk.
+    pub(crate) fn unmake(self, ends: Ends<A, B>) -> (A, B)
+        requires { AreFresh (A.size self.input.area) (B.size self.output.area) self ends }
+        ensures { result ≡ (self.input.area, self.output.area) }
+    {
+        let Gates {
+            cards,
+            input,
+            output,
+            lines,
+            disk,
+        } = self;
+        let seats = ends.seats;
+        RunningDisk { disk, seats }.close();
+        unmake_line(cards, ends.cards);
+        unmake_line(lines, ends.lines);
+        (
+            unmake_spool(input, ends.input),
+            unmake_spool(output, ends.output),
+        )
     }
 
     /// Ends the buffers and the disk, once the ends of each have met.
@@ -131,4 +155,31 @@ impl<A: Area + Send, B: Area + Send> Gates<A, B> {
             stopped_by: [cards.stopped_by, input, output, lines.stopped_by],
         }
     }
+}
+
+fn unmake_line(gate: SlotGate<Feed>, ends: (SendEnd<Feed>, RecvEnd<Feed>))
+    requires sender { ends.0 ≡ record { gate = gate; calls = [] } }
+    requires receiver { ends.1 ≡ record { gate = gate; calls = [] } }
+{
+    let (sender, receiver) = ends;
+    let line = RunningLine {
+        gate,
+        sender,
+        receiver,
+    };
+    line.unmake();
+}
+
+fn unmake_spool<A: Area + Send>(gate: SpoolGate<A>, ends: (SpoolSend<A>, SpoolRecv<A>)) -> A
+    requires sender { ends.0 ≡ record { gate = known (A.size gate.area) gate; calls = [] } }
+    requires receiver { ends.1 ≡ record { gate = known (A.size gate.area) gate; calls = [] } }
+    ensures { result ≡ gate.area }
+{
+    let (sender, receiver) = ends;
+    let spool = RunningSpool {
+        gate,
+        sender,
+        receiver,
+    };
+    spool.unmake()
 }

@@ -2,24 +2,27 @@
 #![tactic(auto)]
 
 mod batch;
+mod beside;
 mod buffers;
-mod card_side;
+mod card_connections;
 mod desk;
 mod gates;
-mod input_side;
-mod job_side;
+mod input_connections;
+mod job_connections;
 mod making;
-mod output_side;
-mod printer_side;
+mod output_connections;
+mod printer_connections;
+mod processes;
 mod promises;
 mod row;
 mod run;
+mod start;
 
 pub use batch::run_batch;
-pub use card_side::CardSide;
-pub use input_side::InputSide;
-pub use job_side::JobSide;
-pub use output_side::OutputSide;
-pub use printer_side::PrinterSide;
-pub use row::{Row, RowEnded};
-pub use run::{Ended, Running};
+pub use card_connections::CardConnections;
+pub use desk::Desk;
+pub use input_connections::{InputConnections, InputEnds};
+pub use job_connections::{JobConnections, JobEnds};
+pub use output_connections::{OutputConnections, OutputEnds};
+pub use printer_connections::PrinterConnections;
+pub use row::{Ended, Row, RowEnded, run_five};

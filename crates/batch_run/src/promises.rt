@@ -3,13 +3,13 @@
 ghost use Rattle.batch_run.specs.Files.{loading};
 ghost use Rattle.batch_run.specs.Row.{CardsCame, FrontCame, JobsCame, LinesCame};
 
-use crate::card_side::CardSide;
-use crate::input_side::InputSide;
-use crate::job_side::JobSide;
-use crate::output_side::OutputSide;
-use crate::run::Ended;
+use crate::card_connections::CardConnections;
+use crate::input_connections::InputEnds;
+use crate::job_connections::JobEnds;
+use crate::output_connections::OutputEnds;
+use crate::row::Ended;
+use crate::start::{Start, Told};
 use batch_procs::{JobWork, Loader};
-use side_by_side::{Start, Told};
 use solo_devices::{Area, Source};
 use std::marker::PhantomData;
 use std::snapshot::Snapshot;
@@ -18,14 +18,14 @@ use std::thread::Promise;
 /// Of the card process that comes with these connections.
 pub struct CardsComing<'a, 's, J, S: Source + Drop> {
     pub start: &'s Start,
-    pub cards: Snapshot<CardSide<'a, S>>,
+    pub cards: Snapshot<CardConnections<'a, S>>,
     pub of: PhantomData<J>,
 }
 
-impl<'a, 's, J: JobWork, S: Source + Drop> Promise<(Ended<CardSide<'a, S>>, Told<'s>)>
+impl<'a, 's, J: JobWork, S: Source + Drop> Promise<(Ended<CardConnections<'a, S>>, Told<'s>)>
     for CardsComing<'a, 's, J, S> {
     ghost kept_by = { λ coming came. CardsCame J.jobs S.left S.taken S.faults
-        coming.start.now came.1.of came.1.value coming.cards.value came.0 };
+        coming.start.now.all.id came.1.of came.1.value coming.cards.value came.0 };
 }
 
 impl<'a, 's, J, S: Source + Drop> Drop for CardsComing<'a, 's, J, S> {
@@ -41,14 +41,14 @@ impl<'a, 's, J, S: Source + Drop> Drop for CardsComing<'a, 's, J, S> {
 /// Of the output process.
 pub struct LinesComing<'a, 's, J, B: Area + Send> {
     pub start: &'s Start,
-    pub lines: Snapshot<OutputSide<'a, B>>,
+    pub lines: Snapshot<OutputEnds<'a, B>>,
     pub of: PhantomData<J>,
 }
 
-impl<'a, 's, J: JobWork, B: Area + Send> Promise<(Ended<OutputSide<'a, B>>, Told<'s>)>
+impl<'a, 's, J: JobWork, B: Area + Send> Promise<(Ended<OutputEnds<'a, B>>, Told<'s>)>
     for LinesComing<'a, 's, J, B> {
     ghost kept_by = { λ coming came. LinesCame J.jobs B.size
-        coming.start.now came.1.of came.1.value coming.lines.value came.0 };
+        coming.start.now.all.id came.1.of came.1.value coming.lines.value came.0 };
 }
 
 impl<'a, 's, J, B: Area + Send> Drop for LinesComing<'a, 's, J, B> {
@@ -64,15 +64,15 @@ impl<'a, 's, J, B: Area + Send> Drop for LinesComing<'a, 's, J, B> {
 /// Of the job process.
 pub struct JobsComing<'a, 's, J, F, A: Area + Send, B: Area + Send> {
     pub start: &'s Start,
-    pub jobs: Snapshot<JobSide<'a, F, A, B>>,
+    pub jobs: Snapshot<JobEnds<'a, F, A, B>>,
     pub of: PhantomData<J>,
 }
 
 impl<'a, 's, J: JobWork, F: Loader<J>, A: Area + Send, B: Area + Send> Promise<
-    (Ended<JobSide<'a, F, A, B>>, Told<'s>),
+    (Ended<JobEnds<'a, F, A, B>>, Told<'s>),
 > for JobsComing<'a, 's, J, F, A, B> {
     ghost kept_by = { λ coming came. JobsCame J.jobs (loading F.found F.pages F.faults F.sound) A.size B.size
-        coming.start.now came.1.of came.1.value coming.jobs.value came.0 };
+        coming.start.now.all.id came.1.of came.1.value coming.jobs.value came.0 };
 }
 
 impl<'a, 's, J, F, A: Area + Send, B: Area + Send> Drop for JobsComing<'a, 's, J, F, A, B> {
@@ -88,16 +88,19 @@ impl<'a, 's, J, F, A: Area + Send, B: Area + Send> Drop for JobsComing<'a, 's, J
 /// Of the card process and the input process, side by side.
 pub struct FrontComing<'a, 'b, 's, J, S: Source + Drop, A: Area + Send> {
     pub start: &'s Start,
-    pub cards: Snapshot<CardSide<'a, S>>,
-    pub pages: Snapshot<InputSide<'b, A>>,
+    pub cards: Snapshot<CardConnections<'a, S>>,
+    pub pages: Snapshot<InputEnds<'b, A>>,
     pub of: PhantomData<J>,
 }
 
 impl<'a, 'b, 's, J: JobWork, S: Source + Drop, A: Area + Send> Promise<
-    ((Ended<CardSide<'a, S>>, Ended<InputSide<'b, A>>), Told<'s>),
+    (
+        (Ended<CardConnections<'a, S>>, Ended<InputEnds<'b, A>>),
+        Told<'s>,
+    ),
 > for FrontComing<'a, 'b, 's, J, S, A> {
     ghost kept_by = { λ coming came. FrontCame J.jobs S.left S.taken S.faults A.size
-        coming.start.now came.1.of came.1.value coming.cards.value coming.pages.value came.0 };
+        coming.start.now.all.id came.1.of came.1.value coming.cards.value coming.pages.value came.0 };
 }
 
 impl<'a, 'b, 's, J, S: Source + Drop, A: Area + Send> Drop for FrontComing<'a, 'b, 's, J, S, A> {

@@ -1,24 +1,25 @@
 //! The five processes, each on a thread of its own.
-ghost use Rattle.std.specs.Prelude.{None, []};
+ghost use Rattle.std.specs.Prelude.{◌≡◌, [], IfOk, IfErr};
 ghost use Rattle.batch_run.specs.Cards.{CardRan};
 ghost use Rattle.batch_run.specs.Files.{loading};
-ghost use Rattle.batch_run.specs.Input.{InputRan};
-ghost use Rattle.batch_run.specs.Job.{JobRan};
 ghost use Rattle.batch_run.specs.Lines.{PrinterRan};
 ghost use Rattle.batch_run.specs.Row.{CardsCame, JobsCame, LinesCame, PagesCame, PaperCame};
 ghost use Rattle.batch_run.specs.Row.{BackBegins, BackCame, FrontBegins, FrontCame, RestBegins, RestCame};
-ghost use Rattle.batch_run.specs.Row.{RowBegins, RowCame};
-ghost use Rattle.batch_run.specs.Output.{OutputRan};
+ghost use Rattle.batch_run.specs.Row.{RowBegins, RowRan};
+ghost use Rattle.batch_run.specs.Pages.{InputRan, JobRan, OutputRan};
+ghost use Rattle.batch_run.specs.Pages.{input_connected, job_connected, output_connected};
 
-use crate::card_side::{CardSide, begin_cards};
-use crate::input_side::{InputSide, begin_pages};
-use crate::job_side::{JobSide, begin_jobs};
-use crate::output_side::{OutputSide, begin_lines};
-use crate::printer_side::{PrinterSide, begin_paper};
+use crate::beside::beside;
+use crate::card_connections::CardConnections;
+use crate::input_connections::InputEnds;
+use crate::job_connections::JobEnds;
+use crate::output_connections::OutputEnds;
+use crate::printer_connections::PrinterConnections;
+use crate::processes::{begin_cards, begin_jobs, begin_lines, begin_pages, begin_paper};
 use crate::promises::{CardsComing, FrontComing, JobsComing, LinesComing};
-use crate::run::Ended;
+use crate::start::{Start, Told};
 use batch_procs::{JobWork, Loader};
-use side_by_side::{Start, Told, beside};
+use solo_base::Outcome;
 use solo_devices::{Area, Sink, Source};
 use std::alloc::Global;
 use std::marker::PhantomData;
@@ -26,21 +27,24 @@ use std::snapshot::Snapshot;
 use std::sync::Wait;
 use std::thread::Threads;
 
-/// The sides of the five processes, in their order.
+/// What a process ended with: its connections and how it ended.
+pub type Ended<C> = (C, Outcome);
+
+/// The connections of the five processes, in their order.
 pub struct Row<'a, S: Source + Drop, K: Sink + Drop, F, A: Area + Send, B: Area + Send> {
-    pub cards: CardSide<'a, S>,
-    pub pages: InputSide<'a, A>,
-    pub jobs: JobSide<'a, F, A, B>,
-    pub lines: OutputSide<'a, B>,
-    pub paper: PrinterSide<'a, K>,
+    pub cards: CardConnections<'a, S>,
+    pub pages: InputEnds<'a, A>,
+    pub jobs: JobEnds<'a, F, A, B>,
+    pub lines: OutputEnds<'a, B>,
+    pub paper: PrinterConnections<'a, K>,
 }
 
 /// The same once all have ended: the card and the input process, and the three others.
 pub struct RowEnded<'a, S: Source + Drop, K: Sink + Drop, F, A: Area + Send, B: Area + Send> {
-    pub front: (Ended<CardSide<'a, S>>, Ended<InputSide<'a, A>>),
+    pub front: (Ended<CardConnections<'a, S>>, Ended<InputEnds<'a, A>>),
     pub rest: (
-        Ended<JobSide<'a, F, A, B>>,
-        (Ended<OutputSide<'a, B>>, Ended<PrinterSide<'a, K>>),
+        Ended<JobEnds<'a, F, A, B>>,
+        (Ended<OutputEnds<'a, B>>, Ended<PrinterConnections<'a, K>>),
     ),
 }
 
@@ -57,14 +61,17 @@ fn run_front<
     rt: &R,
     alloc: Global,
     start: &'s Start,
-    cards: CardSide<'a, S>,
-    pages: InputSide<'b, A>,
-) -> ((Ended<CardSide<'a, S>>, Ended<InputSide<'b, A>>), Told<'s>)
+    cards: CardConnections<'a, S>,
+    pages: InputEnds<'b, A>,
+) -> (
+    (Ended<CardConnections<'a, S>>, Ended<InputEnds<'b, A>>),
+    Told<'s>,
+)
 where
     J::Load: Send,
     requires { FrontBegins J.jobs S.left S.taken S.faults A.size cards pages }
     ensures { FrontCame J.jobs S.left S.taken S.faults A.size
-        start.now result.1.of result.1.value cards.entry pages.entry result.0 }
+        start.now.all.id result.1.of result.1.value cards.entry pages.entry result.0 }
 {
     let ((cards, told), (pages, also)) = beside(
         rt,
@@ -74,15 +81,15 @@ where
             cards: Snapshot::of(&cards),
             of: PhantomData::<J>,
         },
-        move || -> (Ended<CardSide<S>>, Told<'_>)
-            requires { CardRan {L = J.Load} S.left S.taken S.faults cards cards None [] }
+        move || -> (Ended<CardConnections<S>>, Told<'_>)
+            requires { CardRan {L = J.Load} S.left S.taken S.faults cards cards [] }
             ensures { CardsCame J.jobs S.left S.taken S.faults
-                start.entry.now result.1.of result.1.value cards.entry result.0 }
+                start.entry.now.all.id result.1.of result.1.value cards.entry result.0 }
         { begin_cards::<J, S, R>(rt, alloc, start, cards) },
-        move || -> (Ended<InputSide<A>>, Told<'_>)
-            requires { InputRan {L = J.Load} A.size pages pages None [] }
+        move || -> (Ended<InputEnds<A>>, Told<'_>)
+            requires { InputRan {L = J.Load} A.size (input_connected pages) (input_connected pages) [] }
             ensures { PagesCame J.jobs A.size
-                start.entry.now result.1.of result.1.value pages.entry result.0 }
+                start.entry.now.all.id result.1.of result.1.value pages.entry result.0 }
         { begin_pages::<J, A, R>(rt, alloc, start, pages) },
     );
     told.agrees(&also);
@@ -102,17 +109,17 @@ fn run_back<
     rt: &R,
     alloc: Global,
     start: &'s Start,
-    lines: OutputSide<'a, B>,
-    paper: PrinterSide<'b, K>,
+    lines: OutputEnds<'a, B>,
+    paper: PrinterConnections<'b, K>,
 ) -> (
-    (Ended<OutputSide<'a, B>>, Ended<PrinterSide<'b, K>>),
+    (Ended<OutputEnds<'a, B>>, Ended<PrinterConnections<'b, K>>),
     Told<'s>,
 )
 where
     J::Load: Send,
     requires { BackBegins J.jobs K.given K.faults B.size lines paper }
     ensures { BackCame J.jobs K.given K.faults B.size
-        start.now result.1.of result.1.value lines.entry paper.entry result.0 }
+        start.now.all.id result.1.of result.1.value lines.entry paper.entry result.0 }
 {
     let ((lines, told), (paper, also)) = beside(
         rt,
@@ -122,15 +129,15 @@ where
             lines: Snapshot::of(&lines),
             of: PhantomData::<J>,
         },
-        move || -> (Ended<OutputSide<B>>, Told<'_>)
-            requires { OutputRan {L = J.Load} B.size lines lines None [] }
+        move || -> (Ended<OutputEnds<B>>, Told<'_>)
+            requires { OutputRan {L = J.Load} B.size (output_connected lines) (output_connected lines) [] }
             ensures { LinesCame J.jobs B.size
-                start.entry.now result.1.of result.1.value lines.entry result.0 }
+                start.entry.now.all.id result.1.of result.1.value lines.entry result.0 }
         { begin_lines::<J, B, R>(rt, alloc, start, lines) },
-        move || -> (Ended<PrinterSide<K>>, Told<'_>)
-            requires { PrinterRan {L = J.Load} K.given K.faults paper paper None [] }
+        move || -> (Ended<PrinterConnections<K>>, Told<'_>)
+            requires { PrinterRan {L = J.Load} K.given K.faults paper paper [] }
             ensures { PaperCame J.jobs K.given K.faults
-                start.entry.now result.1.of result.1.value paper.entry result.0 }
+                start.entry.now.all.id result.1.of result.1.value paper.entry result.0 }
         { begin_paper::<J, K, R>(rt, alloc, start, paper) },
     );
     told.agrees(&also);
@@ -153,13 +160,13 @@ fn run_rest<
     rt: &R,
     alloc: Global,
     start: &'s Start,
-    jobs: JobSide<'a, F, A, B>,
-    lines: OutputSide<'b, B>,
-    paper: PrinterSide<'c, K>,
+    jobs: JobEnds<'a, F, A, B>,
+    lines: OutputEnds<'b, B>,
+    paper: PrinterConnections<'c, K>,
 ) -> (
     (
-        Ended<JobSide<'a, F, A, B>>,
-        (Ended<OutputSide<'b, B>>, Ended<PrinterSide<'c, K>>),
+        Ended<JobEnds<'a, F, A, B>>,
+        (Ended<OutputEnds<'b, B>>, Ended<PrinterConnections<'c, K>>),
     ),
     Told<'s>,
 )
@@ -169,7 +176,7 @@ where
         (loading F.found F.pages F.faults F.sound) A.size B.size jobs lines paper }
     ensures { RestCame J.jobs K.given K.faults
         (loading F.found F.pages F.faults F.sound) A.size B.size
-        start.now result.1.of result.1.value jobs.entry lines.entry paper.entry result.0 }
+        start.now.all.id result.1.of result.1.value jobs.entry lines.entry paper.entry result.0 }
 {
     let ((jobs, told), (back, also)) = beside(
         rt,
@@ -179,26 +186,29 @@ where
             jobs: Snapshot::of(&jobs),
             of: PhantomData::<J>,
         },
-        move || -> (Ended<JobSide<F, A, B>>, Told<'_>)
+        move || -> (Ended<JobEnds<F, A, B>>, Told<'_>)
             requires { JobRan {L = J.Load} (loading F.found F.pages F.faults F.sound)
-                A.size B.size jobs jobs None [] }
+                A.size B.size (job_connected jobs) (job_connected jobs) [] }
             ensures { JobsCame J.jobs (loading F.found F.pages F.faults F.sound) A.size B.size
-                start.entry.now result.1.of result.1.value jobs.entry result.0 }
+                start.entry.now.all.id result.1.of result.1.value jobs.entry result.0 }
         { begin_jobs::<J, F, A, B, R>(rt, alloc, start, jobs) },
-        move || -> ((Ended<OutputSide<B>>, Ended<PrinterSide<K>>), Told<'_>)
+        move || -> (
+            (Ended<OutputEnds<B>>, Ended<PrinterConnections<K>>),
+            Told<'_>,
+        )
             requires { BackBegins J.jobs K.given K.faults B.size lines paper }
             ensures { BackCame J.jobs K.given K.faults B.size
-                start.entry.now result.1.of result.1.value lines.entry paper.entry result.0 }
+                start.entry.now.all.id result.1.of result.1.value lines.entry paper.entry result.0 }
         { run_back::<J, K, B, R>(rt, alloc, start, lines, paper) },
     );
     told.agrees(&also);
     ((jobs, back), told)
 }
 
-/// Runs the five side by side, and says whether they ran. Where memory is refused for a thread none begins,
-/// and their sides come back as they were.
+/// Runs the five side by side. Where memory is refused for a thread none begins, and their connections come
+/// back as they were.
 #[inline(never)]
-pub(crate) fn run_five<
+pub fn run_five<
     'a,
     J: JobWork + Send,
     S: Source + Drop + Send,
@@ -207,13 +217,19 @@ pub(crate) fn run_five<
     A: Area + Send,
     B: Area + Send,
     R: Threads + Wait + Sync,
->(rt: &R, alloc: Global, row: Row<'a, S, K, F, A, B>) -> (RowEnded<'a, S, K, F, A, B>, bool)
+>(
+    rt: &R,
+    alloc: Global,
+    row: Row<'a, S, K, F, A, B>,
+) -> Result<RowEnded<'a, S, K, F, A, B>, Row<'a, S, K, F, A, B>>
 where
     J::Load: Send,
     requires { RowBegins J.jobs S.left S.taken S.faults K.given K.faults
         (loading F.found F.pages F.faults F.sound) A.size B.size row }
-    ensures { RowCame J.jobs S.left S.taken S.faults K.given K.faults
-        (loading F.found F.pages F.faults F.sound) A.size B.size result.1 row.entry result.0 }
+    ensures ran { IfOk result (λ ended.
+        RowRan J.jobs S.left S.taken S.faults K.given K.faults
+        (loading F.found F.pages F.faults F.sound) A.size B.size row.entry ended) }
+    ensures refused { IfErr result (λ back. back ≡ row.entry) }
 {
     let Row {
         cards,
@@ -222,7 +238,7 @@ where
         lines,
         paper,
     } = row;
-    let start = &Start::new(5);
+    let start = &Start::new();
     let ((front, told), (rest, also)) = beside(
         rt,
         start,
@@ -232,15 +248,15 @@ where
             pages: Snapshot::of(&pages),
             of: PhantomData::<J>,
         },
-        move || -> ((Ended<CardSide<S>>, Ended<InputSide<A>>), Told<'_>)
+        move || -> ((Ended<CardConnections<S>>, Ended<InputEnds<A>>), Told<'_>)
             requires { FrontBegins J.jobs S.left S.taken S.faults A.size cards pages }
             ensures { FrontCame J.jobs S.left S.taken S.faults A.size
-                start.entry.now result.1.of result.1.value cards.entry pages.entry result.0 }
+                start.entry.now.all.id result.1.of result.1.value cards.entry pages.entry result.0 }
         { run_front::<J, S, A, R>(rt, alloc, start, cards, pages) },
         move || -> (
             (
-                Ended<JobSide<F, A, B>>,
-                (Ended<OutputSide<B>>, Ended<PrinterSide<K>>),
+                Ended<JobEnds<F, A, B>>,
+                (Ended<OutputEnds<B>>, Ended<PrinterConnections<K>>),
             ),
             Told<'_>,
         )
@@ -248,11 +264,37 @@ where
                 (loading F.found F.pages F.faults F.sound) A.size B.size jobs lines paper }
             ensures { RestCame J.jobs K.given K.faults
                 (loading F.found F.pages F.faults F.sound) A.size B.size
-                start.entry.now result.1.of result.1.value
+                start.entry.now.all.id result.1.of result.1.value
                 jobs.entry lines.entry paper.entry result.0 }
         { run_rest::<J, K, F, A, B, R>(rt, alloc, start, jobs, lines, paper) },
     );
     told.agrees(&also);
-    let whole = start.is_whole(&told);
-    (RowEnded { front, rest }, whole)
+    if start.is_whole(&told) {
+        return Ok(RowEnded { front, rest });
+    }
+    Err(not_begun(RowEnded { front, rest }))
+}
+
+// The connections of the five, of which none has begun.
+fn not_begun<'a, S: Source + Drop, K: Sink + Drop, F, A: Area + Send, B: Area + Send>(
+    ended: RowEnded<'a, S, K, F, A, B>,
+) -> Row<'a, S, K, F, A, B>
+    ensures { result ≡ record {
+      cards = ended.entry.front.0.0;
+      pages = ended.entry.front.1.0;
+      jobs = ended.entry.rest.0.0;
+      lines = ended.entry.rest.1.0.0;
+      paper = ended.entry.rest.1.1.0;
+    } }
+{
+    let RowEnded { front, rest } = ended;
+    let ((cards, _), (pages, _)) = front;
+    let ((jobs, _), ((lines, _), (paper, _))) = rest;
+    Row {
+        cards,
+        pages,
+        jobs,
+        lines,
+        paper,
+    }
 }
