@@ -1,5 +1,5 @@
 // Whole runs of the six over devices in memory, and what they came to.
-ghost use Rattle.std.specs.Prelude.{◌≡◌, ◌<◌, ◌≤◌, true, IfOk};
+ghost use Rattle.std.specs.Prelude.{◌≡◌, ◌<◌, ◌≤◌, true, [], IfOk};
 ghost use Rattle.solo_devices.specs.CardUnit.{fresh_unit};
 
 use crate::failing::Failing;
@@ -87,28 +87,80 @@ fn area(rt: &impl Abort, alloc: Global, pages: u16, read: u64, write: u64) -> Re
     )
 }
 
+/// What the six run on.
+pub type Devices = TwinUnits<MemSource, MemSink, DeckFiles<SureArea>, MemArea>;
+
+/// These devices, as the six run on them.
+fn units(
+    deck: MemSource,
+    paper: MemSink,
+    files: FileArea<SureArea>,
+    to_a: MemArea,
+    to_b: MemArea,
+    from_a: MemArea,
+    from_b: MemArea,
+) -> Devices
+    requires { ⟦<MemSource as Source>⟧.taken deck ≡ 0 }
+    ensures deck { result.deck ≡ fresh_unit deck }
+    ensures paper { (result.paper.live ≡ true) }
+    ensures files { result.files.files ≡ files }
+    ensures to_job { (result.to_a ≡ to_a) × (result.to_b ≡ to_b) }
+    ensures from_job { (result.from_a ≡ from_a) × (result.from_b ≡ from_b) }
+{
+    TwinUnits {
+        deck: CardUnit::new(deck),
+        paper: PrinterUnit::new(paper),
+        files: DeckFiles { files },
+        to_a,
+        to_b,
+        from_a,
+        from_b,
+    }
+}
+
 /// Runs this setting by a rule.
 pub fn run<R: AllocGlobal + Abort>(rt: &R, rule: Rule, setting: Setting) -> Result<Came, Fail> {
     let alloc = rt.alloc();
+    let failing = setting.failing;
     let [to_a, to_b, from_a, from_b] = setting.pages;
-    let [read_1, read_2, read_3, read_4] = setting.failing.reads;
-    let [write_1, write_2, write_3, write_4] = setting.failing.writes;
+    let [read_1, read_2, read_3, read_4] = failing.reads;
+    let [write_1, write_2, write_3, write_4] = failing.writes;
     let deck = source(rt, alloc, setting)?;
-    let paper = MemSink::new(alloc, [setting.failing.give].to_vec(alloc)?);
-    let units = TwinUnits {
-        deck: CardUnit::new(deck),
-        paper: PrinterUnit::new(paper),
-        files: DeckFiles {
-            files: no_files(rt, alloc),
-        },
-        to_a: area(rt, alloc, to_a, read_1, write_1)?,
-        to_b: area(rt, alloc, to_b, read_2, write_2)?,
-        from_a: area(rt, alloc, from_a, read_3, write_3)?,
-        from_b: area(rt, alloc, from_b, read_4, write_4)?,
-    };
+    let first = area(rt, alloc, to_a, read_1, write_1)?;
+    let second = area(rt, alloc, to_b, read_2, write_2)?;
+    let third = area(rt, alloc, from_a, read_3, write_3)?;
+    let fourth = area(rt, alloc, from_b, read_4, write_4)?;
+    let paper = MemSink::new(alloc, [failing.give].to_vec(alloc)?);
+    let files = no_files(rt, alloc);
+    run_over(
+        alloc,
+        rule,
+        units(deck, paper, files, first, second, third, fourth),
+    )
+}
+
+/// Runs over these devices.
+fn run_over(alloc: Global, rule: Rule, units: Devices) -> Result<Came, Fail>
+    requires deck { (units.deck.live ≡ true) × (units.deck.pending ≡ []) }
+    requires unread { ⟦<MemSource as Source>⟧.taken units.deck.source ≡ 0 }
+    requires paper { units.paper.live ≡ true }
+    requires to_a { (0 < ⟦<MemArea as Area>⟧.size units.to_a) × (⟦<MemArea as Area>⟧.size units.to_a ≤ 256) }
+    requires to_b { (0 < ⟦<MemArea as Area>⟧.size units.to_b) × (⟦<MemArea as Area>⟧.size units.to_b ≤ 256) }
+    requires from_a { (0 < ⟦<MemArea as Area>⟧.size units.from_a)
+        × (⟦<MemArea as Area>⟧.size units.from_a ≤ 256) }
+    requires from_b { (0 < ⟦<MemArea as Area>⟧.size units.from_b)
+        × (⟦<MemArea as Area>⟧.size units.from_b ≤ 256) }
+    requires files { units.files.files.sound ≡ true }
+{
     let (ran, counts) = run_twin::<DeckWork, MemSource, MemSink, DeckFiles<SureArea>, MemArea>(
         alloc, units, rule,
     );
+    seen(alloc, ran, counts)
+}
+
+type DevicesRan = TwinRan<MemSource, MemSink, DeckFiles<SureArea>, MemArea>;
+
+fn seen(alloc: Global, ran: DevicesRan, counts: Counts) -> Result<Came, Fail> {
     let TwinRan {
         outcomes,
         stopped_by,
@@ -124,17 +176,17 @@ pub fn run<R: AllocGlobal + Abort>(rt: &R, rule: Rule, setting: Setting) -> Resu
         from_b,
     } = units;
     let (source, sink) = (deck.into_inner(), paper.into_inner());
-    let failed = source.faults() > 0
-        || sink.faults() > 0
-        || to_a.faults() > 0
-        || to_b.faults() > 0
-        || from_a.faults() > 0
-        || from_b.faults() > 0;
+    let paper = sink.bytes().to_vec(alloc)?;
     Ok(Came {
         outcomes,
         stopped_by,
-        paper: sink.bytes().to_vec(alloc)?,
-        failed,
+        failed: source.faults() > 0
+            || sink.faults() > 0
+            || to_a.faults() > 0
+            || to_b.faults() > 0
+            || from_a.faults() > 0
+            || from_b.faults() > 0,
+        paper,
         counts,
     })
 }
