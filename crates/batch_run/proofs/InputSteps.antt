@@ -21,7 +21,7 @@ use Rattle.batch_procs.specs.Table.{input}
 use Rattle.batch_procs.proofs.Holding.{moves-holding, release-holds, request-holds_not}
 use Rattle.batch_run.specs.declared.input_side.InputSide.{InputSide}
 use Rattle.batch_run.specs.Calls.{line_calls, spool_calls}
-use Rattle.batch_run.specs.Desks.{DeskRan, IsAt}
+use Rattle.batch_run.specs.Desks.{IsAt}
 use Rattle.batch_run.specs.Input.{InputEndsAtGates, InputMayMake, InputMade, InputRan, does_input, input_with_stop}
 use Rattle.batch_run.specs.Running.{Performed}
 use Rattle.batch_run.proofs.LineCalls as lines

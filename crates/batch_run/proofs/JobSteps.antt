@@ -23,7 +23,7 @@ use Rattle.batch_procs.proofs.Holding.{moves-holding, release-holds, request-hol
 use Rattle.batch_procs.proofs.Relay.{open-next}
 use Rattle.batch_run.specs.declared.job_side.JobSide.{JobSide}
 use Rattle.batch_run.specs.Calls.{spool_calls}
-use Rattle.batch_run.specs.Desks.{DeskRan, IsAt}
+use Rattle.batch_run.specs.Desks.{IsAt}
 use Rattle.batch_run.specs.Files.{AreLoadedAs, FileTells, FilesRan, newest_load}
 use Rattle.batch_run.specs.Job.{JobEndsAtGates, JobMayMake, JobMade, JobRan, does_job, job_with_stop}
 use Rattle.batch_run.specs.Running.{Performed}

@@ -1,5 +1,5 @@
 -- The ends of the five meet at their gates, whether these ran or none of them has begun.
-use Rattle.std.proofs.Common.{◌≡◌, ℕ, Bool, true, false, List, [], Option, refl, sym, ◌∙◌, ap, subst}
+use Rattle.std.proofs.Common.{◌≡◌, ℕ, Bool, true, false, List, [], Option, refl, sym, ◌∙◌, ap}
 use Rattle.solo_base.specs.declared.outcome.Side.{Side}
 use Rattle.solo_base.specs.declared.outcome.Side.TheVariants.{Sender, Receiver}
 use Rattle.queue_var.specs.BetweenTwo.{by_side}
@@ -19,7 +19,7 @@ use Rattle.batch_run.specs.declared.gates.Ends.{Ends}
 use Rattle.batch_run.specs.declared.row.Row.{Row}
 use Rattle.batch_run.specs.declared.row.RowEnded.{RowEnded}
 use Rattle.batch_run.specs.Begun.{AreFresh, BeginsBy, fresh_seat, units_at}
-use Rattle.batch_run.specs.Desks.{DeskRan, IsAt}
+use Rattle.batch_run.specs.Desks.{DeskRan}
 use Rattle.batch_run.specs.Files.{FileTells}
 use Rattle.batch_run.specs.Met.{AllMeet, AreEndsOf, IsParted, IsSeatAt}
 use Rattle.batch_run.specs.Row.{RowCame, RowRan, RowStays}

@@ -22,7 +22,7 @@ use Rattle.batch_procs.specs.Table.{output}
 use Rattle.batch_procs.proofs.Holding.{moves-holding, release-holds, request-holds_not}
 use Rattle.batch_run.specs.declared.output_side.OutputSide.{OutputSide}
 use Rattle.batch_run.specs.Calls.{line_calls, spool_calls}
-use Rattle.batch_run.specs.Desks.{DeskRan, IsAt}
+use Rattle.batch_run.specs.Desks.{IsAt}
 use Rattle.batch_run.specs.Output.{OutputEndsAtGates, OutputMayMake, OutputMade, OutputRan, does_output, output_with_stop}
 use Rattle.batch_run.specs.Running.{Performed}
 use Rattle.batch_run.proofs.LineCalls as lines

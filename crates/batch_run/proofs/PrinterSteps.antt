@@ -1,5 +1,5 @@
 -- One action of the printer process more: that it may perform it, and what its side has become.
-use Rattle.std.proofs.Common.{◌≡◌, ℕ, Bool, List, [], ◌∷◌, ◌++◌, Option, None, Some, refl, sym, ◌∙◌, ap, subst}
+use Rattle.std.proofs.Common.{◌≡◌, ℕ, List, [], ◌∷◌, ◌++◌, Option, Some, refl, sym, ◌∙◌, ap, subst}
 use Rattle.solo_base.specs.declared.item.Feed.{Feed}
 use Rattle.solo_base.specs.declared.outcome.Side.TheVariants.{Receiver}
 use Rattle.monitor_gate.specs.Calls.{after_call}
