@@ -197,6 +197,10 @@ has_room_left size count full few no_more is = elim (cases_lt count size) [
   both : true ≡ false → ⊥
   both e = cc
 
+-- a reply is no program that was put on the stack
+pub reply_not_pushed : (reply : SysReply) → served.Reply reply ≡ served.Pushed → ⊥
+reply_not_pushed reply e = cc
+
 -- ---- The end of a program
 
 -- the nearest of the programs below waits for this reply

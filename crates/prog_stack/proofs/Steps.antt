@@ -39,7 +39,7 @@ one_more None n = omega arith
 one_more (Some finish) n = omega arith
 
 -- an instruction leaves less
-goes_lower : (c : CodeLists) (limit : ℕ) (s t : State) → IsGood c → next c limit s ≡ Goes t → left_until_end c limit t < left_until_end c limit s
+pub goes_lower : (c : CodeLists) (limit : ℕ) (s t : State) → IsGood c → next c limit s ≡ Goes t → left_until_end c limit t < left_until_end c limit s
 goes_lower c limit s t good is =
     let runs = goes_running c limit s t is in
     let less = goes_less c limit s t good runs is in
@@ -188,9 +188,9 @@ pushed_by size name left code top below w t at asks few loaded well (suc fuel) (
 
 reply_comes : (size : ℕ) (call : SysCall) (top : Frame) (below : List Frame) (w : Shared) (t : Task Ended) (a : IsAsked size call top below w t) (x : Answer)
     → StandsWell (behind_reply top x.reply x.own).machine → ComesTo (answer (runner a.room) call top.own w) w.files x
-    → Comes size (behind_reply top x.reply x.own) below x.shared t
+    → Comes size (behind_reply top x.reply x.own) below w.files x.shared t
 reply_comes size call top below w t a x well (Simply is same) =
-    Now (subst (IsLeft size (behind_reply top x.reply x.own) below x.shared) (sym (a.is ∙ ap (λ u. and_then u a.later) is)) (a.goes_on x well))
+    Now (subst (IsLeft size (behind_reply top x.reply x.own) below x.shared) (sym (a.is ∙ ap (λ u. and_then u a.later) is)) (a.goes_on x well)) same
 reply_comes size call top below w t a x well (Changing is) = Behind (a.later x) (a.is ∙ ap (λ u. and_then u a.later) is) (a.goes_on x well)
 
 pub served_so : ServedSo
@@ -199,7 +199,7 @@ served_so size call top below pages (served.Device same) now after h t at asks (
 served_so size call top below pages (served.Reply reply) now after h t at asks (own, not_device, fits, now_is, anywhere, not_run, answers) =
     let a = asked size call top below (sharing (files pages) h) t at asks in
     let there = answers pages a.room refl a.places in
-    subst (λ l. ComesBack size l reply h after t) (sym now_is)
+    subst (λ l. ComesBack size l reply h pages after t) (sym now_is)
     (record {
       pages = there.pages;
       told = there.told;

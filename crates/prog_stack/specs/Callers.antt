@@ -3,6 +3,7 @@ use Rattle.std.specs.Prelude.{◌≡◌, ℕ, ◌≤◌, List, [], ◌∷◌, le
 use Rattle.solo_base.specs.declared.system_call.SysCall.{SysCall}
 use Rattle.solo_base.specs.declared.system_call.SysCall.TheVariants as calls
 use Rattle.solo_base.specs.declared.system_call.SysReply.{SysReply}
+use Rattle.stack_code.specs.CodeLists.{IsCode}
 use Rattle.stack_machine.specs.declared.running.Pause.{Pause}
 use Rattle.stack_machine.specs.States.{State}
 use Rattle.stack_machine.specs.Run.{Pauses}
@@ -42,6 +43,11 @@ TopAwaits reply (top ∷ below) = Awaits top.machine reply
 abbrev pub TopWell : List Frame → Type 0
 TopWell [] = Unit {0}
 TopWell (top ∷ below) = StandsWell top.machine
+
+-- and its code is no longer than code may be; there is one
+abbrev pub TopBegins : List Frame → Type 0
+TopBegins [] = ⊥
+TopBegins (top ∷ below) = StandsWell top.machine × IsCode top.machine.code
 
 -- it asks for a RUN with at least so many ticks left, or there is no program
 abbrev pub MayPush : ℕ → List Frame → Type 0

@@ -3,7 +3,7 @@ use Rattle.std.specs.Prelude.{◌≡◌, ℕ, ◌+◌, List, [], ◌∷◌, leng
 use Rattle.solo_base.specs.declared.system_call.Arg.{Arg}
 use Rattle.solo_base.specs.declared.system_call.SysCall.{SysCall}
 use Rattle.solo_base.specs.declared.system_call.SysReply.{SysReply}
-use Rattle.disk_layout.specs.Files.{files}
+use Rattle.disk_layout.specs.Files.{Files, files}
 use Rattle.stack_code.specs.CodeLists.{CodeLists}
 use Rattle.stack_machine.specs.declared.running.Pause.{Pause}
 use Rattle.stack_machine.specs.declared.state.Finish.{Finish}
@@ -54,30 +54,32 @@ Asked =
 
 -- ---- A call that is served
 
--- this is left, or the files are changed to these first
-pub data Comes (size : ℕ) (top : Frame) (below : List Frame) (w : Shared) (t : Task Ended) : Type 0 where
-  Now : IsLeft size top below w t → Comes size top below w t
+-- this is left, and the files are those before; or they are changed to these first
+pub data Comes (size : ℕ) (top : Frame) (below : List Frame) (before : Files) (w : Shared) (t : Task Ended)
+    : Type 0 where
+  Now : IsLeft size top below w t → before ≡ w.files → Comes size top below before w t
   Behind : (later : Task Ended) → t ≡ Changes w.files later → IsLeft size top below w later
-      → Comes size top below w t
+      → Comes size top below before w t
 
 -- Behind a reply, once the top program has it, this is left.
 pub record ComesBackTo (size : ℕ) (top : Frame) (below : List Frame) (reply : SysReply) (h : Hand)
-    (after : Option (List (List ℕ))) (t : Task Ended) : Type 0 where
+    (before : List (List ℕ)) (after : Option (List (List ℕ))) (t : Task Ended) : Type 0 where
   pub pages : List (List ℕ)
   pub told : after ≡ Some pages
   pub comes : StandsWell (behind_reply top reply top.own).machine
-      → Comes size (behind_reply top reply top.own) below (sharing (files pages) h) t
+      → Comes size (behind_reply top reply top.own) below (files before) (sharing (files pages) h) t
 
-abbrev pub ComesBack : ℕ → List Frame → SysReply → Hand → Option (List (List ℕ)) → Task Ended → Type 0
-ComesBack size [] reply h after t = ⊥
-ComesBack size (top ∷ below) reply h after t = ComesBackTo size top below reply h after t
+abbrev pub ComesBack : ℕ → List Frame → SysReply → Hand → List (List ℕ) → Option (List (List ℕ))
+    → Task Ended → Type 0
+ComesBack size [] reply h before after t = ⊥
+ComesBack size (top ∷ below) reply h before after t = ComesBackTo size top below reply h before after t
 
 abbrev pub IsServed : ℕ → Served → List Frame → Hand → List (List ℕ) → Option (List (List ℕ)) → Task Ended
     → Type 0
 IsServed size served.DiskFault now h before after t = Unit {0}
 IsServed size served.NoMemory now h before after t = Unit {0}
 IsServed size (served.Device call) now h before after t = IsAt size now (sharing (files before) h) t
-IsServed size (served.Reply reply) now h before after t = ComesBack size now reply h after t
+IsServed size (served.Reply reply) now h before after t = ComesBack size now reply h before after t
 IsServed size served.Pushed now h before after t = TopWell now → IsAt size now (sharing (files before) h) t
 
 abbrev pub ServedSo : Type 0

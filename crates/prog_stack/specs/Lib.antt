@@ -8,3 +8,4 @@ pub mod Shown
 pub mod Lending
 pub mod Rest
 pub mod Laws
+pub mod WorkLeft

@@ -10,6 +10,6 @@ mod running;
 mod served;
 mod stack;
 
-pub use laws::stacks_do_their_tasks;
+pub use laws::{less_is_left_behind_each_call, stacks_do_their_tasks};
 pub use served::{Ended, Served};
 pub use stack::{PROGRAM_LIMIT, ProgStack};

@@ -1,14 +1,17 @@
-ghost use Rattle.std.specs.Prelude.{◌≡◌, ℕ, ◌≤◌, nat_le, List, ◌∷◌, reverse, length, OnOk, OnErr, IfOk, IsTrue, ℤ, Some};
+ghost use Rattle.std.specs.Prelude.{◌≡◌, true, ℕ, ◌≤◌, nat_le, List, ◌∷◌, reverse, length, OnOk, OnErr, IfOk, IsTrue, ℤ, Some};
 ghost use Rattle.solo_base.specs.Fits.{Fits};
 ghost use Rattle.solo_base.specs.declared.system_call.SysCall.TheVariants as calls;
 ghost use Rattle.disk_files.specs.Answers.{FaultsOnly, stays_sound};
+ghost use Rattle.stack_code.specs.CodeLists.{IsCode};
+ghost use Rattle.stack_machine.specs.Machine.{start_state};
 ghost use Rattle.stack_machine.specs.Standing.{StandsWell, Awaits};
-ghost use Rattle.prog_stack.specs.Callers.{AreCallers, RunsTop, with_reply};
+ghost use Rattle.prog_stack.specs.Callers.{AreCallers, RunsTop, TopBegins, with_reply};
 ghost use Rattle.prog_stack.specs.Programs.{AsksFor, begun, ran, nothing_ran};
 ghost use Rattle.disk_layout.specs.Files.{files as file_map};
 ghost use Rattle.disk_system.specs.Loading.{program_of};
 ghost use Rattle.prog_stack.specs.Serves.{Serves, RunsCode, HasCode, PopsSo, load_fault, served_fault};
 ghost use Rattle.prog_stack.specs.Shown.{shown};
+ghost use Rattle.prog_stack.specs.declared.served.Served.TheVariants as served;
 
 use crate::frame::Frame;
 use crate::own::Own;
@@ -40,9 +43,10 @@ impl Running {
     ) -> Result<(), NoMemory>
         ensures pushed { OnOk result (shown self.new ≡ begun code limit args ∷ shown self.old) }
         ensures left { OnErr result (shown self.new ≡ shown self.old) }
+        ensures well { OnOk result (TopBegins (shown self.new)) }
     {
         self.below.reserve(1)?;
-        let machine = Machine::make(alloc, code, limit)?;
+        let machine = begin(alloc, code, limit)?;
         let own = Own::new(args);
         let caller = mem::replace(&mut self.top, Frame { machine, own });
         self.below.push_reserved(caller);
@@ -53,7 +57,8 @@ impl Running {
     pub(crate) fn pop(&mut self, finish: Finish) -> bool
         requires ticks { finish.ticks ≤ self.old.top.machine.limit }
         requires callers { AreCallers self.old.top.machine.limit (reverse self.old.below.items) }
-        ensures { PopsSo result finish (self.old.top) (reverse self.old.below.items) (shown self.new) }
+        ensures popped { PopsSo result finish (self.old.top) (reverse self.old.below.items) (shown self.new) }
+        ensures well { result ≡ true → StandsWell self.new.top.machine }
     {
         match self.below.pop() {
             None => false,
@@ -100,6 +105,7 @@ impl Running {
             → full ≡ nat_le size (length (shown self.old))
             → Serves size call.now self.old.top (reverse self.old.below.items) (A.pages files.old.area)
             result (shown self.new) (A.pages files.new.area) }
+        ensures well { result ≡ served.Pushed → TopBegins (shown self.new) }
         ensures sound { files.new.sound ≡ stays_sound (served_fault result) }
         ensures cause { FaultsOnly (A.faults files.old.area) (A.faults files.new.area) (served_fault result) }
     {
@@ -131,6 +137,7 @@ impl Running {
             → full ≡ nat_le size (length (shown self.old))
             → Serves size (calls.Run name.now left) self.old.top (reverse self.old.below.items)
             (A.pages files.old.area) result (shown self.new) (A.pages files.new.area) }
+        ensures well { result ≡ served.Pushed → TopBegins (shown self.new) }
         ensures sound { files.new.sound ≡ stays_sound (served_fault result) }
         ensures cause { FaultsOnly (A.faults files.old.area) (A.faults files.new.area) (served_fault result) }
     {
@@ -151,7 +158,9 @@ impl Running {
 
     // Runs this code, with the ticks that are left and the arguments that were written.
     fn run_code(&mut self, alloc: Global, code: Verified, left: u32) -> Served
-        ensures { RunsCode code left self.old.top (reverse self.old.below.items) result (shown self.new) }
+        ensures runs { RunsCode code left self.old.top (reverse self.old.below.items) result
+            (shown self.new) }
+        ensures well { result ≡ served.Pushed → TopBegins (shown self.new) }
     {
         let args = self.top.own.hand_over();
         match self.push(alloc, code, args, left) {
@@ -159,6 +168,20 @@ impl Running {
             Err(_) => Served::NoMemory,
         }
     }
+}
+
+/// The machine of a program at its beginning. A refusal drops the code.
+pub(crate) fn begin(alloc: Global, code: Verified, limit: u32) -> Result<Machine, NoMemory>
+    ensures state { IfOk result (λ machine. machine ≡ record {
+      code = code;
+      limit = limit;
+      state = start_state code;
+    }) }
+    ensures well { IfOk result (λ machine. StandsWell machine × IsCode machine.code) }
+{
+    // that it is no longer than code may be is known where it is read
+    let _routines = code.code().routines();
+    Machine::make(alloc, code, limit)
 }
 
 // The code of a file, if there is good code in one of this name.

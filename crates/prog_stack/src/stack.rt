@@ -6,7 +6,7 @@ ghost use Rattle.solo_base.specs.declared.system_call.SysReply.{SysReply};
 ghost use Rattle.stack_machine.specs.declared.running.Pause.TheVariants as pause;
 ghost use Rattle.prog_stack.specs.declared.served.Served.TheVariants as served;
 ghost use Rattle.prog_stack.specs.Shown.{shown_if};
-ghost use Rattle.prog_stack.specs.Callers.{IsStack, TakesAtMost, MayPop, MayPush, TopAsks, TopAwaits, TopWell, RunsTop, with_reply};
+ghost use Rattle.prog_stack.specs.Callers.{IsStack, TakesAtMost, MayPop, MayPush, TopAsks, TopAwaits, TopWell, RunsTop, TopBegins, with_reply};
 ghost use Rattle.prog_stack.specs.Lending.{lends_top, top_machine};
 ghost use Rattle.prog_stack.specs.Programs.{begun};
 ghost use Rattle.prog_stack.specs.Serves.{ServesTop, PopsTop, GoesOn, served_fault, top_ended};
@@ -14,7 +14,7 @@ ghost use Rattle.std.specs.Option.{option_map};
 
 use crate::frame::Frame;
 use crate::own::Own;
-use crate::running::Running;
+use crate::running::{Running, begin};
 use crate::served::{Ended, Served};
 use disk_files::FileArea;
 use solo_base::{ArgList, NoMemory, SysCall, SysReply};
@@ -82,12 +82,13 @@ impl<const N: usize> ProgStack<N> {
         requires may { MayPush limit self.old }
         ensures pushed { OnOk result (self.new ≡ begun code limit args ∷ self.old) }
         ensures left { OnErr result (self.new ≡ self.old) }
+        ensures well { OnOk result (TopBegins self.new) }
         ensures stack { IsStack N self.new }
     {
         match &mut self.running {
             Some(running) => running.push(self.alloc, code, args, limit),
             None => {
-                let machine = Machine::make(self.alloc, code, limit)?;
+                let machine = begin(self.alloc, code, limit)?;
                 let own = Own::new(args);
                 self.running = Some(Running {
                     top: Frame { machine, own },
@@ -145,6 +146,7 @@ impl<const N: usize> ProgStack<N> {
         ensures stack { GoesOn result (IsStack N self.new) }
         ensures awaits { (reply : SysReply) → result ≡ served.Reply reply → TopAwaits reply self.new }
         ensures device { (same : SysCall) → result ≡ served.Device same → TopAsks same self.new }
+        ensures well { result ≡ served.Pushed → TopBegins self.new }
         ensures sound { files.new.sound ≡ stays_sound (served_fault result) }
         ensures cause { FaultsOnly (A.faults files.old.area) (A.faults files.new.area) (served_fault result) }
     {
@@ -162,6 +164,7 @@ impl<const N: usize> ProgStack<N> {
         ensures ended { option_map (λ e. e.finish) result ≡ top_ended self.old }
         ensures popped { MatchOption result (self.new ≡ self.old)
             (λ e. PopsTop e.finish self.old e.args self.new) }
+        ensures well { IfSome result (λ _. TopWell self.new) }
         ensures stack { IsStack N self.new }
     {
         match self.finished() {
@@ -189,7 +192,8 @@ impl<const N: usize> ProgStack<N> {
 // those of the last program.
 fn pop_from(running: &mut Option<Running>, finish: Finish) -> ArgList
     requires { MayPop finish.ticks (shown_if running.old) }
-    ensures { PopsTop finish (shown_if running.old) result (shown_if running.new) }
+    ensures popped { PopsTop finish (shown_if running.old) result (shown_if running.new) }
+    ensures well { TopWell (shown_if running.new) }
 {
     let Some(mut programs) = running.take() else {
         unreachable!();

@@ -1,4 +1,5 @@
-//! The program `solo`: its words are a command, which runs over the standard streams.
+//! The program `solo`: its words are a command, which runs over the standard streams. A session of Solo has
+//! its cards and its paper in files.
 #![tactic(auto)]
 
 mod fault;
@@ -25,6 +26,16 @@ use std::thread::Threads;
 const DRIVE: &str = "solo.disk";
 
 const NEW_DRIVE: &str = "solo.disk.new";
+
+/// The cards of a session, and its paper. They stand beside the drive.
+const CARDS: &str = "cards.txt";
+
+const PRINTER: &str = "printer.txt";
+
+/// What has no bytes, and what can be neither read nor written. Both are there on each system.
+const NOTHING: &str = "/dev/null";
+
+const ROOT: &str = "/";
 
 /// The drive's pages of files, and behind them those of the input spool and those of the output spool.
 const FILE_PAGES: u16 = 4288;
@@ -126,6 +137,9 @@ where
         None => None,
     };
     let by_line = on_terminal || !reads_file(rt);
+    if command_of(words) == Some(Command::Solo) {
+        return run_session(rt, path, words, by_line);
+    }
     let output = WriterSink::new(paper_over(rt.alloc(), io::writer(rt), by_line)?);
     let input = ReaderSource::new(rt.reader());
     let memory = SureSink::new(rt.alloc());
@@ -145,6 +159,54 @@ where
     Ok(ended)
 }
 
+/// Runs a session: the keys are standard input and the console is standard output, whose lines go out at
+/// once. The cards and the paper are files.
+fn run_session<R: Input + Print + Files<File = File> + AllocGlobal + Threads + Wait + Sync>(
+    rt: &R,
+    path: Option<&str>,
+    words: &[String],
+    by_line: bool,
+) -> Result<Ended, NoMemory>
+where
+    R::Reader: Send + Drop,
+{
+    let Ok(cards) = open_cards(rt) else {
+        return Ok(Ended::with(2, Fault::Read));
+    };
+    let Ok(printer) = make_printer(rt) else {
+        return Ok(Ended::with(4, Fault::Print));
+    };
+    let (deck, keys) = (ReaderSource::new(cards), ReaderSource::new(rt.reader()));
+    let paper = WriterSink::new(paper_over(rt.alloc(), printer, by_line)?);
+    let console = WriterSink::new(paper_over(rt.alloc(), io::writer(rt), true)?);
+    let (mut paper, mut console, ended) = over_drive(rt, path, words, deck, keys, paper, console);
+    if paper.flush().is_err() && (ended.status == 0 || ended.status > 4) {
+        return Ok(Ended::with(4, Fault::Print));
+    }
+    if console.flush().is_err() && (ended.status == 0 || ended.status > 5) {
+        return Ok(Ended::with(5, Fault::Console));
+    }
+    Ok(ended)
+}
+
+/// The cards of a session: none where their file isn't there. Where it can't be opened, each read of what is
+/// given fails.
+fn open_cards<R: Files<File = File>>(rt: &R) -> io::Result<File> {
+    match File::open(rt, CARDS) {
+        Ok(cards) => Ok(cards),
+        Err(error) if error.kind() == ErrorKind::NotFound => File::open(rt, NOTHING),
+        Err(_) => File::open(rt, ROOT),
+    }
+}
+
+/// The paper of a session, made anew. Where it can't be made, each write to what is given fails.
+fn make_printer<R: Files<File = File>>(rt: &R) -> io::Result<File> {
+    match File::create(rt, PRINTER) {
+        Ok(printer) => Ok(printer),
+        Err(_) => File::open(rt, ROOT),
+    }
+}
+
 /// A deck of no cards, or keys on which nothing is typed.
 fn no_bytes(rt: &impl AllocGlobal) -> SureSource
     ensures { ⟦<SureSource as Source>⟧.taken result ≡ 0 }
@@ -157,9 +219,9 @@ fn no_bytes(rt: &impl AllocGlobal) -> SureSource
 fn over_drive<
     R: Files<File = File> + AllocGlobal + Threads + Wait + Sync,
     S: Source + Send + Drop,
-    Y: Source + Drop,
+    Y: Source + Send + Drop,
     K: Sink + Send + Drop,
-    T: Sink,
+    T: Sink + Send + Drop,
 >(
     rt: &R,
     path: Option<&str>,

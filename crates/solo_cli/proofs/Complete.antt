@@ -14,9 +14,9 @@ use Rattle.solo_cli.specs.Causes.{IsMakeCause, IsCheckCause, IsWithinLimit}
 use Rattle.solo_cli.specs.Devices.{Kit}
 use Rattle.solo_cli.specs.Does.{DoesItsWork}
 use Rattle.solo_cli.specs.Ready.{MayBeGiven}
-use Rattle.solo_cli.specs.Refusals.{IsDeckCause, IsMadeDeckCause, IsMigrateCause, MayBeRefused}
+use Rattle.solo_cli.specs.Refusals.{IsDeckCause, IsMadeDeckCause, IsMigrateCause, IsSoloCause, MayBeRefused}
 use Rattle.solo_cli.specs.Status.{status_of}
-use Rattle.solo_cli.specs.Uses.{IfUsed, reader, uses}
+use Rattle.solo_cli.specs.Uses.{IfUsed, OfEachRead, OfSomeRead, of_some, uses}
 use Rattle.solo_cli.proofs.Migrations.{none-named}
 use Rattle.solo_cli.proofs.ReadToEnd.{none-beyond}
 use Rattle.solo_cli.proofs.Statuses.{by_one, not_limit}
@@ -61,6 +61,10 @@ no-console (inl (inr (inr (inr (inr (inl is)))))) = is
 no-console (inl (inr (inr (inr (inr (inr is)))))) = cc
 no-console (inr (page, is)) = cc
 
+no-session : IsSoloCause cause.Usage → ⊥
+no-session (inl is) = is
+no-session (inr (page, is)) = cc
+
 -- words that are no command, by the cause
 pub usage-is : (asked : Option Command) → MayBeRefused asked (Fault cause.Usage) → asked ≡ None
 usage-is None known = refl
@@ -71,6 +75,7 @@ usage-is (Some command.Format) known = cc
 usage-is (Some command.Migrate) known = absurd (no-usage (among-migrate cause.Usage known))
 usage-is (Some command.Check) known = absurd (no-usage (among-check cause.Usage known))
 usage-is (Some (command.Times schedule)) known = absurd known
+usage-is (Some command.Solo) known = absurd (no-session known)
 
 -- want of room is a migration's
 room-is : (asked : Option Command) (needed free : ℕ) → MayBeRefused asked (NoRoom needed free) → asked ≡ Some command.Migrate
@@ -82,6 +87,7 @@ room-is (Some command.Format) needed free is = cc
 room-is (Some command.Migrate) needed free is = refl
 room-is (Some command.Check) needed free is = absurd is
 room-is (Some (command.Times schedule)) needed free is = absurd is
+room-is (Some command.Solo) needed free is = absurd is
 
 -- what is within the limit tells its bytes
 tells : (left : Option (List ℕ)) → IsWithinLimit left → IsSome left
@@ -90,10 +96,12 @@ tells (Some bytes) within = refl
 
 module _ {S Y K T F I O : Type 0} (before after : Kit S Y K T F I O) where
   -- ---- no device was counted to fail
-  no-read : (keys : Bool) → Rose (reader keys before).faults (reader keys after).faults → Stayed before.deck.faults after.deck.faults
-      → IfUsed keys (Stayed before.keys.faults after.keys.faults) → ⊥
-  no-read true rose deck stayed = omega (arith, rose, stayed)
-  no-read false rose deck stayed = omega (arith, rose, deck)
+  no-read : (keys deck : Bool) → of_some keys deck (Rose before.deck.faults after.deck.faults) (Rose before.keys.faults after.keys.faults)
+      → Stayed before.deck.faults after.deck.faults → IfUsed keys (Stayed before.keys.faults after.keys.faults) → ⊥
+  no-read false deck rose stayed typed = omega (arith, rose, stayed)
+  no-read true false rose stayed typed = omega (arith, rose, typed)
+  no-read true true (inl rose) stayed typed = omega (arith, rose, stayed)
+  no-read true true (inr rose) stayed typed = omega (arith, rose, typed)
 
   no-disk : (asked : Option Command) → NothingFails asked before after
       → Rose before.input.faults after.input.faults ⊎ Rose before.output.faults after.output.faults ⊎ Rose before.files.faults after.files.faults → ⊥
@@ -111,12 +119,13 @@ module _ {S Y K T F I O : Type 0} (before after : Kit S Y K T F I O) where
   no-show (Some command.Migrate) n known rose = no-console (among-migrate cause.ConsoleFault known)
   no-show (Some command.Check) n known rose = no-console (among-check cause.ConsoleFault known)
   no-show (Some (command.Times schedule)) n known rose = (let stayed = n.console in omega (arith, rose, stayed))
+  no-show (Some command.Solo) n known rose = (let stayed = n.console in omega (arith, rose, stayed))
 
   -- ---- what is read is within the limit
   no-limit : (asked : Option Command) → NothingFails asked before after → MayBeGiven before → MayBeRefused asked (Fault cause.DeckLimit)
-      → bytes_total (reader (uses asked).keys after).taken (reader (uses asked).keys after).left
-      ≡ bytes_total (reader (uses asked).keys before).taken (reader (uses asked).keys before).left
-      → byte_limit < (reader (uses asked).keys after).taken → ⊥
+      → OfEachRead (uses asked) (bytes_total after.deck.taken after.deck.left ≡ bytes_total before.deck.taken before.deck.left)
+      (bytes_total after.keys.taken after.keys.left ≡ bytes_total before.keys.taken before.keys.left)
+      → OfSomeRead (uses asked) (byte_limit < after.deck.taken) (byte_limit < after.keys.taken) → ⊥
   no-limit None n ready known total more = cc
   no-limit (Some command.Batch) n ready known total more =
       none-beyond after.deck.taken before.deck.taken after.deck.left before.deck.left n.deck_within ready.deck total more
@@ -131,6 +140,10 @@ module _ {S Y K T F I O : Type 0} (before after : Kit S Y K T F I O) where
       none-beyond after.deck.taken before.deck.taken after.deck.left before.deck.left n.deck_within ready.deck total more
   no-limit (Some (command.Times schedule)) n ready known total more =
       none-beyond after.keys.taken before.keys.taken after.keys.left before.keys.left n.keys_within ready.keys total more
+  no-limit (Some command.Solo) n ready known total (inl more) =
+      none-beyond after.deck.taken before.deck.taken after.deck.left before.deck.left n.deck_within ready.deck total.0 more
+  no-limit (Some command.Solo) n ready known total (inr more) =
+      none-beyond after.keys.taken before.keys.taken after.keys.left before.keys.left n.keys_within ready.keys total.1 more
 
   told-where : (used : Bool) → IfUsed used (IsWithinLimit before.deck.left) → IfUsed used (IsSome before.deck.left)
   told-where true within = tells before.deck.left within
@@ -143,7 +156,7 @@ module _ {S Y K T F I O : Type 0} (before after : Kit S Y K T F I O) where
   completes asked None some n ready does a = inl refl
   completes asked (Some (NoRoom needed free)) some n ready does a = inr (inr (refl, room-is asked needed free a.known))
   completes asked (Some (Fault cause.Usage)) some n ready does a = absurd (some (usage-is asked a.known))
-  completes asked (Some (Fault cause.ReadFault)) some n ready does a = absurd (no-read (uses asked).keys (a.read refl) n.deck n.keys)
+  completes asked (Some (Fault cause.ReadFault)) some n ready does a = absurd (no-read (uses asked).keys (uses asked).deck (a.read refl) n.deck n.keys)
   completes asked (Some (Fault cause.DiskFault)) some n ready does a = absurd (no-disk asked n (a.disk refl))
   completes asked (Some (Fault cause.PrintFault)) some n ready does a = absurd (let rose = a.print refl in let stayed = n.paper in omega (arith, rose, stayed))
   completes asked (Some (Fault cause.ConsoleFault)) some n ready does a = absurd (no-show asked n a.known (a.shown refl))

@@ -22,7 +22,7 @@ use Rattle.solo_cli.specs.declared.refusal.Refusal.TheVariants.{Fault, NoRoom}
 use Rattle.solo_cli.specs.Reasons.{Answers, AsRun}
 use Rattle.solo_cli.specs.Causes.{IsPrintCause, IsRunCause}
 use Rattle.solo_cli.specs.CountsLine.{counts_line}
-use Rattle.solo_cli.specs.DeckRuns.{CoreEnds, GainsCounted, RunsBatch, RunsCore, SpoolsTell, core_over, spools_told}
+use Rattle.solo_cli.specs.DeckRuns.{BatchEnds, CoreEnds, GainsCounted, RunsBatch, RunsCore, SpoolsTell, core_over, spools_told}
 use Rattle.solo_cli.specs.Decides.{DeckEnds, LineBehind, Nothing}
 use Rattle.solo_cli.specs.Devices.{SinkTold, SourceTold, Kit}
 use Rattle.solo_cli.specs.Mounting.{AreMounted, Untouched}
@@ -53,18 +53,18 @@ mounted-ready m ready =
 
 module _ {S Y K T F I O : Type 0} {before after : Kit S Y K T F I O} {answer : Option Refusal} where
   -- ---- `batch`
-  pub batch-ran : (ends : DeckEnds Nothing before after answer) → MayBeGiven before
-      → (IsSome before.input.pages → IsSome before.output.pages → NoneDamaged ends.five.outcomes)
+  pub batch-ran : (batch : BatchEnds before after answer) → MayBeGiven before
+      → (IsSome before.input.pages → IsSome before.output.pages → NoneDamaged batch.ends.five.outcomes)
       → bytes_total after.deck.taken after.deck.left ≡ bytes_total before.deck.taken before.deck.left
-      → Kept deck_used before after → after.files.size ≡ before.files.size → (ends.five.outcomes ≡ all_done → IsAllTaken after.deck.left)
-      → GainsLines before after.paper.given (ends.five.outcomes ≡ all_done) → AsRun RunsBatch deck_used IsRunCause before after answer
-  batch-ran ends ready none total kept size taken gains =
-      let answers = deck-answers ends (λ why never. absurd never) none total kept size in (
+      → Kept deck_used before after → after.files.size ≡ before.files.size → (batch.ends.five.outcomes ≡ all_done → IsAllTaken after.deck.left)
+      → GainsLines before after.paper.given (batch.ends.five.outcomes ≡ all_done) → AsRun RunsBatch deck_used IsRunCause before after answer
+  batch-ran batch ready none total kept size taken gains =
+      let answers = deck-answers batch.ends (λ why never. absurd never) none total kept size in (
         record {
           prints = λ bytes found told files spools.
-              gains-same _ _ _ _ _ _ _ _ refl refl refl (λ none. ends.five.done none) (gains bytes found told files spools);
-          reads = reads-to-end ready.deck answers.total (λ none. taken (ends.five.done none)) answers.beyond;
-          ends = inl ends;
+              gains-same _ _ _ _ _ _ _ _ refl refl refl (λ none. batch.ends.five.done none) (gains bytes found told files spools);
+          reads = reads-to-end ready.deck answers.total (λ none. taken (batch.ends.five.done none)) answers.beyond;
+          ends = inl batch;
         },
         answers,
       )

@@ -6,6 +6,7 @@ mod ReadToEnd
 mod Mounted
 mod Unmounted
 mod Uncounted
+mod BatchTold
 mod DeckRan
 mod MadeRuns
 mod MemoryRuns
@@ -26,3 +27,9 @@ mod Scripts
 mod KeysAnswers
 mod FilesAnswers
 mod Judging
+mod SessionEnding
+mod SessionFiles
+mod SessionTold
+mod NoSession
+mod SessionMounted
+mod SessionRuns

@@ -61,3 +61,4 @@ none-named before after (Some command.Migrate) page (pages, is, keeps) known doe
     neither pages after.files.pages page keeps (does.migrated pages is)
 none-named before after (Some command.Check) page can known does = no_page page known
 none-named before after (Some (command.Times schedule)) page can known does = known
+none-named before after (Some command.Solo) page (pages, is, solo) known does = no-solo pages page solo ((does.1.not_solo page refl).0 pages is)

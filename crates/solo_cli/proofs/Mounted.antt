@@ -16,7 +16,7 @@ use Rattle.network_run.specs.declared.rules.Rule.TheVariants.{Numbered}
 use Rattle.solo_cli.specs.declared.refusal.Refusal.{Refusal}
 use Rattle.solo_cli.specs.declared.refusal.Refusal.TheVariants.{Fault, NoRoom}
 use Rattle.solo_cli.specs.Reasons.{Answers}
-use Rattle.solo_cli.specs.DeckRuns.{CoreEnds, GainsCounted, RunsBatch, RunsCore, spools_told}
+use Rattle.solo_cli.specs.DeckRuns.{BatchEnds, CoreEnds, GainsCounted, RunsBatch, RunsCore, spools_told}
 use Rattle.solo_cli.specs.Decides.{DeckEnds, Nothing}
 use Rattle.solo_cli.specs.Devices.{Kit}
 use Rattle.solo_cli.specs.MakesDeck.{GainsNumbers, MakesDeck}
@@ -29,13 +29,13 @@ pub no-solo : (pages : List (List ℕ)) (n : ℕ) → IsSoloDisk pages → IsBad
 no-solo pages n solo bad = bad.breaks (solo n)
 
 -- the devices with the area that was mounted
-abbrev moved : {S Y K T F I O : Type 0} → Kit S Y K T F I O → Kit S Y K T F I O → Kit S Y K T F I O
+abbrev pub moved : {S Y K T F I O : Type 0} → Kit S Y K T F I O → Kit S Y K T F I O → Kit S Y K T F I O
 moved before mid = record before { files = mid.files }
 
-untouched : {S Y K T F I O : Type 0} (before mid after : Kit S Y K T F I O) → Untouched (moved before mid) after → Untouched before after
+pub untouched : {S Y K T F I O : Type 0} (before mid after : Kit S Y K T F I O) → Untouched (moved before mid) after → Untouched before after
 untouched before mid after u = record { deck = u.deck; paper = u.paper; input = u.input; output = u.output }
 
-disk-on : {S Y K T F I O : Type 0} (before mid after : Kit S Y K T F I O) → before.files.faults ≤ mid.files.faults
+pub disk-on : {S Y K T F I O : Type 0} (before mid after : Kit S Y K T F I O) → before.files.faults ≤ mid.files.faults
     → Rose before.input.faults after.input.faults ⊎ Rose before.output.faults after.output.faults ⊎ Rose mid.files.faults after.files.faults
     → Rose before.input.faults after.input.faults ⊎ Rose before.output.faults after.output.faults ⊎ Rose before.files.faults after.files.faults
 disk-on before mid after later (inl rose) = inl rose
@@ -63,13 +63,16 @@ module _ {S Y K T F I O : Type 0} {before mid after : Kit S Y K T F I O} {answer
   }
 
   -- ---- `batch`
+  batch-ends : BatchEnds (moved before mid) after answer → BatchEnds before after answer
+  batch-ends e = record { ends = deck-ends e.ends; histories_are = e.histories_are; each = e.each }
+
   of-batch : RunsBatch (moved before mid) after answer → RunsBatch before after answer
   of-batch ran = record {
     prints = λ bytes found told files spools.
         ran.prints bytes found told (subst (λ pages. AreFound (files_found pages) found (cards bytes)) (sym m.left) files)
         record { input = spools.input; output = spools.output };
     reads = ran.reads;
-    ends = or-untouched before mid after deck-ends ran.ends;
+    ends = or-untouched before mid after batch-ends ran.ends;
   }
 
   pub mounted-batch : RunsBatch mid after answer → RunsBatch before after answer

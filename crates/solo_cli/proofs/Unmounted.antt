@@ -50,17 +50,17 @@ unless true holds = tt
 unless false holds = holds
 
 -- what a mount is refused for
-abbrev MountCause : Cause → Type 0
+abbrev pub MountCause : Cause → Type 0
 MountCause why = (why ≡ cause.DiskFault) ⊎ ((why ≡ cause.NoMemory) ⊎ IsNotSolo why)
 
-mount-numbers : (why : Cause) → MountCause why → TellsWhere why
+pub mount-numbers : (why : Cause) → MountCause why → TellsWhere why
 mount-numbers why (inl is) = subst TellsWhere (sym is) tt
 mount-numbers why (inr (inl is)) = subst TellsWhere (sym is) tt
 mount-numbers why (inr (inr (page, is))) = subst TellsWhere (sym is) tt
 
 module _ {S Y K T F I O : Type 0} {before after : Kit S Y K T F I O} {answer : Option Refusal} (u : AreUnmounted before after answer) where
   -- ---- the cause
-  some-cause : IsWhyUnmounted before.files after.files answer → (why : Cause) × (answer ≡ Some (Fault why)) × MountCause why
+  pub some-cause : IsWhyUnmounted before.files after.files answer → (why : Cause) × (answer ≡ Some (Fault why)) × MountCause why
   some-cause (inl is) = (cause.DiskFault, is.0, inl refl)
   some-cause (inr (inl is)) = (cause.NoMemory, is, inr (inl refl))
   some-cause (inr (inr (page, is, bad))) = (cause.NotSolo page, is, inr (inr (page, refl)))
@@ -72,12 +72,12 @@ module _ {S Y K T F I O : Type 0} {before after : Kit S Y K T F I O} {answer : O
       let same : some.0 ≡ c = cc in
       other (subst MountCause same some.2)
 
-  refused : answer ≡ None → ⊥
+  pub refused : answer ≡ None → ⊥
   refused none =
       let some = some-cause u.why in
       let no : Some (Fault some.0) ≡ None = sym some.1 ∙ none in cc
 
-  untouched : Untouched before after
+  pub untouched : Untouched before after
   untouched = record {
     deck = ap (λ t. t.deck) u.stays;
     paper = ap (λ t. t.paper) u.stays;
@@ -122,13 +122,13 @@ module _ {S Y K T F I O : Type 0} {before after : Kit S Y K T F I O} {answer : O
   }
 
   -- ---- the files
-  refuses : (pages : List (List ℕ)) → before.files.pages ≡ Some pages → IsWhyUnmounted before.files after.files answer
+  pub refuses : (pages : List (List ℕ)) → before.files.pages ≡ Some pages → IsWhyUnmounted before.files after.files answer
       → RefusesFiles pages before.files.faults after.files.faults answer
   refuses pages told (inl is) = inr (inl is)
   refuses pages told (inr (inl is)) = inr (inr is)
   refuses pages told (inr (inr (page, is, bad))) = inl (page, is, bad pages told)
 
-  named : (page : ℕ) → answer ≡ Some (Fault (cause.NotSolo page)) → IsWhyUnmounted before.files after.files answer
+  pub named : (page : ℕ) → answer ≡ Some (Fault (cause.NotSolo page)) → IsWhyUnmounted before.files after.files answer
       → (pages : List (List ℕ)) → before.files.pages ≡ Some pages → IsBad pages page
   named page at (inl is) = absurd (let no : Some (Fault cause.DiskFault) ≡ Some (Fault (cause.NotSolo page)) = sym is.0 ∙ at in cc)
   named page at (inr (inl is)) = absurd (let no : Some (Fault cause.NoMemory) ≡ Some (Fault (cause.NotSolo page)) = sym is ∙ at in cc)
@@ -145,7 +145,7 @@ module _ {S Y K T F I O : Type 0} {before after : Kit S Y K T F I O} {answer : O
   }
 
   -- ---- the answers
-  disk-rose : answer ≡ Some (Fault cause.DiskFault) → IsWhyUnmounted before.files after.files answer
+  pub disk-rose : answer ≡ Some (Fault cause.DiskFault) → IsWhyUnmounted before.files after.files answer
       → Rose before.files.faults after.files.faults
   disk-rose at (inl is) = is.1
   disk-rose at (inr (inl is)) = absurd (let no : Some (Fault cause.NoMemory) ≡ Some (Fault cause.DiskFault) = sym is ∙ at in cc)

@@ -70,20 +70,21 @@ or-both : (first second : Option Command) (n : ℕ) → IsMadeOf n first → IsM
 or-both None second n one two = two
 or-both (Some found) second n one two = one
 
-alone-by : (batch format migrate check : Bool) (n : ℕ)
+alone-by : (batch format migrate check solo : Bool) (n : ℕ)
     → IsMadeOf n (if batch then Some command.Batch else if format then Some command.Format
-    else if migrate then Some command.Migrate else if check then Some command.Check else None)
-alone-by true format migrate check n = λ is. cc
-alone-by false true migrate check n = λ is. cc
-alone-by false false true check n = λ is. cc
-alone-by false false false true n = λ is. cc
-alone-by false false false false n = λ is. cc
+    else if migrate then Some command.Migrate else if check then Some command.Check else if solo then Some command.Solo else None)
+alone-by true format migrate check solo n = λ is. cc
+alone-by false true migrate check solo n = λ is. cc
+alone-by false false true check solo n = λ is. cc
+alone-by false false false true solo n = λ is. cc
+alone-by false false false false true n = λ is. cc
+alone-by false false false false false n = λ is. cc
 
 pub number_made : (words : List (List ℕ)) (n : ℕ) → form words ≡ Some (command.Make n) → n ≤ 50000
 number_made [] n = λ is. cc
 number_made (word ∷ []) n =
     alone-by (bytes_eq word (codes "batch")) (bytes_eq word (codes "format")) (bytes_eq word (codes "migrate"))
-    (bytes_eq word (codes "check")) n
+    (bytes_eq word (codes "check")) (bytes_eq word (codes "solo")) n
 number_made (first ∷ second ∷ []) n =
     or-both (joined first second) (joined second first) n (with-joined second (takes_number first) n) (with-joined first (takes_number second) n)
 number_made (first ∷ second ∷ third ∷ []) n =
@@ -101,6 +102,7 @@ has-of words (Some command.Format) is = tt
 has-of words (Some command.Migrate) is = tt
 has-of words (Some command.Check) is = tt
 has-of words (Some (command.Times schedule)) is = tt
+has-of words (Some command.Solo) is = tt
 
 pub has-number : (words : List (List ℕ)) → HasNumber (form words)
 has-number words = has-of words (form words) refl

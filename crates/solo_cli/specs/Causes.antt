@@ -23,6 +23,18 @@ IsReadCause c = (c ≡ cause.ReadFault) ⊎ ((c ≡ cause.DeckLimit) ⊎ (c ≡ 
 abbrev pub IsCheckCause : Cause → Type 0
 IsCheckCause c = (c ≡ cause.PrintFault) ⊎ IsReadCause c
 
+-- what may end a session
+abbrev pub IsSessionCause : Cause → Type 0
+IsSessionCause cause.ReadFault = Unit {0}
+IsSessionCause cause.DiskFault = Unit {0}
+IsSessionCause cause.PrintFault = Unit {0}
+IsSessionCause cause.ConsoleFault = Unit {0}
+IsSessionCause cause.DeckLimit = Unit {0}
+IsSessionCause cause.NoMemory = Unit {0}
+IsSessionCause cause.Usage = ⊥
+IsSessionCause (cause.NotSolo page) = ⊥
+IsSessionCause (cause.Damaged expected found at) = ⊥
+
 -- what may end the printing of a line
 abbrev pub IsPrintCause : Cause → Type 0
 IsPrintCause c = (c ≡ cause.PrintFault) ⊎ (c ≡ cause.NoMemory)

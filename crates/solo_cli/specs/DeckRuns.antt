@@ -15,13 +15,17 @@ use Rattle.network_run.specs.OneRun.{AreItsCounts}
 use Rattle.core_law.specs.Core.{CoreState, Devices as CoreDevices}
 use Rattle.core_law.specs.Opening.{Spools, opened}
 use Rattle.core_law.specs.TheLaw.{the_law}
+use Rattle.core_law.specs.Ends.{IsProcess}
+use Rattle.batch_procs.specs.Table.{process}
+use Rattle.batch_ends.specs.Ended.{outcome_at, stopped_at}
 use Rattle.batch_ends.specs.Openings.{spools_over}
+use Rattle.batch_run.specs.FiveRan.{EndedSo, FiveRan, histories}
 use Rattle.core_net.specs.WholeRuns.{RunsToEnd}
 use Rattle.deck_work.specs.DeckJobs.{AreFound, deck_jobs, files_found}
 use Rattle.solo_cli.specs.declared.refusal.Refusal.{Refusal}
 use Rattle.solo_cli.specs.CountsLine.{counts_line}
 use Rattle.solo_cli.specs.Decides.{DeckEnds, LineBehind, Nothing}
-use Rattle.solo_cli.specs.Devices.{Kit}
+use Rattle.solo_cli.specs.Devices.{AreaTold, Kit}
 use Rattle.solo_cli.specs.Mounting.{Untouched}
 use Rattle.solo_cli.specs.Reading.{ReadsToEnd}
 
@@ -40,6 +44,22 @@ abbrev pub core_over : {S Y K T F I O : Type 0} → Kit S Y K T F I O → Option
 core_over told deck paper = opened (spools_told told) deck paper (files_found told.files.pages)
 
 -- ---- `batch`
+abbrev pub pages_told : {F : Type 0} → AreaTold F → Option (List (List ℕ))
+pages_told area = area.pages
+
+abbrev pub faults_told : {F : Type 0} → AreaTold F → ℕ
+faults_told area = area.faults
+
+-- The five that ran so: each has a history of its own, by which the calls of both sides of each of the four
+-- buffers have met, and ended as this history says; by these outcomes the cause is decided.
+pub record BatchEnds {S Y K T F I O : Type 0} (before after : Kit S Y K T F I O) (answer : Option Refusal)
+    : Type 0 where
+  pub ends : DeckEnds Nothing before after answer
+  pub histories_are : FiveRan deck_jobs pages_told faults_told pages_told faults_told before.input after.input
+      before.output after.output (stopped_at ends.five.stopped_by)
+  pub each : (p : ℕ) → IsProcess p
+      → EndedSo (process deck_jobs p) (histories histories_are p) (outcome_at ends.five.outcomes p)
+
 -- The paper gains what one thread prints of the deck, with the files as they are told, or with any where no
 -- job names one; or a prefix of it, and all of it where there is no cause.
 pub record RunsBatch {S Y K T F I O : Type 0} (before after : Kit S Y K T F I O) (answer : Option Refusal)
@@ -48,7 +68,7 @@ pub record RunsBatch {S Y K T F I O : Type 0} (before after : Kit S Y K T F I O)
       → AreFound (files_found before.files.pages) found (cards bytes) → SpoolsTell before
       → Gains before.paper.given after.paper.given (text (one_thread_output found bytes)) (answer ≡ None)
   pub reads : ReadsToEnd before.deck after.deck (answer ≡ None)
-  pub ends : DeckEnds Nothing before after answer ⊎ Untouched before after
+  pub ends : BatchEnds before after answer ⊎ Untouched before after
 
 -- ---- `core`
 -- A paper gains these lines and behind them the line of these counts, or a prefix of that; all of it where

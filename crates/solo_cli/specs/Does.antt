@@ -18,6 +18,7 @@ use Rattle.solo_cli.specs.FileCommands.{FormatsTo, MigratesTo}
 use Rattle.solo_cli.specs.MakesDeck.{MakesDeck}
 use Rattle.solo_cli.specs.Mounting.{MountsFiles}
 use Rattle.solo_cli.specs.Reading.{ReadsToEnd}
+use Rattle.solo_cli.specs.Sessions.{MountsFirst, RunsSession}
 use Rattle.solo_cli.specs.TimesConsole.{GainsTimes}
 
 -- `check`: the paper gains the line of the judgement of the deck, as a description of access rights, or a
@@ -67,3 +68,5 @@ DoesItsWork (Some command.Format) before after answer = Formats before after ans
 DoesItsWork (Some command.Migrate) before after answer = MigratesFiles before after answer
 DoesItsWork (Some command.Check) before after answer = Checks before after answer
 DoesItsWork (Some (command.Times schedule)) before after answer = RunsTimes schedule before after answer
+DoesItsWork (Some command.Solo) before after answer =
+    RunsSession before after answer × MountsFirst before after answer

@@ -54,3 +54,4 @@ CanUse (Some command.Format) told = Unit {0}
 CanUse (Some command.Migrate) told = Told told KeepsItsFormat
 CanUse (Some command.Check) told = Unit {0}
 CanUse (Some (command.Times schedule)) told = Unit {0}
+CanUse (Some command.Solo) told = Told told IsSoloDisk

@@ -29,4 +29,5 @@ pub mod Tallies
 pub mod MakesDeck
 pub mod AccessLines
 pub mod TimesConsole
+pub mod Sessions
 pub mod Does

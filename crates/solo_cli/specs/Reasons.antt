@@ -1,5 +1,5 @@
 -- Why a command ended as it did, told by its devices.
-use Rattle.std.specs.Prelude.{◌≡◌, ◌≢◌, ◌<◌, ◌⊎◌, Option, Some, IfSome, IsSome}
+use Rattle.std.specs.Prelude.{◌≡◌, ◌≢◌, ◌<◌, ◌⊎◌, Bool, true, false, Option, Some, IfSome, IsSome}
 use Rattle.solo_base.specs.declared.outcome.Cause.{Cause}
 use Rattle.solo_base.specs.declared.outcome.Cause.TheVariants as cause
 use Rattle.solo_devices.specs.Count.{Rose, Stayed}
@@ -12,7 +12,19 @@ use Rattle.solo_cli.specs.Devices.{Kit}
 use Rattle.solo_cli.specs.FileCommands.{CanUse}
 use Rattle.solo_cli.specs.Refusals.{OfFault, TellsPlace}
 use Rattle.solo_cli.specs.Status.{status_of}
-use Rattle.solo_cli.specs.Uses.{DevicesUsed, Kept, IfUsed, reader, uses}
+use Rattle.solo_cli.specs.Uses.{DevicesUsed, Kept, IfUsed, OfEachRead, OfSomeRead, uses}
+
+-- The limit is the cause, or what comes before it: a fault of the disk or the paper.
+abbrev pub IsByLimit : Option Refusal → Type 0
+IsByLimit answer = (answer ≡ Some (Fault cause.DiskFault)) ⊎ (answer ≡ Some (Fault cause.PrintFault))
+    ⊎ (answer ≡ Some (Fault cause.DeckLimit))
+
+-- Where both keys and deck are read, a fault of the other one or of the console comes before it, too.
+abbrev pub EndsByLimit : Bool → Bool → Option Refusal → Type 0
+EndsByLimit false deck answer = IsByLimit answer
+EndsByLimit true false answer = IsByLimit answer
+EndsByLimit true true answer =
+    (answer ≡ Some (Fault cause.ReadFault)) ⊎ ((answer ≡ Some (Fault cause.ConsoleFault)) ⊎ IsByLimit answer)
 
 -- Why a command ended so that uses these devices and may have these causes.
 pub record Answers {S Y K T F I O : Type 0} (used : DevicesUsed) (MayBe : Refusal → Type 0)
@@ -20,16 +32,17 @@ pub record Answers {S Y K T F I O : Type 0} (used : DevicesUsed) (MayBe : Refusa
   pub known : IfSome answer MayBe
   -- Each fault was counted by its own device since.
   pub read : answer ≡ Some (Fault cause.ReadFault)
-      → Rose (reader used.keys before).faults (reader used.keys after).faults
+      → OfSomeRead used (Rose before.deck.faults after.deck.faults)
+      (Rose before.keys.faults after.keys.faults)
   pub disk : answer ≡ Some (Fault cause.DiskFault) → Rose before.input.faults after.input.faults
       ⊎ Rose before.output.faults after.output.faults ⊎ Rose before.files.faults after.files.faults
   pub print : answer ≡ Some (Fault cause.PrintFault) → Rose before.paper.faults after.paper.faults
   pub shown : answer ≡ Some (Fault cause.ConsoleFault) → Rose before.console.faults after.console.faults
-  -- The limit came where too many bytes were taken; then only a fault of the disk or the paper comes first.
-  pub limit : answer ≡ Some (Fault cause.DeckLimit) → byte_limit < (reader used.keys after).taken
-  pub beyond : byte_limit < (reader used.keys after).taken
-      → (answer ≡ Some (Fault cause.DiskFault)) ⊎ (answer ≡ Some (Fault cause.PrintFault))
-      ⊎ (answer ≡ Some (Fault cause.DeckLimit))
+  -- The limit came where too many bytes were taken; then only a lower number comes first.
+  pub limit : answer ≡ Some (Fault cause.DeckLimit)
+      → OfSomeRead used (byte_limit < after.deck.taken) (byte_limit < after.keys.taken)
+  pub beyond : OfSomeRead used (byte_limit < after.deck.taken) (byte_limit < after.keys.taken)
+      → EndsByLimit used.keys used.deck answer
   -- No page is damaged of a deck that tells its bytes, over spools that tell their pages.
   pub undamaged : IsSome before.input.pages → IsSome before.output.pages
       → IfUsed used.deck (IsSome before.deck.left) → status_of answer ≢ 8
@@ -37,8 +50,9 @@ pub record Answers {S Y K T F I O : Type 0} (used : DevicesUsed) (MayBe : Refusa
   -- the first that is wrong.
   pub numbers : IfSome answer TellsPlace
   -- No byte of what is read is lost, and no device changes that isn't used.
-  pub total : bytes_total (reader used.keys after).taken (reader used.keys after).left
-      ≡ bytes_total (reader used.keys before).taken (reader used.keys before).left
+  pub total : OfEachRead used
+      (bytes_total after.deck.taken after.deck.left ≡ bytes_total before.deck.taken before.deck.left)
+      (bytes_total after.keys.taken after.keys.left ≡ bytes_total before.keys.taken before.keys.left)
   pub kept : Kept used before after
   pub size : after.files.size ≡ before.files.size
 

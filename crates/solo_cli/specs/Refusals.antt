@@ -11,7 +11,7 @@ use Rattle.solo_cli.specs.declared.refusal.Refusal.{Refusal}
 use Rattle.solo_cli.specs.declared.refusal.Refusal.TheVariants.{Fault, NoRoom}
 use Rattle.solo_cli.specs.declared.words.Command.{Command}
 use Rattle.solo_cli.specs.declared.words.Command.TheVariants as command
-use Rattle.solo_cli.specs.Causes.{IsRunCause, IsMakeCause, IsCheckCause}
+use Rattle.solo_cli.specs.Causes.{IsRunCause, IsMakeCause, IsCheckCause, IsSessionCause}
 use Rattle.time_net.specs.TimeStands.{IsTimesCause}
 
 -- the end of a run as that of a command
@@ -60,6 +60,10 @@ IsDeckCause why = IsRunCause why ⊎ IsNotSolo why
 abbrev pub IsMadeDeckCause : Cause → Type 0
 IsMadeDeckCause why = IsMakeCause why ⊎ IsNotSolo why
 
+-- what may end a command that mounts the files and runs a session
+abbrev pub IsSoloCause : Cause → Type 0
+IsSoloCause why = IsSessionCause why ⊎ IsNotSolo why
+
 -- what may end a migration beside want of room
 abbrev pub IsMigrateCause : Cause → Type 0
 IsMigrateCause why = (why ≡ cause.DiskFault) ⊎ ((why ≡ cause.NoMemory) ⊎ IsNotSolo why)
@@ -78,3 +82,4 @@ MayBeRefused (Some command.Format) = λ refusal. refusal ≡ Fault cause.DiskFau
 MayBeRefused (Some command.Migrate) = MayRefuseMigration
 MayBeRefused (Some command.Check) = OfFault IsCheckCause
 MayBeRefused (Some (command.Times schedule)) = OfFault IsTimesCause
+MayBeRefused (Some command.Solo) = OfFault IsSoloCause

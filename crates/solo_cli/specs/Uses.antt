@@ -1,8 +1,8 @@
 -- Which command uses which device.
-use Rattle.std.specs.Prelude.{◌≡◌, ℕ, Bool, true, false, List, Option, Some, None}
+use Rattle.std.specs.Prelude.{◌≡◌, ◌⊎◌, Bool, true, false, Option, Some, None}
 use Rattle.solo_cli.specs.declared.words.Command.{Command}
 use Rattle.solo_cli.specs.declared.words.Command.TheVariants as command
-use Rattle.solo_cli.specs.Devices.{SourceTold, Kit}
+use Rattle.solo_cli.specs.Devices.{Kit}
 
 pub record DevicesUsed : Type 0 where
   pub deck : Bool
@@ -30,6 +30,10 @@ deck_used = record { deck = true; keys = false; paper = true; console = false; f
 abbrev pub made_used : DevicesUsed
 made_used = record deck_used { deck = false }
 
+-- a session: from the keys and the cards, with its files, to the console and the paper
+abbrev pub session_used : DevicesUsed
+session_used = record { deck = true; keys = true; paper = true; console = true; files = true; spools = false }
+
 abbrev pub uses : Option Command → DevicesUsed
 uses None = nothing_used
 uses (Some command.Batch) = deck_used
@@ -39,6 +43,7 @@ uses (Some command.Format) = record nothing_used { files = true }
 uses (Some command.Migrate) = record nothing_used { files = true }
 uses (Some command.Check) = record nothing_used { deck = true; paper = true }
 uses (Some (command.Times schedule)) = record nothing_used { keys = true; console = true }
+uses (Some command.Solo) = session_used
 
 -- ---- what holds of a device by whether it is used
 abbrev pub IfUsed : Bool → Type 0 → Type 0
@@ -60,15 +65,21 @@ pub record Kept {S Y K T F I O : Type 0} (used : DevicesUsed) (before after : Ki
   pub input : UnlessUsed used.spools (after.input ≡ before.input)
   pub output : UnlessUsed used.spools (after.output ≡ before.output)
 
--- what is read: the keys, or the deck
-pub record Reader : Type 0 where
-  pub left : Option (List ℕ)
-  pub taken : ℕ
-  pub faults : ℕ
+-- ---- what is read: the deck or the keys, or both
+-- of the deck, of the keys, or of one of both
+abbrev pub of_some : Bool → Bool → Type 0 → Type 0 → Type 0
+of_some false deck Deck Keys = Deck
+of_some true false Deck Keys = Keys
+of_some true true Deck Keys = Deck ⊎ Keys
 
-abbrev pub as_reader : {S : Type 0} → SourceTold S → Reader
-as_reader source = record { left = source.left; taken = source.taken; faults = source.faults }
+abbrev pub OfSomeRead : DevicesUsed → Type 0 → Type 0 → Type 0
+OfSomeRead used Deck Keys = of_some used.keys used.deck Deck Keys
 
-abbrev pub reader : {S Y K T F I O : Type 0} → Bool → Kit S Y K T F I O → Reader
-reader true told = as_reader told.keys
-reader false told = as_reader told.deck
+-- of the deck, of the keys, or of both
+abbrev pub of_each : Bool → Bool → Type 0 → Type 0 → Type 0
+of_each false deck Deck Keys = Deck
+of_each true false Deck Keys = Keys
+of_each true true Deck Keys = Deck × Keys
+
+abbrev pub OfEachRead : DevicesUsed → Type 0 → Type 0 → Type 0
+OfEachRead used Deck Keys = of_each used.keys used.deck Deck Keys

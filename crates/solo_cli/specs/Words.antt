@@ -14,7 +14,8 @@ alone word =
     if bytes_eq word (codes "batch") then Some command.Batch
     else if bytes_eq word (codes "format") then Some command.Format
     else if bytes_eq word (codes "migrate") then Some command.Migrate
-    else if bytes_eq word (codes "check") then Some command.Check else None
+    else if bytes_eq word (codes "check") then Some command.Check
+    else if bytes_eq word (codes "solo") then Some command.Solo else None
 
 -- the commands that take a number
 abbrev pub takes_number : List ℕ → Option Numbered
@@ -87,3 +88,4 @@ HasNumber (Some command.Format) = Unit {0}
 HasNumber (Some command.Migrate) = Unit {0}
 HasNumber (Some command.Check) = Unit {0}
 HasNumber (Some (command.Times schedule)) = Unit {0}
+HasNumber (Some command.Solo) = Unit {0}

@@ -23,6 +23,7 @@ use crate::format::format;
 use crate::make::make;
 use crate::migrate::migrate;
 use crate::refusal::Refusal;
+use crate::session::session;
 use crate::status::status_of;
 use crate::times::times;
 use crate::words::{Command, command_of};
@@ -46,19 +47,21 @@ pub struct Finished<S, Y, K, T, F, I, O> {
     pub output: O,
 }
 
-/// Runs the command that the words are, over these devices. `batch`, `core` and `make` mount the files
-/// before anything else. `batch` and `core` then run the card deck and print the report of each of its jobs:
-/// `batch` on threads, `core` under the schedule of a number, and behind the reports it prints what it
+/// Runs the command that the words are, over these devices. `batch`, `core`, `make` and `solo` mount the
+/// files before anything else. `batch` and `core` then run the card deck and print the report of each of its
+/// jobs: `batch` on threads, `core` under the schedule of a number, and behind the reports it prints what it
 /// counted. `make` makes the deck of a number, runs it in memory under the schedule of this number, and
 /// prints the numbers of both. `format` makes the area of the files one without a file, and `migrate` makes
 /// one of format 1 one of format 2 with the same files. `check` judges the deck as a description of access
 /// rights, and prints the line of its judgement. `times` runs what is typed at the keys, under the schedule
-/// of a number, and displays its lines on the console. Where the words are no command, nothing is done.
+/// of a number, and displays its lines on the console. `solo` runs a session on threads: the commands that
+/// are typed at the keys, with the deck as cards; it displays their answers on the console, and prints and
+/// changes files as they say. Where the words are no command, nothing is done.
 pub fn top<
     S: Source + Drop + Send,
-    Y: Source,
+    Y: Source + Drop + Send,
     K: Sink + Drop + Send,
-    T: Sink,
+    T: Sink + Drop + Send,
     F: Area + Drop + Send,
     I: Area + Send,
     O: Area + Send,
@@ -130,9 +133,9 @@ pub fn top<
 // Runs a command, or none.
 fn run_asked<
     S: Source + Drop + Send,
-    Y: Source,
+    Y: Source + Drop + Send,
     K: Sink + Drop + Send,
-    T: Sink,
+    T: Sink + Drop + Send,
     F: Area + Drop + Send,
     I: Area + Send,
     O: Area + Send,
@@ -163,9 +166,9 @@ fn run_asked<
 // Runs a command.
 fn run<
     S: Source + Drop + Send,
-    Y: Source,
+    Y: Source + Drop + Send,
     K: Sink + Drop + Send,
-    T: Sink,
+    T: Sink + Drop + Send,
     F: Area + Drop + Send,
     I: Area + Send,
     O: Area + Send,
@@ -193,6 +196,7 @@ fn run<
         Command::Migrate => migrate(alloc, devices),
         Command::Check => check(alloc, devices),
         Command::Times { schedule } => times(schedule, devices),
+        Command::Solo => session(rt, alloc, devices),
     }
 }
 

@@ -93,8 +93,8 @@ fn list_of(outcomes: Outcomes) -> [Outcome; 5]
     ]
 }
 
-// The cause that decides how a run ended whose processes ended so.
-fn decides(outcomes: &[Outcome]) -> Option<Cause>
+/// The cause that decides how a run ended whose processes ended so.
+pub fn decides(outcomes: &[Outcome]) -> Option<Cause>
     ensures { result ≡ decides outcomes.now }
 {
     match outcomes {

@@ -16,6 +16,7 @@ mod migrate;
 mod mounting;
 mod printing;
 mod refusal;
+mod session;
 mod status;
 mod times;
 mod words;

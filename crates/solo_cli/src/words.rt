@@ -21,6 +21,8 @@ pub enum Command {
     Check,
     /// Runs a script of the real-time scheduler, under the schedule of a number.
     Times { schedule: u32 },
+    /// Runs a session of Solo on threads.
+    Solo,
 }
 
 /// A command that takes a number.
@@ -64,6 +66,8 @@ fn alone(word: &str) -> Option<Command>
         Some(Command::Migrate)
     } else if word == "check" {
         Some(Command::Check)
+    } else if word == "solo" {
+        Some(Command::Solo)
     } else {
         None
     }

@@ -73,18 +73,19 @@ limit-by read.Failed e = absurd cc
 limit-by other e = absurd cc
 
 module _ {S : Type 0} (left : S → Option (List ℕ)) (taken faults : S → ℕ) where
-  pub reads-read : (start old new : Held S) (answer : CardRead) → ReadsRan taken faults start old None → ReadsOne left taken faults old new answer
-      → ReadsRan taken faults start new (by_read answer)
+  pub reads-read : (start old new : Held S) (answer : CardRead) → ReadsRan left taken faults start old None → ReadsOne left taken faults old new answer
+      → ReadsRan left taken faults start new (by_read answer)
   reads-read start old new answer ran one = record {
     live = live-by answer one.live;
     failed = λ e. rose-more (faults start.source) (faults old.source) (faults new.source) ran.counts (one.failed (failed-by answer e));
     counts = through≤ (faults start.source) (faults old.source) (faults new.source) ran.counts one.counts;
     limit = λ e. one.limit.0 (limit-by answer e);
     longer = λ few over. ap by_read (one.limit.1 over);
+    total = one.total ∙ ran.total;
   }
 
   pub reads-still : (start now : Held S) (why extra : Option Outcome) → (extra ≡ Some (outcome.Fault cause.ReadFault) → ⊥)
-      → (extra ≡ Some (outcome.Fault cause.DeckLimit) → ⊥) → ReadsRan taken faults start now why → ReadsRan taken faults start now (or_new why extra)
+      → (extra ≡ Some (outcome.Fault cause.DeckLimit) → ⊥) → ReadsRan left taken faults start now why → ReadsRan left taken faults start now (or_new why extra)
   reads-still start now why extra not also ran = record {
     live = λ e. ran.live (or-none why extra e);
     failed = λ e. elim (or-either why extra (outcome.Fault cause.ReadFault) e) as (λ _. Rose (faults start.source) (faults now.source)) [
@@ -97,6 +98,7 @@ module _ {S : Type 0} (left : S → Option (List ℕ)) (taken faults : S → ℕ
       | inr old ↦ ran.limit old
     ];
     longer = λ few over. ap (λ why. or_new why extra) (ran.longer few over);
+    total = ran.total;
   }
 
 -- ---- lines

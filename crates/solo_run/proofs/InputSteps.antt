@@ -155,9 +155,9 @@ module _ {S : Type 0} (left : S → Option (List ℕ)) (taken faults : S → ℕ
         orders = took-still OfArg 1 1 start.orders old.orders h _ record { moves = refl; stops = refl; told = refl } ran.orders;
         pages = sent-still OfPage 1 2 start.pages old.pages h _ record { moves = refl; stops = refl; told = refl } ran.pages;
         reports = sent-still OfArg 1 3 start.reports old.reports h _ record { moves = refl; stops = refl; told = refl } ran.reports;
-        cards = subst (λ why. ReadsRan taken faults start.cards new.cards why) (sym why)
+        cards = subst (λ why. ReadsRan left taken faults start.cards new.cards why) (sym why)
             (reads-read left taken faults start.cards old.cards new.cards answer
-            (subst (λ why. ReadsRan taken faults start.cards old.cards why) free ran.cards) one);
+            (subst (λ why. ReadsRan left taken faults start.cards old.cards why) free ran.cards) one);
         told = λ d told. (
             let was = ran.told d told in
             let is = reads-so (stood d deeds).cards (items_ahead (left old.cards.source) old.cards.pending)

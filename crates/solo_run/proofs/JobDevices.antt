@@ -80,10 +80,10 @@ module _ {Y T F : Type 0} (w : JobWorld Y T F) (plans : Plan → Type 0) (start 
         print_orders = sent-still OfArg 2 4 start.print_orders old.print_orders h _ record { moves = refl; stops = refl; told = refl } ran.print_orders;
         pages = sent-still OfPage 2 5 start.pages old.pages h _ record { moves = refl; stops = refl; told = refl } ran.pages;
         print_reports = took-still OfArg 2 6 start.print_reports old.print_reports h _ record { moves = refl; stops = refl; told = refl } ran.print_reports;
-        keys = subst (λ why. ReadsRan w.taken w.keys_faults start.typewriter.keys new.typewriter.keys why)
+        keys = subst (λ why. ReadsRan w.left w.taken w.keys_faults start.typewriter.keys new.typewriter.keys why)
             (sym (now-cause act.Accept (act.OfCard answer) (by_read answer) free why))
             (reads-read w.left w.taken w.keys_faults start.typewriter.keys old.typewriter.keys new.typewriter.keys answer
-            (subst (λ why. ReadsRan w.taken w.keys_faults start.typewriter.keys old.typewriter.keys why) free ran.keys) one);
+            (subst (λ why. ReadsRan w.left w.taken w.keys_faults start.typewriter.keys old.typewriter.keys why) free ran.keys) one);
         console = lines-still w.given w.console_faults cause.ConsoleFault start.typewriter.console new.typewriter.console (caused view job h) _
             (λ e. read-no_console answer (sym why ∙ e))
             (subst (λ console. LinesRan w.console_faults cause.ConsoleFault start.typewriter.console console (caused view job h)) (sym same) ran.console);
@@ -119,7 +119,7 @@ module _ {Y T F : Type 0} (w : JobWorld Y T F) (plans : Plan → Type 0) (start 
         print_reports = took-still OfArg 2 6 start.print_reports old.print_reports h _ record { moves = refl; stops = refl; told = refl } ran.print_reports;
         keys = reads-still w.left w.taken w.keys_faults start.typewriter.keys new.typewriter.keys (caused view job h) _
             (λ e. (let no = sym why ∙ e in cc)) (λ e. (let no = sym why ∙ e in cc))
-            (subst (λ keys. ReadsRan w.taken w.keys_faults start.typewriter.keys keys (caused view job h)) (sym same) ran.keys);
+            (subst (λ keys. ReadsRan w.left w.taken w.keys_faults start.typewriter.keys keys (caused view job h)) (sym same) ran.keys);
         console = subst (λ why. LinesRan w.console_faults cause.ConsoleFault start.typewriter.console new.typewriter.console why)
             (sym (now-cause (act.Display line) act.Done (None) free why))
             (lines-given w.given w.console_faults cause.ConsoleFault start.typewriter.console old.typewriter.console new.typewriter.console line hear.Done
@@ -155,7 +155,7 @@ module _ {Y T F : Type 0} (w : JobWorld Y T F) (plans : Plan → Type 0) (start 
         print_reports = took-still OfArg 2 6 start.print_reports old.print_reports h _ record { moves = refl; stops = refl; told = refl } ran.print_reports;
         keys = reads-still w.left w.taken w.keys_faults start.typewriter.keys new.typewriter.keys (caused view job h) _
             (λ e. (let no = sym why ∙ e in cc)) (λ e. (let no = sym why ∙ e in cc))
-            (subst (λ keys. ReadsRan w.taken w.keys_faults start.typewriter.keys keys (caused view job h)) (sym same) ran.keys);
+            (subst (λ keys. ReadsRan w.left w.taken w.keys_faults start.typewriter.keys keys (caused view job h)) (sym same) ran.keys);
         console = subst (λ why. LinesRan w.console_faults cause.ConsoleFault start.typewriter.console new.typewriter.console why)
             (sym (now-cause (act.Display line) act.Failed (Some (outcome.Fault cause.ConsoleFault)) free why))
             (lines-given w.given w.console_faults cause.ConsoleFault start.typewriter.console old.typewriter.console new.typewriter.console line hear.Failed
@@ -191,7 +191,7 @@ module _ {Y T F : Type 0} (w : JobWorld Y T F) (plans : Plan → Type 0) (start 
         print_reports = took-still OfArg 2 6 start.print_reports old.print_reports h _ record { moves = refl; stops = refl; told = refl } ran.print_reports;
         keys = reads-still w.left w.taken w.keys_faults start.typewriter.keys new.typewriter.keys (caused view job h) _
             (λ e. (let no = sym why ∙ e in cc)) (λ e. (let no = sym why ∙ e in cc))
-            (subst (λ keys. ReadsRan w.taken w.keys_faults start.typewriter.keys keys (caused view job h)) (sym same) ran.keys);
+            (subst (λ keys. ReadsRan w.left w.taken w.keys_faults start.typewriter.keys keys (caused view job h)) (sym same) ran.keys);
         console = subst (λ why. LinesRan w.console_faults cause.ConsoleFault start.typewriter.console new.typewriter.console why)
             (sym (now-cause (act.Display line) act.NoMemory (Some (outcome.Fault cause.NoMemory)) free why))
             (lines-given w.given w.console_faults cause.ConsoleFault start.typewriter.console old.typewriter.console new.typewriter.console line hear.NoMemory

@@ -14,5 +14,9 @@ pub mod JobPagesStops
 pub mod JobDevices
 pub mod JobSteps
 pub mod JobRuns
+pub mod FileSteps
 pub mod JobGoing
 pub mod WholeRun
+pub mod Reaching
+pub mod Beginning
+pub mod WholeSolo

@@ -50,7 +50,7 @@ each-buffer P b is one two three four five six =
 same-items : (a b : List Item) → Some a ≡ Some b → a ≡ b
 same-items a b e = cc
 
-told-items : (left : Option (List ℕ)) (pending : List ℕ) (items : List Item) → items_ahead left pending ≡ Some items → AreItems items
+pub told-items : (left : Option (List ℕ)) (pending : List ℕ) (items : List Item) → items_ahead left pending ≡ Some items → AreItems items
 told-items None pending items e = absurd cc
 told-items (Some rest) pending items e = subst AreItems (same-items _ _ e) (card-items (pending ++ rest))
 
@@ -71,12 +71,12 @@ module _ {S Y T F K : Type 0} (left : S → Option (List ℕ)) (taken reads : S 
   all-met : (b : ℕ) → IsBuffer b → Met b
   all-met b is =
       each-buffer Met b is
-      (have-met OfArg 1 histories _ _ met.card_orders_rest (by 1) met.card_orders ran.job_ended.ran.card_orders.calls ran.input_ended.ran.orders.calls)
-      (have-met OfPage 2 histories _ _ met.cards_rest (by 2) met.cards ran.input_ended.ran.pages.calls ran.job_ended.ran.cards.calls)
-      (have-met OfArg 3 histories _ _ met.card_reports_rest (by 3) met.card_reports ran.input_ended.ran.reports.calls ran.job_ended.ran.card_reports.calls)
-      (have-met OfArg 4 histories _ _ met.print_orders_rest (by 4) met.print_orders ran.job_ended.ran.print_orders.calls ran.output_ended.ran.orders.calls)
-      (have-met OfPage 5 histories _ _ met.pages_rest (by 5) met.pages ran.job_ended.ran.pages.calls ran.output_ended.ran.pages.calls)
-      (have-met OfArg 6 histories _ _ met.print_reports_rest (by 6) met.print_reports ran.output_ended.ran.reports.calls ran.job_ended.ran.print_reports.calls)
+      (have-met OfArg 1 histories _ _ met.card_orders_rest (by 1) met.card_orders ran.job_ended.ran.0.card_orders.calls ran.input_ended.ran.orders.calls)
+      (have-met OfPage 2 histories _ _ met.cards_rest (by 2) met.cards ran.input_ended.ran.pages.calls ran.job_ended.ran.0.cards.calls)
+      (have-met OfArg 3 histories _ _ met.card_reports_rest (by 3) met.card_reports ran.input_ended.ran.reports.calls ran.job_ended.ran.0.card_reports.calls)
+      (have-met OfArg 4 histories _ _ met.print_orders_rest (by 4) met.print_orders ran.job_ended.ran.0.print_orders.calls ran.output_ended.ran.orders.calls)
+      (have-met OfPage 5 histories _ _ met.pages_rest (by 5) met.pages ran.job_ended.ran.0.pages.calls ran.output_ended.ran.pages.calls)
+      (have-met OfArg 6 histories _ _ met.print_reports_rest (by 6) met.print_reports ran.output_ended.ran.reports.calls ran.job_ended.ran.0.print_reports.calls)
 
   -- Over whatever told devices they began with, they ran side by side.
   pub side-by-side : (d : Devices) → AreSound d → RowTold left w given row d → SideBySide d deeds by
@@ -89,7 +89,7 @@ module _ {S Y T F K : Type 0} (left : S → Option (List ℕ)) (taken reads : S 
     } record {
       follows = ran.job_ended.follows;
       answered = ran.job_ended.answered;
-      allowed = (ran.job_ended.ran.told d told.job).0;
+      allowed = (ran.job_ended.ran.0.told d told.job).0;
     } record {
       follows = ran.output_ended.follows;
       answered = ran.output_ended.answered;

@@ -54,14 +54,17 @@ pub record GivesLine {K : Type 0} (given : K → Option (List ℕ)) (faults : K 
 -- ---- in the course of a history
 -- The deck of a process, or the keys: a failure and the limit are causes of its own, and it may be read again
 -- while there is none.
-pub record ReadsRan {S : Type 0} (taken faults : S → ℕ) (start now : Held S) (why : Option Outcome)
-    : Type 0 where
+pub record ReadsRan {S : Type 0} (left : S → Option (List ℕ)) (taken faults : S → ℕ) (start now : Held S)
+    (why : Option Outcome) : Type 0 where
   pub live : why ≡ None → now.live ≡ true
   pub failed : why ≡ Some (outcome.Fault cause.ReadFault) → Rose (faults start.source) (faults now.source)
   pub counts : faults start.source ≤ faults now.source
   pub limit : why ≡ Some (outcome.Fault cause.DeckLimit) → byte_limit < taken now.source
   pub longer : taken start.source ≤ byte_limit → byte_limit < taken now.source
       → why ≡ Some (outcome.Fault cause.DeckLimit)
+  -- no byte of it is lost
+  pub total : bytes_total (taken now.source) (left now.source)
+      ≡ bytes_total (taken start.source) (left start.source)
 
 -- The paper, or the console.
 pub record LinesRan {K : Type 0} (faults : K → ℕ) (own : Cause) (start now : Printing K)

@@ -67,5 +67,5 @@ pub record InputRan {S : Type 0} (left : S → Option (List ℕ)) (taken faults 
   pub orders : HasTaken OfArg 1 1 start.orders now.orders (entries deeds)
   pub pages : HasSent OfPage 1 2 start.pages now.pages (entries deeds)
   pub reports : HasSent OfArg 1 3 start.reports now.reports (entries deeds)
-  pub cards : ReadsRan taken faults start.cards now.cards (caused view input (entries deeds))
+  pub cards : ReadsRan left taken faults start.cards now.cards (caused view input (entries deeds))
   pub told : (d : Devices) → InputTold left start d → AreAllowed d deeds × InputTold left now (stood d deeds)

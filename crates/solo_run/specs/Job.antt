@@ -1,5 +1,5 @@
 -- What the job process does at its typewriter and its buffers, besides its own work.
-use Rattle.std.specs.Prelude.{◌≡◌, ◌≤◌, ℕ, ◌==◌, if◌then◌else◌, true, List, Option, None, Some}
+use Rattle.std.specs.Prelude.{◌≡◌, ◌≤◌, ℕ, ◌==◌, if◌then◌else◌, true, List, [], ◌∷◌, ◌++◌, Option, None, Some}
 use Rattle.solo_base.specs.declared.outcome.Side.TheVariants.{Sender, Receiver}
 use Rattle.solo_base.specs.declared.system_call.Arg.{Arg}
 use Rattle.slot_buffer.specs.declared.call.SlotCall.{SlotCall}
@@ -15,14 +15,14 @@ use Rattle.solo_devices.specs.Count.{Rose}
 use Rattle.solo_devices.specs.CardUnit.{items_ahead}
 use Rattle.exchange_law.specs.Parcels.{OfArg, OfPage}
 use Rattle.place_law.specs.Process.{caused, next_action}
-use Rattle.solo_law.specs.Work.{Work, Plan}
+use Rattle.solo_law.specs.Work.{Given, Work, Plan}
 use Rattle.solo_law.specs.Actions.{Works}
 use Rattle.solo_law.specs.Replies.{view}
 use Rattle.solo_law.specs.JobPlaces.{job}
 use Rattle.solo_law.specs.Devices.{Devices}
 use Rattle.solo_law.specs.Solo.{SoloEntry}
 use Rattle.solo_procs.specs.Commands.{Kind}
-use Rattle.solo_procs.specs.Job.{job_at, JobStands, HasWorked}
+use Rattle.solo_procs.specs.Job.{job_at, JobStands, HasWorked, LedSo}
 use Rattle.solo_procs.specs.Machine.{StandsFor}
 use Rattle.solo_procs.specs.declared.job_proc.JobProc.{JobProc}
 use Rattle.solo_procs.specs.declared.machine.Machine.{Machine}
@@ -30,6 +30,7 @@ use Rattle.solo_threads.specs.Threads.{Deed, entries, stood, AreAllowed}
 use Rattle.solo_run.specs.declared.job_side.JobSide.{JobSide}
 use Rattle.solo_run.specs.Ends.{sent, took, SendsAt, TakesAt, MaySend, MayTake, HasSent, HasTaken}
 use Rattle.solo_run.specs.Devices.{ReadsOne, GivesLine, ReadsRan, LinesRan}
+use Rattle.solo_run.specs.Files.{FilesLed}
 
 -- each end is one of its gate
 pub record JobAtGates {Y T F : Type 0} (c : JobSide Y T F) : Type 0 where
@@ -125,6 +126,9 @@ pub record JobWorld (Y T F : Type 0) : Type 1 where
   pub sound : F → Type 0
   pub files_faults : F → ℕ
   pub opens : F → Plan → Type 0
+  -- from which files work that began so leads to which, and to which it comes
+  pub leads : F → List Given → F → Type 0
+  pub passes : F → List Given → F → Type 0
 
 -- From its first deed on: its six buffers had the calls of its history, told keys and files allowed it, a told
 -- console gained what its deeds say, and so they stand behind it.
@@ -136,7 +140,7 @@ pub record JobRan {Y T F : Type 0} (w : JobWorld Y T F) (plans : Plan → Type 0
   pub print_orders : HasSent OfArg 2 4 start.print_orders now.print_orders (entries deeds)
   pub pages : HasSent OfPage 2 5 start.pages now.pages (entries deeds)
   pub print_reports : HasTaken OfArg 2 6 start.print_reports now.print_reports (entries deeds)
-  pub keys : ReadsRan w.taken w.keys_faults start.typewriter.keys now.typewriter.keys
+  pub keys : ReadsRan w.left w.taken w.keys_faults start.typewriter.keys now.typewriter.keys
       (caused view job (entries deeds))
   pub console : LinesRan w.console_faults cause.ConsoleFault start.typewriter.console now.typewriter.console
       (caused view job (entries deeds))
@@ -145,10 +149,16 @@ pub record JobRan {Y T F : Type 0} (w : JobWorld Y T F) (plans : Plan → Type 0
       → AreAllowed d deeds
       × JobTold w.left w.given (caused view job (entries deeds) ≡ None) plans now (stood d deeds)
 
+-- What it did up to its end: the files are some to which its work led.
+abbrev pub JobDid : {Y T F : Type 0} → JobWorld Y T F → JobSide Y T F → JobSide Y T F → List Deed → Type 0
+JobDid w start now deeds = JobRan w (λ plan. Unit {0}) start now deeds
+    × FilesLed (w.leads start.files) (w.passes start.files) now.files (entries deeds)
+
 -- ---- its machine beside it
-abbrev pub job_world : {Y T F : Type 0} → (Y → Option (List ℕ)) → (Y → ℕ) → (Y → ℕ) → (T → Option (List ℕ))
-    → (T → ℕ) → (F → Type 0) → (F → ℕ) → (F → Plan → Type 0) → JobWorld Y T F
-job_world left taken keys_faults given console_faults sound files_faults opens = record {
+abbrev pub job_world : {C Y T F : Type 0} → (Y → Option (List ℕ)) → (Y → ℕ) → (Y → ℕ) → (T → Option (List ℕ))
+    → (T → ℕ) → (F → Type 0) → (F → ℕ) → (F → Plan → Type 0) → (C → F → List Given → F → Type 0)
+    → (F → List Given → F → Type 0) → JobWorld Y T F
+job_world {C} left taken keys_faults given console_faults sound files_faults opens follows passes = record {
   left = left;
   taken = taken;
   keys_faults = keys_faults;
@@ -157,6 +167,8 @@ job_world left taken keys_faults given console_faults sound files_faults opens =
   sound = sound;
   files_faults = files_faults;
   opens = opens;
+  leads = λ opening givens now. (commands : C) × follows commands opening givens now;
+  passes = passes;
 }
 
 -- an action that it may do with its machine
@@ -166,23 +178,29 @@ JobMayAct sound c action = JobMay c action
 
 -- A piece of work: only its machine and the files are changed.
 pub record WorksOne {C Y T F : Type 0} (awaits : C → ℕ → Kind → Type 0) (plans : C → F → Plan → Type 0)
-    (sound : F → Type 0) (faults : F → ℕ) (machine new_machine : Machine (JobProc C)) (old new : JobSide Y T F)
-    (reply : SoloReply) : Type 0 where
+    (follows : C → F → List Given → F → Type 0) (passes : F → List Given → F → Type 0) (sound : F → Type 0)
+    (faults : F → ℕ) (machine new_machine : Machine (JobProc C)) (old new : JobSide Y T F) (reply : SoloReply)
+    : Type 0 where
   pub side : new ≡ record old { files = new.files }
   pub works : (h : List SoloEntry) (work : Work) → StandsFor job job_at (JobStands awaits) machine h
       → next_action view job h ≡ Some (Works work)
       → HasWorked awaits (plans machine.process.commands old.files)
       (plans new_machine.process.commands new.files) new_machine h work reply
+  pub led : (h : List SoloEntry) (work : Work) → StandsFor job job_at (JobStands awaits) machine h
+      → next_action view job h ≡ Some (Works work) → (opening : F) (before : List Given)
+      → follows machine.process.commands opening before old.files
+      → LedSo reply (follows new_machine.process.commands opening (before ++ work.given ∷ []) new.files)
+      (passes opening (before ++ work.given ∷ []) new.files)
   pub sound_then : reply ≡ hear.Done → sound new.files
   pub failed : reply ≡ hear.Failed → Rose (faults old.files) (faults new.files)
   pub counts : faults old.files ≤ faults new.files
 
 -- it works, or performs another action
 abbrev pub JobActs : {C Y T F : Type 0} → JobWorld Y T F → (C → ℕ → Kind → Type 0)
-    → (C → F → Plan → Type 0) → Machine (JobProc C) → Machine (JobProc C) → JobSide Y T F → JobSide Y T F
-    → SoloAction → SoloReply → Type 0
-JobActs w awaits plans machine new_machine old new say.Work reply =
-    WorksOne awaits plans w.sound w.files_faults machine new_machine old new reply
-JobActs w awaits plans machine new_machine old new action reply =
+    → (C → F → Plan → Type 0) → (C → F → List Given → F → Type 0) → Machine (JobProc C) → Machine (JobProc C)
+    → JobSide Y T F → JobSide Y T F → SoloAction → SoloReply → Type 0
+JobActs w awaits plans follows machine new_machine old new say.Work reply =
+    WorksOne awaits plans follows w.passes w.sound w.files_faults machine new_machine old new reply
+JobActs w awaits plans follows machine new_machine old new action reply =
     (new_machine ≡ machine)
     × JobPerforms w.left w.taken w.keys_faults w.given w.console_faults old new action reply

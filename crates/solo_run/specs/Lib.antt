@@ -2,8 +2,12 @@ pub mod Ends
 pub mod Devices
 pub mod Input
 pub mod Output
+pub mod Files
 pub mod Job
 pub mod Places
 pub mod Running
 pub mod Row
+pub mod Gates
 pub mod Whole
+pub mod Begun
+pub mod Ran

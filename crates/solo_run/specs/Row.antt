@@ -8,7 +8,7 @@ use Rattle.solo_run.specs.declared.output_side.OutputSide.{OutputSide}
 use Rattle.solo_run.specs.declared.row.Row.{Row}
 use Rattle.solo_run.specs.declared.row.RowEnded.{RowEnded}
 use Rattle.solo_run.specs.Input.{InputRan}
-use Rattle.solo_run.specs.Job.{JobWorld, JobRan}
+use Rattle.solo_run.specs.Job.{JobWorld, JobRan, JobDid}
 use Rattle.solo_run.specs.Output.{OutputRan}
 use Rattle.solo_run.specs.Running.{EndsSo}
 
@@ -21,7 +21,7 @@ InputCame left taken faults start here all side ended =
 abbrev pub JobCame : {Y T F : Type 0} → JobWorld Y T F → ℕ → ℕ → Bool → JobSide Y T F
     → (JobSide Y T F × Outcome) → Type 0
 JobCame w start here all side ended =
-    Came start here all (EndsSo 2 (JobRan w (λ plan. Unit {0}) side ended.0) ended.1) (ended.0 ≡ side)
+    Came start here all (EndsSo 2 (JobDid w side ended.0) ended.1) (ended.0 ≡ side)
 
 abbrev pub OutputCame : {K : Type 0} → (K → Option (List ℕ)) → (K → ℕ) → ℕ → ℕ → Bool → OutputSide K
     → (OutputSide K × Outcome) → Type 0
@@ -37,7 +37,7 @@ pub record BackBegins {Y T F K : Type 0} (w : JobWorld Y T F) (given : K → Opt
 pub record BackRan {Y T F K : Type 0} (w : JobWorld Y T F) (given : K → Option (List ℕ)) (faults : K → ℕ)
     (job : JobSide Y T F) (output : OutputSide K)
     (ended : (JobSide Y T F × Outcome) × (OutputSide K × Outcome)) : Type 0 where
-  pub job_ended : EndsSo 2 (JobRan w (λ plan. Unit {0}) job ended.0.0) ended.0.1
+  pub job_ended : EndsSo 2 (JobDid w job ended.0.0) ended.0.1
   pub output_ended : EndsSo 3 (OutputRan given faults output ended.1.0) ended.1.1
 
 abbrev pub BackCame : {Y T F K : Type 0} → JobWorld Y T F → (K → Option (List ℕ)) → (K → ℕ) → ℕ → ℕ → Bool
@@ -55,5 +55,5 @@ pub record RowRan {S Y T F K : Type 0} (left : S → Option (List ℕ)) (taken r
     (given : K → Option (List ℕ)) (faults : K → ℕ) (row : Row S Y K T F) (ended : RowEnded S Y K T F)
     : Type 0 where
   pub input_ended : EndsSo 1 (InputRan left taken reads row.input ended.input.0) ended.input.1
-  pub job_ended : EndsSo 2 (JobRan w (λ plan. Unit {0}) row.job ended.job.0) ended.job.1
+  pub job_ended : EndsSo 2 (JobDid w row.job ended.job.0) ended.job.1
   pub output_ended : EndsSo 3 (OutputRan given faults row.output ended.output.0) ended.output.1

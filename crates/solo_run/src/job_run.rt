@@ -1,5 +1,5 @@
 ghost use Rattle.std.specs.Prelude.{◌≡◌, []};
-ghost use Rattle.solo_run.specs.Job.{JobActs, JobMayAct, JobRan, job_world};
+ghost use Rattle.solo_run.specs.Job.{JobActs, JobDid, JobMayAct, JobRan, job_world};
 ghost use Rattle.solo_run.specs.Running.{EndsSo};
 
 use crate::job_side::JobSide;
@@ -17,10 +17,12 @@ pub fn run_job<C: Commands + Drop, Y: Source, T: Sink, R: Threads + Wait + Sync>
     rt: &R,
     alloc: Global,
 ) -> Outcome
-    requires { JobRan (job_world Y.left Y.taken Y.faults T.given T.faults C.sound C.faults C.opens)
+    requires { JobRan (job_world Y.left Y.taken Y.faults T.given T.faults C.sound C.faults C.opens
+        C.follows C.passes)
         (C.opens side.old.files) side.old side.old [] }
-    ensures { EndsSo 2 (JobRan (job_world Y.left Y.taken Y.faults T.given T.faults C.sound C.faults C.opens)
-        (λ plan. Unit {0}) side.old side.new) result }
+    ensures { EndsSo 2 (JobDid (job_world Y.left Y.taken Y.faults T.given T.faults C.sound C.faults C.opens
+        C.follows C.passes)
+        side.old side.new) result }
 {
     let mut machine = SoloJob::<C>::new(alloc);
     for _ in rt.forever() {
@@ -43,8 +45,9 @@ fn act<C: Commands + Drop, Y: Source, T: Sink, R: Threads + Wait + Sync>(
     rt: &R,
 ) -> SoloReply
     requires may { JobMayAct C.sound side.old action }
-    ensures acts { JobActs (job_world Y.left Y.taken Y.faults T.given T.faults C.sound C.faults C.opens)
-        C.awaits C.plans machine.old machine.new side.old side.new action result }
+    ensures acts { JobActs (job_world Y.left Y.taken Y.faults T.given T.faults C.sound C.faults C.opens
+        C.follows C.passes)
+        C.awaits C.plans C.follows machine.old machine.new side.old side.new action result }
 {
     match action {
         SoloAction::Work => machine.work(&mut side.files),

@@ -2,6 +2,7 @@
 #![tactic(auto)]
 
 mod ends;
+mod gates;
 mod input_side;
 mod job_run;
 mod job_side;
@@ -10,6 +11,7 @@ mod output_side;
 mod promises;
 mod row;
 mod run;
+mod solo;
 
 pub use ends::{Sending, Taking};
 pub use input_side::InputSide;
@@ -18,3 +20,4 @@ pub use job_side::JobSide;
 pub use output_side::OutputSide;
 pub use row::{Ended, Row, RowEnded, run_three};
 pub use run::{run_input, run_output};
+pub use solo::run_solo;

@@ -91,9 +91,11 @@ fn begin_job<
 ) -> (Ended<JobSide<'a, Y, T, C::Files>>, Told<'s>)
 where
     C::Files: Drop + Send,
-    requires { JobRan (job_world Y.left Y.taken Y.faults T.given T.faults C.sound C.faults C.opens)
+    requires { JobRan (job_world Y.left Y.taken Y.faults T.given T.faults C.sound C.faults C.opens
+        C.follows C.passes)
         (C.opens job.files) job job [] }
-    ensures { JobCame (job_world Y.left Y.taken Y.faults T.given T.faults C.sound C.faults C.opens)
+    ensures { JobCame (job_world Y.left Y.taken Y.faults T.given T.faults C.sound C.faults C.opens
+        C.follows C.passes)
         start.now result.1.of result.1.value job.entry result.0 }
 {
     let told = start.come(rt);
@@ -127,9 +129,11 @@ fn run_back<
 )
 where
     C::Files: Drop + Send,
-    requires { BackBegins (job_world Y.left Y.taken Y.faults T.given T.faults C.sound C.faults C.opens)
+    requires { BackBegins (job_world Y.left Y.taken Y.faults T.given T.faults C.sound C.faults C.opens
+        C.follows C.passes)
         K.given K.faults job output }
-    ensures { BackCame (job_world Y.left Y.taken Y.faults T.given T.faults C.sound C.faults C.opens)
+    ensures { BackCame (job_world Y.left Y.taken Y.faults T.given T.faults C.sound C.faults C.opens
+        C.follows C.passes)
         K.given K.faults start.now result.1.of result.1.value job.entry output.entry result.0 }
 {
     let ((output, told), (job, also)) = beside(
@@ -145,9 +149,11 @@ where
                 start.entry.now result.1.of result.1.value output.entry result.0 }
         { begin_output(rt, alloc, start, output) },
         move || -> (Ended<JobSide<Y, T, C::Files>>, Told<'_>)
-            requires { JobRan (job_world Y.left Y.taken Y.faults T.given T.faults C.sound C.faults C.opens)
+            requires { JobRan (job_world Y.left Y.taken Y.faults T.given T.faults C.sound C.faults C.opens
+                C.follows C.passes)
                 (C.opens job.files) job job [] }
-            ensures { JobCame (job_world Y.left Y.taken Y.faults T.given T.faults C.sound C.faults C.opens)
+            ensures { JobCame (job_world Y.left Y.taken Y.faults T.given T.faults C.sound C.faults C.opens
+                C.follows C.passes)
                 start.entry.now result.1.of result.1.value job.entry result.0 }
         { begin_job::<C, Y, T, R>(rt, alloc, start, job) },
     );
@@ -174,10 +180,12 @@ pub fn run_three<
 where
     C::Files: Drop + Send,
     requires { RowBegins S.left S.taken S.faults
-        (job_world Y.left Y.taken Y.faults T.given T.faults C.sound C.faults C.opens)
+        (job_world Y.left Y.taken Y.faults T.given T.faults C.sound C.faults C.opens
+        C.follows C.passes)
         K.given K.faults row }
     ensures ran { IfOk result (λ ended. RowRan S.left S.taken S.faults
-        (job_world Y.left Y.taken Y.faults T.given T.faults C.sound C.faults C.opens)
+        (job_world Y.left Y.taken Y.faults T.given T.faults C.sound C.faults C.opens
+        C.follows C.passes)
         K.given K.faults row.entry ended) }
     ensures refused { IfErr result (λ back. back ≡ row.entry) }
 {
@@ -199,9 +207,11 @@ where
             (Ended<JobSide<Y, T, C::Files>>, Ended<OutputSide<K>>),
             Told<'_>,
         )
-            requires { BackBegins (job_world Y.left Y.taken Y.faults T.given T.faults C.sound C.faults C.opens)
+            requires { BackBegins (job_world Y.left Y.taken Y.faults T.given T.faults C.sound C.faults C.opens
+                C.follows C.passes)
                 K.given K.faults job output }
-            ensures { BackCame (job_world Y.left Y.taken Y.faults T.given T.faults C.sound C.faults C.opens)
+            ensures { BackCame (job_world Y.left Y.taken Y.faults T.given T.faults C.sound C.faults C.opens
+                C.follows C.passes)
                 K.given K.faults start.entry.now result.1.of result.1.value
                 job.entry output.entry result.0 }
         { run_back::<C, Y, K, T, R>(rt, alloc, start, job, output) },
@@ -212,11 +222,11 @@ where
     if start.is_whole(&told) {
         return Ok(ended);
     }
-    Err(not_begun(ended))
+    Err(sides_of(ended))
 }
 
-// The sides of the three, of which none has begun.
-fn not_begun<'a, S: Source, Y: Source, K: Sink, T: Sink, F>(
+/// The sides of the three.
+pub(crate) fn sides_of<'a, S: Source, Y: Source, K: Sink, T: Sink, F>(
     ended: RowEnded<'a, S, Y, K, T, F>,
 ) -> Row<'a, S, Y, K, T, F>
     ensures { result ≡ record {

@@ -20,6 +20,8 @@ mod made_programs;
 #[cfg(test)]
 mod program_calls;
 #[cfg(test)]
+mod program_needs;
+#[cfg(test)]
 mod scripts;
 #[cfg(test)]
 mod stack_runs;

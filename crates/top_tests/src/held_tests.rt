@@ -1,8 +1,8 @@
 // Batches over devices that wait for each other.
 
-use crate::held::{HeldSink, HeldSource};
 use crate::made_area::{formatted, readable};
 use crate::running::{Printed, run_over, spool};
+use held_devices::{HeldSink, HeldSource};
 use solo_devices::{Gave, Sink, Source, Took};
 use std::alloc::Global;
 use std::process::Abort;

@@ -13,8 +13,6 @@ mod drive_tests;
 #[cfg(test)]
 mod failure_tests;
 #[cfg(test)]
-mod held;
-#[cfg(test)]
 mod held_tests;
 #[cfg(test)]
 mod made_area;

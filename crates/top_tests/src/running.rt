@@ -2,6 +2,7 @@
 ghost use Rattle.std.specs.Prelude.{◌≡◌, ◌<◌, ◌≤◌, IfOk};
 
 use crate::made_area::{formatted, readable};
+use held_devices::{HeldSink, HeldSource};
 use solo_base::Cause;
 use solo_cli::{Finished, Refusal, top};
 use solo_devices::{
@@ -116,6 +117,24 @@ impl Counted for MemSink {
 }
 
 impl Printed for MemSink {
+    fn printed(&self) -> &[u8] {
+        self.bytes()
+    }
+}
+
+impl Counted for HeldSource {
+    fn failures(&self) -> u64 {
+        self.faults()
+    }
+}
+
+impl Counted for HeldSink {
+    fn failures(&self) -> u64 {
+        self.faults()
+    }
+}
+
+impl Printed for HeldSink {
     fn printed(&self) -> &[u8] {
         self.bytes()
     }

@@ -49,6 +49,7 @@ fn each_written_form_is_a_command(rt: HostRuntime) -> Result<(), Fail> {
         ("format", Command::Format),
         ("migrate", Command::Migrate),
         ("check", Command::Check),
+        ("solo", Command::Solo),
     ] {
         assert_eq!(rt; command(alloc, &[word])?, Some(asked));
     }
@@ -75,7 +76,7 @@ fn each_written_form_is_a_command(rt: HostRuntime) -> Result<(), Fail> {
 }
 
 /// Words that are no written form.
-const OTHERS: [&[&str]; 64] = [
+const OTHERS: [&[&str]; 67] = [
     &[],
     &[""],
     &["BATCH"],
@@ -140,6 +141,9 @@ const OTHERS: [&[&str]; 64] = [
     &["CHECK"],
     &["check", "batch"],
     &["check", "--number", "7"],
+    &["SOLO"],
+    &["solo", "batch"],
+    &["solo", "--schedule", "7"],
 ];
 
 #[test]

@@ -57,20 +57,20 @@ or-zero : (t : Bool) → ◌≡◌ {A = ℕ} (if t || true then 0 else 1) 0
 or-zero true = refl
 or-zero false = refl
 
-same-number : (b : ℕ) → (b == b) ≡ true
+pub same-number : (b : ℕ) → (b == b) ≡ true
 same-number b = elim (eqb_tells b b) as (λ _. (b == b) ≡ true) [ inl a ↦ a.0 | inr a ↦ absurd (a.1 refl) ]
 
 or-nothing : (t : Bool) → going (t || false) ≡ going t
 or-nothing true = refl
 or-nothing false = refl
 
-abbrev IsClosingCall : Action → Type 0
+abbrev pub IsClosingCall : Action → Type 0
 IsClosingCall Release = Unit {0}
 IsClosingCall (Stop b) = Unit {0}
 IsClosingCall (Ended how) = Unit {0}
 IsClosingCall a = ⊥
 
-no-wait : (a : Action) → IsClosingCall a → MayWait a → ⊥
+pub no-wait : (a : Action) → IsClosingCall a → MayWait a → ⊥
 no-wait Release is may = may
 no-wait (Stop b) is may = may
 no-wait (Ended how) is may = may
@@ -267,10 +267,10 @@ module _ {L : Type 0} where
   one-less (b ∷ later) how h r = less-by b later how h r (has_stopped b h) refl (one-less later how h r)
 
   -- what closing down has left
-  abbrev end_left : List ℕ → List (Entry L) → ℕ
+  abbrev pub end_left : List ℕ → List (Entry L) → ℕ
   end_left stops h = 2 * one_if (holds h) + 2 * unstopped stops h + going (has_ended h)
 
-  end-most : (stops : List ℕ) (h : List (Entry L)) → end_left stops h ≤ 3 + 2 * length stops
+  pub end-most : (stops : List ℕ) (h : List (Entry L)) → end_left stops h ≤ 3 + 2 * length stops
   end-most stops h =
       let few = unstopped-most stops h in
       let one : one_if (holds h) ≤ 1 = elim (holds h) as (λ t. one_if t ≤ 1) [ true ↦ omega arith | false ↦ omega arith ] in
@@ -282,7 +282,7 @@ module _ {L : Type 0} where
   still-free (b ∷ later) how h =
       elim (has_stopped b h) as (λ t. one_if (holds_after false (if t then stops_next later how h else Stop b)) ≡ 0) [ true ↦ still-free later how h | false ↦ refl ]
 
-  abbrev ClosesLess : List ℕ → Outcome → List (Entry L) → Reply L → Type 0
+  abbrev pub ClosesLess : List ℕ → Outcome → List (Entry L) → Reply L → Type 0
   ClosesLess stops how h r = counts_by (closes stops how h) r + end_left stops (Does (closes stops how h) r ∷ h) ≤ end_left stops h
 
   -- a call of closing down lowers it
@@ -302,7 +302,7 @@ module _ {L : Type 0} where
       let then_on : going (is_end a || has_ended h) ≡ going (is_end a) = ap (λ t. going (is_end a || t)) ended ∙ or-nothing (is_end a) in
       subst (λ a. counts_by a r + end_left stops (Does a r ∷ h) ≤ end_left stops h) (sym next) (omega (arith, less, free, on, then_on))
 
-  closes-less : (stops : List ℕ) (how : Outcome) (h : List (Entry L)) (r : Reply L) → has_ended h ≡ false → ClosesLess stops how h r
+  pub closes-less : (stops : List ℕ) (how : Outcome) (h : List (Entry L)) (r : Reply L) → has_ended h ≡ false → ClosesLess stops how h r
   closes-less stops how h r ended = less-held stops how h r (holds h) ended refl
 
   stops-pay : (works : Bool) (stops : List ℕ) (how : Outcome) (h : List (Entry L)) (r : Reply L) → pays works (stops_next stops how h) r ≡ 0
@@ -319,7 +319,7 @@ module _ {L : Type 0} where
   stops-call (b ∷ later) how h =
       elim (has_stopped b h) as (λ t. IsClosingCall (if t then stops_next later how h else Stop b)) [ true ↦ stops-call later how h | false ↦ tt ]
 
-  closes-call : (stops : List ℕ) (how : Outcome) (h : List (Entry L)) → IsClosingCall (closes stops how h)
+  pub closes-call : (stops : List ℕ) (how : Outcome) (h : List (Entry L)) → IsClosingCall (closes stops how h)
   closes-call stops how h = elim (holds h) as (λ t. IsClosingCall (if t then Release else stops_next stops how h)) [ true ↦ tt | false ↦ stops-call stops how h ]
 
   -- a call of closing down gives no cause, and moves no place; it neither lacks memory nor waits
@@ -338,7 +338,7 @@ module _ {L : Type 0} where
   no-move p x (Ended how) r is = refl
   no-move p x a r is = absurd is
 
-  no-lack : (a : Action) (r : Reply L) → IsClosingCall a → MayLack a r → ⊥
+  pub no-lack : (a : Action) (r : Reply L) → IsClosingCall a → MayLack a r → ⊥
   no-lack Release r is may = may
   no-lack (Stop b) r is may = may
   no-lack (Ended how) r is may = may
@@ -400,7 +400,7 @@ module _ {L : Type 0} (J : Jobs L) (p : ℕ) (one : IsOne (twin J) p) (Is : (pro
   same-closing : (c d : Closing) → Some c ≡ Some d → c ≡ d
   same-closing c d e = cc
 
-  next-closes : (h : List (Entry L)) (a : Action) (c : Closing) → closing (process J p) h ≡ Some c → next_action (process J p) h ≡ Some a → (has_ended h ≡ false) × (closes c.stops c.how h ≡ a)
+  pub next-closes : (h : List (Entry L)) (a : Action) (c : Closing) → closing (process J p) h ≡ Some c → next_action (process J p) h ≡ Some a → (has_ended h ≡ false) × (closes c.stops c.how h ≡ a)
   next-closes h a c e next =
       let parts = unless-some (has_ended h) (next_by (process J p) (closing (process J p) h) h) a next in
       (parts.0, sym (ap (λ c. next_by (process J p) c h) e) ∙ parts.1)

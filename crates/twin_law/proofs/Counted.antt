@@ -27,7 +27,7 @@ use Rattle.twin_law.proofs.Sleeping.{sleepers_at, Slept, wakes, visit-slept, ask
 use Rattle.twin_law.proofs.Numbered.{calls-at}
 use Rattle.twin_law.proofs.CallsMade.{counts_by, counts, made}
 
-each-buffer : (P : ℕ → Type 0) (b : ℕ) → IsBuffer b → P 1 → P 2 → P 3 → P 4 → P 5 → P 6 → P b
+pub each-buffer : (P : ℕ → Type 0) (b : ℕ) → IsBuffer b → P 1 → P 2 → P 3 → P 4 → P 5 → P 6 → P b
 each-buffer P b is one two three four five six =
     elim (eqb_tells b 1) as (λ _. P b) [
       | inl a ↦ subst P (sym a.1) one
@@ -187,7 +187,7 @@ module _ {L : Type 0} where
         (events-counted start next events are.1 (stands-event (lawful J) start s event st enabled))
 
     -- ---- few sleep
-    waits-one : (s : TwinState L) (start : TwinState L) → Stands (twin J) start s → (q : ℕ) → StandsAtDesk (twin J) s q → (1 ≤ q) × (q ≤ 6)
+    pub waits-one : (s : TwinState L) (start : TwinState L) → Stands (twin J) start s → (q : ℕ) → StandsAtDesk (twin J) s q → (1 ≤ q) × (q ≤ 6)
     waits-one s start st q at =
         elim (st.others q) as (λ _. (1 ≤ q) × (q ≤ 6)) [
           | inl one ↦ one
@@ -196,7 +196,7 @@ module _ {L : Type 0} where
           never : s.histories q ≡ [] → go.waits (acts (twin J) q (s.histories q)) ≡ true → ⊥
           never none on = (let off : go.waits (acts (twin J) q (s.histories q)) ≡ false = ap (λ h. go.waits (acts (twin J) q h)) none in cc)
 
-    all-ones : (s start : TwinState L) → Stands (twin J) start s → (qs : List ℕ) → AllByRecursion (StandsAtDesk (twin J) s) qs → AreUpTo 6 qs
+    pub all-ones : (s start : TwinState L) → Stands (twin J) start s → (qs : List ℕ) → AllByRecursion (StandsAtDesk (twin J) s) qs → AreUpTo 6 qs
     all-ones s start st [] are = tt
     all-ones s start st (q ∷ qs) are = (waits-one s start st q are.0, all-ones s start st qs are.1)
 

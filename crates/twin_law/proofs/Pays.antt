@@ -62,12 +62,12 @@ module _ {L : Type 0} where
   items_by_spots [] c w = 0
   items_by_spots (s ∷ rest) c w = items_sum (moved_by s.buffer s.side c w) + items_by_spots rest c w
 
-  many-more : (spots : List Spot) (c : Call) (w : Went (Parcel L)) (ac : List (Act (Parcel L))) → many spots (record { call = c; went = w } ∷ ac) ≡ many spots ac + many_by spots c w
+  pub many-more : (spots : List Spot) (c : Call) (w : Went (Parcel L)) (ac : List (Act (Parcel L))) → many spots (record { call = c; went = w } ∷ ac) ≡ many spots ac + many_by spots c w
   many-more [] c w ac = refl
   many-more (s ∷ rest) c w ac =
       (let one = length-append (moved s.buffer s.side ac) (moved_by s.buffer s.side c w) in let more = many-more rest c w ac in omega (arith, one, more))
 
-  items-more : (spots : List Spot) (c : Call) (w : Went (Parcel L)) (ac : List (Act (Parcel L))) → items_at spots (record { call = c; went = w } ∷ ac) ≡ items_at spots ac + items_by_spots spots c w
+  pub items-more : (spots : List Spot) (c : Call) (w : Went (Parcel L)) (ac : List (Act (Parcel L))) → items_at spots (record { call = c; went = w } ∷ ac) ≡ items_at spots ac + items_by_spots spots c w
   items-more [] c w ac = refl
   items-more (s ∷ rest) c w ac =
       (let one = items-append (moved s.buffer s.side ac) (moved_by s.buffer s.side c w) in let more = items-more rest c w ac in omega (arith, one, more))
@@ -86,7 +86,7 @@ module _ {L : Type 0} where
   sum_of extra (entry ∷ h) = extra entry + sum_of extra h
 
   module _ (J : Jobs L) (p : ℕ) (one : IsOne (twin J) p) (feeds pages counted : List Spot) (extra : Entry L → ℕ) where
-    abbrev PaidSo : Bool → Action → Reply L → Type 0
+    abbrev pub PaidSo : Bool → Action → Reply L → Type 0
     PaidSo works a r =
         pays works a r ≤ 2 * many_by feeds (call p a) (went_by a r) + 7 * many_by pages (call p a) (went_by a r) + 5 * items_by_spots counted (call p a) (went_by a r) + extra (Does a r)
 

@@ -164,7 +164,7 @@ module _ {L : Type 0} (J : Jobs L) where
   abbrev pub Rightly : ℕ → Type 0
   Rightly p = (x : (process J p).Place) → AimsRightly ((process J p).aims x)
 
-  aims-rightly : (p : ℕ) → IsOne (twin J) p → Rightly p
+  pub aims-rightly : (p : ℕ) → IsOne (twin J) p → Rightly p
   aims-rightly p one = each-process J Rightly p one card-aims input-aims (job-aims A) (job-aims B) output-aims printer-aims
 
   pub acts-rightly : (p : ℕ) (h : List (Entry L)) (a : Action) → IsOne (twin J) p → next_action (process J p) h ≡ Some a → ActsRightly a

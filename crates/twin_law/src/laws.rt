@@ -1,16 +1,18 @@
 // Each law is in a contract.
 
-ghost use Rattle.std.specs.Prelude.{◌≡◌, ◌≤◌, ℕ, List, length, Some};
+ghost use Rattle.std.specs.Prelude.{◌≡◌, ◌≤◌, ◌<◌, ℕ, List, length, Some};
 ghost use Rattle.network_run.specs.Law.{AreEnabled};
 ghost use Rattle.network_run.specs.Sound.{IsSoundLaw};
+ghost use Rattle.network_law.specs.Network.{IsEnabled, happens};
 ghost use Rattle.solo_base.specs.declared.item.Item.{Item};
 ghost use Rattle.batch_procs.specs.Jobs.{FilesAs};
-ghost use Rattle.twin_law.specs.Twin.{TwinState, TwinEvent};
+ghost use Rattle.twin_law.specs.Twin.{twin, TwinState, TwinEvent};
 ghost use Rattle.twin_law.specs.Opening.{AreTold, Opening};
 ghost use Rattle.twin_law.specs.TheLaw.{the_law, first_state, IsReached, IsStuck};
 ghost use Rattle.twin_law.specs.UnitWork.{AreByUnits};
 ghost use Rattle.twin_law.specs.Holds.{Holds};
 ghost use Rattle.twin_law.specs.Bound.{longest_run};
+ghost use Rattle.twin_law.specs.Left.{events_left, DrawsFrom};
 
 use batch_procs::JobWork;
 
@@ -39,6 +41,15 @@ pub fn no_run_is_longer<J: JobWork>()
         → opening.deck ≡ Some items → opening.files ≡ Some found
         → AreEnabled (the_law J.jobs) (first_state opening) events
         → length events ≤ longest_run J.jobs found items }
+{}
+
+/// How many events may still happen is a number that each event lowers, whatever the devices tell, whichever
+/// calls fail and wherever memory is refused: it rests on how many cards the deck may still give. Nothing is
+/// done here: the contract is the law.
+pub fn each_event_leaves_fewer<J: JobWork>()
+    ensures { (opening : Opening J.jobs) (s : TwinState J.Load) (event : TwinEvent J.Load) (cards left : ℕ)
+        → IsReached opening s → IsEnabled (twin J.jobs) s event → DrawsFrom event.entry cards left
+        → events_left J.jobs left (happens (twin J.jobs) s event) < events_left J.jobs cards s }
 {}
 
 /// Whatever the devices do, no reached state is stuck for who steps the network, and each grant is seen at

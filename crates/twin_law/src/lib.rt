@@ -4,4 +4,7 @@
 
 mod laws;
 
-pub use laws::{every_interleaving, law_of_the_twins, no_run_is_longer, no_state_is_stuck};
+pub use laws::{
+    each_event_leaves_fewer, every_interleaving, law_of_the_twins, no_run_is_longer,
+    no_state_is_stuck,
+};

@@ -7,6 +7,8 @@ use Rattle.solo_devices.specs.CardUnit.{bytes_total, items_ahead}
 use Rattle.solo_cli.specs.Decides.{Nothing}
 use Rattle.solo_cli.specs.Devices.{sink_told, source_told, area_told}
 use Rattle.solo_cli.proofs.Adding.{gains-same}
+use Rattle.batch_ends.specs.Ended.{stopped_at}
+use Rattle.solo_cli.proofs.BatchTold.{five-told}
 use Rattle.solo_cli.proofs.DeckRan.{batch-lacks, batch-ran}
 use Rattle.solo_cli.proofs.LowestCause.{lowest-decides}
 use Rattle.solo_cli.proofs.batch.run_mounted.Goals as goal
@@ -19,18 +21,23 @@ returns-in-Ok-clause-ran g c =
     let sink = g.K.Sink in
     let sized = c.came_to.ensures.size ∙ sym c.requires.ready.files in
     rw (c.came_to.ensures.devices, c.came_to.ensures.decided)
-    (batch-ran record {
-      five = lowest-decides ran.outcomes ran.stopped_by e.together e.faults Nothing;
-      counted = record {
-        read = λ is. subst (λ unit. Rose (source.faults unit.source) (source.faults ran.units.deck.source)) c.new.ensures (e.counted.read is);
-        limit = e.counted.limit;
-        longer = e.longer (let zero = ap (λ unit. source.taken unit.source) c.new.ensures ∙ c.requires.ready.deck in omega (arith, zero));
-        input = e.counted.input;
-        job = e.counted.job;
-        output = e.counted.output;
-        print = λ is. subst (λ unit. Rose (sink.faults unit.sink) (sink.faults ran.units.paper.sink)) c.new-2.ensures (e.counted.print is);
+    (batch-ran (record {
+      ends = record {
+        five = lowest-decides ran.outcomes ran.stopped_by e.together e.faults Nothing;
+        counted = record {
+          read = λ is. subst (λ unit. Rose (source.faults unit.source) (source.faults ran.units.deck.source)) c.new.ensures (e.counted.read is);
+          limit = e.counted.limit;
+          longer = e.longer (let zero = ap (λ unit. source.taken unit.source) c.new.ensures ∙ c.requires.ready.deck in omega (arith, zero));
+          input = e.counted.input;
+          job = e.counted.job;
+          output = e.counted.output;
+          print = λ is. subst (λ unit. Rose (sink.faults unit.sink) (sink.faults ran.units.paper.sink)) c.new-2.ensures (e.counted.print is);
+        };
       };
-    } c.requires.ready (λ input output. e.undamaged record { input = input; output = output })
+      histories_are = five-told g.I.Area g.O.Area c.args.devices.input ran.units.input c.args.devices.output ran.units.output
+          (stopped_at ran.stopped_by) e.ran.five;
+      each = e.ran.ends;
+    }) c.requires.ready (λ input output. e.undamaged record { input = input; output = output })
     (e.total ∙ ap (λ unit. bytes_total (source.taken unit.source) (source.left unit.source)) c.new.ensures)
     record { deck = tt; keys = refl; paper = tt; console = refl; files = tt; input = tt; output = tt } sized e.all_taken
     (λ bytes found told files spools.

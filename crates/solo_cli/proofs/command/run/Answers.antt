@@ -44,5 +44,11 @@ returns-in-Check-clause-answers g c = rw c.in-Check.is c.check.ensures.answers
 pub returns-in-Times-clause-does : goal.returns-in-Times-clause-does
 returns-in-Times-clause-does g c = rw c.in-Times.is c.times.ensures.times
 
+pub returns-in-Solo-clause-does : goal.returns-in-Solo-clause-does
+returns-in-Solo-clause-does g c = rw c.in-Solo.is (c.session.ensures.runs, c.session.ensures.mounts)
+
+pub returns-in-Solo-clause-answers : goal.returns-in-Solo-clause-answers
+returns-in-Solo-clause-answers g c = rw c.in-Solo.is c.session.ensures.answers
+
 pub returns-in-Times-clause-answers : goal.returns-in-Times-clause-answers
 returns-in-Times-clause-answers g c = rw c.in-Times.is c.times.ensures.answers

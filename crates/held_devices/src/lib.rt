@@ -1,7 +1,8 @@
-// A source and a sink that wait for each other, so that one thread alone can't serve both.
+//! A source and a sink that wait for each other, so that one thread alone can't serve both.
+#![tactic(auto)]
+
 ghost use Rattle.std.specs.Prelude.{None, ◌≡◌, ◌≤◌, length};
 
-use crate::running::{Counted, Printed};
 use solo_devices::{Gave, Sink, Source, Took};
 use std::alloc::Global;
 use std::sync::Arc;
@@ -42,6 +43,7 @@ pub struct HeldSink {
 }
 
 impl HeldSource {
+    /// A source of this text, of which nothing was taken.
     pub fn new(text: Vec<u8>, free: usize, turns: u32, marks: Marks) -> HeldSource
         ensures { ⟦<HeldSource as Source>⟧.taken result ≡ 0 }
     {
@@ -54,6 +56,11 @@ impl HeldSource {
             taken: 0,
             faults: 0,
         }
+    }
+
+    /// How often a call failed so far.
+    pub fn faults(&self) -> u64 {
+        self.faults
     }
 
     /// The line that is next, with its line feed.
@@ -90,6 +97,7 @@ impl Source for HeldSource {
 }
 
 impl HeldSink {
+    /// A sink that was given nothing.
     pub fn new(alloc: Global, turns: u32, marks: Marks) -> HeldSink {
         HeldSink {
             text: Vec::new(alloc),
@@ -98,22 +106,14 @@ impl HeldSink {
             faults: 0,
         }
     }
-}
 
-impl Printed for HeldSink {
-    fn printed(&self) -> &[u8] {
+    /// What it was given.
+    pub fn bytes(&self) -> &[u8] {
         self.text.as_slice()
     }
-}
 
-impl Counted for HeldSink {
-    fn failures(&self) -> u64 {
-        self.faults
-    }
-}
-
-impl Counted for HeldSource {
-    fn failures(&self) -> u64 {
+    /// How often a call failed so far.
+    pub fn faults(&self) -> u64 {
         self.faults
     }
 }

@@ -1,0 +1,10 @@
+pub mod Tasks
+pub mod Table
+pub mod ToldSteps
+pub mod Steady
+pub mod Stepping
+pub mod Loop
+pub mod Beginning
+pub mod Taken
+pub mod Done
+pub mod Fitting

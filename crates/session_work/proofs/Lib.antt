@@ -1,0 +1,10 @@
+pub mod Working
+pub mod Words
+pub mod CardLines
+pub mod Answering
+pub mod Programs
+pub mod Pieces
+pub mod Face
+pub mod Compiling
+pub mod Copying
+pub mod Storing

@@ -1,0 +1,4 @@
+pub mod Pausing
+pub mod Working
+pub mod Facing
+pub mod Cards

@@ -1,0 +1,2 @@
+pub mod TwinCalls
+pub mod TwinTells

@@ -1,0 +1,9 @@
+pub mod AtSpools
+pub mod Doings
+pub mod MayDoing
+pub mod Stepping
+pub mod Owners
+pub mod NetSteps
+pub mod Opened
+pub mod Finishing
+pub mod TwinRuns

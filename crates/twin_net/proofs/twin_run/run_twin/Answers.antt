@@ -1,0 +1,48 @@
+use Rattle.std.proofs.Common.{◌∙◌, ap}
+use Rattle.solo_devices.specs.CardUnit.{bytes_total}
+use Rattle.network_run.proofs.Along.{place-behind}
+use Rattle.twin_law.specs.TheLaw.{the_law}
+use Rattle.twin_ends.specs.declared.units.TwinUnits.{TwinUnits}
+use Rattle.twin_net.specs.Net.{twin_first_place}
+use Rattle.twin_net.proofs.TwinRuns.{run-bounded, runs-to-end}
+use Rattle.twin_net.proofs.twin_run.run_twin.Goals as goal
+
+pub run_by-counts-requires : goal.run_by-counts-requires
+run_by-counts-requires g c = record { before = twin_first_place c.make-net.ensures.opens }
+
+pub finish-requires : goal.finish-requires
+finish-requires g c = (let run = c.run_by-counts.ensures in record { ended = record { at = run.after; all = run.ended run.after } })
+
+pub returns-clause-runs : goal.returns-clause-runs
+returns-clause-runs g c =
+    runs-to-end g.met.J.JobWork.are_jobs _ _ c.args.rule c.run_by-counts.new.self _ c.args.units c.make-net.ensures.opens c.run_by-counts.result
+    (c.run_by-counts.ensures.runs (twin_first_place c.make-net.ensures.opens)) c.finish.result.outcomes c.finish.result.stopped_by c.finish.ensures.ends
+    c.finish.result.units c.finish.ensures.units
+
+pub returns-clause-prints : goal.returns-clause-prints
+returns-clause-prints g c = λ by told items found deck files.
+    let at = twin_first_place c.make-net.ensures.opens in
+    let ran = c.run_by-counts.ensures.runs at in
+    c.finish.ensures.prints (place-behind (the_law g.J.JobWork.jobs) _ _ at ran.events ran.enabled ran.stands) by told items found deck files
+
+pub returns-clause-reads : goal.returns-clause-reads
+returns-clause-reads g c = λ items is done.
+    let at = twin_first_place c.make-net.ensures.opens in
+    let ran = c.run_by-counts.ensures.runs at in
+    c.finish.ensures.reads (place-behind (the_law g.J.JobWork.jobs) _ _ at ran.events ran.enabled ran.stands) items is done
+
+pub returns-clause-bound : goal.returns-clause-bound
+returns-clause-bound g c = λ by told items found deck files.
+    run-bounded g.met.J.JobWork.are_jobs _ _ c.args.rule c.run_by-counts.new.self _ c.args.units c.make-net.ensures.opens c.run_by-counts.result items found by
+    told deck files (c.run_by-counts.ensures.runs (twin_first_place c.make-net.ensures.opens))
+
+pub returns-clause-total : goal.returns-clause-total
+returns-clause-total g c =
+    ap (λ (u : TwinUnits _ _ _ _). bytes_total (g.S.Source.taken u.deck.source) (g.S.Source.left u.deck.source)) c.finish.ensures.units
+    ∙ c.run_by-counts.ensures.keeps.total
+    ∙ ap (λ (u : TwinUnits _ _ _ _). bytes_total (g.S.Source.taken u.deck.source) (g.S.Source.left u.deck.source)) c.make-net.ensures.units
+
+pub returns-clause-files : goal.returns-clause-files
+returns-clause-files g c =
+    ap (λ (u : TwinUnits _ _ _ _). g.F.Loader.pages u.files) c.finish.ensures.units ∙ c.run_by-counts.ensures.keeps.files
+    ∙ ap (λ (u : TwinUnits _ _ _ _). g.F.Loader.pages u.files) c.make-net.ensures.units

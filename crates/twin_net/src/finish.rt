@@ -1,0 +1,99 @@
+ghost use Rattle.std.specs.Prelude.{◌≡◌, List, [], Some};
+ghost use Rattle.solo_base.specs.declared.item.Item.{Item};
+ghost use Rattle.solo_base.specs.Text.{text};
+ghost use Rattle.solo_devices.specs.PrinterUnit.{Gains};
+ghost use Rattle.batch_procs.specs.Jobs.{FilesAs, one_thread};
+ghost use Rattle.network_run.specs.Law.{Placed};
+ghost use Rattle.twin_law.specs.Opening.{AreTold};
+ghost use Rattle.twin_law.specs.TheLaw.{the_law};
+ghost use Rattle.twin_law.specs.UnitWork.{AreByUnits};
+ghost use Rattle.twin_ends.specs.TwinTells.{cards_ahead};
+ghost use Rattle.twin_net.specs.TwinStands.{shared_units};
+ghost use Rattle.twin_net.specs.Ended.{TwinHaveEnded, TwinEndsSo, TwinFaultsAre, twin_all_done};
+
+use crate::{TwinNet, TwinShared, TwinSpools};
+use batch_procs::{JobWork, Loader};
+use network_run::Network;
+use solo_devices::{Area, Sink, Source};
+use twin_ends::{TwinOutcomes, TwinPeripherals, TwinRan, TwinUnits};
+
+impl<J: JobWork, S: Source, K: Sink, F: Loader<J>, A: Area> TwinNet<J, S, K, F, A> {
+    /// How the network ended, once all six processes have.
+    pub fn finish(self) -> TwinRan<S, K, F, A>
+        requires ended { TwinHaveEnded J.jobs (⟦<TwinNet<J, S, K, F, A> as Network>⟧.Stands self) }
+
+        // At each place where it stands: each process ended so, by its cause, and these sides stopped the
+        // buffers first.
+        ensures ends { (at : Placed (the_law J.jobs) (⟦<TwinNet<J, S, K, F, A> as Network>⟧.Stands self)) →
+            TwinEndsSo J.jobs at.state result.outcomes result.stopped_by }
+        ensures faults { TwinFaultsAre result.outcomes }
+
+        // The paper gained what one thread prints or a part of it, all of it where all are done, and then
+        // nothing is left of the deck.
+        ensures prints { (at : Placed (the_law J.jobs) (⟦<TwinNet<J, S, K, F, A> as Network>⟧.Stands self)) →
+            AreByUnits J.jobs → AreTold at.opening.spools → (items : List Item) (found : FilesAs J.Load) →
+            at.opening.deck ≡ Some items → at.opening.files ≡ Some found →
+            Gains at.opening.paper (K.given result.units.paper.sink) (text (one_thread J.jobs items found))
+            (result.outcomes ≡ twin_all_done) }
+        ensures reads { (at : Placed (the_law J.jobs) (⟦<TwinNet<J, S, K, F, A> as Network>⟧.Stands self)) →
+            (items : List Item) → at.opening.deck ≡ Some items → result.outcomes ≡ twin_all_done →
+            cards_ahead ⟦<TwinUnits<S, K, F, A> as TwinPeripherals<J>>⟧.tells result.units.deck ≡ Some [] }
+        ensures units { result.units ≡ shared_units self.shared }
+    {
+        let TwinNet {
+            card,
+            input,
+            job_a,
+            job_b,
+            output,
+            printer,
+            shared,
+        } = self;
+        let outcomes = TwinOutcomes {
+            card: card.outcome(),
+            input: input.outcome(),
+            job_a: job_a.outcome(),
+            job_b: job_b.outcome(),
+            output: output.outcome(),
+            printer: printer.outcome(),
+        };
+        let TwinShared {
+            deck,
+            cards,
+            spools,
+            lines,
+            paper,
+            files,
+            sound: _,
+            desk: _,
+            alloc: _,
+            of: _,
+        } = shared;
+        let TwinSpools {
+            to_a,
+            to_b,
+            from_a,
+            from_b,
+        } = spools;
+        TwinRan {
+            outcomes,
+            stopped_by: [
+                cards.stopped_by(),
+                to_a.stopped_by(),
+                to_b.stopped_by(),
+                from_a.stopped_by(),
+                from_b.stopped_by(),
+                lines.stopped_by(),
+            ],
+            units: TwinUnits {
+                deck,
+                paper,
+                files,
+                to_a: to_a.into_inner(),
+                to_b: to_b.into_inner(),
+                from_a: from_a.into_inner(),
+                from_b: from_b.into_inner(),
+            },
+        }
+    }
+}

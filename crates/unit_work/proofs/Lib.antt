@@ -1,0 +1,2 @@
+pub mod ByUnits
+pub mod WholeBatch
