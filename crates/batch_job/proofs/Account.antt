@@ -17,8 +17,8 @@ use Rattle.program_lines.specs.declared.program_lines.ProgramLines.{ProgramLines
 use Rattle.program_lines.specs.declared.program_lines.ProgramLines.TheVariants as made
 use Rattle.program_lines.proofs.Going.{all-cards}
 use Rattle.program_lines.proofs.Giving.{given-first}
-use Rattle.disk_system.specs.declared.loading.Loaded.{Loaded}
-use Rattle.disk_system.specs.declared.loading.Loaded.TheVariants.{NoFile}
+use Rattle.disk_contents.specs.declared.loading.Loaded.{Loaded}
+use Rattle.disk_contents.specs.declared.loading.Loaded.TheVariants.{NoFile}
 use Rattle.batch_job.specs.Report.{heading, listed_line, skipped_line, run_lines, file_limit, source_loaded}
 use Rattle.batch_job.specs.Loads.{load_for, begun}
 use Rattle.solo_base.specs.Prefixes.{IsPrefixOf}

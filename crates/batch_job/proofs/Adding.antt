@@ -14,14 +14,14 @@ use Rattle.deck_format.specs.Control.{control_of}
 use Rattle.deck_format.specs.Jobs.{cut, is_some, counts, card_count, data_in, before_end, after_end, stretch, spoiled_at, control_at}
 use Rattle.deck_format.specs.JobReader.{control_in, added as added_to_group}
 use Rattle.batch_program.specs.Laws.{IsPrefix}
-use Rattle.pascal_compile.specs.Compiling.{compiling}
+use Rattle.code_law.specs.Compiling.{compiling}
 use Rattle.program_lines.specs.Task.{Task, source_of, program_lines, task_lines, new_task, with_card, at_end}
 use Rattle.program_lines.specs.Standing.{StandsFor}
 use Rattle.program_lines.specs.declared.program_lines.ProgramLines.{ProgramLines}
 use Rattle.program_lines.proofs.Going.{all-cards}
 use Rattle.program_lines.proofs.Giving.{given-first}
-use Rattle.disk_system.specs.declared.loading.Loaded.{Loaded}
-use Rattle.disk_system.specs.declared.loading.Loaded.TheVariants.{NoFile}
+use Rattle.disk_contents.specs.declared.loading.Loaded.{Loaded}
+use Rattle.disk_contents.specs.declared.loading.Loaded.TheVariants.{NoFile}
 use Rattle.batch_job.specs.Report.{fault_line, run_lines}
 use Rattle.batch_job.specs.Loads.{begun}
 use Rattle.batch_job.specs.LinesSoFar.{is_closed, runs_so_far, stretch_lines, group_lines}

@@ -18,8 +18,8 @@ use Rattle.deck_format.specs.JobReader.{control_in, parts_at, card_kept, control
 use Rattle.program_lines.specs.Task.{Source, source_lines, program_lines}
 use Rattle.program_lines.proofs.FewLines.{few-lines as few-of-program, few-of-code}
 use Rattle.program_lines.proofs.Going.{all-cards}
-use Rattle.disk_system.specs.declared.loading.Loaded.{Loaded}
-use Rattle.disk_system.specs.declared.loading.Loaded.TheVariants.{Code, NoFile, NotCode, BadCode}
+use Rattle.disk_contents.specs.declared.loading.Loaded.{Loaded}
+use Rattle.disk_contents.specs.declared.loading.Loaded.TheVariants.{Code, NoFile, NotCode, BadCode}
 use Rattle.batch_job.specs.Report.{no_files, report, heading, fault_line, run_lines, source_loaded}
 use Rattle.batch_job.specs.Loads.{IsLoaded, AreLoaded, load_for}
 use Rattle.batch_job.specs.LinesSoFar.{lines_so_far, runs_so_far, lines_of_an_item}

@@ -12,8 +12,8 @@ use Rattle.stack_code.proofs.Regions.{IsRight, in_instr}
 use Rattle.disk_layout.specs.declared.kind.FileKind.{FileKind}
 use Rattle.disk_layout.specs.declared.kind.FileKind.TheVariants.{Scratch, Ascii, SeqCode, ConCode}
 use Rattle.disk_layout.specs.Files.{File, Files}
-use Rattle.disk_system.specs.Contents.{file_bytes}
-use Rattle.disk_system.specs.Loading.{code_in, judged, loaded_by, loaded_bytes, loaded_file, program_of}
+use Rattle.disk_contents.specs.Contents.{file_bytes}
+use Rattle.disk_contents.specs.Loading.{code_in, judged, loaded_by, loaded_bytes, loaded_file, program_of}
 use Rattle.disk_system.proofs.Loads.{code_is_read}
 use Rattle.batch_job.specs.Loads.{IsLoaded}
 

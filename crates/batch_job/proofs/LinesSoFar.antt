@@ -13,8 +13,8 @@ use Rattle.deck_format.specs.declared.job.CardFault.{CardFault}
 use Rattle.deck_format.specs.Control.{control_of}
 use Rattle.deck_format.specs.Jobs.{Groups, is_some, cut, before_groups, opener_of, opener_in, is_end, ends_in, counts, card_count, skipped, before_end, after_end, stretch, listed, first_fault, job_of, group_jobs, jobs}
 use Rattle.deck_format.specs.JobReader.{control_in}
-use Rattle.disk_system.specs.declared.loading.Loaded.{Loaded}
-use Rattle.disk_system.specs.declared.loading.Loaded.TheVariants.{NoFile}
+use Rattle.disk_contents.specs.declared.loading.Loaded.{Loaded}
+use Rattle.disk_contents.specs.declared.loading.Loaded.TheVariants.{NoFile}
 use Rattle.batch_job.specs.Report.{Loads, no_files, report, heading, listed_line, listing_end}
 use Rattle.batch_job.specs.OneThread.{one_thread_lines}
 use Rattle.batch_job.specs.Loads.{file_named, files_named, loads_of, Begun, load_for, with_group, begin_by, begun}

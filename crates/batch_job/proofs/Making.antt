@@ -7,8 +7,8 @@ use Rattle.batch_job.specs.Places.{IsPart, Holds, HasLoad, LeavesLoads, Leads, G
 use Rattle.deck_format.specs.declared.control.Opener.{Opener}
 use Rattle.deck_format.specs.declared.control.Opener.TheVariants as opener
 use Rattle.deck_format.specs.Jobs.{opener_of}
-use Rattle.disk_system.specs.declared.loading.Loaded.{Loaded}
-use Rattle.disk_system.specs.declared.loading.Loaded.TheVariants.{NoFile}
+use Rattle.disk_contents.specs.declared.loading.Loaded.{Loaded}
+use Rattle.disk_contents.specs.declared.loading.Loaded.TheVariants.{NoFile}
 use Rattle.batch_job.specs.Loads.{file_named, files_named, load_for}
 use Rattle.batch_job.specs.JobStream.{Stream, Account, AreWanted, IsAccount, Passes, Rests, made_of}
 use Rattle.batch_job.specs.declared.lines_ahead.End.{End}

@@ -11,7 +11,7 @@ use Rattle.deck_format.specs.declared.job.CardFaultKind.{CardFaultKind}
 use Rattle.deck_format.specs.declared.job.CardFaultKind.TheVariants as kind
 use Rattle.deck_format.specs.Jobs.{card_count}
 use Rattle.batch_job.specs.Report.{heading, listed_line, kind_text, fault_line, listing_end, skipped_line}
-use Rattle.program_lines.specs.Texts.{number_text, note, numbered_note, result_line, bad_word_line, syntax_line, semantic_line, code_limit_line, no_file_line, not_code_line, bad_code_line}
+use Rattle.code_law.specs.Texts.{number_text, note, numbered_note, result_line, bad_word_line, syntax_line, semantic_line, code_limit_line, no_file_line, not_code_line, bad_code_line}
 use Rattle.batch_job.proofs.PrintedTexts.{Prints, append-prints, is-line, IsNamed, number-prints}
 
 pub count-small : (n : ℕ) → card_count n < 2 ^ 32

@@ -15,8 +15,8 @@ use Rattle.deck_format.specs.Control.{control_of}
 use Rattle.deck_format.specs.Jobs.{is_data, kept_of, job_with, job_of, spoiled_at, control_at}
 use Rattle.deck_format.specs.JobReader.{control_in, group_on, input_behind, parts_at, opened as opened_group, added as added_to_group, added_by}
 use Rattle.deck_format.proofs.Steps.{group_nothing, group_more}
-use Rattle.pascal_compile.specs.Compiling.{compiling}
-use Rattle.disk_system.specs.declared.loading.Loaded.{Loaded}
+use Rattle.code_law.specs.Compiling.{compiling}
+use Rattle.disk_contents.specs.declared.loading.Loaded.{Loaded}
 use Rattle.program_lines.specs.Task.{Source, source_of, source_lines, program_lines}
 use Rattle.program_lines.proofs.Going.{more-cards, all-cards}
 use Rattle.batch_job.specs.Report.{report, heading, fault_line, run_lines, file_limit, source_loaded}

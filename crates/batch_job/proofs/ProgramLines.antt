@@ -10,13 +10,13 @@ use Rattle.solo_base.specs.RunOutcome.{RunOutcome, Ends, Waits}
 use Rattle.solo_base.specs.Text.{text}
 use Rattle.pascal_mean.specs.Meaning.{meaning_with}
 use Rattle.pascal_mean.specs.Batch.{batch_answers, characters_of, shown, Printed, nothing_printed, with_character, with_characters, last_line, lines_in, output_of, ending_of}
-use Rattle.pascal_compile.specs.Compiling.{Compiling, compiled, bad_word, syntax_error, semantic_error, code_limit}
+use Rattle.code_law.specs.Compiling.{Compiling, compiled, bad_word, syntax_error, semantic_error, code_limit}
 use Rattle.batch_program.specs.Outcome.{lines_of, printed_by}
 use Rattle.batch_program.specs.RunSoFar.{run_so_far}
-use Rattle.disk_system.specs.declared.loading.Loaded.{Loaded}
-use Rattle.disk_system.specs.declared.loading.Loaded.TheVariants.{Code, NoFile, NotCode, BadCode}
+use Rattle.disk_contents.specs.declared.loading.Loaded.{Loaded}
+use Rattle.disk_contents.specs.declared.loading.Loaded.TheVariants.{Code, NoFile, NotCode, BadCode}
 use Rattle.batch_job.specs.Report.{source_loaded}
-use Rattle.program_lines.specs.Texts.{result_line}
+use Rattle.code_law.specs.Texts.{result_line}
 use Rattle.program_lines.specs.Task.{Source, Runs, RunsCode, Says, source_of, end_lines, outcome_lines, ending_lines, program_lines}
 use Rattle.batch_job.proofs.PrintedTexts.{AreLinesOf, append-lines, IsNamed}
 use Rattle.batch_job.proofs.NoteLines.{result-line, bad-word-line, syntax-line, semantic-line, code-limit-line, no-file-line, not-code-line, bad-code-line}

@@ -8,7 +8,7 @@ use Rattle.page_codec.specs.Packing.{PageInHand, page_given, hand_after}
 use Rattle.batch_job.proofs.LinesSoFar.{from-start}
 use Rattle.batch_job.proofs.Account.{gives-none}
 use Rattle.page_codec.specs.Reading.{PageContent}
-use Rattle.disk_system.specs.declared.loading.Loaded.{Loaded}
+use Rattle.disk_contents.specs.declared.loading.Loaded.{Loaded}
 use Rattle.batch_job.specs.Loads.{Loading, first_of, files_named}
 use Rattle.batch_job.specs.LinesSoFar.{lines_so_far}
 use Rattle.batch_job.specs.LinesAhead.{Where, Outside, lines_ahead}

@@ -9,13 +9,13 @@ use Rattle.solo_base.specs.Line.{IsLine}
 use Rattle.page_codec.specs.Items.{IsItem, AreItems}
 use Rattle.deck_format.specs.declared.control.Opener.{Opener}
 use Rattle.deck_format.specs.declared.control.Opener.TheVariants as opener
-use Rattle.disk_system.specs.declared.loading.Loaded.{Loaded}
-use Rattle.disk_system.specs.declared.loading.Loaded.TheVariants.{NoFile}
+use Rattle.disk_contents.specs.declared.loading.Loaded.{Loaded}
+use Rattle.disk_contents.specs.declared.loading.Loaded.TheVariants.{NoFile}
 use Rattle.deck_format.specs.declared.job.Job.TheVariants as job
 use Rattle.deck_format.specs.declared.job.CardFault.{CardFault}
 use Rattle.deck_format.specs.Control.{control_of}
 use Rattle.deck_format.specs.Jobs.{card_count, is_some, opener_of, is_end, Groups, before_groups, cut, before_end, after_end, counts, skipped, control_at, listed, first_fault, before_data, behind_data, first_of, program, job_of}
-use Rattle.pascal_compile.specs.Compiling.{compiling}
+use Rattle.code_law.specs.Compiling.{compiling}
 use Rattle.program_lines.specs.Task.{Source, source_of, program_lines}
 use Rattle.batch_job.specs.Report.{Loads, no_files, fault_line, listing_end, run_lines, file_limit, source_loaded, report}
 use Rattle.batch_job.specs.OneThread.{one_thread_lines}

@@ -5,7 +5,7 @@ use Rattle.solo_base.specs.declared.page.Page.{Page}
 use Rattle.page_codec.specs.Reading.{PageContent, items_left}
 use Rattle.page_codec.specs.Packing.{PageInHand}
 use Rattle.page_codec.specs.Pushes.{pages_given, hand_behind, PushesUpTo}
-use Rattle.disk_system.specs.declared.loading.Loaded.{Loaded}
+use Rattle.disk_contents.specs.declared.loading.Loaded.{Loaded}
 use Rattle.batch_job.specs.Loads.{files_named}
 use Rattle.batch_job.specs.LinesSoFar.{lines_so_far}
 use Rattle.batch_job.specs.LinesAhead.{Where, lines_ahead}

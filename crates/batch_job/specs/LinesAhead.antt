@@ -8,9 +8,9 @@ use Rattle.deck_format.specs.declared.job.CardFault.{CardFault}
 use Rattle.deck_format.specs.declared.group.Group.{Group}
 use Rattle.deck_format.specs.JobReader.{control_in, opened as opened_group, added as added_to_group}
 use Rattle.deck_format.specs.Jobs.{cut, counts, card_count, skipped, before_end, after_end, spoiled_at, control_at, listed, first_fault}
-use Rattle.pascal_compile.specs.Compiling.{compiling}
+use Rattle.code_law.specs.Compiling.{compiling}
 use Rattle.program_lines.specs.Task.{Source, Says, source_of, Task}
-use Rattle.disk_system.specs.declared.loading.Loaded.{Loaded}
+use Rattle.disk_contents.specs.declared.loading.Loaded.{Loaded}
 use Rattle.batch_job.specs.Report.{no_files, report, listed_line, fault_line, run_lines, file_limit, source_loaded}
 use Rattle.batch_job.specs.Loads.{Begun, begun}
 use Rattle.batch_job.specs.LinesSoFar.{is_closed, fault_so_far, runs_so_far, stretch_lines, group_lines}

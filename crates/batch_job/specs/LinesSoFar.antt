@@ -10,9 +10,9 @@ use Rattle.deck_format.specs.declared.control.Opener.{Opener}
 use Rattle.deck_format.specs.declared.control.Opener.TheVariants as opener
 use Rattle.deck_format.specs.declared.job.CardFault.{CardFault}
 use Rattle.deck_format.specs.Jobs.{cut, is_end, is_data, before_end, after_end, stretch, listed, first_fault, input, program, job_of}
-use Rattle.pascal_compile.specs.Compiling.{compiling}
+use Rattle.code_law.specs.Compiling.{compiling}
 use Rattle.program_lines.specs.Task.{Source, source_of, source_lines}
-use Rattle.disk_system.specs.declared.loading.Loaded.{Loaded}
+use Rattle.disk_contents.specs.declared.loading.Loaded.{Loaded}
 use Rattle.batch_job.specs.Report.{Loads, no_files, report, heading, fault_line, file_limit, source_loaded}
 use Rattle.batch_job.specs.OneThread.{one_thread_output}
 use Rattle.batch_job.specs.Loads.{files_named, loads_of, AreLoaded, Begun, begun}

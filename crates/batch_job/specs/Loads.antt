@@ -8,9 +8,9 @@ use Rattle.deck_format.specs.Jobs.{opener_of}
 use Rattle.stack_code.specs.CodeLists.{IsCode}
 use Rattle.stack_code.specs.Rules.{IsGood}
 use Rattle.disk_layout.specs.Files.{Files}
-use Rattle.disk_system.specs.Loading.{program_of}
-use Rattle.disk_system.specs.declared.loading.Loaded.{Loaded}
-use Rattle.disk_system.specs.declared.loading.Loaded.TheVariants.{Code, NoFile, NotCode, BadCode}
+use Rattle.disk_contents.specs.Loading.{program_of}
+use Rattle.disk_contents.specs.declared.loading.Loaded.{Loaded}
+use Rattle.disk_contents.specs.declared.loading.Loaded.TheVariants.{Code, NoFile, NotCode, BadCode}
 use Rattle.batch_job.specs.Report.{Loads}
 
 -- ---- The files that are named

@@ -11,8 +11,8 @@ use Rattle.program_lines.specs.Task.{Task, task_lines}
 use Rattle.program_lines.specs.Standing.{StandsFor, IsSpent, lines_left}
 use Rattle.program_lines.specs.declared.program_lines.ProgramLines.{ProgramLines}
 use Rattle.program_lines.specs.declared.program_lines.ProgramLines.TheVariants as made
-use Rattle.disk_system.specs.declared.loading.Loaded.{Loaded}
-use Rattle.disk_system.specs.declared.loading.Loaded.TheVariants.{NoFile}
+use Rattle.disk_contents.specs.declared.loading.Loaded.{Loaded}
+use Rattle.disk_contents.specs.declared.loading.Loaded.TheVariants.{NoFile}
 use Rattle.batch_job.specs.Report.{heading}
 use Rattle.batch_job.specs.Loads.{load_for}
 use Rattle.batch_job.specs.LinesAhead.{Where, Outside, InList, InProgram, Dropped, name_of, task_in, lines_ahead, closed_lines, opened, added_lines, added}

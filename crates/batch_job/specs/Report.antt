@@ -8,10 +8,10 @@ use Rattle.deck_format.specs.declared.job.Job.TheVariants.{List as Listing, Pasc
 use Rattle.deck_format.specs.declared.job.CardFault.{CardFault}
 use Rattle.deck_format.specs.declared.job.CardFaultKind.{CardFaultKind}
 use Rattle.deck_format.specs.declared.job.CardFaultKind.TheVariants.{Spoiled, Control}
-use Rattle.pascal_compile.specs.Compiling.{compiling}
-use Rattle.disk_system.specs.declared.loading.Loaded.{Loaded}
-use Rattle.disk_system.specs.declared.loading.Loaded.TheVariants.{Code, NoFile, NotCode, BadCode}
-use Rattle.program_lines.specs.Texts.{no_file_line, not_code_line, bad_code_line}
+use Rattle.code_law.specs.Compiling.{compiling}
+use Rattle.disk_contents.specs.declared.loading.Loaded.{Loaded}
+use Rattle.disk_contents.specs.declared.loading.Loaded.TheVariants.{Code, NoFile, NotCode, BadCode}
+use Rattle.code_law.specs.Texts.{no_file_line, not_code_line, bad_code_line}
 use Rattle.program_lines.specs.Task.{Source, RunsCode, Says, source_of, program_lines}
 
 -- `JOB A`

@@ -1,6 +1,6 @@
 ghost use Rattle.std.specs.Prelude.{◌≡◌, ◌++◌, ◌∷◌, ℕ, List, [], None, IfOk, OnOk};
 ghost use Rattle.solo_base.specs.declared.item.Item.{Item as ItemOf};
-ghost use Rattle.disk_system.specs.declared.loading.Loaded.{Loaded as LoadedOf};
+ghost use Rattle.disk_contents.specs.declared.loading.Loaded.{Loaded as LoadedOf};
 ghost use Rattle.batch_job.specs.Loads.{first_of};
 ghost use Rattle.batch_job.specs.JobStream.{new_stream, fed, with_load, StandsFor, IsSpent, Packs};
 

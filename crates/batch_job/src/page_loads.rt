@@ -1,6 +1,6 @@
 ghost use Rattle.std.specs.Prelude.{◌≡◌, ◌++◌, ◌∷◌, ℕ, List, [], Some, IfOk, option_to_list};
 ghost use Rattle.deck_format.specs.Jobs.{opener_of};
-ghost use Rattle.disk_system.specs.declared.loading.Loaded.{Loaded as LoadedOf};
+ghost use Rattle.disk_contents.specs.declared.loading.Loaded.{Loaded as LoadedOf};
 ghost use Rattle.batch_job.specs.Loads.{first_of, file_named, files_named, load_for};
 
 use deck_format::{Opener, control_in, opener_in};

@@ -1,8 +1,8 @@
 ghost use Rattle.std.specs.Prelude.{◌≡◌, ◌+◌, ◌≤◌, ◌++◌, ◌∷◌, ℕ, List, [], length, true, false, is_some, unwrap_or, IfOk, OnOk};
-ghost use Rattle.pascal_compile.specs.Compiling.{compiling};
+ghost use Rattle.code_law.specs.Compiling.{compiling};
 ghost use Rattle.program_lines.specs.Task.{Task, source_of, new_task, task_lines, with_more};
 ghost use Rattle.program_lines.specs.Standing.{StandsFor, IsSpent};
-ghost use Rattle.disk_system.specs.declared.loading.Loaded.TheVariants.{NoFile};
+ghost use Rattle.disk_contents.specs.declared.loading.Loaded.TheVariants.{NoFile};
 ghost use Rattle.batch_job.specs.Report.{report, is_of_file, heading, listed_line, fault_line, listing_end, skipped_line, kind_text, run_lines, file_limit, source_loaded};
 ghost use Rattle.batch_job.specs.LinesSoFar.{fault_so_far};
 ghost use Rattle.batch_job.specs.Places.{Made, is_run};

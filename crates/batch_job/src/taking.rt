@@ -3,7 +3,7 @@ ghost use Rattle.std.specs.Prelude.{◌≡◌, ◌+◌, ◌++◌, ◌∷◌, ℕ
 ghost use Rattle.solo_base.specs.declared.item.Item.{Item as ItemOf};
 ghost use Rattle.deck_format.specs.JobReader.{control_in};
 ghost use Rattle.deck_format.specs.Jobs.{card_count, counts, data_in, is_some, opener_of};
-ghost use Rattle.disk_system.specs.declared.loading.Loaded.{Loaded as LoadedOf};
+ghost use Rattle.disk_contents.specs.declared.loading.Loaded.{Loaded as LoadedOf};
 ghost use Rattle.batch_job.specs.Loads.{load_for};
 ghost use Rattle.batch_job.specs.LinesAhead.{Where, name_of, opened, closed_lines, card_or_fault};
 ghost use Rattle.batch_job.specs.Places.{IsPart, IsSpentPart, StillGives};

@@ -6,3 +6,5 @@ pub mod Suits
 pub mod Suited
 pub mod Law
 pub mod Heights
+pub mod Compiling
+pub mod Texts

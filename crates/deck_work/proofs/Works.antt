@@ -7,7 +7,7 @@ use Rattle.solo_base.specs.declared.item.Item.{Item}
 use Rattle.solo_base.specs.declared.page.Page.{Page}
 use Rattle.page_codec.specs.Packing.{PageInHand}
 use Rattle.page_codec.specs.Reading.{PageContent}
-use Rattle.disk_system.specs.declared.loading.Loaded.{Loaded}
+use Rattle.disk_contents.specs.declared.loading.Loaded.{Loaded}
 use Rattle.batch_job.specs.Loads.{files_named, first_of as first_named}
 use Rattle.batch_job.specs.LinesSoFar.{lines_so_far}
 use Rattle.batch_job.specs.declared.lines_ahead.End.{End}

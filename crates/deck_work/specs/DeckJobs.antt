@@ -3,9 +3,9 @@ use Rattle.std.proofs.Common.{lit<, lit≤, ◌≡◌, ◌⊎◌, ℕ, List, [],
 use Rattle.std.specs.Option.{option_map}
 use Rattle.solo_base.specs.declared.item.Item.{Item}
 use Rattle.disk_layout.specs.Files.{files as file_map}
-use Rattle.disk_system.specs.Loading.{program_of}
-use Rattle.disk_system.specs.declared.loading.Loaded.{Loaded}
-use Rattle.disk_system.specs.declared.loading.Loaded.TheVariants.{NoFile}
+use Rattle.disk_contents.specs.Loading.{program_of}
+use Rattle.disk_contents.specs.declared.loading.Loaded.{Loaded}
+use Rattle.disk_contents.specs.declared.loading.Loaded.TheVariants.{NoFile}
 use Rattle.batch_job.specs.Report.{Loads}
 use Rattle.batch_job.specs.OneThread.{one_thread_lines}
 use Rattle.batch_job.specs.Loads.{files_named, IsLoaded}

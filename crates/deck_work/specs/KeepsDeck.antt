@@ -1,6 +1,6 @@
 -- What the work on the jobs of a deck keeps of what it was told.
 use Rattle.std.specs.Prelude.{◌≡◌, ℕ, true, not, List, [], ◌++◌, length}
-use Rattle.disk_system.specs.declared.loading.Loaded.{Loaded}
+use Rattle.disk_contents.specs.declared.loading.Loaded.{Loaded}
 use Rattle.batch_job.specs.Loads.{files_named}
 use Rattle.batch_job.specs.JobStream.{Stream, StandsFor, IsSpent, goes_on}
 use Rattle.batch_procs.specs.JobTold.{JobTold}

@@ -15,9 +15,10 @@ use Rattle.stack_code.proofs.Reading.{IsBytes, IsReadFrom, number_fits, read_is,
 use Rattle.stack_code.proofs.Writing.{never_wrong, read_again}
 use Rattle.disk_system.specs.declared.fault.SystemFault.{SystemFault}
 use Rattle.disk_system.specs.declared.fault.SystemFault.TheVariants.{BadCode as OfBadCode}
-use Rattle.disk_system.specs.declared.loading.Loaded.TheVariants.{Code, BadCode}
+use Rattle.disk_contents.specs.declared.loading.Loaded.TheVariants.{Code, BadCode}
 use Rattle.disk_system.specs.Calls.{IsBadAt, LoadsAs, LoadsCode}
-use Rattle.disk_system.specs.Loading.{LoadsSo, as_code, code_in, instr_in, judged, loaded_bytes, routine_in}
+use Rattle.disk_contents.specs.Loading.{code_in, instr_in, judged, loaded_bytes, routine_in}
+use Rattle.disk_system.specs.Loading.{LoadsSo, as_code}
 
 there : (o : Option Op) → is_some o ≡ true → o ≡ Some (unwrap_or o Halt)
 there (Some op) is = refl

@@ -12,7 +12,7 @@ use Rattle.stack_code.proofs.Positions.{code_length}
 use Rattle.std.specs.Option.{option_map}
 use Rattle.stack_code.specs.Rules.{IsGood, routine_is_good, instr_is_good, routine_record, instr_record, broken_routine, broken_instr, first_of, broken_record}
 use Rattle.stack_code.proofs.Least.{none_passes}
-use Rattle.disk_system.specs.Contents.{IsText, cut, in_pages, page_count, text_bytes, text_file, text_in}
+use Rattle.disk_contents.specs.Contents.{IsText, cut, in_pages, page_count, text_bytes, text_file, text_in}
 use Rattle.disk_system.specs.Calls.{text_answer}
 
 -- ---- Pages

@@ -15,7 +15,7 @@ use Rattle.disk_files.specs.declared.fault.FileInfo.{FileInfo}
 use Rattle.disk_files.specs.Answers.{Answers, Holds, append_answer, append_answer_of, create_answer, info_of, lookup_answer, pages_needed}
 use Rattle.disk_files.proofs.Numbers.{append_done, on_ok}
 use Rattle.disk_layout.specs.Taking.{TakesNext}
-use Rattle.disk_system.specs.Contents.{cut}
+use Rattle.disk_contents.specs.Contents.{cut}
 use Rattle.disk_system.specs.Taken.{TakesPages}
 use Rattle.disk_system.specs.declared.fault.SystemFault.TheVariants.{File as OfFiles}
 use Rattle.disk_system.specs.Calls.{StoreAnswers, as_system, room_answer, store_answer}

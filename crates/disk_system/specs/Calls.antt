@@ -14,7 +14,7 @@ use Rattle.stack_code.specs.declared.fault.CodeFault.TheVariants.{BadCode as Bad
 use Rattle.stack_code.specs.CodeLists.{CodeLists}
 use Rattle.stack_code.specs.CodeFile.{code_bytes, wrong_byte}
 use Rattle.stack_code.specs.Rules.{broken_record}
-use Rattle.disk_system.specs.Contents.{file_bytes, text_in}
+use Rattle.disk_contents.specs.Contents.{file_bytes, text_in}
 
 -- the answer as far as the file area gave it
 abbrev pub of_files : {T : Type 0} → Result T SystemFault → Result (Unit {0}) FileFault

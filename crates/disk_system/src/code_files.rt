@@ -9,9 +9,10 @@ ghost use Rattle.disk_system.specs.Taken.{TakesFile};
 ghost use Rattle.stack_code.specs.CodeLists.{CodeLists, IsCode, FitsItsFields};
 ghost use Rattle.stack_code.specs.CodeFile.{code_bytes};
 ghost use Rattle.stack_code.specs.Rules.{broken_record};
-ghost use Rattle.disk_system.specs.Contents.{file_bytes, code_file};
-ghost use Rattle.disk_system.specs.declared.loading.Loaded.{Loaded};
-ghost use Rattle.disk_system.specs.Loading.{LoadsSo, loaded_by, loaded_file, program_of};
+ghost use Rattle.disk_contents.specs.Contents.{file_bytes, code_file};
+ghost use Rattle.disk_contents.specs.declared.loading.Loaded.{Loaded};
+ghost use Rattle.disk_contents.specs.Loading.{loaded_by, loaded_file, program_of};
+ghost use Rattle.disk_system.specs.Loading.{LoadsSo};
 ghost use Rattle.disk_system.specs.Calls.{of_files, IsOutside, CodeAnswers, CodeBy, LoadsAs, LoadsCode, MayRefuseLoad, store_answer, StoreAnswers, MayRefuseStore};
 
 use crate::SystemFault;

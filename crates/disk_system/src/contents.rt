@@ -3,7 +3,7 @@ ghost use Rattle.std.specs.FinMap as fin;
 ghost use Rattle.disk_layout.specs.Files.{File, files as file_map};
 ghost use Rattle.disk_files.specs.declared.fault.FileFault.TheVariants.{NoFile};
 ghost use Rattle.disk_files.specs.Answers.{FaultsOnly, after_reading};
-ghost use Rattle.disk_system.specs.Contents.{file_bytes};
+ghost use Rattle.disk_contents.specs.Contents.{file_bytes};
 ghost use Rattle.disk_system.specs.Calls.{of_files, IsOutside};
 
 use crate::SystemFault;

@@ -17,10 +17,11 @@ mod texts;
 
 pub use code_files::{load_code, store_code};
 pub use contents::bytes_of;
+pub use disk_contents::Loaded;
 pub use fault::{DiskFault, SystemFault};
 pub use formatting::format;
 pub use listing::list;
-pub use loading::{LoadFault, Loaded, load_job};
+pub use loading::{LoadFault, load_job};
 pub use migrating::{MigrateFault, Migrated, migrate};
 pub use storing::store;
 pub use texts::{is_text, store_text, text_of};

@@ -2,27 +2,15 @@ ghost use Rattle.std.specs.Prelude.{◌≡◌, ℕ, List, Some, Err, IsTrue};
 ghost use Rattle.disk_layout.specs.Files.{files as file_map};
 ghost use Rattle.disk_files.specs.declared.fault.FileFault.TheVariants.{DiskFault};
 ghost use Rattle.disk_files.specs.Answers.{FaultsOnly, after_reading};
-ghost use Rattle.disk_system.specs.Loading.{FindsSo, load_failed, program_of};
+ghost use Rattle.disk_contents.specs.Loading.{program_of};
+ghost use Rattle.disk_system.specs.Loading.{FindsSo, load_failed};
 
 use crate::{SystemFault, load_code};
+use disk_contents::Loaded;
 use disk_files::{FileArea, FileFault};
 use solo_base::Ident;
 use solo_devices::Area;
-use stack_code::Verified;
 use std::alloc::Global;
-
-/// What a job finds of its program.
-#[derive(Debug, Drop)]
-pub enum Loaded {
-    /// The code of the file, verified.
-    Code(Verified),
-    /// There is no file of this name.
-    NoFile,
-    /// The file is of another kind than that of code.
-    NotCode,
-    /// The byte of the file, from 0, at which it is no good code.
-    BadCode { at: u32 },
-}
 
 /// Why it isn't known what a job finds of its program.
 #[derive(Clone, Copy, Debug, PartialEq, Eq)]

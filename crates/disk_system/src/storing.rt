@@ -6,7 +6,7 @@ ghost use Rattle.disk_files.specs.declared.fault.FileFault.TheVariants.{DiskFaul
 ghost use Rattle.disk_files.specs.Answers.{Answers, FaultsOnly, Holds, StandsOpen, Told, after_reading, stays_sound, pages_needed};
 ghost use Rattle.disk_layout.specs.Format.{part_count};
 ghost use Rattle.disk_layout.specs.Taking.{TakesNext};
-ghost use Rattle.disk_system.specs.Contents.{cut, in_pages};
+ghost use Rattle.disk_contents.specs.Contents.{cut, in_pages};
 ghost use Rattle.disk_system.specs.Taken.{TakesFile, TakesPages};
 ghost use Rattle.disk_system.specs.Calls.{store_answer, room_answer, MayRefuse};
 

@@ -5,7 +5,7 @@ ghost use Rattle.disk_layout.specs.Files.{File, files as file_map, free_count, n
 ghost use Rattle.disk_layout.specs.Deleting.{pages_held};
 ghost use Rattle.disk_files.specs.declared.fault.FileFault.TheVariants.{NoFile, DiskFault};
 ghost use Rattle.disk_files.specs.Answers.{FaultsOnly, Holds, Told, after_reading, stays_sound};
-ghost use Rattle.disk_system.specs.Contents.{IsText, file_bytes, page_count, text_bytes, text_file, text_in};
+ghost use Rattle.disk_contents.specs.Contents.{IsText, file_bytes, page_count, text_bytes, text_file, text_in};
 ghost use Rattle.disk_system.specs.Taken.{TakesFile};
 ghost use Rattle.disk_system.specs.Calls.{of_files, IsOutside, text_answer, text_by, store_answer, StoreAnswers, MayRefuseStore};
 

@@ -1,5 +1,5 @@
 -- Lines on pages: how many a page takes, what a page gives that comes behind so many, and the pages of lines.
-use Rattle.std.specs.Prelude.{◌≡◌, ◌≤◌, ℕ, suc, ◌%◌, ◌^◌, ◌==◌, not, Bool, true, false, if◌then◌else◌, List, [], ◌∷◌, ◌++◌, length, map, nat_le, Option, None, Some, slice_index, Result, Ok, Err}
+use Rattle.std.specs.Prelude.{◌≡◌, ◌≤◌, ℕ, zero, suc, ◌%◌, ◌^◌, ◌==◌, not, Bool, true, false, if◌then◌else◌, List, [], ◌∷◌, ◌++◌, length, map, nat_le, Option, None, Some, slice_index, Result, Ok, Err}
 use Rattle.solo_base.specs.declared.item.Item.{Item}
 use Rattle.solo_base.specs.declared.item.Item.TheVariants.{Line, Spoiled}
 use Rattle.solo_base.specs.declared.page.Page.{Page}
@@ -39,6 +39,11 @@ pages_of n hand [] = page_with n true hand ∷ []
 pages_of n hand (line ∷ rest) =
     if has_room_for hand line then pages_of n (hand ++ line ∷ []) rest
     else page_with n false hand ∷ pages_of (suc n) (line ∷ []) rest
+
+-- the last page behind so many, where it printed a line
+abbrev pub last_page : ℕ → List (List ℕ) → Option Page
+last_page zero [] = None
+last_page pages printed = Some (page_with pages true printed)
 
 -- ---- a page that is taken
 -- what a page gives that comes behind so many

@@ -9,7 +9,7 @@ use Rattle.disk_layout.specs.declared.kind.FileKind.TheVariants.{Scratch, Ascii,
 use Rattle.disk_layout.specs.Files.{File}
 use Rattle.disk_files.specs.declared.fault.FileInfo.{FileInfo}
 use Rattle.disk_files.specs.Answers.{info_of}
-use Rattle.disk_system.specs.Contents.{cut, in_pages, file_bytes, text_in}
+use Rattle.disk_contents.specs.Contents.{cut, in_pages, file_bytes, text_in}
 use Rattle.disk_system.specs.declared.fault.SystemFault.{SystemFault}
 use Rattle.disk_system.specs.Calls.{text_by, text_answer}
 use Rattle.disk_system.proofs.Stored.{cut_more, cut_none}

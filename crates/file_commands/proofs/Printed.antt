@@ -7,7 +7,7 @@ use Rattle.std.proofs.lemmas.Bool.{leb-true}
 use Rattle.solo_base.specs.declared.no_memory.NoMemory.{NoMemory}
 use Rattle.solo_base.specs.Line.{IsLine, is_printable}
 use Rattle.solo_base.specs.Text.{text, line_text}
-use Rattle.disk_system.specs.Contents.{IsText}
+use Rattle.disk_contents.specs.Contents.{IsText}
 use Rattle.pascal_mean.specs.Batch.{Printed, nothing_printed, with_character, with_characters, lines_in}
 use Rattle.file_commands.specs.Texts.{IsAdded}
 

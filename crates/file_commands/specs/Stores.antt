@@ -3,7 +3,7 @@ use Rattle.std.specs.Prelude.{◌≡◌, ◌<◌, ℕ, length, slice_index_or, L
 use Rattle.std.specs.List.{concat}
 use Rattle.disk_layout.specs.declared.kind.FileKind.TheVariants.{Ascii}
 use Rattle.disk_layout.specs.Files.{File}
-use Rattle.disk_system.specs.Contents.{file_bytes, text_in}
+use Rattle.disk_contents.specs.Contents.{file_bytes, text_in}
 use Rattle.disk_system.specs.declared.fault.SystemFault.{SystemFault}
 use Rattle.disk_system.specs.declared.fault.SystemFault.TheVariants as system
 use Rattle.program_task.specs.Task.{Gives}

@@ -7,7 +7,7 @@ ghost use Rattle.solo_base.specs.Line.{is_printable};
 ghost use Rattle.disk_layout.specs.Files.{File, files as file_map};
 ghost use Rattle.disk_layout.specs.Format.{IsSoloDisk};
 ghost use Rattle.disk_files.specs.Answers.{FaultsOnly, stays_sound, info_of};
-ghost use Rattle.disk_system.specs.Contents.{IsText, text_file};
+ghost use Rattle.disk_contents.specs.Contents.{IsText, text_file};
 ghost use Rattle.disk_system.specs.Calls.{MayRefuseStore};
 ghost use Rattle.solo_commands.specs.Commands.{is_printer};
 ghost use Rattle.solo_task.specs.Answers.{stores};

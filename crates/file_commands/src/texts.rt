@@ -3,7 +3,7 @@ ghost use Rattle.std.specs.Prelude.{◌≡◌, ◌++◌, ◌∷◌, [], ◌+◌,
 ghost use Rattle.std.specs.List.{list_all};
 ghost use Rattle.solo_base.specs.Line.{is_printable, IsLine};
 ghost use Rattle.solo_base.specs.Text.{text, line_text};
-ghost use Rattle.disk_system.specs.Contents.{IsText};
+ghost use Rattle.disk_contents.specs.Contents.{IsText};
 ghost use Rattle.pascal_mean.specs.Batch.{shown, nothing_printed, with_characters, with_character, lines_in};
 ghost use Rattle.batch_program.specs.Printing.{Prints};
 ghost use Rattle.file_commands.specs.Texts.{IsAdded};

@@ -28,7 +28,7 @@ use Rattle.pascal_code.specs.Code.{code_of}
 use Rattle.pascal_code.specs.Size.{size}
 use Rattle.code_law.specs.Law.{Compiles}
 use Rattle.code_law.proofs.Lawful.{does_what_it_means}
-use Rattle.pascal_compile.specs.Compiling.{compiled, bad_word, syntax_error, code_limit, by_rule, by_reading, compiling, IsCodeOf, IsCodeFor}
+use Rattle.code_law.specs.Compiling.{compiled, bad_word, syntax_error, code_limit, by_rule, by_reading, compiling, IsCodeOf, IsCodeFor}
 
 pub compiling_is : (cards : List (List ℕ)) → compiling cards ≡ by_reading (reading cards)
 unfolding compiling

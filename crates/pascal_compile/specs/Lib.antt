@@ -3,7 +3,7 @@ pub mod SeenSite
 pub mod SeenCalls
 pub mod SeenFor
 pub mod Landed
-pub mod Compiling
+pub mod Faults
 pub mod Holds
 pub mod Passings
 pub mod Infos

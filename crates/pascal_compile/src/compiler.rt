@@ -12,7 +12,8 @@ ghost use Rattle.pascal_tree.specs.DeclarationRules.{broken};
 ghost use Rattle.pascal_mean.specs.Meaning.{meaning};
 ghost use Rattle.pascal_mean.specs.MoreReplies.{FitTheMeaning};
 ghost use Rattle.pascal_reading.specs.Reading.{reading, tree};
-ghost use Rattle.pascal_compile.specs.Compiling.{compiling, compiled, by_reading, by_rule, IsCodeOf, IsCodeFor, Explains};
+ghost use Rattle.code_law.specs.Compiling.{compiling, compiled, by_reading, by_rule, IsCodeOf, IsCodeFor};
+ghost use Rattle.pascal_compile.specs.Faults.{Explains};
 
 use crate::compile_fault::CompileFault;
 use crate::fault::EmitFault;

@@ -5,7 +5,7 @@ use Rattle.solo_base.specs.declared.system_call.SysCall.TheVariants as calls
 use Rattle.solo_base.specs.declared.system_call.SysReply.{SysReply}
 use Rattle.solo_base.specs.Arguments.{word_name}
 use Rattle.disk_layout.specs.Files.{files}
-use Rattle.disk_system.specs.declared.loading.Loaded.TheVariants.{Code}
+use Rattle.disk_contents.specs.declared.loading.Loaded.TheVariants.{Code}
 use Rattle.stack_code.specs.CodeLists.{CodeLists}
 use Rattle.stack_code.specs.Rules.{IsGood}
 use Rattle.stack_machine.specs.declared.running.Pause.TheVariants as pause

@@ -11,8 +11,8 @@ use Rattle.stack_machine.specs.declared.state.Finish.{Finish}
 use Rattle.disk_layout.specs.Files.{files}
 use Rattle.disk_files.specs.declared.fault.FileFault.{FileFault}
 use Rattle.disk_files.specs.declared.fault.FileFault.TheVariants.{DiskFault}
-use Rattle.disk_system.specs.declared.loading.Loaded.{Loaded}
-use Rattle.disk_system.specs.declared.loading.Loaded.TheVariants.{Code}
+use Rattle.disk_contents.specs.declared.loading.Loaded.{Loaded}
+use Rattle.disk_contents.specs.declared.loading.Loaded.TheVariants.{Code}
 use Rattle.disk_system.specs.declared.loading.LoadFault.{LoadFault}
 use Rattle.disk_system.specs.declared.loading.LoadFault.TheVariants.{DiskFault as LoadFails}
 use Rattle.program_task.specs.Program.{Own}

@@ -8,7 +8,7 @@ ghost use Rattle.stack_machine.specs.Standing.{StandsWell, Awaits};
 ghost use Rattle.prog_stack.specs.Callers.{AreCallers, RunsTop, TopBegins, with_reply};
 ghost use Rattle.prog_stack.specs.Programs.{AsksFor, begun, ran, nothing_ran};
 ghost use Rattle.disk_layout.specs.Files.{files as file_map};
-ghost use Rattle.disk_system.specs.Loading.{program_of};
+ghost use Rattle.disk_contents.specs.Loading.{program_of};
 ghost use Rattle.prog_stack.specs.Serves.{Serves, RunsCode, HasCode, PopsSo, load_fault, served_fault};
 ghost use Rattle.prog_stack.specs.Shown.{shown};
 ghost use Rattle.prog_stack.specs.declared.served.Served.TheVariants as served;

@@ -14,7 +14,7 @@ use Rattle.pascal_code.specs.Code.{code_of}
 use Rattle.pascal_code.specs.Size.{size}
 use Rattle.code_law.specs.Law.{Compiles}
 use Rattle.code_law.proofs.Lawful.{code_is_code, code_is_good, does_what_it_means}
-use Rattle.pascal_compile.specs.Compiling.{Compiling, compiled, bad_word, syntax_error, semantic_error, code_limit, by_rule, by_reading, compiling}
+use Rattle.code_law.specs.Compiling.{Compiling, compiled, bad_word, syntax_error, semantic_error, code_limit, by_rule, by_reading, compiling}
 use Rattle.batch_program.specs.Outcome.{Work, lines_of, meaning_so_far}
 use Rattle.batch_program.specs.RunSoFar.{run_so_far}
 use Rattle.batch_program.specs.Laws.{most_lines}

@@ -20,8 +20,8 @@ use Rattle.batch_program.proofs.Courses.{one_outcome}
 use Rattle.batch_program.proofs.Source.{reaches_meaning, meaning_goes_on}
 use Rattle.batch_program.proofs.RunSoFar.{reaches_run, runs_go_further}
 use Rattle.batch_program.proofs.MoreCards.{given_first}
-use Rattle.pascal_compile.specs.Compiling.{compiling, IsCodeFor}
-use Rattle.program_lines.specs.Texts.{result_line}
+use Rattle.code_law.specs.Compiling.{compiling, IsCodeFor}
+use Rattle.code_law.specs.Texts.{result_line}
 use Rattle.program_lines.specs.Task.{Source, Runs, RunsCode, Says, Task, source_of, outcome_lines, end_lines, source_lines, task_lines, new_task, with_card, at_end}
 use Rattle.program_lines.specs.Standing.{IsSettled, Serves, IsUnderWay, StandsFor}
 use Rattle.program_lines.specs.declared.program_lines.ProgramLines.{ProgramLines}

@@ -3,7 +3,7 @@ use Rattle.std.specs.Prelude.{◌≡◌, ℕ, ◌+◌, ◌≤◌, Bool, true, fa
 use Rattle.solo_base.specs.LineList.{AreLines}
 use Rattle.stack_code.specs.CodeLists.{CodeLists, IsCode}
 use Rattle.stack_code.specs.Rules.{IsGood}
-use Rattle.pascal_compile.specs.Compiling.{compiling}
+use Rattle.code_law.specs.Compiling.{compiling}
 use Rattle.batch_program.specs.Laws.{IsPrefix, most_lines}
 use Rattle.program_lines.specs.Task.{Source, RunsCode, source_of, program_lines, source_lines}
 

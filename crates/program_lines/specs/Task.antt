@@ -5,10 +5,10 @@ use Rattle.solo_base.specs.RunOutcome.{RunOutcome, Ends, Waits}
 use Rattle.pascal_tree.specs.Program.{Program}
 use Rattle.pascal_mean.specs.Batch.{Ending, ending_in_batch}
 use Rattle.stack_code.specs.CodeLists.{CodeLists}
-use Rattle.pascal_compile.specs.Compiling.{Compiling, compiled, bad_word, syntax_error, semantic_error, code_limit}
+use Rattle.code_law.specs.Compiling.{Compiling, compiled, bad_word, syntax_error, semantic_error, code_limit}
 use Rattle.batch_program.specs.Outcome.{lines_of, meaning_so_far}
 use Rattle.batch_program.specs.RunSoFar.{run_so_far}
-use Rattle.program_lines.specs.Texts.{result_line, bad_word_line, syntax_line, semantic_line, code_limit_line}
+use Rattle.code_law.specs.Texts.{result_line, bad_word_line, syntax_line, semantic_line, code_limit_line}
 
 -- what a job has to run: a program, the code of a file, or none, of which this line says why
 pub data Source : Type 0 where

@@ -1,5 +1,5 @@
 ghost use Rattle.std.specs.Prelude.{◌≡◌, ◌≢◌, ◌+◌, ◌≤◌, ℕ, List, [], ◌++◌, length, false, None, option_to_list, IfOk};
-ghost use Rattle.pascal_compile.specs.Compiling.{compiling};
+ghost use Rattle.code_law.specs.Compiling.{compiling};
 ghost use Rattle.program_lines.specs.Task.{Task, RunsCode, source_of, new_task, with_card, at_end, task_lines};
 
 use crate::texts::{compile_line, result_line};

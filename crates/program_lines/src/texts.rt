@@ -3,10 +3,11 @@ ghost use Rattle.std.specs.Prelude.{◌≡◌, ◌≤◌, ◌+◌, ◌++◌, len
 ghost use Rattle.std.specs.List.{list_all};
 ghost use Rattle.solo_base.specs.Line.{is_printable};
 ghost use Rattle.solo_base.specs.Blanks.{trimmed};
-ghost use Rattle.pascal_compile.specs.Compiling.{Compiling, Explains};
+ghost use Rattle.code_law.specs.Compiling.{Compiling};
+ghost use Rattle.pascal_compile.specs.Faults.{Explains};
 ghost use Rattle.program_lines.specs.Task.{source_of, Says};
-ghost use Rattle.program_lines.specs.Texts.{note, numbered_note, result_line, semantic_line};
-ghost use Rattle.program_lines.specs.Texts.{no_file_line, not_code_line, bad_code_line};
+ghost use Rattle.code_law.specs.Texts.{note, numbered_note, result_line, semantic_line};
+ghost use Rattle.code_law.specs.Texts.{no_file_line, not_code_line, bad_code_line};
 
 use pascal_compile::CompileFault;
 use solo_base::{Ident, Line, NoMemory, ProgResult};

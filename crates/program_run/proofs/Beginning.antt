@@ -2,9 +2,10 @@
 use Rattle.std.proofs.Common.{◌≡◌, inl, inr, ℕ, ◌+◌, List, [], ◌∷◌, Option, Some, Result, Ok, Err, refl, sym, ◌∙◌, ap, subst, arith}
 use Rattle.solo_base.specs.declared.system_call.Arg.{Arg}
 use Rattle.disk_layout.specs.Files.{Files, files}
-use Rattle.disk_system.specs.Loading.{program_of, FindsSo}
-use Rattle.disk_system.specs.declared.loading.Loaded.{Loaded}
-use Rattle.disk_system.specs.declared.loading.Loaded.TheVariants as load
+use Rattle.disk_contents.specs.Loading.{program_of}
+use Rattle.disk_system.specs.Loading.{FindsSo}
+use Rattle.disk_contents.specs.declared.loading.Loaded.{Loaded}
+use Rattle.disk_contents.specs.declared.loading.Loaded.TheVariants as load
 use Rattle.disk_system.specs.declared.loading.LoadFault.{LoadFault}
 use Rattle.file_commands.specs.declared.fault.CommandFault.{CommandFault}
 use Rattle.file_commands.specs.declared.fault.CommandFault.TheVariants.{DiskFault, NoMemory}

@@ -5,7 +5,7 @@ use Rattle.program_task.specs.Task.{Prints, Changes}
 use Rattle.solo_task.specs.Answers.{Doing}
 use Rattle.solo_task.specs.Laws.{last_of}
 use Rattle.solo_task.specs.Needs.{Paused, PageNeeded, GoesOn, comes_to, needs, either, fits_behind}
-use Rattle.solo_work.specs.Passing.{IsAmong}
+use Rattle.session_law.specs.Passing.{IsAmong}
 use Rattle.program_run.specs.Sight.{Sight, IsLeftOf}
 use Rattle.program_run.specs.Work.{Reaches, passes_all}
 

@@ -2,11 +2,11 @@
 use Rattle.std.specs.Prelude.{◌≡◌, ℕ, List, Result, Ok, Err}
 use Rattle.solo_base.specs.declared.system_call.Arg.{Arg}
 use Rattle.stack_code.specs.CodeLists.{CodeLists}
-use Rattle.disk_system.specs.declared.loading.Loaded.{Loaded}
-use Rattle.disk_system.specs.declared.loading.Loaded.TheVariants as load
+use Rattle.disk_contents.specs.declared.loading.Loaded.{Loaded}
+use Rattle.disk_contents.specs.declared.loading.Loaded.TheVariants as load
 use Rattle.file_commands.specs.declared.fault.CommandFault.{CommandFault}
 use Rattle.file_commands.specs.declared.fault.CommandFault.TheVariants.{DiskFault, NoMemory}
-use Rattle.program_lines.specs.Texts.{no_file_line, not_code_line, bad_code_line}
+use Rattle.code_law.specs.Texts.{no_file_line, not_code_line, bad_code_line}
 use Rattle.prog_stack.specs.Callers.{TopBegins}
 use Rattle.program_run.specs.Sight.{Sight, at_beginning, IsUnderWay}
 use Rattle.program_run.specs.declared.program_run.Begun.{Begun}

@@ -6,7 +6,7 @@ use Rattle.solo_base.specs.declared.system_call.SysCall.TheVariants as calls
 use Rattle.solo_base.specs.declared.system_call.SysReply.{SysReply}
 use Rattle.solo_base.specs.declared.system_call.SysReply.TheVariants as replies
 use Rattle.pascal_mean.specs.Batch.{last_line}
-use Rattle.program_lines.specs.Texts.{note, result_line}
+use Rattle.code_law.specs.Texts.{note, result_line}
 use Rattle.program_task.specs.Run.{program_room}
 use Rattle.stack_machine.specs.declared.running.Pause.{Pause}
 use Rattle.stack_machine.specs.declared.running.Pause.TheVariants as pause

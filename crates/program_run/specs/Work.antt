@@ -18,7 +18,7 @@ use Rattle.solo_task.specs.Needs.{Pause, Paused, comes_to}
 use Rattle.solo_work.specs.declared.paper.Paper.{Paper}
 use Rattle.solo_work.specs.declared.printing.Printing.{Printing}
 use Rattle.solo_work.specs.Paper.{IsHand}
-use Rattle.solo_work.specs.Passing.{IsAmong}
+use Rattle.session_law.specs.Passing.{IsAmong}
 use Rattle.solo_work.specs.Printing.{prints_then}
 use Rattle.program_run.specs.Sight.{Sight, IsLeftOf, MayTake, StandsFor}
 use Rattle.program_run.specs.declared.program_run.Begun.{Begun}

@@ -10,8 +10,8 @@ use Rattle.solo_base.specs.declared.system_call.SysReply.{SysReply}
 use Rattle.solo_base.specs.declared.system_call.SysReply.TheVariants as replies
 use Rattle.disk_layout.specs.declared.kind.FileKind.TheVariants.{Scratch, Ascii}
 use Rattle.disk_layout.specs.Files.{File}
-use Rattle.disk_system.specs.declared.loading.Loaded.{Loaded}
-use Rattle.disk_system.specs.declared.loading.Loaded.TheVariants.{Code, NoFile, NotCode, BadCode}
+use Rattle.disk_contents.specs.declared.loading.Loaded.{Loaded}
+use Rattle.disk_contents.specs.declared.loading.Loaded.TheVariants.{Code, NoFile, NotCode, BadCode}
 use Rattle.stack_code.specs.CodeLists.{CodeLists}
 use Rattle.program_task.specs.Task.{Task, Gives, Prints, and_then}
 use Rattle.program_task.specs.Program.{Own, Shared, Answer, Ended, Runner, begins_with, simply, refuses}

@@ -6,9 +6,9 @@ use Rattle.solo_base.specs.declared.system_call.SysCall.{SysCall}
 use Rattle.solo_base.specs.declared.system_call.SysCall.TheVariants as calls
 use Rattle.solo_base.specs.declared.system_call.SysReply.TheVariants as replies
 use Rattle.disk_layout.specs.Files.{Files}
-use Rattle.disk_system.specs.declared.loading.Loaded.{Loaded}
-use Rattle.disk_system.specs.declared.loading.Loaded.TheVariants.{Code, NoFile}
-use Rattle.disk_system.specs.Loading.{program_of}
+use Rattle.disk_contents.specs.declared.loading.Loaded.{Loaded}
+use Rattle.disk_contents.specs.declared.loading.Loaded.TheVariants.{Code, NoFile}
+use Rattle.disk_contents.specs.Loading.{program_of}
 use Rattle.program_task.specs.Task.{Task, and_then, Gives}
 use Rattle.program_task.specs.Program.{Own, Shared, Answer, Ended, Runner, begins_with, simply}
 use Rattle.program_task.specs.Arguments.{reads_argument, argument_of, writes_argument}

@@ -1,6 +1,7 @@
 // The laws of Solo over a session. Nothing is done here: the contracts are the laws.
 
 ghost use Rattle.session_law.specs.Plans.{PlansFit, NeedsAreTheSession};
+ghost use Rattle.session_law.specs.Passing.{EachPieceLeadsOn, BehindIsPassed};
 ghost use Rattle.session_law.specs.Tells.{EveryInterleavingTells, OpeningsAreSound, StoredSessionRuns};
 
 /// What told files make of the work is a plan whose needs fit on pages, whatever the work begins with; and
@@ -8,6 +9,13 @@ ghost use Rattle.session_law.specs.Tells.{EveryInterleavingTells, OpeningsAreSou
 pub fn the_session_is_a_plan()
     ensures fits { PlansFit }
     ensures needs { NeedsAreTheSession }
+{}
+
+/// Each piece of work leads on from where those before it led, by the plan of the session, and comes to the
+/// maps of the session, also in its middle.
+pub fn work_follows_the_session()
+    ensures each { EachPieceLeadsOn }
+    ensures behind { BehindIsPassed }
 {}
 
 /// Over told cards, typed lines and files, whatever the order of the events, whichever calls of the devices

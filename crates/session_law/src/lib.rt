@@ -4,4 +4,6 @@
 
 mod laws;
 
-pub use laws::{every_interleaving_tells_the_session, the_session_is_a_plan};
+pub use laws::{
+    every_interleaving_tells_the_session, the_session_is_a_plan, work_follows_the_session,
+};

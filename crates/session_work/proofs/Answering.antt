@@ -11,7 +11,8 @@ use Rattle.solo_task.specs.Answers.{Doing, answer_line}
 use Rattle.solo_task.specs.Copying.{copier, prints_text}
 use Rattle.solo_task.specs.Needs.{Pause, Idle, Paused, PageNeeded, EndNeeded, CardsNeeded, WantsCards, GoesOn, comes_to, needs as pauses_for, passes}
 use Rattle.solo_needs.specs.Needs.{Need as Need0}
-use Rattle.solo_procs.specs.Commands.{Kind, AtLine, AtCards, AtNothing, last_page}
+use Rattle.solo_procs.specs.Commands.{Kind, AtLine, AtCards, AtNothing}
+use Rattle.exchange_law.specs.Pages.{last_page}
 use Rattle.solo_procs.specs.declared.commands.Need.{Need}
 use Rattle.solo_procs.specs.declared.commands.Need.TheVariants as needs
 use Rattle.solo_procs.specs.declared.commands.WorkFault.{WorkFault}
@@ -19,7 +20,7 @@ use Rattle.solo_procs.specs.declared.commands.WorkFault.TheVariants.{Failed, NoM
 use Rattle.solo_work.specs.declared.paper.Paper.{Paper}
 use Rattle.solo_work.specs.declared.printing.Printing.{Printing}
 use Rattle.solo_work.specs.Paper.{IsHand}
-use Rattle.solo_work.specs.Passing.{IsAmong}
+use Rattle.session_law.specs.Passing.{IsAmong}
 use Rattle.solo_work.specs.Printing.{prints_then, PrintsAll, PrintsPage}
 use Rattle.file_commands.specs.declared.fault.CommandFault.{CommandFault}
 use Rattle.file_commands.specs.declared.fault.CommandFault.TheVariants as fault

@@ -13,7 +13,8 @@ use Rattle.pascal_read.specs.Scan.{words, words_from, line_after, next_line}
 use Rattle.pascal_read.proofs.Steps.{same_line}
 use Rattle.stack_code.specs.CodeLists.{CodeLists}
 use Rattle.pascal_compile.specs.declared.compile_fault.CompileFault.{CompileFault}
-use Rattle.pascal_compile.specs.Compiling.{Compiling, compiling, compiled, bad_word, IsCodeFor, Explains}
+use Rattle.code_law.specs.Compiling.{Compiling, compiling, compiled, bad_word, IsCodeFor}
+use Rattle.pascal_compile.specs.Faults.{Explains}
 use Rattle.solo_task.specs.Compiles.{is_line, bad_line_from, first_bad, by_bad_line, compiling_text}
 use Rattle.session_work.specs.Cards.{card_of, stops_at, NextCard, line_behind, ReadsOn, ReadSo, closing_if, closing, IsCodeOfText}
 use Rattle.session_work.proofs.Words.{has_quote, Ends, line_through, same-front}

@@ -6,13 +6,13 @@ use Rattle.disk_layout.specs.declared.kind.FileKind.{FileKind}
 use Rattle.disk_layout.specs.declared.kind.FileKind.TheVariants.{Scratch, Ascii, SeqCode, ConCode}
 use Rattle.disk_layout.specs.Files.{File, Files, files as file_map}
 use Rattle.disk_files.specs.declared.fault.FileFault.TheVariants.{NoFile}
-use Rattle.disk_system.specs.Contents.{file_bytes, text_in, code_file}
+use Rattle.disk_contents.specs.Contents.{file_bytes, text_in, code_file}
 use Rattle.disk_system.specs.declared.fault.SystemFault.{SystemFault}
 use Rattle.disk_system.specs.declared.fault.SystemFault.TheVariants.{NotText, File as OfFiles}
 use Rattle.disk_system.specs.Calls.{text_by, text_answer, IsOutside}
 use Rattle.stack_code.specs.CodeLists.{CodeLists}
 use Rattle.pascal_code.specs.Code.{code_of}
-use Rattle.pascal_compile.specs.Compiling.{Compiling, compiled, bad_word, syntax_error, semantic_error, code_limit}
+use Rattle.code_law.specs.Compiling.{Compiling, compiled, bad_word, syntax_error, semantic_error, code_limit}
 use Rattle.program_lines.specs.Task.{Source, Runs, RunsCode, Says, source_of}
 use Rattle.program_task.specs.Task.{Gives}
 use Rattle.solo_task.specs.Answers.{Doing, stores, not_text}

@@ -8,7 +8,7 @@ use Rattle.disk_layout.specs.declared.kind.FileKind.TheVariants.{Ascii}
 use Rattle.disk_layout.specs.Files.{File, Files, files as file_map}
 use Rattle.disk_files.specs.declared.fault.FileInfo.{FileInfo}
 use Rattle.disk_files.specs.Answers.{info_of}
-use Rattle.disk_system.specs.Contents.{file_bytes, text_in, text_file}
+use Rattle.disk_contents.specs.Contents.{file_bytes, text_in, text_file}
 use Rattle.solo_commands.specs.Commands.{is_cards, is_printer}
 use Rattle.program_task.specs.Task.{CardFile, Gives, ReadsCards}
 use Rattle.solo_task.specs.Answers.{Doing, answers, answer_line, no_file, file_exists, stores}

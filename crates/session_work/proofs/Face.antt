@@ -10,8 +10,8 @@ use Rattle.solo_procs.specs.declared.commands.WorkFault.{WorkFault}
 use Rattle.solo_procs.specs.declared.commands.WorkFault.TheVariants.{Failed, NoMemory}
 use Rattle.solo_task.specs.Needs.{Pause, Idle, Paused, resumes}
 use Rattle.session_law.specs.Plans.{FilesAndPause, at_rest, piece, behind, session_plan, plan_from}
-use Rattle.solo_work.specs.Passing.{IsAmong, ComesBy, stands_behind}
-use Rattle.solo_work.proofs.Passing.{each-piece, behind-passed}
+use Rattle.session_law.specs.Passing.{IsAmong, ComesBy, stands_behind}
+use Rattle.session_law.proofs.Passing.{each-piece, behind-passed}
 use Rattle.session_work.specs.declared.session.Session.{Session}
 use Rattle.session_work.specs.declared.session.UnderWay.TheVariants as under_way
 use Rattle.session_work.specs.Pausing.{StandsAt, Awaits, kind_of}

@@ -13,7 +13,7 @@ use Rattle.solo_work.specs.declared.paper.Paper.{Paper}
 use Rattle.solo_work.specs.declared.printing.Printing.{Printing}
 use Rattle.solo_work.specs.Paper.{IsHand}
 use Rattle.solo_work.specs.Printing.{prints_then}
-use Rattle.solo_work.specs.Passing.{IsAmong}
+use Rattle.session_law.specs.Passing.{IsAmong}
 use Rattle.solo_base.specs.declared.item.Feed.{Feed}
 use Rattle.program_run.specs.Sight.{Sight, IsLeftOf, MayTake, StandsFor, TakesCards, TakesLine}
 use Rattle.program_run.specs.Work as run

@@ -3,7 +3,7 @@ use Rattle.std.proofs.Common.{◌≡◌, ℕ, Bool, true, false, List, [], ◌�
 use Rattle.std.specs.FinMap as fin
 use Rattle.solo_base.specs.Text.{text}
 use Rattle.disk_layout.specs.Files.{File, Files, files as file_map}
-use Rattle.disk_system.specs.Contents.{text_file}
+use Rattle.disk_contents.specs.Contents.{text_file}
 use Rattle.program_task.specs.Task.{Gives}
 use Rattle.solo_task.specs.Answers.{Doing, answer_line, stores}
 use Rattle.solo_task.specs.Copying.{copier, with_cards}

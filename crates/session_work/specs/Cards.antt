@@ -8,7 +8,7 @@ use Rattle.stack_code.specs.CodeLists.{CodeLists}
 use Rattle.pascal_tree.specs.Program.{Program}
 use Rattle.pascal_read.specs.Scan.{next_line}
 use Rattle.pascal_code.specs.Code.{code_of}
-use Rattle.pascal_compile.specs.Compiling.{compiled}
+use Rattle.code_law.specs.Compiling.{compiled}
 use Rattle.solo_base.specs.Line.{IsLine}
 use Rattle.solo_task.specs.Compiles.{bad_line_from, compiling_text}
 

@@ -4,7 +4,7 @@ use Rattle.disk_layout.specs.Files.{files as file_map}
 use Rattle.solo_law.specs.Work.{Given, Plan}
 use Rattle.session_law.specs.Plans.{session_plan, plan_from}
 use Rattle.solo_task.specs.Needs.{Pause}
-use Rattle.solo_work.specs.Passing.{ComesBy, stands_behind}
+use Rattle.session_law.specs.Passing.{ComesBy, stands_behind}
 use Rattle.session_work.specs.declared.session.Session.{Session}
 use Rattle.session_work.specs.Pausing.{StandsAt}
 

@@ -3,7 +3,7 @@ use Rattle.std.specs.Prelude.{◌≡◌, ℕ, List, None, Option}
 use Rattle.std.specs.FinMap as fin
 use Rattle.solo_base.specs.Text.{text}
 use Rattle.disk_layout.specs.Files.{Files}
-use Rattle.disk_system.specs.Contents.{text_file}
+use Rattle.disk_contents.specs.Contents.{text_file}
 use Rattle.solo_task.specs.Answers.{Doing, stores}
 use Rattle.solo_task.specs.Copying.{copier, with_cards, prints_text}
 use Rattle.solo_task.specs.Needs.{Pause, Idle, WantsCards, GoesOn}

@@ -12,7 +12,7 @@ use Rattle.solo_procs.specs.declared.commands.WorkFault.{WorkFault}
 use Rattle.solo_procs.specs.declared.commands.WorkFault.TheVariants.{Failed, NoMemory}
 use Rattle.solo_procs.specs.Commands.{kind_given, kind_behind, pages_behind, IsNeed}
 use Rattle.solo_work.specs.Paper.{IsHand}
-use Rattle.solo_work.specs.Passing.{IsAmong}
+use Rattle.session_law.specs.Passing.{IsAmong}
 use Rattle.file_commands.specs.declared.fault.CommandFault.{CommandFault}
 use Rattle.file_commands.specs.declared.fault.CommandFault.TheVariants.{DiskFault}
 use Rattle.file_commands.specs.declared.fault.CommandFault.TheVariants as lacks

@@ -1,7 +1,8 @@
 // The lines of a text as the cards of a program, and the first of them that is none.
 ghost use Rattle.std.specs.Prelude.{◌≡◌, ◌++◌, ◌+◌, ◌≤◌, ◌==◌, ℕ, List, [], ◌∷◌, drop, length, OnOk, IfOk, IfErr};
 ghost use Rattle.pascal_read.specs.Scan.{words};
-ghost use Rattle.pascal_compile.specs.Compiling.{Explains, bad_word};
+ghost use Rattle.code_law.specs.Compiling.{bad_word};
+ghost use Rattle.pascal_compile.specs.Faults.{Explains};
 ghost use Rattle.solo_task.specs.Compiles.{compiling_text, first_bad};
 ghost use Rattle.session_work.specs.Cards.{NextCard, card_of, ReadSo, closing, IsCodeOfText};
 

@@ -5,7 +5,7 @@ use Rattle.solo_base.specs.Card.{before_lines, card_of, cards, lines}
 use Rattle.solo_base.specs.declared.item.Item.{Item}
 use Rattle.solo_devices.specs.CardUnit.{byte_limit, bytes_total, items_ahead}
 use Rattle.disk_layout.specs.Files.{Files}
-use Rattle.solo_work.specs.Passing.{IsAmong}
+use Rattle.session_law.specs.Passing.{IsAmong}
 use Rattle.solo_cli.specs.Devices.{SourceTold}
 use Rattle.solo_cli.specs.Reading.{ReadsToEnd}
 use Rattle.solo_cli.proofs.ReadToEnd.{taken-of}

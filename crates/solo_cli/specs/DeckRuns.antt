@@ -5,7 +5,7 @@ use Rattle.solo_base.specs.Card.{cards}
 use Rattle.solo_base.specs.Text.{text}
 use Rattle.solo_devices.specs.CardUnit.{items_ahead}
 use Rattle.solo_devices.specs.PrinterUnit.{Gains}
-use Rattle.disk_system.specs.declared.loading.Loaded.{Loaded}
+use Rattle.disk_contents.specs.declared.loading.Loaded.{Loaded}
 use Rattle.batch_job.specs.Report.{Loads}
 use Rattle.batch_job.specs.OneThread.{one_thread_output}
 use Rattle.network_run.specs.declared.counts.Counts.{Counts}

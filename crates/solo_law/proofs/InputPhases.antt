@@ -10,7 +10,8 @@ use Rattle.network_law.specs.Network.{Follows, acts}
 use Rattle.exchange_law.specs.Pages.{is_last, has_room_for, page_with}
 use Rattle.exchange_law.specs.Parcels.{mark}
 use Rattle.exchange_law.specs.Phases.{trues, falses, Phase, Idle, Moving, Reporting, Left, PhaseIs}
-use Rattle.exchange_law.proofs.Counted.{marks_at, marks_by, counted}
+use Rattle.exchange_law.proofs.Counted.{marks_at, marks_by}
+use Rattle.solo_law.proofs.Counted.{counted}
 use Rattle.exchange_law.proofs.Lines.{marked-with}
 use Rattle.exchange_law.proofs.Phases.{stays, orders, dismisses, ends_pages, reports}
 use Rattle.place_law.specs.Process.{place, caused, given_cause}

@@ -7,7 +7,8 @@ use Rattle.exchange_law.proofs.Lines.{last-page}
 use Rattle.solo_law.specs.Work as law
 use Rattle.solo_procs.specs.declared.commands.Need.{Need}
 use Rattle.solo_procs.specs.declared.commands.Need.TheVariants as needs
-use Rattle.solo_procs.specs.Commands.{Comes, last_page}
+use Rattle.solo_procs.specs.Commands.{Comes}
+use Rattle.exchange_law.specs.Pages.{last_page}
 use Rattle.solo_work.specs.declared.paper.Paper.{Paper}
 use Rattle.solo_work.specs.Paper.{IsHand, AddsLine}
 use Rattle.solo_work.specs.Printing.{PrintsOn}

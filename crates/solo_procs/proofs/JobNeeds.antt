@@ -18,7 +18,8 @@ use Rattle.solo_procs.specs.declared.commands.Need.{Need}
 use Rattle.solo_procs.specs.declared.commands.Need.TheVariants as need
 use Rattle.solo_procs.specs.declared.job_proc.JobAt.TheVariants as here
 use Rattle.solo_procs.specs.declared.job_proc.JobProc.{JobProc}
-use Rattle.solo_procs.specs.Commands.{Kind, AtTyped, given_of, kind_given, kind_behind, pages_behind, last_page, IsNeed}
+use Rattle.solo_procs.specs.Commands.{Kind, AtTyped, given_of, kind_given, kind_behind, pages_behind, IsNeed}
+use Rattle.exchange_law.specs.Pages.{last_page}
 use Rattle.solo_procs.specs.Job.{JobStands, CameSo, says_true}
 use Rattle.solo_procs.specs.JobSteps.{IsAnswering, IsPutting}
 

@@ -1,7 +1,7 @@
 -- What the commands of Solo are to the job process.
-use Rattle.std.specs.Prelude.{◌≡◌, ℕ, zero, suc, true, false, List, [], Option, None, Some, Result, Ok, Err}
+use Rattle.std.specs.Prelude.{◌≡◌, ℕ, suc, false, List, [], Option, Result, Ok, Err}
 use Rattle.solo_base.specs.declared.page.Page.{Page}
-use Rattle.exchange_law.specs.Pages.{page_with}
+use Rattle.exchange_law.specs.Pages.{page_with, last_page}
 use Rattle.solo_law.specs.Work.{Plan, NeedFits}
 use Rattle.solo_law.specs.Work as law
 use Rattle.solo_law.specs.Devices.{plan_behind}
@@ -44,11 +44,6 @@ abbrev pub pages_behind : law.Need → ℕ → ℕ
 pages_behind (law.PageNeeded lines) pages = suc pages
 pages_behind (law.EndNeeded lines answers) pages = 0
 pages_behind other pages = pages
-
--- the last page of a command that has put so many, where it printed a line
-abbrev pub last_page : ℕ → List (List ℕ) → Option Page
-last_page zero [] = None
-last_page pages printed = Some (page_with pages true printed)
 
 -- The code's need is the law's: its pages are made of the lines.
 abbrev pub IsNeed : ℕ → Need → law.Need → Type 0

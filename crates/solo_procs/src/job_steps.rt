@@ -6,7 +6,7 @@ ghost use Rattle.solo_base.specs.declared.page.Page.{Page as PageOf};
 ghost use Rattle.solo_law.specs.Work.{Work, Need as NeedOf};
 ghost use Rattle.solo_law.specs.JobPlaces.{Listens, OrdersCards, TakesCards, TakesReport, Accepts, PutsPage, Behind, EndsWith, works, answers, meets, ends, puts_page, begins_with, behind_typed, behind_accepted, file_of, behind_put};
 ghost use Rattle.solo_procs.specs.declared.job_proc.JobAt.TheVariants as here;
-ghost use Rattle.solo_procs.specs.Commands.{last_page};
+ghost use Rattle.exchange_law.specs.Pages.{last_page};
 ghost use Rattle.solo_procs.specs.Job.{JobStands, CameSo, page_place};
 ghost use Rattle.solo_procs.specs.JobSteps.{IsAnswering, IsPutting};
 

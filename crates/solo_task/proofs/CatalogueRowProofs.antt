@@ -9,9 +9,9 @@ use Rattle.disk_files.specs.Answers.{delete_answer, rename_answer, protect_answe
 use Rattle.disk_files.specs.declared.fault.FileFault.{FileFault}
 use Rattle.disk_files.specs.declared.fault.FileFault.TheVariants.{CatalogFull, FileFull, DiskFull}
 use Rattle.disk_system.specs.Calls.{room_answer}
-use Rattle.disk_system.specs.Contents.{text_file, cut}
+use Rattle.disk_contents.specs.Contents.{text_file, cut}
 use Rattle.solo_base.specs.Text.{text}
-use Rattle.pascal_compile.specs.Compiling.{Compiling, syntax_error, semantic_error, code_limit}
+use Rattle.code_law.specs.Compiling.{Compiling, syntax_error, semantic_error, code_limit}
 use Rattle.program_task.specs.OpenFiles.{pages_free}
 use Rattle.solo_task.specs.Answers.{Doing, becomes}
 use Rattle.solo_task.specs.Copying.{copier, stores_cards, copies_file, stores_file}

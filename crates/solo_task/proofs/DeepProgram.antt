@@ -18,7 +18,7 @@ use Rattle.pascal_read.proofs.WordsKeep.{words_kept}
 use Rattle.pascal_mean.proofs.Trees.{at, only, label, integer, of_kind}
 use Rattle.pascal_code.specs.Code.{code_of}
 use Rattle.pascal_code.specs.Size.{size}
-use Rattle.pascal_compile.specs.Compiling.{by_size, compiling, compiled}
+use Rattle.code_law.specs.Compiling.{by_size, compiling, compiled}
 use Rattle.solo_task.specs.Rows.{does_op}
 use Rattle.solo_task.specs.WholeRows.{deep_lines}
 use Rattle.solo_task.proofs.HiProgram.{comes-to}

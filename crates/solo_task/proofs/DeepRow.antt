@@ -6,16 +6,16 @@ use Rattle.solo_base.specs.declared.item.Item.{Item}
 use Rattle.solo_base.specs.declared.outcome.ProgResult.TheVariants as result
 use Rattle.solo_base.specs.declared.system_call.SysCall.TheVariants as calls
 use Rattle.disk_layout.specs.Files.{Files}
-use Rattle.disk_system.specs.Loading.{program_of}
-use Rattle.disk_system.specs.declared.loading.Loaded.{Loaded}
-use Rattle.disk_system.specs.declared.loading.Loaded.TheVariants.{Code}
+use Rattle.disk_contents.specs.Loading.{program_of}
+use Rattle.disk_contents.specs.declared.loading.Loaded.{Loaded}
+use Rattle.disk_contents.specs.declared.loading.Loaded.TheVariants.{Code}
 use Rattle.stack_machine.specs.States.{State}
 use Rattle.stack_machine.specs.State.{Asks}
 use Rattle.stack_machine.specs.Machine.{effect, next, answered, start_state}
 use Rattle.stack_machine.specs.Left.{left_until_end}
 use Rattle.pascal_tree.specs.Program.{Program}
 use Rattle.pascal_code.specs.Code.{code_of}
-use Rattle.pascal_compile.specs.Compiling.{compiling, compiled}
+use Rattle.code_law.specs.Compiling.{compiling, compiled}
 use Rattle.program_task.specs.Task.{Task, Gives, Prints, and_then}
 use Rattle.program_task.specs.Program.{Answer, Ended, Runner, begins_with}
 use Rattle.program_task.specs.Table.{runs, runs_nothing, returned}

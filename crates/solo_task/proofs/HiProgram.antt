@@ -3,9 +3,9 @@ use Rattle.std.proofs.Common.{◌≡◌, ℕ, zero, suc, ◌<◌, ◌%◌, List,
 use Rattle.std.specs.Prelude.{codes}
 use Rattle.solo_base.specs.LineList.{AreLines}
 use Rattle.solo_base.specs.Text.{text}
-use Rattle.disk_system.specs.Contents.{file_bytes, text_in, text_file, code_file, cut}
-use Rattle.disk_system.specs.Loading.{loaded_bytes}
-use Rattle.disk_system.specs.declared.loading.Loaded.TheVariants.{Code}
+use Rattle.disk_contents.specs.Contents.{file_bytes, text_in, text_file, code_file, cut}
+use Rattle.disk_contents.specs.Loading.{loaded_bytes}
+use Rattle.disk_contents.specs.declared.loading.Loaded.TheVariants.{Code}
 use Rattle.disk_system.proofs.Stored.{pages_read}
 use Rattle.disk_system.proofs.Loads.{loaded_again}
 use Rattle.stack_code.specs.CodeLists.{IsCode, FitsItsFields, UsesItsOperands, FitsInstr, FitsRoutine, instr_at, routine_at}
@@ -21,7 +21,7 @@ use Rattle.pascal_reading.proofs.Readings.{tree_read}
 use Rattle.pascal_mean.proofs.Trees.{char, only, do_call, a_program}
 use Rattle.pascal_code.specs.Code.{code_of}
 use Rattle.pascal_code.specs.Size.{size}
-use Rattle.pascal_compile.specs.Compiling.{by_size, by_rule, by_reading, compiling, compiled}
+use Rattle.code_law.specs.Compiling.{by_size, by_rule, by_reading, compiling, compiled}
 use Rattle.solo_task.specs.Compiles.{compiling_text}
 use Rattle.solo_task.specs.WholeRows.{hi_card, hi_written}
 

@@ -12,13 +12,13 @@ use Rattle.disk_files.specs.declared.fault.FileFault.{FileFault}
 use Rattle.disk_files.specs.declared.fault.FileFault.TheVariants as fault
 use Rattle.disk_files.specs.Answers.{delete_answer, rename_answer, protect_answer}
 use Rattle.disk_system.specs.Calls.{room_answer}
-use Rattle.disk_system.specs.Contents.{file_bytes, text_in, text_file, code_file}
-use Rattle.disk_system.specs.Loading.{program_of}
-use Rattle.disk_system.specs.declared.loading.Loaded.{Loaded}
-use Rattle.disk_system.specs.declared.loading.Loaded.TheVariants as load
+use Rattle.disk_contents.specs.Contents.{file_bytes, text_in, text_file, code_file}
+use Rattle.disk_contents.specs.Loading.{program_of}
+use Rattle.disk_contents.specs.declared.loading.Loaded.{Loaded}
+use Rattle.disk_contents.specs.declared.loading.Loaded.TheVariants as load
 use Rattle.stack_code.specs.CodeLists.{CodeLists}
 use Rattle.pascal_code.specs.Code.{code_of}
-use Rattle.pascal_compile.specs.Compiling.{Compiling, compiled, bad_word, syntax_error, semantic_error, code_limit}
+use Rattle.code_law.specs.Compiling.{Compiling, compiled, bad_word, syntax_error, semantic_error, code_limit}
 use Rattle.pascal_mean.specs.Batch.{nothing_printed, with_characters, lines_in}
 use Rattle.solo_commands.specs.declared.command.Command.TheVariants as command
 use Rattle.solo_commands.specs.Commands.{is_cards, is_printer}

@@ -8,9 +8,9 @@ use Rattle.solo_base.specs.declared.item.Item.TheVariants.{Line, Spoiled}
 use Rattle.solo_base.specs.declared.system_call.Arg.{Arg}
 use Rattle.solo_base.specs.declared.system_call.Arg.TheVariants as arg
 use Rattle.disk_layout.specs.Files.{File, Files}
-use Rattle.disk_system.specs.Loading.{program_of}
-use Rattle.disk_system.specs.declared.loading.Loaded.{Loaded}
-use Rattle.disk_system.specs.declared.loading.Loaded.TheVariants.{Code, NoFile, NotCode, BadCode}
+use Rattle.disk_contents.specs.Loading.{program_of}
+use Rattle.disk_contents.specs.declared.loading.Loaded.{Loaded}
+use Rattle.disk_contents.specs.declared.loading.Loaded.TheVariants.{Code, NoFile, NotCode, BadCode}
 use Rattle.stack_machine.specs.Machine.{effect, next, answered}
 use Rattle.program_task.specs.Run.{runner, program_room}
 use Rattle.solo_task.specs.Answers.{Doing}

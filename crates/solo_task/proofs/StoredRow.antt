@@ -11,15 +11,15 @@ use Rattle.disk_layout.specs.Held.{held_in}
 use Rattle.disk_layout.proofs.Maps.{get_inserted, get_beside_inserted}
 use Rattle.disk_files.specs.declared.fault.FileFault.{FileFault}
 use Rattle.disk_system.specs.Calls.{room_answer}
-use Rattle.disk_system.specs.Contents.{text_file, code_file, cut}
+use Rattle.disk_contents.specs.Contents.{text_file, code_file, cut}
 use Rattle.disk_system.specs.Listing.{file_line}
-use Rattle.disk_system.specs.Loading.{program_of, loaded_file}
-use Rattle.disk_system.specs.declared.loading.Loaded.{Loaded}
-use Rattle.disk_system.specs.declared.loading.Loaded.TheVariants.{Code}
+use Rattle.disk_contents.specs.Loading.{program_of, loaded_file}
+use Rattle.disk_contents.specs.declared.loading.Loaded.{Loaded}
+use Rattle.disk_contents.specs.declared.loading.Loaded.TheVariants.{Code}
 use Rattle.stack_code.specs.CodeLists.{CodeLists}
 use Rattle.stack_code.specs.CodeFile.{code_bytes}
 use Rattle.stack_machine.specs.Machine.{effect, next, answered}
-use Rattle.pascal_compile.specs.Compiling.{Compiling}
+use Rattle.code_law.specs.Compiling.{Compiling}
 use Rattle.program_task.specs.OpenFiles.{pages_free}
 use Rattle.program_task.specs.Task.{Gives}
 use Rattle.program_task.specs.Run.{runner, program_room}

@@ -8,8 +8,8 @@ use Rattle.disk_layout.specs.Files.{File, Files}
 use Rattle.disk_files.specs.declared.fault.FileFault.{FileFault}
 use Rattle.disk_files.specs.declared.fault.FileFault.TheVariants.{CatalogFull, FileFull, DiskFull}
 use Rattle.disk_system.specs.Calls.{room_answer}
-use Rattle.disk_system.specs.Contents.{file_bytes, text_in}
-use Rattle.pascal_compile.specs.Compiling.{Compiling, syntax_error, semantic_error, code_limit}
+use Rattle.disk_contents.specs.Contents.{file_bytes, text_in}
+use Rattle.code_law.specs.Compiling.{Compiling, syntax_error, semantic_error, code_limit}
 use Rattle.program_task.specs.OpenFiles.{pages_free}
 use Rattle.solo_task.specs.Compiles.{bad_line_from, compiling_text}
 use Rattle.solo_task.specs.Session.{session}

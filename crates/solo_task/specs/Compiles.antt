@@ -7,11 +7,11 @@ use Rattle.solo_base.specs.Line.{is_printable}
 use Rattle.disk_layout.specs.declared.kind.FileKind.{FileKind}
 use Rattle.disk_layout.specs.declared.kind.FileKind.TheVariants.{Scratch, Ascii, SeqCode, ConCode}
 use Rattle.disk_layout.specs.Files.{File, Files}
-use Rattle.disk_system.specs.Contents.{file_bytes, text_in, code_file}
+use Rattle.disk_contents.specs.Contents.{file_bytes, text_in, code_file}
 use Rattle.pascal_read.specs.Scan.{Words, words, next_line}
 use Rattle.pascal_code.specs.Code.{code_of}
-use Rattle.pascal_compile.specs.Compiling.{Compiling, compiling, compiled, bad_word, syntax_error, semantic_error, code_limit}
-use Rattle.program_lines.specs.Texts.{bad_word_line, syntax_line, semantic_line, code_limit_line}
+use Rattle.code_law.specs.Compiling.{Compiling, compiling, compiled, bad_word, syntax_error, semantic_error, code_limit}
+use Rattle.code_law.specs.Texts.{bad_word_line, syntax_line, semantic_line, code_limit_line}
 use Rattle.program_task.specs.Task.{Gives}
 use Rattle.solo_task.specs.Answers.{Doing, no_file, file_exists, not_text, stores}
 

@@ -5,7 +5,7 @@ use Rattle.solo_base.specs.Text.{text}
 use Rattle.disk_layout.specs.declared.kind.FileKind.{FileKind}
 use Rattle.disk_layout.specs.declared.kind.FileKind.TheVariants.{Scratch, Ascii, SeqCode, ConCode}
 use Rattle.disk_layout.specs.Files.{File, Files, with_protection}
-use Rattle.disk_system.specs.Contents.{file_bytes, text_in, text_file}
+use Rattle.disk_contents.specs.Contents.{file_bytes, text_in, text_file}
 use Rattle.pascal_mean.specs.Batch.{nothing_printed, with_characters, lines_in}
 use Rattle.solo_commands.specs.Commands.{is_cards, is_printer}
 use Rattle.program_task.specs.Task.{CardFile, ReadsCards, prints_all}

@@ -7,11 +7,11 @@ use Rattle.solo_base.specs.declared.system_call.Arg.{Arg}
 use Rattle.disk_layout.specs.Files.{File, Files, with_protection}
 use Rattle.disk_files.specs.Answers.{delete_answer, rename_answer, protect_answer}
 use Rattle.disk_system.specs.Listing.{file_lines}
-use Rattle.disk_system.specs.Loading.{program_of}
-use Rattle.disk_system.specs.declared.loading.Loaded.{Loaded}
-use Rattle.disk_system.specs.declared.loading.Loaded.TheVariants as load
+use Rattle.disk_contents.specs.Loading.{program_of}
+use Rattle.disk_contents.specs.declared.loading.Loaded.{Loaded}
+use Rattle.disk_contents.specs.declared.loading.Loaded.TheVariants as load
 use Rattle.pascal_mean.specs.Batch.{last_line}
-use Rattle.program_lines.specs.Texts.{note, result_line, no_file_line, not_code_line, bad_code_line}
+use Rattle.code_law.specs.Texts.{note, result_line, no_file_line, not_code_line, bad_code_line}
 use Rattle.solo_commands.specs.declared.command.Command.{Command}
 use Rattle.solo_commands.specs.declared.command.Command.TheVariants as command
 use Rattle.solo_commands.specs.Commands.{Said, Blank, Asks, Bad, item_says}

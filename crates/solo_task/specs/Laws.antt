@@ -6,8 +6,8 @@ use Rattle.solo_base.specs.declared.item.Item.{Item}
 use Rattle.solo_base.specs.declared.item.Feed.{Feed}
 use Rattle.solo_base.specs.declared.system_call.Arg.{Arg}
 use Rattle.disk_layout.specs.Files.{Files}
-use Rattle.disk_system.specs.Loading.{program_of}
-use Rattle.disk_system.specs.declared.loading.Loaded.TheVariants.{Code}
+use Rattle.disk_contents.specs.Loading.{program_of}
+use Rattle.disk_contents.specs.declared.loading.Loaded.TheVariants.{Code}
 use Rattle.stack_code.specs.CodeLists.{CodeLists}
 use Rattle.solo_commands.specs.declared.command.Command.{Command}
 use Rattle.solo_commands.specs.declared.command.Command.TheVariants as command

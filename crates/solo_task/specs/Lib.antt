@@ -1,5 +1,5 @@
 pub use Rattle.disk_system.specs.Calls
-pub use Rattle.program_lines.specs.Texts
+pub use Rattle.code_law.specs.Texts
 pub mod Answers
 pub mod Copying
 pub mod Compiles

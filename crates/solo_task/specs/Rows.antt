@@ -5,8 +5,8 @@ use Rattle.std.specs.FinMap as fin
 use Rattle.solo_base.specs.declared.item.Item.{Item}
 use Rattle.solo_base.specs.declared.item.Item.TheVariants.{Line, Spoiled}
 use Rattle.disk_layout.specs.Files.{File, Files}
-use Rattle.disk_system.specs.Loading.{program_of}
-use Rattle.disk_system.specs.declared.loading.Loaded.TheVariants.{Code, NoFile, NotCode, BadCode}
+use Rattle.disk_contents.specs.Loading.{program_of}
+use Rattle.disk_contents.specs.declared.loading.Loaded.TheVariants.{Code, NoFile, NotCode, BadCode}
 use Rattle.stack_code.specs.CodeLists.{CodeLists}
 use Rattle.stack_code.specs.declared.instr.Instr.{Instr}
 use Rattle.stack_code.specs.declared.table.Op.{Op}

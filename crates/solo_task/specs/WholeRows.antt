@@ -5,14 +5,14 @@ use Rattle.std.specs.FinMap as fin
 use Rattle.solo_base.specs.declared.item.Item.{Item}
 use Rattle.solo_base.specs.Text.{text}
 use Rattle.disk_layout.specs.Files.{Files}
-use Rattle.disk_system.specs.Contents.{text_file, code_file}
-use Rattle.disk_system.specs.Loading.{program_of}
-use Rattle.disk_system.specs.declared.loading.Loaded.TheVariants.{Code}
+use Rattle.disk_contents.specs.Contents.{text_file, code_file}
+use Rattle.disk_contents.specs.Loading.{program_of}
+use Rattle.disk_contents.specs.declared.loading.Loaded.TheVariants.{Code}
 use Rattle.stack_code.specs.CodeLists.{CodeLists}
 use Rattle.stack_code.specs.declared.table.Op.TheVariants as op
 use Rattle.pascal_tree.specs.Program.{Program}
 use Rattle.pascal_code.specs.Code.{code_of}
-use Rattle.pascal_compile.specs.Compiling.{compiling, compiled}
+use Rattle.code_law.specs.Compiling.{compiling, compiled}
 use Rattle.solo_task.specs.Session.{Transcript, session}
 use Rattle.solo_task.specs.Rows.{lines_of, told_over, does_op, tick_1, text_name}
 

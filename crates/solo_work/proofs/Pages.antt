@@ -14,7 +14,7 @@ use Rattle.page_codec.proofs.Cutting.{items_bytes-push}
 use Rattle.exchange_law.specs.Pages.{page_with}
 use Rattle.exchange_law.proofs.Lines.{HandFits, one-fits, more-fits, full-page}
 use Rattle.solo_task.specs.Needs.{fits_behind}
-use Rattle.solo_procs.specs.Commands.{last_page}
+use Rattle.exchange_law.specs.Pages.{last_page}
 use Rattle.solo_work.specs.declared.paper.Paper.{Paper}
 use Rattle.solo_work.specs.Paper.{has_printed, IsHand, AddsLine}
 

@@ -1,3 +1,2 @@
 pub mod Paper
 pub mod Printing
-pub mod Passing

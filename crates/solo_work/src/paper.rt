@@ -1,5 +1,5 @@
 ghost use Rattle.std.specs.Prelude.{◌≡◌, ℕ, List, []};
-ghost use Rattle.solo_procs.specs.Commands.{last_page};
+ghost use Rattle.exchange_law.specs.Pages.{last_page};
 ghost use Rattle.solo_work.specs.Paper.{IsHand, AddsLine};
 
 use page_codec::Packer;

@@ -6,7 +6,7 @@ use Rattle.solo_devices.specs.PrinterUnit.{Gains}
 use Rattle.network_run.specs.Law.{AreEnabled}
 use Rattle.deck_format.specs.Jobs.{jobs}
 use Rattle.deck_units.specs.Units.{units}
-use Rattle.disk_system.specs.declared.loading.Loaded.{Loaded}
+use Rattle.disk_contents.specs.declared.loading.Loaded.{Loaded}
 use Rattle.batch_job.specs.Report.{Loads}
 use Rattle.batch_job.specs.OneThread.{one_thread_lines}
 use Rattle.batch_procs.specs.Jobs.{one_thread}

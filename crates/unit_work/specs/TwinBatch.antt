@@ -4,7 +4,7 @@ use Rattle.solo_base.specs.declared.item.Item.{Item}
 use Rattle.solo_base.specs.Text.{text}
 use Rattle.solo_devices.specs.PrinterUnit.{Gains}
 use Rattle.deck_format.specs.Jobs.{jobs}
-use Rattle.disk_system.specs.declared.loading.Loaded.{Loaded}
+use Rattle.disk_contents.specs.declared.loading.Loaded.{Loaded}
 use Rattle.batch_job.specs.Report.{Loads}
 use Rattle.batch_job.specs.OneThread.{one_thread_lines}
 use Rattle.deck_work.specs.DeckJobs.{deck_jobs}

@@ -3,7 +3,7 @@
 ghost use Rattle.std.specs.Prelude.{◌≡◌, ◌≤◌, List, length, Some};
 ghost use Rattle.network_run.specs.Law.{AreEnabled};
 ghost use Rattle.solo_base.specs.declared.item.Item.{Item};
-ghost use Rattle.disk_system.specs.declared.loading.Loaded.{Loaded};
+ghost use Rattle.disk_contents.specs.declared.loading.Loaded.{Loaded};
 ghost use Rattle.batch_job.specs.Report.{Loads};
 ghost use Rattle.deck_work.specs.DeckJobs.{deck_jobs};
 ghost use Rattle.twin_law.specs.Twin.{TwinState, TwinEvent};

@@ -1,5 +1,5 @@
 use Rattle.std.proofs.Common.{◌++◌, refl, ap, sym, ◌∙◌}
-use Rattle.pascal_compile.specs.Compiling.{compiling}
+use Rattle.code_law.specs.Compiling.{compiling}
 use Rattle.program_lines.specs.Task.{source_of, new_task}
 use Rattle.program_lines.proofs.Going.{all-cards}
 use Rattle.batch_job.specs.LinesSoFar.{fault_so_far}

@@ -1,7 +1,7 @@
 use Rattle.std.proofs.Common.{◌≡◌, ◌∙◌, List, Some, true, false, refl, sym, ap}
 use Rattle.deck_format.specs.Jobs.{opener_of, opener_in, ends_in}
 use Rattle.deck_format.specs.JobReader.{control_in}
-use Rattle.disk_system.specs.declared.loading.Loaded.{Loaded}
+use Rattle.disk_contents.specs.declared.loading.Loaded.{Loaded}
 use Rattle.batch_job.specs.Loads.{load_for}
 use Rattle.batch_job.specs.LinesAhead.{Where, is_in_group}
 use Rattle.batch_job.specs.Places.{IsPart, HasLoad, Leads, Opens, Ends, Adds}

@@ -1,7 +1,8 @@
 use Rattle.std.proofs.Common.{◌∙◌, subst, sym}
 use Rattle.disk_layout.specs.declared.kind.FileKind.TheVariants.{SeqCode}
-use Rattle.disk_system.specs.Loading.{LoadsSo, loaded_by}
-use Rattle.disk_system.specs.Contents.{file_bytes}
+use Rattle.disk_contents.specs.Loading.{loaded_by}
+use Rattle.disk_system.specs.Loading.{LoadsSo}
+use Rattle.disk_contents.specs.Contents.{file_bytes}
 use Rattle.disk_system.proofs.Loads.{loads_so}
 use Rattle.disk_system.proofs.code_files.code_by.Goals as goal
 

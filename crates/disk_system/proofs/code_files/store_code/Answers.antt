@@ -2,7 +2,7 @@ use Rattle.std.proofs.Common.{◌∙◌, ap, subst}
 use Rattle.disk_system.proofs.Stored.{code_whole, good_unbroken, pages_read}
 use Rattle.stack_code.specs.CodeLists.{FitsItsFields, IsCode}
 use Rattle.stack_code.specs.CodeFile.{code_bytes}
-use Rattle.disk_system.specs.Loading.{loaded_bytes}
+use Rattle.disk_contents.specs.Loading.{loaded_bytes}
 use Rattle.disk_system.proofs.Loads.{loaded_again}
 use Rattle.disk_system.proofs.code_files.store_code.Goals as goal
 

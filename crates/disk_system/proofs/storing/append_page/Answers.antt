@@ -1,6 +1,6 @@
 use Rattle.std.proofs.Common.{subst}
 use Rattle.disk_layout.specs.Taking.{TakesNext}
-use Rattle.disk_system.specs.Contents.{cut}
+use Rattle.disk_contents.specs.Contents.{cut}
 use Rattle.disk_system.proofs.Stored.{length-cut}
 use Rattle.disk_system.proofs.Stores.{appends, found_in, grown, its_file, on_done, only_fault}
 use Rattle.disk_system.proofs.storing.append_page.Goals as goal

@@ -5,7 +5,7 @@ use Rattle.std.proofs.lemmas.Result.{err_from_is_err_and}
 use Rattle.disk_files.specs.declared.fault.FileFault.TheVariants.{DiskFault}
 use Rattle.disk_files.specs.Answers.{Holds}
 use Rattle.disk_files.proofs.Kept.{faults_then, no_faults}
-use Rattle.disk_system.specs.Contents.{cut}
+use Rattle.disk_contents.specs.Contents.{cut}
 use Rattle.disk_system.specs.Taken.{TakesPages}
 use Rattle.disk_system.proofs.Stores.{begun, left_then, next_taken, one_told, room_for}
 use Rattle.disk_system.proofs.storing.append_pages.Goals as goal

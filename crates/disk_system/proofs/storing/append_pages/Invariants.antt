@@ -4,7 +4,7 @@ use Rattle.disk_layout.specs.Files.{File, Files}
 use Rattle.disk_layout.specs.Format.{part_count}
 use Rattle.disk_files.specs.Answers.{FaultsOnly, Holds, StandsOpen, Told}
 use Rattle.disk_system.specs.Taken.{TakesPages}
-use Rattle.disk_system.specs.Contents.{cut}
+use Rattle.disk_contents.specs.Contents.{cut}
 use Rattle.disk_system.proofs.storing.append_pages.Given as goal
 
 abbrev pub invariant-loop-k : goal.invariant-loop-k

@@ -3,7 +3,7 @@ use Rattle.std.specs.FinMap as fin
 use Rattle.disk_layout.specs.Files.{File, files as file_map, free_count, name_count}
 use Rattle.disk_files.specs.Answers.{Holds}
 use Rattle.disk_layout.specs.Taking.{TakesIndex}
-use Rattle.disk_system.specs.Contents.{cut}
+use Rattle.disk_contents.specs.Contents.{cut}
 use Rattle.disk_system.proofs.Stores.{has_room, held_by, on_done, one_told}
 use Rattle.disk_system.proofs.storing.make.Goals as goal
 

@@ -2,7 +2,7 @@ use Rattle.std.proofs.Common.{◌≡◌, ◌∙◌, ap, sym, subst, Ok, Err}
 use Rattle.std.specs.Prelude.{◌⊎◌, MatchResult}
 use Rattle.std.specs.FinMap as fin
 use Rattle.disk_layout.specs.Files.{files as file_map}
-use Rattle.disk_system.specs.Contents.{file_bytes}
+use Rattle.disk_contents.specs.Contents.{file_bytes}
 use Rattle.disk_system.specs.Calls.{IsOutside, text_answer, text_by}
 use Rattle.disk_system.proofs.Stores.{looked_up}
 use Rattle.disk_system.proofs.texts.text_of.Goals as goal

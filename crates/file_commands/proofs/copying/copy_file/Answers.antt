@@ -2,7 +2,7 @@ use Rattle.std.proofs.Common.{sym, ◌∙◌, ap, subst}
 use Rattle.std.specs.Prelude.{if◌then◌else◌}
 use Rattle.std.specs.FinMap as fin
 use Rattle.disk_layout.specs.Files.{File, files as file_map}
-use Rattle.disk_system.specs.Contents.{file_bytes}
+use Rattle.disk_contents.specs.Contents.{file_bytes}
 use Rattle.solo_task.specs.Copying.{copies_file, stores_file, prints_file}
 use Rattle.file_commands.specs.Settling.{IsAnsweredSo}
 use Rattle.file_commands.proofs.Copies.{found-one}

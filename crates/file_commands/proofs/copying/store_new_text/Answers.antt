@@ -1,7 +1,7 @@
 use Rattle.std.proofs.Common.{◌≡◌, ◌+◌, ◌-◌, ◌/◌, length, sym, ◌∙◌, arith}
 use Rattle.disk_layout.specs.Files.{files as file_map, free_count}
 use Rattle.disk_layout.specs.Deleting.{pages_held}
-use Rattle.disk_system.specs.Contents.{page_count, text_bytes, text_file}
+use Rattle.disk_contents.specs.Contents.{page_count, text_bytes, text_file}
 use Rattle.disk_system.proofs.Stored.{length-cut, text_pages}
 use Rattle.program_task.specs.OpenFiles.{pages_free}
 use Rattle.solo_task.specs.Copying.{copier}

@@ -1,5 +1,5 @@
 use Rattle.std.proofs.Common.{◌≡◌, ◌++◌, arith, subst, sym}
-use Rattle.disk_system.specs.Contents.{IsText}
+use Rattle.disk_contents.specs.Contents.{IsText}
 use Rattle.file_commands.proofs.Printed.{card-added, cards-added, text-goes-on}
 use Rattle.file_commands.proofs.texts.text_of_cards.Goals as goal
 

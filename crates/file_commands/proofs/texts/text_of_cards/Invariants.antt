@@ -1,6 +1,6 @@
 use Rattle.std.proofs.Common.{◌≡◌, ◌++◌, drop}
 use Rattle.solo_base.specs.Text.{text}
-use Rattle.disk_system.specs.Contents.{IsText}
+use Rattle.disk_contents.specs.Contents.{IsText}
 use Rattle.file_commands.proofs.texts.text_of_cards.Given as goal
 
 abbrev pub invariant-loop-place : goal.invariant-loop-place

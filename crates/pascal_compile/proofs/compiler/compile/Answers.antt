@@ -1,6 +1,6 @@
 use Rattle.std.proofs.Common.{IfErr, sym, subst}
 use Rattle.pascal_tree.specs.SeenProgram.{seen_program}
-use Rattle.pascal_compile.specs.Compiling.{Explains}
+use Rattle.pascal_compile.specs.Faults.{Explains}
 use Rattle.pascal_compile.proofs.Compiled.{compiling_is, tree_is_told, ok_code, ok_runs}
 use Rattle.pascal_compile.proofs.compiler.compile.Goals as goal
 

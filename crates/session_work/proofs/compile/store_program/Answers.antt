@@ -1,7 +1,7 @@
 use Rattle.std.proofs.Common.{◌≡◌, ◌+◌, ◌-◌, ◌/◌, length, arith}
 use Rattle.disk_layout.specs.Files.{files as file_map, free_count}
 use Rattle.disk_layout.specs.Deleting.{pages_held}
-use Rattle.disk_system.specs.Contents.{code_file}
+use Rattle.disk_contents.specs.Contents.{code_file}
 use Rattle.disk_system.proofs.Stored.{length-cut}
 use Rattle.stack_code.specs.CodeFile.{code_bytes}
 use Rattle.program_task.specs.OpenFiles.{pages_free}

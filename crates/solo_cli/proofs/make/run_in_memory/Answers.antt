@@ -21,7 +21,7 @@ use Rattle.solo_cli.proofs.Counted.{counted-whole}
 use Rattle.solo_cli.proofs.LowestCause.{lowest-decides, none-is}
 use Rattle.solo_cli.proofs.MemoryRuns.{cause-is, known-made, never-rose, whole-made, within-limit}
 use Rattle.solo_cli.proofs.make.run_in_memory.Goals as goal
-use Rattle.disk_system.specs.declared.loading.Loaded.{Loaded}
+use Rattle.disk_contents.specs.declared.loading.Loaded.{Loaded}
 
 pub returns-clause-counted : goal.returns-clause-counted
 returns-clause-counted g c = λ found files input_told output_told none.

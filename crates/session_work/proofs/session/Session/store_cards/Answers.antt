@@ -1,7 +1,7 @@
 use Rattle.std.proofs.Common.{◌≡◌, refl, sym, ap, ◌∙◌, ◌∷◌, [], None}
 use Rattle.std.specs.FinMap as fin
 use Rattle.disk_layout.specs.Files.{files as file_map}
-use Rattle.disk_system.specs.Contents.{text_file}
+use Rattle.disk_contents.specs.Contents.{text_file}
 use Rattle.program_task.specs.Task.{Gives}
 use Rattle.solo_task.specs.Copying.{copier, with_cards}
 use Rattle.solo_task.specs.Answers.{stores}

@@ -1,5 +1,5 @@
 -- What compiling the cards of a program comes to.
-use Rattle.std.specs.Prelude.{◌≡◌, ⊤, ℕ, List, Option, Some, None, nat_le, if◌then◌else◌}
+use Rattle.std.specs.Prelude.{◌≡◌, ℕ, List, Option, Some, None, nat_le, if◌then◌else◌}
 use Rattle.stack_code.specs.CodeLists.{CodeLists}
 use Rattle.pascal_tree.specs.declared.broken.Broken.{Broken}
 use Rattle.pascal_tree.specs.Program.{Program}
@@ -8,8 +8,6 @@ use Rattle.pascal_reading.specs.Reading as reads
 use Rattle.pascal_code.specs.Code.{code_of}
 use Rattle.pascal_code.specs.Size.{size}
 use Rattle.code_law.specs.Law.{Compiles}
-use Rattle.pascal_compile.specs.declared.compile_fault.CompileFault.{CompileFault}
-use Rattle.pascal_compile.specs.declared.compile_fault.CompileFault.TheVariants as fault
 
 -- The program that the cards spell and that has code; or the line of the first bad word; or that of the
 -- first error; or the first broken rule, with the line of the word that is named; or that the code would
@@ -52,11 +50,3 @@ pub record IsCodeFor (cards : List (List ℕ)) (code : CodeLists) : Type 0 where
   pub program : Program
   pub comes_to : compiling cards ≡ compiled program
   pub is_code : IsCodeOf program code
-
--- a fault is what compiling comes to, or says that memory was refused
-abbrev pub Explains : CompileFault → Compiling → Type 0
-Explains (fault.BadWord line) c = c ≡ bad_word line
-Explains (fault.Syntax line) c = c ≡ syntax_error line
-Explains (fault.Semantic line rule) c = c ≡ semantic_error line rule
-Explains fault.CodeLimit c = c ≡ code_limit
-Explains fault.NoMemory c = ⊤

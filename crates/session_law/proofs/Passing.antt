@@ -8,7 +8,7 @@ use Rattle.solo_task.specs.Needs.{Pause, WantsCards, WantsLine, GoesOn, or_idle,
 use Rattle.solo_task.specs.Laws.{last_of}
 use Rattle.solo_task.proofs.NeedsMet.{leaves-last}
 use Rattle.session_law.specs.Plans.{FilesAndPause, at_rest, piece, behind, behind_pieces, plan_from, maps_passed}
-use Rattle.solo_work.specs.Passing.{IsAmong, ComesBy, stands_behind, OnePieceMore, EachPieceLeadsOn, BehindIsPassed}
+use Rattle.session_law.specs.Passing.{IsAmong, ComesBy, stands_behind, OnePieceMore, EachPieceLeadsOn, BehindIsPassed}
 
 behind-more : (before : List Given) (given : Given) (s : FilesAndPause) → behind_pieces (before ++ given ∷ []) s ≡ behind given (behind_pieces before s)
 behind-more [] given s = refl

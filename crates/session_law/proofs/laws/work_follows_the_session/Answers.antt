@@ -1,5 +1,5 @@
-use Rattle.solo_work.proofs.Passing.{each-piece, behind-passed}
-use Rattle.solo_work.proofs.laws.work_follows_the_session.Goals as goal
+use Rattle.session_law.proofs.Passing.{each-piece, behind-passed}
+use Rattle.session_law.proofs.laws.work_follows_the_session.Goals as goal
 
 pub returns-clause-each : goal.returns-clause-each
 returns-clause-each c = each-piece
