@@ -37,6 +37,7 @@ use Rattle.solo_law.specs.Solo.{process, table, solo, SoloState, SoloEntry}
 use Rattle.solo_law.specs.Holds.{IsAmong, HaveCauses}
 use Rattle.solo_law.proofs.Placed.{is-1, is-2, is-3, placed}
 use Rattle.solo_law.proofs.Numbered.{AllNumbered, input-numbered, job-numbered}
+use Rattle.solo_law.proofs.Nones.{no-none, no-some}
 
 -- a fault that is one of these
 abbrev IsFaultOf : List Cause → Outcome → Type 0
@@ -56,15 +57,15 @@ input-gives : (a : InputPlace) (reply : Reply) (how : Outcome) → Fits (input_d
     → IsFaultOf input_faults how
 input-gives (input_at.Reads pages hand sound) (act.OfCard read.Failed) how fits e = by-same input_faults (outcome.Fault cause.ReadFault) how (inl refl) e
 input-gives (input_at.Reads pages hand sound) (act.OfCard read.Limit) how fits e = by-same input_faults (outcome.Fault cause.DeckLimit) how (inr (inl refl)) e
-input-gives (input_at.Reads pages hand sound) (act.OfCard (read.Card line)) how fits e = absurd cc
-input-gives (input_at.Reads pages hand sound) (act.OfCard read.Spoiled) how fits e = absurd cc
-input-gives (input_at.Reads pages hand sound) (act.OfCard read.End) how fits e = absurd cc
+input-gives (input_at.Reads pages hand sound) (act.OfCard (read.Card line)) how fits e = absurd (no-none e)
+input-gives (input_at.Reads pages hand sound) (act.OfCard read.Spoiled) how fits e = absurd (no-none e)
+input-gives (input_at.Reads pages hand sound) (act.OfCard read.End) how fits e = absurd (no-none e)
 input-gives a act.Stopped how fits e = by-same input_faults outcome.Stopped how tt e
-input-gives input_at.AwaitsOrder (act.OfArg x) how fits e = absurd cc
-input-gives (input_at.PutsFull page pages hand) act.Done how fits e = absurd cc
-input-gives (input_at.PutsLast page sound) act.Done how fits e = absurd cc
-input-gives (input_at.Reports sound) act.Done how fits e = absurd cc
-input-gives input_at.IsOver act.Done how fits e = absurd cc
+input-gives input_at.AwaitsOrder (act.OfArg x) how fits e = absurd (no-none e)
+input-gives (input_at.PutsFull page pages hand) act.Done how fits e = absurd (no-none e)
+input-gives (input_at.PutsLast page sound) act.Done how fits e = absurd (no-none e)
+input-gives (input_at.Reports sound) act.Done how fits e = absurd (no-none e)
+input-gives input_at.IsOver act.Done how fits e = absurd (no-none e)
 input-gives a reply how fits e = absurd fits
 
 pub input-causes : (h : List SoloEntry) (how : Outcome) → Follows solo 1 h → caused view input h ≡ Some how → IsFaultOf input_faults how
@@ -139,8 +140,8 @@ job-takes : (a : JobPlace) (reply : Reply) (parcels : List Parcel) → Fits (job
     → JobTakes (job_behind a reply) (count_after 0 (parcels ++ moved_by 2 Receiver (call 2 (job_does a)) (went_by (job_does a) reply)))
 job-takes at.Listens (act.OfCard answer) parcels fits free e = count-still (JobTakes (behind_typed answer)) parcels (typed-none answer _ e)
 job-takes (at.Toils work) (act.Found need) parcels fits free e = count-still (JobTakes (meets work.pages need)) parcels (meets-none work.pages need _ e)
-job-takes (at.Toils work) act.Failed parcels fits free e = absurd cc
-job-takes (at.Toils work) act.NoMemory parcels fits free e = absurd cc
+job-takes (at.Toils work) act.Failed parcels fits free e = absurd (no-some free)
+job-takes (at.Toils work) act.NoMemory parcels fits free e = absurd (no-some free)
 job-takes (at.OrdersCards pages) act.Done parcels fits free e = count-still (λ n. 0 ≡ n) parcels e
 job-takes (at.TakesCards taken items pages) (act.OfPage page) parcels fits free e =
     count-page (JobTakes (behind_cards (is_last page) (taken + 1) (items ++ items_read (page_gives taken page)) pages)) parcels page
@@ -150,26 +151,26 @@ job-takes (at.TakesReport items pages) (act.OfArg report) parcels fits free e = 
 job-takes (at.Accepts pages) (act.OfCard answer) parcels fits free e =
     count-still (JobTakes (behind_accepted pages answer)) parcels (accepted-none pages answer _ e)
 job-takes (at.Displays line pages) act.Done parcels fits free e = count-still (λ n. 0 ≡ n) parcels e
-job-takes (at.Displays line pages) act.Failed parcels fits free e = absurd cc
-job-takes (at.Displays line pages) act.NoMemory parcels fits free e = absurd cc
+job-takes (at.Displays line pages) act.Failed parcels fits free e = absurd (no-some free)
+job-takes (at.Displays line pages) act.NoMemory parcels fits free e = absurd (no-some free)
 job-takes (at.OrdersPrinter page behind) act.Done parcels fits free e = count-still (λ n. 0 ≡ n) parcels e
 job-takes (at.PutsPage page behind pages) act.Done parcels fits free e =
     count-still (JobTakes (behind_put behind (suc pages))) parcels (put-none behind (suc pages) _ e)
 job-takes (at.TakesPrinted lines) (act.OfArg report) parcels fits free e = count-still (JobTakes (answers lines)) parcels (answers-none lines _ e)
 job-takes (at.AnswersLine line later) act.Done parcels fits free e = count-still (JobTakes (answers later)) parcels (answers-none later _ e)
-job-takes (at.AnswersLine line later) act.Failed parcels fits free e = absurd cc
-job-takes (at.AnswersLine line later) act.NoMemory parcels fits free e = absurd cc
+job-takes (at.AnswersLine line later) act.Failed parcels fits free e = absurd (no-some free)
+job-takes (at.AnswersLine line later) act.NoMemory parcels fits free e = absurd (no-some free)
 job-takes at.DismissesInput act.Done parcels fits free e = count-still (λ n. 0 ≡ n) parcels e
 job-takes at.DismissesOutput act.Done parcels fits free e = count-still (λ n. 0 ≡ n) parcels e
 job-takes at.HasLeft act.Done parcels fits free e = count-still (λ n. 0 ≡ n) parcels e
-job-takes (at.OrdersCards pages) act.Stopped parcels fits free e = absurd cc
-job-takes (at.TakesCards taken items pages) act.Stopped parcels fits free e = absurd cc
-job-takes (at.TakesReport items pages) act.Stopped parcels fits free e = absurd cc
-job-takes (at.OrdersPrinter page behind) act.Stopped parcels fits free e = absurd cc
-job-takes (at.PutsPage page behind pages) act.Stopped parcels fits free e = absurd cc
-job-takes (at.TakesPrinted lines) act.Stopped parcels fits free e = absurd cc
-job-takes at.DismissesInput act.Stopped parcels fits free e = absurd cc
-job-takes at.DismissesOutput act.Stopped parcels fits free e = absurd cc
+job-takes (at.OrdersCards pages) act.Stopped parcels fits free e = absurd (no-some free)
+job-takes (at.TakesCards taken items pages) act.Stopped parcels fits free e = absurd (no-some free)
+job-takes (at.TakesReport items pages) act.Stopped parcels fits free e = absurd (no-some free)
+job-takes (at.OrdersPrinter page behind) act.Stopped parcels fits free e = absurd (no-some free)
+job-takes (at.PutsPage page behind pages) act.Stopped parcels fits free e = absurd (no-some free)
+job-takes (at.TakesPrinted lines) act.Stopped parcels fits free e = absurd (no-some free)
+job-takes at.DismissesInput act.Stopped parcels fits free e = absurd (no-some free)
+job-takes at.DismissesOutput act.Stopped parcels fits free e = absurd (no-some free)
 job-takes a reply parcels fits free e = absurd fits
 
 abbrev job_faults : List Cause
@@ -187,14 +188,14 @@ job-gives : (a : JobPlace) (reply : Reply) (how : Outcome) (parcels : List Parce
     → given_cause view job a (job_does a) reply ≡ Some how → IsFaultOf job_faults how
 job-gives at.Listens (act.OfCard read.Failed) how parcels fits so are e = by-same job_faults (outcome.Fault cause.ReadFault) how (inl refl) e
 job-gives at.Listens (act.OfCard read.Limit) how parcels fits so are e = by-same job_faults (outcome.Fault cause.DeckLimit) how (inr (inl refl)) e
-job-gives at.Listens (act.OfCard (read.Card line)) how parcels fits so are e = absurd cc
-job-gives at.Listens (act.OfCard read.Spoiled) how parcels fits so are e = absurd cc
-job-gives at.Listens (act.OfCard read.End) how parcels fits so are e = absurd cc
+job-gives at.Listens (act.OfCard (read.Card line)) how parcels fits so are e = absurd (no-none e)
+job-gives at.Listens (act.OfCard read.Spoiled) how parcels fits so are e = absurd (no-none e)
+job-gives at.Listens (act.OfCard read.End) how parcels fits so are e = absurd (no-none e)
 job-gives (at.Accepts pages) (act.OfCard read.Failed) how parcels fits so are e = by-same job_faults (outcome.Fault cause.ReadFault) how (inl refl) e
 job-gives (at.Accepts pages) (act.OfCard read.Limit) how parcels fits so are e = by-same job_faults (outcome.Fault cause.DeckLimit) how (inr (inl refl)) e
-job-gives (at.Accepts pages) (act.OfCard (read.Card line)) how parcels fits so are e = absurd cc
-job-gives (at.Accepts pages) (act.OfCard read.Spoiled) how parcels fits so are e = absurd cc
-job-gives (at.Accepts pages) (act.OfCard read.End) how parcels fits so are e = absurd cc
+job-gives (at.Accepts pages) (act.OfCard (read.Card line)) how parcels fits so are e = absurd (no-none e)
+job-gives (at.Accepts pages) (act.OfCard read.Spoiled) how parcels fits so are e = absurd (no-none e)
+job-gives (at.Accepts pages) (act.OfCard read.End) how parcels fits so are e = absurd (no-none e)
 job-gives (at.Toils work) act.Failed how parcels fits so are e =
     by-same job_faults (outcome.Fault cause.DiskFault) how (inr (inr (inr (inl refl)))) e
 job-gives (at.Displays line pages) act.Failed how parcels fits so are e = by-same job_faults (outcome.Fault cause.ConsoleFault) how (inr (inr (inl refl))) e
@@ -203,17 +204,17 @@ job-gives a act.NoMemory how parcels fits so are e = by-same job_faults (outcome
 job-gives a act.Stopped how parcels fits so are e = by-same job_faults outcome.Stopped how tt e
 job-gives (at.TakesCards taken items pages) (act.OfPage page) how parcels fits so are e =
     no-damage job_faults how (damage (page_gives taken page)) (ap (λ n. damage (page_gives n page)) so ∙ next-undamaged parcels page are) e
-job-gives (at.Toils work) (act.Found need) how parcels fits so are e = absurd cc
-job-gives (at.OrdersCards pages) act.Done how parcels fits so are e = absurd cc
-job-gives (at.TakesReport items pages) (act.OfArg report) how parcels fits so are e = absurd cc
-job-gives (at.Displays line pages) act.Done how parcels fits so are e = absurd cc
-job-gives (at.OrdersPrinter page behind) act.Done how parcels fits so are e = absurd cc
-job-gives (at.PutsPage page behind pages) act.Done how parcels fits so are e = absurd cc
-job-gives (at.TakesPrinted lines) (act.OfArg report) how parcels fits so are e = absurd cc
-job-gives (at.AnswersLine line later) act.Done how parcels fits so are e = absurd cc
-job-gives at.DismissesInput act.Done how parcels fits so are e = absurd cc
-job-gives at.DismissesOutput act.Done how parcels fits so are e = absurd cc
-job-gives at.HasLeft act.Done how parcels fits so are e = absurd cc
+job-gives (at.Toils work) (act.Found need) how parcels fits so are e = absurd (no-none e)
+job-gives (at.OrdersCards pages) act.Done how parcels fits so are e = absurd (no-none e)
+job-gives (at.TakesReport items pages) (act.OfArg report) how parcels fits so are e = absurd (no-none e)
+job-gives (at.Displays line pages) act.Done how parcels fits so are e = absurd (no-none e)
+job-gives (at.OrdersPrinter page behind) act.Done how parcels fits so are e = absurd (no-none e)
+job-gives (at.PutsPage page behind pages) act.Done how parcels fits so are e = absurd (no-none e)
+job-gives (at.TakesPrinted lines) (act.OfArg report) how parcels fits so are e = absurd (no-none e)
+job-gives (at.AnswersLine line later) act.Done how parcels fits so are e = absurd (no-none e)
+job-gives at.DismissesInput act.Done how parcels fits so are e = absurd (no-none e)
+job-gives at.DismissesOutput act.Done how parcels fits so are e = absurd (no-none e)
+job-gives at.HasLeft act.Done how parcels fits so are e = absurd (no-none e)
 job-gives a reply how parcels fits so are e = absurd fits
 
 fewer : (b : ℕ) (act : Act Parcel) (before : List (Act Parcel)) → AllNumbered b Receiver (act ∷ before) → AllNumbered b Receiver before
@@ -256,13 +257,13 @@ output-takes (output_at.TakesPage pages) (act.OfPage page) parcels fits free e =
     (prints-taken (lines_of (items_read (page_gives pages page))) (is_last page) (pages + 1) _ (last-taken (is_last page) pages (count_after 0 parcels) e))
 output-takes (output_at.PrintsLine line later last pages) act.Done parcels fits free e =
     count-still (OutputTakes (prints later last pages)) parcels (prints-taken later last pages _ e)
-output-takes (output_at.PrintsLine line later last pages) act.Failed parcels fits free e = absurd cc
-output-takes (output_at.PrintsLine line later last pages) act.NoMemory parcels fits free e = absurd cc
+output-takes (output_at.PrintsLine line later last pages) act.Failed parcels fits free e = absurd (no-some free)
+output-takes (output_at.PrintsLine line later last pages) act.NoMemory parcels fits free e = absurd (no-some free)
 output-takes output_at.ReportsPrinted act.Done parcels fits free e = count-still (λ n. 0 ≡ n) parcels e
 output-takes output_at.IsDone act.Done parcels fits free e = count-still (λ n. 0 ≡ n) parcels e
-output-takes output_at.AwaitsPrinting act.Stopped parcels fits free e = absurd cc
-output-takes (output_at.TakesPage pages) act.Stopped parcels fits free e = absurd cc
-output-takes output_at.ReportsPrinted act.Stopped parcels fits free e = absurd cc
+output-takes output_at.AwaitsPrinting act.Stopped parcels fits free e = absurd (no-some free)
+output-takes (output_at.TakesPage pages) act.Stopped parcels fits free e = absurd (no-some free)
+output-takes output_at.ReportsPrinted act.Stopped parcels fits free e = absurd (no-some free)
 output-takes a reply parcels fits free e = absurd fits
 
 pub output-count : (h : List SoloEntry) → Follows solo 3 h → caused view output h ≡ None
@@ -284,10 +285,10 @@ output-gives a act.NoMemory how parcels fits so are e = by-same output_faults (o
 output-gives a act.Stopped how parcels fits so are e = by-same output_faults outcome.Stopped how tt e
 output-gives (output_at.TakesPage pages) (act.OfPage page) how parcels fits so are e =
     no-damage output_faults how (damage (page_gives pages page)) (ap (λ n. damage (page_gives n page)) so ∙ next-undamaged parcels page are) e
-output-gives output_at.AwaitsPrinting (act.OfArg x) how parcels fits so are e = absurd cc
-output-gives (output_at.PrintsLine line later last pages) act.Done how parcels fits so are e = absurd cc
-output-gives output_at.ReportsPrinted act.Done how parcels fits so are e = absurd cc
-output-gives output_at.IsDone act.Done how parcels fits so are e = absurd cc
+output-gives output_at.AwaitsPrinting (act.OfArg x) how parcels fits so are e = absurd (no-none e)
+output-gives (output_at.PrintsLine line later last pages) act.Done how parcels fits so are e = absurd (no-none e)
+output-gives output_at.ReportsPrinted act.Done how parcels fits so are e = absurd (no-none e)
+output-gives output_at.IsDone act.Done how parcels fits so are e = absurd (no-none e)
 output-gives a reply how parcels fits so are e = absurd fits
 
 pub output-causes : (h : List SoloEntry) (how : Outcome) → Follows solo 3 h → AllNumbered 5 Receiver (acts solo 3 h) → caused view output h ≡ Some how

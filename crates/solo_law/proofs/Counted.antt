@@ -1,5 +1,5 @@
 -- What holds of a place and of four counts, at three buffers, holds along each history without a cause.
-use Rattle.std.proofs.Common.{◌≡◌, ℕ, ◌+◌, Bool, List, ◌∷◌, ◌++◌, length, map, None, refl, sym, ◌∙◌, ap, subst}
+use Rattle.std.proofs.Common.{◌≡◌, ℕ, ◌+◌, Bool, List, ◌∷◌, ◌++◌, length, map, None, sym, ◌∙◌, ap, subst}
 use Rattle.std.proofs.lemmas.List.{append-nil}
 use Rattle.solo_base.specs.declared.outcome.Side.{Side}
 use Rattle.network_law.specs.Acts.{Call, Went, Delayed, Act, moved, moved_by}

@@ -40,6 +40,7 @@ use Rattle.solo_law.proofs.Placed.{each-process, is-2, seats, placed, solo-lawfu
 use Rattle.solo_law.proofs.Shown.{lacking-some}
 use Rattle.solo_law.proofs.InputFiles.{off}
 use Rattle.solo_law.proofs.JobFiles.{cards_by, cards_behind, as_given, IsNextFile, AreNextFiles, files-are-next}
+use Rattle.solo_law.proofs.Nones.{no-some}
 
 -- ---- one piece of work more
 on-one : (before : Need) (ahead : Ahead) (givens : List Given) (found : List Need) (last : Need) (left : Ahead) (given : Given) (behind : Ahead) (need : Need)
@@ -179,48 +180,48 @@ stands-on at.Listens (act.OfCard (read.Card line)) last left cards keys rest fit
     typed-stand (trimmed line) line cards rest last left (is ∙ ap (line_handed cards) so)
 stands-on at.Listens (act.OfCard read.Spoiled) last left cards keys rest fits cause so file is = is ∙ ap (line_handed cards) so
 stands-on at.Listens (act.OfCard read.End) last left cards keys rest fits cause so file is = (is ∙ ap (line_handed cards) (so.0 ∙ sym so.1), so.1)
-stands-on at.Listens (act.OfCard read.Failed) last left cards keys rest fits cause so file is = absurd cc
-stands-on at.Listens (act.OfCard read.Limit) last left cards keys rest fits cause so file is = absurd cc
+stands-on at.Listens (act.OfCard read.Failed) last left cards keys rest fits cause so file is = absurd (no-some cause)
+stands-on at.Listens (act.OfCard read.Limit) last left cards keys rest fits cause so file is = absurd (no-some cause)
 stands-on (at.Toils work) (act.Found need) last left cards keys rest fits cause so file is =
     rest-stands (meets work.pages need) need (unread cards keys) cards keys rest so (meets-stand work.pages need (unread cards keys))
-stands-on (at.Toils work) act.Failed last left cards keys rest fits cause so file is = absurd cc
-stands-on (at.Toils work) act.NoMemory last left cards keys rest fits cause so file is = absurd cc
+stands-on (at.Toils work) act.Failed last left cards keys rest fits cause so file is = absurd (no-some cause)
+stands-on (at.Toils work) act.NoMemory last left cards keys rest fits cause so file is = absurd (no-some cause)
 stands-on (at.OrdersCards pages) act.Done last left cards keys rest fits cause so file is = (is.0, is.1 ∙ ap (unread cards) so)
-stands-on (at.OrdersCards pages) act.Stopped last left cards keys rest fits cause so file is = absurd cc
+stands-on (at.OrdersCards pages) act.Stopped last left cards keys rest fits cause so file is = absurd (no-some cause)
 stands-on (at.TakesCards taken items pages) (act.OfPage page) last left cards keys rest fits cause so file is =
     cards-stand (is_last page) (taken + 1) (items ++ items_read (page_gives taken page)) pages last left (unread cards rest) (is.0, is.1 ∙ ap (unread cards) so)
-stands-on (at.TakesCards taken items pages) act.Stopped last left cards keys rest fits cause so file is = absurd cc
+stands-on (at.TakesCards taken items pages) act.Stopped last left cards keys rest fits cause so file is = absurd (no-some cause)
 stands-on (at.TakesReport items pages) (act.OfArg report) last left cards keys rest fits cause so file is =
     with-cards last left cards keys rest (file_of items report) is file so
-stands-on (at.TakesReport items pages) act.Stopped last left cards keys rest fits cause so file is = absurd cc
+stands-on (at.TakesReport items pages) act.Stopped last left cards keys rest fits cause so file is = absurd (no-some cause)
 stands-on (at.Accepts pages) (act.OfCard (read.Card line)) last left cards keys rest fits cause so file is =
     with-line last left cards keys is ∙ typed-as cards keys (Line line ∷ rest) so
 stands-on (at.Accepts pages) (act.OfCard read.Spoiled) last left cards keys rest fits cause so file is =
     with-line last left cards keys is ∙ typed-as cards keys (Spoiled ∷ rest) so
 stands-on (at.Accepts pages) (act.OfCard read.End) last left cards keys rest fits cause so file is =
     with-line last left cards keys is ∙ typed-as cards keys [] so.0 ∙ ap (λ rest. handed (OfTyped feed.End) (unread cards rest)) (sym so.1)
-stands-on (at.Accepts pages) (act.OfCard read.Failed) last left cards keys rest fits cause so file is = absurd cc
-stands-on (at.Accepts pages) (act.OfCard read.Limit) last left cards keys rest fits cause so file is = absurd cc
+stands-on (at.Accepts pages) (act.OfCard read.Failed) last left cards keys rest fits cause so file is = absurd (no-some cause)
+stands-on (at.Accepts pages) (act.OfCard read.Limit) last left cards keys rest fits cause so file is = absurd (no-some cause)
 stands-on (at.Displays line pages) act.Done last left cards keys rest fits cause so file is = is ∙ ap (λ keys. handed OfNothing (unread cards keys)) so
-stands-on (at.Displays line pages) act.Failed last left cards keys rest fits cause so file is = absurd cc
-stands-on (at.Displays line pages) act.NoMemory last left cards keys rest fits cause so file is = absurd cc
+stands-on (at.Displays line pages) act.Failed last left cards keys rest fits cause so file is = absurd (no-some cause)
+stands-on (at.Displays line pages) act.NoMemory last left cards keys rest fits cause so file is = absurd (no-some cause)
 stands-on (at.OrdersPrinter page behind) act.Done last left cards keys rest fits cause so file is =
     rest-stands (at.PutsPage page behind 0) last left cards keys rest so is
-stands-on (at.OrdersPrinter page behind) act.Stopped last left cards keys rest fits cause so file is = absurd cc
+stands-on (at.OrdersPrinter page behind) act.Stopped last left cards keys rest fits cause so file is = absurd (no-some cause)
 stands-on (at.PutsPage page behind pages) act.Done last left cards keys rest fits cause so file is =
     put-stand behind (suc pages) last left (unread cards rest) (rest-stands (at.PutsPage page behind pages) last left cards keys rest so is)
-stands-on (at.PutsPage page behind pages) act.Stopped last left cards keys rest fits cause so file is = absurd cc
+stands-on (at.PutsPage page behind pages) act.Stopped last left cards keys rest fits cause so file is = absurd (no-some cause)
 stands-on (at.TakesPrinted lines) (act.OfArg report) last left cards keys rest fits cause so file is =
     answers-stand lines last left (unread cards rest) (is ∙ ap (line_handed cards) so)
-stands-on (at.TakesPrinted lines) act.Stopped last left cards keys rest fits cause so file is = absurd cc
+stands-on (at.TakesPrinted lines) act.Stopped last left cards keys rest fits cause so file is = absurd (no-some cause)
 stands-on (at.AnswersLine line later) act.Done last left cards keys rest fits cause so file is =
     answers-stand later last left (unread cards rest) (is ∙ ap (line_handed cards) so)
-stands-on (at.AnswersLine line later) act.Failed last left cards keys rest fits cause so file is = absurd cc
-stands-on (at.AnswersLine line later) act.NoMemory last left cards keys rest fits cause so file is = absurd cc
+stands-on (at.AnswersLine line later) act.Failed last left cards keys rest fits cause so file is = absurd (no-some cause)
+stands-on (at.AnswersLine line later) act.NoMemory last left cards keys rest fits cause so file is = absurd (no-some cause)
 stands-on at.DismissesInput act.Done last left cards keys rest fits cause so file is = rest-stands at.DismissesOutput last left cards keys rest so is
-stands-on at.DismissesInput act.Stopped last left cards keys rest fits cause so file is = absurd cc
+stands-on at.DismissesInput act.Stopped last left cards keys rest fits cause so file is = absurd (no-some cause)
 stands-on at.DismissesOutput act.Done last left cards keys rest fits cause so file is = rest-stands at.HasLeft last left cards keys rest so is
-stands-on at.DismissesOutput act.Stopped last left cards keys rest fits cause so file is = absurd cc
+stands-on at.DismissesOutput act.Stopped last left cards keys rest fits cause so file is = absurd (no-some cause)
 stands-on at.HasLeft act.Done last left cards keys rest fits cause so file is = rest-stands at.HasLeft last left cards keys rest so is
 stands-on a reply last left cards keys rest fits cause so file is = absurd fits
 

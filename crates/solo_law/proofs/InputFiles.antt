@@ -35,6 +35,7 @@ use Rattle.solo_law.specs.Solo.{process, table, solo, opened, SoloState, SoloEnt
 use Rattle.solo_law.proofs.Placed.{each-process, is-1, placed}
 use Rattle.solo_law.proofs.Shown.{lacking-some}
 use Rattle.solo_law.proofs.CardFiles.{pages_from, reports_from, pages_ahead, reports_ahead, reads-end, reads-spoiled, reads-line}
+use Rattle.solo_law.proofs.Nones.{no-none, no-some}
 
 abbrev pub as_pages : List Page → List Parcel
 as_pages pages = map OfPage pages
@@ -107,7 +108,7 @@ input-moves at.AwaitsOrder (act.OfArg arg.Nil) cards fits cause is =
     record { left = cards; grow = same; cards_are = refl; pages = λ n. refl; reports = λ n. refl }
 input-moves at.AwaitsOrder (act.OfArg other) cards fits cause is =
     record { left = cards; grow = one_more; cards_are = refl; pages = λ n. refl; reports = λ n. refl }
-input-moves at.AwaitsOrder act.Stopped cards fits cause is = absurd cc
+input-moves at.AwaitsOrder act.Stopped cards fits cause is = absurd (no-some cause)
 input-moves (at.Reads pages hand sound) (act.OfCard (read.Card line)) cards fits cause is = record {
   left = is.0;
   grow = same;
@@ -131,17 +132,17 @@ input-moves (at.Reads pages hand sound) (act.OfCard read.End) cards fits cause i
   pages = λ n. ap (λ cards. as_pages (pages_ahead (at.Reads pages hand sound) cards n)) is ∙ ap as_pages (reads-end pages hand sound n).pages_are;
   reports = λ n. ap (λ cards. as_args (reports_ahead (at.Reads pages hand sound) cards n)) is ∙ ap as_args (reads-end pages hand sound n).reports_are;
 }
-input-moves (at.Reads pages hand sound) (act.OfCard read.Failed) cards fits cause is = absurd cc
-input-moves (at.Reads pages hand sound) (act.OfCard read.Limit) cards fits cause is = absurd cc
+input-moves (at.Reads pages hand sound) (act.OfCard read.Failed) cards fits cause is = absurd (no-some cause)
+input-moves (at.Reads pages hand sound) (act.OfCard read.Limit) cards fits cause is = absurd (no-some cause)
 input-moves (at.PutsFull page pages hand) act.Done cards fits cause is =
     record { left = cards; grow = same; cards_are = refl; pages = λ n. refl; reports = λ n. refl }
-input-moves (at.PutsFull page pages hand) act.Stopped cards fits cause is = absurd cc
+input-moves (at.PutsFull page pages hand) act.Stopped cards fits cause is = absurd (no-some cause)
 input-moves (at.PutsLast page sound) act.Done cards fits cause is =
     record { left = cards; grow = same; cards_are = refl; pages = λ n. refl; reports = λ n. refl }
-input-moves (at.PutsLast page sound) act.Stopped cards fits cause is = absurd cc
+input-moves (at.PutsLast page sound) act.Stopped cards fits cause is = absurd (no-some cause)
 input-moves (at.Reports sound) act.Done cards fits cause is =
     record { left = cards; grow = same; cards_are = refl; pages = λ n. refl; reports = λ n. refl }
-input-moves (at.Reports sound) act.Stopped cards fits cause is = absurd cc
+input-moves (at.Reports sound) act.Stopped cards fits cause is = absurd (no-some cause)
 input-moves at.IsOver act.Done cards fits cause is =
     record { left = cards; grow = same; cards_are = refl; pages = λ n. refl; reports = λ n. refl }
 input-moves a reply cards fits cause is = absurd fits
@@ -227,14 +228,14 @@ module _ (cards : List Item) where
 
   fault-moves_not : (a : InputPlace) (reply : Reply) (how : Outcome) → Fits (input_does a) reply → given_cause view input a (input_does a) reply ≡ Some how
       → MovesNone (input_does a) reply
-  fault-moves_not at.AwaitsOrder (act.OfArg x) how fits e = absurd cc
+  fault-moves_not at.AwaitsOrder (act.OfArg x) how fits e = absurd (no-none e)
   fault-moves_not at.AwaitsOrder act.Stopped how fits e = λ c. refl
   fault-moves_not (at.Reads pages hand sound) (act.OfCard answer) how fits e = λ c. refl
-  fault-moves_not (at.PutsFull page pages hand) act.Done how fits e = absurd cc
+  fault-moves_not (at.PutsFull page pages hand) act.Done how fits e = absurd (no-none e)
   fault-moves_not (at.PutsFull page pages hand) act.Stopped how fits e = λ c. refl
-  fault-moves_not (at.PutsLast page sound) act.Done how fits e = absurd cc
+  fault-moves_not (at.PutsLast page sound) act.Done how fits e = absurd (no-none e)
   fault-moves_not (at.PutsLast page sound) act.Stopped how fits e = λ c. refl
-  fault-moves_not (at.Reports sound) act.Done how fits e = absurd cc
+  fault-moves_not (at.Reports sound) act.Done how fits e = absurd (no-none e)
   fault-moves_not (at.Reports sound) act.Stopped how fits e = λ c. refl
   fault-moves_not at.IsOver act.Done how fits e = λ c. refl
   fault-moves_not a reply how fits e = absurd fits

@@ -22,6 +22,7 @@ use Rattle.solo_law.specs.Replies.{Fits, view}
 use Rattle.solo_law.specs.InputPlaces.{InputPlace, input_does, input_behind, packs, packs_if, closes_file, behind_card, input}
 use Rattle.solo_law.specs.InputPlaces as at
 use Rattle.solo_law.specs.Solo.{table, solo, SoloEntry}
+use Rattle.solo_law.proofs.Nones.{no-some}
 
 abbrev pub input_phase : InputPlace → Phase
 input_phase at.AwaitsOrder = Idle
@@ -77,17 +78,17 @@ input-step : (a : InputPlace) (reply : Reply) (o d l n : ℕ) → Fits (input_do
     (n + length (marks_by mark 3 Sender (call 1 (input_does a)) (went_by (input_does a) reply)))
 input-step at.AwaitsOrder (act.OfArg arg.Nil) o d l n fits free is = (tt, dismisses o d l n is.1)
 input-step at.AwaitsOrder (act.OfArg other) o d l n fits free is = (tt, orders o d l n is.1)
-input-step at.AwaitsOrder act.Stopped o d l n fits free is = absurd cc
+input-step at.AwaitsOrder act.Stopped o d l n fits free is = absurd (no-some free)
 input-step (at.Reads pages hand sound) (act.OfCard answer) o d l n fits free is =
     moves-on (behind_card pages hand sound answer) o d l n (card-on pages hand sound answer) is.1
 input-step (at.PutsFull page pages hand) act.Done o d l n fits free is =
     (tt, subst (λ t. PhaseIs Moving (o + 0) (d + 0) (l + trues (t ∷ [])) (n + 0)) (sym is.0) (stays Moving o d l n is.1))
-input-step (at.PutsFull page pages hand) act.Stopped o d l n fits free is = absurd cc
+input-step (at.PutsFull page pages hand) act.Stopped o d l n fits free is = absurd (no-some free)
 input-step (at.PutsLast page sound) act.Done o d l n fits free is =
     (tt, subst (λ t. PhaseIs Reporting (o + 0) (d + 0) (l + trues (t ∷ [])) (n + 0)) (sym is.0) (ends_pages o d l n is.1))
-input-step (at.PutsLast page sound) act.Stopped o d l n fits free is = absurd cc
+input-step (at.PutsLast page sound) act.Stopped o d l n fits free is = absurd (no-some free)
 input-step (at.Reports sound) act.Done o d l n fits free is = (tt, reports o d l n is.1)
-input-step (at.Reports sound) act.Stopped o d l n fits free is = absurd cc
+input-step (at.Reports sound) act.Stopped o d l n fits free is = absurd (no-some free)
 input-step at.IsOver act.Done o d l n fits free is = (tt, stays Left o d l n is.1)
 input-step a reply o d l n fits free is = absurd fits
 

@@ -33,6 +33,7 @@ use Rattle.solo_law.proofs.JobPhases.{in_phase, answers-in, meets-in, typed-in, 
 use Rattle.solo_law.proofs.Shown.{lacking-some}
 use Rattle.solo_law.proofs.CardFiles.{pages_from, reports_from, file-valid, behind-valid}
 use Rattle.solo_law.proofs.InputFiles.{as_pages, as_args, put-first, cards-tell}
+use Rattle.solo_law.proofs.Nones.{no-some}
 
 -- ---- the cards behind the card files that it took
 abbrev pub cards_by : JobPlace → Reply → List Item → List Item
@@ -194,37 +195,37 @@ reads-on : (a : JobPlace) (reply : Reply) (cards : List Item) (ps rs : List Parc
     → Facts a cards (pages_by (job_does a) reply ++ ps) (reports_by (job_does a) reply ++ rs) → Facts (job_behind a reply) (cards_by a reply cards) ps rs
 reads-on at.Listens (act.OfCard answer) cards ps rs fits cause valid is = free-at (behind_typed answer) cards ps rs (typed-in answer) is
 reads-on (at.Toils work) (act.Found need) cards ps rs fits cause valid is = free-at (meets work.pages need) cards ps rs (meets-in work.pages need) is
-reads-on (at.Toils work) act.Failed cards ps rs fits cause valid is = absurd cc
-reads-on (at.Toils work) act.NoMemory cards ps rs fits cause valid is = absurd cc
+reads-on (at.Toils work) act.Failed cards ps rs fits cause valid is = absurd (no-some cause)
+reads-on (at.Toils work) act.NoMemory cards ps rs fits cause valid is = absurd (no-some cause)
 reads-on (at.OrdersCards pages) act.Done cards ps rs fits cause valid is = begins-taking is.files cards ps rs valid is.pages_are is.reports_are
-reads-on (at.OrdersCards pages) act.Stopped cards ps rs fits cause valid is = absurd cc
+reads-on (at.OrdersCards pages) act.Stopped cards ps rs fits cause valid is = absurd (no-some cause)
 reads-on (at.TakesCards n items pages) (act.OfPage page) cards ps rs fits cause valid (inl none) = absurd (none-left (OfPage page) ps none)
 reads-on (at.TakesCards n items pages) (act.OfPage page) cards ps rs fits cause valid (inr is) =
     takes-page n items pages cards page ps rs is (walk n is.hand is.rest is.fits is.valid)
-reads-on (at.TakesCards n items pages) act.Stopped cards ps rs fits cause valid is = absurd cc
+reads-on (at.TakesCards n items pages) act.Stopped cards ps rs fits cause valid is = absurd (no-some cause)
 reads-on (at.TakesReport items pages) (act.OfArg report) cards ps rs fits cause valid is =
     (let both = same-arg report (arg.Bool (file_sound true cards)) rs (as_args (reports_from is.files (behind_file cards))) is.reports_are in
     record { files = is.files; pages_are = is.pages_are; reports_are = both.1 })
-reads-on (at.TakesReport items pages) act.Stopped cards ps rs fits cause valid is = absurd cc
+reads-on (at.TakesReport items pages) act.Stopped cards ps rs fits cause valid is = absurd (no-some cause)
 reads-on (at.Accepts pages) (act.OfCard answer) cards ps rs fits cause valid is =
     free-at (behind_accepted pages answer) cards ps rs (accepted-in pages answer) is
 reads-on (at.Displays line pages) act.Done cards ps rs fits cause valid is = is
-reads-on (at.Displays line pages) act.Failed cards ps rs fits cause valid is = absurd cc
-reads-on (at.Displays line pages) act.NoMemory cards ps rs fits cause valid is = absurd cc
+reads-on (at.Displays line pages) act.Failed cards ps rs fits cause valid is = absurd (no-some cause)
+reads-on (at.Displays line pages) act.NoMemory cards ps rs fits cause valid is = absurd (no-some cause)
 reads-on (at.OrdersPrinter page behind) act.Done cards ps rs fits cause valid is = is
-reads-on (at.OrdersPrinter page behind) act.Stopped cards ps rs fits cause valid is = absurd cc
+reads-on (at.OrdersPrinter page behind) act.Stopped cards ps rs fits cause valid is = absurd (no-some cause)
 reads-on (at.PutsPage page behind pages) act.Done cards ps rs fits cause valid is =
     free-at (behind_put behind (suc pages)) cards ps rs (put-in behind (suc pages)) is
-reads-on (at.PutsPage page behind pages) act.Stopped cards ps rs fits cause valid is = absurd cc
+reads-on (at.PutsPage page behind pages) act.Stopped cards ps rs fits cause valid is = absurd (no-some cause)
 reads-on (at.TakesPrinted lines) (act.OfArg report) cards ps rs fits cause valid is = free-at (answers lines) cards ps rs (answers-in lines) is
-reads-on (at.TakesPrinted lines) act.Stopped cards ps rs fits cause valid is = absurd cc
+reads-on (at.TakesPrinted lines) act.Stopped cards ps rs fits cause valid is = absurd (no-some cause)
 reads-on (at.AnswersLine line later) act.Done cards ps rs fits cause valid is = free-at (answers later) cards ps rs (answers-in later) is
-reads-on (at.AnswersLine line later) act.Failed cards ps rs fits cause valid is = absurd cc
-reads-on (at.AnswersLine line later) act.NoMemory cards ps rs fits cause valid is = absurd cc
+reads-on (at.AnswersLine line later) act.Failed cards ps rs fits cause valid is = absurd (no-some cause)
+reads-on (at.AnswersLine line later) act.NoMemory cards ps rs fits cause valid is = absurd (no-some cause)
 reads-on at.DismissesInput act.Done cards ps rs fits cause valid is = is
-reads-on at.DismissesInput act.Stopped cards ps rs fits cause valid is = absurd cc
+reads-on at.DismissesInput act.Stopped cards ps rs fits cause valid is = absurd (no-some cause)
 reads-on at.DismissesOutput act.Done cards ps rs fits cause valid is = is
-reads-on at.DismissesOutput act.Stopped cards ps rs fits cause valid is = absurd cc
+reads-on at.DismissesOutput act.Stopped cards ps rs fits cause valid is = absurd (no-some cause)
 reads-on at.HasLeft act.Done cards ps rs fits cause valid is = is
 reads-on a reply cards ps rs fits cause valid is = absurd fits
 

@@ -23,6 +23,7 @@ use Rattle.solo_law.specs.Replies.{Fits, view}
 use Rattle.solo_law.specs.JobPlaces.{JobPlace, Behind, GoesOn, EndsWith, job_does, job_behind, answers, puts_page, meets, begins_with, behind_typed, behind_accepted, behind_cards, behind_put, job}
 use Rattle.solo_law.specs.JobPlaces as at
 use Rattle.solo_law.specs.Solo.{table, solo, SoloEntry}
+use Rattle.solo_law.proofs.Nones.{no-some}
 
 -- ---- job, towards input
 abbrev pub in_phase : JobPlace → Phase
@@ -86,35 +87,35 @@ in-step : (a : JobPlace) (reply : Reply) (o d l n : ℕ) → Fits (job_does a) r
     (n + length (marks_by mark 3 Receiver (call 2 (job_does a)) (went_by (job_does a) reply)))
 in-step at.Listens (act.OfCard answer) o d l n fits free is = idle_as (behind_typed answer) o d l n (typed-in answer) is
 in-step (at.Toils work) (act.Found need) o d l n fits free is = idle_as (meets work.pages need) o d l n (meets-in work.pages need) is
-in-step (at.Toils work) act.Failed o d l n fits free is = absurd cc
-in-step (at.Toils work) act.NoMemory o d l n fits free is = absurd cc
+in-step (at.Toils work) act.Failed o d l n fits free is = absurd (no-some free)
+in-step (at.Toils work) act.NoMemory o d l n fits free is = absurd (no-some free)
 in-step (at.OrdersCards pages) act.Done o d l n fits free is = orders o d l n is
-in-step (at.OrdersCards pages) act.Stopped o d l n fits free is = absurd cc
+in-step (at.OrdersCards pages) act.Stopped o d l n fits free is = absurd (no-some free)
 in-step (at.TakesCards taken items pages) (act.OfPage page) o d l n fits cause is =
     as_phase (phase_behind (is_last page)) (in_phase (behind_cards (is_last page) (taken + 1) (items ++ items_read (page_gives taken page)) pages)) (o + 0)
     (d + 0)
     (l + trues (is_last page ∷ [])) (n + 0) (cards-in (is_last page) (taken + 1) (items ++ items_read (page_gives taken page)) pages)
     (moves (is_last page) o d l n is)
-in-step (at.TakesCards taken items pages) act.Stopped o d l n fits free is = absurd cc
+in-step (at.TakesCards taken items pages) act.Stopped o d l n fits free is = absurd (no-some free)
 in-step (at.TakesReport items pages) (act.OfArg report) o d l n fits free is = reports o d l n is
-in-step (at.TakesReport items pages) act.Stopped o d l n fits free is = absurd cc
+in-step (at.TakesReport items pages) act.Stopped o d l n fits free is = absurd (no-some free)
 in-step (at.Accepts pages) (act.OfCard answer) o d l n fits free is = idle_as (behind_accepted pages answer) o d l n (accepted-in pages answer) is
 in-step (at.Displays line pages) act.Done o d l n fits free is = stays Idle o d l n is
-in-step (at.Displays line pages) act.Failed o d l n fits free is = absurd cc
-in-step (at.Displays line pages) act.NoMemory o d l n fits free is = absurd cc
+in-step (at.Displays line pages) act.Failed o d l n fits free is = absurd (no-some free)
+in-step (at.Displays line pages) act.NoMemory o d l n fits free is = absurd (no-some free)
 in-step (at.OrdersPrinter page behind) act.Done o d l n fits free is = stays Idle o d l n is
-in-step (at.OrdersPrinter page behind) act.Stopped o d l n fits free is = absurd cc
+in-step (at.OrdersPrinter page behind) act.Stopped o d l n fits free is = absurd (no-some free)
 in-step (at.PutsPage page behind pages) act.Done o d l n fits free is = idle_as (behind_put behind (suc pages)) o d l n (put-in behind (suc pages)) is
-in-step (at.PutsPage page behind pages) act.Stopped o d l n fits free is = absurd cc
+in-step (at.PutsPage page behind pages) act.Stopped o d l n fits free is = absurd (no-some free)
 in-step (at.TakesPrinted lines) (act.OfArg report) o d l n fits free is = idle_as (answers lines) o d l n (answers-in lines) is
-in-step (at.TakesPrinted lines) act.Stopped o d l n fits free is = absurd cc
+in-step (at.TakesPrinted lines) act.Stopped o d l n fits free is = absurd (no-some free)
 in-step (at.AnswersLine line later) act.Done o d l n fits free is = idle_as (answers later) o d l n (answers-in later) is
-in-step (at.AnswersLine line later) act.Failed o d l n fits free is = absurd cc
-in-step (at.AnswersLine line later) act.NoMemory o d l n fits free is = absurd cc
+in-step (at.AnswersLine line later) act.Failed o d l n fits free is = absurd (no-some free)
+in-step (at.AnswersLine line later) act.NoMemory o d l n fits free is = absurd (no-some free)
 in-step at.DismissesInput act.Done o d l n fits free is = dismisses o d l n is
-in-step at.DismissesInput act.Stopped o d l n fits free is = absurd cc
+in-step at.DismissesInput act.Stopped o d l n fits free is = absurd (no-some free)
 in-step at.DismissesOutput act.Done o d l n fits free is = stays Left o d l n is
-in-step at.DismissesOutput act.Stopped o d l n fits free is = absurd cc
+in-step at.DismissesOutput act.Stopped o d l n fits free is = absurd (no-some free)
 in-step at.HasLeft act.Done o d l n fits free is = stays Left o d l n is
 in-step a reply o d l n fits free is = absurd fits
 
@@ -217,34 +218,34 @@ out-step : (a : JobPlace) (reply : Reply) (o d l n : ℕ) → Fits (job_does a) 
     (n + length (marks_by mark 6 Receiver (call 2 (job_does a)) (went_by (job_does a) reply)))
 out-step at.Listens (act.OfCard answer) o d l n fits free is = at_as Idle (behind_typed answer) o d l n (typed-out answer) is.1
 out-step (at.Toils work) (act.Found need) o d l n fits free is = at_as (by_pages work.pages) (meets work.pages need) o d l n (meets-out work.pages need) is.1
-out-step (at.Toils work) act.Failed o d l n fits free is = absurd cc
-out-step (at.Toils work) act.NoMemory o d l n fits free is = absurd cc
+out-step (at.Toils work) act.Failed o d l n fits free is = absurd (no-some free)
+out-step (at.Toils work) act.NoMemory o d l n fits free is = absurd (no-some free)
 out-step (at.OrdersCards pages) act.Done o d l n fits free is = (tt, stays (by_pages pages) o d l n is.1)
-out-step (at.OrdersCards pages) act.Stopped o d l n fits free is = absurd cc
+out-step (at.OrdersCards pages) act.Stopped o d l n fits free is = absurd (no-some free)
 out-step (at.TakesCards taken items pages) (act.OfPage page) o d l n fits cause is =
     at_as (by_pages pages) (behind_cards (is_last page) (taken + 1) (items ++ items_read (page_gives taken page)) pages) o d l n
     (cards-out (is_last page) (taken + 1) (items ++ items_read (page_gives taken page)) pages) is.1
-out-step (at.TakesCards taken items pages) act.Stopped o d l n fits free is = absurd cc
+out-step (at.TakesCards taken items pages) act.Stopped o d l n fits free is = absurd (no-some free)
 out-step (at.TakesReport items pages) (act.OfArg report) o d l n fits free is = (tt, stays (by_pages pages) o d l n is.1)
-out-step (at.TakesReport items pages) act.Stopped o d l n fits free is = absurd cc
+out-step (at.TakesReport items pages) act.Stopped o d l n fits free is = absurd (no-some free)
 out-step (at.Accepts pages) (act.OfCard answer) o d l n fits free is =
     at_as (by_pages pages) (behind_accepted pages answer) o d l n (accepted-out pages answer) is.1
 out-step (at.Displays line pages) act.Done o d l n fits free is = (tt, stays (by_pages pages) o d l n is.1)
-out-step (at.Displays line pages) act.Failed o d l n fits free is = absurd cc
-out-step (at.Displays line pages) act.NoMemory o d l n fits free is = absurd cc
+out-step (at.Displays line pages) act.Failed o d l n fits free is = absurd (no-some free)
+out-step (at.Displays line pages) act.NoMemory o d l n fits free is = absurd (no-some free)
 out-step (at.OrdersPrinter page behind) act.Done o d l n fits free is = (is.0, orders o d l n is.1)
-out-step (at.OrdersPrinter page behind) act.Stopped o d l n fits free is = absurd cc
+out-step (at.OrdersPrinter page behind) act.Stopped o d l n fits free is = absurd (no-some free)
 out-step (at.PutsPage page behind pages) act.Done o d l n fits free is = put-out page behind pages o d l n is.0 is.1
-out-step (at.PutsPage page behind pages) act.Stopped o d l n fits free is = absurd cc
+out-step (at.PutsPage page behind pages) act.Stopped o d l n fits free is = absurd (no-some free)
 out-step (at.TakesPrinted lines) (act.OfArg report) o d l n fits free is = report-out lines o d l n is.1
-out-step (at.TakesPrinted lines) act.Stopped o d l n fits free is = absurd cc
+out-step (at.TakesPrinted lines) act.Stopped o d l n fits free is = absurd (no-some free)
 out-step (at.AnswersLine line later) act.Done o d l n fits free is = at_as Idle (answers later) o d l n (answers-out later) is.1
-out-step (at.AnswersLine line later) act.Failed o d l n fits free is = absurd cc
-out-step (at.AnswersLine line later) act.NoMemory o d l n fits free is = absurd cc
+out-step (at.AnswersLine line later) act.Failed o d l n fits free is = absurd (no-some free)
+out-step (at.AnswersLine line later) act.NoMemory o d l n fits free is = absurd (no-some free)
 out-step at.DismissesInput act.Done o d l n fits free is = (tt, stays Idle o d l n is.1)
-out-step at.DismissesInput act.Stopped o d l n fits free is = absurd cc
+out-step at.DismissesInput act.Stopped o d l n fits free is = absurd (no-some free)
 out-step at.DismissesOutput act.Done o d l n fits free is = (tt, dismisses o d l n is.1)
-out-step at.DismissesOutput act.Stopped o d l n fits free is = absurd cc
+out-step at.DismissesOutput act.Stopped o d l n fits free is = absurd (no-some free)
 out-step at.HasLeft act.Done o d l n fits free is = (tt, stays Left o d l n is.1)
 out-step a reply o d l n fits free is = absurd fits
 

@@ -1,3 +1,4 @@
+pub mod Nones
 pub mod Counted
 pub mod Placed
 pub mod HandedKinds

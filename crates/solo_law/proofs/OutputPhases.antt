@@ -17,6 +17,7 @@ use Rattle.solo_law.specs.Replies.{Fits, view}
 use Rattle.solo_law.specs.OutputPlaces.{OutputPlace, output_does, output_behind, prints, output}
 use Rattle.solo_law.specs.OutputPlaces as at
 use Rattle.solo_law.specs.Solo.{table, solo, SoloEntry}
+use Rattle.solo_law.proofs.Nones.{no-some}
 
 abbrev pub output_phase : OutputPlace → Phase
 output_phase at.AwaitsPrinting = Idle
@@ -40,19 +41,19 @@ output-step : (a : OutputPlace) (reply : Reply) (o d l n : ℕ) → Fits (output
     (n + length (marks_by mark 6 Sender (call 3 (output_does a)) (went_by (output_does a) reply)))
 output-step at.AwaitsPrinting (act.OfArg arg.Nil) o d l n fits free is = dismisses o d l n is
 output-step at.AwaitsPrinting (act.OfArg other) o d l n fits free is = orders o d l n is
-output-step at.AwaitsPrinting act.Stopped o d l n fits free is = absurd cc
+output-step at.AwaitsPrinting act.Stopped o d l n fits free is = absurd (no-some free)
 output-step (at.TakesPage pages) (act.OfPage page) o d l n fits free is =
     as_phase (phase_behind (is_last page)) (output_phase (prints (lines_of (items_read (page_gives pages page))) (is_last page) (pages + 1))) (o + 0) (d + 0)
     (l + trues (is_last page ∷ [])) (n + 0) (prints-phase (lines_of (items_read (page_gives pages page))) (is_last page) (pages + 1))
     (moves (is_last page) o d l n is)
-output-step (at.TakesPage pages) act.Stopped o d l n fits free is = absurd cc
+output-step (at.TakesPage pages) act.Stopped o d l n fits free is = absurd (no-some free)
 output-step (at.PrintsLine line later last pages) act.Done o d l n fits free is =
     as_phase (phase_behind last) (output_phase (prints later last pages)) (o + 0) (d + 0) (l + 0) (n + 0) (prints-phase later last pages)
     (stays (phase_behind last) o d l n is)
-output-step (at.PrintsLine line later last pages) act.Failed o d l n fits free is = absurd cc
-output-step (at.PrintsLine line later last pages) act.NoMemory o d l n fits free is = absurd cc
+output-step (at.PrintsLine line later last pages) act.Failed o d l n fits free is = absurd (no-some free)
+output-step (at.PrintsLine line later last pages) act.NoMemory o d l n fits free is = absurd (no-some free)
 output-step at.ReportsPrinted act.Done o d l n fits free is = reports o d l n is
-output-step at.ReportsPrinted act.Stopped o d l n fits free is = absurd cc
+output-step at.ReportsPrinted act.Stopped o d l n fits free is = absurd (no-some free)
 output-step at.IsDone act.Done o d l n fits free is = stays Left o d l n is
 output-step a reply o d l n fits free is = absurd fits
 

@@ -30,6 +30,7 @@ use Rattle.solo_law.proofs.Placed.{each-process, is-3, placed}
 use Rattle.solo_law.proofs.Causes.{OutputTakes, output-count}
 use Rattle.solo_law.proofs.Sinks.{GaveBy, Tells, sink-tells}
 use Rattle.solo_law.proofs.Shown.{joined, lacking-some, line-same}
+use Rattle.solo_law.proofs.Nones.{no-some}
 
 -- ---- what is still to be printed of the pages that were taken
 abbrev pub to_print : OutputPlace → List (List ℕ)
@@ -53,13 +54,13 @@ prints-on (at.TakesPage pages) (act.OfPage page) n fits none is =
     append-nil (lines_of (items_read (page_gives n page))) ∙ ap (λ n. lines_of (items_read (page_gives n page))) (sym is)
     ∙ lines-print (lines_of (items_read (page_gives pages page))) (is_last page) (pages + 1)
 prints-on (at.PrintsLine line later last pages) act.Done n fits none is = ap (λ rest. line ∷ rest) (append-nil later ∙ lines-print later last pages)
-prints-on (at.PrintsLine line later last pages) act.Failed n fits none is = absurd cc
-prints-on (at.PrintsLine line later last pages) act.NoMemory n fits none is = absurd cc
+prints-on (at.PrintsLine line later last pages) act.Failed n fits none is = absurd (no-some none)
+prints-on (at.PrintsLine line later last pages) act.NoMemory n fits none is = absurd (no-some none)
 prints-on at.ReportsPrinted act.Done n fits none is = refl
 prints-on at.IsDone act.Done n fits none is = refl
-prints-on at.AwaitsPrinting act.Stopped n fits none is = absurd cc
-prints-on (at.TakesPage pages) act.Stopped n fits none is = absurd cc
-prints-on at.ReportsPrinted act.Stopped n fits none is = absurd cc
+prints-on at.AwaitsPrinting act.Stopped n fits none is = absurd (no-some none)
+prints-on (at.TakesPage pages) act.Stopped n fits none is = absurd (no-some none)
+prints-on at.ReportsPrinted act.Stopped n fits none is = absurd (no-some none)
 prints-on a reply n fits none is = absurd fits
 
 -- the lines of the pages that it took

@@ -29,6 +29,7 @@ use Rattle.solo_law.specs.Told.{need_by, needs, on_paper, lines_of_all}
 use Rattle.solo_law.proofs.Placed.{is-2, placed}
 use Rattle.solo_law.proofs.Numbered.{JobSo, job-so}
 use Rattle.solo_law.proofs.Shown.{lines-append, needs-grow, joined, lacking-some}
+use Rattle.solo_law.proofs.Nones.{no-none, no-some}
 
 -- ---- the page that is still to be put
 abbrev pub to_put : JobPlace → List (List ℕ)
@@ -85,16 +86,16 @@ puts-on : (a : JobPlace) (reply : Reply) (n : ℕ) → Fits (job_does a) reply �
     ≡ stream_lines n (moved_by 5 Sender (call 2 (job_does a)) (went_by (job_does a) reply)) ++ to_put (job_behind a reply)
 puts-on at.Listens (act.OfCard answer) n fits free so = typed-put answer
 puts-on (at.Toils work) (act.Found need) n fits free so = meets-put work.pages need fits
-puts-on (at.Toils work) act.Failed n fits free so = absurd cc
-puts-on (at.Toils work) act.NoMemory n fits free so = absurd cc
+puts-on (at.Toils work) act.Failed n fits free so = absurd (no-some free)
+puts-on (at.Toils work) act.NoMemory n fits free so = absurd (no-some free)
 puts-on (at.OrdersCards pages) act.Done n fits free so = refl
 puts-on (at.TakesCards taken items pages) (act.OfPage page) n fits free so =
     cards-put (is_last page) (taken + 1) (items ++ items_read (page_gives taken page)) pages
 puts-on (at.TakesReport items pages) (act.OfArg report) n fits free so = refl
 puts-on (at.Accepts pages) (act.OfCard answer) n fits free so = accepted-put pages answer
 puts-on (at.Displays line pages) act.Done n fits free so = refl
-puts-on (at.Displays line pages) act.Failed n fits free so = absurd cc
-puts-on (at.Displays line pages) act.NoMemory n fits free so = absurd cc
+puts-on (at.Displays line pages) act.Failed n fits free so = absurd (no-some free)
+puts-on (at.Displays line pages) act.NoMemory n fits free so = absurd (no-some free)
 puts-on (at.OrdersPrinter page behind) act.Done n fits free so = append-nil (lines_of (items_read (page_gives 0 page)))
 puts-on (at.PutsPage page behind pages) act.Done n fits free so =
     append-nil (lines_of (items_read (page_gives pages page))) ∙ ap (λ n. lines_of (items_read (page_gives n page))) so.0
@@ -102,19 +103,19 @@ puts-on (at.PutsPage page behind pages) act.Done n fits free so =
     ∙ ap (λ x. (lines_of (items_read (page_gives n page)) ++ []) ++ x) (sym (page-put-behind behind (suc pages)))
 puts-on (at.TakesPrinted lines) (act.OfArg report) n fits free so = answers-put lines
 puts-on (at.AnswersLine line later) act.Done n fits free so = answers-put later
-puts-on (at.AnswersLine line later) act.Failed n fits free so = absurd cc
-puts-on (at.AnswersLine line later) act.NoMemory n fits free so = absurd cc
+puts-on (at.AnswersLine line later) act.Failed n fits free so = absurd (no-some free)
+puts-on (at.AnswersLine line later) act.NoMemory n fits free so = absurd (no-some free)
 puts-on at.DismissesInput act.Done n fits free so = refl
 puts-on at.DismissesOutput act.Done n fits free so = refl
 puts-on at.HasLeft act.Done n fits free so = refl
-puts-on (at.OrdersCards pages) act.Stopped n fits free so = absurd cc
-puts-on (at.TakesCards taken items pages) act.Stopped n fits free so = absurd cc
-puts-on (at.TakesReport items pages) act.Stopped n fits free so = absurd cc
-puts-on (at.OrdersPrinter page behind) act.Stopped n fits free so = absurd cc
-puts-on (at.PutsPage page behind pages) act.Stopped n fits free so = absurd cc
-puts-on (at.TakesPrinted lines) act.Stopped n fits free so = absurd cc
-puts-on at.DismissesInput act.Stopped n fits free so = absurd cc
-puts-on at.DismissesOutput act.Stopped n fits free so = absurd cc
+puts-on (at.OrdersCards pages) act.Stopped n fits free so = absurd (no-some free)
+puts-on (at.TakesCards taken items pages) act.Stopped n fits free so = absurd (no-some free)
+puts-on (at.TakesReport items pages) act.Stopped n fits free so = absurd (no-some free)
+puts-on (at.OrdersPrinter page behind) act.Stopped n fits free so = absurd (no-some free)
+puts-on (at.PutsPage page behind pages) act.Stopped n fits free so = absurd (no-some free)
+puts-on (at.TakesPrinted lines) act.Stopped n fits free so = absurd (no-some free)
+puts-on at.DismissesInput act.Stopped n fits free so = absurd (no-some free)
+puts-on at.DismissesOutput act.Stopped n fits free so = absurd (no-some free)
 puts-on a reply n fits free so = absurd fits
 
 abbrev pub put_lines : List SoloEntry → List (List ℕ)
@@ -176,7 +177,7 @@ fault-moves_not (at.Displays line pages) act.Done how fits e = refl
 fault-moves_not (at.Displays line pages) act.Failed how fits e = refl
 fault-moves_not (at.Displays line pages) act.NoMemory how fits e = refl
 fault-moves_not (at.OrdersPrinter page behind) act.Done how fits e = refl
-fault-moves_not (at.PutsPage page behind pages) act.Done how fits e = absurd cc
+fault-moves_not (at.PutsPage page behind pages) act.Done how fits e = absurd (no-none e)
 fault-moves_not (at.TakesPrinted lines) (act.OfArg report) how fits e = refl
 fault-moves_not (at.AnswersLine line later) act.Done how fits e = refl
 fault-moves_not (at.AnswersLine line later) act.Failed how fits e = refl

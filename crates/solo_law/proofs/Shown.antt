@@ -28,6 +28,7 @@ use Rattle.solo_law.specs.Solo.{process, table, solo, SoloState, SoloEntry, IsRe
 use Rattle.solo_law.specs.Told.{need_by, needs, on_console, lines_of_all, displays, written_by, written}
 use Rattle.solo_law.proofs.Placed.{each-process, is-2, placed}
 use Rattle.solo_law.proofs.Sinks.{GaveBy, Tells, sink-tells}
+use Rattle.solo_law.proofs.Nones.{no-some}
 
 pub lines-append : (by : Need → List (List ℕ)) (some more : List Need) → lines_of_all by (some ++ more) ≡ lines_of_all by some ++ lines_of_all by more
 lines-append by [] more = refl
@@ -100,33 +101,33 @@ shows-on : (a : JobPlace) (reply : Reply) → Fits (job_does a) reply → given_
     → to_show a ++ lines_of_all on_console (need_by (job_does a) reply) ≡ written_by (displays (job_does a)) reply ++ to_show (job_behind a reply)
 shows-on at.Listens (act.OfCard answer) fits free = typed-show answer
 shows-on (at.Toils work) (act.Found need) fits free = meets-show work.pages need
-shows-on (at.Toils work) act.Failed fits free = absurd cc
-shows-on (at.Toils work) act.NoMemory fits free = absurd cc
+shows-on (at.Toils work) act.Failed fits free = absurd (no-some free)
+shows-on (at.Toils work) act.NoMemory fits free = absurd (no-some free)
 shows-on (at.OrdersCards pages) act.Done fits free = refl
 shows-on (at.TakesCards taken items pages) (act.OfPage page) fits free =
     cards-show (is_last page) (taken + 1) (items ++ items_read (page_gives taken page)) pages
 shows-on (at.TakesReport items pages) (act.OfArg report) fits free = refl
 shows-on (at.Accepts pages) (act.OfCard answer) fits free = accepted-show pages answer
 shows-on (at.Displays line pages) act.Done fits free = refl
-shows-on (at.Displays line pages) act.Failed fits free = absurd cc
-shows-on (at.Displays line pages) act.NoMemory fits free = absurd cc
+shows-on (at.Displays line pages) act.Failed fits free = absurd (no-some free)
+shows-on (at.Displays line pages) act.NoMemory fits free = absurd (no-some free)
 shows-on (at.OrdersPrinter page behind) act.Done fits free = append-nil (answers_of behind)
 shows-on (at.PutsPage page behind pages) act.Done fits free = append-nil (answers_of behind) ∙ put-show behind (suc pages)
 shows-on (at.TakesPrinted lines) (act.OfArg report) fits free = append-nil lines ∙ answers-show lines
 shows-on (at.AnswersLine line later) act.Done fits free = ap (λ rest. line ∷ rest) (append-nil later ∙ answers-show later)
-shows-on (at.AnswersLine line later) act.Failed fits free = absurd cc
-shows-on (at.AnswersLine line later) act.NoMemory fits free = absurd cc
+shows-on (at.AnswersLine line later) act.Failed fits free = absurd (no-some free)
+shows-on (at.AnswersLine line later) act.NoMemory fits free = absurd (no-some free)
 shows-on at.DismissesInput act.Done fits free = refl
 shows-on at.DismissesOutput act.Done fits free = refl
 shows-on at.HasLeft act.Done fits free = refl
-shows-on (at.OrdersCards pages) act.Stopped fits free = absurd cc
-shows-on (at.TakesCards taken items pages) act.Stopped fits free = absurd cc
-shows-on (at.TakesReport items pages) act.Stopped fits free = absurd cc
-shows-on (at.OrdersPrinter page behind) act.Stopped fits free = absurd cc
-shows-on (at.PutsPage page behind pages) act.Stopped fits free = absurd cc
-shows-on (at.TakesPrinted lines) act.Stopped fits free = absurd cc
-shows-on at.DismissesInput act.Stopped fits free = absurd cc
-shows-on at.DismissesOutput act.Stopped fits free = absurd cc
+shows-on (at.OrdersCards pages) act.Stopped fits free = absurd (no-some free)
+shows-on (at.TakesCards taken items pages) act.Stopped fits free = absurd (no-some free)
+shows-on (at.TakesReport items pages) act.Stopped fits free = absurd (no-some free)
+shows-on (at.OrdersPrinter page behind) act.Stopped fits free = absurd (no-some free)
+shows-on (at.PutsPage page behind pages) act.Stopped fits free = absurd (no-some free)
+shows-on (at.TakesPrinted lines) act.Stopped fits free = absurd (no-some free)
+shows-on at.DismissesInput act.Stopped fits free = absurd (no-some free)
+shows-on at.DismissesOutput act.Stopped fits free = absurd (no-some free)
 shows-on a reply fits free = absurd fits
 
 pub lacking-some : (old : Option Outcome) (how : Outcome) → or_new old (Some how) ≡ None → ⊥

@@ -26,6 +26,14 @@ use Rattle.solo_procs.specs.JobSteps.{IsAnswering}
 some-same : {A : Type 0} (a b : A) → Some a ≡ Some b → a ≡ b
 some-same a b e = cc
 
+-- any place but that of a work
+abbrev IsElsewhere : JobAt → Type 0
+IsElsewhere here.Toils = ⊥
+IsElsewhere other = Unit {0}
+
+pub no-toils : (place now : JobAt) → place ≡ now → IsElsewhere now → place ≡ here.Toils → ⊥
+no-toils place now is elsewhere e = subst IsElsewhere (sym is ∙ e) elsewhere
+
 module _ {C : Type 0} (awaits : C → ℕ → Kind → Type 0) (j : JobProc C) where
   -- ---- which place it is
   pub there : (now : JobAt) (at : JobPlace) → j.place ≡ now → JobStands awaits j at → IsPlace now at

@@ -7,3 +7,4 @@ pub mod OutputSteps
 pub mod JobSteps
 pub mod JobNeeds
 pub mod JobPages
+pub mod Working

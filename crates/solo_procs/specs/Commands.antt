@@ -1,5 +1,5 @@
 -- What the commands of Solo are to the job process.
-use Rattle.std.specs.Prelude.{◌≡◌, ℕ, suc, false, List, [], Option, Result, Ok, Err}
+use Rattle.std.specs.Prelude.{◌≡◌, ℕ, suc, false, List, [], Result, Ok, Err}
 use Rattle.solo_base.specs.declared.page.Page.{Page}
 use Rattle.exchange_law.specs.Pages.{page_with, last_page}
 use Rattle.solo_law.specs.Work.{Plan, NeedFits}

@@ -4,7 +4,7 @@ use solo_base::{Arg, BufferNo, Line, Outcome, Page};
 use solo_devices::CardRead;
 
 /// What a process of Solo does.
-#[derive(Debug, Drop)]
+#[derive(Drop)]
 pub enum SoloAction {
     /// Accepts the next typed line.
     Accept,
@@ -31,7 +31,7 @@ pub enum SoloAction {
 }
 
 /// What a process of Solo is answered.
-#[derive(Debug, Drop)]
+#[derive(Drop)]
 pub enum SoloReply {
     /// It is done.
     Done,

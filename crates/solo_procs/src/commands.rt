@@ -7,7 +7,7 @@ use solo_base::{Feed, Item, Line, LineList, Page};
 use std::alloc::Global;
 
 /// What a piece of work begins with.
-#[derive(Debug, Drop)]
+#[derive(Drop)]
 pub enum Given {
     /// A typed line, which is a command.
     Line(Item),
@@ -20,7 +20,7 @@ pub enum Given {
 }
 
 /// What a command needs next.
-#[derive(Debug, Drop)]
+#[derive(Drop)]
 pub enum Need {
     /// A card file.
     Cards,
@@ -38,7 +38,7 @@ pub enum Need {
 }
 
 /// Why a piece of work was not done.
-#[derive(Clone, Copy, Debug)]
+#[derive(Clone, Copy)]
 pub enum WorkFault {
     /// The area of the files failed.
     Failed,

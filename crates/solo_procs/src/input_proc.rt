@@ -19,7 +19,7 @@ use std::mem;
 pub type SoloInput = Machine<InputProc>;
 
 /// Where the input process stands.
-#[derive(Debug, Drop)]
+#[derive(Drop)]
 pub enum InputAt {
     AwaitsOrder,
     Reads,
@@ -30,7 +30,7 @@ pub enum InputAt {
 }
 
 /// What the input process keeps: its place, the page in hand, and whether no card of the file was spoiled.
-#[derive(Debug, Drop)]
+#[derive(Drop)]
 pub struct InputProc {
     place: InputAt,
     packer: Packer,

@@ -17,7 +17,7 @@ use std::alloc::Global;
 pub type SoloJob<C> = Machine<JobProc<C>>;
 
 /// Where the job process stands.
-#[derive(Debug, Drop)]
+#[derive(Drop)]
 pub enum JobAt {
     Listens,
     Toils,

@@ -11,7 +11,7 @@ use solo_devices::CardRead;
 use std::alloc::Global;
 
 /// A process as a machine: it says what it does next, and is given the reply. It keeps no history.
-#[derive(Debug, Drop)]
+#[derive(Drop)]
 pub struct Machine<P: Proc> {
     pub(crate) process: P,
     pub(crate) cause: Option<Outcome>,

@@ -17,7 +17,7 @@ use std::alloc::Global;
 pub type SoloOutput = Machine<OutputProc>;
 
 /// Where the output process stands.
-#[derive(Debug, Drop)]
+#[derive(Drop)]
 pub enum OutputAt {
     AwaitsPrinting,
     TakesPage,
@@ -28,7 +28,7 @@ pub enum OutputAt {
 
 /// What the output process keeps: its place, the pages that it awaits, what it hasn't printed of the page in
 /// hand, and whether that is the last of its stream.
-#[derive(Debug, Drop)]
+#[derive(Drop)]
 pub struct OutputProc {
     place: OutputAt,
     pages: PageStreams,

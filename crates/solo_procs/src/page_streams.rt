@@ -9,7 +9,7 @@ use std::marker::Model;
 
 /// Streams of pages, one behind the other: behind a last page a new one begins. Contracts see the place
 /// that the next page has in its stream, modulo 65,536.
-#[derive(Debug, Drop)]
+#[derive(Drop)]
 pub struct PageStreams {
     unpacker: Unpacker,
 }

@@ -1,7 +1,7 @@
 use Rattle.solo_procs.specs.declared.commands.Given.TheVariants as given
 use Rattle.solo_procs.specs.declared.job_proc.JobAt.TheVariants as here
 use Rattle.solo_procs.specs.Job.{JobStands}
-use Rattle.solo_procs.proofs.JobSteps.{done-toils, done-else, done-orders_cards, done-displays, done-orders_printer, done-puts, done-answers, done-dismisses_input, done-dismisses_output, done-idle}
+use Rattle.solo_procs.proofs.JobSteps.{no-toils, done-toils, done-else, done-orders_cards, done-displays, done-orders_printer, done-puts, done-answers, done-dismisses_input, done-dismisses_output, done-idle}
 use Rattle.solo_procs.proofs.job_proc.JobProcProc.done.Goals as goal
 
 pub returns-in-Toils-clause-ready : goal.returns-in-Toils-clause-ready
@@ -10,7 +10,7 @@ returns-in-Toils-clause-ready g c = done-toils g.C.Commands.awaits c.args.self.n
 
 pub returns-in-OrdersCards-clause-ready : goal.returns-in-OrdersCards-clause-ready
 returns-in-OrdersCards-clause-ready g c =
-    done-else g.C.Commands.awaits c.args.self.now (λ to. JobStands g.C.Commands.awaits c.order_cards.new.self to) (λ e. let is = c.in-OrdersCards.is in cc)
+    done-else g.C.Commands.awaits c.args.self.now (λ to. JobStands g.C.Commands.awaits c.order_cards.new.self to) (no-toils _ _ c.in-OrdersCards.is tt)
     (done-orders_cards g.C.Commands.awaits c.args.self.now (λ to. JobStands g.C.Commands.awaits c.order_cards.new.self to) c.in-OrdersCards.is
     c.order_cards.ensures.ready)
 
@@ -18,36 +18,36 @@ pub returns-in-Displays-clause-ready : goal.returns-in-Displays-clause-ready
 returns-in-Displays-clause-ready g c = rw c.toil.ensures (
     done-else g.C.Commands.awaits c.args.self.now (λ to. JobStands g.C.Commands.awaits (record c.args.self.now { place = here.Toils; given = given.Nothing })
     to)
-    (λ e. let is = c.in-Displays.is in cc) (done-displays g.C.Commands.awaits c.args.self.now c.in-Displays.field-0 c.in-Displays.is))
+    (no-toils _ _ c.in-Displays.is tt) (done-displays g.C.Commands.awaits c.args.self.now c.in-Displays.field-0 c.in-Displays.is))
 
 pub returns-in-OrdersPrinter-clause-ready : goal.returns-in-OrdersPrinter-clause-ready
 returns-in-OrdersPrinter-clause-ready g c =
     done-else g.C.Commands.awaits c.args.self.now (λ to. JobStands g.C.Commands.awaits (record c.args.self.now
-    { place = here.PutsPage c.in-OrdersPrinter.page }) to) (λ e. let is = c.in-OrdersPrinter.is in cc)
+    { place = here.PutsPage c.in-OrdersPrinter.page }) to) (no-toils _ _ c.in-OrdersPrinter.is tt)
     (done-orders_printer g.C.Commands.awaits c.args.self.now c.in-OrdersPrinter.page c.in-OrdersPrinter.is)
 
 pub returns-in-PutsPage-clause-ready : goal.returns-in-PutsPage-clause-ready
 returns-in-PutsPage-clause-ready g c =
-    done-else g.C.Commands.awaits c.args.self.now (λ to. JobStands g.C.Commands.awaits c.put.new.self to) (λ e. let is = c.in-PutsPage.is in cc)
+    done-else g.C.Commands.awaits c.args.self.now (λ to. JobStands g.C.Commands.awaits c.put.new.self to) (no-toils _ _ c.in-PutsPage.is tt)
     (done-puts g.C.Commands.awaits c.args.self.now c.in-PutsPage.field-0 (λ to. JobStands g.C.Commands.awaits c.put.new.self to) c.in-PutsPage.is
     c.put.ensures.ready)
 
 pub returns-in-AnswersLine-clause-ready : goal.returns-in-AnswersLine-clause-ready
 returns-in-AnswersLine-clause-ready g c =
-    done-else g.C.Commands.awaits c.args.self.now (λ to. JobStands g.C.Commands.awaits c.answer.new.self to) (λ e. let is = c.in-AnswersLine.is in cc)
+    done-else g.C.Commands.awaits c.args.self.now (λ to. JobStands g.C.Commands.awaits c.answer.new.self to) (no-toils _ _ c.in-AnswersLine.is tt)
     (done-answers g.C.Commands.awaits c.args.self.now c.in-AnswersLine.field-0 (λ to. JobStands g.C.Commands.awaits c.answer.new.self to) c.in-AnswersLine.is
     c.answer.ensures.ready)
 
 pub returns-in-DismissesInput-clause-ready : goal.returns-in-DismissesInput-clause-ready
 returns-in-DismissesInput-clause-ready g c =
     done-else g.C.Commands.awaits c.args.self.now (λ to. JobStands g.C.Commands.awaits (record c.args.self.now { place = here.DismissesOutput }) to)
-    (λ e. let is = c.in-DismissesInput.is in cc)
+    (no-toils _ _ c.in-DismissesInput.is tt)
     (done-dismisses_input g.C.Commands.awaits c.args.self.now c.in-DismissesInput.is)
 
 pub returns-in-DismissesOutput-clause-ready : goal.returns-in-DismissesOutput-clause-ready
 returns-in-DismissesOutput-clause-ready g c =
     done-else g.C.Commands.awaits c.args.self.now (λ to. JobStands g.C.Commands.awaits (record c.args.self.now { place = here.HasLeft }) to)
-    (λ e. let is = c.in-DismissesOutput.is in cc)
+    (no-toils _ _ c.in-DismissesOutput.is tt)
     (done-dismisses_output g.C.Commands.awaits c.args.self.now c.in-DismissesOutput.is)
 
 pub returns-in_default-clause-ready : goal.returns-in_default-clause-ready
