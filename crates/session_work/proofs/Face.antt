@@ -1,7 +1,9 @@
 -- From pieces of work to what the job process asks of commands.
-use Rattle.std.proofs.Common.{◌≡◌, ℕ, List, [], ◌∷◌, ◌++◌, Option, None, Some, Result, Ok, Err, refl, sym, ◌∙◌, ap, subst}
+use Rattle.std.proofs.Common.{◌≡◌, ℕ, true, List, [], ◌∷◌, ◌++◌, Option, None, Some, Result, Ok, Err, refl, sym, ◌∙◌, ap, subst}
 use Rattle.std.specs.Prelude.{IfOk}
 use Rattle.disk_layout.specs.Files.{Files, files as file_map}
+use Rattle.disk_layout.specs.Format.{IsSoloDisk}
+use Rattle.disk_files.specs.Answers.{stays_sound}
 use Rattle.solo_law.specs.Work.{Given, Plan}
 use Rattle.solo_law.specs.Devices.{plan_behind}
 use Rattle.solo_procs.specs.Commands.{AtLine, kind_given, Comes, LeadsSo}
@@ -17,7 +19,7 @@ use Rattle.session_work.specs.declared.session.UnderWay.TheVariants as under_way
 use Rattle.session_work.specs.Pausing.{StandsAt, Awaits, kind_of}
 use Rattle.session_work.proofs.Answering.{at-pause}
 use Rattle.solo_work.specs.Paper.{IsHand}
-use Rattle.session_work.specs.Working.{Reaches, CameTo, StopsAmong, WorkedSo, LeadsTo, PieceIs, PieceSo}
+use Rattle.session_work.specs.Working.{of_work, Reaches, CameTo, StopsAmong, WorkedSo, LeadsTo, PieceIs, PieceSo}
 use Rattle.session_work.specs.Facing.{OpensWith, PlansFrom, LedTo, PassedTo, Follows, Passes}
 
 -- ---- The need
@@ -61,9 +63,10 @@ same-stand given s t files same is =
 
 pub piece-leads : (given : Given) (old now : Session) (opening before after : Option (List (List ℕ))) (givens : List Given) (result : Result Need WorkFault)
     → PieceSo given old before result now after
+    → (stays_sound (of_work result) ≡ true → (left : List (List ℕ)) → after ≡ Some left → IsSoloDisk left)
     → Follows old opening givens before
     → LeadsSo result (Follows now opening (givens ++ given ∷ []) after) (Passes opening (givens ++ given ∷ []) after)
-piece-leads given old now opening before after givens (Ok need) so follows = (
+piece-leads given old now opening before after givens (Ok need) so solo follows = (
   λ pages told.
       let led = follows pages told in
       let s = stands_behind (file_map pages) givens in
@@ -76,6 +79,7 @@ piece-leads given old now opening before after givens (Ok need) so follows = (
         told = r.told;
         files = sym (files ∙ r.files);
         stands = subst (StandsAt now (file_map r.left)) (sym pause) r.stands;
+        solo = λ was. solo refl r.left r.told;
       },
   λ pages told.
       let led = follows pages told in
@@ -88,10 +92,11 @@ piece-leads given old now opening before after givens (Ok need) so follows = (
         left = r.left;
         told = r.told;
         comes = subst (ComesBy (file_map pages) (givens ++ given ∷ [])) (files ∙ r.files) (behind-passed (file_map pages) (givens ++ given ∷ []));
+        solo = λ was. solo refl r.left r.told;
       },
 )
-piece-leads given old now opening before after givens (Err Failed) so follows = tt
-piece-leads given old now opening before after givens (Err NoMemory) so follows =
+piece-leads given old now opening before after givens (Err Failed) so solo follows = tt
+piece-leads given old now opening before after givens (Err NoMemory) so solo follows =
     λ pages told.
     let led = follows pages told in
     let s = stands_behind (file_map pages) givens in
@@ -103,6 +108,7 @@ piece-leads given old now opening before after givens (Err NoMemory) so follows 
       comes =
           (each-piece (file_map pages) givens given).passes (file_map stops.left)
           (subst (λ all. IsAmong (file_map stops.left) all (resumes given all s.pause).maps) led.files stops.among);
+      solo = λ was. solo refl stops.left stops.told_left;
     }
 
 -- ---- The beginning
@@ -113,10 +119,10 @@ opening-plans s opening plan stands opens =
     record { pages = opens.pages; told = opens.told; pause = Idle; stands = stands (file_map opens.pages); is = opens.is }
 
 pub opening-follows : (s : Session) (opening : Option (List (List ℕ))) → ((all : Files) → StandsAt s all Idle) → Follows s opening [] opening
-opening-follows s opening stands = λ pages told. record { left = pages; told = told; files = refl; stands = stands (file_map pages) }
+opening-follows s opening stands = λ pages told. record { left = pages; told = told; files = refl; stands = stands (file_map pages); solo = λ was. was }
 
 pub opening-passes : (opening : Option (List (List ℕ))) → Passes opening [] opening
-opening-passes opening = λ pages told. record { left = pages; told = told; comes = refl }
+opening-passes opening = λ pages told. record { left = pages; told = told; comes = refl; solo = λ was. was }
 
 pub at-rest : (s : Session) → s.under_way ≡ under_way.Idle → IsHand s.paper 0 [] → (all : Files) → StandsAt s all Idle
 at-rest s idle hand_is all = at-pause s all Idle 0 [] under_way.Idle idle hand_is refl

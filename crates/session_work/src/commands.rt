@@ -58,6 +58,9 @@ impl<A: Area> Commands for SessionCommands<A> {
     }
 
     fn work(&mut self, given: Given, files: &mut FileArea<A>) -> Result<Need, WorkFault> {
-        self.session.work(given, files)
+        let need = self.session.work(given, files);
+        // that the pages of sound files are a Solo disk is known where it is asked
+        let _sound = files.sound();
+        need
     }
 }

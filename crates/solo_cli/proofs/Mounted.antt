@@ -35,9 +35,8 @@ moved before mid = record before { files = mid.files }
 pub untouched : {S Y K T F I O : Type 0} (before mid after : Kit S Y K T F I O) → Untouched (moved before mid) after → Untouched before after
 untouched before mid after u = record { deck = u.deck; paper = u.paper; input = u.input; output = u.output }
 
-pub disk-on : {S Y K T F I O : Type 0} (before mid after : Kit S Y K T F I O) → before.files.faults ≤ mid.files.faults
-    → Rose before.input.faults after.input.faults ⊎ Rose before.output.faults after.output.faults ⊎ Rose mid.files.faults after.files.faults
-    → Rose before.input.faults after.input.faults ⊎ Rose before.output.faults after.output.faults ⊎ Rose before.files.faults after.files.faults
+pub disk-on : {S Y K T F I O : Type 0} (before mid after : Kit S Y K T F I O) {A B : Type 0} → before.files.faults ≤ mid.files.faults
+    → A ⊎ B ⊎ Rose mid.files.faults after.files.faults → A ⊎ B ⊎ Rose before.files.faults after.files.faults
 disk-on before mid after later (inl rose) = inl rose
 disk-on before mid after later (inr (inl rose)) = inr (inl rose)
 disk-on before mid after later (inr (inr rose)) = inr (inr (omega (arith, later, rose)))
@@ -82,6 +81,7 @@ module _ {S Y K T F I O : Type 0} {before mid after : Kit S Y K T F I O} {answer
   abbrev core-ends : (n : ℕ) → CoreEnds (Numbered n) (moved before mid) after answer → CoreEnds (Numbered n) before after answer
   core-ends n e = record {
     ends = deck-ends e.ends;
+    own = λ is. disk-on before mid after m.later (e.own is);
     counts = e.counts;
     devices = e.devices;
     runs = subst (λ pages. RunsToEnd deck_jobs (Numbered n)

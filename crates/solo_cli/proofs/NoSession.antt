@@ -64,7 +64,7 @@ module _ {S Y K T F I O : Type 0} {before after : Kit S Y K T F I O} {answer : O
           paper = silent before.paper.given after.paper.given (text told.paper) (ap (λ t. t.given) none.untouched.paper) some;
           keys = record { emptied = λ bytes told none. absurd (some none); longer = λ bytes told more none. some none };
           last_files = λ none. absurd (some none);
-          files = λ stayed. (files pages, (0, omega arith, refl), (pages, none.files ∙ files_told, refl));
+          files = λ stayed. (files pages, (0, omega arith, refl), (pages, none.files ∙ files_told, (solo, refl)));
         };
     ends = inr none;
   }

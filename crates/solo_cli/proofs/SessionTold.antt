@@ -37,11 +37,12 @@ use Rattle.solo_cli.proofs.SessionEnding.{beyond, few-typed, is-3, session-answe
 use Rattle.solo_cli.proofs.SessionFiles.{among-maps, typed-to-end}
 
 -- ---- what the run is
--- the area tells the files to which work that began so led
+-- the area tells the files to which work that began so led, and a Solo disk is still one
 pub record AreLedTo (opening : List (List ℕ)) (before : List Given) (now : Option (List (List ℕ))) : Type 0 where
   pub left : List (List ℕ)
   pub told : now ≡ Some left
   pub files : files left ≡ (behind_pieces before (at_rest (files opening))).files
+  pub solo : IsSoloDisk opening → IsSoloDisk left
 
 -- The run behind the command: it began with these cards, typed lines and files, ended so, and left the files
 -- somewhere along its work.
@@ -65,7 +66,7 @@ pub record RanSession {S Y K T F I O : Type 0} (before after : Kit S Y K T F I O
       → HavePassed devices (PassedTo pages) (begun (state.histories 2)) after.files.pages
 
 module _ {S Y K T F I O : Type 0} {before after : Kit S Y K T F I O} {answer : Option Refusal} where
-  module _ (ends : SessionEnds before after answer) (deck typed : List ℕ) (pages : List (List ℕ))
+  module _ (ends : SessionEnds before after answer) (deck typed : List ℕ) (pages : List (List ℕ)) (solo : IsSoloDisk pages)
       (ran : RanSession before after ends.outcomes deck typed pages) where
     abbrev all : Files
     all = files pages
@@ -84,7 +85,7 @@ module _ {S Y K T F I O : Type 0} {before after : Kit S Y K T F I O} {answer : O
     first-maps givens first p = (
       files p.left,
       among-maps (files p.left) all (maps_passed givens (at_rest all)) first.0 (session (cards typed) (cards deck) all).maps first.1 p.comes,
-      (p.left, p.told, refl),
+      (p.left, p.told, (p.solo solo, refl)),
     )
 
     one-of-maps : HavePassed ran.devices (PassedTo pages) (begun (ran.state.histories 2)) after.files.pages
@@ -103,7 +104,7 @@ module _ {S Y K T F I O : Type 0} {before after : Kit S Y K T F I O} {answer : O
     last-files : answer ≡ None → Told after.files.pages (HaveFiles (last_map (cards typed) (cards deck) all))
     last-files none =
         let led = ran.led (job-done none) in
-        (led.left, led.told, led.files ∙ told.last_files (ended-at 2 is-2 refl none))
+        (led.left, led.told, (led.solo solo, led.files ∙ told.last_files (ended-at 2 is-2 refl none)))
 
     -- ---- all of it
     tells-session : before.keys.taken ≡ 0 → bytes_total after.keys.taken after.keys.left ≡ bytes_total before.keys.taken before.keys.left
@@ -128,7 +129,7 @@ module _ {S Y K T F I O : Type 0} {before after : Kit S Y K T F I O} {answer : O
   session-ran ends three ready deck_total keys_total kept size runs = (
     record {
       tells = λ deck typed pages deck_told keys_told files_told solo.
-          tells-session ends deck typed pages (runs deck typed pages deck_told keys_told files_told solo) ready.keys keys_total
+          tells-session ends deck typed pages solo (runs deck typed pages deck_told keys_told files_told solo) ready.keys keys_total
           (λ none more. few-typed answer none (beyond ends three ready.deck ready.keys (inr more)));
       ends = inl ends;
     },

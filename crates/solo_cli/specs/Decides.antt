@@ -1,14 +1,15 @@
 -- The cause that decides how a run ended.
-use Rattle.std.specs.Prelude.{◌≡◌, ◌≤◌, ◌<◌, ◌⊎◌, List, [], ◌∷◌, Option, Some, None, IfSome, nat_le, if◌then◌else◌}
+use Rattle.std.specs.Prelude.{◌≡◌, ◌≤◌, ◌<◌, ◌⊎◌, ◌+◌, List, [], ◌∷◌, Option, Some, None, IfSome, nat_le, if◌then◌else◌}
 use Rattle.solo_base.specs.declared.outcome.Cause.{Cause}
 use Rattle.solo_base.specs.declared.outcome.Cause.TheVariants as cause
 use Rattle.solo_base.specs.declared.outcome.Outcome.{Outcome}
 use Rattle.solo_base.specs.declared.outcome.Outcome.TheVariants.{Done, Fault, Stopped}
 use Rattle.solo_base.specs.declared.outcome.Side.{Side}
-use Rattle.solo_devices.specs.Count.{Rose}
+use Rattle.solo_devices.specs.Count.{Rose, raised}
 use Rattle.solo_devices.specs.CardUnit.{byte_limit}
 use Rattle.batch_ends.specs.declared.ends.Outcomes.{Outcomes}
 use Rattle.batch_ends.specs.Ended.{EndTogether, FaultsAre, all_done}
+use Rattle.core_net.specs.Faults.{disk_fault}
 use Rattle.solo_cli.specs.declared.refusal.Refusal.{Refusal}
 use Rattle.solo_cli.specs.declared.refusal.Refusal.TheVariants as refusal
 use Rattle.solo_cli.specs.Devices.{Kit}
@@ -64,6 +65,16 @@ pub record FaultsCounted {S Y K T F I O : Type 0} (before after : Kit S Y K T F 
       ⊎ Rose before.output.faults after.output.faults ⊎ Rose before.files.faults after.files.faults
   pub output : outcomes.output ≡ Fault cause.DiskFault → Rose before.output.faults after.output.faults
   pub print : outcomes.printer ≡ Fault cause.PrintFault → Rose before.paper.faults after.paper.faults
+
+-- The job process met its fault of the disk in a call of its own: at one of the spools a failure was counted
+-- beside that of the other process there, or at the files.
+abbrev pub JobMeetsItsOwn : {S Y K T F I O : Type 0} → Kit S Y K T F I O → Kit S Y K T F I O → Outcomes
+    → Type 0
+JobMeetsItsOwn before after outcomes =
+    outcomes.job ≡ Fault cause.DiskFault
+    → (raised before.input.faults (disk_fault outcomes.input + 1) ≤ after.input.faults)
+    ⊎ (raised before.output.faults (disk_fault outcomes.output + 1) ≤ after.output.faults)
+    ⊎ Rose before.files.faults after.files.faults
 
 -- how a run of the deck ended
 pub record DeckEnds {S Y K T F I O : Type 0} (Behind : Cause → Type 0) (before after : Kit S Y K T F I O)

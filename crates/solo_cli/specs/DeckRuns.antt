@@ -24,7 +24,7 @@ use Rattle.core_net.specs.WholeRuns.{RunsToEnd}
 use Rattle.deck_work.specs.DeckJobs.{AreFound, deck_jobs, files_found}
 use Rattle.solo_cli.specs.declared.refusal.Refusal.{Refusal}
 use Rattle.solo_cli.specs.CountsLine.{counts_line}
-use Rattle.solo_cli.specs.Decides.{DeckEnds, LineBehind, Nothing}
+use Rattle.solo_cli.specs.Decides.{DeckEnds, JobMeetsItsOwn, LineBehind, Nothing}
 use Rattle.solo_cli.specs.Devices.{AreaTold, Kit}
 use Rattle.solo_cli.specs.Mounting.{Untouched}
 use Rattle.solo_cli.specs.Reading.{ReadsToEnd}
@@ -85,6 +85,7 @@ pub record GainsCounted (rule : Rule) (s : CoreState Loaded) (before now : Optio
 pub record CoreEnds {S Y K T F I O : Type 0} (rule : Rule) (before after : Kit S Y K T F I O)
     (answer : Option Refusal) : Type 0 where
   pub ends : DeckEnds (LineBehind before after) before after answer
+  pub own : JobMeetsItsOwn before after ends.five.outcomes
   pub counts : Counts
   pub devices : CoreDevices Loaded
   pub runs : RunsToEnd deck_jobs rule

@@ -26,9 +26,9 @@ use Rattle.solo_cli.specs.Refusals.{OfFault}
 use Rattle.solo_cli.specs.Status.{number_of}
 
 -- ---- what it comes to
--- pages with these files
+-- pages of a Solo disk with these files
 abbrev pub HaveFiles : Files → List (List ℕ) → Type 0
-HaveFiles all pages = files pages ≡ all
+HaveFiles all pages = IsSoloDisk pages × (files pages ≡ all)
 
 -- Of what one thread tells, with these files at its end: console and paper gain its lines or a prefix of
 -- them, and all of them where there is no cause, when no typed line is left and these are the files. Unless a

@@ -47,6 +47,7 @@ returns-in-Some-clause-ran g c =
           print = λ is. subst (λ unit. Rose (sink.faults unit.sink) (sink.faults ran.units.paper.sink)) c.new-2.ensures (e.counted.print is);
         };
       };
+      own = e.own;
       counts = c.run_core-ran.result.1;
       devices = _;
       runs = subst (λ unit. RunsToEnd deck_jobs (Numbered c.args.schedule)
@@ -125,6 +126,7 @@ returns-in-None-clause-ran g c =
               omega (arith, rose, counts_on);
         };
       };
+      own = e.own;
       counts = counts;
       devices = _;
       runs = subst (λ unit. RunsToEnd deck_jobs (Numbered c.args.schedule)

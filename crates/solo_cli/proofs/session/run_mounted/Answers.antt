@@ -36,7 +36,7 @@ returns-in-Ok g c =
           (c.came_to.ensures.size ∙ sym c.requires.ready.files)
           (λ cards keys pages cards_told keys_told files_told solo.
           ran-session s y k t f i o _ ran pages _ _
-          (λ givens commands led. let is = led pages files_told in record { left = is.left; told = is.told; files = is.files })
+          (λ givens commands led. let is = led pages files_told in record { left = is.left; told = is.told; files = is.files; solo = is.solo })
           (λ givens passed. passed pages files_told)
           d.deck d.keys d.paper d.console d.files.area d.input d.output cards keys c.new.ensures c.new-2.ensures.keys c.new-2.ensures.console
           c.new-3.ensures cards_told keys_told (e.ran _ (opened _ pages files_told)));

@@ -6,12 +6,13 @@ use Rattle.session_work.proofs.commands.SessionCommandsCommands.work.Goals as go
 
 pub returns-clause-comes : goal.returns-clause-comes
 returns-clause-comes g c = λ pages awaits.
-    comes-if (given_of c.args.given) c.args.self.now c.work.new.self (g.A.Area.pages c.args.files.now.area) (g.A.Area.pages c.work.new.files.area)
-    c.work.result pages (subst (λ s. PieceSo (given_of c.args.given) s (g.A.Area.pages c.args.files.now.area) c.work.result c.work.new.self
-    (g.A.Area.pages c.work.new.files.area)) c.self.view_is c.work.ensures.piece) awaits
+    comes-if (given_of c.args.given) c.args.self.now c.work-need.new.self (g.A.Area.pages c.args.files.now.area) (g.A.Area.pages c.work-need.new.files.area)
+    c.work-need.result pages (subst (λ s. PieceSo (given_of c.args.given) s (g.A.Area.pages c.args.files.now.area) c.work-need.result c.work-need.new.self
+    (g.A.Area.pages c.work-need.new.files.area)) c.self.view_is c.work-need.ensures.piece) awaits
 
 pub returns-clause-follows : goal.returns-clause-follows
 returns-clause-follows g c = λ opening before follows.
-    piece-leads (given_of c.args.given) c.args.self.now c.work.new.self (g.A.Area.pages opening.area) (g.A.Area.pages c.args.files.now.area)
-    (g.A.Area.pages c.work.new.files.area) before c.work.result (subst (λ s. PieceSo (given_of c.args.given) s (g.A.Area.pages c.args.files.now.area) c.work.result c.work.new.self
-    (g.A.Area.pages c.work.new.files.area)) c.self.view_is c.work.ensures.piece) follows
+    piece-leads (given_of c.args.given) c.args.self.now c.work-need.new.self (g.A.Area.pages opening.area) (g.A.Area.pages c.args.files.now.area)
+    (g.A.Area.pages c.work-need.new.files.area) before c.work-need.result (subst (λ s. PieceSo (given_of c.args.given) s (g.A.Area.pages c.args.files.now.area) c.work-need.result c.work-need.new.self
+    (g.A.Area.pages c.work-need.new.files.area)) c.self.view_is c.work-need.ensures.piece)
+    (λ stays. c.sound-sound.ensures.solo (c.sound-sound.ensures.value ∙ c.work-need.ensures.sound ∙ stays)) follows
