@@ -3,7 +3,6 @@ use Rattle.std.specs.Prelude.{◌≡◌, ◌⊎◌, List, [], ◌∷◌, ◌++�
 use Rattle.disk_layout.specs.Files.{Files}
 use Rattle.solo_needs.specs.Needs.{Given}
 use Rattle.session_law.specs.Plans.{FilesAndPause, at_rest, piece, behind, behind_pieces, plan_from, maps_passed}
-use Rattle.solo_law.specs.Work.{Plan}
 use Rattle.solo_law.specs.Devices.{plan_behind}
 
 -- these files are the first, or some to which those were changed

@@ -18,7 +18,8 @@ use Rattle.solo_ends.specs.declared.units.SoloRan.{SoloRan}
 use Rattle.solo_ends.specs.declared.units.SoloUnits.{SoloUnits}
 use Rattle.solo_ends.specs.Faults.{AreCounted, Counts, Peripherals, counting}
 use Rattle.solo_run.specs.Job.{job_world}
-use Rattle.solo_run.specs.Ran.{HavePassed, IsOpenedBy, IsRunOf, told_by}
+use Rattle.solo_run.specs.Ran.{HavePassed, IsRunOf, told_by}
+use Rattle.solo_ends.specs.Told.{IsOpenedBy}
 use Rattle.session_work.specs.Facing.{OpensWith, PassedTo}
 use Rattle.solo_cli.specs.Devices.{Kit, kit}
 use Rattle.solo_cli.specs.Sessions.{as_peripherals, counts_told}

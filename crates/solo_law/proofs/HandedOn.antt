@@ -40,7 +40,7 @@ use Rattle.solo_law.proofs.Placed.{each-process, is-2, seats, placed, solo-lawfu
 use Rattle.solo_law.proofs.Shown.{lacking-some}
 use Rattle.solo_law.proofs.InputFiles.{off}
 use Rattle.solo_law.proofs.JobFiles.{cards_by, cards_behind, as_given, IsNextFile, AreNextFiles, files-are-next}
-use Rattle.solo_law.proofs.Nones.{no-some}
+use Rattle.solo_law.proofs.Nones.{no-none, no-some}
 
 -- ---- one piece of work more
 on-one : (before : Need) (ahead : Ahead) (givens : List Given) (found : List Need) (last : Need) (left : Ahead) (given : Given) (behind : Ahead) (need : Need)
@@ -378,7 +378,7 @@ module _ (cards keys : List Item) where
   left-ends : (a : JobPlace) (last : Need) (left : Ahead) (behind now : List Item) → ends_so (job_does a) ≡ Some outcome.Done
       → StandsAt a last left (unread behind now) → (hands last left ≡ None) × (now ≡ [])
   left-ends at.HasLeft last left behind now e is = (is.0 ∙ ap (line_handed behind) is.1, is.1)
-  left-ends other last left behind now e is = absurd cc
+  left-ends other last left behind now e is = absurd (no-none e)
 
   pub begins-so : (d : Devices) (s : SoloState) → d.cards ≡ Some cards → d.keys ≡ Some keys → IsReached d s → WorkHanded cards keys s
   begins-so d s cards_told keys_told reached =

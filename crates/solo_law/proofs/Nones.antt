@@ -1,5 +1,5 @@
 -- What is some isn't none.
-use Rattle.std.proofs.Common.{◌≡◌, Option, None, Some}
+use Rattle.std.proofs.Common.{◌≡◌, None, Some}
 
 pub no-some : {A : Type 0} {x : A} → Some x ≡ None → ⊥
 no-some e = cc

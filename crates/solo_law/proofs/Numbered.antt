@@ -31,6 +31,7 @@ use Rattle.solo_law.specs.JobPlaces.{JobPlace, Behind, GoesOn, EndsWith, job_doe
 use Rattle.solo_law.specs.JobPlaces as at
 use Rattle.solo_law.specs.Solo.{table, solo, SoloEntry}
 use Rattle.solo_law.proofs.Placed.{is-1, is-2, placed}
+use Rattle.solo_law.proofs.Nones.{no-some}
 
 -- ---- input: with so many pages of the card file put
 abbrev InputSo : InputPlace → ℕ → Type 0
@@ -118,13 +119,14 @@ input-answered (input_at.Reports sound) act.Done parcels fits is =
 input-answered input_at.IsOver act.Done parcels fits is =
     still (InputSo input_at.IsOver) (NextInput input_at.IsOver act.Done) parcels (λ n e free. e) is
 input-answered input_at.AwaitsOrder act.Stopped parcels fits is =
-    still (InputSo input_at.AwaitsOrder) (NextInput input_at.AwaitsOrder act.Stopped) parcels (λ n e free. absurd cc) is
+    still (InputSo input_at.AwaitsOrder) (NextInput input_at.AwaitsOrder act.Stopped) parcels (λ n e free. absurd (no-some free)) is
 input-answered (input_at.PutsFull page pages hand) act.Stopped parcels fits is =
-    still (InputSo (input_at.PutsFull page pages hand)) (NextInput (input_at.PutsFull page pages hand) act.Stopped) parcels (λ n e free. absurd cc) is
+    still (InputSo (input_at.PutsFull page pages hand)) (NextInput (input_at.PutsFull page pages hand) act.Stopped) parcels
+    (λ n e free. absurd (no-some free)) is
 input-answered (input_at.PutsLast page sound) act.Stopped parcels fits is =
-    still (InputSo (input_at.PutsLast page sound)) (NextInput (input_at.PutsLast page sound) act.Stopped) parcels (λ n e free. absurd cc) is
+    still (InputSo (input_at.PutsLast page sound)) (NextInput (input_at.PutsLast page sound) act.Stopped) parcels (λ n e free. absurd (no-some free)) is
 input-answered (input_at.Reports sound) act.Stopped parcels fits is =
-    still (InputSo (input_at.Reports sound)) (NextInput (input_at.Reports sound) act.Stopped) parcels (λ n e free. absurd cc) is
+    still (InputSo (input_at.Reports sound)) (NextInput (input_at.Reports sound) act.Stopped) parcels (λ n e free. absurd (no-some free)) is
 input-answered a reply parcels fits is = absurd fits
 
 abbrev InputMoved : InputPlace → List (Act Parcel) → Type 0
@@ -215,45 +217,46 @@ job-answered : (a : JobPlace) (reply : Reply) (parcels : List Parcel) → Fits (
 job-answered at.Listens (act.OfCard answer) parcels fits is = on at.Listens (act.OfCard answer) parcels is (λ n e free. typed-so answer n e)
 job-answered (at.Toils work) (act.Found need) parcels fits is =
     on (at.Toils work) (act.Found need) parcels is (λ n e free. meets-so work.pages need n fits e)
-job-answered (at.Toils work) act.Failed parcels fits is = on (at.Toils work) act.Failed parcels is (λ n e free. absurd cc)
-job-answered (at.Toils work) act.NoMemory parcels fits is = on (at.Toils work) act.NoMemory parcels is (λ n e free. absurd cc)
+job-answered (at.Toils work) act.Failed parcels fits is = on (at.Toils work) act.Failed parcels is (λ n e free. absurd (no-some free))
+job-answered (at.Toils work) act.NoMemory parcels fits is = on (at.Toils work) act.NoMemory parcels is (λ n e free. absurd (no-some free))
 job-answered (at.OrdersCards pages) act.Done parcels fits is = on (at.OrdersCards pages) act.Done parcels is (λ n e free. e)
-job-answered (at.OrdersCards pages) act.Stopped parcels fits is = on (at.OrdersCards pages) act.Stopped parcels is (λ n e free. absurd cc)
+job-answered (at.OrdersCards pages) act.Stopped parcels fits is = on (at.OrdersCards pages) act.Stopped parcels is (λ n e free. absurd (no-some free))
 job-answered (at.TakesCards taken items pages) (act.OfPage page) parcels fits is =
     on (at.TakesCards taken items pages) (act.OfPage page) parcels is
     (λ n e free. cards-so (is_last page) (taken + 1) (items ++ items_read (page_gives taken page)) pages n e)
 job-answered (at.TakesCards taken items pages) act.Stopped parcels fits is =
-    on (at.TakesCards taken items pages) act.Stopped parcels is (λ n e free. absurd cc)
+    on (at.TakesCards taken items pages) act.Stopped parcels is (λ n e free. absurd (no-some free))
 job-answered (at.TakesReport items pages) (act.OfArg report) parcels fits is =
     on (at.TakesReport items pages) (act.OfArg report) parcels is (λ n e free. report-so items pages report n e) where
       report-so : (items : List Item) (pages : ℕ) (report : _) (n : ℕ) → pages ≡ n → JobSo (job_behind (at.TakesReport items pages) (act.OfArg report)) n
       report-so items pages report n e = e
 job-answered (at.TakesReport items pages) act.Stopped parcels fits is =
-    on (at.TakesReport items pages) act.Stopped parcels is (λ n e free. absurd cc)
+    on (at.TakesReport items pages) act.Stopped parcels is (λ n e free. absurd (no-some free))
 job-answered (at.Accepts pages) (act.OfCard answer) parcels fits is =
     on (at.Accepts pages) (act.OfCard answer) parcels is (λ n e free. accepted-so pages answer n e)
 job-answered (at.Displays line pages) act.Done parcels fits is = on (at.Displays line pages) act.Done parcels is (λ n e free. e)
-job-answered (at.Displays line pages) act.Failed parcels fits is = on (at.Displays line pages) act.Failed parcels is (λ n e free. absurd cc)
-job-answered (at.Displays line pages) act.NoMemory parcels fits is = on (at.Displays line pages) act.NoMemory parcels is (λ n e free. absurd cc)
+job-answered (at.Displays line pages) act.Failed parcels fits is = on (at.Displays line pages) act.Failed parcels is (λ n e free. absurd (no-some free))
+job-answered (at.Displays line pages) act.NoMemory parcels fits is = on (at.Displays line pages) act.NoMemory parcels is (λ n e free. absurd (no-some free))
 job-answered (at.OrdersPrinter page behind) act.Done parcels fits is = on (at.OrdersPrinter page behind) act.Done parcels is (λ n e free. e)
 job-answered (at.OrdersPrinter page behind) act.Stopped parcels fits is =
-    on (at.OrdersPrinter page behind) act.Stopped parcels is (λ n e free. absurd cc)
+    on (at.OrdersPrinter page behind) act.Stopped parcels is (λ n e free. absurd (no-some free))
 job-answered (at.PutsPage page behind pages) act.Done parcels fits is =
     page-put (NextJob (at.PutsPage page behind pages) act.Done) parcels (last_by behind) page is.numbered is.so.1
     (λ free. put-so behind pages (count_after 0 parcels) is.so.0)
 job-answered (at.PutsPage page behind pages) act.Stopped parcels fits is =
-    on (at.PutsPage page behind pages) act.Stopped parcels is (λ n e free. absurd cc)
+    on (at.PutsPage page behind pages) act.Stopped parcels is (λ n e free. absurd (no-some free))
 job-answered (at.TakesPrinted lines) (act.OfArg report) parcels fits is =
     on (at.TakesPrinted lines) (act.OfArg report) parcels is (λ n e free. answers-so lines n e)
-job-answered (at.TakesPrinted lines) act.Stopped parcels fits is = on (at.TakesPrinted lines) act.Stopped parcels is (λ n e free. absurd cc)
+job-answered (at.TakesPrinted lines) act.Stopped parcels fits is = on (at.TakesPrinted lines) act.Stopped parcels is (λ n e free. absurd (no-some free))
 job-answered (at.AnswersLine line later) act.Done parcels fits is =
     on (at.AnswersLine line later) act.Done parcels is (λ n e free. answers-so later n e)
-job-answered (at.AnswersLine line later) act.Failed parcels fits is = on (at.AnswersLine line later) act.Failed parcels is (λ n e free. absurd cc)
-job-answered (at.AnswersLine line later) act.NoMemory parcels fits is = on (at.AnswersLine line later) act.NoMemory parcels is (λ n e free. absurd cc)
+job-answered (at.AnswersLine line later) act.Failed parcels fits is = on (at.AnswersLine line later) act.Failed parcels is (λ n e free. absurd (no-some free))
+job-answered (at.AnswersLine line later) act.NoMemory parcels fits is =
+    on (at.AnswersLine line later) act.NoMemory parcels is (λ n e free. absurd (no-some free))
 job-answered at.DismissesInput act.Done parcels fits is = on at.DismissesInput act.Done parcels is (λ n e free. e)
-job-answered at.DismissesInput act.Stopped parcels fits is = on at.DismissesInput act.Stopped parcels is (λ n e free. absurd cc)
+job-answered at.DismissesInput act.Stopped parcels fits is = on at.DismissesInput act.Stopped parcels is (λ n e free. absurd (no-some free))
 job-answered at.DismissesOutput act.Done parcels fits is = on at.DismissesOutput act.Done parcels is (λ n e free. e)
-job-answered at.DismissesOutput act.Stopped parcels fits is = on at.DismissesOutput act.Stopped parcels is (λ n e free. absurd cc)
+job-answered at.DismissesOutput act.Stopped parcels fits is = on at.DismissesOutput act.Stopped parcels is (λ n e free. absurd (no-some free))
 job-answered at.HasLeft act.Done parcels fits is = on at.HasLeft act.Done parcels is (λ n e free. e)
 job-answered a reply parcels fits is = absurd fits
 

@@ -47,7 +47,8 @@ use Rattle.solo_net.specs.Actions.{SoloHasPlace}
 use Rattle.solo_net.specs.SixBuffers.{first_stops}
 use Rattle.solo_net.specs.Telling.{Tells}
 use Rattle.solo_net.specs.Net.{CommandsOf, input_at, output_at, SoloNetStands, AreSome}
-use Rattle.solo_net.specs.Ended.{SoloHaveEnded, EndsSo, JobDone, BothDone, TellsPlan}
+use Rattle.solo_net.specs.Ended.{SoloHaveEnded, EndsSo}
+use Rattle.solo_ends.specs.Told.{JobDone, BothDone, TellsPlan}
 use Rattle.solo_net.proofs.Placing.{next-place}
 use Rattle.solo_net.proofs.Visiting.{each-buffer}
 
@@ -213,7 +214,7 @@ module _ {C F S Y K T : Type 0} (commands : CommandsOf C F) (tells : Tells S Y K
 
     pub tells-plan : (ran : SoloRan S Y K T F) → ran.outcomes ≡ outcomes → ran.units ≡ net.shared.units → (cards keys : List Item) (plan : Plan)
         → at.opening.devices.cards ≡ Some cards → at.opening.devices.keys ≡ Some keys → at.opening.devices.work ≡ Some plan
-        → TellsPlan tells cards keys plan at.opening.devices ran
+        → TellsPlan tells.keys.left tells.console.given tells.paper.given cards keys plan at.opening.devices.console at.opening.devices.paper ran
     tells-plan ran outcomes-are units-are cards keys plan c-told k-told w-told =
         let begins = holds.begins cards keys c-told k-told in
         let same = holds.works plan w-told in

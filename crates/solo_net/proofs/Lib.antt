@@ -1,5 +1,6 @@
 mod SlotCalls
 mod Visiting
+mod Calling
 mod Placing
 mod DeviceCalls
 mod Performing

@@ -8,7 +8,8 @@ use Rattle.solo_law.specs.Work.{Plan}
 use Rattle.solo_law.specs.Devices.{AreSound}
 use Rattle.solo_ends.specs.declared.units.SoloUnits.{SoloUnits}
 use Rattle.solo_net.specs.Telling.{Tells}
-use Rattle.solo_net.specs.Net.{IsOpenedBy, solo_told_by}
+use Rattle.solo_net.specs.Net.{solo_told_by}
+use Rattle.solo_ends.specs.Told.{IsOpenedBy}
 
 same-items : (a b : List Item) → Some a ≡ Some b → a ≡ b
 same-items a b e = cc

@@ -98,14 +98,15 @@ module _ {S Y K T F : Type 0} (Stands : List SoloEntry → Type 0) (tells : Tell
       }
       by action reply may is = absurd may
 
-  module _ (ends again : Bool) (result : Stepped) (result-is : result ≡ stepped_so false ends again) (ends-is : ends ≡ is_end r)
-      (again-is : (s : SoloState) → SoloBuffersStand old.buffers s.buffers → SoloHasPlace (unsaid r) → again ≡ is_again s (call p (unsaid r))) where
+  module _ (result : Stepped) (result-is : (s : SoloState) → SoloBuffersStand old.buffers s.buffers → SoloHasPlace (unsaid r)
+      → result ≡ stepped_so false (is_end r) (is_again s (call p (unsaid r)))) where
     told-so : (reply : Reply) (s : SoloState) → SoloBuffersStand old.buffers s.buffers → SoloHasPlace a
         → result ≡ stepped_so (is_delayed (view.went a reply)) (is_end (said a)) (is_again s (call p a))
     told-so reply s stood place =
         let a-is = unsaid-is r a same no_work in
-        result-is ∙ same-stepped _ _ _ _ _ _ (sym (not-delayed (view.went a reply) (placed.answered a reply))) (ends-is ∙ ap is_end (sym same))
-        (again-is s stood (subst SoloHasPlace (sym a-is) place) ∙ ap (λ a. is_again s (call p a)) a-is)
+        result-is s stood (subst SoloHasPlace (sym a-is) place)
+        ∙ same-stepped _ _ _ _ _ _ (sym (not-delayed (view.went a reply) (placed.answered a reply))) (ap is_end (sym same))
+        (ap (λ a. is_again s (call p a)) a-is)
 
     pub steps-acted : (reply : SoloReply) → Performs tells old new p (unsaid r) (Some reply) → (Fits a (heard reply) → Stands (Does a (heard reply) ∷ h))
         → Steps Stands tells old new p a h result

@@ -34,6 +34,9 @@ use Rattle.solo_net.specs.Turns.{SoloIsAtTurn}
 use Rattle.solo_net.proofs.Placing.{next-place, next-owned, IsOpen, free-next}
 use Rattle.solo_net.proofs.Visiting.{sides-are, arg-is, page-is}
 
+pub no-truth : IsTrue false → ⊥
+no-truth is = absurd cc
+
 -- ---- whether a process has ended
 pub ended-at : (s : SoloState) (p q : ℕ) → p ≡ q → (t : Bool) → (IsTrue t ↔ HasEnded (s.histories q))
     → IsTrue t ↔ (next_action view (process p) (s.histories p) ≡ None)

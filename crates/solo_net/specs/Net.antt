@@ -7,7 +7,7 @@ use Rattle.solo_devices.specs.CardUnit.{items_ahead}
 use Rattle.network_run.specs.Law.{Placed}
 use Rattle.place_law.specs.Process.{action_of, caused}
 use Rattle.place_law.specs.Ending.{outcome_by}
-use Rattle.solo_law.specs.Work.{Given, Plan, PlanFits}
+use Rattle.solo_law.specs.Work.{Given, Plan}
 use Rattle.solo_law.specs.Told.{begun}
 use Rattle.solo_law.specs.InputPlaces.{InputPlace, input as the_input}
 use Rattle.solo_law.specs.OutputPlaces.{OutputPlace, output as the_output}
@@ -87,10 +87,6 @@ pub record SoloNetStands {C F S Y K T : Type 0} (commands : CommandsOf C F) (tel
       (caused view the_job (s.histories 2))
 
 -- ---- the opening
--- A told plan is one that the files open with, and its needs fit.
-abbrev pub IsOpenedBy : (Plan → Type 0) → Option Plan → Type 0
-IsOpenedBy opens told = (plan : Plan) → told ≡ Some plan → opens plan × PlanFits plan
-
 -- what these units tell, with a plan or none
 abbrev pub solo_told_by : {S Y K T F : Type 0} → Tells S Y K T → SoloUnits S Y K T F → Option Plan → Devices
 solo_told_by tells units plan = record {

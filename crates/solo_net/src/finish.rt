@@ -15,7 +15,8 @@ ghost use Rattle.solo_net.specs.Telling.{solo_telling};
 ghost use Rattle.solo_ends.specs.Ends.{EndTogether, FaultsAre};
 ghost use Rattle.solo_ends.specs.Faults.{Peripherals, FaultsAreCounted};
 ghost use Rattle.solo_net.specs.Net.{commands_of, SoloNetStands, SoloIsCounted};
-ghost use Rattle.solo_net.specs.Ended.{SoloHaveEnded, EndsSo, JobDone, BothDone, TellsPlan, AreLedTo};
+ghost use Rattle.solo_net.specs.Ended.{SoloHaveEnded, EndsSo, AreLedTo};
+ghost use Rattle.solo_ends.specs.Told.{JobDone, BothDone, TellsPlan};
 ghost use Rattle.solo_net.specs.Telling.{solo_counts_of};
 
 use crate::{Shared, SoloNet};
@@ -75,10 +76,8 @@ impl<C: Commands + Drop, S: Source, Y: Source, K: Sink, T: Sink> SoloNet<C, S, Y
             K.given K.faults T.given T.faults) self)) →
             (cards keys : List Item) (plan : Plan) → at.opening.devices.cards ≡ Some cards →
             at.opening.devices.keys ≡ Some keys → at.opening.devices.work ≡ Some plan →
-            TellsPlan
-            (solo_telling S.left S.taken S.faults Y.left Y.taken Y.faults
-            K.given K.faults T.given T.faults)
-            cards keys plan at.opening.devices result }
+            TellsPlan Y.left T.given K.given cards keys plan at.opening.devices.console
+            at.opening.devices.paper result }
 
         // Where no call on the files failed they are some to which the work comes, from those with which
         // it began.
@@ -96,7 +95,7 @@ impl<C: Commands + Drop, S: Source, Y: Source, K: Sink, T: Sink> SoloNet<C, S, Y
             shared,
             first_files: _,
         } = self;
-        let outcomes = [outcome(&input), outcome(&job), outcome(&output)];
+        let outcomes = [outcome(input), outcome(job), outcome(output)];
         let Shared { units, buffers } = shared;
         SoloRan {
             outcomes,
@@ -107,8 +106,9 @@ impl<C: Commands + Drop, S: Source, Y: Source, K: Sink, T: Sink> SoloNet<C, S, Y
 }
 
 /// How a process ended, by its cause.
-fn outcome<P: Proc>(machine: &Machine<P>) -> Outcome
-    ensures { (h : List (Entry Action Reply)) → StandsFor P.process P.is_at P.ready machine.now h
+// By value: what a machine keeps is dropped here, whatever its process is.
+fn outcome<P: Proc + Drop>(machine: Machine<P>) -> Outcome
+    ensures { (h : List (Entry Action Reply)) → StandsFor P.process P.is_at P.ready machine h
         → result ≡ outcome_by (caused view P.process h) }
 {
     match machine.cause() {

@@ -1,11 +1,11 @@
 ghost use Rattle.std.specs.Prelude.{◌≡◌, true, Option, refl};
 ghost use Rattle.std.proofs.Common.{◌∙◌};
-ghost use Rattle.network_run.specs.Law.{Placed, MayStep, Steps};
 ghost use Rattle.solo_law.specs.Work.{Plan};
 ghost use Rattle.solo_law.specs.Solo.{the_law};
 ghost use Rattle.solo_law.proofs.Law.{sound};
 ghost use Rattle.solo_net.specs.Telling.{solo_telling};
-ghost use Rattle.solo_net.specs.Net.{commands_of, SoloNetStands, MovesSo, KeepsSo, SoloIsCounted, SoloOpensOver, IsOpenedBy};
+ghost use Rattle.solo_net.specs.Net.{commands_of, SoloNetStands, MovesSo, KeepsSo, SoloIsCounted, SoloOpensOver};
+ghost use Rattle.solo_ends.specs.Told.{IsOpenedBy};
 ghost use Rattle.solo_ends.specs.Faults.{devices_of};
 
 use crate::step::is_work;
@@ -63,35 +63,6 @@ impl<C: Commands, S: Source, Y: Source, K: Sink, T: Sink> SoloNet<C, S, Y, K, T>
                 buffers: Buffers::new(),
             },
             first_files,
-        }
-    }
-
-    /// The next action of the job process.
-    fn step_job(&mut self) -> Stepped
-        requires may { MayStep the_law (SoloNetStands
-            (commands_of C.awaits C.plans C.sound C.faults C.follows C.passes)
-            (solo_telling S.left S.taken S.faults Y.left Y.taken Y.faults
-            K.given K.faults T.given T.faults)
-            self.old) 2 }
-        ensures steps { (at : Placed the_law (SoloNetStands
-            (commands_of C.awaits C.plans C.sound C.faults C.follows C.passes)
-            (solo_telling S.left S.taken S.faults Y.left Y.taken Y.faults
-            K.given K.faults T.given T.faults)
-            self.old)) → the_law.MayGo at.state 2 →
-            Steps the_law (SoloNetStands
-            (commands_of C.awaits C.plans C.sound C.faults C.follows C.passes)
-            (solo_telling S.left S.taken S.faults Y.left Y.taken Y.faults
-            K.given K.faults T.given T.faults))
-            (MovesSo (commands_of C.awaits C.plans C.sound C.faults C.follows C.passes)
-            (solo_telling S.left S.taken S.faults Y.left Y.taken Y.faults
-            K.given K.faults T.given T.faults))
-            self.old self.new at.state 2 result }
-    {
-        let action = self.job.next();
-        if is_work(&action) {
-            step_work(&mut self.job, &mut self.shared.units.files)
-        } else {
-            step_machine(&mut self.job, 2, &mut self.shared)
         }
     }
 }
@@ -162,7 +133,12 @@ impl<C: Commands, S: Source, Y: Source, K: Sink, T: Sink> Network for SoloNet<C,
         if p == 1 {
             step_machine(&mut self.input, p, &mut self.shared)
         } else if p == 2 {
-            self.step_job()
+            let action = self.job.next();
+            if is_work(&action) {
+                step_work(&mut self.job, &mut self.shared.units.files)
+            } else {
+                step_machine(&mut self.job, 2, &mut self.shared)
+            }
         } else {
             step_machine(&mut self.output, p, &mut self.shared)
         }

@@ -1,15 +1,11 @@
 // What the three processes share.
-ghost use Rattle.std.specs.Prelude.{◌≡◌, Some};
-ghost use Rattle.solo_law.specs.Actions as act;
-ghost use Rattle.solo_law.specs.Devices.{Devices};
-ghost use Rattle.solo_law.specs.Solo.{opened};
-ghost use Rattle.solo_procs.specs.declared.actions.SoloReply.TheVariants as hear;
+ghost use Rattle.std.specs.Prelude.{Some};
 ghost use Rattle.solo_net.specs.Telling.{solo_telling};
 ghost use Rattle.solo_net.specs.Actions.{unsaid};
 ghost use Rattle.solo_net.specs.Sharing.{SoloMayPerform, Performs};
 
 use crate::{Buffers, print_reply};
-use solo_base::{Line, ProcNo};
+use solo_base::ProcNo;
 use solo_devices::{CardRead, Sink, Source};
 use solo_ends::SoloUnits;
 use solo_procs::{SoloAction, SoloReply};
@@ -31,10 +27,18 @@ impl<S: Source, Y: Source, K: Sink, T: Sink, F> Shared<S, Y, K, T, F> {
             self.old self.new p (unsaid action) result }
     {
         match action {
-            SoloAction::Accept => Some(self.accept(p)),
-            SoloAction::Display(line) => Some(self.display(p, line)),
-            SoloAction::ReadCard => Some(self.read_card(p)),
-            SoloAction::Print(line) => Some(self.print(p, line)),
+            SoloAction::Accept => {
+                let answer = self.units.typewriter.accept();
+                is_line(&answer);
+                Some(SoloReply::Card(answer))
+            }
+            SoloAction::Display(line) => { Some(print_reply(self.units.typewriter.display(&line))) }
+            SoloAction::ReadCard => {
+                let answer = self.units.cards.read();
+                is_line(&answer);
+                Some(SoloReply::Card(answer))
+            }
+            SoloAction::Print(line) => Some(print_reply(self.units.paper.print(&line))),
             SoloAction::PutArg { buffer, arg } => self.buffers.put_arg(p, buffer, arg),
             SoloAction::TakeArg(buffer) => self.buffers.take_arg(p, buffer),
             SoloAction::PutPage { buffer, page } => self.buffers.put_page(p, buffer, page),
@@ -46,54 +50,6 @@ impl<S: Source, Y: Source, K: Sink, T: Sink, F> Shared<S, Y, K, T, F> {
             }
             SoloAction::Ended(_) => Some(SoloReply::Done),
         }
-    }
-
-    fn read_card(&mut self, p: ProcNo) -> SoloReply
-        requires may { SoloMayPerform self.old p act.ReadCard }
-        ensures performs { Performs
-            (solo_telling S.left S.taken S.faults Y.left Y.taken Y.faults
-            K.given K.faults T.given T.faults)
-            self.old self.new p act.ReadCard (Some result) }
-    {
-        let _ = p;
-        let answer = self.units.cards.read();
-        is_line(&answer);
-        SoloReply::Card(answer)
-    }
-
-    fn accept(&mut self, p: ProcNo) -> SoloReply
-        requires may { SoloMayPerform self.old p act.Accept }
-        ensures performs { Performs
-            (solo_telling S.left S.taken S.faults Y.left Y.taken Y.faults
-            K.given K.faults T.given T.faults)
-            self.old self.new p act.Accept (Some result) }
-    {
-        let _ = p;
-        let answer = self.units.typewriter.accept();
-        is_line(&answer);
-        SoloReply::Card(answer)
-    }
-
-    fn display(&mut self, p: ProcNo, line: Line) -> SoloReply
-        requires may { SoloMayPerform self.old p (act.Display line) }
-        ensures performs { Performs
-            (solo_telling S.left S.taken S.faults Y.left Y.taken Y.faults
-            K.given K.faults T.given T.faults)
-            self.old self.new p (act.Display line) (Some result) }
-    {
-        let _ = p;
-        print_reply(self.units.typewriter.display(&line))
-    }
-
-    fn print(&mut self, p: ProcNo, line: Line) -> SoloReply
-        requires may { SoloMayPerform self.old p (act.Print line) }
-        ensures performs { Performs
-            (solo_telling S.left S.taken S.faults Y.left Y.taken Y.faults
-            K.given K.faults T.given T.faults)
-            self.old self.new p (act.Print line) (Some result) }
-    {
-        let _ = p;
-        print_reply(self.units.paper.print(&line))
     }
 }
 

@@ -1,13 +1,11 @@
 // The step of one process.
-ghost use Rattle.std.specs.Prelude.{◌≡◌, List, Some, false};
+ghost use Rattle.std.specs.Prelude.{◌≡◌, List, Some};
 ghost use Rattle.network_run.specs.declared.stepped.Stepped.TheVariants.{Acted};
-ghost use Rattle.network_law.specs.Stepping.{stepped_so};
 ghost use Rattle.place_law.specs.Process.{Entry, next_action};
 ghost use Rattle.solo_law.specs.Work.{Work};
 ghost use Rattle.solo_law.specs.Actions.{Action, Reply, Works};
 ghost use Rattle.solo_law.specs.Replies.{view};
 ghost use Rattle.solo_law.specs.JobPlaces.{job};
-ghost use Rattle.solo_procs.specs.Said.{is_end};
 ghost use Rattle.solo_procs.specs.Machine.{StandsFor};
 ghost use Rattle.solo_procs.specs.Job.{job_at, JobStands};
 ghost use Rattle.solo_net.specs.Actions.{IsNoWork, is_work};
@@ -37,13 +35,12 @@ pub fn step_machine<P: Proc, S: Source, Y: Source, K: Sink, T: Sink, F>(
     ensures kept { P.kept machine.new.process ≡ P.kept machine.old.process }
 {
     let action = machine.next();
-    let ends = is_end(&action);
-    let again = shared.buffers.is_again(p, &action);
+    let goes = shared.buffers.goes(&action);
     match shared.perform(p, action) {
         None => Stepped::Delayed,
         Some(reply) => match machine.give(reply) {
-            Ok(()) => stepped(ends, again),
-            Err(_) => stepped(ends, again),
+            Ok(()) => goes,
+            Err(_) => goes,
         },
     }
 }
@@ -72,22 +69,4 @@ pub(crate) fn is_work(action: &SoloAction) -> bool
     ensures { result ≡ is_work action.now }
 {
     matches!(action, SoloAction::Work)
-}
-
-/// Whether an action is the last of its process.
-fn is_end(action: &SoloAction) -> bool
-    ensures { result ≡ is_end action.now }
-{
-    matches!(action, SoloAction::Ended(_))
-}
-
-/// How a step went that did not end in a delay.
-fn stepped(ends: bool, again: bool) -> Stepped
-    ensures { result ≡ stepped_so false ends again }
-{
-    match (ends, again) {
-        (true, _) => Stepped::Ended,
-        (false, true) => Stepped::Resumed,
-        (false, false) => Stepped::Acted,
-    }
 }

@@ -1,20 +1,22 @@
 // Whether a process is at its turn.
-ghost use Rattle.std.specs.Prelude.{◌≡◌, ◌↔◌, IsTrue, Some, List};
+ghost use Rattle.std.specs.Prelude.{◌≡◌, ◌↔◌, ℕ, IsTrue, Some, List, false};
 ghost use Rattle.network_law.specs.Network.{MayCall};
-ghost use Rattle.network_law.specs.Stepping.{is_again};
+ghost use Rattle.network_law.specs.Stepping.{is_again, is_named, stepped_so};
 ghost use Rattle.place_law.specs.Process.{Entry, next_action};
 ghost use Rattle.solo_law.specs.Actions.{Action, Reply};
 ghost use Rattle.solo_law.specs.Buffers.{call};
 ghost use Rattle.solo_law.specs.Replies.{view};
 ghost use Rattle.solo_law.specs.Solo.{SoloState};
 ghost use Rattle.solo_procs.specs.Machine.{StandsFor};
+ghost use Rattle.solo_procs.specs.Said.{is_end};
 ghost use Rattle.solo_net.specs.Actions.{unsaid, SoloHasPlace};
-ghost use Rattle.solo_net.specs.SixBuffers.{SoloBuffersStand};
+ghost use Rattle.solo_net.specs.SixBuffers.{SoloBuffersStand, sides_at};
 ghost use Rattle.solo_net.specs.Turns.{SoloIsAtTurn};
 
 use crate::Buffers;
 use crate::buffers::side_at;
-use solo_base::{ProcNo, Side};
+use network_run::Stepped;
+use solo_base::{BufferNo, ProcNo, Side};
 use solo_procs::{Machine, Proc, SoloAction};
 
 impl Buffers {
@@ -29,33 +31,39 @@ impl Buffers {
             SoloAction::PutPage { buffer, .. } => self.may_enter(*buffer, Side::Sender, p),
             SoloAction::TakePage(buffer) => self.may_enter(*buffer, Side::Receiver, p),
             SoloAction::Stop(buffer) => self.may_stop(*buffer, side_at(p, *buffer)),
-            SoloAction::Accept
-            | SoloAction::Display(_)
-            | SoloAction::ReadCard
-            | SoloAction::Print(_)
-            | SoloAction::Work
-            | SoloAction::Ended(_) => true,
+            _ => true,
         }
     }
 
-    /// Whether a call that waits is made at a handed turn, and so is made again.
-    pub fn is_again(&self, p: ProcNo, action: &SoloAction) -> bool
-        ensures { (s : SoloState) → SoloBuffersStand self.now s.buffers → SoloHasPlace (unsaid action.now)
-            → result ≡ is_again s (call p (unsaid action.now)) }
+    /// How a call goes that doesn't end in a delay: one that waits and finds its turn handed is made again.
+    pub fn goes(&self, action: &SoloAction) -> Stepped
+        ensures { (p : ℕ) (s : SoloState) → SoloBuffersStand self.now s.buffers
+            → SoloHasPlace (unsaid action.now)
+            → result ≡ stepped_so false (is_end action.now) (is_again s (call p (unsaid action.now))) }
     {
-        let _ = p;
         match action {
-            SoloAction::PutArg { buffer, .. } => self.is_handed(*buffer),
-            SoloAction::TakeArg(buffer) => self.is_handed(*buffer),
-            SoloAction::PutPage { buffer, .. } => self.is_handed(*buffer),
-            SoloAction::TakePage(buffer) => self.is_handed(*buffer),
+            SoloAction::PutArg { buffer, .. } => self.goes_at(*buffer),
+            SoloAction::TakeArg(buffer) => self.goes_at(*buffer),
+            SoloAction::PutPage { buffer, .. } => self.goes_at(*buffer),
+            SoloAction::TakePage(buffer) => self.goes_at(*buffer),
+            SoloAction::Ended(_) => Stepped::Ended,
             SoloAction::Stop(_)
             | SoloAction::Accept
             | SoloAction::Display(_)
             | SoloAction::ReadCard
             | SoloAction::Print(_)
-            | SoloAction::Work
-            | SoloAction::Ended(_) => false,
+            | SoloAction::Work => Stepped::Acted,
+        }
+    }
+
+    /// How a put or a take goes, by the turn of its buffer.
+    fn goes_at(&self, b: BufferNo) -> Stepped
+        ensures { result ≡ stepped_so false false (is_named (sides_at self.now b).turn) }
+    {
+        if self.is_handed(b) {
+            Stepped::Resumed
+        } else {
+            Stepped::Acted
         }
     }
 }

@@ -40,7 +40,8 @@ use Rattle.solo_run.specs.Job.{JobWorld}
 use Rattle.solo_run.specs.Row.{RowRan}
 use Rattle.solo_run.specs.Whole.{RowTold, AllMeet}
 use Rattle.solo_run.specs.Begun.{units_of, behind, SoloDid}
-use Rattle.solo_run.specs.Ran.{IsOpenedBy, told_by, BrokenOff, HavePassed, IsRunOf, JobDone, BothDone, TellsPlan, LosesNothing}
+use Rattle.solo_run.specs.Ran.{told_by, BrokenOff, HavePassed, IsRunOf, LosesNothing}
+use Rattle.solo_ends.specs.Told.{IsOpenedBy, JobDone, BothDone, TellsPlan}
 use Rattle.solo_run.proofs.Reaching.{went-through}
 use Rattle.solo_run.proofs.WholeRun.{told-items, deeds, side-by-side, ends-together, ends-faults}
 
@@ -97,7 +98,8 @@ module _ {S Y T F K : Type 0} (left : S → Option (List ℕ)) (w : JobWorld Y T
     (ran : SoloRan S Y K T F) where
   tells-plan : (cards keys : List Item) (plan : Plan) → items_ahead (left units.cards.source) units.cards.pending ≡ Some cards
       → items_ahead (w.left units.typewriter.keys.source) units.typewriter.keys.pending ≡ Some keys
-      → IsRunOf left w given units (Some plan) ran → TellsPlan w.left w.given given cards keys plan units ran
+      → IsRunOf left w given units (Some plan) ran
+      → TellsPlan w.left w.given given cards keys plan (w.given units.typewriter.console.sink) (given units.paper.sink) ran
   tells-plan cards keys plan c_told k_told is =
       let devices = told_by left w.left given w.given units (Some plan) in
       let s = is.state in
@@ -292,7 +294,7 @@ module _ {S Y T F K : Type 0} {left : S → Option (List ℕ)} {taken reads : S 
 
   pub tells : (cards keys : List Item) (plan : Plan) → items_ahead (left units.cards.source) units.cards.pending ≡ Some cards
       → items_ahead (w.left units.typewriter.keys.source) units.typewriter.keys.pending ≡ Some keys → w.opens units.files plan → PlanFits plan
-      → TellsPlan w.left w.given given cards keys plan units ran
+      → TellsPlan w.left w.given given cards keys plan (w.given units.typewriter.console.sink) (given units.paper.sink) ran
   tells cards keys plan c_told k_told opens fits =
       tells-plan left w given units ran cards keys plan c_told k_told
       (ran-so (Some plan) (λ one e. (subst (w.opens units.files) (same-plan plan one e) opens, subst PlanFits (same-plan plan one e) fits)))

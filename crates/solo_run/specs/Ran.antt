@@ -1,21 +1,15 @@
 -- How Solo ran on threads: as a run of its network.
-use Rattle.std.specs.Prelude.{◌≡◌, ◌⊎◌, ℕ, List, [], ◌∷◌, ◌++◌, Option, None, Some}
-use Rattle.solo_base.specs.declared.item.Item.{Item}
-use Rattle.solo_base.specs.declared.outcome.Outcome.{Outcome}
+use Rattle.std.specs.Prelude.{◌≡◌, ◌⊎◌, ℕ, List, [], ◌∷◌, ◌++◌, Option, None}
 use Rattle.solo_base.specs.declared.outcome.Outcome.TheVariants as outcome
 use Rattle.solo_base.specs.declared.outcome.Cause.TheVariants as cause
-use Rattle.solo_base.specs.Text.{text}
 use Rattle.solo_devices.specs.CardUnit.{items_ahead, bytes_total}
-use Rattle.solo_devices.specs.PrinterUnit.{Gains}
 use Rattle.place_law.specs.Process.{place, caused}
 use Rattle.place_law.specs.Ending.{HasEndedSo}
-use Rattle.solo_needs.specs.Needs.{Need}
-use Rattle.solo_needs.specs.Handing.{Ahead, hands, no_command, HandsOn}
-use Rattle.solo_law.specs.Work.{Given, Work, Plan, PlanFits}
+use Rattle.solo_law.specs.Work.{Given, Work, Plan}
 use Rattle.solo_law.specs.Devices.{Devices}
 use Rattle.solo_law.specs.JobPlaces.{job, Toils}
 use Rattle.solo_law.specs.Replies.{view}
-use Rattle.solo_law.specs.Told.{begun, needs_of, on_console, on_paper, lines_of_all}
+use Rattle.solo_law.specs.Told.{begun}
 use Rattle.solo_law.specs.Solo.{table, SoloState, IsReached, IsProcess}
 use Rattle.solo_law.specs.Holds.{IsBuffer}
 use Rattle.solo_ends.specs.declared.units.SoloUnits.{SoloUnits}
@@ -25,10 +19,6 @@ use Rattle.solo_threads.specs.Threads.{HaveMet}
 use Rattle.solo_run.specs.Job.{JobWorld}
 
 -- ---- what it begins with
--- A told plan is one that the files open with, and its needs fit.
-abbrev pub IsOpenedBy : (Plan → Type 0) → Option Plan → Type 0
-IsOpenedBy opens told = (plan : Plan) → told ≡ Some plan → opens plan × PlanFits plan
-
 -- what these units tell, with a plan or none
 abbrev pub told_by : {S Y K T F : Type 0} → (S → Option (List ℕ)) → (Y → Option (List ℕ))
     → (K → Option (List ℕ)) → (T → Option (List ℕ)) → SoloUnits S Y K T F → Option Plan → Devices
@@ -76,34 +66,6 @@ pub record IsRunOf {S Y K T F : Type 0} (left : S → Option (List ℕ)) (w : Jo
   pub passed : (outcome_at ran.outcomes 2 ≡ outcome.Fault cause.DiskFault → ⊥)
       → HavePassed (told_by left w.left given w.given units plan) (w.passes units.files)
       (begun (state.histories 2)) ran.units.files
-
--- ---- what it tells
-abbrev pub JobDone : List Outcome → Type 0
-JobDone outcomes = outcome_at outcomes 2 ≡ outcome.Done
-
-abbrev pub BothDone : List Outcome → Type 0
-BothDone outcomes = JobDone outcomes × (outcome_at outcomes 3 ≡ outcome.Done)
-
--- Over told cards, typed lines and files: each piece of work began with what the cards and the lines hand on,
--- and came to what the plan makes of it. The console gained what these needs show or a part of it, and all of
--- it where the job process is done; and the paper what they print, all of it where the output process is done
--- too. Where the job process is done nothing is handed on any more, and no typed line is left.
-pub record TellsPlan {S Y K T F : Type 0} (keys_left : Y → Option (List ℕ))
-    (console_given : T → Option (List ℕ)) (paper_given : K → Option (List ℕ)) (cards keys : List Item)
-    (plan : Plan) (units : SoloUnits S Y K T F) (ran : SoloRan S Y K T F) : Type 0 where
-  pub givens : List Given
-  pub last : Need
-  pub ahead : Ahead
-  pub handed : HandsOn no_command (record { cards = cards; keys = keys }) givens (needs_of plan givens) last
-      ahead
-  pub console : Gains (console_given units.typewriter.console.sink)
-      (console_given ran.units.typewriter.console.sink)
-      (text (lines_of_all on_console (needs_of plan givens))) (JobDone ran.outcomes)
-  pub paper : Gains (paper_given units.paper.sink) (paper_given ran.units.paper.sink)
-      (text (lines_of_all on_paper (needs_of plan givens))) (BothDone ran.outcomes)
-  pub all_handed : JobDone ran.outcomes → hands last ahead ≡ None
-  pub none_left : JobDone ran.outcomes
-      → items_ahead (keys_left ran.units.typewriter.keys.source) ran.units.typewriter.keys.pending ≡ Some []
 
 -- No byte of the cards or of the keys is lost.
 pub record LosesNothing {S Y K T F : Type 0} (cards_taken : S → ℕ) (cards_left : S → Option (List ℕ))

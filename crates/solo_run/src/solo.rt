@@ -8,7 +8,8 @@ ghost use Rattle.solo_ends.specs.Faults.{FaultsAreCounted, counting, devices_of}
 ghost use Rattle.solo_run.specs.Begun.{AreLive, BeginsBy, IsParted, SoloDid};
 ghost use Rattle.solo_run.specs.Gates.{AreFresh};
 ghost use Rattle.solo_run.specs.Job.{job_world};
-ghost use Rattle.solo_run.specs.Ran.{IsOpenedBy, IsRunOf, LosesNothing, TellsPlan};
+ghost use Rattle.solo_run.specs.Ran.{IsRunOf, LosesNothing};
+ghost use Rattle.solo_ends.specs.Told.{IsOpenedBy, TellsPlan};
 
 use crate::ends::{Sending, Taking};
 use crate::gates::{Ends, Gates};
@@ -72,7 +73,8 @@ where
         items_ahead (S.left units.cards.source) units.cards.pending ≡ Some cards →
         items_ahead (Y.left units.typewriter.keys.source) units.typewriter.keys.pending ≡ Some keys →
         C.opens units.files plan → PlanFits plan →
-        TellsPlan Y.left T.given K.given cards keys plan units ran) }
+        TellsPlan Y.left T.given K.given cards keys plan (T.given units.typewriter.console.sink)
+        (K.given units.paper.sink) ran) }
 
     // All that the cards and the keys had was taken or is left.
     ensures total { IfOk result (λ ran. LosesNothing S.taken S.left Y.taken Y.left units ran) }

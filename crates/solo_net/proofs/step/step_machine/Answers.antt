@@ -18,16 +18,15 @@ returns-in-None-clause-steps g c h action no_work stands next =
 pub returns-in-Ok-clause-steps : goal.returns-in-Ok-clause-steps
 returns-in-Ok-clause-steps g c h action no_work stands next =
     steps-acted _ _ c.args.shared.now c.perform.new.self c.args.p action c.next-action.result h
-    (next-said _ c.next-action.result action (c.next-action.ensures.next h stands) next) no_work c.is_end-ends.result c.is_again-again.result
-    c.stepped.result c.stepped.ensures c.is_end-ends.ensures
-    (λ s stood place. c.is_again-again.ensures s stood place) c.in-Some.reply c.in-Some.ensures.performs
+    (next-said _ c.next-action.result action (c.next-action.ensures.next h stands) next) no_work c.goes-goes.result
+    (λ s stood place. c.goes-goes.ensures c.args.p s stood place) c.in-Some.reply c.in-Some.ensures.performs
     (λ fits. c.in-Ok.ensures.ok h action _ stands.tracks next fits (told-heard _ _ _ g.P.Proc.came c.args.machine.now h c.in-Some.reply stands))
 
 pub returns-in-Err-clause-steps : goal.returns-in-Err-clause-steps
 returns-in-Err-clause-steps g c h action no_work stands next =
     steps-lacking _ _ c.args.shared.now c.perform.new.self c.args.p action c.next-action.result h
-    (next-said _ c.next-action.result action (c.next-action.ensures.next h stands) next) no_work c.is_end-ends.result c.is_again-again.result
-    c.stepped-in-Err.result c.stepped-in-Err.ensures c.is_end-ends.ensures (λ s stood place. c.is_again-again.ensures s stood place) c.in-Some.reply
+    (next-said _ c.next-action.result action (c.next-action.ensures.next h stands) next) no_work c.goes-goes.result
+    (λ s stood place. c.goes-goes.ensures c.args.p s stood place) c.in-Some.reply
     c.in-Some.ensures.performs
     (λ fits. c.in-Err.ensures.err h action _ stands.tracks next fits (told-heard _ _ _ g.P.Proc.came c.args.machine.now h c.in-Some.reply stands))
     (λ new. new.tracks.follows.1.1)

@@ -1,10 +1,10 @@
 use Rattle.solo_net.proofs.Stepping.{next-said}
-use Rattle.solo_net.proofs.Turning.{never-at-turn, some-next, at-turn}
+use Rattle.solo_net.proofs.Turning.{never-at-turn, some-next, at-turn, no-truth}
 use Rattle.solo_net.proofs.turns.may_step.Goals as goal
 
 pub returns-then-has_ended : goal.returns-then-has_ended
 returns-then-has_ended g c = λ h s stands six places. (
-  λ yes. absurd cc,
+  λ yes. absurd (no-truth yes),
   λ at. absurd (never-at-turn g.P.Proc.process h s c.args.p ((c.has_ended.ensures h stands).0 c.if-has_ended.true) at),
 )
 

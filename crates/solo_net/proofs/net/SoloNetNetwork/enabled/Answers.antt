@@ -1,5 +1,5 @@
 use Rattle.solo_law.proofs.Placed.{is-1, is-2, is-3}
-use Rattle.solo_net.proofs.Turning.{turn-at, no-other}
+use Rattle.solo_net.proofs.Turning.{turn-at, no-other, no-truth}
 use Rattle.solo_net.proofs.net.SoloNetNetwork.enabled.Goals as goal
 
 pub returns-then-p-eq1 : goal.returns-then-p-eq1
@@ -19,6 +19,6 @@ returns-then-p-eq3 g c = λ at.
 
 pub returns-else-p-eq3 : goal.returns-else-p-eq3
 returns-else-p-eq3 g c = λ at. (
-  λ yes. absurd cc,
+  λ yes. absurd (no-truth yes),
   λ may. absurd (no-other c.args.p may.one c.if-p-eq1.false c.if-p-eq2.false c.if-p-eq3.false),
 )
