@@ -1,4 +1,4 @@
-ghost use Rattle.std.specs.Prelude.{◌≡◌, ◌<◌, ◌⊎◌, None, Some, length, IsSome};
+ghost use Rattle.std.specs.Prelude.{◌≡◌, ◌<◌, None, length, IsSome};
 ghost use Rattle.resource_mon.specs.Claims.{MayRequest};
 ghost use Rattle.core_net.specs.Desks.{Asked, Given};
 

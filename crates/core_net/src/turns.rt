@@ -70,11 +70,7 @@ impl<J: JobWork, S: Source, K: Sink, F: Loader<J>, A: Area, B: Area> Shared<J, S
             Action::TakePage => self.may_stop(upstream(p), Side::Receiver),
             Action::Release => self.desk.handed().is_none(),
             Action::Stop(b) => self.may_stop(*b, side_at(p, *b)),
-            Action::ReadCard
-            | Action::Load(_)
-            | Action::Local
-            | Action::Print(_)
-            | Action::Ended(_) => true,
+            _ => true,
         }
     }
 
@@ -95,8 +91,8 @@ impl<J: JobWork, S: Source, K: Sink, F: Loader<J>, A: Area, B: Area> Shared<J, S
         }
     }
 
-    /// How the step of a process goes that need not wait: it ends, its call is made again at a handed turn, or
-    /// it acts.
+    /// How the step of a process goes that need not wait: it ends, its call is made again at a handed turn,
+    /// or it acts.
     #[inline(always)]
     pub fn goes(&self, p: ProcNo, action: &Action) -> Stepped
         ensures { (s : CoreState J.Load) →
@@ -109,14 +105,7 @@ impl<J: JobWork, S: Source, K: Sink, F: Loader<J>, A: Area, B: Area> Shared<J, S
             Action::TakeFeed | Action::AwaitItem => goes_by(self.handed(upstream(p))),
             Action::Request => goes_by(self.desk.handed()),
             Action::Ended(_) => Stepped::Ended,
-            Action::PutPage(_)
-            | Action::TakePage
-            | Action::Release
-            | Action::Stop(_)
-            | Action::ReadCard
-            | Action::Load(_)
-            | Action::Local
-            | Action::Print(_) => Stepped::Acted,
+            _ => Stepped::Acted,
         }
     }
 }
