@@ -3,7 +3,7 @@ use solo_base::{Outcome, Side};
 use solo_devices::{Area, Sink, Source};
 
 /// How the five processes ended.
-#[derive(Clone, Copy, Debug, PartialEq, Eq)]
+#[derive(Clone, Copy, PartialEq, Eq)]
 pub struct Outcomes {
     pub card: Outcome,
     pub input: Outcome,

@@ -211,3 +211,15 @@ module _ {L : Type 0} (J : Jobs L) where
       and-nothing : (t : Bool) → (t && false) ≡ false
       and-nothing true = refl
       and-nothing false = refl
+
+  -- ---- a reply that gives its cause whatever came before
+  pub answers-cause : {W : Type 0} (p : Process L) (keeps : W → List (Parcel L) → List (Parcel L) → Bool → Type 0) (old new : W) (a : Action) (r x : Reply L)
+      (how : Outcome)
+      → r ≡ x → ((h : List (Entry L)) → given_cause a x h ≡ Some how) → Answers J p keeps old a r (Ok (Some how)) new
+  answers-cause p keeps old new a r x how is gives = record {
+    uses = λ h follows none next fits kept. record {
+      cause_is = sym (ap (λ r. given_cause a r h) is ∙ gives h);
+      keeps = λ clear. absurd cc;
+    };
+    lacks = tt;
+  }

@@ -46,6 +46,12 @@ below-length [] n b is = absurd cc
 below-length (c ∷ later) zero b is = omega arith
 below-length (c ∷ later) (suc n) b is = let less = below-length later n b is in omega (arith, less)
 
+-- ---- the end
+pub ended-step : (last : Option Action) → step_after last ≡ step.Ended → (how : Outcome) × (last ≡ Some (act.Ended how))
+ended-step (Some (act.Ended how)) e = (how, refl)
+ended-step None e = absurd cc
+ended-step (Some action) e = absurd cc
+
 -- ---- what is next
 closing-is : (newest : Option Action) (next a : Action) → next ≡ a → NextIs (closing newest next) a
 closing-is None next a e = e

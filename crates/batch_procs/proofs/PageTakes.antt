@@ -1,22 +1,26 @@
 -- What one page more gives.
-use Rattle.std.proofs.Common.{◌≡◌, ℕ, ◌+◌, ◌%◌, ◌^◌, Bool, true, false, ◌||◌, List, [], ◌∷◌, ◌++◌, length, Option, None, Ok, refl, sym, ◌∙◌, ap, append_assoc, arith}
+use Rattle.std.proofs.Common.{◌≡◌, ℕ, ◌+◌, ◌%◌, ◌^◌, Bool, true, false, ◌||◌, List, [], ◌∷◌, ◌++◌, length, Option, None, Some, Ok, Err, refl, sym, ◌∙◌, ap, append_assoc, arith}
 use Rattle.std.specs.Prelude.{map, option_to_list}
 use Rattle.solo_base.specs.declared.item.Item.{Item}
 use Rattle.solo_base.specs.declared.item.Item.TheVariants.{Line, Spoiled}
 use Rattle.solo_base.specs.declared.item.Feed.{Feed}
 use Rattle.solo_base.specs.declared.item.Feed.TheVariants as feed
+use Rattle.solo_base.specs.declared.outcome.Cause.{Cause}
+use Rattle.solo_base.specs.declared.outcome.Outcome.TheVariants as outcome
 use Rattle.solo_base.specs.declared.page.Page.{Page}
+use Rattle.page_codec.specs.declared.judge.BadPage.{BadPage}
 use Rattle.page_codec.specs.Reading.{PageContent, page_read}
 use Rattle.page_codec.specs.Stream.{Awaited, awaited_after}
 use Rattle.batch_procs.specs.Parcels.{Parcel, OfFeed, OfPage, OfLine, OfLoad, is_ended, pages}
 use Rattle.batch_procs.specs.Sends.{as_parcels, has_end, items, stream, end_if, items_then, behind, unpacked_by, unpacked, lines_of, lines_stream, output_lines, output_sends}
+use Rattle.batch_procs.specs.declared.actions.Action.TheVariants as act
 use Rattle.batch_procs.specs.declared.actions.Reply.{Reply}
 use Rattle.batch_procs.specs.declared.actions.Reply.TheVariants as reply
 use Rattle.batch_procs.specs.History.{taken_by}
 use Rattle.batch_procs.specs.Causes.{damage}
-use Rattle.batch_procs.specs.Work.{cause_of, MayTake}
+use Rattle.batch_procs.specs.Work.{cause_of, IsHanded, MayTake}
 use Rattle.batch_procs.specs.Table.{output}
-use Rattle.batch_procs.specs.Pages.{ReadsOn, KeepsOutput}
+use Rattle.batch_procs.specs.Pages.{damaged, ReadsOn, KeepsOutput}
 use Rattle.batch_procs.proofs.Takes.{due-take}
 use Rattle.batch_procs.specs.Relays.{goes-on}
 
@@ -38,6 +42,10 @@ then-end (x ∷ xs) t = then-end xs t
 behind-nothing : (t : Bool) → behind t [] ≡ end_if t
 behind-nothing true = refl
 behind-nothing false = refl
+
+-- where the last page was taken the process takes none
+pub none-behind : (t u : Bool) (X : Type 0) → t ≡ true → t ≡ u → u ≡ false → X
+none-behind t u X on same off = absurd cc
 
 counts-on : (place n m : ℕ) → place ≡ n % 2 ^ 16 → m ≡ n + 1 → (place + 1) % 2 ^ 16 ≡ m % 2 ^ 16
 counts-on place n m is more = omega (arith, is, more)
@@ -126,6 +134,18 @@ module _ {L : Type 0} where
       → ReadsOn place taken → page_read place last page ≡ Ok content → None ≡ cause_of r taken
   no-damage place taken page last content r is reads read =
       sym (ap (λ r. cause_of r taken) is ∙ ap (λ n. damage (page_read n last page)) (sym reads.counted) ∙ ap damage read)
+
+  -- a page that isn't the one that was expected gives its cause
+  pub is-damaged : (place : ℕ) (taken : List (Parcel L)) (page : Page) (last : Bool) (bad : BadPage) (cause : Cause) (r : Reply L) → r ≡ reply.Page page last
+      → ReadsOn place taken → page_read place last page ≡ Err bad → cause ≡ damaged bad → Some (outcome.Fault cause) ≡ cause_of r taken
+  is-damaged place taken page last bad cause r is reads read e =
+      ap (λ c. Some (outcome.Fault c)) e
+      ∙ sym (ap (λ r. cause_of r taken) is ∙ ap (λ n. damage (page_read n last page)) (sym reads.counted) ∙ ap damage read)
+
+  -- and any other reply is none to a take of a page
+  pub no-page : (r : Reply L) → ((page : Page) (last : Bool) → r ≡ reply.Page page last → ⊥) → IsHanded act.TakePage r → ⊥
+  no-page (reply.Page page last) not handed = not page last refl
+  no-page r not handed = handed
 
   pub reads-behind : (place : ℕ) (taken : List (Parcel L)) (page : Page) (last : Bool) (content : PageContent) → ReadsOn place taken
       → page_read place last page ≡ Ok content → last ≡ false → ReadsOn ((place + 1) % 2 ^ 16) (taken ++ OfPage page last ∷ [])

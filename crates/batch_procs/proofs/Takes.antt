@@ -22,6 +22,10 @@ or-false : (t u : Bool) → (t || u) ≡ false → u ≡ false
 or-false true u e = absurd cc
 or-false false u e = e
 
+-- what has no work never comes to it
+pub never-works : (X : Type 0) → true ≡ false → X
+never-works X e = absurd cc
+
 until-more : (some : List Feed) (f : Feed) → has_end some ≡ false → until_end (some ++ f ∷ []) ≡ until_end some ++ f ∷ []
 until-more [] (feed.Item item) e = refl
 until-more [] feed.End e = refl

@@ -4,7 +4,7 @@ use solo_base::{BufferNo, Feed, Ident, Line, Outcome, Page};
 use solo_devices::CardRead;
 
 /// What a process does.
-#[derive(Debug, Drop)]
+#[derive(Drop)]
 pub enum Action {
     /// Reads the next card of the deck.
     ReadCard,
@@ -37,7 +37,7 @@ pub enum Action {
 }
 
 /// What a process is answered, where the file of a job is loaded as an `L`.
-#[derive(Debug, Drop)]
+#[derive(Drop)]
 pub enum Reply<L> {
     /// It is done.
     Done,

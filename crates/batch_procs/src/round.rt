@@ -4,7 +4,7 @@ ghost use Rattle.batch_procs.specs.Machine.{step_of, held_at};
 use crate::Action;
 
 /// Where a process stands in its round.
-#[derive(Clone, Copy, Debug, PartialEq, Eq)]
+#[derive(Clone, Copy)]
 pub enum Step {
     /// It begins what it aims at.
     Free,

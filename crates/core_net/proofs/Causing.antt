@@ -225,3 +225,8 @@ module _ {L : Type 0} {J : Jobs L} (jobs : AreJobs J) where
       files_sound = λ was done. sound (λ e. done tt (ap Some e));
       deck_stays = λ not. deck;
     }
+
+  -- ---- by what the action is
+  pub at-causes : {X S K F A B : Type 0} (tells : Tells L S K F A B) (counts : Counts S K F A B) (old new : Shared X S K F A B) (p : ℕ) (a b : Action)
+      (result : Option (Reply L)) → a ≡ b → HasCauses tells counts old new p b result → HasCauses tells counts old new p a result
+  at-causes tells counts old new p a b result e is = subst (λ a. HasCauses tells counts old new p a result) (sym e) is

@@ -37,6 +37,7 @@ use Rattle.core_net.specs.Steps.{reply_of}
 use Rattle.core_law.proofs.Askers.{moves-page, takes-page, reads-deck, loads-files}
 use Rattle.batch_procs.specs.Jobs.{Jobs, AreJobs}
 use Rattle.batch_ends.specs.Causes.{Counts}
+use Rattle.batch_ends.specs.Ended.{all_done}
 use Rattle.batch_ends.specs.Faults.{AreCounted}
 use Rattle.batch_ends.specs.Tells.{Tells}
 use Rattle.batch_ends.specs.declared.ends.Outcomes.{Outcomes}
@@ -51,6 +52,26 @@ IsMove action = ⊥
 -- a call that a disk may fail
 abbrev IsDisk : Action → Type 0
 IsDisk a = IsMove a ⊎ IsLoad a
+
+-- where nothing has happened nothing is to be counted
+fresh-met : {S K F A B : Type 0} (counts : Counts S K F A B) (units : Units S K F A B) → AreMet counts units units all_done
+fresh-met counts units = record {
+  counted = record {
+    read = λ e. absurd cc;
+    limit = λ e. absurd cc;
+    longer = λ few many. absurd (omega (arith, few, many));
+    input = λ e. absurd cc;
+    job = λ e. absurd cc;
+    output = λ e. absurd cc;
+    print = λ e. absurd cc;
+    read_on = omega arith;
+    print_on = omega arith;
+    files_on = omega arith;
+    input_on = omega arith;
+    output_on = omega arith;
+  };
+  own = λ e. absurd cc;
+}
 
 same-fault : (c d : Cause) → Some (outcome.Fault c) ≡ Some (outcome.Fault d) → c ≡ d
 same-fault c d e = cc
@@ -548,3 +569,10 @@ module _ {L : Type 0} {J : Jobs L} (jobs : AreJobs J) where
         subst (λ now. AreMet counts before now outcomes) (sym devices)
         (subst (AreMet counts before (units_of net.shared)) (sym (same-five _ _ _ _ _ _ _ _ _ _ card input job output printer outcomes refl))
         (were s stands))
+
+    -- Of one that is made nothing is to be counted.
+    pub made-counted : (net : Net X S K F A B) (units : Units S K F A B) (s : CoreState L) → NetStands J keeps tells net s → units_of net.shared ≡ units
+        → outcomes_in s ≡ all_done → CausesAreCounted J keeps tells counts units net
+    made-counted net units s stands same done =
+        counted-each net units s stands (subst (λ now. AreMet counts units now (outcomes_in s)) (sym same)
+        (subst (AreMet counts units units) (sym done) (fresh-met counts units)))

@@ -6,6 +6,7 @@ mod Entering
 mod Causing
 mod NetSteps
 mod Turning
+mod Asking
 mod Finishing
 mod FaultsCounted
 pub mod WholeRuns

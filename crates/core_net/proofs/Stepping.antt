@@ -77,14 +77,13 @@ module _ {L : Type 0} {J : Jobs L} (jobs : AreJobs J) where
           causes = same-causes None causes;
         }
 
-    module _ (ends again : Bool) (result : Stepped) (result-is : result ≡ stepped_so false ends again) (ends-is : ends ≡ is_end r)
-        (again-is : (s : CoreState L) → SharedStands tells old s → HasPlace s p r → again ≡ is_again s (call p r)) where
+    module _ (result : Stepped)
+        (goes : (s : CoreState L) → SharedStands tells old s → HasPlace s p r → result ≡ stepped_so false (is_end r) (is_again s (call p r))) where
       told-so : (entry : Entry L) → ((b : Action) → entry ≡ Delays b → ⊥) → (s : CoreState L) → SharedStands tells old s → HasPlace s p a
           → result ≡ stepped_so (is_delayed (went entry)) (is_end a) (is_again s (call p a))
       told-so entry not s stood place =
-          let ends_so : ends ≡ is_end a = ends-is ∙ ap is_end (sym same) in
-          let again_so = again-is s stood (subst (HasPlace s p) same place) ∙ ap (λ a. is_again s (call p a)) (sym same) in
-          result-is ∙ same-stepped _ _ _ _ _ _ (sym (answered jobs entry not)) ends_so again_so
+          goes s stood (subst (HasPlace s p) same place)
+          ∙ same-stepped _ _ _ _ _ _ (sym (answered jobs entry not)) (ap is_end (sym same)) (ap (λ a. is_again s (call p a)) (sym same))
 
       pub steps-acted : (reply : Reply L) → Performs J tells old new p r (Some reply) → HasCauses tells counts old new p r (Some reply)
           → (Fits J a reply → Stands (Does a reply ∷ h)) → Steps Stands tells counts old new p a h result

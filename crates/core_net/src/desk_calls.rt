@@ -1,4 +1,4 @@
-ghost use Rattle.std.specs.Prelude.{◌≡◌, ◌<◌, ◌⊎◌, None, Some, length, IsSome};
+ghost use Rattle.std.specs.Prelude.{◌≡◌, ◌<◌, None, length, IsSome};
 ghost use Rattle.resource_mon.specs.Claims.{MayRequest};
 ghost use Rattle.core_net.specs.Desks.{Asked, Given};
 
@@ -20,20 +20,10 @@ pub fn request<J: JobWork, const N: usize>(
             desk.resumed(p);
             Some(Reply::Done)
         }
-        None => grant::<J, N>(desk, p),
-    }
-}
-
-/// Asks for the disk while no turn is handed.
-fn grant<J: JobWork, const N: usize>(desk: &mut Resource<N>, p: ProcNo) -> Option<Reply<J::Load>>
-    requires free { desk.old.handed ≡ None }
-    requires may { MayRequest desk.old p }
-    requires room { length desk.old.waiting < N }
-    ensures { Asked J.jobs desk.old desk.new p result }
-{
-    match desk.request(p) {
-        Grant::Got => Some(Reply::Done),
-        Grant::Wait => None,
+        None => match desk.request(p) {
+            Grant::Got => Some(Reply::Done),
+            Grant::Wait => None,
+        },
     }
 }
 

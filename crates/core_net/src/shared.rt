@@ -14,7 +14,7 @@ use batch_procs::{Action, JobWork, Loader, Reply};
 use disk_spool::Spool;
 use resource_mon::Resource;
 use slot_buffer::{LineBuffer, SlotBuffer};
-use solo_base::{BufferNo, Feed, Ident, Line, Page, ProcNo, Side};
+use solo_base::{BufferNo, Feed, Page, ProcNo, Side};
 use solo_devices::{Area, CardUnit, PrinterUnit, Sink, Source};
 use std::alloc::Global;
 use std::marker::PhantomData;
@@ -85,10 +85,10 @@ impl<J: JobWork, S: Source, K: Sink, F: Loader<J>, A: Area, B: Area> Shared<J, S
             Action::Request => request::<J, 5>(&mut self.desk, p),
             Action::PutPage(page) => Some(self.put_page(p, page)),
             Action::TakePage => Some(self.take_page(p)),
-            Action::Load(file) => Some(self.load(p, file)),
+            Action::Load(file) => Some(self.files.load(self.alloc, &file)),
             Action::Release => Some(release::<J, 5>(&mut self.desk)),
             Action::Local => Some(Reply::Done),
-            Action::Print(line) => Some(self.print(p, line)),
+            Action::Print(line) => Some(print::<J, K>(&mut self.paper, &line)),
             Action::Stop(buffer) => Some(self.stop(p, buffer)),
             Action::Ended(_) => Some(Reply::Done),
         }
@@ -179,32 +179,6 @@ impl<J: JobWork, S: Source, K: Sink, F: Loader<J>, A: Area, B: Area> Shared<J, S
         } else {
             take_page::<J, B>(&mut self.output)
         }
-    }
-
-    fn load(&mut self, p: ProcNo, file: Ident) -> Reply<J::Load>
-        requires may { MayPerform ⟦<Units<S, K, F, A, B> as Peripherals<J>>⟧.tells
-            self.old p (act.Load file) }
-        ensures performs { Performs J.jobs ⟦<Units<S, K, F, A, B> as Peripherals<J>>⟧.tells
-            self.old self.new p (act.Load file) (Some result) }
-        ensures causes { HasCauses ⟦<Units<S, K, F, A, B> as Peripherals<J>>⟧.tells
-            ⟦<Units<S, K, F, A, B> as Peripherals<J>>⟧.counts
-            self.old self.new p (act.Load file) (Some result) }
-    {
-        let _ = p;
-        self.files.load(self.alloc, &file)
-    }
-
-    fn print(&mut self, p: ProcNo, line: Line) -> Reply<J::Load>
-        requires may { MayPerform ⟦<Units<S, K, F, A, B> as Peripherals<J>>⟧.tells
-            self.old p (act.Print line) }
-        ensures performs { Performs J.jobs ⟦<Units<S, K, F, A, B> as Peripherals<J>>⟧.tells
-            self.old self.new p (act.Print line) (Some result) }
-        ensures causes { HasCauses ⟦<Units<S, K, F, A, B> as Peripherals<J>>⟧.tells
-            ⟦<Units<S, K, F, A, B> as Peripherals<J>>⟧.counts
-            self.old self.new p (act.Print line) (Some result) }
-    {
-        let _ = p;
-        print::<J, K>(&mut self.paper, &line)
     }
 
     fn stop(&mut self, p: ProcNo, buffer: BufferNo) -> Reply<J::Load>

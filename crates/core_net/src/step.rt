@@ -1,14 +1,13 @@
-ghost use Rattle.std.specs.Prelude.{◌≡◌, List, Some, false};
+ghost use Rattle.std.specs.Prelude.{◌≡◌, List, Some};
 ghost use Rattle.batch_procs.specs.declared.actions.Action.{Action as ActionOf};
 ghost use Rattle.batch_procs.specs.History.{Entry};
 ghost use Rattle.batch_procs.specs.Process.{next_action};
 ghost use Rattle.batch_procs.specs.Machine.{StandsFor};
-ghost use Rattle.network_law.specs.Stepping.{stepped_so};
-ghost use Rattle.core_net.specs.Steps.{is_end, MayStep, Steps};
+ghost use Rattle.core_net.specs.Steps.{MayStep, Steps};
 
 use crate::Shared;
 use batch_ends::{Peripherals, Units};
-use batch_procs::{Action, JobWork, Loader, Machine, Work};
+use batch_procs::{JobWork, Loader, Machine, Work};
 use network_run::Stepped;
 use solo_base::ProcNo;
 use solo_devices::{Area, Sink, Source};
@@ -30,31 +29,12 @@ pub fn step_machine<J: JobWork, W: Work<J>, S: Source, K: Sink, F: Loader<J>, A:
         shared.old shared.new p action h result }
 {
     let action = machine.next();
-    let ends = is_end(&action);
-    let again = shared.is_again(p, &action);
+    let goes = shared.goes(p, &action);
     match shared.perform(p, action) {
         None => Stepped::Delayed,
         Some(reply) => match machine.give(reply) {
-            Ok(()) => stepped(ends, again),
-            Err(_) => stepped(ends, again),
+            Ok(()) => goes,
+            Err(_) => goes,
         },
-    }
-}
-
-// Whether an action is the last of its process.
-fn is_end(action: &Action) -> bool
-    ensures { result ≡ is_end action.now }
-{
-    matches!(action, Action::Ended(_))
-}
-
-// How a step went that did not end in a delay.
-fn stepped(ends: bool, again: bool) -> Stepped
-    ensures { result ≡ stepped_so false ends again }
-{
-    match (ends, again) {
-        (true, _) => Stepped::Ended,
-        (false, true) => Stepped::Resumed,
-        (false, false) => Stepped::Acted,
     }
 }

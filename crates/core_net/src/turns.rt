@@ -1,20 +1,22 @@
 // Whether a process is at its turn.
-ghost use Rattle.std.specs.Prelude.{◌≡◌, ◌↔◌, IsTrue, Some, ℕ, List};
+ghost use Rattle.std.specs.Prelude.{◌≡◌, ◌↔◌, IsTrue, false, is_some, Some, ℕ, List};
 ghost use Rattle.batch_procs.specs.declared.actions.Action.{Action as ActionOf};
 ghost use Rattle.batch_procs.specs.History.{Entry};
 ghost use Rattle.batch_procs.specs.Machine.{StandsFor};
 ghost use Rattle.batch_procs.specs.Process.{next_action};
 ghost use Rattle.queue_var.specs.Sides.{MayEnter, MayStop};
 ghost use Rattle.network_law.specs.Network.{MayCall};
-ghost use Rattle.network_law.specs.Stepping.{is_named, is_again};
+ghost use Rattle.network_law.specs.Stepping.{is_named, is_again, stepped_so};
 ghost use Rattle.core_law.specs.Core.{call, upstream, CoreState, IsBuffer};
 ghost use Rattle.core_net.specs.Shared.{SharedStands};
+ghost use Rattle.core_net.specs.Steps.{is_end};
 ghost use Rattle.core_net.specs.Turns.{HasPlace, IsAtTurn};
 
 use crate::Shared;
 use crate::shared::side_at;
 use batch_ends::{Peripherals, Units};
 use batch_procs::{Action, JobWork, Loader, Machine, Work};
+use network_run::Stepped;
 use solo_base::{BufferNo, ProcNo, Side};
 use solo_devices::{Area, Sink, Source};
 
@@ -68,52 +70,53 @@ impl<J: JobWork, S: Source, K: Sink, F: Loader<J>, A: Area, B: Area> Shared<J, S
             Action::TakePage => self.may_stop(upstream(p), Side::Receiver),
             Action::Release => self.desk.handed().is_none(),
             Action::Stop(b) => self.may_stop(*b, side_at(p, *b)),
-            Action::ReadCard
-            | Action::Load(_)
-            | Action::Local
-            | Action::Print(_)
-            | Action::Ended(_) => true,
+            _ => true,
         }
     }
 
-    /// Whether the turn of a buffer is handed.
-    fn is_named(&self, b: BufferNo) -> bool
+    /// The process to which the turn of a buffer is handed.
+    fn handed(&self, b: BufferNo) -> Option<ProcNo>
         ensures { (s : CoreState J.Load) →
             SharedStands ⟦<Units<S, K, F, A, B> as Peripherals<J>>⟧.tells self.now s →
-            IsBuffer b → result ≡ is_named (s.buffers b).sides.turn }
+            IsBuffer b → is_some result ≡ is_named (s.buffers b).sides.turn }
     {
         if b == 1 {
-            self.cards.handed().is_some()
+            self.cards.handed()
         } else if b == 2 {
-            self.input.handed().is_some()
+            self.input.handed()
         } else if b == 3 {
-            self.output.handed().is_some()
+            self.output.handed()
         } else {
-            self.lines.handed().is_some()
+            self.lines.handed()
         }
     }
 
-    /// Whether a call that waits is made at a handed turn, and so is made again.
+    /// How the step of a process goes that need not wait: it ends, its call is made again at a handed turn,
+    /// or it acts.
     #[inline(always)]
-    pub fn is_again(&self, p: ProcNo, action: &Action) -> bool
+    pub fn goes(&self, p: ProcNo, action: &Action) -> Stepped
         ensures { (s : CoreState J.Load) →
             SharedStands ⟦<Units<S, K, F, A, B> as Peripherals<J>>⟧.tells self.now s →
-            HasPlace s p action.now → result ≡ is_again s (call p action.now) }
+            HasPlace s p action.now →
+            result ≡ stepped_so false (is_end action.now) (is_again s (call p action.now)) }
     {
         match action {
-            Action::PutFeed(_) | Action::AwaitRoom => self.is_named(p),
-            Action::TakeFeed | Action::AwaitItem => self.is_named(upstream(p)),
-            Action::Request => self.desk.handed().is_some(),
-            Action::PutPage(_)
-            | Action::TakePage
-            | Action::Release
-            | Action::Stop(_)
-            | Action::ReadCard
-            | Action::Load(_)
-            | Action::Local
-            | Action::Print(_)
-            | Action::Ended(_) => false,
+            Action::PutFeed(_) | Action::AwaitRoom => goes_by(self.handed(p)),
+            Action::TakeFeed | Action::AwaitItem => goes_by(self.handed(upstream(p))),
+            Action::Request => goes_by(self.desk.handed()),
+            Action::Ended(_) => Stepped::Ended,
+            _ => Stepped::Acted,
         }
+    }
+}
+
+/// How a call goes that need not wait, by the process to which the turn was handed.
+fn goes_by(handed: Option<ProcNo>) -> Stepped
+    ensures { result ≡ stepped_so false false (is_some handed) }
+{
+    match handed {
+        Some(_) => Stepped::Resumed,
+        None => Stepped::Acted,
     }
 }
 

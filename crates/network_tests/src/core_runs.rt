@@ -24,7 +24,7 @@ fn counts<R: Threads + Wait + Sync + AllocGlobal + Abort>(
         failing: NONE_FAILS,
     };
     let came = run(rt, By::Core(rule), setting, no_files(rt, rt.alloc()))?;
-    assert_eq!(rt; came.outcomes, DONE);
+    assert!(rt; came.outcomes == DONE);
     if let Some(paper) = paper {
         assert_eq!(rt; came.paper.as_slice(), paper.as_bytes());
     }

@@ -12,8 +12,8 @@ ghost use Rattle.schedule_law.specs.NoneCounted.{NoneCounted, NoneLacked};
 
 use batch_ends::{Peripherals, Ran, Units};
 use batch_procs::{JobWork, Loader};
-use core_net::Net;
-use network_run::{Counts, Falling};
+use core_net::run_core;
+use network_run::{Counts, Rule};
 use solo_devices::{Area, Sink, Source};
 use std::alloc::Global;
 
@@ -59,7 +59,5 @@ pub fn run_schedule<J: JobWork, S: Source, K: Sink, F: Loader<J>, A: Area, B: Ar
         AreItsCounts (the_law J.jobs) (rule.Numbered number)
         (opened_over ⟦<Units<S, K, F, A, B> as Peripherals<J>>⟧.tells units) result.1 }
 {
-    let mut net = Net::<J, S, K, F, A, B>::make(alloc, units);
-    let counts = net.run_numbered(number);
-    (net.finish(), counts)
+    run_core::<J, S, K, F, A, B>(alloc, units, Rule::Numbered { number })
 }

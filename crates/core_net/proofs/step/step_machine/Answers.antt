@@ -10,13 +10,13 @@ returns-in-None g c h action stands next =
 pub returns-in-Ok : goal.returns-in-Ok
 returns-in-Ok g c h action stands next =
     steps-acted g.met.J.JobWork.are_jobs _ _ _ c.args.shared.now c.perform.new.self c.args.p action c.next-action.result h
-    (next-is _ action c.next-action.result (c.next-action.ensures.next h stands) next) c.is_end-ends.result c.is_again-again.result c.stepped.result
-    c.stepped.ensures c.is_end-ends.ensures (λ s stood place. c.is_again-again.ensures s stood place) c.in-Some.reply c.in-Some.ensures.performs
+    (next-is _ action c.next-action.result (c.next-action.ensures.next h stands) next) c.goes-goes.result
+    c.goes-goes.ensures c.in-Some.reply c.in-Some.ensures.performs
     c.in-Some.ensures.causes (λ fits. c.in-Ok.ensures.ok h action stands next fits)
 
 pub returns-in-Err : goal.returns-in-Err
 returns-in-Err g c h action stands next =
     steps-lacking g.met.J.JobWork.are_jobs _ _ _ c.args.shared.now c.perform.new.self c.args.p action c.next-action.result h
-    (next-is _ action c.next-action.result (c.next-action.ensures.next h stands) next) c.is_end-ends.result c.is_again-again.result c.stepped-in-Err.result
-    c.stepped-in-Err.ensures c.is_end-ends.ensures (λ s stood place. c.is_again-again.ensures s stood place) c.in-Some.reply c.in-Some.ensures.performs
+    (next-is _ action c.next-action.result (c.next-action.ensures.next h stands) next) c.goes-goes.result
+    c.goes-goes.ensures c.in-Some.reply c.in-Some.ensures.performs
     c.in-Some.ensures.causes (λ fits. c.in-Err.ensures.err h action stands next fits) (λ new. new.follows.1.1)

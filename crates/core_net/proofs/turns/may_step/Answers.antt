@@ -1,12 +1,13 @@
 use Rattle.std.proofs.Common.{subst}
 use Rattle.core_net.specs.Turns.{HasPlace}
+use Rattle.core_net.proofs.Asking.{never}
 use Rattle.core_net.proofs.Stepping.{next-is}
 use Rattle.core_net.proofs.Turning.{never-at-turn, some-next, at-turn}
 use Rattle.core_net.proofs.turns.may_step.Goals as goal
 
 pub returns-then-has_ended : goal.returns-then-has_ended
 returns-then-has_ended g c = λ h s stands shared places. (
-  λ yes. absurd cc,
+  λ yes. never _ yes,
   λ at. absurd (never-at-turn g.met.J.JobWork.are_jobs g.W.Work.process h s c.args.p ((c.has_ended.ensures h stands).0 c.if-has_ended.true) at),
 )
 

@@ -1,32 +1,35 @@
-use Rattle.network_run.specs.declared.rules.Rule.TheVariants as rule
-use Rattle.core_net.specs.Net.{first_place}
-use Rattle.core_net.proofs.WholeRuns.{runs-to-end}
-use Rattle.schedule_law.proofs.TheCounts.{to-end, where-done, where-none_counted}
+use Rattle.solo_devices.specs.CardUnit.{items_ahead}
+use Rattle.core_law.specs.Opening.{Opening}
+use Rattle.core_law.proofs.Law.{opening-reached}
+use Rattle.batch_ends.specs.Openings.{spools_over}
+use Rattle.batch_ends.proofs.ToldCards.{told-cards}
+use Rattle.schedule_law.proofs.TheCounts.{where-done, where-none_counted}
 use Rattle.schedule_law.proofs.schedule.run_schedule.Goals as goal
 
-pub run_numbered-counts-requires : goal.run_numbered-counts-requires
-run_numbered-counts-requires g c = record { before = first_place c.make-net.ensures.opens }
-
-pub finish-requires : goal.finish-requires
-finish-requires g c =
-    let run = c.run_numbered-counts.ensures in
-    record { ended = record { at = run.after; all = run.ended run.after } }
-
-pub returns-clause-runs : goal.returns-clause-runs
-returns-clause-runs g c =
-    runs-to-end g.met.J.JobWork.are_jobs _ _ (rule.Numbered c.args.number) c.run_numbered-counts.new.self _ c.run_numbered-counts.result
-    (c.run_numbered-counts.ensures.runs (first_place c.make-net.ensures.opens)) c.finish.result.outcomes c.finish.result.stopped_by
-    c.finish.ensures.ends c.finish.result.units c.finish.ensures.units
-
-pub returns-clause-done : goal.returns-clause-done
-returns-clause-done g c = λ items is known told.
-    let at = first_place c.make-net.ensures.opens in
-    where-done g.met.J.JobWork.are_jobs at.opening at.state at.reached record { spools = told; items = items; deck = is; files = known }
-    (to-end g.met.J.JobWork.are_jobs (c.run_numbered-counts.ensures.runs at) c.finish.ensures.ends)
-
-pub returns-clause-uncounted : goal.returns-clause-uncounted
-returns-clause-uncounted g c = λ items is known told.
-    let at = first_place c.make-net.ensures.opens in
-    where-none_counted g.met.J.JobWork.are_jobs at.opening at.state at.reached record { spools = told; items = items; deck = is; files = known }
-    (to-end g.met.J.JobWork.are_jobs (c.run_numbered-counts.ensures.runs at) c.finish.ensures.ends)
-    (c.finish.ensures.counted _ (c.run_numbered-counts.ensures.keeps.counted _ c.make-net.ensures.counted))
+pub returns : goal.returns
+returns g c =
+    let o : Opening g.J.JobWork.jobs
+    = record {
+      spools = spools_over (g.A.Area.size c.args.units.input) (g.A.Area.pages c.args.units.input)
+          (g.B.Area.size c.args.units.output) (g.B.Area.pages c.args.units.output);
+      deck = items_ahead (g.S.Source.left c.args.units.deck.source) c.args.units.deck.pending;
+      paper = g.K.Sink.given c.args.units.paper.sink;
+      files = g.F.Loader.found c.args.units.files;
+      bounds = record {
+        input_some = c.requires.input.0;
+        input_most = c.requires.input.1;
+        output_some = c.requires.output.0;
+        output_most = c.requires.output.1;
+      };
+      cards = told-cards (g.S.Source.left c.args.units.deck.source) c.args.units.deck.pending;
+      good = g.met.F.Loader.are_loads c.args.units.files;
+    } in
+    record {
+      runs = c.run_core.ensures.runs;
+      done = λ items is known told.
+          where-done g.met.J.JobWork.are_jobs o _ (opening-reached g.met.J.JobWork.are_jobs o)
+          record { spools = told; items = items; deck = is; files = known } c.run_core.ensures.runs;
+      uncounted = λ items is known told.
+          where-none_counted g.met.J.JobWork.are_jobs o _ (opening-reached g.met.J.JobWork.are_jobs o)
+          record { spools = told; items = items; deck = is; files = known } c.run_core.ensures.runs c.run_core.ensures.counted;
+    }

@@ -28,3 +28,11 @@ pub returns-in-Card-End-clause-ok : goal.returns-in-Card-End-clause-ok
 returns-in-Card-End-clause-ok g c = λ taken sent keeps may.
     let is = c.in-Card-End.is ∙ ap reply.Card c.in-Card-End.field-0-is in
     (sym (ap (λ r. cause_of r taken) is), λ none. card-takes _ _ _ taken sent c.args.reply feed.End (ap taken_by is) refl keeps may)
+
+pub returns-in-Card-Failed-clause-ok : goal.returns-in-Card-Failed-clause-ok
+returns-in-Card-Failed-clause-ok g c = λ taken sent keeps may.
+    let is = c.in-Card-Failed.is ∙ ap reply.Card c.in-Card-Failed.field-0-is in (sym (ap (λ r. cause_of r taken) is), λ none. absurd cc)
+
+pub returns-in-Card-Limit-clause-ok : goal.returns-in-Card-Limit-clause-ok
+returns-in-Card-Limit-clause-ok g c = λ taken sent keeps may.
+    let is = c.in-Card-Limit.is ∙ ap reply.Card c.in-Card-Limit.field-0-is in (sym (ap (λ r. cause_of r taken) is), λ none. absurd cc)

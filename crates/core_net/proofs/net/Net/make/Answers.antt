@@ -1,9 +1,10 @@
-use Rattle.std.proofs.Common.{◌≤◌, sym, subst, ◌∙◌, ap}
+use Rattle.std.proofs.Common.{◌≤◌, refl, sym, subst, ◌∙◌, ap}
 use Rattle.solo_devices.specs.CardUnit.{items_ahead}
 use Rattle.batch_ends.specs.Openings.{spools_over}
 use Rattle.batch_ends.specs.Devices.{cards_left}
 use Rattle.batch_ends.specs.declared.units.Units.{Units}
 use Rattle.batch_ends.proofs.ToldCards.{told-cards}
+use Rattle.core_net.proofs.FaultsCounted.{made-counted}
 use Rattle.core_net.proofs.Within.{opening-within, fresh-few}
 use Rattle.core_net.proofs.net.Net.make.Goals as goal
 
@@ -46,3 +47,7 @@ returns-clause-opens g c = record {
         (fresh-few g.S.Source.taken c.args.units.deck c.requires.unread c.requires.deck.1));
   };
 }
+
+pub returns-clause-counted : goal.returns-clause-counted
+returns-clause-counted g c =
+    made-counted g.met.J.JobWork.are_jobs _ _ _ _ c.args.units _ (returns-clause-opens g c).stands.is c.make.ensures.units refl

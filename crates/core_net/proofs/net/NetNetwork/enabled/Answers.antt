@@ -1,4 +1,5 @@
 use Rattle.std.proofs.Common.{lit≤}
+use Rattle.core_net.proofs.Asking.{never}
 use Rattle.core_net.proofs.Turning.{turn-at, no-other}
 use Rattle.core_net.proofs.net.NetNetwork.enabled.Goals as goal
 
@@ -34,6 +35,6 @@ returns-then-p-eq5 g c = λ at.
 
 pub returns-else-p-eq5 : goal.returns-else-p-eq5
 returns-else-p-eq5 g c = λ at. (
-  λ yes. absurd cc,
+  λ yes. never _ yes,
   λ may. absurd (no-other c.args.p may.one c.if-p-eq1.false c.if-p-eq2.false c.if-p-eq3.false c.if-p-eq4.false c.if-p-eq5.false),
 )
