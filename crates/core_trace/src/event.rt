@@ -3,7 +3,7 @@ ghost use Rattle.core_law.specs.TheLaw.{the_law};
 
 use crate::board::Board;
 use batch_procs::{Action, JobWork, Loader};
-use core_net::Net;
+use net_core::Net;
 use network_run::{Network, Stepped};
 use solo_base::{Feed, Outcome, ProcNo};
 use solo_devices::{Area, Sink, Source};

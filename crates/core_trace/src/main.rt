@@ -16,12 +16,12 @@ mod trace;
 mod words;
 
 use batch_ends::Units;
-use core_net::Net;
 use deck_work::{DeckFiles, DeckWork};
 use disk_files::FileArea;
 use disk_pages::AREA_PAGES;
 use disk_system::format;
 use fault::Fault;
+use net_core::Net;
 use solo_devices::{Area, CardUnit, PrinterUnit, SureArea, SureSink};
 use solo_edge::ReaderSource;
 use std::alloc::Global;

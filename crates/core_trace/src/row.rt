@@ -2,7 +2,7 @@ use crate::board::{Board, Place};
 use crate::event::Event;
 use crate::said::{name_of, write_action, write_feed, write_told};
 use batch_procs::{JobWork, Loader};
-use core_net::Shared;
+use net_core::Shared;
 use solo_base::{BufferNo, Feed, ProcNo};
 use solo_devices::{Area, Sink, Source};
 use std::alloc::{AllocError, Global};

@@ -9,7 +9,7 @@ use crate::picture::Picture;
 use crate::row::{HEAD, row_of};
 use crate::words::{Asked, Form};
 use batch_procs::{Action, JobWork, Loader};
-use core_net::{Net, Shared};
+use net_core::{Net, Shared};
 use network_run::{Counts, Network, Rule, next_by};
 use solo_devices::{Area, Sink, Source};
 use std::alloc::Global;

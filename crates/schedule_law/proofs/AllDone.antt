@@ -20,7 +20,7 @@ use Rattle.core_law.proofs.Reached.{Centre, all-told, told-is, hands-over}
 use Rattle.core_law.proofs.Row.{each-process}
 use Rattle.core_law.proofs.Together.{ends-together}
 use Rattle.core_law.proofs.Undamaged.{have-causes, undamaged}
-use Rattle.core_net.specs.Ended.{EndsSo}
+use Rattle.net_core.specs.Ended.{EndsSo}
 use Rattle.schedule_law.specs.NoneCounted.{NoneCounted, NoneLacked}
 use Rattle.batch_procs.specs.Jobs.{Jobs, AreJobs, FilesAs}
 use Rattle.batch_ends.specs.Causes.{Counts}

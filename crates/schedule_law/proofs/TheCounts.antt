@@ -15,11 +15,11 @@ use Rattle.core_law.specs.Opening.{Opening, first_state}
 use Rattle.core_law.specs.TheLaw.{TellsAll, the_law, IsReached}
 use Rattle.core_law.proofs.Law.{ended-none, sound, sure}
 use Rattle.core_law.proofs.Reached.{Centre, centre-run, reached-centre}
-use Rattle.core_net.specs.declared.net.Net.{Net}
+use Rattle.net_core.specs.declared.net.Net.{Net}
 use Rattle.batch_ends.specs.Causes as device
-use Rattle.core_net.specs.Ended.{EndsSo}
-use Rattle.core_net.specs.Net.{Keeps, NetStands, StandsWithin}
-use Rattle.core_net.specs.WholeRuns.{RunsToEnd}
+use Rattle.net_core.specs.Ended.{EndsSo}
+use Rattle.net_core.specs.Net.{Keeps, NetStands, StandsWithin}
+use Rattle.net_core.specs.WholeRuns.{RunsToEnd}
 use Rattle.schedule_law.specs.NoneCounted.{NoneCounted, NoneLacked}
 use Rattle.schedule_law.proofs.AllDone.{done-so, all-done}
 use Rattle.schedule_law.proofs.AllSmooth.{done-smooth}

@@ -16,12 +16,12 @@ ghost use Rattle.core_law.specs.TheLaw.{TellsAll, the_law, IsReached};
 ghost use Rattle.batch_ends.specs.declared.ends.Outcomes.{Outcomes};
 ghost use Rattle.batch_ends.specs.declared.ends.Ran.{Ran};
 ghost use Rattle.batch_ends.specs.declared.units.Units.{Units};
-ghost use Rattle.core_net.specs.declared.net.Net.{Net};
+ghost use Rattle.net_core.specs.declared.net.Net.{Net};
 ghost use Rattle.batch_ends.specs.Ended.{all_done};
-ghost use Rattle.core_net.specs.Ended.{EndsSo};
+ghost use Rattle.net_core.specs.Ended.{EndsSo};
 ghost use Rattle.batch_ends.specs.Faults.{AreCounted, FaultsAreCounted};
-ghost use Rattle.core_net.specs.Net.{NetStands, StandsWithin, the_keeps};
-ghost use Rattle.core_net.specs.WholeRuns.{RunsToEnd};
+ghost use Rattle.net_core.specs.Net.{NetStands, StandsWithin, the_keeps};
+ghost use Rattle.net_core.specs.WholeRuns.{RunsToEnd};
 ghost use Rattle.schedule_law.specs.NoneCounted.{NoneCounted, NoneLacked};
 
 use batch_ends::{Peripherals, Units};

@@ -7,12 +7,12 @@ ghost use Rattle.core_law.specs.Holds.{AreTold};
 ghost use Rattle.core_law.specs.TheLaw.{the_law};
 ghost use Rattle.batch_ends.specs.Ended.{all_done};
 ghost use Rattle.batch_ends.specs.Tells.{deck_ahead, devices_of, spools_of, opened_over};
-ghost use Rattle.core_net.specs.WholeRuns.{RunsToEnd};
+ghost use Rattle.net_core.specs.WholeRuns.{RunsToEnd};
 ghost use Rattle.schedule_law.specs.NoneCounted.{NoneCounted, NoneLacked};
 
 use batch_ends::{Peripherals, Ran, Units};
 use batch_procs::{JobWork, Loader};
-use core_net::run_core;
+use net_core::run_core;
 use network_run::{Counts, Rule};
 use solo_devices::{Area, Sink, Source};
 use std::alloc::Global;

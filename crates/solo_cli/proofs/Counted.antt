@@ -14,7 +14,7 @@ use Rattle.batch_ends.specs.declared.ends.Outcomes.{Outcomes}
 use Rattle.network_run.specs.declared.rules.Rule.{Rule}
 use Rattle.network_run.specs.Counting.{counts_of}
 use Rattle.batch_ends.specs.Ended.{all_done}
-use Rattle.core_net.specs.WholeRuns.{RunsToEnd}
+use Rattle.net_core.specs.WholeRuns.{RunsToEnd}
 use Rattle.core_law.proofs.Law.{opening-reached, sound, sure}
 use Rattle.batch_procs.specs.Parts.{some-same}
 use Rattle.core_law.specs.FilesKnown.{AreFilesKnown}

@@ -12,7 +12,7 @@ use Rattle.batch_job.specs.Report.{Loads}
 use Rattle.core_law.specs.Core.{Devices as CoreDevices}
 use Rattle.deck_work.specs.DeckJobs.{deck_jobs, AreFound, files_found, found_are_loads}
 use Rattle.batch_ends.specs.Ended.{NoneDamaged, all_done}
-use Rattle.core_net.specs.WholeRuns.{RunsToEnd}
+use Rattle.net_core.specs.WholeRuns.{RunsToEnd}
 use Rattle.disk_contents.specs.declared.loading.Loaded.{Loaded}
 use Rattle.network_run.specs.declared.counts.Counts.{Counts}
 use Rattle.network_run.specs.declared.rules.Rule.TheVariants.{Numbered}

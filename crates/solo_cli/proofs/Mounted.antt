@@ -9,7 +9,7 @@ use Rattle.disk_layout.specs.Format.{IsBad, IsSoloDisk}
 use Rattle.solo_devices.specs.CardUnit.{items_ahead}
 use Rattle.batch_job.specs.OneThread.{one_thread_output}
 use Rattle.core_law.specs.Opening.{opened}
-use Rattle.core_net.specs.WholeRuns.{RunsToEnd}
+use Rattle.net_core.specs.WholeRuns.{RunsToEnd}
 use Rattle.deck_work.specs.DeckJobs.{deck_jobs, AreFound, files_found}
 use Rattle.made_deck.specs.MadeDeck.{made_deck}
 use Rattle.network_run.specs.declared.rules.Rule.TheVariants.{Numbered}

@@ -9,7 +9,7 @@ use Rattle.solo_devices.specs.Count.{Rose, raised}
 use Rattle.solo_devices.specs.CardUnit.{byte_limit}
 use Rattle.batch_ends.specs.declared.ends.Outcomes.{Outcomes}
 use Rattle.batch_ends.specs.Ended.{EndTogether, FaultsAre, all_done}
-use Rattle.core_net.specs.Faults.{disk_fault}
+use Rattle.net_core.specs.Faults.{disk_fault}
 use Rattle.solo_cli.specs.declared.refusal.Refusal.{Refusal}
 use Rattle.solo_cli.specs.declared.refusal.Refusal.TheVariants as refusal
 use Rattle.solo_cli.specs.Devices.{Kit}

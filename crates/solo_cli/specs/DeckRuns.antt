@@ -20,7 +20,7 @@ use Rattle.batch_procs.specs.Table.{process}
 use Rattle.batch_ends.specs.Ended.{outcome_at, stopped_at}
 use Rattle.batch_ends.specs.Openings.{spools_over}
 use Rattle.batch_run.specs.FiveRan.{EndedSo, FiveRan, histories}
-use Rattle.core_net.specs.WholeRuns.{RunsToEnd}
+use Rattle.net_core.specs.WholeRuns.{RunsToEnd}
 use Rattle.deck_work.specs.DeckJobs.{AreFound, deck_jobs, files_found}
 use Rattle.solo_cli.specs.declared.refusal.Refusal.{Refusal}
 use Rattle.solo_cli.specs.CountsLine.{counts_line}

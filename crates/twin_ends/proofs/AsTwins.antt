@@ -18,8 +18,8 @@ use Rattle.batch_procs.specs.Parcels.{Parcel, is_last}
 use Rattle.core_law.specs.Core as core
 use Rattle.core_law.specs.Replies.{entry_of, ReplyFits}
 use Rattle.batch_ends.specs.Devices.{ReadsCard, PrintsLine}
-use Rattle.core_net.specs.Calls.{Visited}
-use Rattle.core_net.specs.Desks.{Asked, Given}
+use Rattle.net_core.specs.Calls.{Visited}
+use Rattle.net_core.specs.Desks.{Asked, Given}
 use Rattle.twin_law.specs.Process.{Action, PutFeed, TakeFeed, AwaitRoom, AwaitItem, PutPage, TakePage, Stop}
 use Rattle.twin_law.specs.Twin.{went}
 use Rattle.twin_ends.specs.TwinCalls.{entry_for, ReplySuits, TwinVisited, TwinAsked, TwinGiven, TwinReads, TwinPrints, TwinLoads}

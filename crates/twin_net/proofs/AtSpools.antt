@@ -5,8 +5,8 @@ use Rattle.solo_base.specs.declared.outcome.Side.{Side}
 use Rattle.disk_spool.specs.Spool.{Spool}
 use Rattle.batch_procs.specs.declared.actions.Reply.{Reply}
 use Rattle.batch_procs.specs.Jobs.{Jobs}
-use Rattle.core_net.specs.Shared.{Choice}
-use Rattle.core_net.specs.Spools.{SpoolStands}
+use Rattle.net_core.specs.Shared.{Choice}
+use Rattle.net_core.specs.Spools.{SpoolStands}
 use Rattle.network_law.specs.Acts.{Visit}
 use Rattle.twin_law.specs.Process.{Action}
 use Rattle.twin_ends.specs.TwinCalls.{TwinVisited}

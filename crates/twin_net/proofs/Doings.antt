@@ -16,7 +16,7 @@ use Rattle.batch_ends.specs.Devices.{cards_left}
 use Rattle.network_law.specs.Acts.{Visit, At, Done}
 use Rattle.network_law.specs.Buffer.{after_visit}
 use Rattle.network_law.proofs.Numbers.{set-other}
-use Rattle.core_net.specs.Lines.{LineStands}
+use Rattle.net_core.specs.Lines.{LineStands}
 use Rattle.twin_law.specs.Process.{Action, ReadCard, Request, Load, Release, Print}
 use Rattle.twin_law.specs.Twin.{call, went, Devices, Allows, given, items_by, read_off, TwinState}
 use Rattle.twin_law.specs.Left.{DrawsFrom}

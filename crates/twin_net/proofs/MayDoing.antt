@@ -16,8 +16,8 @@ use Rattle.network_law.specs.Buffer.{Buffer}
 use Rattle.network_law.specs.Desk.{MayAsk}
 use Rattle.network_law.specs.Network.{IsOne, MayCall, acts}
 use Rattle.network_law.specs.Kept.{IsReady, Stands}
-use Rattle.core_net.specs.Shared.{WaitsAt, PutsAt, TakesAt}
-use Rattle.core_net.specs.Spools.{SpoolStands}
+use Rattle.net_core.specs.Shared.{WaitsAt, PutsAt, TakesAt}
+use Rattle.net_core.specs.Spools.{SpoolStands}
 use Rattle.twin_law.specs.Process.{Action, ReadCard, PutFeed, TakeFeed, AwaitRoom, AwaitItem, Request, PutPage, TakePage, Load, Release, Local, Print, Stop, Ended, Entry, Aim, Reads, PutsFeed, TakesFeed, PutsPage, TakesPage, Loads, Works, Prints, Finishes, place, aim, caused, newest, begins, moves, working, Closing, closing, next_action}
 use Rattle.twin_law.specs.Table.{process}
 use Rattle.twin_law.specs.Twin.{side_at, call, twin, TwinState, IsBuffer}

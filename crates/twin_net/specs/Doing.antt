@@ -10,7 +10,7 @@ use Rattle.batch_procs.specs.Jobs.{Jobs}
 use Rattle.batch_procs.specs.Parcels.{is_last}
 use Rattle.batch_ends.specs.Devices.{cards_left}
 use Rattle.network_law.specs.Network.{Fits, buffers_after, desk_after}
-use Rattle.core_net.specs.Shared.{Choice, WaitsAt, PutsAt, TakesAt}
+use Rattle.net_core.specs.Shared.{Choice, WaitsAt, PutsAt, TakesAt}
 use Rattle.twin_law.specs.Process.{Action, Entry}
 use Rattle.twin_law.specs.Process as law
 use Rattle.twin_law.specs.Twin.{side_at, call, went, Allows, given, TwinState}

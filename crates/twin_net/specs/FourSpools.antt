@@ -8,8 +8,8 @@ use Rattle.batch_procs.specs.Parcels.{Parcel, is_last}
 use Rattle.network_law.specs.Acts.{Visit}
 use Rattle.network_law.specs.Buffer.{Buffer, VisitFits, after_visit}
 use Rattle.network_law.specs.Network.{set}
-use Rattle.core_net.specs.Shared.{Choice}
-use Rattle.core_net.specs.Spools.{SpoolStands}
+use Rattle.net_core.specs.Shared.{Choice}
+use Rattle.net_core.specs.Spools.{SpoolStands}
 use Rattle.twin_law.specs.Process.{Action}
 use Rattle.twin_law.specs.Twin.{went}
 use Rattle.twin_ends.specs.TwinCalls.{entry_for, ReplySuits}

@@ -1,7 +1,7 @@
 -- What the six share on one thread, and the states of the law that it stands for.
 use Rattle.std.specs.Prelude.{◌≡◌, ℕ, Option}
 use Rattle.solo_devices.specs.CardUnit.{Held, bytes_total}
-use Rattle.core_net.specs.Lines.{LineStands}
+use Rattle.net_core.specs.Lines.{LineStands}
 use Rattle.twin_law.specs.Twin.{TwinState}
 use Rattle.twin_ends.specs.TwinTells.{TwinTells, cards_ahead}
 use Rattle.twin_net.specs.declared.shared.TwinShared.{TwinShared}

@@ -2,13 +2,13 @@ ghost use Rattle.std.specs.Prelude.{◌≡◌, ℕ, Some};
 ghost use Rattle.solo_base.specs.declared.outcome.Side.TheVariants.{Sender, Receiver};
 ghost use Rattle.queue_var.specs.Sides.{MayStop};
 ghost use Rattle.network_law.specs.Acts.{Awaits, Moves, Stops};
-ghost use Rattle.core_net.specs.Shared.{WaitsAt, PutsAt, TakesAt};
+ghost use Rattle.net_core.specs.Shared.{WaitsAt, PutsAt, TakesAt};
 ghost use Rattle.twin_law.specs.Process.{AwaitRoom, AwaitItem, PutPage, TakePage, Stop};
 ghost use Rattle.twin_net.specs.FourSpools.{AtSpool, SpoolVisited};
 
 use batch_procs::{JobWork, Reply};
-use core_net::{await_item, await_room, put_page, stop_spool, take_page};
 use disk_spool::Spool;
+use net_core::{await_item, await_room, put_page, stop_spool, take_page};
 use solo_base::{BufferNo, Page, ProcNo, Side};
 use solo_devices::Area;
 

@@ -1,4 +1,4 @@
-use Rattle.core_net.specs.Net.{first_place}
+use Rattle.net_core.specs.Net.{first_place}
 use Rattle.core_trace.proofs.run.Goals as goal
 
 pub trace-requires : goal.trace-requires

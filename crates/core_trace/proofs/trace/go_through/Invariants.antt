@@ -1,6 +1,6 @@
 use Rattle.network_run.specs.Law.{Placed}
 use Rattle.core_law.specs.TheLaw.{the_law}
-use Rattle.core_net.specs.Net.{StandsWithin, the_keeps}
+use Rattle.net_core.specs.Net.{StandsWithin, the_keeps}
 use Rattle.core_trace.proofs.trace.go_through.Given as goal
 
 -- the network stands for a state that was reached

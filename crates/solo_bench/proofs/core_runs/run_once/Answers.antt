@@ -1,4 +1,4 @@
-use Rattle.core_net.specs.Net.{first_place}
+use Rattle.net_core.specs.Net.{first_place}
 use Rattle.solo_bench.proofs.core_runs.run_once.Goals as goal
 
 pub run_by-counts-requires : goal.run_by-counts-requires

@@ -10,7 +10,7 @@ use Rattle.core_law.specs.Opening.{opened}
 use Rattle.network_run.specs.declared.rules.Rule.TheVariants.{Numbered}
 use Rattle.batch_ends.specs.Openings.{spools_over}
 use Rattle.deck_work.specs.DeckJobs.{deck_jobs, files_found, found_are_loads, one_thread_is}
-use Rattle.core_net.specs.WholeRuns.{RunsToEnd}
+use Rattle.net_core.specs.WholeRuns.{RunsToEnd}
 use Rattle.solo_cli.specs.Causes.{IsMakeCause}
 use Rattle.solo_cli.specs.Decides.{LowestDecides, Nothing, decides, list_of}
 use Rattle.solo_cli.specs.Refusals.{OfFault}

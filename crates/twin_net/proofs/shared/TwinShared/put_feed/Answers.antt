@@ -1,7 +1,7 @@
 use Rattle.std.proofs.Common.{ap}
 use Rattle.solo_base.specs.declared.outcome.Side.TheVariants.{Sender}
 use Rattle.network_law.specs.Acts.{At, Passes}
-use Rattle.core_net.specs.Lines.{LineStands}
+use Rattle.net_core.specs.Lines.{LineStands}
 use Rattle.twin_law.specs.Process.{PutFeed}
 use Rattle.twin_ends.proofs.AsTwins.{puts-feed}
 use Rattle.twin_net.proofs.AtSpools.{choice-rest, choice-last}

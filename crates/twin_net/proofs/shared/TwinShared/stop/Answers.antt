@@ -1,6 +1,6 @@
 use Rattle.std.proofs.Common.{Some, refl, sym, ◌∙◌, ap}
 use Rattle.network_law.specs.Acts.{At, Stops}
-use Rattle.core_net.specs.Lines.{LineStands}
+use Rattle.net_core.specs.Lines.{LineStands}
 use Rattle.twin_law.specs.Process.{Stop}
 use Rattle.twin_law.specs.Twin.{side_at}
 use Rattle.twin_ends.proofs.AsTwins.{stops-side}

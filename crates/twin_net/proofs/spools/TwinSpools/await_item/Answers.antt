@@ -1,7 +1,7 @@
 use Rattle.solo_base.specs.declared.outcome.Side.TheVariants.{Receiver}
 use Rattle.network_law.specs.Acts.{Awaits}
-use Rattle.core_net.specs.Shared.{WaitsAt}
-use Rattle.core_net.specs.Spools.{SpoolStands}
+use Rattle.net_core.specs.Shared.{WaitsAt}
+use Rattle.net_core.specs.Spools.{SpoolStands}
 use Rattle.twin_law.specs.Process.{AwaitItem}
 use Rattle.twin_ends.proofs.AsTwins.{awaits-item}
 use Rattle.twin_net.proofs.AtSpools.{last-number, at-to_a, at-to_b, at-from_a, at-from_b}

@@ -1,7 +1,7 @@
 use Rattle.std.proofs.Common.{Some}
 use Rattle.network_law.specs.Acts.{Stops}
 use Rattle.queue_var.specs.Sides.{MayStop}
-use Rattle.core_net.specs.Spools.{SpoolStands}
+use Rattle.net_core.specs.Spools.{SpoolStands}
 use Rattle.twin_law.specs.Process.{Stop}
 use Rattle.twin_ends.proofs.AsTwins.{stops-side}
 use Rattle.twin_net.proofs.AtSpools.{last-number, at-to_a, at-to_b, at-from_a, at-from_b}

@@ -1,8 +1,8 @@
 use Rattle.std.proofs.Common.{Some}
 use Rattle.solo_base.specs.declared.outcome.Side.TheVariants.{Receiver}
 use Rattle.network_law.specs.Acts.{Moves}
-use Rattle.core_net.specs.Shared.{TakesAt}
-use Rattle.core_net.specs.Spools.{SpoolStands}
+use Rattle.net_core.specs.Shared.{TakesAt}
+use Rattle.net_core.specs.Spools.{SpoolStands}
 use Rattle.twin_law.specs.Process.{TakePage}
 use Rattle.twin_ends.proofs.AsTwins.{takes-page}
 use Rattle.twin_net.proofs.AtSpools.{last-number, at-to_a, at-to_b, at-from_a, at-from_b}

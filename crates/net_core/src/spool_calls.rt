@@ -1,0 +1,104 @@
+ghost use Rattle.std.specs.Prelude.{◌≡◌, ◌≢◌, ◌<◌, ◌≤◌, ℕ, [], length, false, None, Some};
+ghost use Rattle.solo_base.specs.declared.outcome.Side.TheVariants.{Sender, Receiver};
+ghost use Rattle.queue_var.specs.declared.turn.Turn.TheVariants.{Free};
+ghost use Rattle.queue_var.specs.Sides.{MayEnter, has_stopped, queue};
+ghost use Rattle.solo_devices.specs.Count.{Rose};
+ghost use Rattle.batch_procs.specs.declared.actions.Action.TheVariants as act;
+ghost use Rattle.batch_procs.specs.declared.actions.Reply.TheVariants as reply;
+ghost use Rattle.network_law.specs.Acts.{Awaits, Moves, Stops};
+ghost use Rattle.net_core.specs.Calls.{Visited};
+ghost use Rattle.net_core.specs.Spools.{SpoolStands};
+
+use batch_procs::{JobWork, Reply};
+use disk_spool::{Await, Fetched, Spool};
+use solo_base::{BufferNo, Page, ProcNo, Side};
+use solo_devices::{Area, Moved};
+
+/// Waits until a spool has room for a page. No reply: the process waits.
+pub fn await_room<J: JobWork, A: Area>(spool: &mut Spool<A>, p: ProcNo) -> Option<Reply<J::Load>>
+    requires may_enter { MayEnter spool.old.sides Sender p }
+    requires not_stopped { has_stopped spool.old.sides Sender ≡ false }
+    ensures visited { Visited J.jobs
+        (SpoolStands A.pages) spool.old spool.new Sender Awaits p act.AwaitRoom result }
+    ensures area { spool.new.area ≡ spool.old.area }
+{
+    reply_of(spool.await_room(p))
+}
+
+/// Waits until a spool has a page. No reply: the process waits.
+pub fn await_item<J: JobWork, A: Area>(spool: &mut Spool<A>, p: ProcNo) -> Option<Reply<J::Load>>
+    requires may_enter { MayEnter spool.old.sides Receiver p }
+    requires not_stopped { has_stopped spool.old.sides Receiver ≡ false }
+    ensures visited { Visited J.jobs
+        (SpoolStands A.pages) spool.old spool.new Receiver Awaits p act.AwaitItem result }
+    ensures area { spool.new.area ≡ spool.old.area }
+{
+    reply_of(spool.await_item(p))
+}
+
+/// Puts a page into a spool that has room.
+pub fn put_page<J: JobWork, A: Area>(spool: &mut Spool<A>, page: Page) -> Reply<J::Load>
+    requires free { spool.old.sides.turn ≡ Free }
+    requires nobody_waits { queue spool.old.sides Sender ≡ None }
+    requires room { length spool.old.ring.marks < spool.old.ring.capacity }
+    requires not_stopped { has_stopped spool.old.sides Sender ≡ false }
+    ensures visited { (p : ℕ)
+        → Visited J.jobs (SpoolStands A.pages) spool.old
+        spool.new Sender Moves p (act.PutPage page) (Some result) }
+    ensures failed { result ≡ reply.Failed → Rose (A.faults spool.old.area) (A.faults spool.new.area) }
+    ensures counts { A.faults spool.old.area ≤ A.faults spool.new.area }
+{
+    match spool.put(&page) {
+        Moved::Done => Reply::Done,
+        Moved::Failed => Reply::Failed,
+    }
+}
+
+/// Takes a page from a spool that has one.
+pub fn take_page<J: JobWork, A: Area>(spool: &mut Spool<A>) -> Reply<J::Load>
+    requires free { spool.old.sides.turn ≡ Free }
+    requires nobody_waits { queue spool.old.sides Receiver ≡ None }
+    requires item { spool.old.ring.marks ≢ [] }
+    requires not_stopped { has_stopped spool.old.sides Receiver ≡ false }
+    ensures visited { (p : ℕ)
+        → Visited J.jobs (SpoolStands A.pages) spool.old
+        spool.new Receiver Moves p act.TakePage (Some result) }
+    ensures failed { result ≡ reply.Failed → Rose (A.faults spool.old.area) (A.faults spool.new.area) }
+    ensures counts { A.faults spool.old.area ≤ A.faults spool.new.area }
+{
+    let mut page = Page::zeros();
+    match spool.take(&mut page) {
+        Fetched::Done { last } => Reply::Page { page, last },
+        Fetched::Failed => Reply::Failed,
+    }
+}
+
+/// Stops a spool, which has this number, at a side.
+pub fn stop_spool<J: JobWork, A: Area>(
+    spool: &mut Spool<A>,
+    number: BufferNo,
+    side: Side,
+) -> Reply<J::Load>
+    requires free { spool.old.sides.turn ≡ Free }
+    requires nobody_waits { queue spool.old.sides side ≡ None }
+    ensures visited { (p : ℕ)
+        → Visited J.jobs (SpoolStands A.pages) spool.old
+        spool.new side Stops p (act.Stop number) (Some result) }
+    ensures area { spool.new.area ≡ spool.old.area }
+{
+    let _ = number;
+    spool.stop(side);
+    Reply::Done
+}
+
+ghost use Rattle.net_core.specs.Calls.{await_reply};
+
+fn reply_of<L>(answer: Await) -> Option<Reply<L>>
+    ensures { result ≡ await_reply answer }
+{
+    match answer {
+        Await::Ready => Some(Reply::Done),
+        Await::Delayed => None,
+        Await::Stopped => Some(Reply::Stopped),
+    }
+}
