@@ -81,8 +81,8 @@ impl<A: Area> FileArea<A> {
         }
     }
 
-    /// Whether no call failed since the mount: what is kept in memory is then what the area has, and its pages
-    /// are a Solo disk.
+    /// Whether no call failed since the mount: what is kept in memory is then what the area has, and its
+    /// pages are a Solo disk.
     pub fn sound(&self) -> bool
         ensures value { result ≡ self.now.sound }
         ensures solo { IsTrue result → (pages : List (List ℕ)) → A.pages self.now.area ≡ Some pages
