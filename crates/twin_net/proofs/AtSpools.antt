@@ -9,9 +9,10 @@ use Rattle.net_core.specs.Shared.{Choice}
 use Rattle.net_core.specs.Spools.{SpoolStands}
 use Rattle.network_law.specs.Acts.{Visit}
 use Rattle.twin_law.specs.Process.{Action}
-use Rattle.twin_ends.specs.TwinCalls.{TwinVisited}
+use Rattle.twin_ends.specs.TwinCalls.{ReplySuits, TwinVisited}
 use Rattle.twin_net.specs.declared.spools.TwinSpools.{TwinSpools}
 use Rattle.twin_net.specs.FourSpools.{AtSpool, SpoolVisited}
+use Rattle.twin_net.proofs.Failing.{same-least, four-on, AreaCounts}
 
 -- ---- choices by a number
 refused : (t : Bool) (X Y : Type 0) → t ≡ false → Choice t X Y → Y
@@ -43,40 +44,55 @@ last-number s b Holds is two three four =
     choice-last b 5 (Holds s.from_b) (choice-rest b 4 (Holds s.from_a) _
     (choice-rest b 3 (Holds s.to_b) _ (choice-rest b 2 (Holds s.to_a) _ is two) three) four)
 
-module _ {L A : Type 0} (J : Jobs L) (told_by : A → Option (List (List ℕ))) (old : TwinSpools A) (new : Spool A) (side : Side) (visit : Visit) (p b : ℕ)
+module _ {L A : Type 0} (J : Jobs L) (told_by : A → Option (List (List ℕ))) (faults : A → ℕ) (old : TwinSpools A) (new : Spool A) (side : Side) (visit : Visit) (p b : ℕ)
     (action : Action)
     (result : Option (Reply L)) where
   abbrev Visits : Spool A → Type 0
   Visits before = TwinVisited J (SpoolStands told_by) before new side visit p action result
 
-  pub at-to_a : b ≡ 2 → Visits old.to_a → SpoolVisited J told_by old (record old { to_a = new }) side visit p b action result
-  at-to_a e v = subst (λ b. SpoolVisited J told_by old (record old { to_a = new }) side visit p b action result) (sym e) record {
+  abbrev Counts : Spool A → Type 0
+  Counts before = ReplySuits J action result → AreaCounts J faults before.area new.area result
+
+  pub at-to_a : b ≡ 2 → Visits old.to_a → Counts old.to_a → SpoolVisited J told_by faults old (record old { to_a = new }) side visit p b action result
+  at-to_a e v counts = subst (λ b. SpoolVisited J told_by faults old (record old { to_a = new }) side visit p b action result) (sym e) record {
     number = (omega arith, omega arith);
     suits = v.suits;
     fits = λ buffers st. v.fits (buffers 2) st.to_a;
     after = λ buffers st. record { to_a = v.after (buffers 2) st.to_a; to_b = st.to_b; from_a = st.from_a; from_b = st.from_b };
+    failed = (counts v.suits).failed;
+    counts = four-on faults old.to_a.area old.to_b.area old.from_a.area old.from_b.area new.area old.to_b.area old.from_a.area old.from_b.area
+        ((counts v.suits).on) (same-least _) (same-least _) (same-least _);
   }
 
-  pub at-to_b : b ≡ 3 → Visits old.to_b → SpoolVisited J told_by old (record old { to_b = new }) side visit p b action result
-  at-to_b e v = subst (λ b. SpoolVisited J told_by old (record old { to_b = new }) side visit p b action result) (sym e) record {
+  pub at-to_b : b ≡ 3 → Visits old.to_b → Counts old.to_b → SpoolVisited J told_by faults old (record old { to_b = new }) side visit p b action result
+  at-to_b e v counts = subst (λ b. SpoolVisited J told_by faults old (record old { to_b = new }) side visit p b action result) (sym e) record {
     number = (omega arith, omega arith);
     suits = v.suits;
     fits = λ buffers st. v.fits (buffers 3) st.to_b;
     after = λ buffers st. record { to_a = st.to_a; to_b = v.after (buffers 3) st.to_b; from_a = st.from_a; from_b = st.from_b };
+    failed = (counts v.suits).failed;
+    counts = four-on faults old.to_a.area old.to_b.area old.from_a.area old.from_b.area old.to_a.area new.area old.from_a.area old.from_b.area
+        (same-least _) ((counts v.suits).on) (same-least _) (same-least _);
   }
 
-  pub at-from_a : b ≡ 4 → Visits old.from_a → SpoolVisited J told_by old (record old { from_a = new }) side visit p b action result
-  at-from_a e v = subst (λ b. SpoolVisited J told_by old (record old { from_a = new }) side visit p b action result) (sym e) record {
+  pub at-from_a : b ≡ 4 → Visits old.from_a → Counts old.from_a → SpoolVisited J told_by faults old (record old { from_a = new }) side visit p b action result
+  at-from_a e v counts = subst (λ b. SpoolVisited J told_by faults old (record old { from_a = new }) side visit p b action result) (sym e) record {
     number = (omega arith, omega arith);
     suits = v.suits;
     fits = λ buffers st. v.fits (buffers 4) st.from_a;
     after = λ buffers st. record { to_a = st.to_a; to_b = st.to_b; from_a = v.after (buffers 4) st.from_a; from_b = st.from_b };
+    failed = (counts v.suits).failed;
+    counts = four-on faults old.to_a.area old.to_b.area old.from_a.area old.from_b.area old.to_a.area old.to_b.area new.area old.from_b.area
+        (same-least _) (same-least _) ((counts v.suits).on) (same-least _);
   }
 
-  pub at-from_b : b ≡ 5 → Visits old.from_b → SpoolVisited J told_by old (record old { from_b = new }) side visit p b action result
-  at-from_b e v = subst (λ b. SpoolVisited J told_by old (record old { from_b = new }) side visit p b action result) (sym e) record {
+  pub at-from_b : b ≡ 5 → Visits old.from_b → Counts old.from_b → SpoolVisited J told_by faults old (record old { from_b = new }) side visit p b action result
+  at-from_b e v counts = subst (λ b. SpoolVisited J told_by faults old (record old { from_b = new }) side visit p b action result) (sym e) record {
     number = (omega arith, omega arith);
     suits = v.suits;
     fits = λ buffers st. v.fits (buffers 5) st.from_b;
     after = λ buffers st. record { to_a = st.to_a; to_b = st.to_b; from_a = st.from_a; from_b = v.after (buffers 5) st.from_b };
+    failed = (counts v.suits).failed;
+    counts = four-on faults old.to_a.area old.to_b.area old.from_a.area old.from_b.area old.to_a.area old.to_b.area old.from_a.area new.area
+        (same-least _) (same-least _) (same-least _) ((counts v.suits).on);
   }

@@ -1,9 +1,10 @@
 -- What a call at one of the monitors or devices is to all that the six share.
-use Rattle.std.proofs.Common.{◌≡◌, ◌≢◌, ◌<◌, ℕ, true, false, not, Bool, List, [], ◌++◌, length, drop, Option, None, Some, refl, sym, ◌∙◌, ap, subst, option_map, arith}
+use Rattle.std.proofs.Common.{◌≡◌, ◌≢◌, ◌≤◌, ◌<◌, ◌↔◌, ◌⊎◌, inl, ℕ, true, false, not, Bool, List, [], ◌++◌, length, drop, Option, None, Some, refl, sym, ◌∙◌, ap, subst, option_map, arith}
 use Rattle.std.proofs.lemmas.List.{append-nil}
 use Rattle.solo_base.specs.declared.item.Feed.{Feed}
 use Rattle.solo_base.specs.declared.outcome.Side.{Side}
-use Rattle.solo_devices.specs.CardUnit.{Held}
+use Rattle.solo_devices.specs.CardUnit.{Held, byte_limit}
+use Rattle.solo_devices.specs.Count.{Rose}
 use Rattle.solo_devices.specs.declared.card_read.CardRead.TheVariants as read
 use Rattle.solo_devices.specs.PrinterUnit.{Printing}
 use Rattle.resource_mon.specs.Claims.{Claims}
@@ -22,12 +23,13 @@ use Rattle.twin_law.specs.Twin.{call, went, Devices, Allows, given, items_by, re
 use Rattle.twin_law.specs.Left.{DrawsFrom}
 use Rattle.twin_procs.specs.declared.actions.TwinAction.{TwinAction}
 use Rattle.twin_ends.specs.TwinCalls.{entry_for, ReplySuits, TwinVisited, TwinAsked, TwinGiven, TwinReads, TwinPrints, TwinLoads}
-use Rattle.twin_ends.specs.TwinTells.{TwinTells, cards_ahead}
+use Rattle.twin_ends.specs.TwinTells.{TwinTells, TwinCounts, cards_ahead}
 use Rattle.twin_net.specs.declared.shared.TwinShared.{TwinShared}
 use Rattle.twin_net.specs.declared.spools.TwinSpools.{TwinSpools}
 use Rattle.twin_net.specs.FourSpools.{SpoolVisited}
 use Rattle.twin_net.specs.TwinStands.{cards_total}
 use Rattle.twin_net.specs.Doing.{meant, is_failure, MayLoad, DoneSo}
+use Rattle.twin_net.proofs.Failing.{same-least, same-reply, NeverFails, no-card, quiet-causes, page-failed}
 
 -- ---- the devices stay
 same-deck : {X : Type 0} (deck : Option (List X)) → option_map (drop 0) deck ≡ deck
@@ -58,7 +60,7 @@ module _ {L : Type 0} (J : Jobs L) where
   silent action None is = record { allowed = λ devices. refl; none_read = refl; none_drawn = λ cards. refl }
   silent action (Some r) is = record { allowed = λ devices. refl; none_read = refl; none_drawn = λ cards. refl }
 
-  module _ {X S K F A : Type 0} (tells : TwinTells L S K F A) (old : TwinShared X S K F A) (p : ℕ) (action : Action) (result : Option (Reply L)) where
+  module _ {X S K F A : Type 0} (tells : TwinTells L S K F A) (counts : TwinCounts S K F A) (old : TwinShared X S K F A) (p : ℕ) (action : Action) (result : Option (Reply L)) where
     deck-stays : (s : TwinState L) → IsSilent action result → s.devices.deck ≡ cards_ahead tells old.deck
         → (given s.devices (entry_for action result) []).deck ≡ cards_ahead tells old.deck
     deck-stays s quiet e = ap (λ items. option_map (drop (length items)) s.devices.deck) quiet.none_read ∙ same-deck s.devices.deck ∙ e
@@ -68,11 +70,12 @@ module _ {L : Type 0} (J : Jobs L) where
     paper-stays s e = same-paper s.devices.paper ∙ e
 
     -- ---- at a line buffer
-    pub at-cards : (new : Slot Feed) (side : Side) (visit : Visit) → NoDevice action → call p action ≡ At 1 side visit
+    pub at-cards : (new : Slot Feed) (side : Side) (visit : Visit) → NoDevice action → NeverFails action → call p action ≡ At 1 side visit
         → TwinVisited J LineStands old.cards new side visit p action result
-        → DoneSo J tells old (record old { cards = new }) p action result
-    at-cards new side visit quiet e v = record {
+        → DoneSo J tells counts old (record old { cards = new }) p action result
+    at-cards new side visit quiet never e v = record {
       suits = v.suits;
+      causes = quiet-causes J counts old (record old { cards = new }) action result v.suits never refl refl;
       gained = [];
       deck = (silent action result quiet).none_drawn _;
       total = refl;
@@ -93,11 +96,12 @@ module _ {L : Type 0} (J : Jobs L) where
       };
     }
 
-    pub at-lines : (new : Slot Feed) (side : Side) (visit : Visit) → NoDevice action → call p action ≡ At 6 side visit
+    pub at-lines : (new : Slot Feed) (side : Side) (visit : Visit) → NoDevice action → NeverFails action → call p action ≡ At 6 side visit
         → TwinVisited J LineStands old.lines new side visit p action result
-        → DoneSo J tells old (record old { lines = new }) p action result
-    at-lines new side visit quiet e v = record {
+        → DoneSo J tells counts old (record old { lines = new }) p action result
+    at-lines new side visit quiet never e v = record {
       suits = v.suits;
+      causes = quiet-causes J counts old (record old { lines = new }) action result v.suits never refl refl;
       gained = [];
       deck = (silent action result quiet).none_drawn _;
       total = refl;
@@ -119,8 +123,11 @@ module _ {L : Type 0} (J : Jobs L) where
     }
 
     -- ---- at a spool
+    no-read : NoDevice action → action ≢ ReadCard
+    no-read quiet e = subst NoDevice e quiet
+
     pub at-spools : (new : TwinSpools A) (b : ℕ) (side : Side) (visit : Visit) → NoDevice action → call p action ≡ At b side visit
-        → SpoolVisited J tells.pages old.spools new side visit p b action result → DoneSo J tells old (record old { spools = new }) p action result
+        → SpoolVisited J tells.pages counts.page_faults old.spools new side visit p b action result → DoneSo J tells counts old (record old { spools = new }) p action result
     at-spools new b side visit quiet e v =
         let low = v.number.0 in
         let high = v.number.1 in
@@ -128,6 +135,19 @@ module _ {L : Type 0} (J : Jobs L) where
         let not_six : 6 ≡ b → ⊥ = λ same. (omega (arith, high, same)) in
         record {
           suits = v.suits;
+          causes = record {
+            failed = λ failed. page-failed J counts old (record old { spools = new }) action result v.suits b side visit p action e
+                (subst (ReplySuits J action) failed v.suits) (v.failed failed);
+            read = λ card. absurd (no-card J action _ (no-read quiet) (subst (ReplySuits J action) card v.suits));
+            limit = λ card. absurd (no-card J action _ (no-read quiet) (subst (ReplySuits J action) card v.suits));
+            limit_told = λ reads. absurd (no-read quiet reads);
+            unsound = λ unsound. inl unsound;
+            read_on = same-least _;
+            print_on = same-least _;
+            files_on = same-least _;
+            spools_on = v.counts;
+            deck_stays = λ not. refl;
+          };
           gained = [];
           deck = (silent action result quiet).none_drawn _;
           total = refl;
@@ -150,12 +170,13 @@ module _ {L : Type 0} (J : Jobs L) where
           };
         }
 
-  module _ {X S K F A : Type 0} (tells : TwinTells L S K F A) (old : TwinShared X S K F A) (p : ℕ) where
+  module _ {X S K F A : Type 0} (tells : TwinTells L S K F A) (counts : TwinCounts S K F A) (old : TwinShared X S K F A) (p : ℕ) where
     -- ---- at the desk
     pub at-request : (new : Claims) (result : Option (Reply L)) → TwinAsked J old.desk new p result
-        → DoneSo J tells old (record old { desk = new }) p Request result
+        → DoneSo J tells counts old (record old { desk = new }) p Request result
     at-request new result a = record {
       suits = a.suits;
+      causes = quiet-causes J counts old (record old { desk = new }) Request result a.suits tt refl refl;
       gained = [];
       deck = (silent Request result tt).none_drawn _;
       total = refl;
@@ -166,8 +187,8 @@ module _ {L : Type 0} (J : Jobs L) where
       fits = λ s st. a.fits ∙ ap (λ (c : Claims). Rattle.network_law.specs.Desk.asked c.handed c.holder) (sym st.desk);
       allowed = λ s st. (silent Request result tt).allowed s.devices;
       after = λ s hs st. record {
-        deck = deck-stays tells old p Request result s (silent Request result tt) st.deck;
-        paper = paper-stays tells old p Request result s st.paper;
+        deck = deck-stays tells counts old p Request result s (silent Request result tt) st.deck;
+        paper = paper-stays tells counts old p Request result s st.paper;
         files = st.files;
         cards = st.cards;
         spools = st.spools;
@@ -176,9 +197,10 @@ module _ {L : Type 0} (J : Jobs L) where
       };
     }
 
-    pub at-release : (new : Claims) (r : Reply L) → TwinGiven J old.desk new r → DoneSo J tells old (record old { desk = new }) p Release (Some r)
+    pub at-release : (new : Claims) (r : Reply L) → TwinGiven J old.desk new r → DoneSo J tells counts old (record old { desk = new }) p Release (Some r)
     at-release new r a = record {
       suits = a.suits;
+      causes = quiet-causes J counts old (record old { desk = new }) Release (Some r) a.suits tt refl refl;
       gained = [];
       deck = refl;
       total = refl;
@@ -189,8 +211,8 @@ module _ {L : Type 0} (J : Jobs L) where
       fits = λ s st. a.fits;
       allowed = λ s st. refl;
       after = λ s hs st. record {
-        deck = deck-stays tells old p Release (Some r) s (silent Release (Some r) tt) st.deck;
-        paper = paper-stays tells old p Release (Some r) s st.paper;
+        deck = deck-stays tells counts old p Release (Some r) s (silent Release (Some r) tt) st.deck;
+        paper = paper-stays tells counts old p Release (Some r) s st.paper;
         files = st.files;
         cards = st.cards;
         spools = st.spools;
@@ -206,9 +228,24 @@ module _ {L : Type 0} (J : Jobs L) where
 
     pub at-deck : (new : Held S) (r : Reply L) → TwinReads J (cards_ahead tells old.deck) (cards_ahead tells new) r
         → (0 < length (items_by r) → cards_left tells.taken new < cards_left tells.taken old.deck) → cards_total tells new ≡ cards_total tells old.deck
-        → (r ≢ reply.Card read.Failed → r ≢ reply.Card read.Limit → new.live ≡ true) → DoneSo J tells old (record old { deck = new }) p ReadCard (Some r)
-    at-deck new r reads fewer total live = record {
+        → (r ≢ reply.Card read.Failed → r ≢ reply.Card read.Limit → new.live ≡ true)
+        → (r ≡ reply.Card read.Failed → Rose (counts.read_faults old.deck.source) (counts.read_faults new.source))
+        → counts.read_faults old.deck.source ≤ counts.read_faults new.source → (r ≡ reply.Card read.Limit) ↔ (byte_limit < counts.taken new.source)
+        → DoneSo J tells counts old (record old { deck = new }) p ReadCard (Some r)
+    at-deck new r reads fewer total live failed on limit = record {
       suits = reads.suits;
+      causes = record {
+        failed = λ e. absurd (subst (ReplySuits J ReadCard) e reads.suits).0;
+        read = λ e. failed (same-reply r _ e);
+        limit = λ e. limit.0 (same-reply r _ e);
+        limit_told = λ is over. ap Some (limit.1 over);
+        unsound = λ unsound. inl unsound;
+        read_on = on;
+        print_on = same-least _;
+        files_on = same-least _;
+        spools_on = λ b. same-least _;
+        deck_stays = λ not. absurd (not refl);
+      };
       gained = [];
       deck = fewer;
       total = total;
@@ -220,7 +257,7 @@ module _ {L : Type 0} (J : Jobs L) where
       allowed = λ s st. reads.allowed s.devices st.deck;
       after = λ s hs st. record {
         deck = ap (option_map (drop (length (items_by r)))) st.deck ∙ reads.after;
-        paper = paper-stays tells old p ReadCard (Some r) s st.paper;
+        paper = paper-stays tells counts old p ReadCard (Some r) s st.paper;
         files = st.files;
         cards = st.cards;
         spools = st.spools;
@@ -229,9 +266,6 @@ module _ {L : Type 0} (J : Jobs L) where
       };
     }
 
-    same-reply : (r : Reply L) → Some r ≡ Some reply.Done → r ≡ reply.Done
-    same-reply r e = cc
-
     print-done : (line : List ℕ) (r : Reply L) → ReplySuits J (Print line) (Some r) → went (entry_for (Print line) (Some r)) ≡ Done
     print-done line reply.Done suits = refl
     print-done line reply.Failed suits = refl
@@ -239,16 +273,30 @@ module _ {L : Type 0} (J : Jobs L) where
     print-done line r suits = absurd suits.0
 
     pub at-paper : (new : Printing K) (line : List ℕ) (r : Reply L) → TwinPrints J (tells.given old.paper.sink) (tells.given new.sink) line r
-        → (r ≡ reply.Done → new.live ≡ true) → DoneSo J tells old (record old { paper = new }) p (Print line) (Some r)
-    at-paper new line r prints live = record {
+        → (r ≡ reply.Done → new.live ≡ true) → (r ≡ reply.Failed → Rose (counts.print_faults old.paper.sink) (counts.print_faults new.sink))
+        → counts.print_faults old.paper.sink ≤ counts.print_faults new.sink
+        → DoneSo J tells counts old (record old { paper = new }) p (Print line) (Some r)
+    at-paper new line r prints live failed on = record {
       suits = prints.suits;
+      causes = record {
+        failed = λ e. failed (same-reply r reply.Failed e);
+        read = λ e. absurd (subst (ReplySuits J (Print line)) e prints.suits).0;
+        limit = λ e. absurd (subst (ReplySuits J (Print line)) e prints.suits).0;
+        limit_told = λ is over. absurd cc;
+        unsound = λ unsound. inl unsound;
+        read_on = same-least _;
+        print_on = on;
+        files_on = same-least _;
+        spools_on = λ b. same-least _;
+        deck_stays = λ not. refl;
+      };
       gained = prints.gained;
       deck = refl;
       total = refl;
       files = refl;
       sound = λ may. may;
       deck_live = λ live a b. live;
-      paper_live = λ was a. live (same-reply r (a tt));
+      paper_live = λ was a. live (same-reply r reply.Done (a tt));
       fits = λ s st. print-done line r prints.suits;
       allowed = λ s st. prints.allowed s.devices;
       after = λ s hs st. record {
@@ -270,9 +318,24 @@ module _ {L : Type 0} (J : Jobs L) where
 
     pub at-files : (new : F) (sound : Bool) (file : List ℕ) (r : Reply L) → TwinLoads J (tells.files old.files) file r → tells.files new ≡ tells.files old.files
         → tells.file_pages new ≡ tells.file_pages old.files → (MayLoad tells old → MayLoad tells (record old { files = new; sound = sound }))
-        → DoneSo J tells old (record old { files = new; sound = sound }) p (Load file) (Some r)
-    at-files new sound file r is found left may = record {
+        → (r ≡ reply.Failed → (old.sound ≡ false) ⊎ Rose (counts.file_faults old.files) (counts.file_faults new))
+        → counts.file_faults old.files ≤ counts.file_faults new
+        → (sound ≡ false → (old.sound ≡ false) ⊎ Rose (counts.file_faults old.files) (counts.file_faults new))
+        → DoneSo J tells counts old (record old { files = new; sound = sound }) p (Load file) (Some r)
+    at-files new sound file r is found left may failed on unsound = record {
       suits = is.suits;
+      causes = record {
+        failed = λ e. failed (same-reply r reply.Failed e);
+        read = λ e. absurd (subst (ReplySuits J (Load file)) e is.suits).0;
+        limit = λ e. absurd (subst (ReplySuits J (Load file)) e is.suits).0;
+        limit_told = λ same over. absurd cc;
+        unsound = unsound;
+        read_on = same-least _;
+        print_on = same-least _;
+        files_on = on;
+        spools_on = λ b. same-least _;
+        deck_stays = λ not. refl;
+      };
       gained = [];
       deck = refl;
       total = refl;
@@ -294,10 +357,11 @@ module _ {L : Type 0} (J : Jobs L) where
     }
 
     -- ---- at none of them
-    pub at-none : (action : Action) → NoDevice action → ReplySuits J action (Some reply.Done) → call p action ≡ Rattle.network_law.specs.Acts.Alone
-        → went {L = L} (entry_for action (Some reply.Done)) ≡ Done → DoneSo J tells old old p action (Some reply.Done)
-    at-none action quiet suits e done = record {
+    pub at-none : (action : Action) → NoDevice action → NeverFails action → ReplySuits J action (Some reply.Done) → call p action ≡ Rattle.network_law.specs.Acts.Alone
+        → went {L = L} (entry_for action (Some reply.Done)) ≡ Done → DoneSo J tells counts old old p action (Some reply.Done)
+    at-none action quiet never suits e done = record {
       suits = suits;
+      causes = quiet-causes J counts old old action (Some reply.Done) suits never refl refl;
       gained = [];
       deck = (silent action (Some reply.Done) quiet).none_drawn _;
       total = refl;
@@ -308,8 +372,8 @@ module _ {L : Type 0} (J : Jobs L) where
       fits = λ s st. rw e done;
       allowed = λ s st. (silent action (Some reply.Done) quiet).allowed s.devices;
       after = λ s hs st. record {
-        deck = deck-stays tells old p action (Some reply.Done) s (silent action (Some reply.Done) quiet) st.deck;
-        paper = paper-stays tells old p action (Some reply.Done) s st.paper;
+        deck = deck-stays tells counts old p action (Some reply.Done) s (silent action (Some reply.Done) quiet) st.deck;
+        paper = paper-stays tells counts old p action (Some reply.Done) s st.paper;
         files = st.files;
         cards = rw e st.cards;
         spools = rw e st.spools;
@@ -319,12 +383,20 @@ module _ {L : Type 0} (J : Jobs L) where
     }
 
   -- ---- by what the action is
-  pub at-action : {X S K F A : Type 0} (tells : TwinTells L S K F A) (old new : TwinShared X S K F A) (p : ℕ) (a b : TwinAction) (result : Option (Reply L))
+  pub at-action : {X S K F A : Type 0} (tells : TwinTells L S K F A) (counts : TwinCounts S K F A) (old new : TwinShared X S K F A) (p : ℕ) (a b : TwinAction) (result : Option (Reply L))
       → a ≡ b
-      → DoneSo J tells old new p (meant b) result → DoneSo J tells old new p (meant a) result
-  at-action tells old new p a b result e is = subst (λ a. DoneSo J tells old new p (meant a) result) (sym e) is
+      → DoneSo J tells counts old new p (meant b) result → DoneSo J tells counts old new p (meant a) result
+  at-action tells counts old new p a b result e is = subst (λ a. DoneSo J tells counts old new p (meant a) result) (sym e) is
 
 -- ---- a reply that says no failure
 pub no-failure : {L : Type 0} (r : Reply L) (t : Bool) → t ≡ is_failure r → not t ≡ true → r ≡ reply.Failed → ⊥
 no-failure r true e no_more same = cc
 no-failure r false e no_more same = (let never : is_failure r ≡ true = ap is_failure same in cc)
+
+pub was-failure : {L : Type 0} (r : Reply L) (t : Bool) → t ≡ is_failure r → not t ≡ false → r ≡ reply.Failed
+was-failure r true e no_more = failing r (sym e)
+  where
+    failing : {L : Type 0} (r : Reply L) → is_failure r ≡ true → r ≡ reply.Failed
+    failing reply.Failed is = refl
+    failing r is = absurd cc
+was-failure r false e no_more = absurd cc

@@ -1,5 +1,5 @@
 -- How the network ended, at each place where it stands.
-use Rattle.std.proofs.Common.{◌≡◌, ◌⊎◌, ℕ, Bool, true, false, ◌||◌, List, [], ◌∷◌, Option, None, Some, refl, sym, ◌∙◌, ap, subst}
+use Rattle.std.proofs.Common.{◌≡◌, ℕ, Bool, true, false, ◌||◌, List, [], ◌∷◌, Option, None, Some, refl, sym, ◌∙◌, ap, subst}
 use Rattle.solo_base.specs.declared.item.Item.{Item}
 use Rattle.solo_base.specs.declared.outcome.Side.{Side}
 use Rattle.solo_base.specs.declared.outcome.Outcome.{Outcome}
@@ -24,15 +24,16 @@ use Rattle.twin_law.specs.Output.{output}
 use Rattle.twin_law.specs.Table.{process}
 use Rattle.twin_law.specs.Twin.{TwinState, IsProcess}
 use Rattle.twin_law.specs.Opening.{AreTold}
-use Rattle.twin_law.specs.TheLaw.{the_law}
+use Rattle.twin_law.specs.TheLaw.{the_law, first_state}
 use Rattle.twin_law.specs.UnitWork.{AreByUnits}
 use Rattle.twin_law.specs.Outcomes.{ends_as, how_ended, HasEndedSo, AllDone}
 use Rattle.twin_law.specs.Holds.{Holds}
+use Rattle.twin_law.proofs.Devices.{reached-centre}
 use Rattle.twin_law.proofs.Ended.{none-ended}
 use Rattle.twin_law.proofs.Lawful.{each-process}
 use Rattle.twin_law.proofs.Reached.{holds}
 use Rattle.twin_ends.specs.declared.units.TwinOutcomes.{TwinOutcomes}
-use Rattle.twin_ends.specs.TwinTells.{TwinTells, cards_ahead}
+use Rattle.twin_ends.specs.TwinTells.{TwinTells, TwinCounts, cards_ahead}
 use Rattle.twin_procs.specs.declared.machine.TwinMachine.{TwinMachine}
 use Rattle.twin_procs.specs.Machine.{StandsFor}
 use Rattle.twin_procs.specs.Standing.{InputStands}
@@ -41,9 +42,12 @@ use Rattle.twin_procs.specs.Output.{OutputStands}
 use Rattle.twin_ends.specs.declared.units.TwinUnits.{TwinUnits}
 use Rattle.twin_net.specs.declared.net.TwinNet.{TwinNet}
 use Rattle.twin_net.specs.declared.shared.TwinShared.{TwinShared}
-use Rattle.twin_net.specs.TwinStands.{TwinStands}
+use Rattle.twin_net.specs.TwinStands.{TwinStands, shared_units}
 use Rattle.twin_net.specs.Net.{card_at, printer_at, TwinNetStands, TwinStandsWithin}
-use Rattle.twin_net.specs.Ended.{TwinHaveEnded, twin_outcome_at, twin_all_done, six_sides, TwinEndsSo, TwinFaultsAre}
+use Rattle.twin_net.specs.Counted.{TwinFaultsAreCounted, outcomes_now, CountedSoFar}
+use Rattle.twin_net.specs.Ended.{TwinHaveEnded, twin_outcome_at, twin_all_done, six_sides, TwinEndsSo, TwinStoppedSo, TwinFaultsAre}
+use Rattle.twin_net.proofs.DamageTold.{tells-where}
+use Rattle.twin_net.proofs.ToldStops.{stopped-beside}
 
 -- ---- one process
 end-is : (a : Action) → is_end a ≡ true → (how : Outcome) × (ends_as a ≡ Some how)
@@ -113,15 +117,35 @@ pub same-units : {S K F P : Type 0} (u : TwinUnits S K F P) (a b c d : P) → a 
     → record { deck = u.deck; paper = u.paper; files = u.files; to_a = a; to_b = b; from_a = c; from_b = d } ≡ u
 same-units u a b c d e f g h = rw (e, f, g, h) refl
 
+abbrev six_outcomes : Outcome → Outcome → Outcome → Outcome → Outcome → Outcome → TwinOutcomes
+six_outcomes a b c d e f = record { card = a; input = b; job_a = c; job_b = d; output = e; printer = f }
+
+pub same-six : (a b c d e f x y z u v w : Outcome) → a ≡ x → b ≡ y → c ≡ z → d ≡ u → e ≡ v → f ≡ w
+    → six_outcomes a b c d e f ≡ six_outcomes x y z u v w
+same-six a b c d e f x y z u v w i j k l m n = rw (i, j, k, l, m, n) refl
+
 module _ {L X S K F P : Type 0} {J : Jobs L} (jobs : AreJobs J) (keeps : X → JobTold L → Type 0) (tells : TwinTells L S K F P) (net : TwinNet X S K F P)
-    (outcomes : TwinOutcomes) (stops : List (Option Side)) (ended : TwinHaveEnded J (TwinStandsWithin J keeps tells net))
-    (one : (h : List (Entry L)) → StandsFor card card_at net.card h → outcomes.card ≡ outcome_by (caused card h))
-    (two : (h : List (Entry L)) → StandsFor input InputStands net.input h → outcomes.input ≡ outcome_by (caused input h))
-    (three : (h : List (Entry L)) → StandsFor (job J A) (job_stands J keeps) net.job_a h → outcomes.job_a ≡ outcome_by (caused (job J A) h))
-    (four : (h : List (Entry L)) → StandsFor (job J B) (job_stands J keeps) net.job_b h → outcomes.job_b ≡ outcome_by (caused (job J B) h))
-    (five : (h : List (Entry L)) → StandsFor output OutputStands net.output h → outcomes.output ≡ outcome_by (caused output h))
-    (six : (h : List (Entry L)) → StandsFor printer printer_at net.printer h → outcomes.printer ≡ outcome_by (caused printer h))
-    (first : (s : TwinState L) → TwinNetStands J keeps tells net s → stops ≡ six_sides s) where
+    (outcomes : TwinOutcomes) (stops : List (Option Side)) (units : TwinUnits S K F P) (ended : TwinHaveEnded J (TwinStandsWithin J keeps tells net))
+    (outcomes_are : outcomes ≡ outcomes_now net) (first : (s : TwinState L) → TwinStands tells net.shared s → stops ≡ six_sides s)
+    (units_are : units ≡ shared_units net.shared) where
+  one : (h : List (Entry L)) → StandsFor card card_at net.card h → outcomes.card ≡ outcome_by (caused card h)
+  one h st = ap (λ (o : TwinOutcomes). o.card) outcomes_are ∙ ap outcome_by st.cause
+
+  two : (h : List (Entry L)) → StandsFor input InputStands net.input h → outcomes.input ≡ outcome_by (caused input h)
+  two h st = ap (λ (o : TwinOutcomes). o.input) outcomes_are ∙ ap outcome_by st.cause
+
+  three : (h : List (Entry L)) → StandsFor (job J A) (job_stands J keeps) net.job_a h → outcomes.job_a ≡ outcome_by (caused (job J A) h)
+  three h st = ap (λ (o : TwinOutcomes). o.job_a) outcomes_are ∙ ap outcome_by st.cause
+
+  four : (h : List (Entry L)) → StandsFor (job J B) (job_stands J keeps) net.job_b h → outcomes.job_b ≡ outcome_by (caused (job J B) h)
+  four h st = ap (λ (o : TwinOutcomes). o.job_b) outcomes_are ∙ ap outcome_by st.cause
+
+  five : (h : List (Entry L)) → StandsFor output OutputStands net.output h → outcomes.output ≡ outcome_by (caused output h)
+  five h st = ap (λ (o : TwinOutcomes). o.output) outcomes_are ∙ ap outcome_by st.cause
+
+  six : (h : List (Entry L)) → StandsFor printer printer_at net.printer h → outcomes.printer ≡ outcome_by (caused printer h)
+  six h st = ap (λ (o : TwinOutcomes). o.printer) outcomes_are ∙ ap outcome_by st.cause
+
   module _ (at : Placed (the_law J) (TwinStandsWithin J keeps tells net)) where
     abbrev stands : TwinNetStands J keeps tells net at.state
     stands = at.stands.is
@@ -160,7 +184,7 @@ module _ {L X S K F P : Type 0} {J : Jobs L} (jobs : AreJobs J) (keeps : X → J
     ends = record {
       ended = ended-so;
       given = λ p how is e. (outcome-at p is ∙ ap outcome_by e, held.causes.given p how is e);
-      first = first at.state stands;
+      first = first at.state stands.shared;
     }
 
     all-done : outcomes ≡ twin_all_done → AllDone at.state
@@ -169,15 +193,17 @@ module _ {L X S K F P : Type 0} {J : Jobs L} (jobs : AreJobs J) (keeps : X → J
 
     pub prints : AreByUnits J → AreTold at.opening.spools → (items : List Item) (found : FilesAs L) → at.opening.deck ≡ Some items
         → at.opening.files ≡ Some found
-        → Gains at.opening.paper (tells.given net.shared.paper.sink) (text (one_thread J items found)) (outcomes ≡ twin_all_done)
+        → Gains at.opening.paper (tells.given units.paper.sink) (text (one_thread J items found)) (outcomes ≡ twin_all_done)
     prints by told items found deck files =
-        gains-by at.opening.paper at.state.devices.paper (tells.given net.shared.paper.sink) (text (one_thread J items found)) (AllDone at.state)
-        (outcomes ≡ twin_all_done) stands.shared.paper all-done (held.prints by told items found deck files)
+        subst (λ (u : TwinUnits S K F P). Gains at.opening.paper (tells.given u.paper.sink) (text (one_thread J items found)) (outcomes ≡ twin_all_done))
+        (sym units_are)
+        (gains-by at.opening.paper at.state.devices.paper (tells.given net.shared.paper.sink) (text (one_thread J items found)) (AllDone at.state)
+        (outcomes ≡ twin_all_done) stands.shared.paper all-done (held.prints by told items found deck files))
 
-    pub reads : (items : List Item) → at.opening.deck ≡ Some items → outcomes ≡ twin_all_done → cards_ahead tells net.shared.deck ≡ Some []
+    pub reads : (items : List Item) → at.opening.deck ≡ Some items → outcomes ≡ twin_all_done → cards_ahead tells units.deck ≡ Some []
     reads items deck done =
         let read = held.reads items deck in
-        sym stands.shared.deck ∙ read.left_is ∙ ap Some (read.all (all-done done))
+        ap (λ (u : TwinUnits S K F P). cards_ahead tells u.deck) units_are ∙ sym stands.shared.deck ∙ read.left_is ∙ ap Some (read.all (all-done done))
 
   pub faults : TwinFaultsAre outcomes
   faults =
@@ -191,4 +217,21 @@ module _ {L X S K F P : Type 0} {J : Jobs L} (jobs : AreJobs J) (keeps : X → J
         job_b = λ c e. causes.job_b c (fault-caused _ c (sym (four _ st.job_b) ∙ e));
         output = λ c e. causes.output c (fault-caused _ c (sym (five _ st.output) ∙ e));
         printer = λ c e. causes.printer c (fault-caused _ c (sym (six _ st.printer) ∙ e));
+        numbers = λ p c is e. tells-where J p is c (at.state.histories p) (fault-caused _ c (sym (outcome-at at p is) ∙ e));
       }
+
+  stopped-caused : (old : Option Outcome) → outcome_by old ≡ outcome.Stopped → old ≡ Some outcome.Stopped
+  stopped-caused None e = absurd cc
+  stopped-caused (Some how) e = ap Some e
+
+  pub stopped : TwinStoppedSo outcomes stops
+  stopped p is e =
+      let at = ended.at in
+      stopped-beside J (first_state at.opening) at.state (reached-centre J at.opening at.state at.reached).stands stops (first at.state at.stands.is.shared) p is
+      (stopped-caused (caused (process J p) (at.state.histories p)) (sym (outcome-at at p is) ∙ e))
+
+  -- what was counted until all ended is what the run tells
+  pub counted : (counts : TwinCounts S K F P) (before : TwinUnits S K F P) → CountedSoFar counts before net → TwinFaultsAreCounted counts before units outcomes
+  counted counts before so_far =
+      subst (λ now. TwinFaultsAreCounted counts before now outcomes) (sym units_are)
+      (subst (TwinFaultsAreCounted counts before (shared_units net.shared)) (sym outcomes_are) so_far.faults)

@@ -1,9 +1,15 @@
+pub mod Failing
 pub mod AtSpools
 pub mod Doings
 pub mod MayDoing
 pub mod Stepping
 pub mod Owners
+pub mod OwnPlaces
+pub mod EventsCounted
 pub mod NetSteps
+pub mod DamageTold
+pub mod ToldStops
+pub mod FirstCounted
 pub mod Opened
 pub mod Finishing
 pub mod TwinRuns

@@ -1,5 +1,5 @@
 -- A step of one of the six is an event of the network, and the network stands for the state behind it.
-use Rattle.std.proofs.Common.{◌≡◌, ◌↔◌, ◌+◌, ◌≤◌, ◌<◌, ◌||◌, ℕ, Bool, true, false, List, ◌∷◌, Option, None, Some, refl, sym, ◌∙◌, ap, subst, arith, lit≤}
+use Rattle.std.proofs.Common.{◌≡◌, ◌↔◌, ◌≤◌, ◌<◌, ◌||◌, ℕ, Bool, true, false, List, ◌∷◌, None, Some, refl, sym, ◌∙◌, ap, subst, arith}
 use Rattle.std.specs.Prelude.{IsTrue, is_none}
 use Rattle.solo_devices.specs.declared.card_read.CardRead.TheVariants as read
 use Rattle.batch_procs.specs.declared.actions.Reply.{Reply}
@@ -22,13 +22,13 @@ use Rattle.twin_law.specs.Input.{input}
 use Rattle.twin_law.specs.Job.{job}
 use Rattle.twin_law.specs.Output.{output}
 use Rattle.twin_law.specs.Table.{process}
-use Rattle.twin_law.specs.Twin.{call, went, MayLack, Suits, Allows, twin, TwinState, TwinEvent, IsProcess}
+use Rattle.twin_law.specs.Twin.{call, went, MayLack, Suits, twin, TwinState, TwinEvent, IsProcess}
 use Rattle.twin_law.specs.Opening.{Opening}
 use Rattle.twin_law.specs.TheLaw.{the_law, IsReached, first_state}
-use Rattle.twin_law.specs.Left.{events_left, DrawsFrom}
+use Rattle.twin_law.specs.Left.{DrawsFrom}
 use Rattle.twin_law.proofs.Devices.{reached-centre}
 use Rattle.twin_law.proofs.LeavesFewer.{leaves-fewer}
-use Rattle.twin_ends.specs.TwinTells.{TwinTells}
+use Rattle.twin_ends.specs.TwinTells.{TwinTells, TwinCounts}
 use Rattle.twin_procs.specs.declared.machine.TwinMachine.{TwinMachine}
 use Rattle.twin_procs.specs.declared.card_proc.CardProc.{CardProc}
 use Rattle.twin_procs.specs.declared.input_proc.InputProc.{InputProc}
@@ -44,11 +44,13 @@ use Rattle.twin_procs.specs.Output.{OutputStands}
 use Rattle.twin_net.specs.declared.net.TwinNet.{TwinNet}
 use Rattle.twin_net.specs.declared.shared.TwinShared.{TwinShared}
 use Rattle.twin_net.specs.TwinStands.{TwinStands, cards_total}
+use Rattle.twin_net.specs.Causes.{TwinCauses}
 use Rattle.twin_net.specs.Doing.{MayLoad, IsPrint}
 use Rattle.twin_net.specs.Turns.{TwinHasPlace, TwinIsAtTurn}
 use Rattle.twin_net.specs.Steps.{twin_reply_of, TwinMayStep, TwinSteps}
 use Rattle.twin_net.specs.Net.{card_at, printer_at, TwinNetStands, TwinStandsWithin, TwinMayGo, TwinMoves}
 use Rattle.twin_net.proofs.MayDoing.{has-place, may-do}
+use Rattle.twin_net.proofs.EventsCounted.{event-counted}
 use Rattle.twin_net.proofs.Owners.{prints-not, reads-nothing, free-before, no-failed, no-limit, print-done}
 
 pub last-number : (p : ℕ) → IsProcess p → (p ≡ 1 → ⊥) → (p ≡ 2 → ⊥) → (p ≡ 3 → ⊥) → (p ≡ 4 → ⊥) → (p ≡ 5 → ⊥) → p ≡ 6
@@ -96,17 +98,18 @@ module _ {L : Type 0} (J : Jobs L) where
   pub next-at : (s : TwinState L) (p q : ℕ) (action : Action) → p ≡ q → TwinMayGo J s p action → next_action (process J q) (s.histories q) ≡ Some action
   next-at s p q action e step = subst (λ q. next_action (process J q) (s.histories q) ≡ Some action) e step.next
 
-module _ {L X S K F P : Type 0} {J : Jobs L} (jobs : AreJobs J) (keeps : X → JobTold L → Type 0) (tells : TwinTells L S K F P) where
+module _ {L X S K F P : Type 0} {J : Jobs L} (jobs : AreJobs J) (keeps : X → JobTold L → Type 0) (tells : TwinTells L S K F P)
+    (counts : TwinCounts S K F P) where
   -- an event of the process, from one network to the next
   abbrev pub GoesOn : TwinNet X S K F P → TwinNet X S K F P → TwinState L → ℕ → Stepped → Type 0
-  GoesOn old new s p result = law.Steps (the_law J) (TwinStandsWithin J keeps tells) (TwinMoves tells) old new s p result
+  GoesOn old new s p result = law.Steps (the_law J) (TwinStandsWithin J keeps tells) (TwinMoves tells counts) old new s p result
 
   module _ (net : TwinNet X S K F P) (o : Opening J) (s : TwinState L) (reached : IsReached o s) (stood : TwinStandsWithin J keeps tells net s) where
     abbrev stands : TwinNetStands J keeps tells net s
     stands = stood.is
 
     module _ (p : ℕ) (action : Action) (may : TwinMayGo J s p action) (Stands : List (Entry L) → Type 0) (new : TwinShared X S K F P) (result : Stepped)
-        (st : TwinSteps J (process J p) Stands tells net.shared new p action (s.histories p) result) where
+        (st : TwinSteps J (process J p) Stands tells counts net.shared new p action (s.histories p) result) where
       abbrev pub event : TwinEvent L
       event = record { process = p; entry = st.entry; gained = st.enters.gained }
 
@@ -146,6 +149,8 @@ module _ {L X S K F P : Type 0} {J : Jobs L} (jobs : AreJobs J) (keeps : X → J
       goes-on behind is there =
           let draws = subst (λ (shared : TwinShared X S K F P). DrawsFrom st.entry (cards_left tells.taken net.shared.deck)
           (cards_left tells.taken shared.deck)) (sym is) st.enters.deck in
+          let causes = subst (λ (shared : TwinShared X S K F P). TwinCauses counts net.shared shared (action_of st.entry) (twin_reply_of st.entry)) (sym is)
+          (subst (λ a. TwinCauses counts net.shared new a (twin_reply_of st.entry)) (sym st.action_is) st.causes) in
           let fewer = leaves-fewer jobs o s event (cards_left tells.taken net.shared.deck) (cards_left tells.taken behind.shared.deck) reached enabled draws in
           record {
             event = event;
@@ -154,8 +159,10 @@ module _ {L X S K F P : Type 0} {J : Jobs L} (jobs : AreJobs J) (keeps : X → J
             enabled = enabled;
             stands = record { is = there; within = below-most _ _ most_events fewer stood.within };
             moves = record {
+              causes = causes;
               deck = draws;
               all = record {
+                counted = event-counted J keeps tells counts net behind s event stands there enabled causes;
                 total = ap (λ (shared : TwinShared X S K F P). cards_total tells shared.deck) is ∙ st.enters.total;
                 files = ap (λ (shared : TwinShared X S K F P). tells.file_pages shared.files) is ∙ st.enters.files;
               };
@@ -190,7 +197,7 @@ module _ {L X S K F P : Type 0} {J : Jobs L} (jobs : AreJobs J) (keeps : X → J
 
     -- ---- by the machine
     pub at-card : (m : TwinMachine X CardProc) (new : TwinShared X S K F P) (action : Action) (result : Stepped) → TwinMayGo J s 1 action
-        → TwinSteps J card (StandsFor card card_at m) tells net.shared new 1 action (s.histories 1) result
+        → TwinSteps J card (StandsFor card card_at m) tells counts net.shared new 1 action (s.histories 1) result
         → GoesOn net (record net { card = m; shared = new }) s 1 result
     at-card m new action result may st =
         goes-on 1 action may (StandsFor card card_at m) new result st (record net { card = m; shared = new }) refl record {
@@ -207,7 +214,7 @@ module _ {L X S K F P : Type 0} {J : Jobs L} (jobs : AreJobs J) (keeps : X → J
         }
 
     pub at-input : (m : TwinMachine X InputProc) (new : TwinShared X S K F P) (action : Action) (result : Stepped) → TwinMayGo J s 2 action
-        → TwinSteps J input (StandsFor input InputStands m) tells net.shared new 2 action (s.histories 2) result
+        → TwinSteps J input (StandsFor input InputStands m) tells counts net.shared new 2 action (s.histories 2) result
         → GoesOn net (record net { input = m; shared = new }) s 2 result
     at-input m new action result may st =
         goes-on 2 action may (StandsFor input InputStands m) new result st (record net { input = m; shared = new }) refl record {
@@ -224,7 +231,7 @@ module _ {L X S K F P : Type 0} {J : Jobs L} (jobs : AreJobs J) (keeps : X → J
         }
 
     pub at-job_a : (m : TwinMachine X (JobProc X SideA)) (new : TwinShared X S K F P) (action : Action) (result : Stepped) → TwinMayGo J s 3 action
-        → TwinSteps J (job J A) (StandsFor (job J A) (job_stands J keeps) m) tells net.shared new 3 action (s.histories 3) result
+        → TwinSteps J (job J A) (StandsFor (job J A) (job_stands J keeps) m) tells counts net.shared new 3 action (s.histories 3) result
         → GoesOn net (record net { job_a = m; shared = new }) s 3 result
     at-job_a m new action result may st =
         goes-on 3 action may (StandsFor (job J A) (job_stands J keeps) m) new result st (record net { job_a = m; shared = new }) refl record {
@@ -241,7 +248,7 @@ module _ {L X S K F P : Type 0} {J : Jobs L} (jobs : AreJobs J) (keeps : X → J
         }
 
     pub at-job_b : (m : TwinMachine X (JobProc X SideB)) (new : TwinShared X S K F P) (action : Action) (result : Stepped) → TwinMayGo J s 4 action
-        → TwinSteps J (job J B) (StandsFor (job J B) (job_stands J keeps) m) tells net.shared new 4 action (s.histories 4) result
+        → TwinSteps J (job J B) (StandsFor (job J B) (job_stands J keeps) m) tells counts net.shared new 4 action (s.histories 4) result
         → GoesOn net (record net { job_b = m; shared = new }) s 4 result
     at-job_b m new action result may st =
         goes-on 4 action may (StandsFor (job J B) (job_stands J keeps) m) new result st (record net { job_b = m; shared = new }) refl record {
@@ -258,7 +265,7 @@ module _ {L X S K F P : Type 0} {J : Jobs L} (jobs : AreJobs J) (keeps : X → J
         }
 
     pub at-output : (m : TwinMachine X OutputProc) (new : TwinShared X S K F P) (action : Action) (result : Stepped) → TwinMayGo J s 5 action
-        → TwinSteps J output (StandsFor output OutputStands m) tells net.shared new 5 action (s.histories 5) result
+        → TwinSteps J output (StandsFor output OutputStands m) tells counts net.shared new 5 action (s.histories 5) result
         → GoesOn net (record net { output = m; shared = new }) s 5 result
     at-output m new action result may st =
         goes-on 5 action may (StandsFor output OutputStands m) new result st (record net { output = m; shared = new }) refl record {
@@ -275,7 +282,7 @@ module _ {L X S K F P : Type 0} {J : Jobs L} (jobs : AreJobs J) (keeps : X → J
         }
 
     pub at-printer : (m : TwinMachine X PrinterProc) (new : TwinShared X S K F P) (action : Action) (result : Stepped) → TwinMayGo J s 6 action
-        → TwinSteps J printer (StandsFor printer printer_at m) tells net.shared new 6 action (s.histories 6) result
+        → TwinSteps J printer (StandsFor printer printer_at m) tells counts net.shared new 6 action (s.histories 6) result
         → GoesOn net (record net { printer = m; shared = new }) s 6 result
     at-printer m new action result may st =
         goes-on 6 action may (StandsFor printer printer_at m) new result st (record net { printer = m; shared = new }) refl record {
@@ -291,6 +298,15 @@ module _ {L X S K F P : Type 0} {J : Jobs L} (jobs : AreJobs J) (keeps : X → J
           sound = sound-after 6 action may (StandsFor printer printer_at m) new result st;
         }
 
+  pub steps-at : (old new : TwinNet X S K F P) (s : TwinState L) (work : Process L) (Stands : List (Entry L) → Type 0) (p q : ℕ) (action : Action)
+      (result : Stepped)
+      (h : List (Entry L)) → p ≡ q
+      → (TwinMayGo J s q action → TwinSteps J work Stands tells counts old.shared new.shared q action h result → GoesOn old new s q result)
+      → TwinMayGo J s p action → TwinSteps J work Stands tells counts old.shared new.shared p action h result → GoesOn old new s p result
+  steps-at old new s work Stands p q action result h e each =
+      subst (λ p. TwinMayGo J s p action → TwinSteps J work Stands tells counts old.shared new.shared p action h result → GoesOn old new s p result) (sym e) each
+
+module _ {L X S K F P : Type 0} {J : Jobs L} (jobs : AreJobs J) (keeps : X → JobTold L → Type 0) (tells : TwinTells L S K F P) where
   -- that a machine may step
   pub may-step : (net : TwinNet X S K F P) (p q : ℕ) (Stands : List (Entry L) → Type 0) → p ≡ q
       → (m : law.MayStep (the_law J) (TwinStandsWithin J keeps tells net) p) → Stands (m.at.state.histories q)
@@ -304,14 +320,6 @@ module _ {L X S K F P : Type 0} {J : Jobs L} (jobs : AreJobs J) (keeps : X → J
         may-do J (first_state m.at.opening) m.at.state (reached-centre J m.at.opening m.at.state m.at.reached).stands p m.may.one tells net.shared
         m.at.stands.is.shared m.at.stands.is.deck_live m.at.stands.is.paper_live m.at.stands.is.sound m.may.action m.may.next m.may.may;
   }
-
-  pub steps-at : (old new : TwinNet X S K F P) (s : TwinState L) (work : Process L) (Stands : List (Entry L) → Type 0) (p q : ℕ) (action : Action)
-      (result : Stepped)
-      (h : List (Entry L)) → p ≡ q
-      → (TwinMayGo J s q action → TwinSteps J work Stands tells old.shared new.shared q action h result → GoesOn old new s q result)
-      → TwinMayGo J s p action → TwinSteps J work Stands tells old.shared new.shared p action h result → GoesOn old new s p result
-  steps-at old new s work Stands p q action result h e each =
-      subst (λ p. TwinMayGo J s p action → TwinSteps J work Stands tells old.shared new.shared p action h result → GoesOn old new s p result) (sym e) each
 
 -- ---- whether it has ended, and whether it may go on
 module _ {L : Type 0} (J : Jobs L) where

@@ -1,8 +1,6 @@
 -- Only the card process reads the deck, and only the printer process prints.
-use Rattle.std.proofs.Common.{◌≡◌, ◌≢◌, ℕ, Bool, true, false, List, [], ◌∷◌, Option, None, Some, refl, sym, ◌∙◌, ap, subst}
+use Rattle.std.proofs.Common.{◌≡◌, ◌≢◌, ℕ, List, ◌∷◌, Option, None, Some, refl, sym, ◌∙◌, ap, subst}
 use Rattle.solo_base.specs.declared.outcome.Outcome.{Outcome}
-use Rattle.solo_base.specs.declared.outcome.Outcome.TheVariants as outcome
-use Rattle.solo_base.specs.declared.outcome.Cause.TheVariants as cause
 use Rattle.solo_devices.specs.declared.card_read.CardRead.{CardRead}
 use Rattle.solo_devices.specs.declared.card_read.CardRead.TheVariants as read
 use Rattle.batch_procs.specs.declared.actions.Reply.{Reply}

@@ -1,28 +1,27 @@
 -- From what is done to the entry of the process.
-use Rattle.std.proofs.Common.{◌≡◌, ◌≢◌, ◌↔◌, ℕ, Bool, true, false, List, ◌∷◌, Option, None, Some, refl, sym, ◌∙◌, ap, subst}
-use Rattle.std.specs.Prelude.{IsTrue, is_none}
-use Rattle.solo_devices.specs.declared.card_read.CardRead.TheVariants as read
+use Rattle.std.proofs.Common.{◌≡◌, ◌↔◌, ℕ, Bool, true, false, List, ◌∷◌, Option, None, Some, refl, sym, ◌∙◌, ap, subst}
+use Rattle.std.specs.Prelude.{IsTrue}
 use Rattle.batch_procs.specs.declared.actions.Reply.{Reply}
 use Rattle.batch_procs.specs.declared.actions.Reply.TheVariants as reply
 use Rattle.batch_procs.specs.Jobs.{Jobs}
-use Rattle.place_law.specs.Process.{Does, LacksMemory, Delays, action_of}
+use Rattle.place_law.specs.Process.{Does, LacksMemory, Delays}
 use Rattle.network_run.specs.declared.stepped.Stepped.{Stepped}
 use Rattle.network_run.specs.declared.stepped.Stepped.TheVariants.{Delayed}
 use Rattle.network_law.specs.Acts.{is_delayed}
 use Rattle.network_law.specs.Network.{MayCall}
 use Rattle.network_law.specs.Stepping.{is_again, stepped_so}
 use Rattle.twin_law.specs.Process.{Action, ReadCard, PutFeed, TakeFeed, AwaitRoom, AwaitItem, Request, PutPage, TakePage, Load, Release, Local, Print, Stop, Ended, Entry, Process, is_end, has_ended, next_by, closing, unless_ended, next_action}
-use Rattle.twin_law.specs.Twin.{call, went_by, went, Fits, IsGood, MayLack, MayWait, Suits, TwinState}
-use Rattle.twin_ends.specs.TwinTells.{TwinTells}
-use Rattle.twin_ends.specs.TwinCalls.{entry_for, ReplySuits}
+use Rattle.twin_law.specs.Twin.{call, went_by, Fits, MayLack, TwinState}
+use Rattle.twin_ends.specs.TwinTells.{TwinTells, TwinCounts}
+use Rattle.twin_ends.specs.TwinCalls.{entry_for}
 use Rattle.twin_procs.specs.declared.actions.TwinAction.{TwinAction}
 use Rattle.twin_procs.specs.Said.{said, is_end_said}
 use Rattle.twin_procs.specs.Machine.{NextIs}
 use Rattle.twin_net.specs.declared.shared.TwinShared.{TwinShared}
 use Rattle.twin_net.specs.TwinStands.{TwinStands}
-use Rattle.twin_net.specs.Doing.{meant, IsPrint, DoneSo}
+use Rattle.twin_net.specs.Doing.{meant, DoneSo}
 use Rattle.twin_net.specs.Turns.{TwinHasPlace, TwinIsAtTurn}
-use Rattle.twin_net.specs.Steps.{twin_reply_of, TwinEnters, TwinSteps}
+use Rattle.twin_net.specs.Steps.{TwinEnters, TwinSteps}
 
 -- ---- what is said
 pub meant-said : (a : Action) → meant (said a) ≡ a
@@ -99,8 +98,8 @@ answered-by a reply.Stopped = refl
 answered-by a r = refl
 
 module _ {L : Type 0} (J : Jobs L) where
-  module _ {X S K F A : Type 0} (tells : TwinTells L S K F A) (old new : TwinShared X S K F A) (p : ℕ) where
-    enters : (a : Action) (result : Option (Reply L)) → DoneSo J tells old new p a result → TwinEnters tells old new p a (entry_for a result)
+  module _ {X S K F A : Type 0} (tells : TwinTells L S K F A) (counts : TwinCounts S K F A) (old new : TwinShared X S K F A) (p : ℕ) where
+    enters : (a : Action) (result : Option (Reply L)) → DoneSo J tells counts old new p a result → TwinEnters tells old new p a (entry_for a result)
     enters a None is = record {
       gained = is.gained;
       deck = is.deck;
@@ -126,7 +125,7 @@ module _ {L : Type 0} (J : Jobs L) where
       after = is.after;
     }
 
-    enters-lacking : (a : Action) (r : Reply L) → MayLack a r → DoneSo J tells old new p a (Some r) → TwinEnters tells old new p a (LacksMemory a r)
+    enters-lacking : (a : Action) (r : Reply L) → MayLack a r → DoneSo J tells counts old new p a (Some r) → TwinEnters tells old new p a (LacksMemory a r)
     enters-lacking (TakePage b) (reply.Page page last) may is = record {
       gained = is.gained;
       deck = is.deck;
@@ -153,22 +152,23 @@ module _ {L : Type 0} (J : Jobs L) where
     }
     enters-lacking a r may is = absurd may
 
-  module _ {X S K F A : Type 0} (process : Process L) (Stands : List (Entry L) → Type 0) (tells : TwinTells L S K F A) (old new : TwinShared X S K F A) (p : ℕ)
+  module _ {X S K F A : Type 0} (process : Process L) (Stands : List (Entry L) → Type 0) (tells : TwinTells L S K F A) (counts : TwinCounts S K F A) (old new : TwinShared X S K F A) (p : ℕ)
       (a : Action) (s : TwinAction) (h : List (Entry L)) (same : said a ≡ s) where
     means : meant s ≡ a
     means = ap meant (sym same) ∙ meant-said a
 
-    own : (result : Option (Reply L)) → DoneSo J tells old new p (meant s) result → DoneSo J tells old new p a result
-    own result is = subst (λ a. DoneSo J tells old new p a result) means is
+    own : (result : Option (Reply L)) → DoneSo J tells counts old new p (meant s) result → DoneSo J tells counts old new p a result
+    own result is = subst (λ a. DoneSo J tells counts old new p a result) means is
 
-    pub steps-delayed : DoneSo J tells old new p (meant s) None → Stands (Delays a ∷ h) → TwinSteps J process Stands tells old new p a h Delayed
+    pub steps-delayed : DoneSo J tells counts old new p (meant s) None → Stands (Delays a ∷ h) → TwinSteps J process Stands tells counts old new p a h Delayed
     steps-delayed is stands = (let is = own None is in record {
       entry = Delays a;
       told = λ s stood place. refl;
       action_is = refl;
       suits = is.suits;
       stands = stands;
-      enters = enters tells old new p a None is;
+      causes = is.causes;
+      enters = enters tells counts old new p a None is;
     })
 
     module _ (ends again : Bool) (result : Stepped) (result_is : result ≡ stepped_so false ends again) (ends_is : ends ≡ is_end_said s)
@@ -180,24 +180,26 @@ module _ {L : Type 0} (J : Jobs L) where
           let again_so = again_is at stood (subst (λ a. TwinHasPlace at p a) (sym means) place) ∙ ap (λ a. is_again at (call p a)) means in
           result_is ∙ same-stepped _ _ _ _ _ _ (sym (answered-by a r)) end again_so
 
-      pub steps-acted : (r : Reply L) → DoneSo J tells old new p (meant s) (Some r) → (Fits a r → Stands (Does a r ∷ h))
-          → TwinSteps J process Stands tells old new p a h result
+      pub steps-acted : (r : Reply L) → DoneSo J tells counts old new p (meant s) (Some r) → (Fits a r → Stands (Does a r ∷ h))
+          → TwinSteps J process Stands tells counts old new p a h result
       steps-acted r is stands = (let is = own (Some r) is in record {
         entry = Does a r;
         told = told-so r;
         action_is = refl;
         suits = is.suits;
         stands = stands is.suits.0;
-        enters = enters tells old new p a (Some r) is;
+        causes = is.causes;
+        enters = enters tells counts old new p a (Some r) is;
       })
 
-      pub steps-lacking : (r : Reply L) → DoneSo J tells old new p (meant s) (Some r)
-          → (Fits a r → (process.works ≡ true) × MayLack a r × Stands (LacksMemory a r ∷ h)) → TwinSteps J process Stands tells old new p a h result
+      pub steps-lacking : (r : Reply L) → DoneSo J tells counts old new p (meant s) (Some r)
+          → (Fits a r → (process.works ≡ true) × MayLack a r × Stands (LacksMemory a r ∷ h)) → TwinSteps J process Stands tells counts old new p a h result
       steps-lacking r is lacks = (let is = own (Some r) is in let lack = lacks is.suits.0 in record {
         entry = LacksMemory a r;
         told = told-so r;
         action_is = refl;
         suits = (lack.0, lack.1);
         stands = lack.2;
-        enters = enters-lacking tells old new p a r lack.1 is;
+        causes = is.causes;
+        enters = enters-lacking tells counts old new p a r lack.1 is;
       })

@@ -12,7 +12,7 @@ use Rattle.network_run.proofs.RunMore.{raised-few}
 use Rattle.batch_procs.specs.Jobs.{Jobs, AreJobs, FilesAs}
 use Rattle.batch_procs.specs.JobTold.{JobTold}
 use Rattle.twin_law.specs.Bound.{longest_run}
-use Rattle.twin_law.specs.Twin.{TwinState, Devices}
+use Rattle.twin_law.specs.Twin.{Devices}
 use Rattle.twin_law.specs.Opening.{AreTold}
 use Rattle.twin_law.specs.TheLaw.{the_law}
 use Rattle.twin_law.specs.UnitWork.{AreByUnits}

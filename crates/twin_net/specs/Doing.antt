@@ -17,11 +17,12 @@ use Rattle.twin_law.specs.Twin.{side_at, call, went, Allows, given, TwinState}
 use Rattle.twin_law.specs.Left.{DrawsFrom}
 use Rattle.twin_procs.specs.declared.actions.TwinAction.{TwinAction}
 use Rattle.twin_procs.specs.declared.actions.TwinAction.TheVariants as say
-use Rattle.twin_ends.specs.TwinTells.{TwinTells}
+use Rattle.twin_ends.specs.TwinTells.{TwinTells, TwinCounts}
 use Rattle.twin_ends.specs.TwinCalls.{entry_for, ReplySuits}
 use Rattle.twin_net.specs.declared.shared.TwinShared.{TwinShared}
 use Rattle.twin_net.specs.FourSpools.{AtSpool}
 use Rattle.twin_net.specs.TwinStands.{TwinStands, cards_total}
+use Rattle.twin_net.specs.Causes.{TwinCauses}
 
 -- the action of the law that is said so
 abbrev pub meant : TwinAction → Action
@@ -90,8 +91,10 @@ MayDo tells shared p (say.Ended how) = Unit {0}
 -- It goes as the law allows in each state that is stood for, and what is shared stands for the state behind
 -- it.
 pub record DoneSo {L X S K F A : Type 0} (J : Jobs L) (tells : TwinTells L S K F A)
-    (old new : TwinShared X S K F A) (p : ℕ) (action : Action) (result : Option (Reply L)) : Type 0 where
+    (counts : TwinCounts S K F A) (old new : TwinShared X S K F A) (p : ℕ) (action : Action)
+    (result : Option (Reply L)) : Type 0 where
   pub suits : ReplySuits J action result
+  pub causes : TwinCauses counts old new action result
   pub gained : List ℕ
   pub deck : DrawsFrom (entry_for action result) (cards_left tells.taken old.deck)
       (cards_left tells.taken new.deck)

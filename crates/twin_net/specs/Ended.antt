@@ -5,13 +5,14 @@ use Rattle.solo_base.specs.declared.outcome.Outcome.{Outcome}
 use Rattle.solo_base.specs.declared.outcome.Outcome.TheVariants as outcome
 use Rattle.solo_base.specs.declared.outcome.Cause.{Cause}
 use Rattle.solo_base.specs.declared.outcome.Cause.TheVariants as cause
-use Rattle.queue_var.specs.Sides.{stopped_by}
+use Rattle.queue_var.specs.Sides.{stopped_by, other}
 use Rattle.batch_procs.specs.Faults.{IsDamaged}
 use Rattle.batch_procs.specs.Jobs.{Jobs}
+use Rattle.batch_ends.specs.Ended.{stopped_at, TellsWhere}
 use Rattle.network_run.specs.Law.{Placed, AllEnded}
 use Rattle.twin_law.specs.Process.{caused}
 use Rattle.twin_law.specs.Table.{process}
-use Rattle.twin_law.specs.Twin.{TwinState, IsProcess}
+use Rattle.twin_law.specs.Twin.{seat, TwinState, IsBuffer, IsProcess}
 use Rattle.twin_law.specs.TheLaw.{the_law}
 use Rattle.twin_law.specs.Outcomes.{HasEndedSo, GivenBy}
 use Rattle.twin_ends.specs.declared.units.TwinOutcomes.{TwinOutcomes}
@@ -53,7 +54,20 @@ pub record TwinEndsSo {L : Type 0} (J : Jobs L) (s : TwinState L) (outcomes : Tw
       → (twin_outcome_at outcomes p ≡ how) × GivenBy (process J p) how (s.histories p)
   pub first : stops ≡ six_sides s
 
--- Each process has only faults of its own.
+-- one of its buffers was first stopped by the other side
+pub record TwinStoppedBeside (stops : List (Option Side)) (p : ℕ) : Type 0 where
+  pub buffer : ℕ
+  pub side : Side
+  pub is_buffer : IsBuffer buffer
+  pub seated : seat buffer side ≡ p
+  pub by : stopped_at stops buffer ≡ Some (other side)
+
+-- Who ended Stopped had the other side stop one of its buffers first.
+abbrev pub TwinStoppedSo : TwinOutcomes → List (Option Side) → Type 0
+TwinStoppedSo outcomes stops =
+    (p : ℕ) → IsProcess p → twin_outcome_at outcomes p ≡ outcome.Stopped → TwinStoppedBeside stops p
+
+-- Each process has only faults of its own, and the numbers of a damaged page agree.
 pub record TwinFaultsAre (outcomes : TwinOutcomes) : Type 0 where
   pub card : (c : Cause) → outcomes.card ≡ outcome.Fault c → (c ≡ cause.ReadFault) ⊎ (c ≡ cause.DeckLimit)
   pub input : (c : Cause) → outcomes.input ≡ outcome.Fault c → c ≡ cause.DiskFault
@@ -64,3 +78,5 @@ pub record TwinFaultsAre (outcomes : TwinOutcomes) : Type 0 where
   pub output : (c : Cause) → outcomes.output ≡ outcome.Fault c → (c ≡ cause.DiskFault) ⊎ IsDamaged c
   pub printer : (c : Cause) → outcomes.printer ≡ outcome.Fault c
       → (c ≡ cause.PrintFault) ⊎ (c ≡ cause.NoMemory)
+  pub numbers : (p : ℕ) (c : Cause) → IsProcess p → twin_outcome_at outcomes p ≡ outcome.Fault c
+      → TellsWhere c

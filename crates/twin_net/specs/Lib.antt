@@ -1,8 +1,10 @@
 pub mod FourSpools
 pub mod TwinStands
+pub mod Causes
 pub mod Doing
 pub mod Turns
 pub mod Steps
-pub mod Net
 pub mod Ended
+pub mod Counted
+pub mod Net
 pub mod TwinRuns

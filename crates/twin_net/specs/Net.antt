@@ -1,9 +1,9 @@
 -- The six machines over what they share, and the states of the law that they stand for.
-use Rattle.std.specs.Prelude.{◌≡◌, ◌≤◌, ℕ, true, List, [], Option, None, Some, refl}
-use Rattle.solo_base.specs.declared.outcome.Side.{Side}
+use Rattle.std.specs.Prelude.{◌≡◌, ◌≤◌, ℕ, true, [], None, Some, refl}
 use Rattle.batch_procs.specs.Jobs.{Jobs}
 use Rattle.batch_procs.specs.JobTold.{JobTold}
 use Rattle.batch_ends.specs.Devices.{cards_left}
+use Rattle.place_law.specs.Process.{action_of}
 use Rattle.network_run.specs.Law.{Placed}
 use Rattle.network_run.specs.Runs.{most_events}
 use Rattle.network_law.specs.Network.{MayCall}
@@ -20,7 +20,7 @@ use Rattle.twin_law.specs.Opening.{Opening, AreInBounds, AreCards, AreGoodFiles}
 use Rattle.twin_law.specs.TheLaw.{the_law}
 use Rattle.twin_law.specs.Left.{events_left, DrawsFrom}
 use Rattle.twin_ends.specs.declared.units.TwinUnits.{TwinUnits}
-use Rattle.twin_ends.specs.TwinTells.{TwinTells, cards_ahead, twin_spools, twin_opened}
+use Rattle.twin_ends.specs.TwinTells.{TwinTells, TwinCounts, cards_ahead, twin_spools, twin_opened}
 use Rattle.twin_procs.specs.declared.card_proc.CardProc.{CardProc}
 use Rattle.twin_procs.specs.declared.printer_proc.PrinterProc.{PrinterProc}
 use Rattle.twin_procs.specs.Machine.{StandsFor}
@@ -29,7 +29,10 @@ use Rattle.twin_procs.specs.Job.{job_stands}
 use Rattle.twin_procs.specs.Output.{OutputStands}
 use Rattle.twin_net.specs.declared.net.TwinNet.{TwinNet}
 use Rattle.twin_net.specs.TwinStands.{TwinStands, cards_total}
+use Rattle.twin_net.specs.Causes.{TwinCauses}
+use Rattle.twin_net.specs.Counted.{CountedSoFar}
 use Rattle.twin_net.specs.Doing.{MayLoad}
+use Rattle.twin_net.specs.Steps.{twin_reply_of}
 
 abbrev pub card_at : CardProc → CardPlace → Type 0
 card_at proc at = CardStands proc.place at
@@ -65,18 +68,21 @@ pub record TwinMayGo {L : Type 0} (J : Jobs L) (s : TwinState L) (p : ℕ) (acti
   pub may : MayCall s p (call p action)
 
 -- ---- what an event changes beside its state, and what every run keeps
--- The deck has as many bytes in all, and no file changes.
-pub record TwinKeeps {L X S K F P : Type 0} (tells : TwinTells L S K F P) (old new : TwinNet X S K F P)
-    : Type 0 where
+-- The faults that were counted so far are, the deck has as many bytes in all, and no file changes.
+pub record TwinKeeps {L X S K F P : Type 0} (tells : TwinTells L S K F P) (counts : TwinCounts S K F P)
+    (old new : TwinNet X S K F P) : Type 0 where
+  pub counted : (before : TwinUnits S K F P) → CountedSoFar counts before old
+      → CountedSoFar counts before new
   pub total : cards_total tells new.shared.deck ≡ cards_total tells old.shared.deck
   pub files : tells.file_pages new.shared.files ≡ tells.file_pages old.shared.files
 
--- The deck has fewer cards to give where it gave one.
-pub record TwinMoves {L X S K F P : Type 0} (tells : TwinTells L S K F P) (old : TwinNet X S K F P)
-    (event : TwinEvent L) (new : TwinNet X S K F P) : Type 0 where
+-- A failure comes from its own device, and the deck has fewer cards to give where it gave one.
+pub record TwinMoves {L X S K F P : Type 0} (tells : TwinTells L S K F P) (counts : TwinCounts S K F P)
+    (old : TwinNet X S K F P) (event : TwinEvent L) (new : TwinNet X S K F P) : Type 0 where
+  pub causes : TwinCauses counts old.shared new.shared (action_of event.entry) (twin_reply_of event.entry)
   pub deck : DrawsFrom event.entry (cards_left tells.taken old.shared.deck)
       (cards_left tells.taken new.shared.deck)
-  pub all : TwinKeeps tells old new
+  pub all : TwinKeeps tells counts old new
 
 -- ---- where it stands
 -- It stands for the state with which the six open over these devices.

@@ -14,10 +14,11 @@ use Rattle.network_law.specs.Stepping.{stepped_so, is_again}
 use Rattle.twin_law.specs.Left.{DrawsFrom}
 use Rattle.twin_law.specs.Process.{Action, Entry, Process, is_end, next_action}
 use Rattle.twin_law.specs.Twin.{call, went, Suits, Allows, given, TwinState}
-use Rattle.twin_ends.specs.TwinTells.{TwinTells}
+use Rattle.twin_ends.specs.TwinTells.{TwinTells, TwinCounts}
 use Rattle.twin_procs.specs.Said.{said}
 use Rattle.twin_net.specs.declared.shared.TwinShared.{TwinShared}
 use Rattle.twin_net.specs.TwinStands.{TwinStands, cards_total}
+use Rattle.twin_net.specs.Causes.{TwinCauses}
 use Rattle.twin_net.specs.Doing.{MayLoad, MayDo, IsPrint}
 use Rattle.twin_net.specs.Turns.{TwinHasPlace}
 
@@ -62,12 +63,14 @@ pub record TwinMayStep {L X S K F A : Type 0} (tells : TwinTells L S K F A) (pro
 -- Behind a history after which it does this, the machine stands for one entry more, which suits the process,
 -- and the answer says how that went.
 pub record TwinSteps {L X S K F A : Type 0} (J : Jobs L) (process : Process L)
-    (Stands : List (Entry L) → Type 0) (tells : TwinTells L S K F A) (old new : TwinShared X S K F A) (p : ℕ)
-    (action : Action) (history : List (Entry L)) (result : Stepped) : Type 0 where
+    (Stands : List (Entry L) → Type 0) (tells : TwinTells L S K F A) (counts : TwinCounts S K F A)
+    (old new : TwinShared X S K F A) (p : ℕ) (action : Action) (history : List (Entry L)) (result : Stepped)
+    : Type 0 where
   pub entry : Entry L
   pub told : (s : TwinState L) → TwinStands tells old s → TwinHasPlace s p action
       → result ≡ stepped_so (is_delayed (went entry)) (is_end action) (is_again s (call p action))
   pub action_is : action_of entry ≡ action
   pub suits : Suits J process entry
   pub stands : Stands (entry ∷ history)
+  pub causes : TwinCauses counts old new action (twin_reply_of entry)
   pub enters : TwinEnters tells old new p action entry

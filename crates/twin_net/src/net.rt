@@ -6,6 +6,7 @@ ghost use Rattle.twin_law.specs.Left.{events_left};
 ghost use Rattle.twin_law.proofs.Reached.{sound};
 ghost use Rattle.twin_law.proofs.LeavesFewer.{leaves-fewer};
 ghost use Rattle.twin_net.specs.TwinStands.{shared_units};
+ghost use Rattle.twin_net.specs.Counted.{CountedSoFar};
 ghost use Rattle.twin_net.specs.Net.{TwinStandsWithin, TwinMoves, TwinKeeps, TwinOpensOver};
 
 use crate::TwinShared;
@@ -49,6 +50,7 @@ impl<J: JobWork, S: Source, K: Sink, F: Loader<J>, A: Area> TwinNet<J, S, K, F, 
         ensures opens { TwinOpensOver J.jobs (⟦<TwinNet<J, S, K, F, A> as Network>⟧.Stands result)
             ⟦<TwinUnits<S, K, F, A> as TwinPeripherals<J>>⟧.tells units }
         ensures units { shared_units result.shared ≡ units }
+        ensures counted { CountedSoFar ⟦<TwinUnits<S, K, F, A> as TwinPeripherals<J>>⟧.counts units result }
     {
         TwinNet {
             card: TwinMachine::new(alloc),
@@ -69,17 +71,20 @@ impl<J: JobWork, S: Source, K: Sink, F: Loader<J>, A: Area> Network for TwinNet<
         ⟦<TwinUnits<S, K, F, A> as TwinPeripherals<J>>⟧.tells net s };
 
     ghost Moves = { λ old event new. TwinMoves
-        ⟦<TwinUnits<S, K, F, A> as TwinPeripherals<J>>⟧.tells old event new };
+        ⟦<TwinUnits<S, K, F, A> as TwinPeripherals<J>>⟧.tells
+        ⟦<TwinUnits<S, K, F, A> as TwinPeripherals<J>>⟧.counts old event new };
 
-    ghost Keeps = { λ old new. TwinKeeps ⟦<TwinUnits<S, K, F, A> as TwinPeripherals<J>>⟧.tells old new };
+    ghost Keeps = { λ old new. TwinKeeps ⟦<TwinUnits<S, K, F, A> as TwinPeripherals<J>>⟧.tells
+        ⟦<TwinUnits<S, K, F, A> as TwinPeripherals<J>>⟧.counts old new };
 
     ghost left = { λ net s. events_left J.jobs (cards_left S.taken net.shared.deck) s };
 
     ghost sound = { sound J.are_jobs };
 
-    ghost keeps_itself = { λ net. record { total = refl; files = refl } };
+    ghost keeps_itself = { λ net. record { counted = λ before were. were; total = refl; files = refl } };
 
     ghost keeps_on = { λ first old new at event is stands moves kept. record {
+      counted = λ before were. moves.all.counted before (kept.counted before were);
       total = moves.all.total ∙ kept.total;
       files = moves.all.files ∙ kept.files;
     } };

@@ -1,4 +1,4 @@
-ghost use Rattle.std.specs.Prelude.{◌≡◌, ◌≤◌, ◌<◌, ℕ, true, Some};
+ghost use Rattle.std.specs.Prelude.{◌≡◌, ◌≤◌, ◌<◌, true, Some};
 ghost use Rattle.batch_procs.specs.declared.actions.Reply.TheVariants as reply;
 ghost use Rattle.twin_law.specs.Process.{PutFeed, TakeFeed, Load, Stop};
 ghost use Rattle.twin_ends.specs.TwinTells.{twin_opened};
@@ -50,6 +50,7 @@ impl<J: JobWork, S: Source, K: Sink, F: Loader<J>, A: Area> TwinShared<J, S, K, 
         ensures stands { TwinStands ⟦<TwinUnits<S, K, F, A> as TwinPeripherals<J>>⟧.tells result
             (twin_opened ⟦<TwinUnits<S, K, F, A> as TwinPeripherals<J>>⟧.tells units) }
         ensures units { shared_units result ≡ units }
+        ensures sound { result.sound ≡ true }
     {
         let TwinUnits {
             deck,
@@ -83,7 +84,7 @@ impl<J: JobWork, S: Source, K: Sink, F: Loader<J>, A: Area> TwinShared<J, S, K, 
     pub fn perform(&mut self, p: ProcNo, action: TwinAction) -> Option<Reply<J::Load>>
         requires { MayDo ⟦<TwinUnits<S, K, F, A> as TwinPeripherals<J>>⟧.tells self.old p action }
         ensures { DoneSo J.jobs ⟦<TwinUnits<S, K, F, A> as TwinPeripherals<J>>⟧.tells
-            self.old self.new p (meant action) result }
+            ⟦<TwinUnits<S, K, F, A> as TwinPeripherals<J>>⟧.counts self.old self.new p (meant action) result }
     {
         match action {
             TwinAction::ReadCard => Some(read_card::<J, S>(&mut self.deck)),
@@ -106,7 +107,7 @@ impl<J: JobWork, S: Source, K: Sink, F: Loader<J>, A: Area> TwinShared<J, S, K, 
     fn put_feed(&mut self, p: ProcNo, b: BufferNo, feed: Feed) -> Option<Reply<J::Load>>
         requires { MayPutFeed self.old p b }
         ensures { DoneSo J.jobs ⟦<TwinUnits<S, K, F, A> as TwinPeripherals<J>>⟧.tells
-            self.old self.new p (PutFeed b feed) result }
+            ⟦<TwinUnits<S, K, F, A> as TwinPeripherals<J>>⟧.counts self.old self.new p (PutFeed b feed) result }
     {
         if b == 1 {
             put_feed::<J>(&mut self.cards, p, feed)
@@ -118,7 +119,7 @@ impl<J: JobWork, S: Source, K: Sink, F: Loader<J>, A: Area> TwinShared<J, S, K, 
     fn take_feed(&mut self, p: ProcNo, b: BufferNo) -> Option<Reply<J::Load>>
         requires { MayTakeFeed self.old p b }
         ensures { DoneSo J.jobs ⟦<TwinUnits<S, K, F, A> as TwinPeripherals<J>>⟧.tells
-            self.old self.new p (TakeFeed b) result }
+            ⟦<TwinUnits<S, K, F, A> as TwinPeripherals<J>>⟧.counts self.old self.new p (TakeFeed b) result }
     {
         if b == 1 {
             take_feed::<J>(&mut self.cards, p)
@@ -131,7 +132,7 @@ impl<J: JobWork, S: Source, K: Sink, F: Loader<J>, A: Area> TwinShared<J, S, K, 
     fn load(&mut self, p: ProcNo, file: &Ident) -> Reply<J::Load>
         requires { MayLoad ⟦<TwinUnits<S, K, F, A> as TwinPeripherals<J>>⟧.tells self.old }
         ensures { DoneSo J.jobs ⟦<TwinUnits<S, K, F, A> as TwinPeripherals<J>>⟧.tells
-            self.old self.new p (Load file.now) (Some result) }
+            ⟦<TwinUnits<S, K, F, A> as TwinPeripherals<J>>⟧.counts self.old self.new p (Load file.now) (Some result) }
     {
         let _ = p;
         if !self.sound {
@@ -145,7 +146,7 @@ impl<J: JobWork, S: Source, K: Sink, F: Loader<J>, A: Area> TwinShared<J, S, K, 
     fn stop(&mut self, p: ProcNo, b: BufferNo) -> Reply<J::Load>
         requires { MayStopAt self.old p b }
         ensures { DoneSo J.jobs ⟦<TwinUnits<S, K, F, A> as TwinPeripherals<J>>⟧.tells
-            self.old self.new p (Stop b) (Some result) }
+            ⟦<TwinUnits<S, K, F, A> as TwinPeripherals<J>>⟧.counts self.old self.new p (Stop b) (Some result) }
     {
         let side = side_at(p, b);
         if b == 1 {

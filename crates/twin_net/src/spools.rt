@@ -1,4 +1,4 @@
-ghost use Rattle.std.specs.Prelude.{◌≡◌, ℕ, Some};
+ghost use Rattle.std.specs.Prelude.{ℕ, Some};
 ghost use Rattle.solo_base.specs.declared.outcome.Side.TheVariants.{Sender, Receiver};
 ghost use Rattle.queue_var.specs.Sides.{MayStop};
 ghost use Rattle.network_law.specs.Acts.{Awaits, Moves, Stops};
@@ -25,7 +25,7 @@ impl<A: Area> TwinSpools<A> {
     /// Waits until a spool has room for a page. No reply: the process waits.
     pub fn await_room<J: JobWork>(&mut self, p: ProcNo, b: BufferNo) -> Option<Reply<J::Load>>
         requires { AtSpool self.old b (λ spool. WaitsAt spool.sides Sender p) }
-        ensures { SpoolVisited J.jobs A.pages self.old self.new Sender Awaits p b (AwaitRoom b) result }
+        ensures { SpoolVisited J.jobs A.pages A.faults self.old self.new Sender Awaits p b (AwaitRoom b) result }
     {
         if b == 2 {
             await_room::<J, A>(&mut self.to_a, p)
@@ -41,7 +41,7 @@ impl<A: Area> TwinSpools<A> {
     /// Waits until a spool has a page. No reply: the process waits.
     pub fn await_item<J: JobWork>(&mut self, p: ProcNo, b: BufferNo) -> Option<Reply<J::Load>>
         requires { AtSpool self.old b (λ spool. WaitsAt spool.sides Receiver p) }
-        ensures { SpoolVisited J.jobs A.pages self.old self.new Receiver Awaits p b (AwaitItem b) result }
+        ensures { SpoolVisited J.jobs A.pages A.faults self.old self.new Receiver Awaits p b (AwaitItem b) result }
     {
         if b == 2 {
             await_item::<J, A>(&mut self.to_a, p)
@@ -57,7 +57,7 @@ impl<A: Area> TwinSpools<A> {
     /// Puts a page into a spool that has room.
     pub fn put_page<J: JobWork>(&mut self, b: BufferNo, page: Page) -> Reply<J::Load>
         requires { AtSpool self.old b PutsAt }
-        ensures { (p : ℕ) → SpoolVisited J.jobs A.pages self.old self.new Sender Moves p b (PutPage b page)
+        ensures { (p : ℕ) → SpoolVisited J.jobs A.pages A.faults self.old self.new Sender Moves p b (PutPage b page)
             (Some result) }
     {
         if b == 2 {
@@ -74,7 +74,7 @@ impl<A: Area> TwinSpools<A> {
     /// Takes a page from a spool that has one.
     pub fn take_page<J: JobWork>(&mut self, b: BufferNo) -> Reply<J::Load>
         requires { AtSpool self.old b TakesAt }
-        ensures { (p : ℕ) → SpoolVisited J.jobs A.pages self.old self.new Receiver Moves p b (TakePage b)
+        ensures { (p : ℕ) → SpoolVisited J.jobs A.pages A.faults self.old self.new Receiver Moves p b (TakePage b)
             (Some result) }
     {
         if b == 2 {
@@ -92,7 +92,7 @@ impl<A: Area> TwinSpools<A> {
     pub fn stop<J: JobWork>(&mut self, b: BufferNo, side: Side) -> Reply<J::Load>
         requires { AtSpool self.old b (λ spool. MayStop spool.sides side) }
         ensures { (p : ℕ) →
-            SpoolVisited J.jobs A.pages self.old self.new side Stops p b (Stop b) (Some result) }
+            SpoolVisited J.jobs A.pages A.faults self.old self.new side Stops p b (Stop b) (Some result) }
     {
         if b == 2 {
             stop_spool::<J, A>(&mut self.to_a, b, side)

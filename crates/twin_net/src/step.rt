@@ -25,7 +25,8 @@ pub fn step_machine<J: JobWork, P: TwinProc<J>, S: Source, K: Sink, F: Loader<J>
     ensures { (h : List (Entry J.Load)) (action : Action) →
         StandsFor P.process P.stands machine.old h → next_action P.process h ≡ Some action →
         TwinSteps J.jobs P.process (StandsFor P.process P.stands machine.new)
-        ⟦<TwinUnits<S, K, F, A> as TwinPeripherals<J>>⟧.tells shared.old shared.new p action h result }
+        ⟦<TwinUnits<S, K, F, A> as TwinPeripherals<J>>⟧.tells
+        ⟦<TwinUnits<S, K, F, A> as TwinPeripherals<J>>⟧.counts shared.old shared.new p action h result }
 {
     let action = machine.next();
     let ends = is_end(&action);

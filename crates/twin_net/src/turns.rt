@@ -1,11 +1,10 @@
 // Whether a process is at its turn.
-ghost use Rattle.std.specs.Prelude.{◌≡◌, ◌↔◌, IsTrue, Some, ℕ, List};
+ghost use Rattle.std.specs.Prelude.{◌≡◌, ◌↔◌, IsTrue, Some, List};
 ghost use Rattle.queue_var.specs.Sides.{MayEnter, MayStop};
 ghost use Rattle.network_law.specs.Network.{MayCall};
 ghost use Rattle.network_law.specs.Stepping.{is_named, is_again};
 ghost use Rattle.twin_law.specs.Process.{Action, Entry, next_action};
 ghost use Rattle.twin_procs.specs.Machine.{StandsFor};
-ghost use Rattle.twin_procs.specs.Said.{said};
 ghost use Rattle.twin_net.specs.TwinStands.{TwinStands};
 ghost use Rattle.twin_net.specs.Doing.{meant};
 ghost use Rattle.twin_net.specs.Turns.{TwinHasPlace, TwinIsAtTurn};

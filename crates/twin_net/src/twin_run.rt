@@ -9,7 +9,8 @@ ghost use Rattle.twin_law.specs.Bound.{longest_run};
 ghost use Rattle.twin_law.specs.Opening.{AreTold};
 ghost use Rattle.twin_law.specs.UnitWork.{AreByUnits};
 ghost use Rattle.twin_ends.specs.TwinTells.{cards_ahead, twin_devices, twin_spools, twin_opened};
-ghost use Rattle.twin_net.specs.Ended.{TwinFaultsAre, twin_all_done};
+ghost use Rattle.twin_net.specs.Counted.{TwinFaultsAreCounted};
+ghost use Rattle.twin_net.specs.Ended.{TwinFaultsAre, TwinStoppedSo, twin_all_done};
 ghost use Rattle.twin_net.specs.TwinRuns.{TwinRunsToEnd};
 
 use crate::TwinNet;
@@ -41,7 +42,12 @@ pub fn run_twin<J: JobWork, S: Source, K: Sink, F: Loader<J>, A: Area>(
         (twin_opened ⟦<TwinUnits<S, K, F, A> as TwinPeripherals<J>>⟧.tells units)
         result.1 result.0.outcomes result.0.stopped_by
         (twin_devices ⟦<TwinUnits<S, K, F, A> as TwinPeripherals<J>>⟧.tells result.0.units) }
+
+    // Where their faults come from, and who was told to stop.
     ensures faults { TwinFaultsAre result.0.outcomes }
+    ensures counted { TwinFaultsAreCounted ⟦<TwinUnits<S, K, F, A> as TwinPeripherals<J>>⟧.counts units
+        result.0.units result.0.outcomes }
+    ensures stopped { TwinStoppedSo result.0.outcomes result.0.stopped_by }
 
     // The paper gained what one thread prints or a part of it, all of it where all are done, and then nothing
     // is left of the deck.

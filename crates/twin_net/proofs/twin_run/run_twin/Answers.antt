@@ -19,6 +19,9 @@ returns-clause-runs g c =
     (c.run_by-counts.ensures.runs (twin_first_place c.make-net.ensures.opens)) c.finish.result.outcomes c.finish.result.stopped_by c.finish.ensures.ends
     c.finish.result.units c.finish.ensures.units
 
+pub returns-clause-counted : goal.returns-clause-counted
+returns-clause-counted g c = c.finish.ensures.counted _ (c.run_by-counts.ensures.keeps.counted _ c.make-net.ensures.counted)
+
 pub returns-clause-prints : goal.returns-clause-prints
 returns-clause-prints g c = λ by told items found deck files.
     let at = twin_first_place c.make-net.ensures.opens in

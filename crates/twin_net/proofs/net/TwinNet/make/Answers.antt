@@ -3,6 +3,7 @@ use Rattle.batch_ends.specs.Devices.{cards_left}
 use Rattle.batch_ends.proofs.ToldCards.{told-cards}
 use Rattle.twin_ends.specs.declared.units.TwinUnits.{TwinUnits}
 use Rattle.twin_net.proofs.Opened.{opens-over, fresh-few}
+use Rattle.twin_net.proofs.FirstCounted.{free-done, counted-first}
 use Rattle.twin_net.proofs.net.TwinNet.make.Goals as goal
 
 pub make-requires : goal.make-requires
@@ -37,3 +38,9 @@ returns-clause-opens g c =
       paper_live = λ free. ap (λ (u : TwinUnits _ _ _ _). u.paper.live) c.make.ensures.units ∙ c.requires.paper;
       sound = λ sound. subst (λ (u : TwinUnits _ _ _ _). g.F.Loader.sound u.files) (sym c.make.ensures.units) c.requires.sound;
     }
+
+pub returns-clause-counted : goal.returns-clause-counted
+returns-clause-counted g c =
+    counted-first g.J.JobWork.jobs _ _ c.args.units c.make.ensures.units c.make.ensures.sound
+    (free-done _ _ _ _ _ _ c.new.ensures.cause c.new-2.ensures.cause c.new-3.ensures.cause c.new-4.ensures.cause c.new-5.ensures.cause
+    c.new-6.ensures.cause)
