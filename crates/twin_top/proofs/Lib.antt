@@ -1,0 +1,7 @@
+mod SixOutcomes
+mod Reasons
+mod Ran
+mod Areas
+mod Mounted
+mod Complete
+mod Printed
