@@ -1,7 +1,0 @@
-mod SixOutcomes
-mod Reasons
-mod Ran
-mod Areas
-mod Mounted
-mod Complete
-mod Printed
