@@ -51,7 +51,7 @@ impl<'a, M: MonitorKind> Inside<'a, M> {
         ensures* writes_back { sem 𝓛 (follows (the_row (record { mir = named 1; lft = [] }) M.row M.State.row M.Entry.row M.MonitorKind) M.State.row self.entry.ghost_name result.ghost_name (with_state self.old)) }
         ensures value { result.now ≡ state_of self.old }
     {
-        &mut self.state
+        self.state.get_mut()
     }
 
     /// Leaves, with this entry completed. The gate goes to the process to which the state hands its turn, and is free where there is none.

@@ -1,5 +1,6 @@
 //! A process that is inside a gate.
 use crate::gate::Gate;
+use crate::kept::Kept;
 use crate::kind::MonitorKind;
 use crate::pass::Pass;
 
@@ -7,5 +8,5 @@ use crate::pass::Pass;
 pub struct Inside<'a, M: MonitorKind> {
     pub(crate) pass: &'a mut Pass<M>,
     pub(crate) gate: &'a Gate<M>,
-    pub(crate) state: M::State,
+    pub(crate) state: Kept<M::State>,
 }
