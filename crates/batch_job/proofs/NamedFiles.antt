@@ -1,6 +1,8 @@
 -- The files that items name, in order.
-use Rattle.std.proofs.Common.{◌≡◌, ◌≤◌, List, [], ◌∷◌, ◌++◌, length, length-append, Option, None, Some, refl, sym, ◌∙◌, ap, append_assoc, arith}
+use Rattle.std.proofs.Common.{◌≡◌, ◌≤◌, List, [], ◌∷◌, ◌++◌, length, length-append, Option, None, Some, false, drop, refl, sym, ◌∙◌, ap, append_assoc, arith}
 use Rattle.solo_base.specs.declared.item.Item.{Item}
+use Rattle.solo_base.specs.declared.item.Item.TheVariants.{Line, Spoiled}
+use Rattle.page_codec.specs.Reading.{begins_with}
 use Rattle.deck_format.specs.declared.control.Opener.{Opener}
 use Rattle.deck_format.specs.declared.control.Opener.TheVariants as opener
 use Rattle.deck_format.specs.Jobs.{opener_of}
@@ -25,3 +27,10 @@ few_files (item ∷ rest) =
     let few = few_files rest in
     let both = length-append (file_named (opener_of item)) (files_named rest) in
     omega (arith, one, few, both)
+
+-- an item that doesn't begin with `#` names none
+pub passed-names-none : (items : List Item) → begins_with 35 items ≡ false → files_named items ≡ files_named (drop 1 items)
+passed-names-none [] test = refl
+passed-names-none (Spoiled ∷ more) test = refl
+passed-names-none (Line [] ∷ more) test = refl
+passed-names-none (Line (first ∷ line) ∷ more) test = rw test refl
