@@ -15,19 +15,20 @@ use Rattle.batch_procs.specs.Jobs.{Jobs, AreJobs}
 use Rattle.batch_ends.specs.declared.ends.Outcomes.{Outcomes}
 use Rattle.batch_ends.specs.Ended.{outcome_at, stopped_at}
 use Rattle.batch_run.specs.declared.batch.Parted.{Parted}
-use Rattle.batch_run.specs.declared.gates.AllMet.{AllMet as Met}
-use Rattle.batch_run.specs.declared.gates.Gates.{Gates}
-use Rattle.batch_run.specs.declared.gates.Ends.{Ends}
-use Rattle.batch_run.specs.declared.row.Row.{Row}
-use Rattle.batch_run.specs.declared.row.RowEnded.{RowEnded}
+use Rattle.batch_sides.specs.declared.gates.AllMet.{AllMet as Met}
+use Rattle.batch_sides.specs.declared.gates.Gates.{Gates}
+use Rattle.batch_sides.specs.declared.gates.Ends.{Ends}
+use Rattle.batch_sides.specs.declared.row.Row.{Row}
+use Rattle.batch_sides.specs.declared.row.RowEnded.{RowEnded}
 use Rattle.batch_ends.specs.declared.ends.Ran.{Ran}
-use Rattle.batch_run.specs.Begun.{BeginsBy, units_at}
-use Rattle.batch_run.specs.Cards.{DeckRan}
-use Rattle.batch_run.specs.Files.{FileTells, FilesRan}
+use Rattle.batch_sides.specs.Begun.{BeginsBy, units_at}
+use Rattle.batch_sides.specs.Cards.{DeckRan}
+use Rattle.batch_sides.specs.Files.{FileTells, FilesRan}
 use Rattle.batch_run.specs.FiveRan.{BatchRan, EndedSo, FiveRan, histories}
-use Rattle.batch_run.specs.Lines.{PaperRan}
-use Rattle.batch_run.specs.Met.{AllMeet, IsParted}
-use Rattle.batch_run.specs.Row.{RowRan}
+use Rattle.batch_sides.specs.Lines.{PaperRan}
+use Rattle.batch_sides.specs.Met.{AllMeet}
+use Rattle.batch_run.specs.Apart.{IsParted}
+use Rattle.batch_sides.specs.Row.{RowRan}
 use Rattle.batch_run.proofs.Ending.{each-process, follows, line-met, spool-met}
 
 module _ {L : Type 0} {J : Jobs L} (jobs : AreJobs J) where
@@ -43,11 +44,11 @@ module _ {L : Type 0} {J : Jobs L} (jobs : AreJobs J) where
 
       abbrev pub five : FiveRan J input_told input_faults output_told output_faults gates.input.area met.input gates.output.area met.output first
       five =
-          let card = ran.front_ended.cards_ended in
-          let input = ran.front_ended.pages_ended in
-          let at_job = ran.rest_ended.jobs_ended in
-          let output = ran.rest_ended.back_ended.lines_ended in
-          let printer = ran.rest_ended.back_ended.paper_ended in
+          let card = ran.cards in
+          let input = ran.pages in
+          let at_job = ran.jobs in
+          let output = ran.lines in
+          let printer = ran.paper in
           record {
             card_history = card.history;
             input_history = input.history;
@@ -90,11 +91,11 @@ module _ {L : Type 0} {J : Jobs L} (jobs : AreJobs J) where
       ended-at : (p : ℕ) → IsProcess p → newest (histories five p) ≡ Some (act.Ended (outcome_at outcomes p))
       ended-at p one =
           each-process jobs (λ p. newest (histories five p) ≡ Some (act.Ended (outcome_at outcomes p))) p one
-          (ends-so ran.front_ended.cards_ended.history outcomes.card ended.front.0.1 is.card ran.front_ended.cards_ended.ended)
-          (ends-so ran.front_ended.pages_ended.history outcomes.input ended.front.1.1 is.input ran.front_ended.pages_ended.ended)
-          (ends-so ran.rest_ended.jobs_ended.history outcomes.job ended.rest.0.1 is.job ran.rest_ended.jobs_ended.ended)
-          (ends-so ran.rest_ended.back_ended.lines_ended.history outcomes.output ended.rest.1.0.1 is.output ran.rest_ended.back_ended.lines_ended.ended)
-          (ends-so ran.rest_ended.back_ended.paper_ended.history outcomes.printer ended.rest.1.1.1 is.printer ran.rest_ended.back_ended.paper_ended.ended)
+          (ends-so ran.cards.history outcomes.card ended.cards.1 is.card ran.cards.ended)
+          (ends-so ran.pages.history outcomes.input ended.pages.1 is.input ran.pages.ended)
+          (ends-so ran.jobs.history outcomes.job ended.jobs.1 is.job ran.jobs.ended)
+          (ends-so ran.lines.history outcomes.output ended.lines.1 is.output ran.lines.ended)
+          (ends-so ran.paper.history outcomes.printer ended.paper.1 is.printer ran.paper.ended)
 
       ended-so : (p : ℕ) → IsProcess p → EndedSo (process J p) (histories five p) (outcome_at outcomes p)
       ended-so p one = record {
@@ -107,17 +108,17 @@ module _ {L : Type 0} {J : Jobs L} (jobs : AreJobs J) where
       deck-ran : DeckRan left taken source_faults deck parted.deck five.card_history
       deck-ran =
           subst (λ d. DeckRan left taken source_faults d parted.deck five.card_history) begins.deck_is
-          (subst (λ d. DeckRan left taken source_faults row.cards.deck d five.card_history) (sym is.deck) ran.front_ended.cards_ended.stands.deck)
+          (subst (λ d. DeckRan left taken source_faults row.cards.deck d five.card_history) (sym is.deck) ran.cards.stands.deck)
 
       paper-ran : PaperRan given sink_faults paper parted.paper five.printer_history
       paper-ran =
           subst (λ p. PaperRan given sink_faults p parted.paper five.printer_history) begins.paper_is
-          (subst (λ p. PaperRan given sink_faults row.paper.paper p five.printer_history) (sym is.paper) ran.rest_ended.back_ended.paper_ended.stands.paper)
+          (subst (λ p. PaperRan given sink_faults row.paper.paper p five.printer_history) (sym is.paper) ran.paper.stands.paper)
 
       files-ran : FilesRan loader files parted.files five.job_history
       files-ran =
           subst (λ f. FilesRan loader f parted.files five.job_history) begins.files_are
-          (subst (λ f. FilesRan loader row.jobs.files f five.job_history) (sym is.files) ran.rest_ended.jobs_ended.stands.files)
+          (subst (λ f. FilesRan loader row.jobs.files f five.job_history) (sym is.files) ran.jobs.stands.files)
 
       pub batch-ran : BatchRan J left taken source_faults given sink_faults loader input_told input_faults output_told output_faults
           (units_at gates deck paper files) ran_to

@@ -29,9 +29,9 @@ use Rattle.core_law.proofs.Taking.{next-take}
 use Rattle.core_law.proofs.Passed.{IsNoPrint}
 use Rattle.core_law.proofs.KeepsDevices.{ended-more, entry-no_text, text-more, text-part, prefix-longer}
 use Rattle.core_law.proofs.Streams.{deck_parcels, text_of, ReadsOf, Gained}
-use Rattle.batch_run.specs.Cards.{cards_read, newest_read}
-use Rattle.batch_run.specs.Lines.{text_tried}
-use Rattle.batch_run.proofs.Decks.{new-none}
+use Rattle.batch_sides.specs.Cards.{cards_read, newest_read}
+use Rattle.batch_sides.specs.Lines.{text_tried}
+use Rattle.batch_sides.proofs.Decks.{new-none}
 use Rattle.batch_procs.specs.Jobs.{Jobs, AreJobs}
 
 true-false : (t : Bool) → t ≡ true → t ≡ false → ⊥

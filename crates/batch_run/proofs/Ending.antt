@@ -28,14 +28,16 @@ use Rattle.core_law.specs.Ends.{IsProcess}
 use Rattle.core_law.proofs.Row.{each-buffer}
 use Rattle.core_law.proofs.Passing.{HandOver}
 use Rattle.core_law.proofs.Stopping.{AreFirst, WasToldBy}
-use Rattle.batch_run.specs.Calls.{line_calls, spool_calls}
+use Rattle.batch_sides.specs.Calls.{line_calls, spool_calls}
 use Rattle.batch_run.specs.FiveRan.{FiveRan, histories}
-use Rattle.batch_run.specs.Cards.{does_card}
-use Rattle.batch_run.specs.Lines.{does_printer}
-use Rattle.batch_run.specs.Pages.{does_input, does_job, does_output}
-use Rattle.batch_run.specs.DoesOnly.{card-does, input-does, job-does, output-does, printer-does}
-use Rattle.batch_run.proofs.LineCalls as line_calls_are
-use Rattle.batch_run.proofs.SpoolCalls as spool_calls_are
+use Rattle.batch_sides.specs.Cards.{does_card}
+use Rattle.batch_sides.specs.Lines.{does_printer}
+use Rattle.batch_sides.specs.Input.{does_input}
+use Rattle.batch_sides.specs.Job.{does_job}
+use Rattle.batch_sides.specs.Output.{does_output}
+use Rattle.batch_sides.specs.DoesOnly.{card-does, input-does, job-does, output-does, printer-does}
+use Rattle.batch_sides.proofs.LineCalls as line_calls_are
+use Rattle.batch_sides.proofs.SpoolCalls as spool_calls_are
 use Rattle.batch_run.proofs.Streams.{PutsFeeds, PutsPages, TakesFeeds, TakesPages, line-sent, line-taken, line-part, spool-sent, spool-taken, spool-part}
 use Rattle.batch_run.proofs.Given.{was-told, put-refused, take-refused, room-refused, item-refused}
 use Rattle.batch_procs.specs.Jobs.{Jobs, AreJobs}

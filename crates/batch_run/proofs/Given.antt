@@ -31,12 +31,12 @@ use Rattle.batch_procs.proofs.Relay.{open-next}
 use Rattle.batch_procs.specs.Faults.{cause_by}
 use Rattle.batch_procs.specs.Process.{Process, Follows, next_action}
 use Rattle.batch_procs.proofs.Faulty.{each_cause_is_given}
-use Rattle.batch_run.specs.Calls.{line_call, line_calls, spool_call, spool_calls}
-use Rattle.batch_run.specs.Connections.{DoesOnly}
-use Rattle.batch_run.specs.Cards.{newest_read, does_card}
-use Rattle.batch_run.specs.Files.{newest_load}
-use Rattle.batch_run.specs.Lines.{newest_print}
-use Rattle.batch_run.proofs.LineCalls.{any-then}
+use Rattle.batch_sides.specs.Calls.{line_call, line_calls, spool_call, spool_calls}
+use Rattle.batch_sides.specs.Running.{DoesOnly}
+use Rattle.batch_sides.specs.Cards.{newest_read, does_card}
+use Rattle.batch_sides.specs.Files.{newest_load}
+use Rattle.batch_sides.specs.Lines.{newest_print}
+use Rattle.batch_sides.proofs.LineCalls.{any-then}
 use Rattle.core_law.proofs.Told.{given-stopped}
 use Rattle.batch_procs.specs.Jobs.{Jobs, AreJobs}
 

@@ -1,13 +1,8 @@
-pub mod Running
-pub mod LineCalls
-pub mod Decks
-pub mod Papers
-pub mod FileLoads
-pub mod SpoolCalls
 pub mod Streams
 pub mod Given
 pub mod Devices
 pub mod Beginning
+pub mod Meeting
 pub mod Ending
 pub mod BatchRuns
 pub mod Promise

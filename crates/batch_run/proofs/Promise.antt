@@ -46,13 +46,15 @@ use Rattle.batch_ends.specs.Causes.{Counts}
 use Rattle.batch_ends.specs.Ended.{outcome_at, all_done, none_stopped, stopped_at, StoppedBeside, SomeFault, EndTogether, FaultsAre, NoneDamaged}
 use Rattle.batch_ends.specs.Faults.{FaultsAreCounted}
 use Rattle.batch_ends.specs.declared.ends.Ran.{Ran}
-use Rattle.batch_run.specs.DoesOnly.{card-does, input-does, job-does, output-does, printer-does}
-use Rattle.batch_run.specs.Files.{FileTells}
+use Rattle.batch_sides.specs.DoesOnly.{card-does, input-does, job-does, output-does, printer-does}
+use Rattle.batch_sides.specs.Files.{FileTells}
 use Rattle.batch_run.specs.FiveRan.{BatchRan, FiveRan, histories}
-use Rattle.batch_run.specs.Lines.{does_printer, newest_print}
-use Rattle.batch_run.specs.Pages.{does_input, does_job, does_output}
+use Rattle.batch_sides.specs.Lines.{does_printer, newest_print}
+use Rattle.batch_sides.specs.Input.{does_input}
+use Rattle.batch_sides.specs.Job.{does_job}
+use Rattle.batch_sides.specs.Output.{does_output}
 use Rattle.batch_run.proofs.Devices.{deck-reads, cards-taken, paper-gained}
-use Rattle.batch_run.proofs.FileLoads.{all-loaded}
+use Rattle.batch_sides.proofs.FileLoads.{all-loaded}
 use Rattle.batch_run.proofs.Ending.{each-process, follows, hand-over, are-first}
 use Rattle.batch_run.proofs.Given.{has-failed, put-failed, take-failed, read-failed, print-failed, load-failed, limit-cause}
 use Rattle.batch_ends.specs.declared.units.Units.{Units}

@@ -26,9 +26,9 @@ use Rattle.batch_procs.specs.Sends.{as_parcels}
 use Rattle.core_law.proofs.Ends.{takes-nothing}
 use Rattle.core_law.proofs.HandedLists.{handed-append}
 use Rattle.batch_ends.specs.Spools.{page_parcel}
-use Rattle.batch_run.specs.Calls.{and_then, line_call, line_calls, spool_call, spool_calls}
-use Rattle.batch_run.specs.Connections.{DoesOnly}
-use Rattle.batch_run.proofs.LineCalls.{lack-call}
+use Rattle.batch_sides.specs.Calls.{and_then, line_call, line_calls, spool_call, spool_calls}
+use Rattle.batch_sides.specs.Running.{DoesOnly}
+use Rattle.batch_sides.proofs.LineCalls.{lack-call}
 use Rattle.batch_procs.specs.Jobs.{Jobs, AreJobs}
 
 -- ---- lists

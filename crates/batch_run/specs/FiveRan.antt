@@ -19,10 +19,10 @@ use Rattle.core_law.specs.Ends.{IsProcess}
 use Rattle.batch_ends.specs.declared.ends.Ran.{Ran}
 use Rattle.batch_ends.specs.declared.units.Units.{Units}
 use Rattle.batch_ends.specs.Ended.{outcome_at, stopped_at}
-use Rattle.batch_run.specs.Calls.{line_calls, spool_calls}
-use Rattle.batch_run.specs.Cards.{DeckRan}
-use Rattle.batch_run.specs.Files.{FileTells, FilesRan}
-use Rattle.batch_run.specs.Lines.{PaperRan}
+use Rattle.batch_sides.specs.Calls.{line_calls, spool_calls}
+use Rattle.batch_sides.specs.Cards.{DeckRan}
+use Rattle.batch_sides.specs.Files.{FileTells, FilesRan}
+use Rattle.batch_sides.specs.Lines.{PaperRan}
 
 -- Each history follows its process. At each buffer the calls of both sides have met: what was taken and what
 -- is left inside is what was put, and it is known which side stopped first.

@@ -1,12 +1,2 @@
-pub mod Connections
-pub mod Calls
-pub mod Cards
-pub mod Lines
-pub mod Desks
-pub mod Files
-pub mod Pages
-pub mod Row
-pub mod DoesOnly
-pub mod Begun
-pub mod Met
+pub mod Apart
 pub mod FiveRan

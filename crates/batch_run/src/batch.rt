@@ -11,17 +11,14 @@ ghost use Rattle.core_law.specs.Holds.{AreFound, AreTold};
 ghost use Rattle.batch_ends.specs.Ended.{all_done, EndTogether, FaultsAre, NoneDamaged};
 ghost use Rattle.batch_ends.specs.Faults.{FaultsAreCounted};
 ghost use Rattle.batch_ends.specs.Openings.{spools_over};
-ghost use Rattle.batch_run.specs.Begun.{AreFresh, IsTakenBack, units_at};
-ghost use Rattle.batch_run.specs.Files.{loading};
+ghost use Rattle.batch_sides.specs.Begun.{AreFresh, units_at};
+ghost use Rattle.batch_sides.specs.Files.{loading};
 ghost use Rattle.batch_run.specs.FiveRan.{BatchRan};
-ghost use Rattle.batch_run.specs.Met.{IsParted};
+ghost use Rattle.batch_run.specs.Apart.{IsParted};
 
-use crate::buffers::Seats;
-use crate::gates::{AllMet, Ends, Gates};
-use crate::making::make_all;
-use crate::row::{Row, RowEnded, run_five};
 use batch_ends::{Outcomes, Peripherals, Ran, Units};
 use batch_procs::{JobWork, Loader};
+use batch_sides::{AllMet, Ends, Gates, RowEnded, Seats, make_all, run_five};
 use solo_base::NoMemory;
 use solo_devices::{Area, CardUnit, PrinterUnit, Sink, Source};
 use std::alloc::Global;
@@ -31,14 +28,6 @@ use std::thread::Threads;
 /// How the five ended, with their ends and the devices.
 struct Parted<S: Source, K: Sink, F, A: Area + Send, B: Area + Send> {
     outcomes: Outcomes,
-    ends: Ends<A, B>,
-    deck: CardUnit<S>,
-    paper: PrinterUnit<K>,
-    files: F,
-}
-
-/// The ends and the devices of five that have not begun.
-struct Unbegun<S: Source, K: Sink, F, A: Area + Send, B: Area + Send> {
     ends: Ends<A, B>,
     deck: CardUnit<S>,
     paper: PrinterUnit<K>,
@@ -170,62 +159,54 @@ where
         (units_at gates deck paper files) ran) }
 {
     know_jobs::<J>();
-    match run_five::<J, S, K, F, A, B, R>(rt, alloc, gates.row(ends, deck, paper, files)) {
-        Ok(ended) => {
-            let Parted {
-                outcomes,
-                ends,
-                deck,
-                paper,
-                files,
-            } = take_apart(ended);
-            let AllMet {
-                input,
-                output,
-                stopped_by,
-            } = gates.meet(ends);
-            let units = Units {
-                deck,
-                paper,
-                files,
-                input,
-                output,
-            };
-            Ok(Ran {
-                outcomes,
-                stopped_by,
-                units,
-            })
-        }
-        Err(row) => {
-            let Unbegun {
-                ends,
-                deck,
-                paper,
-                files,
-            } = take_back(row);
-            let (input, output) = gates.unmake(ends);
-            let units = Units {
-                deck,
-                paper,
-                files,
-                input,
-                output,
-            };
-            Err((units, NoMemory))
-        }
+    let (ended, whole) = run_five::<J, S, K, F, A, B, R>(
+        rt,
+        alloc,
+        gates.row(ends, deck, paper, files),
+    );
+    let Parted {
+        outcomes,
+        ends,
+        deck,
+        paper,
+        files,
+    } = take_apart(ended);
+    let AllMet {
+        input,
+        output,
+        stopped_by,
+    } = gates.meet(ends);
+    let units = Units {
+        deck,
+        paper,
+        files,
+        input,
+        output,
+    };
+    if whole {
+        return Ok(Ran {
+            outcomes,
+            stopped_by,
+            units,
+        });
     }
+    Err((units, NoMemory))
 }
 
 // How the five ended, apart from the gates that they were at.
+#[inline(never)]
 fn take_apart<'a, S: Source + Drop, K: Sink + Drop, F, A: Area + Send, B: Area + Send>(
     ended: RowEnded<'a, S, K, F, A, B>,
 ) -> Parted<S, K, F, A, B>
     ensures { IsParted ended.entry result }
 {
-    let RowEnded { front, rest } = ended;
-    let ((cards, card), (pages, input)) = front;
-    let ((jobs, job), ((lines, output), (paper, printer))) = rest;
+    let RowEnded {
+        cards: (cards, card),
+        pages: (pages, input),
+        jobs: (jobs, job),
+        lines: (lines, output),
+        paper: (paper, printer),
+    } = ended;
     Parted {
         outcomes: Outcomes {
             card,
@@ -234,38 +215,6 @@ fn take_apart<'a, S: Source + Drop, K: Sink + Drop, F, A: Area + Send, B: Area +
             output,
             printer,
         },
-        ends: Ends {
-            cards: (cards.lines, pages.cards),
-            input: (pages.pages, jobs.cards),
-            output: (jobs.pages, lines.pages),
-            lines: (lines.lines, paper.lines),
-            seats: Seats {
-                input: pages.seat,
-                job: jobs.seat,
-                output: lines.seat,
-            },
-        },
-        deck: cards.deck,
-        paper: paper.paper,
-        files: jobs.files,
-    }
-}
-
-// The ends and the devices of five that have not begun, apart from the gates that they were at.
-#[inline(never)]
-fn take_back<'a, S: Source + Drop, K: Sink + Drop, F, A: Area + Send, B: Area + Send>(
-    row: Row<'a, S, K, F, A, B>,
-) -> Unbegun<S, K, F, A, B>
-    ensures { IsTakenBack row.entry result }
-{
-    let Row {
-        cards,
-        pages,
-        jobs,
-        lines,
-        paper,
-    } = row;
-    Unbegun {
         ends: Ends {
             cards: (cards.lines, pages.cards),
             input: (pages.pages, jobs.cards),

@@ -3,6 +3,8 @@
 
 mod pair;
 mod start;
+mod three;
 
 pub use pair::beside;
 pub use start::{Start, Told};
+pub use three::three_beside;

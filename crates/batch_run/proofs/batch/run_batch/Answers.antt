@@ -1,7 +1,7 @@
 use Rattle.std.proofs.Common.{subst}
 use Rattle.std.proofs.lemmas.Result.{IfOk-weaker}
 use Rattle.std.specs.Prelude.{IfOk}
-use Rattle.batch_run.specs.Files.{loading}
+use Rattle.batch_sides.specs.Files.{loading}
 use Rattle.batch_run.specs.FiveRan.{BatchRan}
 use Rattle.batch_run.proofs.Beginning.{same-units}
 use Rattle.batch_run.proofs.Promise.{together, faults, counted, prints, reads, undamaged, taken-all, longer}

@@ -1,0 +1,12 @@
+pub mod Going
+pub mod Performing
+pub mod LineCalls
+pub mod SpoolCalls
+pub mod Decks
+pub mod Papers
+pub mod FileLoads
+pub mod CardSteps
+pub mod InputSteps
+pub mod JobSteps
+pub mod OutputSteps
+pub mod PrinterSteps

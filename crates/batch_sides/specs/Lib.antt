@@ -1,0 +1,13 @@
+pub mod Running
+pub mod Calls
+pub mod Cards
+pub mod Lines
+pub mod Desks
+pub mod Files
+pub mod Input
+pub mod Job
+pub mod Output
+pub mod Row
+pub mod DoesOnly
+pub mod Begun
+pub mod Met
