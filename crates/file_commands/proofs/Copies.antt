@@ -1,17 +1,13 @@
 -- Whole pages, and texts that are copied.
-use Rattle.std.proofs.Common.{◌≡◌, ◌⊎◌, inl, inr, ℕ, suc, zero, ◌+◌, ◌*◌, ◌/◌, ◌<◌, ◌≤◌, Option, Some, None, Result, Ok, Err, List, [], ◌∷◌, ◌++◌, length, take, drop, get_or, false, Bool, refl, ap, sym, subst, ◌∙◌, arith, length-append}
+use Rattle.std.proofs.Common.{◌≡◌, ℕ, suc, zero, ◌+◌, ◌*◌, ◌/◌, ◌<◌, ◌≤◌, Option, Some, None, List, [], ◌∷◌, ◌++◌, length, take, drop, get_or, refl, ap, sym, ◌∙◌, arith, length-append}
 use Rattle.std.specs.Prelude.{slice_index_or}
 use Rattle.std.specs.List.{concat}
 use Rattle.std.specs.Option.{option_map}
 use Rattle.std.proofs.lemmas.List.{take_at, take_more, take_all}
-use Rattle.disk_layout.specs.declared.kind.FileKind.{FileKind}
-use Rattle.disk_layout.specs.declared.kind.FileKind.TheVariants.{Scratch, Ascii, SeqCode, ConCode}
 use Rattle.disk_layout.specs.Files.{File}
 use Rattle.disk_files.specs.declared.fault.FileInfo.{FileInfo}
 use Rattle.disk_files.specs.Answers.{info_of}
-use Rattle.disk_contents.specs.Contents.{cut, in_pages, file_bytes, text_in}
-use Rattle.disk_system.specs.declared.fault.SystemFault.{SystemFault}
-use Rattle.disk_system.specs.Calls.{text_by, text_answer}
+use Rattle.disk_contents.specs.Contents.{cut, in_pages}
 use Rattle.disk_system.proofs.Stored.{cut_more, cut_none}
 use Rattle.file_commands.specs.Stores.{IsPagesOf}
 
@@ -84,16 +80,5 @@ found-none (Some file) is = absurd cc
 
 -- ---- Texts
 
-ok_same : (a b : List ℕ) → ◌≡◌ {A = Result (List ℕ) SystemFault} (Ok a) (Ok b) → a ≡ b
-ok_same a b e = cc
-
-text_of_kind : (kind : FileKind) (bytes text : List ℕ) → text_by kind bytes ≡ Ok text → (kind ≡ Ascii) × (text ≡ text_in bytes)
-text_of_kind Ascii bytes text is = (refl, sym (ok_same (text_in bytes) text is))
-text_of_kind Scratch bytes text is = absurd cc
-text_of_kind SeqCode bytes text is = absurd cc
-text_of_kind ConCode bytes text is = absurd cc
-
-pub text-found : (found : Option File) (text : List ℕ) → text_answer found ≡ Ok text
-    → (file : File) × (found ≡ Some file) × (file.kind ≡ Ascii) × (text ≡ text_in (file_bytes file))
-text-found None text is = absurd cc
-text-found (Some file) text is = let (kind, same) = text_of_kind file.kind (file_bytes file) text is in (file, refl, kind, same)
+pub file-kind : (file : File) (info : FileInfo) → info ≡ info_of file → info.kind ≡ file.kind
+file-kind file info is = ap (λ (i : FileInfo). i.kind) is

@@ -1,5 +1,5 @@
 -- Texts, card by card and character by character.
-use Rattle.std.proofs.Common.{◌≡◌, ◌≢◌, ◌⊎◌, inl, inr, ℕ, suc, zero, ◌+◌, ◌<◌, ◌≤◌, Bool, true, false, List, [], ◌∷◌, ◌++◌, length, drop, get_or, Option, Some, None, Result, Ok, Err, ◌&&◌, refl, ap, sym, subst, ◌∙◌, arith, append_assoc}
+use Rattle.std.proofs.Common.{◌≡◌, ◌≢◌, ℕ, suc, zero, ◌+◌, ◌<◌, ◌≤◌, Bool, true, false, List, [], ◌∷◌, ◌++◌, length, drop, get_or, Some, Result, Ok, Err, ◌&&◌, refl, ap, sym, ◌∙◌, arith, append_assoc}
 use Rattle.std.specs.Prelude.{slice_get, nat_le, IfOk}
 use Rattle.std.specs.List.{list_all}
 use Rattle.std.proofs.lemmas.List.{append-nil}
@@ -9,7 +9,7 @@ use Rattle.solo_base.specs.Line.{IsLine, is_printable}
 use Rattle.solo_base.specs.Text.{text, line_text}
 use Rattle.disk_contents.specs.Contents.{IsText}
 use Rattle.pascal_mean.specs.Batch.{Printed, nothing_printed, with_character, with_characters, lines_in}
-use Rattle.file_commands.specs.Texts.{IsAdded}
+use Rattle.file_commands.specs.Texts.{IsAdded, AreAdded}
 
 some_same : {A : Type 0} (a b : A) → Some a ≡ Some b → a ≡ b
 some_same a b e = cc
@@ -50,22 +50,28 @@ element-next [] n d below = absurd (omega (arith, below))
 element-next (code ∷ bytes) zero d below = refl
 element-next (code ∷ bytes) (suc n) d below = element-next bytes n d (omega (arith, below))
 
-pub character-added : (bytes : List ℕ) (n d : ℕ) (lines lines_now : List (List ℕ)) (line line_now : List ℕ) → n < length bytes
+pub character-added : (bytes : List ℕ) (n d : ℕ) (lines lines_now : List (List ℕ)) (line line_now : List ℕ) (whole : Printed) → n < length bytes
     → IsAdded lines line (get_or bytes n d) lines_now line_now
-    → with_characters (record { lines = lines; line = line }) (drop n bytes) ≡ with_characters nothing_printed bytes
-    → with_characters (record { lines = lines_now; line = line_now }) (drop (n + 1) bytes) ≡ with_characters nothing_printed bytes
-character-added bytes n d lines lines_now line line_now below added so =
+    → with_characters (record { lines = lines; line = line }) (drop n bytes) ≡ whole
+    → with_characters (record { lines = lines_now; line = line_now }) (drop (n + 1) bytes) ≡ whole
+character-added bytes n d lines lines_now line line_now whole below added so =
     ap (λ k. with_characters (record { lines = lines_now; line = line_now }) (drop k bytes)) (one n)
     ∙ sym (added_on (record { lines = lines; line = line }) (record { lines = lines_now; line = line_now }) (get_or bytes n d) (drop (suc n) bytes) added)
     ∙ ap (λ rest. with_characters (record { lines = lines; line = line }) rest) (sym (element-next bytes n d below)) ∙ so
 
-pub characters-added : (bytes : List ℕ) (n : ℕ) (lines : List (List ℕ)) (line : List ℕ) (result : Result (List (List ℕ)) NoMemory)
-    → length bytes ≤ n → with_characters (record { lines = lines; line = line }) (drop n bytes) ≡ with_characters nothing_printed bytes
-    → IfOk result (λ all. all ≡ lines_in (record { lines = lines; line = line }))
-    → IfOk result (λ all. all ≡ lines_in (with_characters nothing_printed bytes))
-characters-added bytes n lines line (Ok all) past so is =
-    is ∙ ap lines_in (ap (λ rest. with_characters (record { lines = lines; line = line }) rest) (sym (drop-past bytes n past)) ∙ so)
-characters-added bytes n lines line (Err lacks) past so is = tt
+pub characters-added : (bytes : List ℕ) (n : ℕ) (lines : List (List ℕ)) (line : List ℕ) (whole : Printed) → length bytes ≤ n
+    → with_characters (record { lines = lines; line = line }) (drop n bytes) ≡ whole → whole ≡ record { lines = lines; line = line }
+characters-added bytes n lines line whole past so =
+    sym so ∙ ap (λ rest. with_characters (record { lines = lines; line = line }) rest) (drop-past bytes n past)
+
+pub lines-added : (text : List ℕ) (none lines : List (List ℕ)) (blank line : List ℕ) (result : Result (List (List ℕ)) NoMemory) → none ≡ [] → blank ≡ []
+    → AreAdded none blank text lines line → IfOk result (λ all. all ≡ lines_in (record { lines = lines; line = line }))
+    → IfOk result (λ all. all ≡ lines_in (with_characters nothing_printed text))
+lines-added text none lines blank line (Ok all) new empty added is =
+    is ∙ ap lines_in
+    (sym added ∙ ap (λ (n : List (List ℕ)). with_characters (record { lines = n; line = blank }) text) new
+    ∙ ap (λ (b : List ℕ). with_characters (record { lines = []; line = b }) text) empty)
+lines-added text none lines blank line (Err lacks) new empty added is = tt
 
 -- ---- Texts of lines have no byte 25
 

@@ -1,26 +1,27 @@
 // The copies: files to new files, texts to the printer, cards to new files.
-ghost use Rattle.std.specs.Prelude.{◌≡◌, ◌≤◌, ◌-◌, ◌++◌, ℕ, List, [], Some, None, Option, IsTrue, IfOk, IfErr, OnOk, length, slice_index_or, false, true, codes};
-ghost use Rattle.std.specs.List.{list_all};
+ghost use Rattle.std.specs.Prelude.{◌≡◌, ◌≤◌, ◌-◌, ◌++◌, ℕ, List, [], Some, None, Option, IsTrue, IfOk, IfErr, OnOk, length, slice_index_or, false};
 ghost use Rattle.std.specs.Option.{option_map};
 ghost use Rattle.std.specs.FinMap as fin;
-ghost use Rattle.solo_base.specs.Line.{is_printable};
 ghost use Rattle.disk_layout.specs.Files.{File, files as file_map};
 ghost use Rattle.disk_layout.specs.Format.{IsSoloDisk};
 ghost use Rattle.disk_files.specs.Answers.{FaultsOnly, stays_sound, info_of};
-ghost use Rattle.disk_contents.specs.Contents.{IsText, text_file};
-ghost use Rattle.disk_system.specs.Calls.{MayRefuseStore};
+ghost use Rattle.disk_contents.specs.Contents.{IsText, file_bytes, text_file, text_in};
+ghost use Rattle.pascal_mean.specs.Batch.{nothing_printed, with_characters, lines_in};
 ghost use Rattle.solo_commands.specs.Commands.{is_printer};
 ghost use Rattle.solo_task.specs.Answers.{stores};
 ghost use Rattle.solo_task.specs.Copying.{copier, copies_file, stores_file};
 ghost use Rattle.file_commands.specs.Faults.{of_command};
 ghost use Rattle.file_commands.specs.Settling.{IsAnsweredSo};
-ghost use Rattle.file_commands.specs.Stores.{store_line, ToPrint, IsPagesOf};
+ghost use Rattle.file_commands.specs.Stores.{ToPrint, IsPagesOf};
+ghost use Rattle.file_commands.specs.Texts.{ReadsOn};
 
 use crate::answers::{answer_line, answered};
-use crate::fault::{CommandFault, as_command, as_system_command};
+use crate::fault::{CommandFault, as_command};
+use crate::texts::{Reading, with_end};
 use disk_files::{FileArea, FileFault, FileInfo};
-use disk_system::{SystemFault, store, store_text, text_of};
-use solo_base::{Ident, Line, Page};
+use disk_layout::FileKind;
+use disk_system::store;
+use solo_base::{Ident, Line, LineList, Page};
 use solo_devices::Area;
 use std::alloc::Global;
 
@@ -169,15 +170,15 @@ fn add_bytes(bytes: &mut Vec<u8>, more: &[u8]) -> Result<(), CommandFault>
     }
 }
 
-/// What a copy to the printer has: the text of a file, or the line that says why there is none.
+/// What a copy to the printer has: the lines of a file, or the line that says why there are none.
 #[derive(Debug, Drop)]
 pub enum Copied {
-    Text(Vec<u8>),
+    Lines(LineList),
     Answer(Line),
 }
 
-/// The text of a file, for the printer.
-pub fn text_to_print<A: Area>(
+/// The lines of a file's text, for the printer.
+pub fn lines_to_print<A: Area>(
     alloc: Global,
     files: &mut FileArea<A>,
     from: &Ident,
@@ -189,68 +190,136 @@ pub fn text_to_print<A: Area>(
     ensures sound { files.new.sound ≡ stays_sound (of_command result) }
     ensures cause { FaultsOnly (A.faults files.old.area) (A.faults files.new.area) (of_command result) }
 {
-    match text_of(alloc, files, from) {
-        Ok(text) => Ok(Copied::Text(text)),
-        Err(SystemFault::File(FileFault::NoFile)) => {
-            Ok(Copied::Answer(answer_line(b"COPY", b"NO FILE")))
-        }
-        Err(SystemFault::NotText) => Ok(Copied::Answer(answer_line(b"COPY", b"NOT TEXT"))),
-        Err(fault) => Err(as_system_command(fault)),
+    match find(files, from) {
+        Ok(Some(info)) => lines_of_found(alloc, files, from, info),
+        Ok(None) => Ok(Copied::Answer(answer_line(b"COPY", b"NO FILE"))),
+        Err(fault) => Err(fault),
+    }
+}
+
+// The same of a file of which this is known.
+fn lines_of_found<A: Area>(
+    alloc: Global,
+    files: &mut FileArea<A>,
+    from: &Ident,
+    info: FileInfo,
+) -> Result<Copied, CommandFault>
+    requires { IsTrue files.old.sound }
+    ensures told { (pages : List (List ℕ)) (file : File) → A.pages files.old.area ≡ Some pages
+        → fin.get (file_map pages) from.now ≡ Some file → info ≡ info_of file
+        → IfOk result (ToPrint (Some file)) }
+    ensures left { A.pages files.new.area ≡ A.pages files.old.area }
+    ensures sound { files.new.sound ≡ stays_sound (of_command result) }
+    ensures cause { FaultsOnly (A.faults files.old.area) (A.faults files.new.area) (of_command result) }
+{
+    match info.kind {
+        FileKind::Ascii => match lines_of_file(alloc, files, from, info.pages) {
+            Ok(lines) => Ok(Copied::Lines(lines)),
+            Err(fault) => Err(fault),
+        },
+        _ => Ok(Copied::Answer(answer_line(b"COPY", b"NOT TEXT"))),
+    }
+}
+
+// The lines of the text in a file of so many pages.
+fn lines_of_file<A: Area>(
+    alloc: Global,
+    files: &mut FileArea<A>,
+    name: &Ident,
+    pages: u16,
+) -> Result<LineList, CommandFault>
+    requires { IsTrue files.old.sound }
+    ensures lines { (told : List (List ℕ)) (file : File) → A.pages files.old.area ≡ Some told
+        → fin.get (file_map told) name.now ≡ Some file → pages ≡ length file.pages
+        → IfOk result (λ lines. lines
+        ≡ lines_in (with_characters nothing_printed (text_in (file_bytes file)))) }
+    ensures left { A.pages files.new.area ≡ A.pages files.old.area }
+    ensures sound { files.new.sound ≡ stays_sound (of_command result) }
+    ensures cause { FaultsOnly (A.faults files.old.area) (A.faults files.new.area) (of_command result) }
+{
+    let mut text = Reading::new(alloc);
+    for place in 0..pages {
+        read_page(files, name, place + 1, &mut text)?;
+    }
+    match text.finish() {
+        Ok(lines) => Ok(lines),
+        Err(_) => Err(CommandFault::NoMemory),
+    }
+}
+
+// Reads page n of a file as a piece of its text. In an area that tells nothing the file may be shorter than
+// it was.
+fn read_page<A: Area>(
+    files: &mut FileArea<A>,
+    name: &Ident,
+    n: u16,
+    text: &mut Reading,
+) -> Result<(), CommandFault>
+    requires { IsTrue files.old.sound }
+    ensures read { (told : List (List ℕ)) (file : File) → A.pages files.old.area ≡ Some told
+        → fin.get (file_map told) name.now ≡ Some file → 1 ≤ n → n ≤ length file.pages
+        → OnOk result (ReadsOn text.old (slice_index_or file.pages (n - 1) []) text.new) }
+    ensures left { A.pages files.new.area ≡ A.pages files.old.area }
+    ensures sound { files.new.sound ≡ stays_sound (of_command result) }
+    ensures cause { FaultsOnly (A.faults files.old.area) (A.faults files.new.area) (of_command result) }
+{
+    let mut page = Page::zeros();
+    match files.read_page(name, n, &mut page) {
+        Ok(()) => read_bytes(text, page.bytes()),
+        Err(FileFault::PageRange) => Ok(()),
+        Err(fault) => Err(as_command(fault)),
+    }
+}
+
+fn read_bytes(text: &mut Reading, bytes: &[u8]) -> Result<(), CommandFault>
+    ensures read { OnOk result (ReadsOn text.old bytes.now text.new) }
+    ensures lacks { IfErr result (λ fault. fault ≡ CommandFault.NoMemory) }
+{
+    match text.read(bytes) {
+        Ok(()) => Ok(()),
+        Err(_) => Err(CommandFault::NoMemory),
     }
 }
 
 /// Stores the text of a card file as a new file.
 pub fn store_cards<A: Area>(
-    alloc: Global,
     files: &mut FileArea<A>,
     to: &Ident,
-    text: &[u8],
+    text: Vec<u8>,
 ) -> Result<Line, CommandFault>
     requires sound { IsTrue files.old.sound }
-    requires text { IsText text.now }
+    requires text { IsText text.items }
     ensures told { (pages : List (List ℕ)) → A.pages files.old.area ≡ Some pages
         → fin.get (file_map pages) to.now ≡ None
-        → IsAnsweredSo (stores copier (file_map pages) to.now (text_file text.now)) pages result
+        → IsAnsweredSo (stores copier (file_map pages) to.now (text_file text.items)) pages result
         (A.pages files.new.area) }
     ensures sound { files.new.sound ≡ stays_sound (of_command result) }
     ensures cause { FaultsOnly (A.faults files.old.area) (A.faults files.new.area) (of_command result) }
 {
     match find(files, to) {
         Ok(Some(_)) => Ok(answer_line(b"COPY", b"FILE EXISTS")),
-        Ok(None) => store_new_text(alloc, files, to, text),
+        Ok(None) => store_new_text(files, to, text),
         Err(fault) => Err(fault),
     }
 }
 
 // The same to a name that is new.
 fn store_new_text<A: Area>(
-    alloc: Global,
     files: &mut FileArea<A>,
     to: &Ident,
-    text: &[u8],
+    text: Vec<u8>,
 ) -> Result<Line, CommandFault>
-    requires sound { IsTrue files.old.sound }
-    requires text { IsText text.now }
+    requires { IsTrue files.old.sound }
     ensures told { (pages : List (List ℕ)) → A.pages files.old.area ≡ Some pages → IsSoloDisk pages
         → fin.get (file_map pages) to.now ≡ None
-        → IsAnsweredSo (stores copier (file_map pages) to.now (text_file text.now)) pages result
+        → IsAnsweredSo (stores copier (file_map pages) to.now (text_file text.items)) pages result
         (A.pages files.new.area) }
     ensures sound { files.new.sound ≡ stays_sound (of_command result) }
     ensures cause { FaultsOnly (A.faults files.old.area) (A.faults files.new.area) (of_command result) }
 {
     let _free = files.free_pages();
-    stored(b"COPY", store_text(alloc, files, to, text))
-}
-
-/// What answers a command whose store came to this.
-pub fn stored(word: &[u8], store: Result<(), SystemFault>) -> Result<Line, CommandFault>
-    requires room { length word.now ≤ 20 }
-    requires printable { IsTrue (list_all is_printable word.now) }
-    ensures { result ≡ store_line word.now store }
-{
-    match store {
-        Ok(()) => answered(word, Ok(())),
-        Err(SystemFault::File(fault)) => answered(word, Err(fault)),
+    match with_end(text) {
+        Ok(bytes) => answered(b"COPY", store(files, to, FileKind::Ascii, &bytes)),
         Err(_) => Err(CommandFault::NoMemory),
     }
 }

@@ -9,6 +9,6 @@ mod texts;
 
 pub use answers::answer_line;
 pub use catalogue::{delete, list, protect, rename};
-pub use copying::{Copied, copy_file, find, store_cards, text_to_print};
+pub use copying::{Copied, copy_file, find, lines_to_print, store_cards};
 pub use fault::CommandFault;
 pub use texts::{lines_of_text, print, text_of_cards};

@@ -5,9 +5,9 @@ use Rattle.solo_base.specs.declared.page.Page.{Page}
 use Rattle.disk_layout.specs.Files.{Files, files as file_map}
 use Rattle.exchange_law.specs.Pages.{ArePage}
 use Rattle.exchange_law.proofs.Lines.{last-page}
-use Rattle.program_task.specs.Task.{CardFile, Gives, ReadsCards, Changes}
+use Rattle.program_task.specs.Task.{CardFile, Gives, ReadsCards, Changes, prints_all}
+use Rattle.solo_task.specs.Answers.{Doing, answer_line, answers}
 use Rattle.pascal_mean.specs.Batch.{lines_in, with_characters, nothing_printed}
-use Rattle.solo_task.specs.Answers.{Doing, answer_line}
 use Rattle.solo_task.specs.Copying.{copier, prints_text}
 use Rattle.solo_task.specs.Needs.{Pause, Idle, Paused, PageNeeded, EndNeeded, CardsNeeded, WantsCards, GoesOn, comes_to, needs as pauses_for, passes}
 use Rattle.solo_needs.specs.Needs.{Need as Need0}
@@ -216,13 +216,13 @@ answered-by told text line before same here = record {
   settles = inl (ap (λ l. Gives (l ∷ [])) (sym same), refl);
 }
 
--- the lines of a text
-pub text-printed : (pages : ℕ) (hand : List (List ℕ)) (text : List ℕ) (printing : Printing) (need : Need) (now : Session) (before : Option (List (List ℕ)))
-    → printing.lines ≡ lines_in (with_characters nothing_printed text) → printing.next ≡ 0
+-- lines
+pub lines-printed : (pages : ℕ) (hand lines : List (List ℕ)) (printing : Printing) (need : Need) (now : Session) (before : Option (List (List ℕ)))
+    → printing.lines ≡ lines → printing.next ≡ 0
     → printing.answers ≡ answer_line copier (codes "OK") ∷ []
     → CameTo pages (λ all c. c ≡ comes_to hand all (prints_then printing.lines printing.next printing.answers)) before need now before
-    → CameTo pages (λ all c. c ≡ comes_to hand all (prints_text text)) before need now before
-text-printed pages hand text printing need now before lines next answers came = record {
+    → CameTo pages (λ all c. c ≡ comes_to hand all (prints_all lines (answers copier (codes "OK")))) before need now before
+lines-printed pages hand lines printing need now before these next answered came = record {
   needed = came.needed;
   is = came.is;
   fits = came.fits;
@@ -230,10 +230,19 @@ text-printed pages hand text printing need now before lines next answers came = 
   told = λ told here c e.
       came.told told here c
       (e ∙ ap (comes_to hand (file_map told))
-      (sym (ap (λ ls. prints_then ls printing.next printing.answers) lines
-      ∙ ap (λ n. prints_then (lines_in (with_characters nothing_printed text)) n printing.answers) next
-      ∙ ap (λ a. prints_then (lines_in (with_characters nothing_printed text)) 0 a) answers)));
+      (sym (ap (λ ls. prints_then ls printing.next printing.answers) these
+      ∙ ap (λ n. prints_then lines n printing.answers) next
+      ∙ ap (λ a. prints_then lines 0 a) answered)));
 }
+
+-- and those of a text
+pub text-printed : (pages : ℕ) (hand : List (List ℕ)) (text : List ℕ) (lines : List (List ℕ)) (result : Result Need WorkFault) (now : Session)
+    (before : Option (List (List ℕ))) → lines ≡ lines_in (with_characters nothing_printed text)
+    → WorkedSo pages (λ all c. c ≡ comes_to hand all (prints_all lines (answers copier (codes "OK")))) before result now before
+    → WorkedSo pages (λ all c. c ≡ comes_to hand all (prints_text text)) before result now before
+text-printed pages hand text lines result now before made =
+    same-work pages hand (λ all. prints_text text) (λ all. prints_all lines (answers copier (codes "OK"))) before before result now before refl
+    (λ told here. sym (ap (λ (ls : List (List ℕ)). prints_all ls (answers copier (codes "OK"))) made))
 
 pub refused-as : (pages : ℕ) (hand : List (List ℕ)) (doing : Files → Doing) (now : Session) (before after : Option (List (List ℕ))) (why : CommandFault)
     → ((told : List (List ℕ)) → before ≡ Some told → IsSettledSo (doing (file_map told)) told (Err why) after)

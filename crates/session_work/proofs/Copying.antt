@@ -10,9 +10,10 @@ use Rattle.disk_files.specs.declared.fault.FileInfo.{FileInfo}
 use Rattle.disk_files.specs.Answers.{info_of}
 use Rattle.disk_contents.specs.Contents.{file_bytes, text_in, text_file}
 use Rattle.solo_commands.specs.Commands.{is_cards, is_printer}
-use Rattle.program_task.specs.Task.{CardFile, Gives, ReadsCards}
+use Rattle.pascal_mean.specs.Batch.{nothing_printed, with_characters, lines_in}
+use Rattle.program_task.specs.Task.{CardFile, Gives, ReadsCards, prints_all}
 use Rattle.solo_task.specs.Answers.{Doing, answers, answer_line, no_file, file_exists, stores}
-use Rattle.solo_task.specs.Copying.{copier, copies, copies_cards, copies_file, stores_cards, stores_file, prints_file, prints_text, with_cards}
+use Rattle.solo_task.specs.Copying.{copier, copies, copies_cards, copies_file, stores_cards, stores_file, prints_file, with_cards}
 use Rattle.file_commands.specs.declared.copying.Copied.{Copied}
 use Rattle.file_commands.specs.declared.copying.Copied.TheVariants as copied
 use Rattle.file_commands.specs.Stores.{ToPrint, prints_found}
@@ -48,11 +49,12 @@ file-to-printer None all to is = refl
 file-to-printer (Some file) all to is =
     ap (λ (b : Bool). if b then prints_file file.kind (file_bytes file) else stores_file file all to (fin.get all to)) is
 
-pub printed-file : (found : Option File) (all : Files) (to text : List ℕ) → is_printer to ≡ true
-    → (file : File) × (found ≡ Some file) × (file.kind ≡ Ascii) × (text ≡ text_in (file_bytes file))
-    → copies_file found all to ≡ prints_text text
-printed-file found all to text is (file, here, kind, same) =
-    file-to-printer found all to is ∙ ap prints_found here ∙ ap (λ k. prints_file k (file_bytes file)) kind ∙ ap prints_text (sym same)
+pub printed-file : (found : Option File) (all : Files) (to : List ℕ) (lines : List (List ℕ)) → is_printer to ≡ true
+    → (file : File) × (found ≡ Some file) × (file.kind ≡ Ascii) × (lines ≡ lines_in (with_characters nothing_printed (text_in (file_bytes file))))
+    → copies_file found all to ≡ prints_all lines (answers copier (codes "OK"))
+printed-file found all to lines is (file, here, kind, same) =
+    file-to-printer found all to is ∙ ap prints_found here ∙ ap (λ k. prints_file k (file_bytes file)) kind
+    ∙ ap (λ (ls : List (List ℕ)). prints_all ls (answers copier (codes "OK"))) (sym same)
 
 pub answered-file : (found : Option File) (all : Files) (to line : List ℕ) → is_printer to ≡ true → prints_found found ≡ Gives (line ∷ [])
     → copies_file found all to ≡ Gives (line ∷ [])

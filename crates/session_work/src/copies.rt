@@ -14,7 +14,7 @@ use crate::ends::as_work;
 use crate::session::{Session, UnderWay};
 use disk_files::FileArea;
 use file_commands::{
-    Copied, answer_line, copy_file, find, store_cards, text_of_cards, text_to_print,
+    Copied, answer_line, copy_file, find, lines_to_print, store_cards, text_of_cards,
 };
 use solo_base::{Ident, LineList};
 use solo_commands::{is_cards, is_printer};
@@ -116,8 +116,8 @@ impl Session {
         ensures cause { FaultsOnly (A.faults files.old.area) (A.faults files.new.area) (of_work result) }
     {
         let _ = to;
-        match text_to_print(self.alloc, files, from) {
-            Ok(Copied::Text(text)) => self.print_text(&text),
+        match lines_to_print(self.alloc, files, from) {
+            Ok(Copied::Lines(lines)) => self.print_lines(lines),
             Ok(Copied::Answer(line)) => self.answer(Ok(line)),
             Err(fault) => Err(as_work(fault)),
         }
@@ -166,7 +166,7 @@ impl Session {
         }
         match text_of_cards(self.alloc, cards) {
             Ok(text) => {
-                let stored = store_cards(self.alloc, files, to, &text);
+                let stored = store_cards(files, to, text);
                 self.answer(stored)
             }
             Err(_) => Err(WorkFault::NoMemory),

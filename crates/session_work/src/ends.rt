@@ -1,12 +1,12 @@
 // How a command is answered, and what it prints before that.
-ghost use Rattle.std.specs.Prelude.{◌≡◌, ◌≤◌, ◌∷◌, [], ℕ, List, Ok, Err, Some, Option, length, IsTrue, true};
+ghost use Rattle.std.specs.Prelude.{◌≡◌, ◌≤◌, ◌∷◌, [], ℕ, List, Ok, Err, Some, Option, codes, length, IsTrue, true};
 ghost use Rattle.std.specs.List.{list_all};
 ghost use Rattle.solo_base.specs.Line.{is_printable};
 ghost use Rattle.disk_files.specs.Answers.{stays_sound};
 ghost use Rattle.disk_layout.specs.Files.{Files, files as file_map};
-ghost use Rattle.program_task.specs.Task.{Gives};
-ghost use Rattle.solo_task.specs.Answers.{Doing};
-ghost use Rattle.solo_task.specs.Copying.{prints_text};
+ghost use Rattle.program_task.specs.Task.{Gives, prints_all};
+ghost use Rattle.solo_task.specs.Answers.{Doing, answers};
+ghost use Rattle.solo_task.specs.Copying.{copier, prints_text};
 ghost use Rattle.solo_task.specs.Needs.{comes_to};
 ghost use Rattle.solo_work.specs.Paper.{IsHand};
 ghost use Rattle.solo_work.specs.Printing.{prints_then};
@@ -120,10 +120,22 @@ impl Session {
         ensures may { MayGoOn self.new.under_way }
         ensures sound { stays_sound (of_work result) ≡ true }
     {
-        let lines = match lines_of_text(self.alloc, text) {
-            Ok(lines) => lines,
-            Err(_) => return Err(WorkFault::NoMemory),
-        };
+        match lines_of_text(self.alloc, text) {
+            Ok(lines) => self.print_lines(lines),
+            Err(_) => Err(WorkFault::NoMemory),
+        }
+    }
+
+    /// These lines are printed, and the copy is done then.
+    pub(crate) fn print_lines(&mut self, lines: LineList) -> Result<Need, WorkFault>
+        requires may { MayGoOn self.old.under_way }
+        ensures worked { (before : Option (List (List ℕ))) (pages : ℕ) (hand : List (List ℕ))
+            → IsHand self.old.paper pages hand
+            → WorkedSo pages (λ all c. c ≡ comes_to hand all (prints_all lines (answers copier (codes "OK"))))
+            before result self.new before }
+        ensures may { MayGoOn self.new.under_way }
+        ensures sound { stays_sound (of_work result) ≡ true }
+    {
         match prints(lines, self.alloc, &answer_line(b"COPY", b"OK")) {
             Ok(printing) => Ok(self.print(printing)),
             Err(_) => Err(WorkFault::NoMemory),

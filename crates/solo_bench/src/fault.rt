@@ -9,7 +9,7 @@ pub enum Fault {
     #[error("usage: solo_bench page_map | scan ROUTINES | parse TIMES [CARD] | check CONSTANTS STATEMENTS | \
          compile large|small TIMES (0: prints the program) | machine | core LISTS RUNS | files | \
          programs large|small CALLS | \
-         gate ENTRIES ITEMS ITEMS_OF_THE_CHAIN | all")]
+         gate ENTRIES ITEMS ITEMS_OF_THE_CHAIN | session SCHEDULE | all")]
     Usage,
     #[error("no memory")]
     Memory(#[from(alloc)] AllocError),

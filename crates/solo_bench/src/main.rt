@@ -15,10 +15,11 @@ mod page_map;
 mod parse;
 mod programs;
 mod scan;
+mod session;
 
 use fault::Fault;
 use std::env;
-use std::fs::Files;
+use std::fs::{File, Files};
 use std::process::ExitCode;
 use std::rt::Env;
 use std::sync::Wait;
@@ -36,12 +37,28 @@ fn main(rt: HostRuntime) -> ExitCode {
 }
 
 /// Runs the bench of the words of the command line.
-fn run<R: AllocGlobal + Clock + CpuClock + Env + Eprint + Files + Print + Sync + Threads + Wait>(
-    rt: &R,
-) -> Result<(), Fault> {
+fn run<
+    R: AllocGlobal
+        + Clock
+        + CpuClock
+        + Env
+        + Eprint
+        + Files<File = File>
+        + Input
+        + Print
+        + Sync
+        + Threads
+        + Wait,
+>(rt: &R) -> Result<(), Fault>
+where
+    R::Reader: Drop,
+{
     let mut words = Vec::new(rt.alloc());
     for word in env::args(rt)?.skip(1) {
         words.push(word)?;
+    }
+    if word(words.as_slice(), 0)? == "session" {
+        return session::run(rt, number(words.as_slice(), 1)?);
     }
     measure(rt, words.as_slice())
 }

@@ -1,4 +1,4 @@
-use Rattle.std.proofs.Common.{◌≡◌, refl, sym, ap, ◌∙◌, ◌∷◌, [], None}
+use Rattle.std.proofs.Common.{◌≡◌, refl, sym, ap, ◌∷◌, [], None}
 use Rattle.std.specs.FinMap as fin
 use Rattle.disk_layout.specs.Files.{files as file_map}
 use Rattle.disk_contents.specs.Contents.{text_file}
@@ -19,9 +19,9 @@ returns-then-spoiled-clause-worked g c = λ pages hand is.
 
 pub returns-in-Ok-clause-worked : goal.returns-in-Ok-clause-worked
 returns-in-Ok-clause-worked g c = λ pages hand is.
-    stored-cards pages hand c.args.to.now c.args.cards.now c.deref.result.now c.args.spoiled (g.A.Area.pages c.args.files.now.area)
+    stored-cards pages hand c.args.to.now c.args.cards.now c.in-Ok.text.items c.args.spoiled (g.A.Area.pages c.args.files.now.area)
     (g.A.Area.pages c.store_cards-stored.new.files.area) c.store_cards-stored.result c.answer-in-Ok.result c.answer-in-Ok.new.self c.if-spoiled.false
-    (c.deref.ensures.value ∙ c.in-Ok.ensures.text) c.store_cards-stored.ensures.told
+    c.in-Ok.ensures.text c.store_cards-stored.ensures.told
     (λ asked doing answers. c.answer-in-Ok.ensures.worked asked (g.A.Area.pages c.store_cards-stored.new.files.area) doing pages hand is answers)
 
 pub returns-in-Err-clause-worked : goal.returns-in-Err-clause-worked
