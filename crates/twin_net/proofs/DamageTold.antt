@@ -21,7 +21,7 @@ use Rattle.twin_law.specs.Output.{OutputPlace, TakesLines, output}
 use Rattle.twin_law.specs.Table.{process}
 use Rattle.twin_law.specs.Twin.{twin}
 use Rattle.twin_law.proofs.Lawful.{each-process}
-use Rattle.twin_net.proofs.EventsCounted.{same-fault, cause_in, entry-gave}
+use Rattle.twin_net.proofs.EntryCauses.{same-fault, cause_in, entry-gave}
 
 -- ---- the page
 module _ (expected : ℕ) (last : Bool) (bytes : List ℕ) where

@@ -28,7 +28,7 @@ use Rattle.twin_net.specs.declared.shared.TwinShared.{TwinShared}
 use Rattle.twin_net.specs.declared.spools.TwinSpools.{TwinSpools}
 use Rattle.twin_net.specs.FourSpools.{SpoolVisited}
 use Rattle.twin_net.specs.TwinStands.{cards_total}
-use Rattle.twin_net.specs.Doing.{meant, is_failure, MayLoad, DoneSo}
+use Rattle.twin_net.specs.Doing.{meant, MayLoad, DoneSo}
 use Rattle.twin_net.proofs.Failing.{same-least, same-reply, NeverFails, no-card, quiet-causes, page-failed}
 
 -- ---- the devices stay
@@ -387,16 +387,3 @@ module _ {L : Type 0} (J : Jobs L) where
       → a ≡ b
       → DoneSo J tells counts old new p (meant b) result → DoneSo J tells counts old new p (meant a) result
   at-action tells counts old new p a b result e is = subst (λ a. DoneSo J tells counts old new p (meant a) result) (sym e) is
-
--- ---- a reply that says no failure
-pub no-failure : {L : Type 0} (r : Reply L) (t : Bool) → t ≡ is_failure r → not t ≡ true → r ≡ reply.Failed → ⊥
-no-failure r true e no_more same = cc
-no-failure r false e no_more same = (let never : is_failure r ≡ true = ap is_failure same in cc)
-
-pub was-failure : {L : Type 0} (r : Reply L) (t : Bool) → t ≡ is_failure r → not t ≡ false → r ≡ reply.Failed
-was-failure r true e no_more = failing r (sym e)
-  where
-    failing : {L : Type 0} (r : Reply L) → is_failure r ≡ true → r ≡ reply.Failed
-    failing reply.Failed is = refl
-    failing r is = absurd cc
-was-failure r false e no_more = absurd cc

@@ -1,5 +1,5 @@
 -- Which calls can fail, and what the areas of the spools count.
-use Rattle.std.proofs.Common.{◌≡◌, ◌≢◌, ◌≤◌, ◌==◌, inl, ℕ, Bool, true, false, if◌then◌else◌, Option, Some, refl, sym, ◌∙◌, ap, subst, arith}
+use Rattle.std.proofs.Common.{not, ◌≡◌, ◌≢◌, ◌≤◌, ◌==◌, inl, ℕ, Bool, true, false, if◌then◌else◌, Option, Some, refl, sym, ◌∙◌, ap, subst, arith}
 use Rattle.solo_base.specs.declared.outcome.Side.{Side}
 use Rattle.solo_devices.specs.Count.{Rose}
 use Rattle.solo_devices.specs.declared.card_read.CardRead.{CardRead}
@@ -15,6 +15,7 @@ use Rattle.twin_ends.specs.TwinCalls.{ReplySuits}
 use Rattle.twin_net.specs.declared.shared.TwinShared.{TwinShared}
 use Rattle.twin_net.specs.FourSpools.{of_four}
 use Rattle.twin_net.specs.TwinStands.{shared_units}
+use Rattle.twin_net.specs.Doing.{is_failure}
 use Rattle.twin_net.specs.Causes.{shared_faults, FailureCounted, TwinCauses}
 
 pub same-least : (n : ℕ) → n ≤ n
@@ -112,3 +113,16 @@ module _ {L : Type 0} (J : Jobs L) where
     page-failed b side visit p (Load file) e fits rose = absurd cc
     page-failed b side visit p (Print line) e fits rose = absurd cc
     page-failed b side visit p other e fits rose = absurd fits.0
+
+-- ---- a reply that says no failure
+pub no-failure : {L : Type 0} (r : Reply L) (t : Bool) → t ≡ is_failure r → not t ≡ true → r ≡ reply.Failed → ⊥
+no-failure r true e no_more same = cc
+no-failure r false e no_more same = (let never : is_failure r ≡ true = ap is_failure same in cc)
+
+pub was-failure : {L : Type 0} (r : Reply L) (t : Bool) → t ≡ is_failure r → not t ≡ false → r ≡ reply.Failed
+was-failure r true e no_more = failing r (sym e)
+  where
+    failing : {L : Type 0} (r : Reply L) → is_failure r ≡ true → r ≡ reply.Failed
+    failing reply.Failed is = refl
+    failing r is = absurd cc
+was-failure r false e no_more = absurd cc

@@ -5,6 +5,7 @@ pub mod MayDoing
 pub mod Stepping
 pub mod Owners
 pub mod OwnPlaces
+pub mod EntryCauses
 pub mod EventsCounted
 pub mod NetSteps
 pub mod DamageTold

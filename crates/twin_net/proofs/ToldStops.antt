@@ -25,7 +25,7 @@ use Rattle.twin_law.proofs.Counted.{each-buffer}
 use Rattle.twin_law.proofs.Lawful.{lawful}
 use Rattle.twin_law.proofs.Numbered.{calls-at}
 use Rattle.twin_net.specs.Ended.{six_sides, TwinStoppedBeside}
-use Rattle.twin_net.proofs.EventsCounted.{cause_in, entry-gave}
+use Rattle.twin_net.proofs.EntryCauses.{cause_in, entry-gave}
 
 -- ---- only one reply is the cause Stopped
 read-not : (answer : CardRead) → fault_read answer ≡ Some outcome.Stopped → ⊥

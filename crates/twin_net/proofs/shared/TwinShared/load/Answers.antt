@@ -1,8 +1,8 @@
 use Rattle.std.proofs.Common.{inl, inr, refl}
 use Rattle.batch_procs.specs.declared.actions.Reply.TheVariants as reply
 use Rattle.twin_ends.proofs.AsTwins.{loads}
-use Rattle.twin_net.proofs.Doings.{at-files, no-failure, was-failure}
-use Rattle.twin_net.proofs.Failing.{same-least}
+use Rattle.twin_net.proofs.Doings.{at-files}
+use Rattle.twin_net.proofs.Failing.{same-least, no-failure, was-failure}
 use Rattle.twin_net.proofs.shared.TwinShared.load.Goals as goal
 
 pub returns-then-not-self : goal.returns-then-not-self
