@@ -8,3 +8,4 @@ pub mod Face
 pub mod Compiling
 pub mod Copying
 pub mod Storing
+pub mod StoreLines

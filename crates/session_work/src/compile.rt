@@ -14,8 +14,8 @@ ghost use Rattle.solo_task.specs.Answers.{stores, answer_line};
 ghost use Rattle.solo_task.specs.Compiles.{compiler, compiles, compiles_to, compiles_file, compiling_text, stores_program};
 ghost use Rattle.file_commands.specs.Faults.{as_command, as_system_command, of_command};
 ghost use Rattle.file_commands.specs.Settling.{change_line, IsAnsweredSo};
-ghost use Rattle.file_commands.specs.Stores.{store_line};
 ghost use Rattle.session_work.specs.Cards.{compiler_name};
+ghost use Rattle.session_work.specs.StoreLines.{store_line};
 
 use crate::cards::code_of_text;
 use disk_files::{FileArea, FileFault};

@@ -6,7 +6,7 @@ use Rattle.disk_system.proofs.Stored.{length-cut}
 use Rattle.stack_code.specs.CodeFile.{code_bytes}
 use Rattle.program_task.specs.OpenFiles.{pages_free}
 use Rattle.solo_task.specs.Compiles.{compiler}
-use Rattle.file_commands.proofs.Rooms.{store-settles}
+use Rattle.session_work.proofs.StoreLines.{store-settles}
 use Rattle.session_work.proofs.compile.store_program.Goals as goal
 
 pub returns-clause-told : goal.returns-clause-told
