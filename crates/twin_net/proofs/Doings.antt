@@ -1,5 +1,5 @@
 -- What a call at one of the monitors or devices is to all that the six share.
-use Rattle.std.proofs.Common.{◌≡◌, ◌≢◌, ◌≤◌, ◌<◌, ◌↔◌, ◌⊎◌, inl, ℕ, true, false, not, Bool, List, [], ◌++◌, length, drop, Option, None, Some, refl, sym, ◌∙◌, ap, subst, option_map, arith}
+use Rattle.std.proofs.Common.{◌≡◌, ◌≢◌, ◌≤◌, ◌<◌, ◌↔◌, ◌⊎◌, inl, ℕ, true, false, Bool, List, [], ◌++◌, length, drop, Option, None, Some, refl, sym, ◌∙◌, ap, subst, option_map, arith}
 use Rattle.std.proofs.lemmas.List.{append-nil}
 use Rattle.solo_base.specs.declared.item.Feed.{Feed}
 use Rattle.solo_base.specs.declared.outcome.Side.{Side}

@@ -7,7 +7,6 @@ use Rattle.solo_base.specs.declared.outcome.Cause.{Cause}
 use Rattle.solo_base.specs.declared.outcome.Cause.TheVariants as cause
 use Rattle.solo_devices.specs.Count.{raised, Rose}
 use Rattle.solo_devices.specs.CardUnit.{Held, byte_limit}
-use Rattle.solo_devices.specs.declared.card_read.CardRead.TheVariants as read
 use Rattle.batch_procs.specs.declared.actions.Reply.{Reply}
 use Rattle.batch_procs.specs.declared.actions.Reply.TheVariants as reply
 use Rattle.batch_procs.specs.Jobs.{Jobs}
@@ -15,10 +14,7 @@ use Rattle.batch_procs.specs.JobTold.{JobTold}
 use Rattle.place_law.specs.Ending.{outcome_by}
 use Rattle.place_law.specs.Process.{action_of}
 use Rattle.network_law.specs.Network.{IsOne, IsEnabled, set}
-use Rattle.twin_law.specs.Process.{Action, ReadCard, PutPage, TakePage, Load, Print, place, caused, next_action}
-use Rattle.twin_law.specs.Ends.{card, printer}
-use Rattle.twin_law.specs.Input.{input}
-use Rattle.twin_law.specs.Output.{output}
+use Rattle.twin_law.specs.Process.{Action, ReadCard, PutPage, TakePage, Load, Print, caused, next_action}
 use Rattle.twin_law.specs.Table.{process}
 use Rattle.twin_law.specs.Twin.{twin, TwinState, TwinEvent, IsProcess}
 use Rattle.twin_law.proofs.Lawful.{each-process}
