@@ -244,7 +244,7 @@ module _ {L : Type 0} where
       pub stands : Stands (twin J) start s
       pub devices : DevicesStand start s
 
-    centre-run : (start s : TwinState L) (events : List (TwinEvent L)) → AreEnabled (the_law J) s events → Centre start s → Centre start (run (the_law J) s events)
+    pub centre-run : (start s : TwinState L) (events : List (TwinEvent L)) → AreEnabled (the_law J) s events → Centre start s → Centre start (run (the_law J) s events)
     centre-run start s [] are c = c
     centre-run start s (event ∷ events) are c =
         centre-run start (happens (twin J) s event) events are.1 record {
@@ -258,7 +258,7 @@ module _ {L : Type 0} where
     nothing-printed : (given : List ℕ) (paper : Option (List ℕ)) → paper ≡ Some given → PaperIs {L = L} given paper []
     nothing-printed given paper e = record { gained = []; now_is = e ∙ ap Some (sym (append-nil given)); free = λ _. refl; part = ([], refl) }
 
-    opening-centre : (o : Opening J) → Centre (first_state o) (first_state o)
+    pub opening-centre : (o : Opening J) → Centre (first_state o) (first_state o)
     opening-centre o = record {
       stands = opening-stands (twin J) (devices_at o) (size_of o.spools) (told_of o.spools);
       devices = record {

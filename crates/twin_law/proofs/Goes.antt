@@ -8,6 +8,7 @@ use Rattle.batch_procs.specs.Parcels.{Parcel}
 use Rattle.twin_law.specs.Process.{Process}
 use Rattle.twin_law.specs.Alone.{Put, Step, step, alone, put_at, puts}
 use Rattle.twin_law.proofs.Tells.{behind}
+use Rattle.twin_law.proofs.After.{after}
 use Rattle.twin_law.proofs.Kahn.{put-append}
 
 more-behind : {T : Type 0} (front a b : List T) → IsPrefixOf a b → IsPrefixOf (front ++ a) (front ++ b)
@@ -33,22 +34,23 @@ module _ {L : Type 0} (F : FilesAs L) (p : Process L) where
 
   -- ---- from one place to another
   abbrev pub Goes : p.Place → (ℕ → List (Parcel L)) → List (Put L) → p.Place → (ℕ → List (Parcel L)) → Type 0
-  Goes x w puts y v = (n : ℕ) → (m : ℕ) × (n ≤ m) × (alone F p m x w ≡ puts ++ alone F p n y v)
+  Goes x w puts y v =
+      (n : ℕ) → (m : ℕ) × (n ≤ m) × (alone F p m x w ≡ puts ++ alone F p n y v) × (after F p m x w ≡ after F p n y v)
 
   pub goes-on : (x y z : p.Place) (w v u : ℕ → List (Parcel L)) (a b : List (Put L)) → Goes x w a y v → Goes y v b z u → Goes x w (a ++ b) z u
   goes-on x y z w v u a b first second n =
-      let (m, low, e) = second n in
-      let (k, more, f) = first m in
-      (k, omega (arith, low, more), f ∙ ap (λ puts. a ++ puts) e ∙ sym (append_assoc a b (alone F p n z u)))
+      let (m, low, e, s) = second n in
+      let (k, more, f, t) = first m in
+      (k, omega (arith, low, more), f ∙ ap (λ puts. a ++ puts) e ∙ sym (append_assoc a b (alone F p n z u)), t ∙ s)
 
   pub stays-put : (x : p.Place) (w : ℕ → List (Parcel L)) → Goes x w [] x w
-  stays-put x w n = (n, omega arith, refl)
+  stays-put x w n = (n, omega arith, refl, refl)
 
   -- In however many steps, the first of what it puts up to a place at which it does nothing more.
   pub first-put : (c : ℕ) (x y : p.Place) (w v : ℕ → List (Parcel L)) (puts : List (Put L)) → Goes x w puts y v → ((n : ℕ) → alone F p n y v ≡ []) → (n : ℕ)
       → IsPrefixOf (put_at c (alone F p n x w)) (put_at c puts)
   first-put c x y w v puts goes ends n =
-      let (m, within, equal) = goes n in
+      let (m, within, equal, stands) = goes n in
       let whole : alone F p m x w ≡ puts = equal ∙ ap (λ more. puts ++ more) (ends n) ∙ append-nil puts in
       let (rest, first) = alone-longer n m within x w in
       (put_at c rest, sym (put-append c (alone F p n x w) rest) ∙ ap (put_at c) (first ∙ whole))

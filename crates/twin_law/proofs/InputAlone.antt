@@ -16,6 +16,7 @@ use Rattle.twin_law.specs.Input.{InputPlace, Takes, PutsFull, PutsLast, PutsEmpt
 use Rattle.twin_law.specs.Twin.{given}
 use Rattle.twin_law.specs.Alone.{reply_of, first_parcel, less_one, Put, alone, put_at}
 use Rattle.twin_law.proofs.EndCounts.{IsOn, deals-on}
+use Rattle.twin_law.proofs.After.{after}
 use Rattle.twin_law.proofs.Goes.{Goes, goes-on, stays-put}
 use Rattle.twin_law.proofs.Strips.{given_pages, last_hand, hand-append, given-append, as_pages, pages-append}
 
@@ -243,8 +244,12 @@ module _ {L : Type 0} (F : FilesAs L) where
 
   take-goes : (side : Twin) (inside : Bool) (hand : Option PageInHand) (w : W) (f : Feed) (rest : List (Parcel L)) → w 1 ≡ OfFeed f ∷ rest
       → Gets (Takes side inside hand) w [] (behind_feed side inside hand f) (less_one w 1)
-  take-goes side inside hand w f rest e n =
-      (suc n, omega arith, ap (λ ps. alone F input n (input_behind (Takes side inside hand) (reply_of (first_parcel ps))) (less_one w 1)) e)
+  take-goes side inside hand w f rest e n = (
+    suc n,
+    omega arith,
+    ap (λ ps. alone F input n (input_behind (Takes side inside hand) (reply_of (first_parcel ps))) (less_one w 1)) e,
+    ap (λ ps. after F input n (input_behind (Takes side inside hand) (reply_of (first_parcel ps))) (less_one w 1)) e,
+  )
 
   abbrev rest_at : Settled L → InputPlace
   rest_at s = Takes s.side s.inside s.hand
@@ -252,13 +257,13 @@ module _ {L : Type 0} (F : FilesAs L) where
   -- from where an item leads to where the next is taken
   settles : (side : Twin) (x : InputPlace) (w : W) → IsOn side x → Gets x w (settled {L = L} x).puts (rest_at (settled x)) w
   settles side (Takes of inside hand) w is = stays-put F input (Takes of inside hand) w
-  settles side (PutsFull of inside page hand) w is = λ n. (suc n, omega arith, refl)
-  settles side (PutsLast of page (Some opener)) w is = λ n. (suc n, omega arith, refl)
+  settles side (PutsFull of inside page hand) w is = λ n. (suc n, omega arith, refl, refl)
+  settles side (PutsLast of page (Some opener)) w is = λ n. (suc n, omega arith, refl, refl)
   settles side x w is = absurd is
 
   ends-go : (side : Twin) (hand : Option PageInHand) (w : W) → Gets (ends_deck side hand) w (ends_put side hand) HasDealt w
-  ends-go side None w n = (suc (suc n), omega arith, refl)
-  ends-go side (Some hand) w n = (suc (suc (suc n)), omega arith, refl)
+  ends-go side None w n = (suc (suc n), omega arith, refl, refl)
+  ends-go side (Some hand) w n = (suc (suc (suc n)), omega arith, refl, refl)
 
   record Dealt-all (side : Twin) (inside : Bool) (hand : Option PageInHand) (items : List Item) (w : W) : Type 0 where
     left : W

@@ -18,6 +18,7 @@ use Rattle.twin_law.specs.Input.{last_of, empty_page}
 use Rattle.twin_law.specs.Job.{Stream, no_stream, JobPlace, TakesItems, LoadsFile, Toils, PutsLines, PutsLastLines, HasWorked, wanted, toils, behind_items, with_page, behind_page, page_taken, with_load, packed_on, packs_lines, with_packed, rests, lines_ahead, behind_work, job_behind, job}
 use Rattle.twin_law.specs.Output.{is_some}
 use Rattle.twin_law.specs.Alone.{reply_of, first_parcel, less_one, Put, alone, put_at, puts}
+use Rattle.twin_law.proofs.After.{after}
 use Rattle.twin_law.proofs.Goes.{Goes, goes-on, stays-put}
 use Rattle.twin_law.proofs.Strips.{read-marked, given_pages, last_hand, hand-append, given-append, all_pages, as_pages, Strip, IsStrip, empty-form, parcels, all_put}
 
@@ -90,7 +91,7 @@ module _ {L : Type 0} {J : Jobs L} (jobs : AreJobs J) (F : FilesAs L) (side : Tw
       let now = with_load s (F file) in
       let less : wanted J now ≡ later = ap (λ n. drop n (J.named s.items)) (one-longer s.loads (F file)) ∙ drop-next (length s.loads) (J.named s.items) file later e in
       let rest = loads-go later now last w less in
-      let one : Gets (LoadsFile file s last) w [] (toils (wanted J now) now last) w = λ n. (suc n, omega arith, refl) in
+      let one : Gets (LoadsFile file s last) w [] (toils (wanted J now) now last) w = λ n. (suc n, omega arith, refl, refl) in
       let here : Gets (toils (wanted J s) s last) w [] (toils (wanted J now) now last) w =
       subst (λ x. Gets x w [] (toils (wanted J now) now last) w) (sym (ap (λ files. toils files s last) e)) one in
       subst (λ (loads : List L). Gets (toils (wanted J s) s last) w [] (Toils (record s { loads = loads }) last) w) (append_assoc s.loads (F file ∷ []) (map F later))
@@ -114,11 +115,11 @@ module _ {L : Type 0} {J : Jobs L} (jobs : AreJobs J) (F : FilesAs L) (side : Tw
       let longer : n + 1 ≡ length (front ++ line ∷ []) = plus-one n ∙ ap suc same ∙ sym (one-longer front line) in
       let now = with_packed s (n + 1) hand in
       let over = rests (with_packed s (length (J.lines s.items s.loads last)) (last_hand hand (map Line rest))) last in
-      let put : Gets (PutsLines page now last) w (page_puts side (page ∷ [])) (Toils now last) w = λ n. (suc n, omega arith, refl) in
+      let put : Gets (PutsLines page now last) w (page_puts side (page ∷ [])) (Toils now last) w = λ n. (suc n, omega arith, refl, refl) in
       let ahead : lines_ahead J now last ≡ rest =
       ap (λ all. drop (n + 1) all) parts ∙ ap (λ n. drop n ((front ++ line ∷ []) ++ rest)) longer ∙ drop-front (front ++ line ∷ []) rest in
       let work : Gets (Toils now last) w [] (behind_work now last (packs_lines hand (n + 1) rest)) w =
-      subst (λ more. Gets (Toils now last) w [] (behind_work now last (packs_lines hand (n + 1) more)) w) ahead (λ n. (suc n, omega arith, refl)) in
+      subst (λ more. Gets (Toils now last) w [] (behind_work now last (packs_lines hand (n + 1) more)) w) ahead (λ n. (suc n, omega arith, refl, refl)) in
       let more = all s last (front ++ line ∷ []) (n + 1) hand w parts longer in
       goes-on F P (PutsLines page now last) (Toils now last) over w w w (page_puts side (page ∷ [])) (page_puts side (given_pages hand (map Line rest))) put
       (goes-on F P (Toils now last) (behind_work s last (packs_lines hand (n + 1) rest)) over w w w [] (page_puts side (given_pages hand (map Line rest))) work more)
@@ -153,8 +154,12 @@ module _ {L : Type 0} {J : Jobs L} (jobs : AreJobs J) (F : FilesAs L) (side : Tw
 
   take-goes : (s : Stream L) (w : W) (page : Page) (last : Bool) (rest : List (Parcel L)) → w (to_job side) ≡ OfPage page last ∷ rest
       → Gets (TakesItems s) w [] (behind_page J s (page_taken s page last)) (less_one w (to_job side))
-  take-goes s w page last rest e n =
-      (suc n, omega arith, ap (λ ps. alone F P n (job_behind J (TakesItems s) (reply_of (first_parcel ps))) (less_one w (to_job side))) e)
+  take-goes s w page last rest e n = (
+    suc n,
+    omega arith,
+    ap (λ ps. alone F P n (job_behind J (TakesItems s) (reply_of (first_parcel ps))) (less_one w (to_job side))) e,
+    ap (λ ps. after F P n (job_behind J (TakesItems s) (reply_of (first_parcel ps))) (less_one w (to_job side))) e,
+  )
 
   behind-some : (items : List Item) (s : Stream L) → is_some items ≡ true → behind_items J items s true ≡ toils (wanted J s) s true
   behind-some [] s e = absurd cc
@@ -227,7 +232,7 @@ module _ {L : Type 0} {J : Jobs L} (jobs : AreJobs J) (F : FilesAs L) (side : Tw
       let ahead : lines_ahead J (ready n items more) last ≡ added_lines = ap (drop (length front)) parts ∙ drop-front front added_lines in
       let hand = last_hand first_page (map Line front) in
       let work : Gets toil v [] (behind_work (ready n items more) last (packs_lines hand (length front) added_lines)) v =
-      subst (λ lines. Gets toil v [] (behind_work (ready n items more) last (packs_lines hand (length front) lines)) v) ahead (λ n. (suc n, omega arith, refl)) in
+      subst (λ lines. Gets toil v [] (behind_work (ready n items more) last (packs_lines hand (length front) lines)) v) ahead (λ n. (suc n, omega arith, refl, refl)) in
       let packs : Gets (behind_work (ready n items more) last (packs_lines hand (length front) added_lines)) v (page_puts side (filled items more last)) (rests (worked n items more last) last) v =
       subst (λ hand'. Gets (behind_work (ready n items more) last (packs_lines hand (length front) added_lines)) v (page_puts side (filled items more last))
       (rests (with_packed (ready n items more) (length (lines_so_far (items ++ more) last)) hand') last) v) (hand-is items more last)
@@ -254,7 +259,7 @@ module _ {L : Type 0} {J : Jobs L} (jobs : AreJobs J) (F : FilesAs L) (side : Tw
   last-goes n items more w page rest e form some =
       let v = less_one w (to_job side) in
       let last = last_of (last_hand first_page (map Line (lines_so_far (items ++ more) true))) in
-      let put : Gets (PutsLastLines last true) v (page_puts side (last ∷ [])) (TakesItems no_stream) v = λ n. (suc n, omega arith, refl) in
+      let put : Gets (PutsLastLines last true) v (page_puts side (last ∷ [])) (TakesItems no_stream) v = λ n. (suc n, omega arith, refl, refl) in
       let first = page-goes n items more true w page rest e form (λ _. some) in
       record {
         pages = filled items more true ++ last ∷ [];
@@ -310,15 +315,16 @@ module _ {L : Type 0} {J : Jobs L} (jobs : AreJobs J) (F : FilesAs L) (side : Tw
       let took : Gets (TakesItems no_stream) w [] (PutsLastLines empty_page false) v =
       subst (λ result. Gets (TakesItems no_stream) w [] (behind_page J no_stream result) v) (read-marked 0 true [] empty_page empty-form)
       (take-goes no_stream w empty_page (mark empty_page) [] e) in
-      let put : Gets (PutsLastLines empty_page false) v (page_puts side (empty_page ∷ [])) HasWorked v = λ n. (suc n, omega arith, refl) in
+      let put : Gets (PutsLastLines empty_page false) v (page_puts side (empty_page ∷ [])) HasWorked v = λ n. (suc n, omega arith, refl, refl) in
       goes-on F P (TakesItems no_stream) (PutsLastLines empty_page false) HasWorked w v v [] (page_puts side (empty_page ∷ [])) took put
 
   record AllWorked (w : W) (ss : List Strip) : Type 0 where
     left : W
+    none : left (to_job side) ≡ []
     goes : Gets (TakesItems no_stream) w (page_puts side (all_put (map made ss))) HasWorked left
 
   job-goes : (ss : List Strip) → AllByRecursion IsStrip ss → (w : W) → w (to_job side) ≡ parcels ss → AllWorked w ss
-  job-goes [] are w e = record { left = less_one w (to_job side); goes = empty-goes w e }
+  job-goes [] are w e = record { left = less_one w (to_job side); none = less-here side w ∙ ap (drop 1) e; goes = empty-goes w e }
   job-goes (s ∷ rest) are w e =
       let first = stream-goes s.pages s.items 0 [] (parcels rest) w are.0.stream are.0.some e in
       let later = job-goes rest are.1 first.left first.here in
@@ -331,6 +337,7 @@ module _ {L : Type 0} {J : Jobs L} (jobs : AreJobs J) (F : FilesAs L) (side : Tw
       (page_puts side (all_put (map made rest))) start later.goes in
       record {
         left = later.left;
+        none = later.none;
         goes = subst (λ puts. Gets (TakesItems no_stream) w puts HasWorked later.left) (sym (page_puts-append L side (report_pages s.items) (all_put (map made rest)))) both;
       }
 
@@ -340,10 +347,11 @@ module _ {L : Type 0} {J : Jobs L} (jobs : AreJobs J) (F : FilesAs L) (side : Tw
 
   pub record JobDone (ss : List Strip) (w : W) : Type 0 where
     pub left : W
+    pub none : left (to_job side) ≡ []
     pub goes : Goes F (job J side) (job J side).start w (page_puts side (all_put (map made ss))) HasWorked left
     pub over : (n : ℕ) → alone F (job J side) n HasWorked left ≡ []
 
   pub job-alone : (ss : List Strip) → AllByRecursion IsStrip ss → (w : W) → w (to_job side) ≡ parcels ss → JobDone ss w
   job-alone ss are w e =
       let all = job-goes ss are w e in
-      record { left = all.left; goes = all.goes; over = λ n. nothing-more n all.left }
+      record { left = all.left; none = all.none; goes = all.goes; over = λ n. nothing-more n all.left }

@@ -186,7 +186,7 @@ seen_by b (TakeFeed c) (reply.Feed f) = if b == c then OfFeed f ∷ [] else []
 seen_by b (TakePage c) (reply.Page page last) = if b == c then OfPage page last ∷ [] else []
 seen_by b action reply = []
 
-abbrev seen : {L : Type 0} → ℕ → List (Entry L) → List (Parcel L)
+abbrev pub seen : {L : Type 0} → ℕ → List (Entry L) → List (Parcel L)
 seen b [] = []
 seen b (Does action reply ∷ before) = seen b before ++ seen_by b action reply
 seen b (LacksMemory action reply ∷ before) = seen b before
@@ -252,7 +252,7 @@ pub prefix-trans : {T : Type 0} (a b c : List T) → IsPrefixOf a b → IsPrefix
 prefix-trans a b c (r, e) (q, f) = (r ++ q, sym (append_assoc a r q) ∙ ap (λ b. b ++ q) e ∙ f)
 
 module _ {L : Type 0} (J : Jobs L) (p : ℕ) (one : IsOne (twin J) p) where
-  put-sent : (b : ℕ) (h : List (Entry L)) → (b == 0) ≡ false → law.Follows (twin J) p h → put_at b (puts h) ≡ moved b Sender (acts (twin J) p h)
+  pub put-sent : (b : ℕ) (h : List (Entry L)) → (b == 0) ≡ false → law.Follows (twin J) p h → put_at b (puts h) ≡ moved b Sender (acts (twin J) p h)
   put-sent b [] some follows = refl
   put-sent b (Does a r ∷ h) some follows =
       put-append b (puts h) (puts_by a r) ∙ ap (λ now. put_at b (puts h) ++ now) (put-now p b a r some follows.1.0)
@@ -264,7 +264,7 @@ module _ {L : Type 0} (J : Jobs L) (p : ℕ) (one : IsOne (twin J) p) where
       put-sent b h some follows.2 ∙ sym (append-nil (moved b Sender (acts (twin J) p h)))
       ∙ ap (λ now. moved b Sender (acts (twin J) p h) ++ now) (sym (none-delayed b Sender (call p a)))
 
-  before-seen : (b : ℕ) (h : List (Entry L)) (ahead : ℕ → List (Parcel L)) → law.Follows (twin J) p h → before_all h ahead b ≡ seen b h ++ ahead b
+  pub before-seen : (b : ℕ) (h : List (Entry L)) (ahead : ℕ → List (Parcel L)) → law.Follows (twin J) p h → before_all h ahead b ≡ seen b h ++ ahead b
   before-seen b [] ahead follows = refl
   before-seen b (Does a r ∷ h) ahead follows =
       before-seen b h (before_entry a r ahead) follows.2 ∙ ap (λ now. seen b h ++ now) (entry-seen b a r ahead follows.1.0)
@@ -278,10 +278,10 @@ module _ {L : Type 0} (J : Jobs L) (p : ℕ) (one : IsOne (twin J) p) where
       made-closes (SeatedAt J p) h a
       (subst (λ cause. Shape J p h (closing_by (process J p) cause (aim (process J p) h)) a) some (next-shape J p h a one next))
 
-  abbrev Tied : ℕ → List (Entry L) → Type 0
+  abbrev pub Tied : ℕ → List (Entry L) → Type 0
   Tied b h = (caused (process J p) h ≡ None → seen b h ≡ moved b Receiver (acts (twin J) p h)) × IsPrefixOf (seen b h) (moved b Receiver (acts (twin J) p h))
 
-  tied : (b : ℕ) (h : List (Entry L)) → law.Follows (twin J) p h → Tied b h
+  pub tied : (b : ℕ) (h : List (Entry L)) → law.Follows (twin J) p h → Tied b h
   tied b [] follows = ((λ none. refl), ([], refl))
   tied b (Does a r ∷ h) follows = by-cause (caused (process J p) h) refl (tied b h follows.2) where
     by-cause : (cause : Option Outcome) → caused (process J p) h ≡ cause → Tied b h → Tied b (Does a r ∷ h)
@@ -355,7 +355,7 @@ moved-elsewhere b side Asks w not = refl
 moved-elsewhere b side Gives w not = refl
 
 -- which process takes from a buffer
-seat-of : (b : ℕ) (P : ℕ → ℕ → Type 0) → P 1 2 → P 2 3 → P 3 4 → P 4 5 → P 5 5 → P b 6 → P b (seat b Receiver)
+pub seat-of : (b : ℕ) (P : ℕ → ℕ → Type 0) → P 1 2 → P 2 3 → P 3 4 → P 4 5 → P 5 5 → P b 6 → P b (seat b Receiver)
 seat-of b P one two three four five six =
     elim (b == 1) as (λ t. (b == 1) ≡ t → P b (if t then 2 else if b == 2 then 3 else if b == 3 then 4 else if b == 4 then 5 else if b == 5 then 5 else 6)) [
       | true ↦ (λ e. subst (λ b. P b 2) (sym (eqb-true b 1 e)) one)
@@ -385,7 +385,7 @@ module _ {L : Type 0} (J : Jobs L) (opening s : TwinState L) (st : Stands (twin 
       record { action = action_of entry; next = follows.0; call = e })) in
       ap (λ ms. ms ++ moved_by b Receiver (call p (action_of entry)) (went entry)) old ∙ now
 
-  handed : (b : ℕ) → IsPrefixOf (passed (twin J) s b Receiver) (passed (twin J) s b Sender)
+  pub handed : (b : ℕ) → IsPrefixOf (passed (twin J) s b Receiver) (passed (twin J) s b Sender)
   handed b = (let (inside, is) = told b in (inside, (st.buffers.hand_over b).parcels inside is))
 
   module _ (all : ℕ → List (Parcel L)) where
@@ -393,7 +393,7 @@ module _ {L : Type 0} (J : Jobs L) (opening s : TwinState L) (st : Stands (twin 
     abbrev pub Within : ℕ → Type 0
     Within b = IsPrefixOf (passed (twin J) s b Sender) (all b)
 
-    took : (p : ℕ) → IsOne (twin J) p → ((b : ℕ) → seat b Receiver ≡ p → Within b) → (b : ℕ) → IsPrefixOf (moved b Receiver (acts (twin J) p (s.histories p))) (all b)
+    pub took : (p : ℕ) → IsOne (twin J) p → ((b : ℕ) → seat b Receiver ≡ p → Within b) → (b : ℕ) → IsPrefixOf (moved b Receiver (acts (twin J) p (s.histories p))) (all b)
     took p one within b =
         elim (eqb_tells (seat b Receiver) p) as (λ _. IsPrefixOf (moved b Receiver (acts (twin J) p (s.histories p))) (all b)) [
           | inl e ↦ prefix-trans (moved b Receiver (acts (twin J) p (s.histories p))) (passed (twin J) s b Sender) (all b)

@@ -506,7 +506,8 @@ module _ {L : Type 0} (J : Jobs L) where
   no-stop_waiting (Stop c) may b = absurd may
   no-stop_waiting other may b = refl
 
-  not-made : (p b : ℕ) (side : Side) (h : List (Entry L)) → law.Follows (twin J) p h → has_stopped b h ≡ false → made_stop b side (acts (twin J) p h) ≡ false
+  pub not-made : (p b : ℕ) (side : Side) (h : List (Entry L)) → law.Follows (twin J) p h → has_stopped b h ≡ false
+      → made_stop b side (acts (twin J) p h) ≡ false
   not-made p b side [] follows e = refl
   not-made p b side (Does a r ∷ h) follows e =
       let parts = or-falses (stops_at b a) (has_stopped b h) e in

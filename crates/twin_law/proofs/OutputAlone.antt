@@ -16,6 +16,7 @@ use Rattle.twin_law.specs.Sides.{Twin, A, B, other, from_job, dealt}
 use Rattle.twin_law.specs.Input.{empty_page}
 use Rattle.twin_law.specs.Output.{Turn, OutputPlace, TakesLines, PutsOver, HasGathered, puts_line, is_some, turn_behind, behind_lines, page_due, output_behind, output}
 use Rattle.twin_law.specs.Alone.{reply_of, first_parcel, less_one, Put, alone, puts}
+use Rattle.twin_law.proofs.After.{after}
 use Rattle.twin_law.proofs.Goes.{Goes, goes-on}
 use Rattle.twin_law.proofs.Strips.{good, read-marked, as_pages, Strip, IsStrip, empty-form, parcels, some-append}
 
@@ -68,15 +69,19 @@ module _ {L : Type 0} (F : FilesAs L) where
   Gets x w puts y v = Goes F (output {L = L}) x w puts y v
 
   lines-go : (lines : List (List ℕ)) (t : Turn) (over : Bool) (w : W) → Gets (puts_line lines t over) w (line_puts lines) (puts_line [] t over) w
-  lines-go [] t over w n = (n, omega arith, refl)
+  lines-go [] t over w n = (n, omega arith, refl, refl)
   lines-go (line ∷ rest) t over w n =
-      let (m, low, e) = lines-go rest t over w n in
-      (suc m, omega (arith, low), ap (λ more. record { at = 6; parcel = OfFeed (feed.Item (Line line)) } ∷ more) e)
+      let (m, low, e, s) = lines-go rest t over w n in
+      (suc m, omega (arith, low), ap (λ more. record { at = 6; parcel = OfFeed (feed.Item (Line line)) } ∷ more) e, s)
 
   take-goes : (t : Turn) (w : W) (page : Page) (last : Bool) (rest : List (Parcel L)) → w (from_job t.side) ≡ OfPage page last ∷ rest
       → Gets (TakesLines t) w [] (behind_lines t (page_due t page last)) (less_one w (from_job t.side))
-  take-goes t w page last rest e n =
-      (suc n, omega arith, ap (λ ps. alone F output n (output_behind (TakesLines t) (reply_of (first_parcel ps))) (less_one w (from_job t.side))) e)
+  take-goes t w page last rest e n = (
+    suc n,
+    omega arith,
+    ap (λ ps. alone F output n (output_behind (TakesLines t) (reply_of (first_parcel ps))) (less_one w (from_job t.side))) e,
+    ap (λ ps. after F output n (output_behind (TakesLines t) (reply_of (first_parcel ps))) (less_one w (from_job t.side))) e,
+  )
 
   -- one page that is read at its place
   page-goes : (t : Turn) (last : Bool) (items : List Item) (w : W) (page : Page) (rest : List (Parcel L)) → w (from_job t.side) ≡ OfPage page (mark page) ∷ rest
@@ -132,10 +137,12 @@ module _ {L : Type 0} (F : FilesAs L) where
   -- ---- all streams, and the two empty ones
   record GatheredAll (side : Twin) (all : List Strip) (w : W) : Type 0 where
     left : W
+    here : left (from_job side) ≡ []
+    there : left (from_job (other side)) ≡ []
     goes : Gets (TakesLines (turn side 0 false false)) w (line_puts (all_lines all) ++ end_put) HasGathered left
 
   ends-go : (w : W) → Gets PutsOver w end_put HasGathered w
-  ends-go w n = (suc n, omega arith, refl)
+  ends-go w n = (suc n, omega arith, refl, refl)
 
   empties-go : (side : Twin) (w : W) → w (from_job side) ≡ as_pages (empty_page ∷ []) → w (from_job (other side)) ≡ as_pages (empty_page ∷ []) → GatheredAll side [] w
   empties-go side w here there =
@@ -144,6 +151,8 @@ module _ {L : Type 0} (F : FilesAs L) where
       let both = goes-on F output (TakesLines (turn side 0 false false)) (TakesLines (turn (other side) 0 false true)) PutsOver w first.left second.left [] [] first.goes second.goes in
       record {
         left = second.left;
+        here = ap (λ side. second.left (from_job side)) (sym (twice side)) ∙ second.there ∙ ap (λ side. first.left (from_job side)) (twice side) ∙ first.here;
+        there = second.here;
         goes = goes-on F output (TakesLines (turn side 0 false false)) PutsOver HasGathered w second.left second.left [] end_put both (ends-go second.left);
       }
 
@@ -159,6 +168,8 @@ module _ {L : Type 0} (F : FilesAs L) where
       (line_puts (lines_of s.items)) (line_puts (all_lines rest) ++ end_put) some later.goes in
       record {
         left = later.left;
+        here = ap (λ side. later.left (from_job side)) (sym (twice side)) ∙ later.there;
+        there = later.here;
         goes = subst (λ puts. Gets (TakesLines (turn side 0 false false)) w puts HasGathered later.left)
             (sym (append_assoc (line_puts (lines_of s.items)) (line_puts (all_lines rest)) end_put)
             ∙ ap (λ puts. puts ++ end_put) (sym (puts-append L (lines_of s.items) (all_lines rest)))) both;
@@ -170,10 +181,12 @@ module _ {L : Type 0} (F : FilesAs L) where
 
   pub record OutputDone (all : List Strip) (w : W) : Type 0 where
     pub left : W
+    pub from_a : left 4 ≡ []
+    pub from_b : left 5 ≡ []
     pub goes : Goes F (output {L = L}) (output {L = L}).start w (line_puts (all_lines all) ++ end_put) HasGathered left
     pub over : (n : ℕ) → alone F output n HasGathered left ≡ []
 
   pub output-alone : (all : List Strip) → AllByRecursion IsStrip all → (w : W) → w 4 ≡ parcels (dealt all).a → w 5 ≡ parcels (dealt all).b → OutputDone all w
   output-alone all are w here there =
       let is = gathers-all all are A w here there in
-      record { left = is.left; goes = is.goes; over = λ n. nothing-more n is.left }
+      record { left = is.left; from_a = is.here; from_b = is.there; goes = is.goes; over = λ n. nothing-more n is.left }

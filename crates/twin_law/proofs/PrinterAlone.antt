@@ -25,6 +25,7 @@ use Rattle.twin_law.specs.Alone.{reply_of, first_parcel, less_one, Put, alone, p
 use Rattle.twin_law.specs.Told.{printed_by, printed}
 use Rattle.twin_law.proofs.Marks.{makes, IsAround, made}
 use Rattle.twin_law.proofs.Kahn.{put-append, puts-alone, printer-quiet}
+use Rattle.twin_law.proofs.After.{after}
 use Rattle.twin_law.proofs.Goes.{Goes, goes-on, first-put, alone-longer}
 use Rattle.twin_law.proofs.Whole.{line_feeds}
 use Rattle.twin_law.proofs.Paper.{due_at}
@@ -77,7 +78,7 @@ step-enough (Load file) (reply.Loaded load) n = omega arith
 step-enough Local reply.Done n = omega arith
 step-enough a r n = omega arith
 
-steps-enough : {L : Type 0} (h : List (Entry L)) (n : ℕ) → n ≤ steps_more h n
+pub steps-enough : {L : Type 0} (h : List (Entry L)) (n : ℕ) → n ≤ steps_more h n
 steps-enough [] n = omega arith
 steps-enough (Does a r ∷ h) n = (let one = step-enough a r n in let rest = steps-enough h (step_more a r n) in omega (arith, one, rest))
 steps-enough (LacksMemory a r ∷ h) n = steps-enough h n
@@ -131,8 +132,12 @@ module _ {L : Type 0} where
     Gets x w puts y v = Goes F (printer {L = L}) x w puts y v
 
     take-goes : (w : W) (f : Feed) (rest : List (Parcel L)) → w 6 ≡ OfFeed f ∷ rest → Gets TakesLine w [] (behind_line f) (less_one w 6)
-    take-goes w f rest e n =
-        (suc n, omega arith, ap (λ ps. alone F printer n (printer_behind TakesLine (reply_of (first_parcel ps))) (less_one w 6)) e)
+    take-goes w f rest e n = (
+      suc n,
+      omega arith,
+      ap (λ ps. alone F printer n (printer_behind TakesLine (reply_of (first_parcel ps))) (less_one w 6)) e,
+      ap (λ ps. after F printer n (printer_behind TakesLine (reply_of (first_parcel ps))) (less_one w 6)) e,
+    )
 
     record Printed (lines : List (List ℕ)) (w : W) : Type 0 where
       left : W
@@ -143,7 +148,7 @@ module _ {L : Type 0} where
     prints-all (line ∷ rest) w e =
         let v = less_one w 6 in
         let later = prints-all rest v (ap (drop 1) e) in
-        let put : Gets (PrintsLine line) v (print_puts (line ∷ [])) TakesLine v = λ n. (suc n, omega arith, refl) in
+        let put : Gets (PrintsLine line) v (print_puts (line ∷ [])) TakesLine v = λ n. (suc n, omega arith, refl, refl) in
         record {
           left = later.left;
           goes = goes-on F printer TakesLine (PrintsLine line) HasPrinted w v later.left [] (print_puts (line ∷ rest)) (take-goes w (feed.Item (Line line)) (line_feeds rest) e)
@@ -198,7 +203,7 @@ module _ {L : Type 0} where
       pub printed-all : place (printer {L = L}) h ≡ HasPrinted → printed h ≡ lines
       printed-all at =
           let done = prints-all lines all refl in
-          let (m, low, whole) = done.goes 0 in
+          let (m, low, whole, stands) = done.goes 0 in
           let (ahead, e) = puts-of m in
           let none : alone F P m (place P h) ahead ≡ [] = ap (λ x. alone F P m x ahead) at ∙ nothing-more m ahead in
           let mine : puts h ≡ alone F P (steps_more h m) P.start all = sym (append-nil (puts h)) ∙ ap (λ more. puts h ++ more) (sym none) ∙ e in

@@ -16,7 +16,7 @@ use Rattle.twin_law.specs.Process.{Finishes, place, aim, caused, next_action}
 use Rattle.twin_law.specs.Ends.{CardPlace, ReadsCard, PutsCard, PutsEnd, HasPut, card_aims, card, PrinterPlace, TakesLine, PrintsLine, HasPrinted, printer_aims, printer}
 use Rattle.twin_law.specs.Table.{process}
 use Rattle.twin_law.specs.Twin.{given, twin, TwinState, TwinEvent, IsProcess}
-use Rattle.twin_law.specs.Opening.{Spools, AreInBounds, AreTold, is_line, one_line, spool_by, size_of, told_of, AreGoodFiles, Opening, IsSmooth}
+use Rattle.twin_law.specs.Opening.{Spools, AreInBounds, AreTold, is_line, one_line, spool_by, size_of, AreGoodFiles, Opening, IsSmooth}
 use Rattle.twin_law.specs.TheLaw.{the_openings, the_law, first_state, IsReached, IsStuck}
 use Rattle.twin_law.specs.Alone.{AreLoadedSo}
 use Rattle.twin_law.specs.UnitWork.{AreByUnits}
@@ -33,6 +33,7 @@ use Rattle.twin_law.proofs.Paper.{due_at, text-append}
 use Rattle.twin_law.proofs.PrinterAlone.{printed-first, printed-all}
 use Rattle.twin_law.proofs.Devices.{Centre, reached-centre}
 use Rattle.twin_law.proofs.Outcomes.{ends-rightly, done-where, given-by}
+use Rattle.twin_law.proofs.Together.{all-told, stopped-by}
 use Rattle.twin_law.proofs.Faults.{card-faulty, input-faulty, job-a-faulty, job-b-faulty, output-faulty, printer-faulty}
 
 -- ---- the buffers of an opening
@@ -45,16 +46,6 @@ some-room spools bounds b = by (is_line b) (b == 2) (b == 3) (b == 4) where
   by false false true four = bounds.to_b.some
   by false false false true = bounds.from_a.some
   by false false false false = bounds.from_b.some
-
-all-told : (spools : Spools) → AreTold spools → (b : ℕ) → told_of spools b ≡ true
-all-told spools told b = by (is_line b) (b == 2) (b == 3) (b == 4) where
-  by : (line two three four : Bool)
-      → (spool_by line one_line (spool_by two spools.to_a (spool_by three spools.to_b (spool_by four spools.from_a spools.from_b)))).told ≡ true
-  by true two three four = refl
-  by false true three four = told.to_a
-  by false false true four = told.to_b
-  by false false false true = told.from_a
-  by false false false false = told.from_b
 
 -- ---- a text begins as its lines do
 text-first : (some all : List (List ℕ)) → IsPrefixOf some all → IsPrefixOf (text some) (text all)
@@ -173,4 +164,5 @@ module _ {L : Type 0} {J : Jobs L} (jobs : AreJobs J) where
       stands = centre.stands;
       ends = λ p how one e. ends-rightly J p (s.histories p) how (centre.stands.follows p) e;
       causes = causes-now;
+      stopped = λ by told items found deck files p one is. stopped-by jobs by o told items found deck files s reached p one is;
     }

@@ -20,7 +20,7 @@ use Rattle.twin_law.proofs.Marks.{makes, IsAround, made}
 abbrev pub Same : {L : Type 0} → (ℕ → List (Parcel L)) → (ℕ → List (Parcel L)) → Type 0
 Same i j = (b : ℕ) → i b ≡ j b
 
-less-same : {L : Type 0} (i j : ℕ → List (Parcel L)) (b : ℕ) → Same i j → Same (less_one i b) (less_one j b)
+pub less-same : {L : Type 0} (i j : ℕ → List (Parcel L)) (b : ℕ) → Same i j → Same (less_one i b) (less_one j b)
 less-same i j b same c = ap (λ ps. if c == b then drop 1 ps else ps) (same c)
 
 -- an answer that fails
@@ -80,14 +80,14 @@ module _ {L : Type 0} (F : FilesAs L) (p : Process L) where
   around-step x (Ended how) r is n ahead = refl
   around-step x a r is n ahead = absurd is
 
-  same-number : (b : ℕ) → (b == b) ≡ true
+  pub same-number : (b : ℕ) → (b == b) ≡ true
   same-number b = elim (eqb_tells b b) as (λ _. (b == b) ≡ true) [ inl a ↦ a.0 | inr a ↦ absurd (a.1 refl) ]
 
-  less-here : (b : ℕ) (x : Parcel L) (ahead : ℕ → List (Parcel L)) → Same (less_one (λ c. if c == b then x ∷ ahead c else ahead c) b) ahead
+  pub less-here : (b : ℕ) (x : Parcel L) (ahead : ℕ → List (Parcel L)) → Same (less_one (λ c. if c == b then x ∷ ahead c else ahead c) b) ahead
   less-here b x ahead c =
       elim (c == b) as (λ t. (if t then drop 1 (if t then x ∷ ahead c else ahead c) else (if t then x ∷ ahead c else ahead c)) ≡ ahead c) [ true ↦ refl | false ↦ refl ]
 
-  first-here : (b : ℕ) (x : Parcel L) (ahead : ℕ → List (Parcel L)) → first_parcel (if b == b then x ∷ ahead b else ahead b) ≡ x
+  pub first-here : (b : ℕ) (x : Parcel L) (ahead : ℕ → List (Parcel L)) → first_parcel (if b == b then x ∷ ahead b else ahead b) ≡ x
   first-here b x ahead = ap (λ t. first_parcel (if t then x ∷ ahead b else ahead b)) (same-number b)
 
   take-step : (x : p.Place) (b : ℕ) (y : Parcel L) (n : ℕ) (ahead : ℕ → List (Parcel L))

@@ -130,7 +130,7 @@ module _ {L : Type 0} {J : Jobs L} (jobs : AreJobs J) (by : AreByUnits J) (F : F
         else if c == 4 then parcels (map report_strip (dealt us).a) else if c == 5 then parcels (map report_strip (dealt us).b)
         else line_feeds (all_lines (map report_strip us))
 
-    abbrev ClosedAt : ℕ → Type 0
+    abbrev pub ClosedAt : ℕ → Type 0
     ClosedAt c = (n : ℕ) → IsPrefixOf (put_at c (alone F (process J (seat c Sender)) n (process J (seat c Sender)).start whole)) (whole c)
 
     abbrev pub IsGoodUnit : List Item → Type 0
@@ -145,7 +145,7 @@ module _ {L : Type 0} {J : Jobs L} (jobs : AreJobs J) (by : AreByUnits J) (F : F
     abbrev HasReport : List Item → Type 0
     HasReport unit = AreItems unit × (is_some (report unit) ≡ true)
 
-    report-strips : AllByRecursion IsStrip (map report_strip us)
+    pub report-strips : AllByRecursion IsStrip (map report_strip us)
     report-strips =
         map-all HasReport IsStrip report_strip us (λ unit is. report-is unit is.0 is.1)
         (all-pair AreItems (λ unit. is_some (report unit) ≡ true) us (units-all IsItem items are) (by.some items F))
@@ -153,34 +153,34 @@ module _ {L : Type 0} {J : Jobs L} (jobs : AreJobs J) (by : AreByUnits J) (F : F
     pub both : BothAll IsGoodUnit (dealt us)
     both = dealt-all IsGoodUnit us good-units
 
-    dealt-at : (c : ℕ) (puts : List (Put L)) (some : List (List Item)) → put_at c puts ≡ as_pages (streams some ++ empty_page ∷ []) → put_at c puts ≡ parcels (map unit_strip some)
+    pub dealt-at : (c : ℕ) (puts : List (Put L)) (some : List (List Item)) → put_at c puts ≡ as_pages (streams some ++ empty_page ∷ []) → put_at c puts ≡ parcels (map unit_strip some)
     dealt-at c puts some e = e ∙ ap as_pages (streams-put some) ∙ as-parcels L (map unit_strip some)
 
-    closed-2 : ClosedAt 2
+    pub closed-2 : ClosedAt 2
     closed-2 n =
         let is = input-alone F items whole refl in
         subst (IsPrefixOf (put_at 2 (alone F (process J 2) n (process J 2).start whole))) (dealt-at 2 is.puts (dealt us).a is.at_a)
         (first-put F (process J 2) 2 (process J 2).start HasDealt whole is.left is.puts is.goes is.over n)
 
-    closed-3 : ClosedAt 3
+    pub closed-3 : ClosedAt 3
     closed-3 n =
         let is = input-alone F items whole refl in
         subst (IsPrefixOf (put_at 3 (alone F (process J 2) n (process J 2).start whole))) (dealt-at 3 is.puts (dealt us).b is.at_b)
         (first-put F (process J 2) 3 (process J 2).start HasDealt whole is.left is.puts is.goes is.over n)
 
-    made-at : (side : Twin) (some : List (List Item))
+    pub made-at : (side : Twin) (some : List (List Item))
         → put_at (from_job side) (page_puts {L = L} side (all_put (map (made jobs F side) (map unit_strip some)))) ≡ parcels (map report_strip some)
     made-at side some =
         put-all L side (all_put (map (made jobs F side) (map unit_strip some))) ∙ as-parcels L (map (made jobs F side) (map unit_strip some)) ∙ ap parcels (reports-made side some)
 
-    closed-4 : ClosedAt 4
+    pub closed-4 : ClosedAt 4
     closed-4 n =
         let ss = map unit_strip (dealt us).a in
         let is = job-alone jobs F A ss (unit-strips (dealt us).a both.a) whole refl in
         subst (IsPrefixOf (put_at 4 (alone F (process J 3) n (process J 3).start whole))) (made-at A (dealt us).a)
         (first-put F (process J 3) 4 (process J 3).start HasWorked whole is.left (page_puts A (all_put (map (made jobs F A) ss))) is.goes is.over n)
 
-    closed-5 : ClosedAt 5
+    pub closed-5 : ClosedAt 5
     closed-5 n =
         let ss = map unit_strip (dealt us).b in
         let is = job-alone jobs F B ss (unit-strips (dealt us).b both.b) whole refl in

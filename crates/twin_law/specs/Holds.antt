@@ -5,6 +5,7 @@ use Rattle.solo_devices.specs.PrinterUnit.{Gains}
 use Rattle.network_law.specs.Kept.{Stands}
 use Rattle.solo_base.specs.declared.item.Item.{Item}
 use Rattle.solo_base.specs.declared.outcome.Outcome.{Outcome}
+use Rattle.solo_base.specs.declared.outcome.Outcome.TheVariants as outcome
 use Rattle.solo_base.specs.Text.{text}
 use Rattle.batch_procs.specs.Jobs.{Jobs, FilesAs, one_thread}
 use Rattle.twin_law.specs.Table.{process}
@@ -14,7 +15,8 @@ use Rattle.twin_law.specs.TheLaw.{first_state}
 use Rattle.twin_law.specs.Alone.{AreLoadedSo}
 use Rattle.twin_law.specs.UnitWork.{AreByUnits}
 use Rattle.twin_law.specs.Told.{read_all}
-use Rattle.twin_law.specs.Outcomes.{HasEndedSo, AllDone, EndsRightly, HaveCauses}
+use Rattle.twin_law.specs.Outcomes.{HasEndedSo, AllDone, EndsRightly, HaveCauses, HasAFault}
+use Rattle.twin_law.specs.Process.{caused}
 
 -- Where the jobs can be worked on unit by unit: over told areas what the paper gained is a prefix of what one
 -- thread prints, and all of it where all six ended with their work done.
@@ -30,6 +32,13 @@ pub record IsRead {L : Type 0} (s : TwinState L) (items : List Item) : Type 0 wh
   pub cards_are : items ≡ read_all (s.histories 1) ++ left
   pub all : AllDone s → left ≡ []
 
+-- Where the jobs can be worked on unit by unit: over told devices a process is told that another stopped only
+-- where one has a fault.
+abbrev pub StopsByFault : {L : Type 0} {J : Jobs L} → Opening J → TwinState L → Type 0
+StopsByFault {L} {J} o s = AreByUnits J → AreTold o.spools → (items : List Item) (found : FilesAs L)
+    → o.deck ≡ Some items → o.files ≡ Some found → (p : ℕ) → IsProcess p
+    → caused (process J p) (s.histories p) ≡ Some outcome.Stopped → HasAFault J s
+
 pub record Holds {L : Type 0} {J : Jobs L} (o : Opening J) (s : TwinState L) : Type 0 where
   pub prints : Prints o s
   pub reads : (items : List Item) → o.deck ≡ Some items → IsRead s items
@@ -43,3 +52,4 @@ pub record Holds {L : Type 0} {J : Jobs L} (o : Opening J) (s : TwinState L) : T
   pub ends : (p : ℕ) (how : Outcome) → IsProcess p → HasEndedSo s how p
       → EndsRightly (process J p) (s.histories p) how
   pub causes : HaveCauses J s
+  pub stopped : StopsByFault o s

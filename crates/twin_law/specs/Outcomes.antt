@@ -42,6 +42,11 @@ pub record EndsRightly {L : Type 0} (p : Process L) (h : List (Entry L)) (how : 
   pub done : caused p h ≡ None → (aim p h ≡ Finishes) × AreStopped p.spools h
   pub closed : (why : Outcome) → caused p h ≡ Some why → AreStopped p.buffers h
 
+-- Some process has a fault.
+abbrev pub HasAFault : {L : Type 0} → Jobs L → TwinState L → Type 0
+HasAFault J s = (p : ℕ) × (c : Cause) × IsProcess p
+    × (caused (process J p) (s.histories p) ≡ Some (outcome.Fault c))
+
 -- This entry of its history gave it the cause: it had none before.
 abbrev pub GivenBy : {L : Type 0} → Process L → Outcome → List (Entry L) → Type 0
 GivenBy p how [] = ⊥
