@@ -27,7 +27,7 @@ use Rattle.twin_law.proofs.PagesRead.{read-either}
 use Rattle.twin_law.proofs.Marks.{makes, IsAround}
 use Rattle.twin_law.proofs.Open.{made-free}
 
-same-cause : (a b : Cause) → Some (outcome.Fault a) ≡ Some (outcome.Fault b) → a ≡ b
+pub same-cause : (a b : Cause) → Some (outcome.Fault a) ≡ Some (outcome.Fault b) → a ≡ b
 same-cause a b e = cc
 
 -- a page that was taken and has a fault
@@ -52,13 +52,14 @@ OfOutput c = (c ≡ cause.DiskFault) ⊎ IsDamaged c
 abbrev pub OfPrinter : Cause → Type 0
 OfPrinter c = (c ≡ cause.PrintFault) ⊎ (c ≡ cause.NoMemory)
 
-or-fault : (Is : Cause → Type 0) (old new : Option Outcome) (c : Cause) → (old ≡ Some (outcome.Fault c) → Is c) → (new ≡ Some (outcome.Fault c) → Is c)
+pub or-fault : (Is : Cause → Type 0) (old new : Option Outcome) (c : Cause) → (old ≡ Some (outcome.Fault c) → Is c) → (new ≡ Some (outcome.Fault c) → Is c)
     → or_new old new ≡ Some (outcome.Fault c) → Is c
 or-fault Is None new c first second e = second e
 or-fault Is (Some how) new c first second e = first e
 
 module _ {L : Type 0} where
-  around-fault : (p : Process L) (x : p.Place) (a : Action) (r : Reply L) (c : Cause) → IsAround a → Fits a r → given_cause p x a r ≡ Some (outcome.Fault c) → ⊥
+  pub around-fault : (p : Process L) (x : p.Place) (a : Action) (r : Reply L) (c : Cause) → IsAround a → Fits a r
+      → given_cause p x a r ≡ Some (outcome.Fault c) → ⊥
   around-fault p x (AwaitRoom b) reply.Done c around fits e = cc
   around-fault p x (AwaitRoom b) reply.Stopped c around fits e = cc
   around-fault p x (AwaitItem b) reply.Done c around fits e = cc

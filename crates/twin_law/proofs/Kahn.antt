@@ -181,7 +181,7 @@ put-lacking p b (TakePage c) (reply.Page page last) may = and-not (b == c) (OfPa
 put-lacking p b Local reply.Done may = refl
 put-lacking p b a r may = absurd may
 
-abbrev seen_by : {L : Type 0} → ℕ → Action → Reply L → List (Parcel L)
+abbrev pub seen_by : {L : Type 0} → ℕ → Action → Reply L → List (Parcel L)
 seen_by b (TakeFeed c) (reply.Feed f) = if b == c then OfFeed f ∷ [] else []
 seen_by b (TakePage c) (reply.Page page last) = if b == c then OfPage page last ∷ [] else []
 seen_by b action reply = []
@@ -232,7 +232,7 @@ seen-now p b (Stop c) reply.Done fits = refl
 seen-now p b (Ended how) reply.Done fits = refl
 seen-now p b a r fits = absurd fits
 
-around-unseen : {L : Type 0} (b : ℕ) (a : Action) (r : Reply L) → IsAround a → seen_by b a r ≡ []
+pub around-unseen : {L : Type 0} (b : ℕ) (a : Action) (r : Reply L) → IsAround a → seen_by b a r ≡ []
 around-unseen b (AwaitRoom c) r is = refl
 around-unseen b (AwaitItem c) r is = refl
 around-unseen b Request r is = refl

@@ -34,6 +34,7 @@ use Rattle.twin_law.proofs.PrinterAlone.{printed-first, printed-all}
 use Rattle.twin_law.proofs.Devices.{Centre, reached-centre}
 use Rattle.twin_law.proofs.Outcomes.{ends-rightly, done-where, given-by}
 use Rattle.twin_law.proofs.Together.{all-told, stopped-by}
+use Rattle.twin_law.proofs.Undamaged.{undamaged}
 use Rattle.twin_law.proofs.Faults.{card-faulty, input-faulty, job-a-faulty, job-b-faulty, output-faulty, printer-faulty}
 
 -- ---- the buffers of an opening
@@ -164,5 +165,6 @@ module _ {L : Type 0} {J : Jobs L} (jobs : AreJobs J) where
       stands = centre.stands;
       ends = λ p how one e. ends-rightly J p (s.histories p) how (centre.stands.follows p) e;
       causes = causes-now;
+      undamaged = λ told. undamaged jobs (first_state o) s centre.stands (told-now told);
       stopped = λ by told items found deck files p one is. stopped-by jobs by o told items found deck files s reached p one is;
     }

@@ -33,7 +33,7 @@ form-at n m last all page same form = record {
   spelled = form.spelled ∙ page_of-same n m last (items_bytes all) same;
 }
 
-read-back : (n : ℕ) (last : Bool) (all : List Item) (page : Page) → IsPage n last all page → page_read (n % 2 ^ 16) last page ≡ good all last
+pub read-back : (n : ℕ) (last : Bool) (all : List Item) (page : Page) → IsPage n last all page → page_read (n % 2 ^ 16) last page ≡ good all last
 read-back n last all page form =
     let here = form-at n (n % 65536) last all page (omega arith) form in
     read_taken (n % 65536) last page (nothing_wrong_again (n % 65536) last all page (omega arith) here)

@@ -6,7 +6,9 @@ use Rattle.network_law.specs.Kept.{Stands}
 use Rattle.solo_base.specs.declared.item.Item.{Item}
 use Rattle.solo_base.specs.declared.outcome.Outcome.{Outcome}
 use Rattle.solo_base.specs.declared.outcome.Outcome.TheVariants as outcome
+use Rattle.solo_base.specs.declared.outcome.Cause.{Cause}
 use Rattle.solo_base.specs.Text.{text}
+use Rattle.batch_procs.specs.Faults.{IsDamaged}
 use Rattle.batch_procs.specs.Jobs.{Jobs, FilesAs, one_thread}
 use Rattle.twin_law.specs.Table.{process}
 use Rattle.twin_law.specs.Twin.{twin, TwinState, IsProcess}
@@ -53,3 +55,7 @@ pub record Holds {L : Type 0} {J : Jobs L} (o : Opening J) (s : TwinState L) : T
       → EndsRightly (process J p) (s.histories p) how
   pub causes : HaveCauses J s
   pub stopped : StopsByFault o s
+  -- Over told areas no page is damaged, whatever deck is read, whatever files are loaded as, and whatever the
+  -- jobs are.
+  pub undamaged : AreTold o.spools → (p : ℕ) (c : Cause) → IsProcess p → HasEndedSo s (outcome.Fault c) p
+      → IsDamaged c → ⊥
