@@ -44,9 +44,8 @@ last-number s b Holds is two three four =
     choice-last b 5 (Holds s.from_b) (choice-rest b 4 (Holds s.from_a) _
     (choice-rest b 3 (Holds s.to_b) _ (choice-rest b 2 (Holds s.to_a) _ is two) three) four)
 
-module _ {L A : Type 0} (J : Jobs L) (told_by : A → Option (List (List ℕ))) (faults : A → ℕ) (old : TwinSpools A) (new : Spool A) (side : Side) (visit : Visit) (p b : ℕ)
-    (action : Action)
-    (result : Option (Reply L)) where
+module _ {L A : Type 0} (J : Jobs L) (told_by : A → Option (List (List ℕ))) (faults : A → ℕ) (old : TwinSpools A) (new : Spool A) (side : Side)
+    (visit : Visit) (p b : ℕ) (action : Action) (result : Option (Reply L)) where
   abbrev Visits : Spool A → Type 0
   Visits before = TwinVisited J (SpoolStands told_by) before new side visit p action result
 

@@ -60,7 +60,8 @@ module _ {L : Type 0} (J : Jobs L) where
   silent action None is = record { allowed = λ devices. refl; none_read = refl; none_drawn = λ cards. refl }
   silent action (Some r) is = record { allowed = λ devices. refl; none_read = refl; none_drawn = λ cards. refl }
 
-  module _ {X S K F A : Type 0} (tells : TwinTells L S K F A) (counts : TwinCounts S K F A) (old : TwinShared X S K F A) (p : ℕ) (action : Action) (result : Option (Reply L)) where
+  module _ {X S K F A : Type 0} (tells : TwinTells L S K F A) (counts : TwinCounts S K F A) (old : TwinShared X S K F A) (p : ℕ) (action : Action)
+      (result : Option (Reply L)) where
     deck-stays : (s : TwinState L) → IsSilent action result → s.devices.deck ≡ cards_ahead tells old.deck
         → (given s.devices (entry_for action result) []).deck ≡ cards_ahead tells old.deck
     deck-stays s quiet e = ap (λ items. option_map (drop (length items)) s.devices.deck) quiet.none_read ∙ same-deck s.devices.deck ∙ e
@@ -127,7 +128,8 @@ module _ {L : Type 0} (J : Jobs L) where
     no-read quiet e = subst NoDevice e quiet
 
     pub at-spools : (new : TwinSpools A) (b : ℕ) (side : Side) (visit : Visit) → NoDevice action → call p action ≡ At b side visit
-        → SpoolVisited J tells.pages counts.page_faults old.spools new side visit p b action result → DoneSo J tells counts old (record old { spools = new }) p action result
+        → SpoolVisited J tells.pages counts.page_faults old.spools new side visit p b action result
+        → DoneSo J tells counts old (record old { spools = new }) p action result
     at-spools new b side visit quiet e v =
         let low = v.number.0 in
         let high = v.number.1 in
@@ -357,7 +359,8 @@ module _ {L : Type 0} (J : Jobs L) where
     }
 
     -- ---- at none of them
-    pub at-none : (action : Action) → NoDevice action → NeverFails action → ReplySuits J action (Some reply.Done) → call p action ≡ Rattle.network_law.specs.Acts.Alone
+    pub at-none : (action : Action) → NoDevice action → NeverFails action → ReplySuits J action (Some reply.Done)
+        → call p action ≡ Rattle.network_law.specs.Acts.Alone
         → went {L = L} (entry_for action (Some reply.Done)) ≡ Done → DoneSo J tells counts old old p action (Some reply.Done)
     at-none action quiet never suits e done = record {
       suits = suits;
@@ -383,7 +386,7 @@ module _ {L : Type 0} (J : Jobs L) where
     }
 
   -- ---- by what the action is
-  pub at-action : {X S K F A : Type 0} (tells : TwinTells L S K F A) (counts : TwinCounts S K F A) (old new : TwinShared X S K F A) (p : ℕ) (a b : TwinAction) (result : Option (Reply L))
-      → a ≡ b
+  pub at-action : {X S K F A : Type 0} (tells : TwinTells L S K F A) (counts : TwinCounts S K F A) (old new : TwinShared X S K F A) (p : ℕ)
+      (a b : TwinAction) (result : Option (Reply L)) → a ≡ b
       → DoneSo J tells counts old new p (meant b) result → DoneSo J tells counts old new p (meant a) result
   at-action tells counts old new p a b result e is = subst (λ a. DoneSo J tells counts old new p (meant a) result) (sym e) is

@@ -130,8 +130,8 @@ module _ {L : Type 0} (J : Jobs L) where
   job-finds (TakesItems s) page last c e = damaged-by (page_taken s page last) c e
   job-finds at page last c e = absurd cc
 
-  output-finds : (at : OutputPlace) (page : Page) (last : Bool) (c : Cause) → fault_in ((output {L = L}).finds at (reply.Page page last)) ≡ Some (outcome.Fault c)
-      → IsDamaged c
+  output-finds : (at : OutputPlace) (page : Page) (last : Bool) (c : Cause)
+      → fault_in ((output {L = L}).finds at (reply.Page page last)) ≡ Some (outcome.Fault c) → IsDamaged c
   output-finds (TakesLines t) page last c e = damaged-by (page_due t page last) c e
   output-finds at page last c e = absurd cc
 

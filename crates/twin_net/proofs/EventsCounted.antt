@@ -49,9 +49,6 @@ raised-none a b on = omega (arith, on)
 met-more : (before m n k old new : ℕ) → raised before m ≤ old → n ≤ m + k → raised old k ≤ new → raised before n ≤ new
 met-more before m n k old new had few rose = omega (arith, had, few, rose)
 
-plus-none : (n : ℕ) → n ≤ n + 0
-plus-none n = omega arith
-
 in-first : (k a b c d : ℕ) → k + b + c + d ≤ (a + b + c + d) + k
 in-first k a b c d = omega arith
 

@@ -45,7 +45,7 @@ use Rattle.twin_net.specs.declared.shared.TwinShared.{TwinShared}
 use Rattle.twin_net.specs.TwinStands.{TwinStands, shared_units}
 use Rattle.twin_net.specs.Net.{card_at, printer_at, TwinNetStands, TwinStandsWithin}
 use Rattle.twin_net.specs.Counted.{TwinFaultsAreCounted, outcomes_now, CountedSoFar}
-use Rattle.twin_net.specs.Ended.{TwinHaveEnded, twin_outcome_at, twin_all_done, six_sides, TwinEndsSo, TwinStoppedSo, TwinFaultsAre}
+use Rattle.twin_net.specs.Ended.{TwinHaveEnded, twin_outcome_at, twin_all_done, six_sides, TwinEndsSo, TwinStoppedSo, TwinTogether, TwinNoneDamaged, TwinFaultsAre}
 use Rattle.twin_net.proofs.DamageTold.{tells-where}
 use Rattle.twin_net.proofs.ToldStops.{stopped-beside}
 
@@ -83,8 +83,9 @@ fault-caused : (old : Option Outcome) (c : Cause) → outcome_by old ≡ outcome
 fault-caused None c e = absurd cc
 fault-caused (Some how) c e = ap Some e
 
-some-back : (a b : Outcome) → Some a ≡ Some b → a ≡ b
-some-back a b e = cc
+stopped-caused : (old : Option Outcome) → outcome_by old ≡ outcome.Stopped → old ≡ Some outcome.Stopped
+stopped-caused None e = absurd cc
+stopped-caused (Some how) e = ap Some e
 
 gains-by : (before now after : Option (List ℕ)) (whole : List ℕ) (All Done : Type 0) → now ≡ after → (Done → All) → Gains before now whole All
     → Gains before after whole Done
@@ -205,6 +206,16 @@ module _ {L X S K F P : Type 0} {J : Jobs L} (jobs : AreJobs J) (keeps : X → J
         let read = held.reads items deck in
         ap (λ (u : TwinUnits S K F P). cards_ahead tells u.deck) units_are ∙ sym stands.shared.deck ∙ read.left_is ∙ ap Some (read.all (all-done done))
 
+    -- where one was stopped the law names a process with a fault, which ended with it
+    pub together : AreByUnits J → AreTold at.opening.spools → (items : List Item) (found : FilesAs L) → at.opening.deck ≡ Some items
+        → at.opening.files ≡ Some found → TwinTogether outcomes
+    together by told items found deck files p is e =
+        let (q, c, one, fault) = held.stopped by told items found deck files p is (stopped-caused _ (sym (outcome-at p is) ∙ e)) in
+        record { process = q; cause = c; one = one; is = (ends.given q (outcome.Fault c) one fault).0 }
+
+    pub undamaged : AreTold at.opening.spools → TwinNoneDamaged outcomes
+    undamaged told p c is e = held.undamaged told p c is (ended-so p is ∙ ap Some e)
+
   pub faults : TwinFaultsAre outcomes
   faults =
       let at = ended.at in
@@ -220,14 +231,11 @@ module _ {L X S K F P : Type 0} {J : Jobs L} (jobs : AreJobs J) (keeps : X → J
         numbers = λ p c is e. tells-where J p is c (at.state.histories p) (fault-caused _ c (sym (outcome-at at p is) ∙ e));
       }
 
-  stopped-caused : (old : Option Outcome) → outcome_by old ≡ outcome.Stopped → old ≡ Some outcome.Stopped
-  stopped-caused None e = absurd cc
-  stopped-caused (Some how) e = ap Some e
-
   pub stopped : TwinStoppedSo outcomes stops
   stopped p is e =
       let at = ended.at in
-      stopped-beside J (first_state at.opening) at.state (reached-centre J at.opening at.state at.reached).stands stops (first at.state at.stands.is.shared) p is
+      stopped-beside J (first_state at.opening) at.state (reached-centre J at.opening at.state at.reached).stands stops
+      (first at.state at.stands.is.shared) p is
       (stopped-caused (caused (process J p) (at.state.histories p)) (sym (outcome-at at p is) ∙ e))
 
   -- what was counted until all ended is what the run tells

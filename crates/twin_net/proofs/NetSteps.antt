@@ -304,7 +304,8 @@ module _ {L X S K F P : Type 0} {J : Jobs L} (jobs : AreJobs J) (keeps : X → J
       → (TwinMayGo J s q action → TwinSteps J work Stands tells counts old.shared new.shared q action h result → GoesOn old new s q result)
       → TwinMayGo J s p action → TwinSteps J work Stands tells counts old.shared new.shared p action h result → GoesOn old new s p result
   steps-at old new s work Stands p q action result h e each =
-      subst (λ p. TwinMayGo J s p action → TwinSteps J work Stands tells counts old.shared new.shared p action h result → GoesOn old new s p result) (sym e) each
+      subst (λ p. TwinMayGo J s p action → TwinSteps J work Stands tells counts old.shared new.shared p action h result → GoesOn old new s p result)
+      (sym e) each
 
 module _ {L X S K F P : Type 0} {J : Jobs L} (jobs : AreJobs J) (keeps : X → JobTold L → Type 0) (tells : TwinTells L S K F P) where
   -- that a machine may step

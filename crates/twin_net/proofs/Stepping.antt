@@ -152,8 +152,8 @@ module _ {L : Type 0} (J : Jobs L) where
     }
     enters-lacking a r may is = absurd may
 
-  module _ {X S K F A : Type 0} (process : Process L) (Stands : List (Entry L) → Type 0) (tells : TwinTells L S K F A) (counts : TwinCounts S K F A) (old new : TwinShared X S K F A) (p : ℕ)
-      (a : Action) (s : TwinAction) (h : List (Entry L)) (same : said a ≡ s) where
+  module _ {X S K F A : Type 0} (process : Process L) (Stands : List (Entry L) → Type 0) (tells : TwinTells L S K F A) (counts : TwinCounts S K F A)
+      (old new : TwinShared X S K F A) (p : ℕ) (a : Action) (s : TwinAction) (h : List (Entry L)) (same : said a ≡ s) where
     means : meant s ≡ a
     means = ap meant (sym same) ∙ meant-said a
 

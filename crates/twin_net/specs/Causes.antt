@@ -25,8 +25,10 @@ shared_faults counts shared b = spool_faults counts (shared_units shared) b
 -- other fails too, and the files aren't asked.
 abbrev pub FailureCounted : {X S K F A : Type 0} → TwinCounts S K F A → TwinShared X S K F A
     → TwinShared X S K F A → Action → Type 0
-FailureCounted counts old new (PutPage b page) = Rose (shared_faults counts old b) (shared_faults counts new b)
-FailureCounted counts old new (TakePage b) = Rose (shared_faults counts old b) (shared_faults counts new b)
+FailureCounted counts old new (PutPage b page) =
+    Rose (shared_faults counts old b) (shared_faults counts new b)
+FailureCounted counts old new (TakePage b) =
+    Rose (shared_faults counts old b) (shared_faults counts new b)
 FailureCounted counts old new (Load file) =
     (old.sound ≡ false) ⊎ Rose (counts.file_faults old.files) (counts.file_faults new.files)
 FailureCounted counts old new (Print line) =

@@ -67,6 +67,23 @@ abbrev pub TwinStoppedSo : TwinOutcomes → List (Option Side) → Type 0
 TwinStoppedSo outcomes stops =
     (p : ℕ) → IsProcess p → twin_outcome_at outcomes p ≡ outcome.Stopped → TwinStoppedBeside stops p
 
+-- Some process ended with a fault.
+pub record TwinSomeFault (outcomes : TwinOutcomes) : Type 0 where
+  pub process : ℕ
+  pub cause : Cause
+  pub one : IsProcess process
+  pub is : twin_outcome_at outcomes process ≡ outcome.Fault cause
+
+-- Where any ended Stopped, some process ended with a fault.
+abbrev pub TwinTogether : TwinOutcomes → Type 0
+TwinTogether outcomes =
+    (p : ℕ) → IsProcess p → twin_outcome_at outcomes p ≡ outcome.Stopped → TwinSomeFault outcomes
+
+-- None ended with a page that was damaged.
+abbrev pub TwinNoneDamaged : TwinOutcomes → Type 0
+TwinNoneDamaged outcomes =
+    (p : ℕ) (c : Cause) → IsProcess p → twin_outcome_at outcomes p ≡ outcome.Fault c → IsDamaged c → ⊥
+
 -- Each process has only faults of its own, and the numbers of a damaged page agree.
 pub record TwinFaultsAre (outcomes : TwinOutcomes) : Type 0 where
   pub card : (c : Cause) → outcomes.card ≡ outcome.Fault c → (c ≡ cause.ReadFault) ⊎ (c ≡ cause.DeckLimit)

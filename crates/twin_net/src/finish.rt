@@ -16,6 +16,8 @@ ghost use Rattle.twin_net.specs.Ended.{
   TwinEndsSo,
   TwinFaultsAre,
   TwinStoppedSo,
+  TwinTogether,
+  TwinNoneDamaged,
   twin_all_done,
   six_sides,
 };
@@ -55,6 +57,16 @@ impl<J: JobWork, S: Source, K: Sink, F: Loader<J>, A: Area> TwinNet<J, S, K, F, 
         ensures reads { (at : Placed (the_law J.jobs) (⟦<TwinNet<J, S, K, F, A> as Network>⟧.Stands self)) →
             (items : List Item) → at.opening.deck ≡ Some items → result.outcomes ≡ twin_all_done →
             cards_ahead ⟦<TwinUnits<S, K, F, A> as TwinPeripherals<J>>⟧.tells result.units.deck ≡ Some [] }
+
+        // Over told devices none was stopped where no process has a fault, and over told spools no page was
+        // damaged.
+        ensures together { (at : Placed (the_law J.jobs)
+            (⟦<TwinNet<J, S, K, F, A> as Network>⟧.Stands self)) →
+            AreByUnits J.jobs → AreTold at.opening.spools → (items : List Item) (found : FilesAs J.Load) →
+            at.opening.deck ≡ Some items → at.opening.files ≡ Some found → TwinTogether result.outcomes }
+        ensures undamaged { (at : Placed (the_law J.jobs)
+            (⟦<TwinNet<J, S, K, F, A> as Network>⟧.Stands self)) →
+            AreTold at.opening.spools → TwinNoneDamaged result.outcomes }
         ensures units { result.units ≡ shared_units self.shared }
     {
         let outcomes = self.ended_as();
@@ -93,7 +105,8 @@ impl<J: JobWork, S: Source, K: Sink, F: Loader<J>, A: Area> TwinShared<J, S, K, 
     /// The sides that stopped the six buffers first.
     fn stopped_by(&self) -> [Option<Side>; 6]
         ensures { (s : TwinState J.Load) →
-            TwinStands ⟦<TwinUnits<S, K, F, A> as TwinPeripherals<J>>⟧.tells self.now s → result ≡ six_sides s }
+            TwinStands ⟦<TwinUnits<S, K, F, A> as TwinPeripherals<J>>⟧.tells self.now s →
+            result ≡ six_sides s }
     {
         [
             self.cards.stopped_by(),

@@ -107,7 +107,8 @@ impl<J: JobWork, S: Source, K: Sink, F: Loader<J>, A: Area> TwinShared<J, S, K, 
     fn put_feed(&mut self, p: ProcNo, b: BufferNo, feed: Feed) -> Option<Reply<J::Load>>
         requires { MayPutFeed self.old p b }
         ensures { DoneSo J.jobs ⟦<TwinUnits<S, K, F, A> as TwinPeripherals<J>>⟧.tells
-            ⟦<TwinUnits<S, K, F, A> as TwinPeripherals<J>>⟧.counts self.old self.new p (PutFeed b feed) result }
+            ⟦<TwinUnits<S, K, F, A> as TwinPeripherals<J>>⟧.counts self.old self.new p
+            (PutFeed b feed) result }
     {
         if b == 1 {
             put_feed::<J>(&mut self.cards, p, feed)
@@ -132,7 +133,8 @@ impl<J: JobWork, S: Source, K: Sink, F: Loader<J>, A: Area> TwinShared<J, S, K, 
     fn load(&mut self, p: ProcNo, file: &Ident) -> Reply<J::Load>
         requires { MayLoad ⟦<TwinUnits<S, K, F, A> as TwinPeripherals<J>>⟧.tells self.old }
         ensures { DoneSo J.jobs ⟦<TwinUnits<S, K, F, A> as TwinPeripherals<J>>⟧.tells
-            ⟦<TwinUnits<S, K, F, A> as TwinPeripherals<J>>⟧.counts self.old self.new p (Load file.now) (Some result) }
+            ⟦<TwinUnits<S, K, F, A> as TwinPeripherals<J>>⟧.counts self.old self.new p
+            (Load file.now) (Some result) }
     {
         let _ = p;
         if !self.sound {
@@ -146,7 +148,8 @@ impl<J: JobWork, S: Source, K: Sink, F: Loader<J>, A: Area> TwinShared<J, S, K, 
     fn stop(&mut self, p: ProcNo, b: BufferNo) -> Reply<J::Load>
         requires { MayStopAt self.old p b }
         ensures { DoneSo J.jobs ⟦<TwinUnits<S, K, F, A> as TwinPeripherals<J>>⟧.tells
-            ⟦<TwinUnits<S, K, F, A> as TwinPeripherals<J>>⟧.counts self.old self.new p (Stop b) (Some result) }
+            ⟦<TwinUnits<S, K, F, A> as TwinPeripherals<J>>⟧.counts self.old self.new p
+            (Stop b) (Some result) }
     {
         let side = side_at(p, b);
         if b == 1 {

@@ -25,7 +25,8 @@ impl<A: Area> TwinSpools<A> {
     /// Waits until a spool has room for a page. No reply: the process waits.
     pub fn await_room<J: JobWork>(&mut self, p: ProcNo, b: BufferNo) -> Option<Reply<J::Load>>
         requires { AtSpool self.old b (λ spool. WaitsAt spool.sides Sender p) }
-        ensures { SpoolVisited J.jobs A.pages A.faults self.old self.new Sender Awaits p b (AwaitRoom b) result }
+        ensures { SpoolVisited J.jobs A.pages A.faults self.old self.new Sender Awaits p b
+            (AwaitRoom b) result }
     {
         if b == 2 {
             await_room::<J, A>(&mut self.to_a, p)
@@ -41,7 +42,8 @@ impl<A: Area> TwinSpools<A> {
     /// Waits until a spool has a page. No reply: the process waits.
     pub fn await_item<J: JobWork>(&mut self, p: ProcNo, b: BufferNo) -> Option<Reply<J::Load>>
         requires { AtSpool self.old b (λ spool. WaitsAt spool.sides Receiver p) }
-        ensures { SpoolVisited J.jobs A.pages A.faults self.old self.new Receiver Awaits p b (AwaitItem b) result }
+        ensures { SpoolVisited J.jobs A.pages A.faults self.old self.new Receiver Awaits p b
+            (AwaitItem b) result }
     {
         if b == 2 {
             await_item::<J, A>(&mut self.to_a, p)
@@ -57,8 +59,8 @@ impl<A: Area> TwinSpools<A> {
     /// Puts a page into a spool that has room.
     pub fn put_page<J: JobWork>(&mut self, b: BufferNo, page: Page) -> Reply<J::Load>
         requires { AtSpool self.old b PutsAt }
-        ensures { (p : ℕ) → SpoolVisited J.jobs A.pages A.faults self.old self.new Sender Moves p b (PutPage b page)
-            (Some result) }
+        ensures { (p : ℕ) → SpoolVisited J.jobs A.pages A.faults self.old self.new Sender Moves p b
+            (PutPage b page) (Some result) }
     {
         if b == 2 {
             put_page::<J, A>(&mut self.to_a, page)
@@ -74,8 +76,8 @@ impl<A: Area> TwinSpools<A> {
     /// Takes a page from a spool that has one.
     pub fn take_page<J: JobWork>(&mut self, b: BufferNo) -> Reply<J::Load>
         requires { AtSpool self.old b TakesAt }
-        ensures { (p : ℕ) → SpoolVisited J.jobs A.pages A.faults self.old self.new Receiver Moves p b (TakePage b)
-            (Some result) }
+        ensures { (p : ℕ) → SpoolVisited J.jobs A.pages A.faults self.old self.new Receiver Moves p b
+            (TakePage b) (Some result) }
     {
         if b == 2 {
             take_page::<J, A>(&mut self.to_a)

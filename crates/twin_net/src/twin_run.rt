@@ -10,7 +10,7 @@ ghost use Rattle.twin_law.specs.Opening.{AreTold};
 ghost use Rattle.twin_law.specs.UnitWork.{AreByUnits};
 ghost use Rattle.twin_ends.specs.TwinTells.{cards_ahead, twin_devices, twin_spools, twin_opened};
 ghost use Rattle.twin_net.specs.Counted.{TwinFaultsAreCounted};
-ghost use Rattle.twin_net.specs.Ended.{TwinFaultsAre, TwinStoppedSo, twin_all_done};
+ghost use Rattle.twin_net.specs.Ended.{TwinFaultsAre, TwinStoppedSo, TwinTogether, TwinNoneDamaged, twin_all_done};
 ghost use Rattle.twin_net.specs.TwinRuns.{TwinRunsToEnd};
 
 use crate::TwinNet;
@@ -64,6 +64,16 @@ pub fn run_twin<J: JobWork, S: Source, K: Sink, F: Loader<J>, A: Area>(
         cards_ahead ⟦<TwinUnits<S, K, F, A> as TwinPeripherals<J>>⟧.tells result.0.units.deck ≡ Some [] }
     ensures total { bytes_total (S.taken result.0.units.deck.source) (S.left result.0.units.deck.source)
         ≡ bytes_total (S.taken units.deck.source) (S.left units.deck.source) }
+
+    // Over told devices none was stopped where no process has a fault, and over told spools no page was
+    // damaged.
+    ensures together { AreByUnits J.jobs →
+        AreTold (twin_spools ⟦<TwinUnits<S, K, F, A> as TwinPeripherals<J>>⟧.tells units) →
+        (items : List Item) (found : FilesAs J.Load) →
+        cards_ahead ⟦<TwinUnits<S, K, F, A> as TwinPeripherals<J>>⟧.tells units.deck ≡ Some items →
+        F.found units.files ≡ Some found → TwinTogether result.0.outcomes }
+    ensures undamaged { AreTold (twin_spools ⟦<TwinUnits<S, K, F, A> as TwinPeripherals<J>>⟧.tells units) →
+        TwinNoneDamaged result.0.outcomes }
 
     // No file is changed.
     ensures files { F.pages result.0.units.files ≡ F.pages units.files }

@@ -34,6 +34,18 @@ returns-clause-reads g c = λ items is done.
     let ran = c.run_by-counts.ensures.runs at in
     c.finish.ensures.reads (place-behind (the_law g.J.JobWork.jobs) _ _ at ran.events ran.enabled ran.stands) items is done
 
+pub returns-clause-together : goal.returns-clause-together
+returns-clause-together g c = λ by told items found deck files.
+    let at = twin_first_place c.make-net.ensures.opens in
+    let ran = c.run_by-counts.ensures.runs at in
+    c.finish.ensures.together (place-behind (the_law g.J.JobWork.jobs) _ _ at ran.events ran.enabled ran.stands) by told items found deck files
+
+pub returns-clause-undamaged : goal.returns-clause-undamaged
+returns-clause-undamaged g c = λ told.
+    let at = twin_first_place c.make-net.ensures.opens in
+    let ran = c.run_by-counts.ensures.runs at in
+    c.finish.ensures.undamaged (place-behind (the_law g.J.JobWork.jobs) _ _ at ran.events ran.enabled ran.stands) told
+
 pub returns-clause-bound : goal.returns-clause-bound
 returns-clause-bound g c = λ by told items found deck files.
     run-bounded g.met.J.JobWork.are_jobs _ _ c.args.rule c.run_by-counts.new.self _ c.args.units c.make-net.ensures.opens c.run_by-counts.result items found by

@@ -1,4 +1,4 @@
-use Rattle.twin_net.proofs.Finishing.{ends, faults, stopped, counted, prints, reads}
+use Rattle.twin_net.proofs.Finishing.{ends, faults, stopped, counted, prints, reads, together, undamaged}
 use Rattle.twin_net.proofs.net.TwinNet.finish.Goals as goal
 
 pub returns : goal.returns
@@ -14,6 +14,10 @@ returns g c = record {
   prints = prints g.met.J.JobWork.are_jobs g.J.JobWork.keeps _ c.args.self c.ended_as-outcomes.result c.stopped_by.result c.into_units.result
       c.requires.ended c.ended_as-outcomes.ensures c.stopped_by.ensures c.into_units.ensures;
   reads = reads g.met.J.JobWork.are_jobs g.J.JobWork.keeps _ c.args.self c.ended_as-outcomes.result c.stopped_by.result c.into_units.result
+      c.requires.ended c.ended_as-outcomes.ensures c.stopped_by.ensures c.into_units.ensures;
+  together = together g.met.J.JobWork.are_jobs g.J.JobWork.keeps _ c.args.self c.ended_as-outcomes.result c.stopped_by.result c.into_units.result
+      c.requires.ended c.ended_as-outcomes.ensures c.stopped_by.ensures c.into_units.ensures;
+  undamaged = undamaged g.met.J.JobWork.are_jobs g.J.JobWork.keeps _ c.args.self c.ended_as-outcomes.result c.stopped_by.result c.into_units.result
       c.requires.ended c.ended_as-outcomes.ensures c.stopped_by.ensures c.into_units.ensures;
   units = c.into_units.ensures;
 }

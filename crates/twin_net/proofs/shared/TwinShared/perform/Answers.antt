@@ -48,7 +48,8 @@ returns-in-TakePage g c =
 pub returns-in-Release : goal.returns-in-Release
 returns-in-Release g c =
     at-action g.J.JobWork.jobs _ _ c.args.self.now _ c.args.p c.args.action say.Release (Some c.release.result) c.in-Release.is
-    (at-release g.J.JobWork.jobs _ _ c.args.self.now c.args.p c.release.new.desk c.release.result (gives g.J.JobWork.jobs _ _ c.release.result c.release.ensures))
+    (at-release g.J.JobWork.jobs _ _ c.args.self.now c.args.p c.release.new.desk c.release.result
+    (gives g.J.JobWork.jobs _ _ c.release.result c.release.ensures))
 
 pub returns-in-Local : goal.returns-in-Local
 returns-in-Local g c =
