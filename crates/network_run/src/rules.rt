@@ -92,9 +92,23 @@ fn count(number: ProcNo, going: &[bool]) -> u64
     ensures counted { result ≡ length (numbers_from number going.now) }
     ensures most { result ≤ length going.now }
 {
-    match going {
-        [] => 0,
-        [may, later @ ..] => count(number + 1, later) + u64::from(*may),
+    let mut found = 0;
+    // Only the proof reads it: the invariant names by it what is still to be counted.
+    let mut next = number;
+    let mut rest = going;
+    loop {
+        match rest {
+            [] => return found,
+            [false, later @ ..] => {
+                next += 1;
+                rest = later;
+            }
+            [true, later @ ..] => {
+                found += 1;
+                next += 1;
+                rest = later;
+            }
+        }
     }
 }
 
@@ -103,14 +117,23 @@ fn nth(place: u64, number: ProcNo, going: &[bool]) -> Option<ProcNo>
     requires few { number + length going.now < 256 }
     ensures { result ≡ slice_get (numbers_from number going.now) place }
 {
-    match going {
-        [] => None,
-        [false, later @ ..] => nth(place, number + 1, later),
-        [true, later @ ..] => {
-            if place == 0 {
-                Some(number)
-            } else {
-                nth(place - 1, number + 1, later)
+    let mut before = place;
+    let mut next = number;
+    let mut rest = going;
+    loop {
+        match rest {
+            [] => return None,
+            [false, later @ ..] => {
+                next += 1;
+                rest = later;
+            }
+            [true, later @ ..] => {
+                if before == 0 {
+                    return Some(next);
+                }
+                before -= 1;
+                next += 1;
+                rest = later;
             }
         }
     }
