@@ -3,6 +3,7 @@ ghost use Rattle.std.specs.Prelude.{◌≡◌, true, false, [], Some, None};
 ghost use Rattle.std.specs.Borrow.{sem, follows};
 ghost use mir.Syntax.{named};
 ghost use Rattle.monitor_gate.specs.contracts.inside.Inside.{the_row};
+ghost use Rattle.monitor_gate.specs.contracts.kept.Kept.{the_row as kept_row};
 ghost use Rattle.monitor_gate.specs.Steps.{Found};
 ghost use Rattle.monitor_gate.specs.Ends.{IsPassOf, IsOutside, entered, left};
 ghost use Rattle.monitor_gate.specs.Inside.{state_of, gate_of, pass_of, number_of, lender_of, HasTaken, IsEntered, with_state};
@@ -48,10 +49,10 @@ impl<M: MonitorKind> Gate<M> {
 impl<'a, M: MonitorKind> Inside<'a, M> {
     /// The state. When the borrow ends, the process has what was written through it.
     pub fn state(&mut self) -> &mut M::State
-        ensures* writes_back { sem 𝓛 (follows (the_row (record { mir = named 1; lft = [] }) M.row M.State.row M.Entry.row M.MonitorKind) M.State.row self.entry.ghost_name result.ghost_name (with_state self.old)) }
+        ensures* writes_back { sem 𝓛 (follows (the_row (record { mir = named 1; lft = [] }) M.row (kept_row M.State.row) M.State.row M.Entry.row M.MonitorKind) M.State.row self.entry.ghost_name result.ghost_name (with_state self.old)) }
         ensures value { result.now ≡ state_of self.old }
     {
-        &mut self.state
+        self.state.get_mut()
     }
 
     /// Leaves, with this entry completed. The gate goes to the process to which the state hands its turn, and is free where there is none.

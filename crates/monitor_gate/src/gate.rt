@@ -4,6 +4,7 @@ ghost use Rattle.monitor_gate.specs.Views.{entries_of, maker};
 ghost use Rattle.monitor_gate.specs.Ends.{IsPassOf, IsOutside, HasJoinedAll, joined, new_passes, lists_of};
 
 use crate::deal::deal;
+use crate::kept::Kept;
 use crate::kind::MonitorKind;
 use crate::pass::Pass;
 use crate::rule::{GateRule, Merge};
@@ -16,7 +17,7 @@ use std::marker::Model;
 use std::snapshot::Snapshot;
 
 pub(crate) type GateTable<M> = Table<
-    Option<<M as MonitorKind>::State>,
+    Option<Kept<<M as MonitorKind>::State>>,
     View<<M as MonitorKind>::State, <M as MonitorKind>::Entry>,
     Opening<<M as MonitorKind>::State>,
     GateRule<M>,
@@ -81,24 +82,25 @@ fn lay<M: MonitorKind>(
         state: Snapshot::of(&state),
         passes,
     };
+    let kept = Kept::boxed(alloc, state)?;
     let Ok(mut slots) = Vec::with_capacity(alloc, 1) else {
-        return Err(state);
+        return Err(kept.into_inner());
     };
-    slots.push_reserved(Some(state));
+    slots.push_reserved(Some(kept));
     match Table::new(alloc, &[FREE], slots, &about) {
         Ok(laid) => Ok(laid),
         Err(refused) => Err(state_of(refused)),
     }
 }
 
-fn state_of<S>(refused: Refused<Option<S>, Global>) -> S
+fn state_of<S>(refused: Refused<Option<Kept<S>>, Global>) -> S
     requires { (s : S) × (refused.slots.items ≡ Some s ∷ []) }
     ensures { refused.slots.items ≡ Some result ∷ [] }
 {
     let Refused { mut slots } = refused;
     let state = slots.pop().unwrap().unwrap();
     slots.destroy_empty();
-    state
+    state.into_inner()
 }
 
 impl<M: MonitorKind> Gate<M> {
@@ -126,6 +128,6 @@ impl<M: MonitorKind> Gate<M> {
         let mut closed = table.close_with(pass.into_seat());
         let state = closed.take(0).unwrap();
         closed.free();
-        state
+        state.into_inner()
     }
 }

@@ -5,6 +5,7 @@ mod deal;
 mod entry;
 mod gate;
 mod inside;
+mod kept;
 mod kind;
 mod pass;
 mod patience;

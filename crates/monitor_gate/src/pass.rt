@@ -2,6 +2,7 @@
 ghost use Rattle.std.specs.Prelude.{◌≡◌};
 ghost use Rattle.monitor_gate.specs.Views.{in_hand};
 
+use crate::kept::Kept;
 use crate::kind::MonitorKind;
 use crate::patience::Patience;
 use crate::view::View;
@@ -12,7 +13,7 @@ use std::marker::Model;
 /// A pass, by the types of its state and its entries. Contracts see its gate and what it knows of it, the list of its completed entries above all.
 pub struct GatePass<S, E> {
     pub(crate) number: ProcNo,
-    pub(crate) seat: Seat<Option<S>, View<S, E>>,
+    pub(crate) seat: Seat<Option<Kept<S>>, View<S, E>>,
     pub(crate) patience: Patience,
 }
 
@@ -39,7 +40,7 @@ impl<S, E> GatePass<S, E> {
         self.number
     }
 
-    pub(crate) fn into_seat(self) -> Seat<Option<S>, View<S, E>>
+    pub(crate) fn into_seat(self) -> Seat<Option<Kept<S>>, View<S, E>>
         ensures { (result.table_id ≡ self.gate) × (result.me ≡ (self.view, in_hand self.view.stage)) }
     {
         let GatePass {

@@ -1,5 +1,6 @@
 //! The rule that a gate's table keeps, and what each step on its word tells.
 
+use crate::kept::Kept;
 use crate::kind::MonitorKind;
 use crate::view::{Opening, View};
 use atomic_table::{Join, Play, Split, TableRule};
@@ -10,7 +11,7 @@ pub(crate) struct GateRule<M> {
     kind: PhantomData<M>,
 }
 
-impl<M: MonitorKind> TableRule<Option<M::State>, View<M::State, M::Entry>, Opening<M::State>>
+impl<M: MonitorKind> TableRule<Option<Kept<M::State>>, View<M::State, M::Entry>, Opening<M::State>>
     for GateRule<M> {
     ghost use Rattle.monitor_gate.specs.Rule.{IsKept};
     ghost use Rattle.monitor_gate.specs.Views.{maker};
@@ -24,7 +25,7 @@ pub(crate) struct Enter<M> {
     kind: PhantomData<M>,
 }
 
-impl<M: MonitorKind> Play<Option<M::State>, View<M::State, M::Entry>> for Enter<M> {
+impl<M: MonitorKind> Play<Option<Kept<M::State>>, View<M::State, M::Entry>> for Enter<M> {
     ghost use Rattle.monitor_gate.specs.Steps.{entered};
 
     ghost then = { entered M.handed_to M.ties M.waits };
@@ -47,7 +48,7 @@ pub(crate) struct Leave<G> {
     gains: PhantomData<G>,
 }
 
-impl<S, E, G: Gains<E>> Play<Option<S>, View<S, E>> for Leave<G> {
+impl<S, E, G: Gains<E>> Play<Option<Kept<S>>, View<S, E>> for Leave<G> {
     ghost use Rattle.monitor_gate.specs.Steps.{left};
 
     ghost then = { left G.gained };
@@ -56,7 +57,7 @@ impl<S, E, G: Gains<E>> Play<Option<S>, View<S, E>> for Leave<G> {
 // A process that is about to sleep says so in the word.
 pub(crate) struct Tell;
 
-impl<S, E> Play<Option<S>, View<S, E>> for Tell {
+impl<S, E> Play<Option<Kept<S>>, View<S, E>> for Tell {
     ghost use Rattle.monitor_gate.specs.Steps.{unchanged};
 
     ghost then = { unchanged };
@@ -64,7 +65,7 @@ impl<S, E> Play<Option<S>, View<S, E>> for Tell {
 
 pub(crate) struct Delay;
 
-impl<S, E> Play<Option<S>, View<S, E>> for Delay {
+impl<S, E> Play<Option<Kept<S>>, View<S, E>> for Delay {
     ghost use Rattle.monitor_gate.specs.Steps.{delayed};
 
     ghost then = { delayed };
@@ -74,7 +75,7 @@ pub(crate) struct Resume<M> {
     kind: PhantomData<M>,
 }
 
-impl<M: MonitorKind> Play<Option<M::State>, View<M::State, M::Entry>> for Resume<M> {
+impl<M: MonitorKind> Play<Option<Kept<M::State>>, View<M::State, M::Entry>> for Resume<M> {
     ghost use Rattle.monitor_gate.specs.Steps.{resumed};
 
     ghost then = { resumed M.handed_to M.ties M.waits M.wakes };

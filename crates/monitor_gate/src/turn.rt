@@ -4,6 +4,7 @@ ghost use Rattle.monitor_gate.specs.declared.view.Stage.TheVariants.{Outside, In
 ghost use Rattle.monitor_gate.specs.Views.{at_stage, completed};
 ghost use Rattle.monitor_gate.specs.Steps.{Found};
 
+use crate::kept::Kept;
 use crate::kind::MonitorKind;
 use crate::patience::Patience;
 use crate::rule::{Delay, Enter, Gains, GateRule, Leave, Resume, Tell};
@@ -24,12 +25,12 @@ const HANDED: u64 = 2;
 const ASLEEP: u64 = 65536;
 
 pub(crate) type Place<M> = Seat<
-    Option<<M as MonitorKind>::State>,
+    Option<Kept<<M as MonitorKind>::State>>,
     View<<M as MonitorKind>::State, <M as MonitorKind>::Entry>,
 >;
 
 pub(crate) type Word<M> = Shared<
-    Option<<M as MonitorKind>::State>,
+    Option<Kept<<M as MonitorKind>::State>>,
     View<<M as MonitorKind>::State, <M as MonitorKind>::Entry>,
     Opening<<M as MonitorKind>::State>,
     GateRule<M>,
@@ -73,7 +74,7 @@ pub(crate) fn take_free<M: MonitorKind, R: Wait>(
     word: &Word<M>,
     seat: &mut Place<M>,
     patience: &mut Patience,
-) -> M::State
+) -> Kept<M::State>
     requires gate { (seat.old.table_id ≡ word.now.table_id) × (word.now.table_id.words ≡ 1) }
     requires outside { (seat.old.me.0.stage ≡ Outside) × (seat.old.me.1 ≡ []) }
     ensures inside { (seat.new.table_id ≡ seat.old.table_id) × (seat.new.me ≡ (at_stage (Inside result) seat.old.me.0, (0, None) ∷ [])) }
@@ -92,7 +93,7 @@ pub(crate) fn take_free<M: MonitorKind, R: Wait>(
 }
 
 // Puts the state back into the slot, which is empty.
-fn put_back<M: MonitorKind>(word: &Word<M>, seat: &mut Place<M>, state: M::State)
+fn put_back<M: MonitorKind>(word: &Word<M>, seat: &mut Place<M>, state: Kept<M::State>)
     requires gate { seat.old.table_id ≡ word.now.table_id }
     requires empty { seat.old.me.1 ≡ (0, None) ∷ [] }
     ensures { (seat.new.table_id ≡ seat.old.table_id) × (seat.new.me ≡ (seat.old.me.0, (0, Some state) ∷ [])) }
@@ -127,7 +128,7 @@ fn turn_of<M: MonitorKind>(state: &M::State) -> u64
 pub(crate) fn hand_on<M: MonitorKind, G: Gains<M::Entry>>(
     word: &Word<M>,
     seat: &mut Place<M>,
-    state: M::State,
+    state: Kept<M::State>,
     entry: M::Entry,
 )
     requires gate { (seat.old.table_id ≡ word.now.table_id) × (word.now.table_id.words ≡ 1) }
@@ -137,7 +138,7 @@ pub(crate) fn hand_on<M: MonitorKind, G: Gains<M::Entry>>(
     requires picked { G.gained ≡ entry ∷ [] }
     ensures { (seat.new.table_id ≡ seat.old.table_id) × (seat.new.me ≡ (completed (entry ∷ []) seat.old.me.0, [])) }
 {
-    let turn = turn_of::<M>(&state);
+    let turn = turn_of::<M>(state.get());
     put_back::<M>(word, seat, state);
     let found = word.swap::<Leave<G>>(seat, 0, turn);
     wake::<M>(word, found);
@@ -145,7 +146,7 @@ pub(crate) fn hand_on<M: MonitorKind, G: Gains<M::Entry>>(
 }
 
 /// Gives up the turn with the state, in which the process waits.
-pub(crate) fn rest<M: MonitorKind>(word: &Word<M>, seat: &mut Place<M>, state: M::State)
+pub(crate) fn rest<M: MonitorKind>(word: &Word<M>, seat: &mut Place<M>, state: Kept<M::State>)
     requires gate { (seat.old.table_id ≡ word.now.table_id) × (word.now.table_id.words ≡ 1) }
     requires empty { seat.old.me.1 ≡ (0, None) ∷ [] }
     requires rested { (x : M.State) × (seat.old.me.0.stage ≡ Inside x) × M.rests seat.old.me.0.number x state }
@@ -163,7 +164,7 @@ pub(crate) fn take_handed<M: MonitorKind, R: Wait>(
     seat: &mut Place<M>,
     number: ProcNo,
     patience: &mut Patience,
-) -> M::State
+) -> Kept<M::State>
     requires gate { (seat.old.table_id ≡ word.now.table_id) × (word.now.table_id.words ≡ 1) }
     requires delayed { (seat.old.me.0.stage ≡ Delayed) × (seat.old.me.1 ≡ []) }
     requires number { number ≡ seat.old.me.0.number }
