@@ -272,3 +272,10 @@ next_of at end passed page order some none passed-is =
       good = rw (← after, ← t.after-is) (t.bad ∙ none);
       items = rw (← after, ← t.after-is) t.items;
     }
+
+-- so the first item is one, and the others are those behind it
+pub passed_one : (at end passed : ℕ) (page : List ℕ) → IsNext at end passed page
+    → (item : Item) × (items_after 0 (take (end - at) (drop at page)) ≡ item ∷ items_after 0 (take (end - (at + (1 + passed))) (drop (at + (1 + passed)) page)))
+passed_one at end passed page next =
+    let content = take (end - at) (drop at page) in
+    (item_at (get_or content 0 0) (take (length content - 1) (drop 1 content)), next.items)

@@ -1,5 +1,5 @@
 -- Reading a page from left to right.
-use Rattle.std.specs.Prelude.{ℕ, zero, suc, ◌+◌, Bool, ◌&&◌, ◌||◌, not, List, [], ◌∷◌, length, take, drop, slice_index, Option, Some, None, Result, Ok, Err, nat_le, ◌==◌, if◌then◌else◌}
+use Rattle.std.specs.Prelude.{ℕ, zero, suc, ◌+◌, Bool, false, ◌&&◌, ◌||◌, not, List, [], ◌∷◌, length, take, drop, slice_index, Option, Some, None, Result, Ok, Err, nat_le, ◌==◌, if◌then◌else◌}
 use Rattle.std.specs.List.{list_all}
 use Rattle.solo_base.specs.Line.{is_printable}
 use Rattle.solo_base.specs.declared.item.Item.{Item}
@@ -28,6 +28,13 @@ abbrev pub items_after : ℕ → List ℕ → List Item
 items_after passed [] = []
 items_after (suc passed) (byte ∷ rest) = items_after passed rest
 items_after zero (byte ∷ rest) = item_at byte rest ∷ items_after (characters byte) rest
+
+-- the first of these items is a line that begins with this character
+abbrev pub begins_with : ℕ → List Item → Bool
+begins_with character [] = false
+begins_with character (Spoiled ∷ more) = false
+begins_with character (Line [] ∷ more) = false
+begins_with character (Line (first ∷ line) ∷ more) = first == character
 
 -- the place of the first that isn't a whole item, of bytes from a place on
 abbrev pub bad_item_after : ℕ → ℕ → List ℕ → Option ℕ

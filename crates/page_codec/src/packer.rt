@@ -1,4 +1,4 @@
-ghost use Rattle.std.specs.Prelude.{◌≡◌, true, List, [], ◌∷◌, ◌++◌, option_to_list};
+ghost use Rattle.std.specs.Prelude.{◌≡◌, ◌+◌, ◌≤◌, true, List, [], ◌∷◌, ◌++◌, length, option_to_list};
 ghost use Rattle.solo_base.specs.declared.item.Item.{Item};
 ghost use Rattle.solo_base.specs.declared.page.Page.{Page};
 ghost use Rattle.page_codec.specs.Items.{item_bytes, IsItem};
@@ -6,7 +6,7 @@ ghost use Rattle.page_codec.specs.Form.{page_of};
 ghost use Rattle.page_codec.specs.Packing.{first_page, page_given, hand_after, HasPacked};
 ghost use Rattle.page_codec.specs.Stream.{IsStream};
 
-use crate::form::{CONTENT_ROOM, ITEM_LENGTH, SPOILED, page_of};
+use crate::form::{CONTENT_ROOM, SPOILED, page_of};
 use arrayvec::ArrayVec;
 use solo_base::{Item, Page};
 use std::marker::Model;
@@ -47,15 +47,14 @@ impl Packer {
         ensures history { (items : List Item) (pages : List Page) → HasPacked self.old items pages
             → HasPacked self.new (items ++ item.now ∷ []) (pages ++ option_to_list result) }
     {
-        let bytes = item_bytes(item);
-        if bytes.len() <= self.content.remaining_capacity() {
-            let _ = self.content.try_extend_from_slice(&bytes);
+        if length_of(item) <= self.content.remaining_capacity() {
+            append(&mut self.content, item);
             return None;
         }
         let full = page_of(self.place, false, &self.content);
         self.place = self.place.wrapping_add(1);
         self.content.clear();
-        let _ = self.content.try_extend_from_slice(&bytes);
+        append(&mut self.content, item);
         Some(full)
     }
 
@@ -69,19 +68,30 @@ impl Packer {
     }
 }
 
-/// The bytes of an item: the length and the characters of a line, or the one byte of a spoiled card.
-fn item_bytes(item: &Item) -> ArrayVec<u8, ITEM_LENGTH>
-    ensures bytes { result.items ≡ item_bytes item.now }
+/// How many bytes an item is.
+fn length_of(item: &Item) -> usize
+    ensures length { result ≡ length (item_bytes item.now) }
+    ensures most { result ≤ CONTENT_ROOM }
     ensures item { IsItem item.now }
 {
-    let mut bytes = ArrayVec::new();
+    match item {
+        Item::Line(line) => 1 + line.bytes().len(),
+        Item::Spoiled => 1,
+    }
+}
+
+/// Puts the bytes of an item behind others: the length and the characters of a line, or the one byte of a
+/// spoiled card.
+fn append(content: &mut ArrayVec<u8, CONTENT_ROOM>, item: &Item)
+    requires { length content.old.items + length (item_bytes item.now) ≤ CONTENT_ROOM }
+    ensures { content.new.items ≡ content.old.items ++ item_bytes item.now }
+{
     match item {
         Item::Line(line) => {
             let characters = line.bytes();
-            bytes.push(characters.len() as u8);
-            let _ = bytes.try_extend_from_slice(characters);
+            content.push(characters.len() as u8);
+            let _ = content.try_extend_from_slice(characters);
         }
-        Item::Spoiled => bytes.push(SPOILED),
+        Item::Spoiled => content.push(SPOILED),
     }
-    bytes
 }

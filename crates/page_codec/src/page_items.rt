@@ -1,6 +1,7 @@
-ghost use Rattle.std.specs.Prelude.{◌≡◌, ◌++◌, ◌↔◌, ◌≤◌, [], true, None, option_to_list, IsNone};
+ghost use Rattle.std.specs.Prelude.{◌≡◌, ◌++◌, ◌↔◌, ◌≤◌, [], ◌∷◌, true, false, None, option_to_list, IsNone};
+ghost use Rattle.solo_base.specs.declared.item.Item.{Item};
 ghost use Rattle.page_codec.specs.Places.{content_length, content_of};
-ghost use Rattle.page_codec.specs.Reading.{begins_item, item_at, items_after, bad_item_after};
+ghost use Rattle.page_codec.specs.Reading.{begins_item, begins_with, item_at, items_after, bad_item_after};
 
 use crate::form::{CONTENT_ROOM, HEADER_LENGTH, SPOILED};
 use crate::judge::characters;
@@ -63,6 +64,30 @@ impl PageItems {
         Some(item)
     }
 
+    /// Whether the next item is a line that begins with this character.
+    pub fn begins_with(&self, character: u8) -> bool
+        ensures { result ≡ begins_with character self.now.items }
+    {
+        match &self.page.0[self.at..self.end] {
+            [length, first, ..] => *length != 0 && *length != SPOILED && *first == character,
+            _ => false,
+        }
+    }
+
+    /// Passes over the next item, if there is one: whether there was.
+    pub fn pass(&mut self) -> bool
+        ensures passed { result ≡ true → (item : Item) × (self.old.items ≡ item ∷ self.new.items) }
+        ensures none { result ≡ false → (self.old.items ≡ []) × (self.new.items ≡ []) }
+        ensures last { self.new.last ≡ self.old.last }
+    {
+        let content = &self.page.0[self.at..self.end];
+        let [first, ..] = content else {
+            return false;
+        };
+        self.at += 1 + characters(*first);
+        true
+    }
+
     /// The same items once more.
     pub fn copy(&self) -> PageItems
         ensures { result ≡ self.now }
@@ -91,5 +116,7 @@ fn item_at(first: u8, rest: &[u8]) -> Item
     if first == SPOILED {
         return Item::Spoiled;
     }
-    Item::Line(Line::of(&rest[..first as usize]).unwrap())
+    let mut line = Line::new();
+    line.append(&rest[..first as usize]);
+    Item::Line(line)
 }
