@@ -3,7 +3,8 @@ ghost use Rattle.code_law.specs.Compiling.{compiling};
 ghost use Rattle.program_lines.specs.Task.{Task, RunsCode, source_of, new_task, with_card, at_end, task_lines};
 
 use crate::texts::{compile_line, result_line};
-use batch_program::{BatchProgram, Told};
+use crate::under_way::UnderWay;
+use batch_program::Told;
 use pascal_compile::compile;
 use solo_base::{Ident, Line, LineList, NoMemory};
 use stack_code::Verified;
@@ -14,7 +15,7 @@ use std::alloc::Global;
 #[derive(Debug, Drop)]
 pub enum ProgramLines {
     /// The program of this name is under way.
-    Runs { name: Ident, program: BatchProgram },
+    Runs { name: Ident, program: UnderWay },
     /// This line alone is still to be given.
     Last(Line),
     /// All lines were given.
@@ -36,7 +37,7 @@ impl ProgramLines {
     {
         match compile(alloc, cards) {
             Ok(code) => {
-                let program = BatchProgram::make(alloc, code, limit)?;
+                let program = UnderWay::make(alloc, code, limit)?;
                 Ok(ProgramLines::Runs { name, program })
             }
             Err(fault) => Ok(ProgramLines::Last(compile_line(&name, fault)?)),
@@ -54,7 +55,7 @@ impl ProgramLines {
             StandsFor lines (new_task name limit (RunsCode verified)) []) }
     {
         let _routines = verified.code().routines();
-        let program = BatchProgram::make(alloc, verified, limit)?;
+        let program = UnderWay::make(alloc, verified, limit)?;
         Ok(ProgramLines::Runs { name, program })
     }
 
