@@ -1,4 +1,4 @@
-ghost use Rattle.std.specs.Prelude.{◌≡◌, ◌++◌, ◌∷◌, ℕ, List, [], Some, IfOk, option_to_list};
+ghost use Rattle.std.specs.Prelude.{◌≡◌, ◌++◌, ◌<◌, ◌∷◌, ℕ, List, [], None, Some, IfOk, OnSome, length, option_to_list};
 ghost use Rattle.deck_format.specs.Jobs.{opener_of};
 ghost use Rattle.disk_contents.specs.declared.loading.Loaded.{Loaded as LoadedOf};
 ghost use Rattle.batch_job.specs.Loads.{first_of, file_named, files_named, load_for};
@@ -94,12 +94,26 @@ fn files_named(alloc: Global, mut items: PageItems) -> Result<VecDeque<Ident>, N
     ensures { IfOk result (λ files. files.items ≡ files_named items.items) }
 {
     let mut files = VecDeque::new(alloc);
-    'naming: while let Some(item) = items.next() {
+    'naming: while let Some(item) = next_marked(&mut items) {
         if let Some(file) = file_in(&item) {
             files.push_back(file)?;
         }
     }
     Ok(files)
+}
+
+/// The next line that begins with `#`: what stands before it names no file.
+fn next_marked(items: &mut PageItems) -> Option<Item>
+    ensures named { files_named items.old.items ≡ files_named (option_to_list result ++ items.new.items) }
+    ensures none { result ≡ None → items.new.items ≡ [] }
+    ensures fewer { OnSome result (length items.new.items < length items.old.items) }
+{
+    'passing: while !items.begins_with(b'#') {
+        if !items.pass() {
+            return None;
+        }
+    }
+    items.next()
 }
 
 /// The file that an item names, if it does.
