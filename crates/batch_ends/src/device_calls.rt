@@ -12,7 +12,8 @@ use solo_base::Line;
 use solo_devices::{CardRead, CardUnit, PrintFault, PrinterUnit, Sink, Source};
 
 /// Reads the next card of the deck.
-pub fn read_card<J: JobWork, S: Source>(deck: &mut CardUnit<S>) -> Reply<J::Load>
+#[inline(always)]
+pub fn read_card<'a, J: JobWork, S: Source>(deck: &mut CardUnit<S>) -> Reply<'a, J::Load>
     requires live { deck.old.live ≡ true }
     ensures reads { ReadsCard J.jobs (items_ahead (S.left deck.old.source) deck.old.pending)
         (items_ahead (S.left deck.new.source) deck.new.pending) result }
@@ -48,7 +49,8 @@ pub fn is_item(answer: &CardRead)
 }
 
 /// Prints a line.
-pub fn print<J: JobWork, K: Sink>(paper: &mut PrinterUnit<K>, line: &Line) -> Reply<J::Load>
+#[inline(always)]
+pub fn print<'a, J: JobWork, K: Sink>(paper: &mut PrinterUnit<K>, line: &Line) -> Reply<'a, J::Load>
     requires live { paper.old.live ≡ true }
     ensures prints { PrintsLine J.jobs (K.given paper.old.sink) (K.given paper.new.sink) line.now result }
     ensures failed { result ≡ reply.Failed → Rose (K.faults paper.old.sink) (K.faults paper.new.sink) }

@@ -19,15 +19,25 @@ use Rattle.batch_procs.specs.Fits.{Fits, MayLack}
 use Rattle.batch_procs.specs.Process.{Process, unworked, next_action, Follows}
 use Rattle.batch_procs.specs.Laws.{IsTake, IsRelay}
 use Rattle.batch_procs.specs.Work.{cause_of, IsHanded, MayTake, Takes}
-use Rattle.batch_procs.specs.Machine.{Uses, Answers}
+use Rattle.batch_procs.specs.declared.machine.Done.TheVariants as done
+use Rattle.batch_procs.specs.Machine.{Uses, Answers, done_by}
 use Rattle.batch_procs.proofs.Relay.{IsPut, put-of}
 use Rattle.batch_procs.proofs.Nexts.{next-take, next-putting, put-unworked, next-local, next-load}
 
 -- ---- a put
-pub is-put : (a : Action) → ((f : Feed) × (a ≡ act.PutFeed f)) ⊎ (((page : Page) × (a ≡ act.PutPage page)) ⊎ ((line : Line) × (a ≡ act.Print line))) → IsPut a
-is-put a (inl (f, e)) = subst IsPut (sym e) tt
-is-put a (inr (inl (page, e))) = subst IsPut (sym e) tt
-is-put a (inr (inr (line, e))) = subst IsPut (sym e) tt
+pub is-put : (a : Action) → done.Put ≡ done_by a → IsPut a
+is-put (act.PutFeed f) e = tt
+is-put (act.PutPage page) e = tt
+is-put (act.Print line) e = tt
+is-put act.Local e = absurd cc
+is-put other e = absurd cc
+
+pub is-local : (a : Action) → done.Work ≡ done_by a → a ≡ act.Local
+is-local act.Local e = refl
+is-local (act.PutFeed f) e = absurd cc
+is-local (act.PutPage page) e = absurd cc
+is-local (act.Print line) e = absurd cc
+is-local other e = absurd cc
 
 if-ok : (result : Result (Option Outcome) NoMemory) (P Q : Option Outcome → Type 0) → ((cause : Option Outcome) → P cause → Q cause) → IfOk result P
     → IfOk result Q

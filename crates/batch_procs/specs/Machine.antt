@@ -7,6 +7,8 @@ use Rattle.batch_procs.specs.declared.actions.Action.TheVariants as act
 use Rattle.batch_procs.specs.declared.actions.Reply.{Reply}
 use Rattle.batch_procs.specs.declared.round.Step.{Step}
 use Rattle.batch_procs.specs.declared.round.Step.TheVariants as step
+use Rattle.batch_procs.specs.declared.machine.Done.{Done}
+use Rattle.batch_procs.specs.declared.machine.Done.TheVariants as done
 use Rattle.batch_procs.specs.declared.machine.Machine.{Machine}
 use Rattle.batch_procs.specs.Jobs.{Jobs}
 use Rattle.batch_procs.specs.Parcels.{Parcel}
@@ -69,6 +71,14 @@ NextIs None action = Unit {0}
 NextIs (Some next) action = next ≡ action
 
 -- ---- one reply to an action
+-- what it means for the work that an action is done
+abbrev pub done_by : Action → Done
+done_by (act.PutFeed f) = done.Put
+done_by (act.PutPage page) = done.Put
+done_by (act.Print line) = done.Put
+done_by act.Local = done.Work
+done_by other = done.Other
+
 -- Without a cause before, it gives the cause of the action with its reply, and where there is none the work
 -- keeps what was taken and put with them.
 pub record Uses {L : Type 0} (p : Process L) (now : List (Parcel L) → List (Parcel L) → Bool → Type 0)

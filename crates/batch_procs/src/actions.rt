@@ -1,15 +1,16 @@
 // What a process does, and what it is answered.
 
+use crate::Lent;
 use solo_base::{BufferNo, Feed, Ident, Line, Outcome, Page};
 use solo_devices::CardRead;
 
-/// What a process does.
+/// What a process does. It lends what it hands over.
 #[derive(Drop)]
-pub enum Action {
+pub enum Action<'a> {
     /// Reads the next card of the deck.
     ReadCard,
     /// Puts what is handed over into the line buffer behind it.
-    PutFeed(Feed),
+    PutFeed(Lent<'a, Feed>),
     /// Takes what is handed over from the line buffer before it.
     TakeFeed,
     /// Waits until the spool behind it has room for a page.
@@ -19,7 +20,7 @@ pub enum Action {
     /// Asks for the disk.
     Request,
     /// Puts a page into the spool behind it.
-    PutPage(Page),
+    PutPage(Lent<'a, Page>),
     /// Takes a page from the spool before it.
     TakePage,
     /// Loads the file of this name, for a job.
@@ -29,16 +30,16 @@ pub enum Action {
     /// Works on what it took.
     Local,
     /// Prints a line.
-    Print(Line),
+    Print(Lent<'a, Line>),
     /// Stops a buffer at its own side.
     Stop(BufferNo),
     /// Ends.
     Ended(Outcome),
 }
 
-/// What a process is answered, where the file of a job is loaded as an `L`.
+/// What a process is answered, where the file of a job is loaded as an `L`. A page is lent.
 #[derive(Drop)]
-pub enum Reply<L> {
+pub enum Reply<'a, L> {
     /// It is done.
     Done,
     /// The other side has stopped the buffer.
@@ -52,7 +53,7 @@ pub enum Reply<L> {
     /// What was taken from a line buffer.
     Feed(Feed),
     /// The page that was taken from a spool, and the mark with which it was put.
-    Page { page: Page, last: bool },
+    Page { page: Lent<'a, Page>, last: bool },
     /// What the file of a job was loaded as.
     Loaded(L),
 }

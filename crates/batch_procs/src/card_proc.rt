@@ -1,11 +1,10 @@
 ghost use Rattle.std.specs.Prelude.{◌≡◌, option_to_list};
 ghost use Rattle.batch_procs.specs.Sends.{as_parcels};
 
-use crate::feeds::copy;
 use crate::job_work::JobWork;
 use crate::machine::Machine;
 use crate::work::Work;
-use crate::{Action, Reply};
+use crate::{Action, Lent, Reply};
 use solo_base::{BufferNo, Cause, Feed, Item, NoMemory, Outcome};
 use solo_devices::CardRead;
 use std::alloc::Global;
@@ -48,9 +47,9 @@ impl<J: JobWork> Work<J> for CardWork {
     }
 
     #[inline(always)]
-    fn aim(&self) -> Action {
+    fn aim(&self) -> Action<'_> {
         match &self.due {
-            Some(feed) => Action::PutFeed(copy(feed)),
+            Some(feed) => Action::PutFeed(Lent::of(feed)),
             None if self.ended => Action::Ended(Outcome::Done),
             None => Action::ReadCard,
         }
@@ -63,11 +62,11 @@ impl<J: JobWork> Work<J> for CardWork {
 
     // The clauses of `Work`, which the prover does not yet give this method by itself.
     #[inline(always)]
-    fn take(&mut self, reply: Reply<J::Load>) -> Result<Option<Outcome>, NoMemory>
+    fn take(&mut self, reply: Reply<'_, J::Load>) -> Result<Option<Outcome>, NoMemory>
         ensures ok { (taken sent : List (Parcel J.Load)) → card_keeps self.old taken sent false
-            → MayTake card taken sent reply →
-            IfOk result (λ cause. Takes card (card_keeps self.new) taken sent reply cause) }
-        ensures err { OnErr result (((card {L = J.Load}).works ≡ true) × MayLack act.TakePage reply) }
+            → MayTake card taken sent reply.entry →
+            IfOk result (λ cause. Takes card (card_keeps self.new) taken sent reply.entry cause) }
+        ensures err { OnErr result (((card {L = J.Load}).works ≡ true) × MayLack act.TakePage reply.entry) }
     {
         match reply {
             Reply::Card(CardRead::Card(line)) => self.due = Some(Feed::Item(Item::Line(line))),

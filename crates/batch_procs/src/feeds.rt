@@ -4,7 +4,7 @@ use solo_base::{Feed, Item};
 
 /// The same once more.
 #[inline(always)]
-pub fn copy(feed: &Feed) -> Feed
+pub fn copy_feed(feed: &Feed) -> Feed
     ensures { result ≡ feed.now }
 {
     match feed {

@@ -3,7 +3,7 @@ ghost use Rattle.std.specs.Prelude.{◌≡◌, option_to_list};
 use crate::job_work::JobWork;
 use crate::machine::Machine;
 use crate::work::Work;
-use crate::{Action, Reply};
+use crate::{Action, Lent, Reply};
 use page_codec::Packer;
 use solo_base::{BufferNo, Feed, NoMemory, Outcome, Page};
 use std::alloc::Global;
@@ -50,9 +50,9 @@ impl<J: JobWork> Work<J> for InputWork {
     }
 
     #[inline(always)]
-    fn aim(&self) -> Action {
+    fn aim(&self) -> Action<'_> {
         match &self.due {
-            Some(page) => Action::PutPage(*page),
+            Some(page) => Action::PutPage(Lent::of(page)),
             None if self.ended => Action::Ended(Outcome::Done),
             None => Action::TakeFeed,
         }
@@ -65,11 +65,11 @@ impl<J: JobWork> Work<J> for InputWork {
 
     // The clauses of `Work`, which the prover does not yet give this method by itself.
     #[inline(always)]
-    fn take(&mut self, reply: Reply<J::Load>) -> Result<Option<Outcome>, NoMemory>
+    fn take(&mut self, reply: Reply<'_, J::Load>) -> Result<Option<Outcome>, NoMemory>
         ensures ok { (taken sent : List (Parcel J.Load)) → input_keeps self.old taken sent false
-            → MayTake input taken sent reply →
-            IfOk result (λ cause. Takes input (input_keeps self.new) taken sent reply cause) }
-        ensures err { OnErr result (((input {L = J.Load}).works ≡ true) × MayLack act.TakePage reply) }
+            → MayTake input taken sent reply.entry →
+            IfOk result (λ cause. Takes input (input_keeps self.new) taken sent reply.entry cause) }
+        ensures err { OnErr result (((input {L = J.Load}).works ≡ true) × MayLack act.TakePage reply.entry) }
     {
         match reply {
             Reply::Feed(Feed::Item(item)) => self.due = self.packer.push(&item),

@@ -7,7 +7,7 @@ use crate::machine::Machine;
 use crate::output_proc::damage;
 use crate::pages::Pages;
 use crate::work::Work;
-use crate::{Action, Reply};
+use crate::{Action, Lent, Reply};
 use page_codec::Packer;
 use solo_base::{BufferNo, Ident, NoMemory, Outcome, Page};
 use std::alloc::Global;
@@ -60,9 +60,9 @@ impl<J: JobWork> Work<J> for JobProcWork<J> {
     }
 
     #[inline(always)]
-    fn aim(&self) -> Action {
+    fn aim(&self) -> Action<'_> {
         match &self.due {
-            Some(page) => Action::PutPage(*page),
+            Some(page) => Action::PutPage(Lent::of(page)),
             None if self.unworked => work_on(self.jobs.wants()),
             None if self.pages.is_ended() => Action::Ended(Outcome::Done),
             None => Action::TakePage,
@@ -78,12 +78,12 @@ impl<J: JobWork> Work<J> for JobProcWork<J> {
 
     // The clauses of `Work`, which the prover does not yet give this method by itself.
     #[inline(always)]
-    fn take(&mut self, reply: Reply<J::Load>) -> Result<Option<Outcome>, NoMemory>
+    fn take(&mut self, reply: Reply<'_, J::Load>) -> Result<Option<Outcome>, NoMemory>
         ensures ok { (taken sent : List (Parcel J.Load)) → job_keeps J.jobs J.keeps self.old taken sent false
-            → MayTake (job J.jobs) taken sent reply →
+            → MayTake (job J.jobs) taken sent reply.entry →
             IfOk result (λ cause.
-            Takes (job J.jobs) (job_keeps J.jobs J.keeps self.new) taken sent reply cause) }
-        ensures err { OnErr result (((job J.jobs).works ≡ true) × MayLack act.TakePage reply) }
+            Takes (job J.jobs) (job_keeps J.jobs J.keeps self.new) taken sent reply.entry cause) }
+        ensures err { OnErr result (((job J.jobs).works ≡ true) × MayLack act.TakePage reply.entry) }
     {
         let Reply::Page { page, last } = reply else {
             return Ok(None);
@@ -91,7 +91,7 @@ impl<J: JobWork> Work<J> for JobProcWork<J> {
         if self.pages.is_ended() {
             return Ok(None);
         }
-        match self.pages.take(&page, last) {
+        match self.pages.take(page.get(), last) {
             Ok(items) => {
                 self.jobs.feed(items)?;
                 self.unworked = true;
@@ -123,7 +123,7 @@ impl<J: JobWork> Work<J> for JobProcWork<J> {
 }
 
 /// Before it works the process loads the files that are wanted.
-fn work_on(wanted: Option<Ident>) -> Action
+fn work_on<'a>(wanted: Option<Ident>) -> Action<'a>
     ensures { (files : List (List ℕ)) → wanted ≡ first_of files → result ≡ works_on files }
 {
     match wanted {

@@ -24,7 +24,7 @@ pub trait Loader<J: JobWork>: Drop {
     ghost sound: { Self → Type 0 };
 
     /// Loads the file of this name. It changes no file.
-    fn load(&mut self, alloc: Global, file: &Ident) -> Reply<J::Load>
+    fn load<'a>(&mut self, alloc: Global, file: &Ident) -> Reply<'a, J::Load>
         requires { sound self.old }
         ensures loads { AnswersLoad J.jobs (found self.old) file.now result }
         ensures failed { result ≡ reply.Failed → Rose (faults self.old) (faults self.new) }

@@ -42,9 +42,8 @@ impl<J: JobWork, W: Work<J>> Machine<J, W> {
     }
 
     /// What the process does next. Once it has ended it does nothing more.
-    // Inlined, since an action may hold a whole page: who looks at its kind alone then makes none.
     #[inline(always)]
-    pub fn next(&self) -> Action
+    pub fn next(&self) -> Action<'_>
         ensures next { (h : List (Entry J.Load)) → StandsFor J.jobs W.process W.keeps self.now h
             → NextIs (next_action W.process h) result }
 
@@ -62,7 +61,7 @@ impl<J: JobWork, W: Work<J>> Machine<J, W> {
 
     /// What a process without a cause does next.
     #[inline(always)]
-    fn working(&self) -> Action
+    fn working(&self) -> Action<'_>
         ensures { (h : List (Entry J.Load)) → StandsFor J.jobs W.process W.keeps self.now h
             → self.now.cause ≡ None → NextIs (next_action W.process h) result }
     {
@@ -77,7 +76,7 @@ impl<J: JobWork, W: Work<J>> Machine<J, W> {
 
     /// What a process with a cause does next.
     #[inline(always)]
-    fn closing(&self, cause: Outcome) -> Action
+    fn closing(&self, cause: Outcome) -> Action<'_>
         ensures { (h : List (Entry J.Load)) → StandsFor J.jobs W.process W.keeps self.now h
             → self.now.cause ≡ Some cause → NextIs (next_action W.process h) result }
     {
@@ -108,23 +107,25 @@ impl<J: JobWork, W: Work<J>> Machine<J, W> {
 
     /// Gives the reply to the action that was next. Where memory is refused, this is the cause of the
     /// process, and it closes down.
-    // Inlined, as an action and a reply are copied whole where they cross a call.
+    // Inlined, as a reply is copied whole where it crosses a call.
     #[inline(always)]
-    pub fn give(&mut self, reply: Reply<J::Load>) -> Result<(), NoMemory>
+    pub fn give(&mut self, reply: Reply<'_, J::Load>) -> Result<(), NoMemory>
         ensures ok { OnOk result ((h : List (Entry J.Load)) (action : ActionOf)
             → StandsFor J.jobs W.process W.keeps self.old h →
-            next_action W.process h ≡ Some action → Fits J.jobs action reply
-            → StandsFor J.jobs W.process W.keeps self.new (Does action reply ∷ h)) }
+            next_action W.process h ≡ Some action → Fits J.jobs action reply.entry
+            → StandsFor J.jobs W.process W.keeps self.new (Does action reply.entry ∷ h)) }
         ensures err { OnErr result ((h : List (Entry J.Load)) (action : ActionOf)
             → StandsFor J.jobs W.process W.keeps self.old h →
-            next_action W.process h ≡ Some action → Fits J.jobs action reply
-            → StandsFor J.jobs W.process W.keeps self.new (LacksMemory action reply ∷ h)) }
+            next_action W.process h ≡ Some action → Fits J.jobs action reply.entry
+            → StandsFor J.jobs W.process W.keeps self.new (LacksMemory action reply.entry ∷ h)) }
         ensures works { OnErr result (W.process.works ≡ true) }
     {
         let action = self.next();
-        self.step = Step::after(&action);
-        self.stops = stops_after(self.stops, &action);
-        match answer::<J, W>(&mut self.work, &action, reply) {
+        let (step, stops) = (Step::after(&action), stops_after(self.stops, &action));
+        let (done, fault) = (Done::of(&action), fault_at(&action));
+        self.step = step;
+        self.stops = stops;
+        match answer::<J, W>(&mut self.work, done, fault, reply) {
             Ok(cause) => {
                 add_cause(&mut self.cause, cause);
                 Ok(())
@@ -139,13 +140,13 @@ impl<J: JobWork, W: Work<J>> Machine<J, W> {
 
 ghost use Rattle.batch_procs.specs.Process.{begins};
 ghost use Rattle.batch_procs.specs.Causes.{fault_at, or_new};
-ghost use Rattle.batch_procs.specs.Machine.{Answers, stops_after};
+ghost use Rattle.batch_procs.specs.Machine.{Answers, done_by, stops_after};
 
 /// The first call of what a process aims at: a move of a page begins with an await, and a load asks for the
 /// disk.
 #[inline(always)]
-fn begin(aim: Action) -> Action
-    ensures { result ≡ begins aim }
+fn begin<'a>(aim: Action<'a>) -> Action<'a>
+    ensures { result ≡ begins aim.entry }
 {
     match aim {
         Action::PutPage(_) => Action::AwaitRoom,
@@ -157,7 +158,7 @@ fn begin(aim: Action) -> Action
 
 /// How many buffers are stopped behind an action.
 #[inline(always)]
-fn stops_after(stops: u8, action: &Action) -> u8
+fn stops_after(stops: u8, action: &Action<'_>) -> u8
     ensures { result ≡ stops_after stops action.now }
 {
     match action {
@@ -175,19 +176,45 @@ fn add_cause(cause: &mut Option<Outcome>, new: Option<Outcome>)
     }
 }
 
+/// What it means for the work that an action is done.
+#[derive(Clone, Copy)]
+pub(crate) enum Done {
+    /// What was due first is put or printed.
+    Put,
+    /// It works on what it took.
+    Work,
+    /// Nothing.
+    Other,
+}
+
+impl Done {
+    #[inline(always)]
+    fn of(action: &Action<'_>) -> Done
+        ensures { result ≡ done_by action.now }
+    {
+        match action {
+            Action::PutFeed(_) | Action::PutPage(_) | Action::Print(_) => Done::Put,
+            Action::Local => Done::Work,
+            _ => Done::Other,
+        }
+    }
+}
+
 /// Uses the reply to an action, and says which cause it gives.
 #[inline(always)]
 fn answer<J: JobWork, W: Work<J>>(
     work: &mut W,
-    action: &Action,
-    reply: Reply<J::Load>,
+    done: Done,
+    fault: Cause,
+    reply: Reply<'_, J::Load>,
 ) -> Result<Option<Outcome>, NoMemory>
-    ensures { Answers J.jobs W.process W.keeps work.old action.now reply result work.new }
+    ensures { (action : ActionOf) → done ≡ done_by action → fault ≡ fault_at action
+        → Answers J.jobs W.process W.keeps work.old action reply.entry result work.new }
 {
     match reply {
-        Reply::Done => finish::<J, W>(work, action),
+        Reply::Done => finish::<J, W>(work, done),
         Reply::Stopped => Ok(Some(Outcome::Stopped)),
-        Reply::Failed => Ok(Some(Outcome::Fault(fault_at(action)))),
+        Reply::Failed => Ok(Some(Outcome::Fault(fault))),
         Reply::NoMemory => Ok(Some(Outcome::Fault(Cause::NoMemory))),
         Reply::Loaded(load) => {
             work.load(load);
@@ -199,22 +226,20 @@ fn answer<J: JobWork, W: Work<J>>(
 
 /// An action is done.
 #[inline(always)]
-fn finish<J: JobWork, W: Work<J>>(
-    work: &mut W,
-    action: &Action,
-) -> Result<Option<Outcome>, NoMemory>
-    ensures { Answers J.jobs W.process W.keeps work.old action.now reply.Done result work.new }
+fn finish<J: JobWork, W: Work<J>>(work: &mut W, done: Done) -> Result<Option<Outcome>, NoMemory>
+    ensures { (action : ActionOf) → done ≡ done_by action
+        → Answers J.jobs W.process W.keeps work.old action reply.Done result work.new }
 {
-    match action {
-        Action::PutFeed(_) | Action::PutPage(_) | Action::Print(_) => work.put(),
-        Action::Local => work.work()?,
-        _ => {}
+    match done {
+        Done::Put => work.put(),
+        Done::Work => work.work()?,
+        Done::Other => {}
     }
     Ok(None)
 }
 
 /// The cause where the device of an action failed.
-fn fault_at(action: &Action) -> Cause
+fn fault_at(action: &Action<'_>) -> Cause
     ensures { result ≡ fault_at action.now }
 {
     match action {

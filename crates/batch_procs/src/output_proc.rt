@@ -3,12 +3,11 @@ ghost use Rattle.batch_procs.specs.Sends.{lines_of};
 ghost use Rattle.batch_procs.specs.Pages.{damaged, lines_left};
 ghost use Rattle.page_codec.specs.Reading.{items_left};
 
-use crate::feeds::copy;
 use crate::job_work::JobWork;
 use crate::machine::Machine;
 use crate::pages::Pages;
 use crate::work::Work;
-use crate::{Action, Reply};
+use crate::{Action, Lent, Reply};
 use page_codec::{BadPage, PageItems};
 use solo_base::{BufferNo, Cause, Feed, Item, Line, NoMemory, Outcome};
 use std::alloc::Global;
@@ -56,9 +55,9 @@ impl<J: JobWork> Work<J> for OutputWork {
     }
 
     #[inline(always)]
-    fn aim(&self) -> Action {
+    fn aim(&self) -> Action<'_> {
         match &self.due {
-            Some(feed) => Action::PutFeed(copy(feed)),
+            Some(feed) => Action::PutFeed(Lent::of(feed)),
             None if self.pages.is_ended() => Action::Ended(Outcome::Done),
             None => Action::TakePage,
         }
@@ -71,11 +70,11 @@ impl<J: JobWork> Work<J> for OutputWork {
 
     // The clauses of `Work`, which the prover does not yet give this method by itself.
     #[inline(always)]
-    fn take(&mut self, reply: Reply<J::Load>) -> Result<Option<Outcome>, NoMemory>
+    fn take(&mut self, reply: Reply<'_, J::Load>) -> Result<Option<Outcome>, NoMemory>
         ensures ok { (taken sent : List (Parcel J.Load)) → output_keeps self.old taken sent false
-            → MayTake output taken sent reply →
-            IfOk result (λ cause. Takes output (output_keeps self.new) taken sent reply cause) }
-        ensures err { OnErr result (((output {L = J.Load}).works ≡ true) × MayLack act.TakePage reply) }
+            → MayTake output taken sent reply.entry →
+            IfOk result (λ cause. Takes output (output_keeps self.new) taken sent reply.entry cause) }
+        ensures err { OnErr result (((output {L = J.Load}).works ≡ true) × MayLack act.TakePage reply.entry) }
     {
         let Reply::Page { page, last } = reply else {
             return Ok(None);
@@ -83,7 +82,7 @@ impl<J: JobWork> Work<J> for OutputWork {
         if self.pages.is_ended() {
             return Ok(None);
         }
-        match self.pages.take(&page, last) {
+        match self.pages.take(page.get(), last) {
             Ok(items) => {
                 self.items = Some(items);
                 self.ending = last;

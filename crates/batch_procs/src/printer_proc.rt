@@ -3,7 +3,7 @@ ghost use Rattle.std.specs.Prelude.{◌≡◌, option_to_list};
 use crate::job_work::JobWork;
 use crate::machine::Machine;
 use crate::work::Work;
-use crate::{Action, Reply};
+use crate::{Action, Lent, Reply};
 use solo_base::{BufferNo, Feed, Item, Line, NoMemory, Outcome};
 use std::alloc::Global;
 
@@ -45,9 +45,9 @@ impl<J: JobWork> Work<J> for PrinterWork {
     }
 
     #[inline(always)]
-    fn aim(&self) -> Action {
+    fn aim(&self) -> Action<'_> {
         match &self.due {
-            Some(line) => Action::Print(line.copy()),
+            Some(line) => Action::Print(Lent::of(line)),
             None if self.ended => Action::Ended(Outcome::Done),
             None => Action::TakeFeed,
         }
@@ -60,11 +60,11 @@ impl<J: JobWork> Work<J> for PrinterWork {
 
     // The clauses of `Work`, which the prover does not yet give this method by itself.
     #[inline(always)]
-    fn take(&mut self, reply: Reply<J::Load>) -> Result<Option<Outcome>, NoMemory>
+    fn take(&mut self, reply: Reply<'_, J::Load>) -> Result<Option<Outcome>, NoMemory>
         ensures ok { (taken sent : List (Parcel J.Load)) → printer_keeps self.old taken sent false
-            → MayTake printer taken sent reply →
-            IfOk result (λ cause. Takes printer (printer_keeps self.new) taken sent reply cause) }
-        ensures err { OnErr result (((printer {L = J.Load}).works ≡ true) × MayLack act.TakePage reply) }
+            → MayTake printer taken sent reply.entry →
+            IfOk result (λ cause. Takes printer (printer_keeps self.new) taken sent reply.entry cause) }
+        ensures err { OnErr result (((printer {L = J.Load}).works ≡ true) × MayLack act.TakePage reply.entry) }
     {
         match reply {
             Reply::Feed(feed) => {

@@ -21,7 +21,7 @@ pub enum Step {
 impl Step {
     /// The step behind an action.
     #[inline(always)]
-    pub fn after(action: &Action) -> Step
+    pub fn after(action: &Action<'_>) -> Step
         ensures { result ≡ step_of action.now }
     {
         match action {

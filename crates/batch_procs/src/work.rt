@@ -28,7 +28,7 @@ pub trait Work<J: JobWork> {
         ensures { result ≡ slice_get process.buffers place };
 
     /// What the process aims at: to put what is due, else to work, else to take, else to end.
-    fn aim(&self) -> Action
+    fn aim(&self) -> Action<'_>
         ensures { (taken sent : List (Parcel J.Load)) (unworked : Bool) → keeps self.now taken sent unworked →
             result ≡ aim_at process taken sent unworked };
 
@@ -40,11 +40,11 @@ pub trait Work<J: JobWork> {
             keeps self.new taken (sent ++ first ∷ []) (process.works && not (is_last first)) };
 
     /// Takes what a reply hands over, or says why the process stops.
-    fn take(&mut self, reply: Reply<J::Load>) -> Result<Option<Outcome>, NoMemory>
+    fn take(&mut self, reply: Reply<'_, J::Load>) -> Result<Option<Outcome>, NoMemory>
         ensures ok { (taken sent : List (Parcel J.Load)) → keeps self.old taken sent false
-            → MayTake process taken sent reply →
-            IfOk result (λ cause. Takes process (keeps self.new) taken sent reply cause) }
-        ensures err { OnErr result ((process.works ≡ true) × MayLack act.TakePage reply) };
+            → MayTake process taken sent reply.entry →
+            IfOk result (λ cause. Takes process (keeps self.new) taken sent reply.entry cause) }
+        ensures err { OnErr result ((process.works ≡ true) × MayLack act.TakePage reply.entry) };
 
     /// Takes what the file was loaded as that is wanted first.
     fn load(&mut self, load: J::Load)

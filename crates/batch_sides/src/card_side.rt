@@ -4,7 +4,7 @@ ghost use Rattle.batch_sides.specs.Row.{CardsCame};
 
 use crate::run::{Ended, Running, end_of, run_to_end, without_disk};
 use batch_ends::is_item;
-use batch_procs::{Action, CardWork, JobWork, Machine, Reply};
+use batch_procs::{Action, CardWork, JobWork, Machine, Reply, copy_feed};
 use side_by_side::{Start, Told};
 use slot_buffer::{SendEnd, SlotGate, Stopped};
 use solo_base::{Feed, Outcome};
@@ -23,23 +23,23 @@ pub struct CardSide<'a, S: Source + Drop> {
 
 /// Performs an action of the process, and waits where the other side of a buffer isn't ready.
 #[inline(always)]
-fn perform<'a, L, S: Source + Drop + Send, R: Threads + Wait + Sync>(
+fn perform<'a, 'p, L, S: Source + Drop + Send, R: Threads + Wait + Sync>(
     running: &mut Running<CardSide<'a, S>>,
-    action: Action,
+    action: Action<'_>,
     rt: &R,
-) -> Reply<L>
+) -> Reply<'p, L>
     requires may { CardMayMake running.old.side action }
     ensures performs { CardMade S.left S.taken S.faults running.old.side running.old.pass
-        running.new.side running.new.pass action result }
+        running.new.side running.new.pass action.entry result }
 {
     let gate = running.side.gate;
-    match action {
+    match &action {
         Action::ReadCard => {
             let answer = running.side.deck.read();
             is_item(&answer);
             Reply::Card(answer)
         }
-        Action::PutFeed(feed) => match running.side.lines.put(gate, feed, rt) {
+        Action::PutFeed(feed) => match running.side.lines.put(gate, copy_feed(feed.get()), rt) {
             Ok(()) => Reply::Done,
             Err(Stopped(_)) => Reply::Stopped,
         },

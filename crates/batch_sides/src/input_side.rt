@@ -29,19 +29,19 @@ pub struct InputSide<'a, A: Area + Send> {
 
 /// Performs an action of the process, and waits where the other side of a buffer isn't ready.
 #[inline(always)]
-fn perform<'a, L, A: Area + Send, R: Threads + Wait + Sync>(
+fn perform<'a, 'p, L, A: Area + Send, R: Threads + Wait + Sync>(
     running: &mut Running<InputSide<'a, A>>,
-    action: Action,
+    action: Action<'_>,
     rt: &R,
-) -> Reply<L>
+) -> Reply<'p, L>
     requires may { InputMayMake A.size running.old.side running.old.pass action }
     ensures performs { InputMade running.old.side running.old.pass
-        running.new.side running.new.pass action result }
+        running.new.side running.new.pass action.entry result }
 {
     let cards_gate = running.side.cards_gate;
     let pages_gate = running.side.pages_gate;
     let disk = running.side.disk;
-    match action {
+    match &action {
         Action::TakeFeed => match running.side.cards.take(cards_gate, rt) {
             Ok(feed) => Reply::Feed(feed),
             Err(_) => Reply::Stopped,
@@ -57,7 +57,7 @@ fn perform<'a, L, A: Area + Send, R: Threads + Wait + Sync>(
         Action::PutPage(page) => match running
             .side
             .pages
-            .put(pages_gate, held(&running.pass), &page, rt)
+            .put(pages_gate, held(&running.pass), page.get(), rt)
         {
             Moved::Done => Reply::Done,
             Moved::Failed => Reply::Failed,

@@ -5,7 +5,7 @@ ghost use Rattle.batch_sides.specs.Row.{JobsCame};
 
 use crate::desk::{held, release, request};
 use crate::run::{Ended, Running, end_of, run_to_end, without_disk};
-use batch_procs::{Action, JobProcWork, JobWork, Loader, Machine, Reply};
+use batch_procs::{Action, JobProcWork, JobWork, Lent, Loader, Machine, Reply};
 use disk_spool::{Fetched, SpoolGate, SpoolRecv, SpoolSend};
 use resource_mon::{DiskResource, DiskSeat};
 use side_by_side::{Start, Told};
@@ -30,22 +30,29 @@ pub struct JobSide<'a, F, A: Area + Send, B: Area + Send> {
 
 /// Performs an action of the process, and waits where the other side of a buffer isn't ready.
 #[inline(always)]
-fn perform<'a, J: JobWork, F: Loader<J>, A: Area + Send, B: Area + Send, R: Threads + Wait + Sync>(
+fn perform<
+    'a,
+    'p,
+    J: JobWork,
+    F: Loader<J>,
+    A: Area + Send,
+    B: Area + Send,
+    R: Threads + Wait + Sync,
+>(
     running: &mut Running<JobSide<'a, F, A, B>>,
-    action: Action,
+    action: Action<'_>,
+    room: &'p mut Page,
     rt: &R,
-) -> Reply<J::Load>
+) -> Reply<'p, J::Load>
     requires may { JobMayMake F.sound A.size B.size running.old.side running.old.pass action }
     ensures performs { JobMade J.jobs (loading F.found F.pages F.faults F.sound)
-        running.old.side running.old.pass running.new.side running.new.pass action result }
+        running.old.side running.old.pass running.new.side running.new.pass action.entry result }
 {
     let cards_gate = running.side.cards_gate;
     let pages_gate = running.side.pages_gate;
     let disk = running.side.disk;
-    if let Action::Load(file) = &action {
-        return running.side.files.load(running.alloc, file);
-    }
-    match action {
+    match &action {
+        Action::Load(file) => running.side.files.load(running.alloc, file),
         Action::AwaitItem => match running.side.cards.await_item(cards_gate, rt) {
             Ok(()) => Reply::Done,
             Err(_) => Reply::Stopped,
@@ -58,21 +65,21 @@ fn perform<'a, J: JobWork, F: Loader<J>, A: Area + Send, B: Area + Send, R: Thre
             request(disk, &mut running.side.seat, &mut running.pass, rt);
             Reply::Done
         }
-        Action::TakePage => {
-            let mut page = Page::zeros();
-            match running
-                .side
-                .cards
-                .take(cards_gate, held(&running.pass), &mut page, rt)
-            {
-                Fetched::Done { last } => Reply::Page { page, last },
-                Fetched::Failed => Reply::Failed,
-            }
-        }
+        Action::TakePage => match running
+            .side
+            .cards
+            .take(cards_gate, held(&running.pass), room, rt)
+        {
+            Fetched::Done { last } => Reply::Page {
+                page: Lent::of(room),
+                last,
+            },
+            Fetched::Failed => Reply::Failed,
+        },
         Action::PutPage(page) => match running
             .side
             .pages
-            .put(pages_gate, held(&running.pass), &page, rt)
+            .put(pages_gate, held(&running.pass), page.get(), rt)
         {
             Moved::Done => Reply::Done,
             Moved::Failed => Reply::Failed,
@@ -121,6 +128,6 @@ pub(crate) fn run_jobs<
         alloc,
         start,
         jobs,
-        |at, action| perform::<J, F, A, B, R>(&mut at, action, rt)
+        |at, action, room| perform::<J, F, A, B, R>(&mut at, action, &mut room, rt)
     )
 }

@@ -4,7 +4,7 @@ ghost use Rattle.batch_sides.specs.Row.{LinesCame};
 
 use crate::desk::{held, release, request};
 use crate::run::{Ended, Running, end_of, run_to_end, without_disk};
-use batch_procs::{Action, JobWork, Machine, OutputWork, Reply};
+use batch_procs::{Action, JobWork, Lent, Machine, OutputWork, Reply, copy_feed};
 use disk_spool::{Fetched, SpoolGate, SpoolRecv};
 use resource_mon::{DiskResource, DiskSeat};
 use side_by_side::{Start, Told};
@@ -29,19 +29,20 @@ pub struct OutputSide<'a, B: Area + Send> {
 
 /// Performs an action of the process, and waits where the other side of a buffer isn't ready.
 #[inline(always)]
-fn perform<'a, L, B: Area + Send, R: Threads + Wait + Sync>(
+fn perform<'a, 'p, L, B: Area + Send, R: Threads + Wait + Sync>(
     running: &mut Running<OutputSide<'a, B>>,
-    action: Action,
+    action: Action<'_>,
+    room: &'p mut Page,
     rt: &R,
-) -> Reply<L>
+) -> Reply<'p, L>
     requires may { OutputMayMake B.size running.old.side running.old.pass action }
     ensures performs { OutputMade running.old.side running.old.pass
-        running.new.side running.new.pass action result }
+        running.new.side running.new.pass action.entry result }
 {
     let pages_gate = running.side.pages_gate;
     let lines_gate = running.side.lines_gate;
     let disk = running.side.disk;
-    match action {
+    match &action {
         Action::AwaitItem => match running.side.pages.await_item(pages_gate, rt) {
             Ok(()) => Reply::Done,
             Err(_) => Reply::Stopped,
@@ -50,22 +51,26 @@ fn perform<'a, L, B: Area + Send, R: Threads + Wait + Sync>(
             request(disk, &mut running.side.seat, &mut running.pass, rt);
             Reply::Done
         }
-        Action::TakePage => {
-            let mut page = Page::zeros();
-            match running
-                .side
-                .pages
-                .take(pages_gate, held(&running.pass), &mut page, rt)
-            {
-                Fetched::Done { last } => Reply::Page { page, last },
-                Fetched::Failed => Reply::Failed,
-            }
-        }
+        Action::TakePage => match running
+            .side
+            .pages
+            .take(pages_gate, held(&running.pass), room, rt)
+        {
+            Fetched::Done { last } => Reply::Page {
+                page: Lent::of(room),
+                last,
+            },
+            Fetched::Failed => Reply::Failed,
+        },
         Action::Release => {
             release(disk, &mut running.side.seat, &mut running.pass, rt);
             Reply::Done
         }
-        Action::PutFeed(feed) => match running.side.lines.put(lines_gate, feed, rt) {
+        Action::PutFeed(feed) => match running
+            .side
+            .lines
+            .put(lines_gate, copy_feed(feed.get()), rt)
+        {
             Ok(()) => Reply::Done,
             Err(_) => Reply::Stopped,
         },
@@ -100,6 +105,6 @@ pub(crate) fn run_lines<'a, 's, J: JobWork, B: Area + Send, R: Threads + Wait + 
         alloc,
         start,
         lines,
-        |at, action| perform(&mut at, action, rt)
+        |at, action, room| perform(&mut at, action, &mut room, rt)
     )
 }

@@ -23,22 +23,22 @@ pub struct PrinterSide<'a, K: Sink + Drop> {
 
 /// Performs an action of the process, and waits where the other side of a buffer isn't ready.
 #[inline(always)]
-fn perform<'a, J: JobWork, K: Sink + Drop + Send, R: Threads + Wait + Sync>(
+fn perform<'a, 'p, J: JobWork, K: Sink + Drop + Send, R: Threads + Wait + Sync>(
     running: &mut Running<PrinterSide<'a, K>>,
-    action: Action,
+    action: Action<'_>,
     rt: &R,
-) -> Reply<J::Load>
+) -> Reply<'p, J::Load>
     requires may { PrinterMayMake running.old.side action }
     ensures performs { PrinterMade J.jobs K.given K.faults running.old.side running.old.pass
-        running.new.side running.new.pass action result }
+        running.new.side running.new.pass action.entry result }
 {
     let gate = running.side.gate;
-    match action {
+    match &action {
         Action::TakeFeed => match running.side.lines.take(gate, rt) {
             Ok(feed) => Reply::Feed(feed),
             Err(_) => Reply::Stopped,
         },
-        Action::Print(line) => print::<J, K>(&mut running.side.paper, &line),
+        Action::Print(line) => print::<J, K>(&mut running.side.paper, line.get()),
         Action::Stop(_) => {
             running.side.lines.stop(gate, rt);
             Reply::Done

@@ -19,7 +19,8 @@ pub type Ended<C> = (C, Outcome);
 
 /// Comes to the start and, where all have come, runs up to the end of the process: its machine says what it
 /// does, and each action is performed so. It stands in a function of each process, since what is sent to a
-/// thread isn't known behind a trait, and no function whose reply names the jobs can be handed to one.
+/// thread isn't known behind a trait, and no function whose reply names the jobs can be handed to one. The
+/// pages that it takes come into one room, which is lent to each action.
 macro_rules! run_to_end {
     (
         $jobs:ty,
@@ -28,7 +29,7 @@ macro_rules! run_to_end {
         $alloc:ident,
         $start:ident,
         $side:ident,
-        |$at:ident, $action:ident| $perform:expr
+        |$at:ident, $action:ident $(, $room:ident)?| $perform:expr
     ) => {{
         let told = $start.come($rt);
         let whole = $start.is_whole(&told);
@@ -41,6 +42,7 @@ macro_rules! run_to_end {
             pass: None,
         };
         let mut machine = Machine::<$jobs, $work>::new($alloc);
+        $(let mut $room = Page::zeros();)?
         for _ in $rt.forever() {
             let $action = machine.next();
             let end = end_of(&$action);
@@ -57,7 +59,7 @@ macro_rules! run_to_end {
 pub(crate) use run_to_end;
 
 /// How the process ends, if this is its end.
-pub(crate) fn end_of(action: &Action) -> Option<Outcome>
+pub(crate) fn end_of(action: &Action<'_>) -> Option<Outcome>
     ensures { result ≡ end_of action.now }
 {
     match action {

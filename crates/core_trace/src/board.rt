@@ -1,6 +1,7 @@
+use crate::deed::Deed;
 use crate::event::{Event, Told};
-use batch_procs::Action;
-use solo_base::{BufferNo, Feed, Item, ProcNo};
+use batch_procs::copy_feed;
+use solo_base::{BufferNo, Feed, ProcNo};
 use std::alloc::{AllocError, Global};
 
 /// Where a process may wait.
@@ -49,9 +50,9 @@ impl Board {
     /// Notes an event that has this number.
     pub fn note(&mut self, event: &Event, number: u64) -> Result<(), AllocError> {
         let process = event.process;
-        match (&event.action, &event.told) {
-            (action, Told::Waits) => {
-                if let Some(place) = place_of(process, action) {
+        match (&event.deed, &event.told) {
+            (deed, Told::Waits) => {
+                if let Some(place) = place_of(process, deed) {
                     self.waiting.push(Waiting {
                         process,
                         place,
@@ -59,7 +60,7 @@ impl Board {
                     })?;
                 }
             }
-            (Action::PutFeed(feed), Told::Done) => *self.slot(process) = Some(copy(feed)),
+            (Deed::PutFeed(feed), Told::Done) => *self.slot(process) = Some(copy_feed(feed)),
             _ => {}
         }
         Ok(())
@@ -77,19 +78,11 @@ impl Board {
 }
 
 /// Where a process waits that is delayed in this call.
-fn place_of(process: ProcNo, action: &Action) -> Option<Place> {
-    match action {
-        Action::PutFeed(_) | Action::AwaitRoom => Some(Place::Buffer(process)),
-        Action::TakeFeed | Action::AwaitItem => Some(Place::Buffer(process.saturating_sub(1))),
-        Action::Request => Some(Place::Disk),
+fn place_of(process: ProcNo, deed: &Deed) -> Option<Place> {
+    match deed {
+        Deed::PutFeed(_) | Deed::AwaitRoom => Some(Place::Buffer(process)),
+        Deed::TakeFeed | Deed::AwaitItem => Some(Place::Buffer(process.saturating_sub(1))),
+        Deed::Request => Some(Place::Disk),
         _ => None,
-    }
-}
-
-fn copy(feed: &Feed) -> Feed {
-    match feed {
-        Feed::Item(Item::Line(line)) => Feed::Item(Item::Line(line.copy())),
-        Feed::Item(Item::Spoiled) => Feed::Item(Item::Spoiled),
-        Feed::End => Feed::End,
     }
 }

@@ -2,7 +2,8 @@ ghost use Rattle.network_run.specs.Law.{MayStep, Placed};
 ghost use Rattle.core_law.specs.TheLaw.{the_law};
 
 use crate::board::Board;
-use batch_procs::{Action, JobWork, Loader};
+use crate::deed::Deed;
+use batch_procs::{Action, JobWork, Loader, copy_feed};
 use net_core::Net;
 use network_run::{Network, Stepped};
 use solo_base::{Feed, Outcome, ProcNo};
@@ -27,7 +28,7 @@ pub enum Told {
 #[derive(Drop)]
 pub struct Event {
     pub process: ProcNo,
-    pub action: Action,
+    pub deed: Deed,
     pub told: Told,
 }
 
@@ -41,7 +42,7 @@ pub fn happen<J: JobWork, S: Source, K: Sink, F: Loader<J>, A: Area, B: Area>(
         (⟦<Net<J, S, K, F, A, B> as Network>⟧.Stands net.old) process }
     ensures { Placed (the_law J.jobs) (⟦<Net<J, S, K, F, A, B> as Network>⟧.Stands net.new) }
 {
-    let action = next_of(net, process);
+    let deed = Deed::of(&next_of(net, process));
     let closed_before = cause_of(net, process).is_some();
     let stepped = net.step(process);
     let cause = match cause_of(net, process) {
@@ -51,11 +52,11 @@ pub fn happen<J: JobWork, S: Source, K: Sink, F: Loader<J>, A: Area, B: Area>(
     let told = match (stepped, cause) {
         (Stepped::Delayed, _) => Told::Waits,
         (_, Some(cause)) => Told::Closes(cause),
-        (_, None) => came_of(net, process, &action, board),
+        (_, None) => came_of(net, process, &deed, board),
     };
     Event {
         process,
-        action,
+        deed,
         told,
     }
 }
@@ -65,16 +66,16 @@ pub fn happen<J: JobWork, S: Source, K: Sink, F: Loader<J>, A: Area, B: Area>(
 fn came_of<J: JobWork, S: Source, K: Sink, F: Loader<J>, A: Area, B: Area>(
     net: &Net<J, S, K, F, A, B>,
     process: ProcNo,
-    action: &Action,
+    deed: &Deed,
     board: &mut Board,
 ) -> Told {
-    match action {
-        Action::ReadCard => match net.card.next() {
-            Action::PutFeed(feed) => Told::Fed(feed),
+    match deed {
+        Deed::ReadCard => match net.card.next() {
+            Action::PutFeed(feed) => Told::Fed(copy_feed(feed.get())),
             _ => Told::Done,
         },
-        Action::TakeFeed => board.slot(process).take().map_or(Told::Done, Told::Fed),
-        Action::Ended(outcome) => Told::Ends(*outcome),
+        Deed::TakeFeed => board.slot(process).take().map_or(Told::Done, Told::Fed),
+        Deed::Ended(outcome) => Told::Ends(*outcome),
         _ => Told::Done,
     }
 }
@@ -83,7 +84,7 @@ fn came_of<J: JobWork, S: Source, K: Sink, F: Loader<J>, A: Area, B: Area>(
 fn next_of<J: JobWork, S: Source, K: Sink, F: Loader<J>, A: Area, B: Area>(
     net: &Net<J, S, K, F, A, B>,
     process: ProcNo,
-) -> Action {
+) -> Action<'_> {
     match process {
         1 => net.card.next(),
         2 => net.input.next(),

@@ -5,6 +5,7 @@
 ghost use Rattle.std.specs.Prelude.{◌≡◌, true, IfSome};
 
 mod board;
+mod deed;
 mod event;
 mod fault;
 mod frame;

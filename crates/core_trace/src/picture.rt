@@ -1,11 +1,11 @@
 ghost use Rattle.std.specs.Prelude.{◌≤◌};
 
 use crate::board::{Board, Place, Waiting};
+use crate::deed::Deed;
 use crate::event::{Event, Told};
 use crate::said::{name_of, outcome_of, write_feed, write_name};
 use crate::svg::{Mark, Point, write_bar, write_label, write_line, write_mark, write_text};
 use crate::words::Asked;
-use batch_procs::Action;
 use solo_base::{BufferNo, ProcNo};
 use std::alloc::{AllocError, Global};
 
@@ -198,12 +198,12 @@ impl Picture {
     /// Notes what an event put into a buffer, or draws what it took from one.
     fn hand_over(&mut self, event: &Event, number: u64) -> Result<(), AllocError> {
         let process = event.process;
-        match (&event.action, &event.told) {
-            (Action::PutFeed(_) | Action::PutPage(_), Told::Done) => self.inside.push(Inside {
+        match (&event.deed, &event.told) {
+            (Deed::PutFeed(_) | Deed::PutPage { .. }, Told::Done) => self.inside.push(Inside {
                 buffer: process,
                 put: number,
             })?,
-            (Action::TakeFeed, Told::Fed(_)) | (Action::TakePage, Told::Done) => {
+            (Deed::TakeFeed, Told::Fed(_)) | (Deed::TakePage, Told::Done) => {
                 let buffer = process.saturating_sub(1);
                 if let Some(inside) = self.take(buffer) {
                     draw_handed(&mut self.under, self.cut, inside, number)?;
@@ -281,24 +281,24 @@ fn at_place(place: Place) -> &'static str {
 }
 
 fn mark_of(event: &Event) -> Mark {
-    match (&event.action, &event.told) {
+    match (&event.deed, &event.told) {
         (_, Told::Waits) => Mark::Waits,
-        (Action::Ended(_), _) => Mark::Ends,
-        (Action::ReadCard | Action::Print(_) | Action::Load(_), _) => Mark::Device,
+        (Deed::Ended(_), _) => Mark::Ends,
+        (Deed::ReadCard | Deed::Print(_) | Deed::Load(_), _) => Mark::Device,
         _ => Mark::Done,
     }
 }
 
 /// What is written above an event: what it puts or loads, and how its process ends or why it closes down.
 fn write_words(text: &mut String, event: &Event) -> Result<(), AllocError> {
-    match (&event.action, &event.told) {
+    match (&event.deed, &event.told) {
         (_, Told::Waits) => Ok(()),
         (_, Told::Closes(outcome) | Told::Ends(outcome)) => text.push_str(outcome_of(*outcome)),
-        (Action::PutFeed(feed), _) => write_feed(text, feed),
-        (Action::PutPage(page), _) if page.last() => text.push_str("last page"),
-        (Action::PutPage(_), _) => text.push_str("page"),
-        (Action::Load(file), _) => write_name(text, file),
-        (Action::Stop(_), _) => text.push_str("stop"),
+        (Deed::PutFeed(feed), _) => write_feed(text, feed),
+        (Deed::PutPage { last: true }, _) => text.push_str("last page"),
+        (Deed::PutPage { .. }, _) => text.push_str("page"),
+        (Deed::Load(file), _) => write_name(text, file),
+        (Deed::Stop(_), _) => text.push_str("stop"),
         _ => Ok(()),
     }
 }

@@ -1,6 +1,6 @@
 use crate::board::{Board, Place};
 use crate::event::Event;
-use crate::said::{name_of, write_action, write_feed, write_told};
+use crate::said::{name_of, write_deed, write_feed, write_told};
 use batch_procs::{JobWork, Loader};
 use net_core::Shared;
 use solo_base::{BufferNo, Feed, ProcNo};
@@ -53,7 +53,7 @@ fn write_event(row: &mut String, number: u64, event: &Event) -> Result<(), Alloc
     let name = name_of(process);
     write!(row, "{number:>5} {process} {name:<8}")?;
     let start = row.len();
-    write_action(row, &event.action)?;
+    write_deed(row, &event.deed)?;
     row.push_str(" -> ")?;
     write_told(row, &event.told)?;
     fill(row, start, ACTS)

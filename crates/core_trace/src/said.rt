@@ -1,5 +1,5 @@
+use crate::deed::Deed;
 use crate::event::Told;
-use batch_procs::Action;
 use solo_base::{Cause, Feed, Ident, Item, Line, Outcome, ProcNo};
 use std::alloc::AllocError;
 
@@ -49,35 +49,35 @@ pub fn write_name(text: &mut String, name: &Ident) -> Result<(), AllocError> {
 }
 
 /// Writes what a process does.
-pub fn write_action(text: &mut String, action: &Action) -> Result<(), AllocError> {
-    text.push_str(words_of(action))?;
-    match action {
-        Action::PutFeed(feed) => write_feed(text, feed),
-        Action::Load(file) => write_name(text, file),
-        Action::Print(line) => write_line(text, line),
-        Action::Stop(buffer) => write!(text, "{buffer}"),
+pub fn write_deed(text: &mut String, deed: &Deed) -> Result<(), AllocError> {
+    text.push_str(words_of(deed))?;
+    match deed {
+        Deed::PutFeed(feed) => write_feed(text, feed),
+        Deed::Load(file) => write_name(text, file),
+        Deed::Print(line) => write_line(text, line),
+        Deed::Stop(buffer) => write!(text, "{buffer}"),
         _ => Ok(()),
     }
 }
 
 /// The words of what a process does, in front of what it does it with.
-fn words_of(action: &Action) -> &'static str {
-    match action {
-        Action::ReadCard => "reads a card",
-        Action::PutFeed(_) => "puts ",
-        Action::TakeFeed => "takes",
-        Action::AwaitRoom => "awaits room",
-        Action::AwaitItem => "awaits a page",
-        Action::Request => "requests the disk",
-        Action::PutPage(page) if page.last() => "puts the last page",
-        Action::PutPage(_) => "puts a page",
-        Action::TakePage => "takes a page",
-        Action::Load(_) => "loads ",
-        Action::Release => "releases the disk",
-        Action::Local => "works",
-        Action::Print(_) => "prints ",
-        Action::Stop(_) => "stops buffer ",
-        Action::Ended(_) => "ends",
+fn words_of(deed: &Deed) -> &'static str {
+    match deed {
+        Deed::ReadCard => "reads a card",
+        Deed::PutFeed(_) => "puts ",
+        Deed::TakeFeed => "takes",
+        Deed::AwaitRoom => "awaits room",
+        Deed::AwaitItem => "awaits a page",
+        Deed::Request => "requests the disk",
+        Deed::PutPage { last: true } => "puts the last page",
+        Deed::PutPage { .. } => "puts a page",
+        Deed::TakePage => "takes a page",
+        Deed::Load(_) => "loads ",
+        Deed::Release => "releases the disk",
+        Deed::Local => "works",
+        Deed::Print(_) => "prints ",
+        Deed::Stop(_) => "stops buffer ",
+        Deed::Ended(_) => "ends",
     }
 }
 

@@ -2,13 +2,14 @@ ghost use Rattle.network_run.specs.Law.{Placed};
 ghost use Rattle.core_law.specs.TheLaw.{the_law};
 
 use crate::board::{Board, Waiting};
+use crate::deed::Deed;
 use crate::event::{Event, Told, happen};
 use crate::fault::Fault;
 use crate::frame::print_picture;
 use crate::picture::Picture;
 use crate::row::{HEAD, row_of};
 use crate::words::{Asked, Form};
-use batch_procs::{Action, JobWork, Loader};
+use batch_procs::{JobWork, Loader};
 use net_core::{Net, Shared};
 use network_run::{Counts, Network, Rule, next_by};
 use solo_devices::{Area, Sink, Source};
@@ -152,7 +153,7 @@ fn show<J: JobWork, S: Source, K: Sink, F: Loader<J>, A: Area, B: Area>(
 /// The counts with one event more. A request that doesn't wait has the disk.
 fn counted(counts: Counts, event: &Event) -> Counts {
     let waits = matches!(event.told, Told::Waits);
-    let asks = matches!(event.action, Action::Request);
+    let asks = matches!(event.deed, Deed::Request);
     Counts {
         events: counts.events.saturating_add(1),
         delays: counts.delays.saturating_add(u64::from(waits)),

@@ -26,7 +26,7 @@ impl<A: Area + Drop> Loader<DeckWork> for DeckFiles<A> {
 
     ghost are_loads = { λ loader. found_are_loads (A.pages loader.files.area) };
 
-    fn load(&mut self, alloc: Global, file: &Ident) -> Reply<Loaded> {
+    fn load<'a>(&mut self, alloc: Global, file: &Ident) -> Reply<'a, Loaded> {
         match load_job(alloc, file, &mut self.files) {
             Ok(load) => Reply::Loaded(load),
             Err(LoadFault::DiskFault) => Reply::Failed,

@@ -1,5 +1,6 @@
 -- A step of one of the machines is a step of the network.
 use Rattle.std.proofs.Common.{◌≡◌, ◌≢◌, ℕ, true, List, ◌∷◌, Option, None, Some, refl, sym, ◌∙◌, ap, subst, arith}
+use Rattle.solo_base.specs.declared.page.Page.{Page}
 use Rattle.solo_devices.specs.declared.card_read.CardRead.{CardRead}
 use Rattle.solo_devices.specs.declared.card_read.CardRead.TheVariants as card_read
 use Rattle.batch_procs.specs.declared.actions.Action.{Action}
@@ -191,7 +192,7 @@ module _ {L : Type 0} {J : Jobs L} (jobs : AreJobs J) where
           (not (loads-files jobs p (s.histories p) file step.one (follows p) (step.next ∙ ap Some is)))))
 
     -- ---- by the machine
-    card-stands : (m : Machine X CardWork) (new : Shared X S K F A B) (action : Action) (entry : Entry L) (gained : List ℕ)
+    card-stands : (m : Machine X CardWork) (new : Shared X S K F A B) (room : Page) (action : Action) (entry : Entry L) (gained : List ℕ)
         → StandsFor J card keeps.card m (entry ∷ s.histories 1) → MayStepIn J s 1 action → action_of entry ≡ action
         → HasCauses tells counts net.shared new 1 action (reply_of entry)
         → SharedStands tells new (happens (core J (process J)) s record {
@@ -205,8 +206,9 @@ module _ {L : Type 0} {J : Jobs L} (jobs : AreJobs J) where
           card =
               m;
           shared = new;
+          room = room;
         }) (happens (core J (process J)) s record { process = 1; entry = entry; gained = gained })
-    card-stands m new action entry gained st step same causes shared = record {
+    card-stands m new room action entry gained st step same causes shared = record {
       card = st;
       input = stands.input;
       job = stands.job;
@@ -218,7 +220,7 @@ module _ {L : Type 0} {J : Jobs L} (jobs : AreJobs J) where
       files_sound = files-other 1 action step new entry same st.follows.1 causes (λ e. cc);
     }
 
-    input-stands : (m : Machine X InputWork) (new : Shared X S K F A B) (action : Action) (entry : Entry L) (gained : List ℕ)
+    input-stands : (m : Machine X InputWork) (new : Shared X S K F A B) (room : Page) (action : Action) (entry : Entry L) (gained : List ℕ)
         → StandsFor J input keeps.input m (entry ∷ s.histories 2) → MayStepIn J s 2 action → action_of entry ≡ action
         → HasCauses tells counts net.shared new 2 action (reply_of entry)
         → SharedStands tells new (happens (core J (process J)) s record {
@@ -232,8 +234,9 @@ module _ {L : Type 0} {J : Jobs L} (jobs : AreJobs J) where
           input =
               m;
           shared = new;
+          room = room;
         }) (happens (core J (process J)) s record { process = 2; entry = entry; gained = gained })
-    input-stands m new action entry gained st step same causes shared = record {
+    input-stands m new room action entry gained st step same causes shared = record {
       card = stands.card;
       input = st;
       job = stands.job;
@@ -245,7 +248,7 @@ module _ {L : Type 0} {J : Jobs L} (jobs : AreJobs J) where
       files_sound = files-other 2 action step new entry same st.follows.1 causes (λ e. cc);
     }
 
-    job-stands : (m : Machine X (JobProcWork X)) (new : Shared X S K F A B) (action : Action) (entry : Entry L) (gained : List ℕ)
+    job-stands : (m : Machine X (JobProcWork X)) (new : Shared X S K F A B) (room : Page) (action : Action) (entry : Entry L) (gained : List ℕ)
         → StandsFor J (job J) keeps.job m (entry ∷ s.histories 3) → MayStepIn J s 3 action → action_of entry ≡ action
         → HasCauses tells counts net.shared new 3 action (reply_of entry)
         → SharedStands tells new (happens (core J (process J)) s record {
@@ -259,8 +262,9 @@ module _ {L : Type 0} {J : Jobs L} (jobs : AreJobs J) where
           job =
               m;
           shared = new;
+          room = room;
         }) (happens (core J (process J)) s record { process = 3; entry = entry; gained = gained })
-    job-stands m new action entry gained st step same causes shared = record {
+    job-stands m new room action entry gained st step same causes shared = record {
       card = stands.card;
       input = stands.input;
       job = st;
@@ -272,7 +276,7 @@ module _ {L : Type 0} {J : Jobs L} (jobs : AreJobs J) where
       files_sound = files-own 3 action step new entry same st.follows.1 causes refl;
     }
 
-    output-stands : (m : Machine X OutputWork) (new : Shared X S K F A B) (action : Action) (entry : Entry L) (gained : List ℕ)
+    output-stands : (m : Machine X OutputWork) (new : Shared X S K F A B) (room : Page) (action : Action) (entry : Entry L) (gained : List ℕ)
         → StandsFor J output keeps.output m (entry ∷ s.histories 4) → MayStepIn J s 4 action → action_of entry ≡ action
         → HasCauses tells counts net.shared new 4 action (reply_of entry)
         → SharedStands tells new (happens (core J (process J)) s record {
@@ -286,8 +290,9 @@ module _ {L : Type 0} {J : Jobs L} (jobs : AreJobs J) where
           output =
               m;
           shared = new;
+          room = room;
         }) (happens (core J (process J)) s record { process = 4; entry = entry; gained = gained })
-    output-stands m new action entry gained st step same causes shared = record {
+    output-stands m new room action entry gained st step same causes shared = record {
       card = stands.card;
       input = stands.input;
       job = stands.job;
@@ -299,7 +304,7 @@ module _ {L : Type 0} {J : Jobs L} (jobs : AreJobs J) where
       files_sound = files-other 4 action step new entry same st.follows.1 causes (λ e. cc);
     }
 
-    printer-stands : (m : Machine X PrinterWork) (new : Shared X S K F A B) (action : Action) (entry : Entry L) (gained : List ℕ)
+    printer-stands : (m : Machine X PrinterWork) (new : Shared X S K F A B) (room : Page) (action : Action) (entry : Entry L) (gained : List ℕ)
         → StandsFor J printer keeps.printer m (entry ∷ s.histories 5) → MayStepIn J s 5 action → action_of entry ≡ action
         → HasCauses tells counts net.shared new 5 action (reply_of entry)
         → SharedStands tells new (happens (core J (process J)) s record {
@@ -313,8 +318,9 @@ module _ {L : Type 0} {J : Jobs L} (jobs : AreJobs J) where
           printer =
               m;
           shared = new;
+          room = room;
         }) (happens (core J (process J)) s record { process = 5; entry = entry; gained = gained })
-    printer-stands m new action entry gained st step same causes shared = record {
+    printer-stands m new room action entry gained st step same causes shared = record {
       card = stands.card;
       input = stands.input;
       job = stands.job;
@@ -360,40 +366,40 @@ module _ {L : Type 0} {J : Jobs L} (jobs : AreJobs J) where
           };
         }
 
-    pub at-card : (m : Machine X CardWork) (new : Shared X S K F A B) (action : Action) (result : Stepped) → MayStepIn J s 1 action
+    pub at-card : (m : Machine X CardWork) (new : Shared X S K F A B) (room : Page) (action : Action) (result : Stepped) → MayStepIn J s 1 action
         → Steps (StandsFor J card keeps.card m) tells counts net.shared new 1 action (s.histories 1) result
-        → GoesOn keeps tells counts net (record net { card = m; shared = new }) s 1 result
-    at-card m new action result step st =
-        step-of 1 (record net { card = m; shared = new }) (StandsFor J card keeps.card m) action result step st st.stands.follows.1
-        (λ gained shared. card-stands m new action st.entry gained st.stands step st.action_is st.causes shared)
+        → GoesOn keeps tells counts net (record net { card = m; shared = new; room = room }) s 1 result
+    at-card m new room action result step st =
+        step-of 1 (record net { card = m; shared = new; room = room }) (StandsFor J card keeps.card m) action result step st st.stands.follows.1
+        (λ gained shared. card-stands m new room action st.entry gained st.stands step st.action_is st.causes shared)
 
-    pub at-input : (m : Machine X InputWork) (new : Shared X S K F A B) (action : Action) (result : Stepped) → MayStepIn J s 2 action
+    pub at-input : (m : Machine X InputWork) (new : Shared X S K F A B) (room : Page) (action : Action) (result : Stepped) → MayStepIn J s 2 action
         → Steps (StandsFor J input keeps.input m) tells counts net.shared new 2 action (s.histories 2) result
-        → GoesOn keeps tells counts net (record net { input = m; shared = new }) s 2 result
-    at-input m new action result step st =
-        step-of 2 (record net { input = m; shared = new }) (StandsFor J input keeps.input m) action result step st st.stands.follows.1
-        (λ gained shared. input-stands m new action st.entry gained st.stands step st.action_is st.causes shared)
+        → GoesOn keeps tells counts net (record net { input = m; shared = new; room = room }) s 2 result
+    at-input m new room action result step st =
+        step-of 2 (record net { input = m; shared = new; room = room }) (StandsFor J input keeps.input m) action result step st st.stands.follows.1
+        (λ gained shared. input-stands m new room action st.entry gained st.stands step st.action_is st.causes shared)
 
-    pub at-job : (m : Machine X (JobProcWork X)) (new : Shared X S K F A B) (action : Action) (result : Stepped) → MayStepIn J s 3 action
+    pub at-job : (m : Machine X (JobProcWork X)) (new : Shared X S K F A B) (room : Page) (action : Action) (result : Stepped) → MayStepIn J s 3 action
         → Steps (StandsFor J (job J) keeps.job m) tells counts net.shared new 3 action (s.histories 3) result
-        → GoesOn keeps tells counts net (record net { job = m; shared = new }) s 3 result
-    at-job m new action result step st =
-        step-of 3 (record net { job = m; shared = new }) (StandsFor J (job J) keeps.job m) action result step st st.stands.follows.1
-        (λ gained shared. job-stands m new action st.entry gained st.stands step st.action_is st.causes shared)
+        → GoesOn keeps tells counts net (record net { job = m; shared = new; room = room }) s 3 result
+    at-job m new room action result step st =
+        step-of 3 (record net { job = m; shared = new; room = room }) (StandsFor J (job J) keeps.job m) action result step st st.stands.follows.1
+        (λ gained shared. job-stands m new room action st.entry gained st.stands step st.action_is st.causes shared)
 
-    pub at-output : (m : Machine X OutputWork) (new : Shared X S K F A B) (action : Action) (result : Stepped) → MayStepIn J s 4 action
+    pub at-output : (m : Machine X OutputWork) (new : Shared X S K F A B) (room : Page) (action : Action) (result : Stepped) → MayStepIn J s 4 action
         → Steps (StandsFor J output keeps.output m) tells counts net.shared new 4 action (s.histories 4) result
-        → GoesOn keeps tells counts net (record net { output = m; shared = new }) s 4 result
-    at-output m new action result step st =
-        step-of 4 (record net { output = m; shared = new }) (StandsFor J output keeps.output m) action result step st st.stands.follows.1
-        (λ gained shared. output-stands m new action st.entry gained st.stands step st.action_is st.causes shared)
+        → GoesOn keeps tells counts net (record net { output = m; shared = new; room = room }) s 4 result
+    at-output m new room action result step st =
+        step-of 4 (record net { output = m; shared = new; room = room }) (StandsFor J output keeps.output m) action result step st st.stands.follows.1
+        (λ gained shared. output-stands m new room action st.entry gained st.stands step st.action_is st.causes shared)
 
-    pub at-printer : (m : Machine X PrinterWork) (new : Shared X S K F A B) (action : Action) (result : Stepped) → MayStepIn J s 5 action
+    pub at-printer : (m : Machine X PrinterWork) (new : Shared X S K F A B) (room : Page) (action : Action) (result : Stepped) → MayStepIn J s 5 action
         → Steps (StandsFor J printer keeps.printer m) tells counts net.shared new 5 action (s.histories 5) result
-        → GoesOn keeps tells counts net (record net { printer = m; shared = new }) s 5 result
-    at-printer m new action result step st =
-        step-of 5 (record net { printer = m; shared = new }) (StandsFor J printer keeps.printer m) action result step st st.stands.follows.1
-        (λ gained shared. printer-stands m new action st.entry gained st.stands step st.action_is st.causes shared)
+        → GoesOn keeps tells counts net (record net { printer = m; shared = new; room = room }) s 5 result
+    at-printer m new room action result step st =
+        step-of 5 (record net { printer = m; shared = new; room = room }) (StandsFor J printer keeps.printer m) action result step st st.stands.follows.1
+        (λ gained shared. printer-stands m new room action st.entry gained st.stands step st.action_is st.causes shared)
 
   -- ---- by the number
   pub next-at : (s : CoreState L) (p q : ℕ) (action : Action) → p ≡ q → MayStepIn J s p action → next_action (process J q) (s.histories q)

@@ -7,10 +7,11 @@ use resource_mon::{Grant, Resource};
 use solo_base::ProcNo;
 
 /// Asks for the disk, or resumes where the turn is handed to the process. No reply: the process waits.
-pub fn request<J: JobWork, const N: usize>(
+#[inline(always)]
+pub fn request<'a, J: JobWork, const N: usize>(
     desk: &mut Resource<N>,
     p: ProcNo,
-) -> Option<Reply<J::Load>>
+) -> Option<Reply<'a, J::Load>>
     requires may { MayRequest desk.old p }
     requires room { length desk.old.waiting < N }
     ensures { Asked J.jobs desk.old desk.new p result }
@@ -28,7 +29,8 @@ pub fn request<J: JobWork, const N: usize>(
 }
 
 /// Gives the disk back.
-pub fn release<J: JobWork, const N: usize>(desk: &mut Resource<N>) -> Reply<J::Load>
+#[inline(always)]
+pub fn release<'a, J: JobWork, const N: usize>(desk: &mut Resource<N>) -> Reply<'a, J::Load>
     requires held { IsSome desk.old.holder }
     requires free { desk.old.handed ≡ None }
     ensures { Given J.jobs desk.old desk.new result }

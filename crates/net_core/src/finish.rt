@@ -72,6 +72,7 @@ impl<J: JobWork, S: Source, K: Sink, F: Loader<J>, A: Area, B: Area> Net<J, S, K
             output,
             printer,
             shared,
+            room: _,
         } = self;
         let outcomes = Outcomes {
             card: outcome(&card),

@@ -8,21 +8,22 @@ ghost use Rattle.network_law.specs.Acts.{Passes, Stops};
 ghost use Rattle.net_core.specs.Calls.{Visited};
 ghost use Rattle.net_core.specs.Lines.{LineStands};
 
-use batch_procs::{JobWork, Reply};
+use batch_procs::{JobWork, Reply, copy_feed};
 use slot_buffer::{LineBuffer, Put, Take};
 use solo_base::{BufferNo, Feed, ProcNo, Side};
 
-/// Puts what is handed over into a line buffer. No reply: the process waits.
-pub fn put_feed<J: JobWork>(
+/// Puts what is handed over into a line buffer, where it is copied. No reply: the process waits.
+#[inline(always)]
+pub fn put_feed<'a, J: JobWork>(
     buffer: &mut LineBuffer,
     p: ProcNo,
-    feed: Feed,
-) -> Option<Reply<J::Load>>
+    feed: &Feed,
+) -> Option<Reply<'a, J::Load>>
     requires may_enter { MayEnter buffer.old.sides Sender p }
     requires not_stopped { has_stopped buffer.old.sides Sender ≡ false }
-    ensures { Visited J.jobs LineStands buffer.old buffer.new Sender Passes p (act.PutFeed feed) result }
+    ensures { Visited J.jobs LineStands buffer.old buffer.new Sender Passes p (act.PutFeed feed.now) result }
 {
-    match buffer.put(p, feed) {
+    match buffer.put(p, copy_feed(feed)) {
         Put::Done => Some(Reply::Done),
         Put::Delayed(_) => None,
         Put::Stopped(_) => Some(Reply::Stopped),
@@ -30,7 +31,8 @@ pub fn put_feed<J: JobWork>(
 }
 
 /// Takes what is handed over from a line buffer. No reply: the process waits.
-pub fn take_feed<J: JobWork>(buffer: &mut LineBuffer, p: ProcNo) -> Option<Reply<J::Load>>
+#[inline(always)]
+pub fn take_feed<'a, J: JobWork>(buffer: &mut LineBuffer, p: ProcNo) -> Option<Reply<'a, J::Load>>
     requires may_enter { MayEnter buffer.old.sides Receiver p }
     requires not_stopped { has_stopped buffer.old.sides Receiver ≡ false }
     ensures { Visited J.jobs LineStands buffer.old buffer.new Receiver Passes p act.TakeFeed result }
@@ -43,11 +45,12 @@ pub fn take_feed<J: JobWork>(buffer: &mut LineBuffer, p: ProcNo) -> Option<Reply
 }
 
 /// Stops a line buffer, which has this number, at a side.
-pub fn stop_line<J: JobWork>(
+#[inline(always)]
+pub fn stop_line<'a, J: JobWork>(
     buffer: &mut LineBuffer,
     number: BufferNo,
     side: Side,
-) -> Reply<J::Load>
+) -> Reply<'a, J::Load>
     requires free { buffer.old.sides.turn ≡ Free }
     requires nobody_waits { queue buffer.old.sides side ≡ None }
     ensures { (p : ℕ)

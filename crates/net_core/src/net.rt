@@ -17,7 +17,7 @@ use batch_procs::{
     CardProc, InputProc, JobProc, JobWork, Loader, Machine, OutputProc, PrinterProc,
 };
 use network_run::{Falling, Network, Stepped, Sure};
-use solo_base::ProcNo;
+use solo_base::{Page, ProcNo};
 use solo_devices::{Area, Sink, Source};
 use std::alloc::Global;
 
@@ -31,6 +31,8 @@ pub struct Net<J, S: Source, K: Sink, F, A: Area, B: Area> {
     pub output: OutputProc<J>,
     pub printer: PrinterProc<J>,
     pub shared: Shared<J, S, K, F, A, B>,
+    /// Where a page that is taken lies while its process reads it.
+    pub room: Page,
 }
 
 impl<J: JobWork, S: Source, K: Sink, F: Loader<J>, A: Area, B: Area> Net<J, S, K, F, A, B> {
@@ -57,6 +59,7 @@ impl<J: JobWork, S: Source, K: Sink, F: Loader<J>, A: Area, B: Area> Net<J, S, K
             output: Machine::new(alloc),
             printer: Machine::new(alloc),
             shared: Shared::make(alloc, units),
+            room: Page::zeros(),
         }
     }
 }
@@ -124,15 +127,15 @@ impl<J: JobWork, S: Source, K: Sink, F: Loader<J>, A: Area, B: Area> Network
 
     fn step(&mut self, p: ProcNo) -> Stepped {
         if p == 1 {
-            step_machine(&mut self.card, p, &mut self.shared)
+            step_machine(&mut self.card, p, &mut self.shared, &mut self.room)
         } else if p == 2 {
-            step_machine(&mut self.input, p, &mut self.shared)
+            step_machine(&mut self.input, p, &mut self.shared, &mut self.room)
         } else if p == 3 {
-            step_machine(&mut self.job, p, &mut self.shared)
+            step_machine(&mut self.job, p, &mut self.shared, &mut self.room)
         } else if p == 4 {
-            step_machine(&mut self.output, p, &mut self.shared)
+            step_machine(&mut self.output, p, &mut self.shared, &mut self.room)
         } else {
-            step_machine(&mut self.printer, p, &mut self.shared)
+            step_machine(&mut self.printer, p, &mut self.shared, &mut self.room)
         }
     }
 }

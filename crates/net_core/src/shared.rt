@@ -68,39 +68,48 @@ impl<J: JobWork, S: Source, K: Sink, F: Loader<J>, A: Area, B: Area> Shared<J, S
         }
     }
 
-    /// Performs the action of a process. No reply: the process waits.
-    pub fn perform(&mut self, p: ProcNo, action: Action) -> Option<Reply<J::Load>>
+    /// Performs the action of a process. A page that it takes is lent from the room. No reply: the process
+    /// waits.
+    // Inlined, as a reply is copied whole where it crosses a call.
+    #[inline(always)]
+    pub fn perform<'a>(
+        &mut self,
+        p: ProcNo,
+        action: Action<'_>,
+        room: &'a mut Page,
+    ) -> Option<Reply<'a, J::Load>>
         requires may { MayPerform ⟦<Units<S, K, F, A, B> as Peripherals<J>>⟧.tells self.old p action }
         ensures performs { Performs J.jobs ⟦<Units<S, K, F, A, B> as Peripherals<J>>⟧.tells
-            self.old self.new p action result }
+            self.old self.new p action.entry result }
         ensures causes { HasCauses ⟦<Units<S, K, F, A, B> as Peripherals<J>>⟧.tells
-            ⟦<Units<S, K, F, A, B> as Peripherals<J>>⟧.counts self.old self.new p action result }
+            ⟦<Units<S, K, F, A, B> as Peripherals<J>>⟧.counts self.old self.new p action.entry result }
     {
         match action {
             Action::ReadCard => Some(read_card::<J, S>(&mut self.deck)),
-            Action::PutFeed(feed) => self.put_feed(p, feed),
+            Action::PutFeed(feed) => self.put_feed(p, feed.get()),
             Action::TakeFeed => self.take_feed(p),
             Action::AwaitRoom => self.await_room(p),
             Action::AwaitItem => self.await_item(p),
             Action::Request => request::<J, 5>(&mut self.desk, p),
-            Action::PutPage(page) => Some(self.put_page(p, page)),
-            Action::TakePage => Some(self.take_page(p)),
+            Action::PutPage(page) => Some(self.put_page(p, page.get())),
+            Action::TakePage => Some(self.take_page(p, room)),
             Action::Load(file) => Some(self.files.load(self.alloc, &file)),
             Action::Release => Some(release::<J, 5>(&mut self.desk)),
             Action::Local => Some(Reply::Done),
-            Action::Print(line) => Some(print::<J, K>(&mut self.paper, &line)),
+            Action::Print(line) => Some(print::<J, K>(&mut self.paper, line.get())),
             Action::Stop(buffer) => Some(self.stop(p, buffer)),
             Action::Ended(_) => Some(Reply::Done),
         }
     }
 
-    fn put_feed(&mut self, p: ProcNo, feed: Feed) -> Option<Reply<J::Load>>
+    #[inline(always)]
+    fn put_feed<'a>(&mut self, p: ProcNo, feed: &Feed) -> Option<Reply<'a, J::Load>>
         requires may { MayPerform ⟦<Units<S, K, F, A, B> as Peripherals<J>>⟧.tells
-            self.old p (act.PutFeed feed) }
+            self.old p (act.PutFeed feed.now) }
         ensures performs { Performs J.jobs ⟦<Units<S, K, F, A, B> as Peripherals<J>>⟧.tells
-            self.old self.new p (act.PutFeed feed) result }
+            self.old self.new p (act.PutFeed feed.now) result }
         ensures causes { HasCauses ⟦<Units<S, K, F, A, B> as Peripherals<J>>⟧.tells
-            ⟦<Units<S, K, F, A, B> as Peripherals<J>>⟧.counts self.old self.new p (act.PutFeed feed) result }
+            ⟦<Units<S, K, F, A, B> as Peripherals<J>>⟧.counts self.old self.new p (act.PutFeed feed.now) result }
     {
         if p == 1 {
             put_feed::<J>(&mut self.cards, p, feed)
@@ -109,7 +118,8 @@ impl<J: JobWork, S: Source, K: Sink, F: Loader<J>, A: Area, B: Area> Shared<J, S
         }
     }
 
-    fn take_feed(&mut self, p: ProcNo) -> Option<Reply<J::Load>>
+    #[inline(always)]
+    fn take_feed<'a>(&mut self, p: ProcNo) -> Option<Reply<'a, J::Load>>
         requires may { MayPerform ⟦<Units<S, K, F, A, B> as Peripherals<J>>⟧.tells self.old p act.TakeFeed }
         ensures performs { Performs J.jobs ⟦<Units<S, K, F, A, B> as Peripherals<J>>⟧.tells
             self.old self.new p act.TakeFeed result }
@@ -123,7 +133,8 @@ impl<J: JobWork, S: Source, K: Sink, F: Loader<J>, A: Area, B: Area> Shared<J, S
         }
     }
 
-    fn await_room(&mut self, p: ProcNo) -> Option<Reply<J::Load>>
+    #[inline(always)]
+    fn await_room<'a>(&mut self, p: ProcNo) -> Option<Reply<'a, J::Load>>
         requires may { MayPerform ⟦<Units<S, K, F, A, B> as Peripherals<J>>⟧.tells self.old p act.AwaitRoom }
         ensures performs { Performs J.jobs ⟦<Units<S, K, F, A, B> as Peripherals<J>>⟧.tells
             self.old self.new p act.AwaitRoom result }
@@ -137,7 +148,8 @@ impl<J: JobWork, S: Source, K: Sink, F: Loader<J>, A: Area, B: Area> Shared<J, S
         }
     }
 
-    fn await_item(&mut self, p: ProcNo) -> Option<Reply<J::Load>>
+    #[inline(always)]
+    fn await_item<'a>(&mut self, p: ProcNo) -> Option<Reply<'a, J::Load>>
         requires may { MayPerform ⟦<Units<S, K, F, A, B> as Peripherals<J>>⟧.tells self.old p act.AwaitItem }
         ensures performs { Performs J.jobs ⟦<Units<S, K, F, A, B> as Peripherals<J>>⟧.tells
             self.old self.new p act.AwaitItem result }
@@ -151,14 +163,15 @@ impl<J: JobWork, S: Source, K: Sink, F: Loader<J>, A: Area, B: Area> Shared<J, S
         }
     }
 
-    fn put_page(&mut self, p: ProcNo, page: Page) -> Reply<J::Load>
+    #[inline(always)]
+    fn put_page<'a>(&mut self, p: ProcNo, page: &Page) -> Reply<'a, J::Load>
         requires may { MayPerform ⟦<Units<S, K, F, A, B> as Peripherals<J>>⟧.tells
-            self.old p (act.PutPage page) }
+            self.old p (act.PutPage page.now) }
         ensures performs { Performs J.jobs ⟦<Units<S, K, F, A, B> as Peripherals<J>>⟧.tells
-            self.old self.new p (act.PutPage page) (Some result) }
+            self.old self.new p (act.PutPage page.now) (Some result) }
         ensures causes { HasCauses ⟦<Units<S, K, F, A, B> as Peripherals<J>>⟧.tells
             ⟦<Units<S, K, F, A, B> as Peripherals<J>>⟧.counts
-            self.old self.new p (act.PutPage page) (Some result) }
+            self.old self.new p (act.PutPage page.now) (Some result) }
     {
         if p == 2 {
             put_page::<J, A>(&mut self.input, page)
@@ -167,7 +180,8 @@ impl<J: JobWork, S: Source, K: Sink, F: Loader<J>, A: Area, B: Area> Shared<J, S
         }
     }
 
-    fn take_page(&mut self, p: ProcNo) -> Reply<J::Load>
+    #[inline(always)]
+    fn take_page<'a>(&mut self, p: ProcNo, room: &'a mut Page) -> Reply<'a, J::Load>
         requires may { MayPerform ⟦<Units<S, K, F, A, B> as Peripherals<J>>⟧.tells self.old p act.TakePage }
         ensures performs { Performs J.jobs ⟦<Units<S, K, F, A, B> as Peripherals<J>>⟧.tells
             self.old self.new p act.TakePage (Some result) }
@@ -175,13 +189,14 @@ impl<J: JobWork, S: Source, K: Sink, F: Loader<J>, A: Area, B: Area> Shared<J, S
             ⟦<Units<S, K, F, A, B> as Peripherals<J>>⟧.counts self.old self.new p act.TakePage (Some result) }
     {
         if p == 3 {
-            take_page::<J, A>(&mut self.input)
+            take_page::<J, A>(&mut self.input, room)
         } else {
-            take_page::<J, B>(&mut self.output)
+            take_page::<J, B>(&mut self.output, room)
         }
     }
 
-    fn stop(&mut self, p: ProcNo, buffer: BufferNo) -> Reply<J::Load>
+    #[inline(always)]
+    fn stop<'a>(&mut self, p: ProcNo, buffer: BufferNo) -> Reply<'a, J::Load>
         requires may { MayPerform ⟦<Units<S, K, F, A, B> as Peripherals<J>>⟧.tells
             self.old p (act.Stop buffer) }
         ensures performs { Performs J.jobs ⟦<Units<S, K, F, A, B> as Peripherals<J>>⟧.tells

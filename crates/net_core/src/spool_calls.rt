@@ -9,13 +9,17 @@ ghost use Rattle.network_law.specs.Acts.{Awaits, Moves, Stops};
 ghost use Rattle.net_core.specs.Calls.{Visited};
 ghost use Rattle.net_core.specs.Spools.{SpoolStands};
 
-use batch_procs::{JobWork, Reply};
+use batch_procs::{JobWork, Lent, Reply};
 use disk_spool::{Await, Fetched, Spool};
 use solo_base::{BufferNo, Page, ProcNo, Side};
 use solo_devices::{Area, Moved};
 
 /// Waits until a spool has room for a page. No reply: the process waits.
-pub fn await_room<J: JobWork, A: Area>(spool: &mut Spool<A>, p: ProcNo) -> Option<Reply<J::Load>>
+#[inline(always)]
+pub fn await_room<'a, J: JobWork, A: Area>(
+    spool: &mut Spool<A>,
+    p: ProcNo,
+) -> Option<Reply<'a, J::Load>>
     requires may_enter { MayEnter spool.old.sides Sender p }
     requires not_stopped { has_stopped spool.old.sides Sender ≡ false }
     ensures visited { Visited J.jobs
@@ -26,7 +30,11 @@ pub fn await_room<J: JobWork, A: Area>(spool: &mut Spool<A>, p: ProcNo) -> Optio
 }
 
 /// Waits until a spool has a page. No reply: the process waits.
-pub fn await_item<J: JobWork, A: Area>(spool: &mut Spool<A>, p: ProcNo) -> Option<Reply<J::Load>>
+#[inline(always)]
+pub fn await_item<'a, J: JobWork, A: Area>(
+    spool: &mut Spool<A>,
+    p: ProcNo,
+) -> Option<Reply<'a, J::Load>>
     requires may_enter { MayEnter spool.old.sides Receiver p }
     requires not_stopped { has_stopped spool.old.sides Receiver ≡ false }
     ensures visited { Visited J.jobs
@@ -37,25 +45,30 @@ pub fn await_item<J: JobWork, A: Area>(spool: &mut Spool<A>, p: ProcNo) -> Optio
 }
 
 /// Puts a page into a spool that has room.
-pub fn put_page<J: JobWork, A: Area>(spool: &mut Spool<A>, page: Page) -> Reply<J::Load>
+#[inline(always)]
+pub fn put_page<'a, J: JobWork, A: Area>(spool: &mut Spool<A>, page: &Page) -> Reply<'a, J::Load>
     requires free { spool.old.sides.turn ≡ Free }
     requires nobody_waits { queue spool.old.sides Sender ≡ None }
     requires room { length spool.old.ring.marks < spool.old.ring.capacity }
     requires not_stopped { has_stopped spool.old.sides Sender ≡ false }
     ensures visited { (p : ℕ)
         → Visited J.jobs (SpoolStands A.pages) spool.old
-        spool.new Sender Moves p (act.PutPage page) (Some result) }
+        spool.new Sender Moves p (act.PutPage page.now) (Some result) }
     ensures failed { result ≡ reply.Failed → Rose (A.faults spool.old.area) (A.faults spool.new.area) }
     ensures counts { A.faults spool.old.area ≤ A.faults spool.new.area }
 {
-    match spool.put(&page) {
+    match spool.put(page) {
         Moved::Done => Reply::Done,
         Moved::Failed => Reply::Failed,
     }
 }
 
-/// Takes a page from a spool that has one.
-pub fn take_page<J: JobWork, A: Area>(spool: &mut Spool<A>) -> Reply<J::Load>
+/// Takes a page from a spool that has one. It is lent from the room.
+#[inline(always)]
+pub fn take_page<'a, J: JobWork, A: Area>(
+    spool: &mut Spool<A>,
+    room: &'a mut Page,
+) -> Reply<'a, J::Load>
     requires free { spool.old.sides.turn ≡ Free }
     requires nobody_waits { queue spool.old.sides Receiver ≡ None }
     requires item { spool.old.ring.marks ≢ [] }
@@ -66,19 +79,22 @@ pub fn take_page<J: JobWork, A: Area>(spool: &mut Spool<A>) -> Reply<J::Load>
     ensures failed { result ≡ reply.Failed → Rose (A.faults spool.old.area) (A.faults spool.new.area) }
     ensures counts { A.faults spool.old.area ≤ A.faults spool.new.area }
 {
-    let mut page = Page::zeros();
-    match spool.take(&mut page) {
-        Fetched::Done { last } => Reply::Page { page, last },
+    match spool.take(room) {
+        Fetched::Done { last } => Reply::Page {
+            page: Lent::of(room),
+            last,
+        },
         Fetched::Failed => Reply::Failed,
     }
 }
 
 /// Stops a spool, which has this number, at a side.
-pub fn stop_spool<J: JobWork, A: Area>(
+#[inline(always)]
+pub fn stop_spool<'a, J: JobWork, A: Area>(
     spool: &mut Spool<A>,
     number: BufferNo,
     side: Side,
-) -> Reply<J::Load>
+) -> Reply<'a, J::Load>
     requires free { spool.old.sides.turn ≡ Free }
     requires nobody_waits { queue spool.old.sides side ≡ None }
     ensures visited { (p : ℕ)
@@ -93,7 +109,8 @@ pub fn stop_spool<J: JobWork, A: Area>(
 
 ghost use Rattle.net_core.specs.Calls.{await_reply};
 
-fn reply_of<L>(answer: Await) -> Option<Reply<L>>
+#[inline(always)]
+fn reply_of<'a, L>(answer: Await) -> Option<Reply<'a, L>>
     ensures { result ≡ await_reply answer }
 {
     match answer {

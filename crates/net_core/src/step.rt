@@ -9,14 +9,15 @@ use crate::Shared;
 use batch_ends::{Peripherals, Units};
 use batch_procs::{JobWork, Loader, Machine, Work};
 use network_run::Stepped;
-use solo_base::ProcNo;
+use solo_base::{Page, ProcNo};
 use solo_devices::{Area, Sink, Source};
 
-/// Takes the next action of a process.
+/// Takes the next action of a process. A page that it takes lies in the room meanwhile.
 pub fn step_machine<J: JobWork, W: Work<J>, S: Source, K: Sink, F: Loader<J>, A: Area, B: Area>(
     machine: &mut Machine<J, W>,
     p: ProcNo,
     shared: &mut Shared<J, S, K, F, A, B>,
+    room: &mut Page,
 ) -> Stepped
     requires may { MayStep ⟦<Units<S, K, F, A, B> as Peripherals<J>>⟧.tells W.process
         (StandsFor J.jobs W.process W.keeps machine.old) shared.old p }
@@ -30,7 +31,7 @@ pub fn step_machine<J: JobWork, W: Work<J>, S: Source, K: Sink, F: Loader<J>, A:
 {
     let action = machine.next();
     let goes = shared.goes(p, &action);
-    match shared.perform(p, action) {
+    match shared.perform(p, action, room) {
         None => Stepped::Delayed,
         Some(reply) => match machine.give(reply) {
             Ok(()) => goes,

@@ -57,7 +57,7 @@ impl<J: JobWork, S: Source, K: Sink, F: Loader<J>, A: Area, B: Area> Shared<J, S
 
     /// Whether the monitors let a process make its call now.
     #[inline(always)]
-    pub fn may_call(&self, p: ProcNo, action: &Action) -> bool
+    pub fn may_call(&self, p: ProcNo, action: &Action<'_>) -> bool
         ensures { (s : CoreState J.Load) →
             SharedStands ⟦<Units<S, K, F, A, B> as Peripherals<J>>⟧.tells self.now s →
             HasPlace s p action.now → IsTrue result ↔ MayCall s p (call p action.now) }
@@ -94,7 +94,7 @@ impl<J: JobWork, S: Source, K: Sink, F: Loader<J>, A: Area, B: Area> Shared<J, S
     /// How the step of a process goes that need not wait: it ends, its call is made again at a handed turn,
     /// or it acts.
     #[inline(always)]
-    pub fn goes(&self, p: ProcNo, action: &Action) -> Stepped
+    pub fn goes(&self, p: ProcNo, action: &Action<'_>) -> Stepped
         ensures { (s : CoreState J.Load) →
             SharedStands ⟦<Units<S, K, F, A, B> as Peripherals<J>>⟧.tells self.now s →
             HasPlace s p action.now →

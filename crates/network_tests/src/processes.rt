@@ -2,7 +2,7 @@
 
 use crate::walks::{Trouble, first_other, listing_actions, put_action};
 use batch_procs::{
-    CardProc, CardWork, InputWork, JobProcWork, OutputProc, OutputWork, PrinterWork, Reply,
+    CardProc, CardWork, InputWork, JobProcWork, Lent, OutputProc, OutputWork, PrinterWork, Reply,
 };
 use deck_work::DeckWork;
 use solo_base::Page;
@@ -204,8 +204,9 @@ fn a_page_that_was_not_put_is_damaged(rt: HostRuntime) -> Result<(), Fail> {
     let mut machine = OutputProc::<DeckWork>::new(rt.alloc());
     machine.give(Reply::Done)?;
     machine.give(Reply::Done)?;
+    let unwritten = Page([0; 512]);
     machine.give(Reply::Page {
-        page: Page([0; 512]),
+        page: Lent::of(&unwritten),
         last: true,
     })?;
     let mut text = Vec::new(rt.alloc());

@@ -1,6 +1,6 @@
 // Walks a process from its beginning to its end, for tests.
 
-use batch_procs::{Action, Machine, Reply, Work};
+use batch_procs::{Action, Lent, Machine, Reply, Work};
 use deck_work::DeckWork;
 use disk_system::Loaded;
 use page_codec::Packer;
@@ -66,15 +66,15 @@ fn put_page(text: &mut Vec<u8>, page: &Page) -> Result<(), Fail> {
 }
 
 /// Writes an action, with a bar behind it.
-pub fn put_action(text: &mut Vec<u8>, action: &Action) -> Result<(), Fail> {
+pub fn put_action(text: &mut Vec<u8>, action: &Action<'_>) -> Result<(), Fail> {
     match action {
         Action::ReadCard => text.extend_from_slice(b"ReadCard")?,
-        Action::PutFeed(feed) => put_feed(text, feed)?,
+        Action::PutFeed(feed) => put_feed(text, feed.get())?,
         Action::TakeFeed => text.extend_from_slice(b"TakeFeed")?,
         Action::AwaitRoom => text.extend_from_slice(b"AwaitRoom")?,
         Action::AwaitItem => text.extend_from_slice(b"AwaitItem")?,
         Action::Request => text.extend_from_slice(b"Request")?,
-        Action::PutPage(page) => put_page(text, page)?,
+        Action::PutPage(page) => put_page(text, page.get())?,
         Action::TakePage => text.extend_from_slice(b"TakePage")?,
         Action::Release => text.extend_from_slice(b"Release")?,
         Action::Load(file) => {
@@ -84,7 +84,7 @@ pub fn put_action(text: &mut Vec<u8>, action: &Action) -> Result<(), Fail> {
         Action::Local => text.extend_from_slice(b"Local")?,
         Action::Print(line) => {
             text.extend_from_slice(b"Print ")?;
-            text.extend_from_slice(line.bytes())?;
+            text.extend_from_slice(line.get().bytes())?;
         }
         Action::Stop(buffer) => {
             text.extend_from_slice(b"Stop ")?;
@@ -104,7 +104,6 @@ pub fn put_action(text: &mut Vec<u8>, action: &Action) -> Result<(), Fail> {
 struct Supply<'a> {
     cards: &'a [&'a [u8]],
     pages: Vec<Page>,
-    taken: usize,
 }
 
 /// The pages of a stream of these cards.
@@ -122,9 +121,7 @@ fn pages_of(alloc: Global, cards: &[&[u8]]) -> Result<Vec<Page>, Fail> {
 }
 
 impl Supply<'_> {
-    fn card(&mut self) -> CardRead {
-        let place = self.taken;
-        self.taken = place.saturating_add(1);
+    fn card(&self, place: usize) -> CardRead {
         match self.cards.get(place) {
             Some(card) => match Line::of(card) {
                 Some(line) => CardRead::Card(line),
@@ -134,32 +131,30 @@ impl Supply<'_> {
         }
     }
 
-    fn feed(&mut self) -> Feed {
-        match self.card() {
+    fn feed(&self, place: usize) -> Feed {
+        match self.card(place) {
             CardRead::Card(line) => Feed::Item(Item::Line(line)),
             CardRead::Spoiled => Feed::Item(Item::Spoiled),
             _ => Feed::End,
         }
     }
 
-    fn page(&mut self) -> Reply<Loaded> {
-        let place = self.taken;
-        self.taken = place.saturating_add(1);
+    fn page(&self, place: usize) -> Reply<'_, Loaded> {
         match self.pages.as_slice().get(place) {
             Some(page) => Reply::Page {
-                page: *page,
+                page: Lent::of(page),
                 last: page.last(),
             },
             None => Reply::Failed,
         }
     }
 
-    /// The reply to an action that succeeds.
-    fn reply_to(&mut self, action: &Action) -> Reply<Loaded> {
+    /// The reply to an action that succeeds, behind so many things that were taken.
+    fn reply_to<'s>(&'s self, action: &Action<'_>, taken: usize) -> Reply<'s, Loaded> {
         match action {
-            Action::ReadCard => Reply::Card(self.card()),
-            Action::TakeFeed => Reply::Feed(self.feed()),
-            Action::TakePage => self.page(),
+            Action::ReadCard => Reply::Card(self.card(taken)),
+            Action::TakeFeed => Reply::Feed(self.feed(taken)),
+            Action::TakePage => self.page(taken),
             Action::Load(_) => Reply::Loaded(Loaded::NoFile),
             _ => Reply::Done,
         }
@@ -167,7 +162,7 @@ impl Supply<'_> {
 }
 
 /// The reply that goes wrong at the action of this number.
-fn trouble_at(trouble: Trouble, number: usize) -> Option<Reply<Loaded>> {
+fn trouble_at<'a>(trouble: Trouble, number: usize) -> Option<Reply<'a, Loaded>> {
     match trouble {
         Trouble::Stop(at) if at == number => Some(Reply::Stopped),
         Trouble::Failure(at) if at == number => Some(Reply::Failed),
@@ -189,7 +184,6 @@ pub fn first_other<W: Work<DeckWork> + Drop>(
         let supply = Supply {
             cards,
             pages: pages_of(alloc, cards)?,
-            taken: 0,
         };
         let text = actions_over::<W>(alloc, supply, trouble)?;
         if text.as_slice() != want.as_bytes() {
@@ -207,27 +201,50 @@ pub fn listing_actions<W: Work<DeckWork> + Drop>(
     let supply = Supply {
         cards: &[],
         pages: listing(alloc, columns)?,
-        taken: 0,
     };
     actions_over::<W>(alloc, supply, Trouble::None)
 }
 
+/// The reply to the action of this number, behind so many things that were taken.
+fn reply_at<'s>(
+    supply: &'s Supply<'_>,
+    trouble: Trouble,
+    number: usize,
+    action: &Action<'_>,
+    taken: usize,
+) -> Reply<'s, Loaded> {
+    match trouble_at(trouble, number) {
+        Some(reply) => reply,
+        None => supply.reply_to(action, taken),
+    }
+}
+
+/// Whether an action takes one of the things that there are.
+fn takes_one(action: &Action<'_>) -> bool {
+    matches!(
+        action,
+        Action::ReadCard | Action::TakeFeed | Action::TakePage
+    )
+}
+
 fn actions_over<W: Work<DeckWork> + Drop>(
     alloc: Global,
-    mut supply: Supply,
+    supply: Supply,
     trouble: Trouble,
 ) -> Result<Vec<u8>, Fail> {
     let mut machine = Machine::<DeckWork, W>::new(alloc);
     let mut text = Vec::new(alloc);
+    let mut taken = 0usize;
     for number in 0..60 {
         let action = machine.next();
         put_action(&mut text, &action)?;
-        let reply = match trouble_at(trouble, number) {
-            Some(reply) => reply,
-            None => supply.reply_to(&action),
-        };
+        let (takes, ends) = (takes_one(&action), matches!(action, Action::Ended(_)));
+        let reply = reply_at(&supply, trouble, number, &action, taken);
         machine.give(reply)?;
-        if matches!(action, Action::Ended(_)) {
+        if takes {
+            taken = taken.saturating_add(1);
+        }
+        if ends {
             break;
         }
     }

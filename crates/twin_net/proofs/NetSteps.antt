@@ -1,6 +1,7 @@
 -- A step of one of the six is an event of the network, and the network stands for the state behind it.
 use Rattle.std.proofs.Common.{◌≡◌, ◌↔◌, ◌≤◌, ◌<◌, ◌||◌, ℕ, Bool, true, false, List, ◌∷◌, None, Some, refl, sym, ◌∙◌, ap, subst, arith}
 use Rattle.std.specs.Prelude.{IsTrue, is_none}
+use Rattle.solo_base.specs.declared.page.Page.{Page}
 use Rattle.solo_devices.specs.declared.card_read.CardRead.TheVariants as read
 use Rattle.batch_procs.specs.declared.actions.Reply.{Reply}
 use Rattle.batch_procs.specs.Jobs.{Jobs, AreJobs}
@@ -196,11 +197,11 @@ module _ {L X S K F P : Type 0} {J : Jobs L} (jobs : AreJobs J) (keeps : X → J
       sound-after = st.enters.sound stands.sound
 
     -- ---- by the machine
-    pub at-card : (m : TwinMachine X CardProc) (new : TwinShared X S K F P) (action : Action) (result : Stepped) → TwinMayGo J s 1 action
+    pub at-card : (m : TwinMachine X CardProc) (new : TwinShared X S K F P) (room : Page) (action : Action) (result : Stepped) → TwinMayGo J s 1 action
         → TwinSteps J card (StandsFor card card_at m) tells counts net.shared new 1 action (s.histories 1) result
-        → GoesOn net (record net { card = m; shared = new }) s 1 result
-    at-card m new action result may st =
-        goes-on 1 action may (StandsFor card card_at m) new result st (record net { card = m; shared = new }) refl record {
+        → GoesOn net (record net { card = m; shared = new; room = room }) s 1 result
+    at-card m new room action result may st =
+        goes-on 1 action may (StandsFor card card_at m) new result st (record net { card = m; shared = new; room = room }) refl record {
           card = st.stands;
           input = stands.input;
           job_a = stands.job_a;
@@ -213,11 +214,11 @@ module _ {L X S K F P : Type 0} {J : Jobs L} (jobs : AreJobs J) (keeps : X → J
           sound = sound-after 1 action may (StandsFor card card_at m) new result st;
         }
 
-    pub at-input : (m : TwinMachine X InputProc) (new : TwinShared X S K F P) (action : Action) (result : Stepped) → TwinMayGo J s 2 action
+    pub at-input : (m : TwinMachine X InputProc) (new : TwinShared X S K F P) (room : Page) (action : Action) (result : Stepped) → TwinMayGo J s 2 action
         → TwinSteps J input (StandsFor input InputStands m) tells counts net.shared new 2 action (s.histories 2) result
-        → GoesOn net (record net { input = m; shared = new }) s 2 result
-    at-input m new action result may st =
-        goes-on 2 action may (StandsFor input InputStands m) new result st (record net { input = m; shared = new }) refl record {
+        → GoesOn net (record net { input = m; shared = new; room = room }) s 2 result
+    at-input m new room action result may st =
+        goes-on 2 action may (StandsFor input InputStands m) new result st (record net { input = m; shared = new; room = room }) refl record {
           card = stands.card;
           input = st.stands;
           job_a = stands.job_a;
@@ -230,11 +231,11 @@ module _ {L X S K F P : Type 0} {J : Jobs L} (jobs : AreJobs J) (keeps : X → J
           sound = sound-after 2 action may (StandsFor input InputStands m) new result st;
         }
 
-    pub at-job_a : (m : TwinMachine X (JobProc X SideA)) (new : TwinShared X S K F P) (action : Action) (result : Stepped) → TwinMayGo J s 3 action
+    pub at-job_a : (m : TwinMachine X (JobProc X SideA)) (new : TwinShared X S K F P) (room : Page) (action : Action) (result : Stepped) → TwinMayGo J s 3 action
         → TwinSteps J (job J A) (StandsFor (job J A) (job_stands J keeps) m) tells counts net.shared new 3 action (s.histories 3) result
-        → GoesOn net (record net { job_a = m; shared = new }) s 3 result
-    at-job_a m new action result may st =
-        goes-on 3 action may (StandsFor (job J A) (job_stands J keeps) m) new result st (record net { job_a = m; shared = new }) refl record {
+        → GoesOn net (record net { job_a = m; shared = new; room = room }) s 3 result
+    at-job_a m new room action result may st =
+        goes-on 3 action may (StandsFor (job J A) (job_stands J keeps) m) new result st (record net { job_a = m; shared = new; room = room }) refl record {
           card = stands.card;
           input = stands.input;
           job_a = st.stands;
@@ -247,11 +248,11 @@ module _ {L X S K F P : Type 0} {J : Jobs L} (jobs : AreJobs J) (keeps : X → J
           sound = sound-after 3 action may (StandsFor (job J A) (job_stands J keeps) m) new result st;
         }
 
-    pub at-job_b : (m : TwinMachine X (JobProc X SideB)) (new : TwinShared X S K F P) (action : Action) (result : Stepped) → TwinMayGo J s 4 action
+    pub at-job_b : (m : TwinMachine X (JobProc X SideB)) (new : TwinShared X S K F P) (room : Page) (action : Action) (result : Stepped) → TwinMayGo J s 4 action
         → TwinSteps J (job J B) (StandsFor (job J B) (job_stands J keeps) m) tells counts net.shared new 4 action (s.histories 4) result
-        → GoesOn net (record net { job_b = m; shared = new }) s 4 result
-    at-job_b m new action result may st =
-        goes-on 4 action may (StandsFor (job J B) (job_stands J keeps) m) new result st (record net { job_b = m; shared = new }) refl record {
+        → GoesOn net (record net { job_b = m; shared = new; room = room }) s 4 result
+    at-job_b m new room action result may st =
+        goes-on 4 action may (StandsFor (job J B) (job_stands J keeps) m) new result st (record net { job_b = m; shared = new; room = room }) refl record {
           card = stands.card;
           input = stands.input;
           job_a = stands.job_a;
@@ -264,11 +265,11 @@ module _ {L X S K F P : Type 0} {J : Jobs L} (jobs : AreJobs J) (keeps : X → J
           sound = sound-after 4 action may (StandsFor (job J B) (job_stands J keeps) m) new result st;
         }
 
-    pub at-output : (m : TwinMachine X OutputProc) (new : TwinShared X S K F P) (action : Action) (result : Stepped) → TwinMayGo J s 5 action
+    pub at-output : (m : TwinMachine X OutputProc) (new : TwinShared X S K F P) (room : Page) (action : Action) (result : Stepped) → TwinMayGo J s 5 action
         → TwinSteps J output (StandsFor output OutputStands m) tells counts net.shared new 5 action (s.histories 5) result
-        → GoesOn net (record net { output = m; shared = new }) s 5 result
-    at-output m new action result may st =
-        goes-on 5 action may (StandsFor output OutputStands m) new result st (record net { output = m; shared = new }) refl record {
+        → GoesOn net (record net { output = m; shared = new; room = room }) s 5 result
+    at-output m new room action result may st =
+        goes-on 5 action may (StandsFor output OutputStands m) new result st (record net { output = m; shared = new; room = room }) refl record {
           card = stands.card;
           input = stands.input;
           job_a = stands.job_a;
@@ -281,11 +282,11 @@ module _ {L X S K F P : Type 0} {J : Jobs L} (jobs : AreJobs J) (keeps : X → J
           sound = sound-after 5 action may (StandsFor output OutputStands m) new result st;
         }
 
-    pub at-printer : (m : TwinMachine X PrinterProc) (new : TwinShared X S K F P) (action : Action) (result : Stepped) → TwinMayGo J s 6 action
+    pub at-printer : (m : TwinMachine X PrinterProc) (new : TwinShared X S K F P) (room : Page) (action : Action) (result : Stepped) → TwinMayGo J s 6 action
         → TwinSteps J printer (StandsFor printer printer_at m) tells counts net.shared new 6 action (s.histories 6) result
-        → GoesOn net (record net { printer = m; shared = new }) s 6 result
-    at-printer m new action result may st =
-        goes-on 6 action may (StandsFor printer printer_at m) new result st (record net { printer = m; shared = new }) refl record {
+        → GoesOn net (record net { printer = m; shared = new; room = room }) s 6 result
+    at-printer m new room action result may st =
+        goes-on 6 action may (StandsFor printer printer_at m) new result st (record net { printer = m; shared = new; room = room }) refl record {
           card = stands.card;
           input = stands.input;
           job_a = stands.job_a;

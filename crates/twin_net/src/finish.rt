@@ -78,6 +78,7 @@ impl<J: JobWork, S: Source, K: Sink, F: Loader<J>, A: Area> TwinNet<J, S, K, F, 
             output: _,
             printer: _,
             shared,
+            room: _,
         } = self;
         TwinRan {
             outcomes,

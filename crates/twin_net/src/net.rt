@@ -14,7 +14,7 @@ use crate::step::step_machine;
 use crate::turns::may_step;
 use batch_procs::{JobWork, Loader};
 use network_run::{Falling, Network, Stepped};
-use solo_base::ProcNo;
+use solo_base::{Page, ProcNo};
 use solo_devices::{Area, Sink, Source};
 use std::alloc::Global;
 use twin_ends::{TwinPeripherals, TwinUnits};
@@ -33,6 +33,8 @@ pub struct TwinNet<J, S: Source, K: Sink, F, A: Area> {
     pub output: TwinOutput<J>,
     pub printer: TwinPrinter<J>,
     pub shared: TwinShared<J, S, K, F, A>,
+    /// Where a page that is taken lies while its process reads it.
+    pub room: Page,
 }
 
 impl<J: JobWork, S: Source, K: Sink, F: Loader<J>, A: Area> TwinNet<J, S, K, F, A> {
@@ -60,6 +62,7 @@ impl<J: JobWork, S: Source, K: Sink, F: Loader<J>, A: Area> TwinNet<J, S, K, F, 
             output: TwinMachine::new(alloc),
             printer: TwinMachine::new(alloc),
             shared: TwinShared::make(alloc, units),
+            room: Page::zeros(),
         }
     }
 }
@@ -129,17 +132,17 @@ impl<J: JobWork, S: Source, K: Sink, F: Loader<J>, A: Area> Network for TwinNet<
 
     fn step(&mut self, p: ProcNo) -> Stepped {
         if p == 1 {
-            step_machine(&mut self.card, p, &mut self.shared)
+            step_machine(&mut self.card, p, &mut self.shared, &mut self.room)
         } else if p == 2 {
-            step_machine(&mut self.input, p, &mut self.shared)
+            step_machine(&mut self.input, p, &mut self.shared, &mut self.room)
         } else if p == 3 {
-            step_machine(&mut self.job_a, p, &mut self.shared)
+            step_machine(&mut self.job_a, p, &mut self.shared, &mut self.room)
         } else if p == 4 {
-            step_machine(&mut self.job_b, p, &mut self.shared)
+            step_machine(&mut self.job_b, p, &mut self.shared, &mut self.room)
         } else if p == 5 {
-            step_machine(&mut self.output, p, &mut self.shared)
+            step_machine(&mut self.output, p, &mut self.shared, &mut self.room)
         } else {
-            step_machine(&mut self.printer, p, &mut self.shared)
+            step_machine(&mut self.printer, p, &mut self.shared, &mut self.room)
         }
     }
 }

@@ -13,7 +13,7 @@ use disk_spool::Spool;
 use net_core::{put_feed, release, request, stop_line, take_feed};
 use resource_mon::Resource;
 use slot_buffer::{LineBuffer, SlotBuffer};
-use solo_base::{BufferNo, Feed, Ident, ProcNo};
+use solo_base::{BufferNo, Feed, Ident, Page, ProcNo};
 use solo_devices::{Area, CardUnit, PrinterUnit, Sink, Source};
 use std::alloc::Global;
 use std::marker::PhantomData;
@@ -80,21 +80,27 @@ impl<J: JobWork, S: Source, K: Sink, F: Loader<J>, A: Area> TwinShared<J, S, K, 
         }
     }
 
-    /// Performs the action of a process. No reply: the process waits.
-    pub fn perform(&mut self, p: ProcNo, action: TwinAction) -> Option<Reply<J::Load>>
+    /// Performs the action of a process. A page that it takes is lent from the room. No reply: the process
+    /// waits.
+    pub fn perform<'a>(
+        &mut self,
+        p: ProcNo,
+        action: TwinAction,
+        room: &'a mut Page,
+    ) -> Option<Reply<'a, J::Load>>
         requires { MayDo ⟦<TwinUnits<S, K, F, A> as TwinPeripherals<J>>⟧.tells self.old p action }
         ensures { DoneSo J.jobs ⟦<TwinUnits<S, K, F, A> as TwinPeripherals<J>>⟧.tells
             ⟦<TwinUnits<S, K, F, A> as TwinPeripherals<J>>⟧.counts self.old self.new p (meant action) result }
     {
         match action {
             TwinAction::ReadCard => Some(read_card::<J, S>(&mut self.deck)),
-            TwinAction::PutFeed { buffer, feed } => self.put_feed(p, buffer, feed),
+            TwinAction::PutFeed { buffer, feed } => self.put_feed(p, buffer, &feed),
             TwinAction::TakeFeed(buffer) => self.take_feed(p, buffer),
             TwinAction::AwaitRoom(buffer) => self.spools.await_room::<J>(p, buffer),
             TwinAction::AwaitItem(buffer) => self.spools.await_item::<J>(p, buffer),
             TwinAction::Request => request::<J, 6>(&mut self.desk, p),
-            TwinAction::PutPage { buffer, page } => Some(self.spools.put_page::<J>(buffer, page)),
-            TwinAction::TakePage(buffer) => Some(self.spools.take_page::<J>(buffer)),
+            TwinAction::PutPage { buffer, page } => Some(self.spools.put_page::<J>(buffer, &page)),
+            TwinAction::TakePage(buffer) => Some(self.spools.take_page::<J>(buffer, room)),
             TwinAction::Load(file) => Some(self.load(p, &file)),
             TwinAction::Release => Some(release::<J, 6>(&mut self.desk)),
             TwinAction::Local => Some(Reply::Done),
@@ -104,11 +110,11 @@ impl<J: JobWork, S: Source, K: Sink, F: Loader<J>, A: Area> TwinShared<J, S, K, 
         }
     }
 
-    fn put_feed(&mut self, p: ProcNo, b: BufferNo, feed: Feed) -> Option<Reply<J::Load>>
+    fn put_feed<'a>(&mut self, p: ProcNo, b: BufferNo, feed: &Feed) -> Option<Reply<'a, J::Load>>
         requires { MayPutFeed self.old p b }
         ensures { DoneSo J.jobs ⟦<TwinUnits<S, K, F, A> as TwinPeripherals<J>>⟧.tells
             ⟦<TwinUnits<S, K, F, A> as TwinPeripherals<J>>⟧.counts self.old self.new p
-            (PutFeed b feed) result }
+            (PutFeed b feed.now) result }
     {
         if b == 1 {
             put_feed::<J>(&mut self.cards, p, feed)
@@ -117,7 +123,7 @@ impl<J: JobWork, S: Source, K: Sink, F: Loader<J>, A: Area> TwinShared<J, S, K, 
         }
     }
 
-    fn take_feed(&mut self, p: ProcNo, b: BufferNo) -> Option<Reply<J::Load>>
+    fn take_feed<'a>(&mut self, p: ProcNo, b: BufferNo) -> Option<Reply<'a, J::Load>>
         requires { MayTakeFeed self.old p b }
         ensures { DoneSo J.jobs ⟦<TwinUnits<S, K, F, A> as TwinPeripherals<J>>⟧.tells
             ⟦<TwinUnits<S, K, F, A> as TwinPeripherals<J>>⟧.counts self.old self.new p (TakeFeed b) result }
@@ -130,7 +136,7 @@ impl<J: JobWork, S: Source, K: Sink, F: Loader<J>, A: Area> TwinShared<J, S, K, 
     }
 
     /// Loads a file, unless a load failed before: then the files aren't asked, and this one fails too.
-    fn load(&mut self, p: ProcNo, file: &Ident) -> Reply<J::Load>
+    fn load<'a>(&mut self, p: ProcNo, file: &Ident) -> Reply<'a, J::Load>
         requires { MayLoad ⟦<TwinUnits<S, K, F, A> as TwinPeripherals<J>>⟧.tells self.old }
         ensures { DoneSo J.jobs ⟦<TwinUnits<S, K, F, A> as TwinPeripherals<J>>⟧.tells
             ⟦<TwinUnits<S, K, F, A> as TwinPeripherals<J>>⟧.counts self.old self.new p
@@ -145,7 +151,7 @@ impl<J: JobWork, S: Source, K: Sink, F: Loader<J>, A: Area> TwinShared<J, S, K, 
         reply
     }
 
-    fn stop(&mut self, p: ProcNo, b: BufferNo) -> Reply<J::Load>
+    fn stop<'a>(&mut self, p: ProcNo, b: BufferNo) -> Reply<'a, J::Load>
         requires { MayStopAt self.old p b }
         ensures { DoneSo J.jobs ⟦<TwinUnits<S, K, F, A> as TwinPeripherals<J>>⟧.tells
             ⟦<TwinUnits<S, K, F, A> as TwinPeripherals<J>>⟧.counts self.old self.new p
@@ -162,7 +168,7 @@ impl<J: JobWork, S: Source, K: Sink, F: Loader<J>, A: Area> TwinShared<J, S, K, 
     }
 }
 
-fn is_failed<L>(reply: &Reply<L>) -> bool
+fn is_failed<L>(reply: &Reply<'_, L>) -> bool
     ensures { result ≡ is_failure reply.now }
 {
     matches!(reply, Reply::Failed)

@@ -23,7 +23,11 @@ pub struct TwinSpools<A: Area> {
 
 impl<A: Area> TwinSpools<A> {
     /// Waits until a spool has room for a page. No reply: the process waits.
-    pub fn await_room<J: JobWork>(&mut self, p: ProcNo, b: BufferNo) -> Option<Reply<J::Load>>
+    pub fn await_room<'a, J: JobWork>(
+        &mut self,
+        p: ProcNo,
+        b: BufferNo,
+    ) -> Option<Reply<'a, J::Load>>
         requires { AtSpool self.old b (λ spool. WaitsAt spool.sides Sender p) }
         ensures { SpoolVisited J.jobs A.pages A.faults self.old self.new Sender Awaits p b
             (AwaitRoom b) result }
@@ -40,7 +44,11 @@ impl<A: Area> TwinSpools<A> {
     }
 
     /// Waits until a spool has a page. No reply: the process waits.
-    pub fn await_item<J: JobWork>(&mut self, p: ProcNo, b: BufferNo) -> Option<Reply<J::Load>>
+    pub fn await_item<'a, J: JobWork>(
+        &mut self,
+        p: ProcNo,
+        b: BufferNo,
+    ) -> Option<Reply<'a, J::Load>>
         requires { AtSpool self.old b (λ spool. WaitsAt spool.sides Receiver p) }
         ensures { SpoolVisited J.jobs A.pages A.faults self.old self.new Receiver Awaits p b
             (AwaitItem b) result }
@@ -57,10 +65,10 @@ impl<A: Area> TwinSpools<A> {
     }
 
     /// Puts a page into a spool that has room.
-    pub fn put_page<J: JobWork>(&mut self, b: BufferNo, page: Page) -> Reply<J::Load>
+    pub fn put_page<'a, J: JobWork>(&mut self, b: BufferNo, page: &Page) -> Reply<'a, J::Load>
         requires { AtSpool self.old b PutsAt }
         ensures { (p : ℕ) → SpoolVisited J.jobs A.pages A.faults self.old self.new Sender Moves p b
-            (PutPage b page) (Some result) }
+            (PutPage b page.now) (Some result) }
     {
         if b == 2 {
             put_page::<J, A>(&mut self.to_a, page)
@@ -73,25 +81,29 @@ impl<A: Area> TwinSpools<A> {
         }
     }
 
-    /// Takes a page from a spool that has one.
-    pub fn take_page<J: JobWork>(&mut self, b: BufferNo) -> Reply<J::Load>
+    /// Takes a page from a spool that has one. It is lent from the room.
+    pub fn take_page<'a, J: JobWork>(
+        &mut self,
+        b: BufferNo,
+        room: &'a mut Page,
+    ) -> Reply<'a, J::Load>
         requires { AtSpool self.old b TakesAt }
         ensures { (p : ℕ) → SpoolVisited J.jobs A.pages A.faults self.old self.new Receiver Moves p b
             (TakePage b) (Some result) }
     {
         if b == 2 {
-            take_page::<J, A>(&mut self.to_a)
+            take_page::<J, A>(&mut self.to_a, room)
         } else if b == 3 {
-            take_page::<J, A>(&mut self.to_b)
+            take_page::<J, A>(&mut self.to_b, room)
         } else if b == 4 {
-            take_page::<J, A>(&mut self.from_a)
+            take_page::<J, A>(&mut self.from_a, room)
         } else {
-            take_page::<J, A>(&mut self.from_b)
+            take_page::<J, A>(&mut self.from_b, room)
         }
     }
 
     /// Stops a spool at a side.
-    pub fn stop<J: JobWork>(&mut self, b: BufferNo, side: Side) -> Reply<J::Load>
+    pub fn stop<'a, J: JobWork>(&mut self, b: BufferNo, side: Side) -> Reply<'a, J::Load>
         requires { AtSpool self.old b (λ spool. MayStop spool.sides side) }
         ensures { (p : ℕ) →
             SpoolVisited J.jobs A.pages A.faults self.old self.new side Stops p b (Stop b) (Some result) }

@@ -9,16 +9,17 @@ ghost use Rattle.twin_net.specs.Steps.{TwinMayStep, TwinSteps};
 use crate::TwinShared;
 use batch_procs::{JobWork, Loader};
 use network_run::Stepped;
-use solo_base::ProcNo;
+use solo_base::{Page, ProcNo};
 use solo_devices::{Area, Sink, Source};
 use twin_ends::{TwinPeripherals, TwinUnits};
 use twin_procs::{TwinAction, TwinMachine, TwinProc};
 
-/// Takes the next action of a process.
+/// Takes the next action of a process. A page that it takes lies in the room meanwhile.
 pub fn step_machine<J: JobWork, P: TwinProc<J>, S: Source, K: Sink, F: Loader<J>, A: Area>(
     machine: &mut TwinMachine<J, P>,
     p: ProcNo,
     shared: &mut TwinShared<J, S, K, F, A>,
+    room: &mut Page,
 ) -> Stepped
     requires may { TwinMayStep ⟦<TwinUnits<S, K, F, A> as TwinPeripherals<J>>⟧.tells P.process
         (StandsFor P.process P.stands machine.old) shared.old p }
@@ -31,7 +32,7 @@ pub fn step_machine<J: JobWork, P: TwinProc<J>, S: Source, K: Sink, F: Loader<J>
     let action = machine.next();
     let ends = is_end(&action);
     let again = shared.is_again(p, &action);
-    match shared.perform(p, action) {
+    match shared.perform(p, action, room) {
         None => Stepped::Delayed,
         Some(reply) => match machine.give(reply) {
             Ok(()) => stepped(ends, again),

@@ -79,10 +79,10 @@ impl<J: JobWork> TwinProc<J> for CardProc {
     }
 
     // The clauses of `TwinProc`, which the prover does not yet give this method by itself.
-    fn take(&mut self, reply: Reply<J::Load>) -> Result<Option<Outcome>, NoMemory>
-        ensures ok { (at : CardPlace) → CardStands self.old.place at → IsHanded (card_aims at) reply →
-            TakesSo (card {L = J.Load}) (CardStands self.new.place) at reply result }
-        ensures err { OnErr result (((card {L = J.Load}).works ≡ true) × IsPage reply) }
+    fn take(&mut self, reply: Reply<'_, J::Load>) -> Result<Option<Outcome>, NoMemory>
+        ensures ok { (at : CardPlace) → CardStands self.old.place at → IsHanded (card_aims at) reply.entry →
+            TakesSo (card {L = J.Load}) (CardStands self.new.place) at reply.entry result }
+        ensures err { OnErr result (((card {L = J.Load}).works ≡ true) × IsPage reply.entry) }
     {
         match reply {
             Reply::Card(card) => Ok(self.read(card)),

@@ -102,10 +102,10 @@ impl<J: JobWork> TwinProc<J> for InputProc {
     }
 
     // The clauses of `TwinProc`, which the prover does not yet give this method by itself.
-    fn take(&mut self, reply: Reply<J::Load>) -> Result<Option<Outcome>, NoMemory>
-        ensures ok { (at : InputPlace) → InputStands self.old at → IsHanded (input_aims at) reply →
-            TakesSo (input {L = J.Load}) (InputStands self.new) at reply result }
-        ensures err { OnErr result (((input {L = J.Load}).works ≡ true) × IsPage reply) }
+    fn take(&mut self, reply: Reply<'_, J::Load>) -> Result<Option<Outcome>, NoMemory>
+        ensures ok { (at : InputPlace) → InputStands self.old at → IsHanded (input_aims at) reply.entry →
+            TakesSo (input {L = J.Load}) (InputStands self.new) at reply.entry result }
+        ensures err { OnErr result (((input {L = J.Load}).works ≡ true) × IsPage reply.entry) }
     {
         match reply {
             Reply::Feed(feed) => self.deal(feed),

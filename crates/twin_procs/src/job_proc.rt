@@ -112,14 +112,14 @@ impl<J: JobWork, S: OnSide> TwinProc<J> for JobProc<J, S> {
     }
 
     // The clauses of `TwinProc`, which the prover does not yet give this method by itself.
-    fn take(&mut self, reply: Reply<J::Load>) -> Result<Option<Outcome>, NoMemory>
+    fn take(&mut self, reply: Reply<'_, J::Load>) -> Result<Option<Outcome>, NoMemory>
         ensures ok { (at : JobPlace J.Load) → job_stands J.jobs J.keeps self.old at →
-            IsHanded (job_aims S.side at) reply →
-            TakesSo (job J.jobs S.side) (job_stands J.jobs J.keeps self.new) at reply result }
-        ensures err { OnErr result (((job J.jobs S.side).works ≡ true) × IsPage reply) }
+            IsHanded (job_aims S.side at) reply.entry →
+            TakesSo (job J.jobs S.side) (job_stands J.jobs J.keeps self.new) at reply.entry result }
+        ensures err { OnErr result (((job J.jobs S.side).works ≡ true) × IsPage reply.entry) }
     {
         match reply {
-            Reply::Page { page, last } => self.take_page(&page, last),
+            Reply::Page { page, last } => self.take_page(page.get(), last),
             Reply::Loaded(load) => {
                 self.jobs.load(load);
                 Ok(None)

@@ -101,14 +101,14 @@ impl<J: JobWork, P: TwinProc<J>> TwinMachine<J, P> {
     /// process, and it closes down.
     // Inlined, as an action and a reply are copied whole where they cross a call.
     #[inline(always)]
-    pub fn give(&mut self, reply: Reply<J::Load>) -> Result<(), NoMemory>
+    pub fn give(&mut self, reply: Reply<'_, J::Load>) -> Result<(), NoMemory>
         ensures ok { OnOk result ((h : List (Entry J.Load)) (action : Action)
             → StandsFor P.process P.stands self.old h → next_action P.process h ≡ Some action
-            → Fits action reply → StandsFor P.process P.stands self.new (Does action reply ∷ h)) }
+            → Fits action reply.entry → StandsFor P.process P.stands self.new (Does action reply.entry ∷ h)) }
         ensures err { OnErr result ((h : List (Entry J.Load)) (action : Action)
             → StandsFor P.process P.stands self.old h → next_action P.process h ≡ Some action
-            → Fits action reply → (P.process.works ≡ true) × MayLack action reply
-            × StandsFor P.process P.stands self.new (LacksMemory action reply ∷ h)) }
+            → Fits action reply.entry → (P.process.works ≡ true) × MayLack action reply.entry
+            × StandsFor P.process P.stands self.new (LacksMemory action reply.entry ∷ h)) }
     {
         let action = self.next();
         self.step = step_after(&action);
@@ -216,9 +216,9 @@ fn add_cause(cause: &mut Option<Outcome>, new: Option<Outcome>)
 fn answer<J: JobWork, P: TwinProc<J>>(
     process: &mut P,
     action: &TwinAction,
-    reply: Reply<J::Load>,
+    reply: Reply<'_, J::Load>,
 ) -> Result<Option<Outcome>, NoMemory>
-    ensures { Answers P.process P.stands process.old action.now reply result process.new }
+    ensures { Answers P.process P.stands process.old action.now reply.entry result process.new }
 {
     match reply {
         Reply::Done => finish::<J, P>(process, action),

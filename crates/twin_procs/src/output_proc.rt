@@ -98,15 +98,15 @@ impl<J: JobWork> TwinProc<J> for OutputProc {
     }
 
     // The clauses of `TwinProc`, which the prover does not yet give this method by itself.
-    fn take(&mut self, reply: Reply<J::Load>) -> Result<Option<Outcome>, NoMemory>
-        ensures ok { (at : OutputPlace) → OutputStands self.old at → IsHanded (output_aims at) reply →
-            TakesSo (output {L = J.Load}) (OutputStands self.new) at reply result }
-        ensures err { OnErr result (((output {L = J.Load}).works ≡ true) × IsPage reply) }
+    fn take(&mut self, reply: Reply<'_, J::Load>) -> Result<Option<Outcome>, NoMemory>
+        ensures ok { (at : OutputPlace) → OutputStands self.old at → IsHanded (output_aims at) reply.entry →
+            TakesSo (output {L = J.Load}) (OutputStands self.new) at reply.entry result }
+        ensures err { OnErr result (((output {L = J.Load}).works ≡ true) × IsPage reply.entry) }
     {
         let Reply::Page { page, last } = reply else {
             return Ok(None);
         };
-        match self.pages.take(&page, last) {
+        match self.pages.take(page.get(), last) {
             Ok(items) => {
                 self.turn(&items, last);
                 self.items = Some(items);

@@ -66,11 +66,11 @@ impl<J: JobWork> TwinProc<J> for PrinterProc {
     }
 
     // The clauses of `TwinProc`, which the prover does not yet give this method by itself.
-    fn take(&mut self, reply: Reply<J::Load>) -> Result<Option<Outcome>, NoMemory>
+    fn take(&mut self, reply: Reply<'_, J::Load>) -> Result<Option<Outcome>, NoMemory>
         ensures ok { (at : PrinterPlace) → PrinterStands self.old.place at →
-            IsHanded (printer_aims at) reply →
-            TakesSo (printer {L = J.Load}) (PrinterStands self.new.place) at reply result }
-        ensures err { OnErr result (((printer {L = J.Load}).works ≡ true) × IsPage reply) }
+            IsHanded (printer_aims at) reply.entry →
+            TakesSo (printer {L = J.Load}) (PrinterStands self.new.place) at reply.entry result }
+        ensures err { OnErr result (((printer {L = J.Load}).works ≡ true) × IsPage reply.entry) }
     {
         match reply {
             Reply::Feed(feed) => self.accept(feed),

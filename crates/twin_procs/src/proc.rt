@@ -40,10 +40,10 @@ pub trait TwinProc<J: JobWork> {
             → IsAtWork (process.aims at))) };
 
     /// Takes what a reply hands over, or says why the process stops.
-    fn take(&mut self, reply: Reply<J::Load>) -> Result<Option<Outcome>, NoMemory>
-        ensures ok { (at : process.Place) → stands self.old at → IsHanded (process.aims at) reply →
-            TakesSo process (stands self.new) at reply result }
-        ensures err { OnErr result ((process.works ≡ true) × IsPage reply) };
+    fn take(&mut self, reply: Reply<'_, J::Load>) -> Result<Option<Outcome>, NoMemory>
+        ensures ok { (at : process.Place) → stands self.old at → IsHanded (process.aims at) reply.entry →
+            TakesSo process (stands self.new) at reply.entry result }
+        ensures err { OnErr result ((process.works ≡ true) × IsPage reply.entry) };
 
     /// How it closes down.
     ghost closes: { ClosesDown process };

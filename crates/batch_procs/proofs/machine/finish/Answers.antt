@@ -1,20 +1,21 @@
-use Rattle.batch_procs.proofs.Answering.{is-put, uses-put, uses-work}
+use Rattle.std.proofs.Common.{sym, ◌∙◌}
+use Rattle.batch_procs.proofs.Answering.{is-put, is-local, uses-put, uses-work}
 use Rattle.batch_procs.proofs.machine.finish.Goals as goal
 
-pub returns-in-PutFeed : goal.returns-in-PutFeed
-returns-in-PutFeed g c = record {
+pub returns-in-Put : goal.returns-in-Put
+returns-in-Put g c = λ action done. record {
   uses =
       λ h follows none next fits kept. uses-put g.J.JobWork.jobs g.W.Work.process (g.W.Work.keeps c.args.work.now)
-      (g.W.Work.keeps c.put.new.self) c.args.action.now h
-      g.met.W.Work.relay c.put.ensures follows next (is-put c.args.action.now c.in-PutFeed.is) kept;
+      (g.W.Work.keeps c.put.new.self) action h
+      g.met.W.Work.relay c.put.ensures follows next (is-put action (sym c.in-Put.is ∙ done)) kept;
   lacks = tt;
 }
 
-pub returns-in_ok-work-in-Local : goal.returns-in_ok-work-in-Local
-returns-in_ok-work-in-Local g c = record {
+pub returns-in_ok-work-in-Work : goal.returns-in_ok-work-in-Work
+returns-in_ok-work-in-Work g c = λ action done. record {
   uses =
       λ h follows none next fits kept. uses-work g.J.JobWork.jobs g.W.Work.process (g.W.Work.keeps c.args.work.now)
-      (g.W.Work.keeps c.work.new.self) c.args.action.now h
-      g.met.W.Work.relay c.in-Local.is c.in_ok-work-in-Local.ensures.ok follows next kept;
+      (g.W.Work.keeps c.work.new.self) action h
+      g.met.W.Work.relay (is-local action (sym c.in-Work.is ∙ done)) c.in_ok-work-in-Work.ensures.ok follows next kept;
   lacks = tt;
 }

@@ -1,11 +1,13 @@
 use Rattle.std.proofs.Common.{sym, ap, ◌∙◌}
+use Rattle.page_codec.specs.Reading.{page_read}
 use Rattle.page_codec.specs.Stream.{awaited_after}
 use Rattle.batch_procs.proofs.PageTakes.{output-takes, is-damaged, no-page, none-behind}
 use Rattle.batch_procs.proofs.output_proc.OutputWorkWork.take.Goals as goal
 
 pub returns-in-Ok-clause-ok : goal.returns-in-Ok-clause-ok
 returns-in-Ok-clause-ok g c = λ taken sent keeps may.
-    let read = sym c.take.ensures.read ∙ c.in-Ok.is in
+    let same = ap (page_read c.args.self.now.pages.place c.in-Page.last) c.get.ensures in
+    let read = sym same ∙ (sym c.take.ensures.read ∙ c.in-Ok.is) in
     let all = output-takes _ _ _ _ _ _ taken sent c.args.reply c.in-Page.page c.in-Page.last c.in-Ok.items c.in-Page.is (sym c.is_ended.ensures
     ∙ c.if-is_ended.false) read
     (c.take.ensures.awaited
@@ -15,7 +17,7 @@ returns-in-Ok-clause-ok g c = λ taken sent keeps may.
 pub returns-in-Err-clause-ok : goal.returns-in-Err-clause-ok
 returns-in-Err-clause-ok g c = λ taken sent keeps may. (
   is-damaged _ taken c.in-Page.page c.in-Page.last c.in-Err.bad c.damage.result c.args.reply c.in-Page.is
-      (keeps.reads (sym c.is_ended.ensures ∙ c.if-is_ended.false)) (sym c.take.ensures.read ∙ c.in-Err.is) c.damage.ensures,
+      (keeps.reads (sym c.is_ended.ensures ∙ c.if-is_ended.false)) (sym (ap (page_read c.args.self.now.pages.place c.in-Page.last) c.get.ensures) ∙ (sym c.take.ensures.read ∙ c.in-Err.is)) c.damage.ensures,
   λ none. absurd cc,
 )
 

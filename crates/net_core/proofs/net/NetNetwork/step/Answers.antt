@@ -31,11 +31,12 @@ step_machine-requires-else-p-eq4 g c = record {
 pub returns-then-p-eq1 : goal.returns-then-p-eq1
 returns-then-p-eq1 g c = record {
   steps = λ at may.
-      steps-at g.met.J.JobWork.are_jobs _ _ _ c.args.self.now (record c.args.self.now { card = c.step_machine.new.machine; shared = c.step_machine.new.shared })
+      steps-at g.met.J.JobWork.are_jobs _ _ _ c.args.self.now
+      (record c.args.self.now { card = c.step_machine.new.machine; shared = c.step_machine.new.shared; room = c.step_machine.new.room })
       at.state _ c.args.p 1
       may.action c.step_machine.result (at.state.histories 1) c.if-p-eq1.true
-      (at-card g.met.J.JobWork.are_jobs _ _ _ c.args.self.now at.opening at.state at.reached at.stands c.step_machine.new.machine c.step_machine.new.shared
-      may.action c.step_machine.result)
+      (at-card g.met.J.JobWork.are_jobs _ _ _ c.args.self.now at.opening at.state at.reached at.stands c.step_machine.new.machine
+      c.step_machine.new.shared c.step_machine.new.room may.action c.step_machine.result)
       (in-step g.met.J.JobWork.are_jobs at.state c.args.p may)
       (c.step_machine.ensures (at.state.histories 1) may.action at.stands.is.card
       (next-at g.met.J.JobWork.are_jobs at.state c.args.p 1 may.action c.if-p-eq1.true (in-step g.met.J.JobWork.are_jobs at.state c.args.p may)));
@@ -45,10 +46,15 @@ pub returns-then-p-eq2 : goal.returns-then-p-eq2
 returns-then-p-eq2 g c = record {
   steps = λ at may.
       steps-at g.met.J.JobWork.are_jobs _ _ _ c.args.self.now
-      (record c.args.self.now { input = c.step_machine-then-p-eq2.new.machine; shared = c.step_machine-then-p-eq2.new.shared }) at.state _ c.args.p 2
+      (record c.args.self.now {
+        input = c.step_machine-then-p-eq2.new.machine;
+        shared = c.step_machine-then-p-eq2.new.shared;
+        room = c.step_machine-then-p-eq2.new.room;
+      })
+      at.state _ c.args.p 2
       may.action c.step_machine-then-p-eq2.result (at.state.histories 2) c.if-p-eq2.true
       (at-input g.met.J.JobWork.are_jobs _ _ _ c.args.self.now at.opening at.state at.reached at.stands c.step_machine-then-p-eq2.new.machine
-      c.step_machine-then-p-eq2.new.shared may.action c.step_machine-then-p-eq2.result)
+      c.step_machine-then-p-eq2.new.shared c.step_machine-then-p-eq2.new.room may.action c.step_machine-then-p-eq2.result)
       (in-step g.met.J.JobWork.are_jobs at.state c.args.p may)
       (c.step_machine-then-p-eq2.ensures (at.state.histories 2) may.action at.stands.is.input
       (next-at g.met.J.JobWork.are_jobs at.state c.args.p 2 may.action c.if-p-eq2.true (in-step g.met.J.JobWork.are_jobs at.state c.args.p may)));
@@ -58,10 +64,15 @@ pub returns-then-p-eq3 : goal.returns-then-p-eq3
 returns-then-p-eq3 g c = record {
   steps = λ at may.
       steps-at g.met.J.JobWork.are_jobs _ _ _ c.args.self.now
-      (record c.args.self.now { job = c.step_machine-then-p-eq3.new.machine; shared = c.step_machine-then-p-eq3.new.shared }) at.state _ c.args.p 3
+      (record c.args.self.now {
+        job = c.step_machine-then-p-eq3.new.machine;
+        shared = c.step_machine-then-p-eq3.new.shared;
+        room = c.step_machine-then-p-eq3.new.room;
+      })
+      at.state _ c.args.p 3
       may.action c.step_machine-then-p-eq3.result (at.state.histories 3) c.if-p-eq3.true
       (at-job g.met.J.JobWork.are_jobs _ _ _ c.args.self.now at.opening at.state at.reached at.stands c.step_machine-then-p-eq3.new.machine
-      c.step_machine-then-p-eq3.new.shared may.action c.step_machine-then-p-eq3.result)
+      c.step_machine-then-p-eq3.new.shared c.step_machine-then-p-eq3.new.room may.action c.step_machine-then-p-eq3.result)
       (in-step g.met.J.JobWork.are_jobs at.state c.args.p may)
       (c.step_machine-then-p-eq3.ensures (at.state.histories 3) may.action at.stands.is.job
       (next-at g.met.J.JobWork.are_jobs at.state c.args.p 3 may.action c.if-p-eq3.true (in-step g.met.J.JobWork.are_jobs at.state c.args.p may)));
@@ -71,10 +82,15 @@ pub returns-then-p-eq4 : goal.returns-then-p-eq4
 returns-then-p-eq4 g c = record {
   steps = λ at may.
       steps-at g.met.J.JobWork.are_jobs _ _ _ c.args.self.now
-      (record c.args.self.now { output = c.step_machine-then-p-eq4.new.machine; shared = c.step_machine-then-p-eq4.new.shared }) at.state _ c.args.p 4
+      (record c.args.self.now {
+        output = c.step_machine-then-p-eq4.new.machine;
+        shared = c.step_machine-then-p-eq4.new.shared;
+        room = c.step_machine-then-p-eq4.new.room;
+      })
+      at.state _ c.args.p 4
       may.action c.step_machine-then-p-eq4.result (at.state.histories 4) c.if-p-eq4.true
       (at-output g.met.J.JobWork.are_jobs _ _ _ c.args.self.now at.opening at.state at.reached at.stands c.step_machine-then-p-eq4.new.machine
-      c.step_machine-then-p-eq4.new.shared may.action c.step_machine-then-p-eq4.result)
+      c.step_machine-then-p-eq4.new.shared c.step_machine-then-p-eq4.new.room may.action c.step_machine-then-p-eq4.result)
       (in-step g.met.J.JobWork.are_jobs at.state c.args.p may)
       (c.step_machine-then-p-eq4.ensures (at.state.histories 4) may.action at.stands.is.output
       (next-at g.met.J.JobWork.are_jobs at.state c.args.p 4 may.action c.if-p-eq4.true (in-step g.met.J.JobWork.are_jobs at.state c.args.p may)));
@@ -84,11 +100,16 @@ pub returns-else-p-eq4 : goal.returns-else-p-eq4
 returns-else-p-eq4 g c = record {
   steps = λ at may.
       steps-at g.met.J.JobWork.are_jobs _ _ _ c.args.self.now
-      (record c.args.self.now { printer = c.step_machine-else-p-eq4.new.machine; shared = c.step_machine-else-p-eq4.new.shared }) at.state _ c.args.p 5
+      (record c.args.self.now {
+        printer = c.step_machine-else-p-eq4.new.machine;
+        shared = c.step_machine-else-p-eq4.new.shared;
+        room = c.step_machine-else-p-eq4.new.room;
+      })
+      at.state _ c.args.p 5
       may.action c.step_machine-else-p-eq4.result (at.state.histories 5) (last-number c.args.p may.one c.if-p-eq1.false c.if-p-eq2.false c.if-p-eq3.false
       c.if-p-eq4.false)
       (at-printer g.met.J.JobWork.are_jobs _ _ _ c.args.self.now at.opening at.state at.reached at.stands c.step_machine-else-p-eq4.new.machine
-      c.step_machine-else-p-eq4.new.shared may.action c.step_machine-else-p-eq4.result)
+      c.step_machine-else-p-eq4.new.shared c.step_machine-else-p-eq4.new.room may.action c.step_machine-else-p-eq4.result)
       (in-step g.met.J.JobWork.are_jobs at.state c.args.p may)
       (c.step_machine-else-p-eq4.ensures (at.state.histories 5) may.action at.stands.is.printer
       (next-at g.met.J.JobWork.are_jobs at.state c.args.p 5 may.action (last-number c.args.p may.one c.if-p-eq1.false c.if-p-eq2.false c.if-p-eq3.false

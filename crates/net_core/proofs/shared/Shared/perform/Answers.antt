@@ -1,4 +1,4 @@
-use Rattle.std.proofs.Common.{Some, refl}
+use Rattle.std.proofs.Common.{Some, refl, sym, ◌∙◌, ap}
 use Rattle.batch_procs.specs.declared.actions.Action.TheVariants as act
 use Rattle.batch_procs.specs.declared.actions.Reply.TheVariants as reply
 use Rattle.net_core.proofs.Causing.{at-causes, quiet-causes, read-causes, print-causes, load-causes}
@@ -16,6 +16,26 @@ returns-in-ReadCard-clause-causes g c =
     at-causes g.met.J.JobWork.are_jobs _ _ c.args.self.now _ c.args.p c.args.action act.ReadCard (Some c.read_card.result) c.in-ReadCard.is
     (read-causes g.met.J.JobWork.are_jobs _ _ c.args.self.now _ c.args.p c.read_card.result refl refl refl refl c.read_card.ensures.failed
     c.read_card.ensures.counts c.read_card.ensures.limit c.read_card.ensures.live)
+
+pub returns-in-PutFeed-clause-performs : goal.returns-in-PutFeed-clause-performs
+returns-in-PutFeed-clause-performs g c =
+    at-action g.met.J.JobWork.are_jobs _ c.args.self.now _ c.args.p c.args.action (act.PutFeed c.get.result.now) c.put_feed.result
+    (c.in-PutFeed.is ∙ ap act.PutFeed (sym c.get.ensures)) c.put_feed.ensures.performs
+
+pub returns-in-PutFeed-clause-causes : goal.returns-in-PutFeed-clause-causes
+returns-in-PutFeed-clause-causes g c =
+    at-causes g.met.J.JobWork.are_jobs _ _ c.args.self.now _ c.args.p c.args.action (act.PutFeed c.get.result.now) c.put_feed.result
+    (c.in-PutFeed.is ∙ ap act.PutFeed (sym c.get.ensures)) c.put_feed.ensures.causes
+
+pub returns-in-PutPage-clause-performs : goal.returns-in-PutPage-clause-performs
+returns-in-PutPage-clause-performs g c =
+    at-action g.met.J.JobWork.are_jobs _ c.args.self.now _ c.args.p c.args.action (act.PutPage c.get-in-PutPage.result.now) (Some c.put_page.result)
+    (c.in-PutPage.is ∙ ap act.PutPage (sym c.get-in-PutPage.ensures)) c.put_page.ensures.performs
+
+pub returns-in-PutPage-clause-causes : goal.returns-in-PutPage-clause-causes
+returns-in-PutPage-clause-causes g c =
+    at-causes g.met.J.JobWork.are_jobs _ _ c.args.self.now _ c.args.p c.args.action (act.PutPage c.get-in-PutPage.result.now) (Some c.put_page.result)
+    (c.in-PutPage.is ∙ ap act.PutPage (sym c.get-in-PutPage.ensures)) c.put_page.ensures.causes
 
 pub returns-in-Request-clause-performs : goal.returns-in-Request-clause-performs
 returns-in-Request-clause-performs g c =
@@ -64,14 +84,16 @@ returns-in-Local-clause-causes g c =
 
 pub returns-in-Print-clause-performs : goal.returns-in-Print-clause-performs
 returns-in-Print-clause-performs g c =
-    at-action g.met.J.JobWork.are_jobs _ c.args.self.now _ c.args.p c.args.action (act.Print c.in-Print.line) (Some c.print.result) c.in-Print.is
-    (at-paper g.met.J.JobWork.are_jobs _ c.args.self.now c.args.p c.print.new.paper c.in-Print.line c.print.result c.print.ensures.prints)
+    at-action g.met.J.JobWork.are_jobs _ c.args.self.now _ c.args.p c.args.action (act.Print c.get-in-Print.result.now) (Some c.print.result)
+    (c.in-Print.is ∙ ap act.Print (sym c.get-in-Print.ensures))
+    (at-paper g.met.J.JobWork.are_jobs _ c.args.self.now c.args.p c.print.new.paper c.get-in-Print.result.now c.print.result c.print.ensures.prints)
 
 pub returns-in-Print-clause-causes : goal.returns-in-Print-clause-causes
 returns-in-Print-clause-causes g c =
-    at-causes g.met.J.JobWork.are_jobs _ _ c.args.self.now _ c.args.p c.args.action (act.Print c.in-Print.line) (Some c.print.result) c.in-Print.is
-    (print-causes g.met.J.JobWork.are_jobs _ _ c.args.self.now _ c.args.p c.in-Print.line c.print.result c.print.ensures.prints.suits refl refl refl refl
-    c.print.ensures.failed c.print.ensures.counts c.print.ensures.live)
+    at-causes g.met.J.JobWork.are_jobs _ _ c.args.self.now _ c.args.p c.args.action (act.Print c.get-in-Print.result.now) (Some c.print.result)
+    (c.in-Print.is ∙ ap act.Print (sym c.get-in-Print.ensures))
+    (print-causes g.met.J.JobWork.are_jobs _ _ c.args.self.now _ c.args.p c.get-in-Print.result.now c.print.result c.print.ensures.prints.suits
+    refl refl refl refl c.print.ensures.failed c.print.ensures.counts c.print.ensures.live)
 
 pub returns-in-Ended-clause-performs : goal.returns-in-Ended-clause-performs
 returns-in-Ended-clause-performs g c =
