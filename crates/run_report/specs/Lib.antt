@@ -1,0 +1,4 @@
+pub mod Status
+pub mod Decides
+pub mod CountsLine
+pub mod Told
