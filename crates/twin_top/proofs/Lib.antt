@@ -1,0 +1,8 @@
+mod SixOutcomes
+mod Reasons
+mod Ran
+mod Areas
+mod Mounted
+mod Complete
+mod Printed
+mod Paper

@@ -1,0 +1,5 @@
+pub mod Words
+pub mod Kit
+pub mod Runs
+pub mod Mounting
+pub mod Answers
