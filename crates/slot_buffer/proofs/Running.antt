@@ -1,9 +1,9 @@
 -- What an end finds inside its gate, and what it may do there.
-use Rattle.std.proofs.Common.{◌≡◌, ◌⊎◌, inl, inr, ℕ, ◌≤◌, false, Option, None, Some, List, [], ◌∷◌, map, length, refl, sym, ap, ◌∙◌, subst, arith}
+use Rattle.std.proofs.Common.{◌≡◌, ◌⊎◌, inl, inr, ℕ, ◌≤◌, false, Option, None, Some, List, [], ◌∷◌, map, length, option_to_list, refl, sym, ap, ◌∙◌, subst, arith}
 use Rattle.std.specs.declared.snapshot.Snapshot.{Snapshot}
 use Rattle.solo_base.specs.declared.outcome.Side.{Side}
 use Rattle.solo_base.specs.declared.outcome.Side.TheVariants.{Sender, Receiver}
-use Rattle.queue_var.specs.Sides.{MayEnter, MayStop, has_stopped, stopped_by}
+use Rattle.queue_var.specs.Sides.{MayEnter, MayStop, has_stopped, stopped_by, entered, delayed}
 use Rattle.queue_var.specs.HandsOver.{Lacks}
 use Rattle.queue_var.specs.BetweenTwo.{CanGoOn, process_at, calls_of}
 use Rattle.queue_var.proofs.BetweenTwo.{may-stop, may-resume, can-go-on}
@@ -53,12 +53,31 @@ module _ {T : Type 0} where
   refused_item None [] item back is = cc
   refused_item None (held ∷ more) item back is = cc
 
-  delayed_item : (by : Option Side) (inside : List T) (item back : T) → Put.Delayed back ≡ put_by by inside item → back ≡ item
-  delayed_item (Some Receiver) inside item back is = cc
-  delayed_item (Some Sender) [] item back is = cc
-  delayed_item (Some Sender) (held ∷ more) item back is = cc
-  delayed_item None [] item back is = cc
-  delayed_item None (held ∷ more) item back is = cc
+  pub stopped_answer : (by : Option Side) (inside : List T) (item : T) → by ≡ Some Receiver → Put.Stopped item ≡ put_by by inside item
+  stopped_answer by inside item is = rw is refl
+
+  -- the buffer is empty at a put that is neither delayed nor refused
+  goes_in : (by : Option Side) (inside : List T) (item : T) → ((back : T) → Put.Delayed back ≡ put_by by inside item → ⊥) → (by ≡ Some Receiver → ⊥) → (inside ≡ []) × (Put.Done ≡ put_by by inside item)
+  goes_in (Some Receiver) inside item waits refused = absurd (refused refl)
+  goes_in (Some Sender) [] item waits refused = (refl, refl)
+  goes_in (Some Sender) (held ∷ more) item waits refused = absurd (waits item refl)
+  goes_in None [] item waits refused = (refl, refl)
+  goes_in None (held ∷ more) item waits refused = absurd (waits item refl)
+
+  pub has_room : (now : Slot T) (item : T) → ((back : T) → Put.Delayed back ≡ put_answer now item → ⊥) → (stopped_by now.sides ≡ Some Receiver → ⊥) → (now.inside ≡ []) × (Put.Done ≡ put_answer now item)
+  has_room now item waits refused = goes_in (stopped_by now.sides) now.inside item waits refused
+
+  none_held : (slot : Option T) → option_to_list slot ≡ [] → slot ≡ None
+  none_held None e = refl
+  none_held (Some held) e = absurd cc
+
+  pub empty_room : (now : Slot T) (slot : Option T) (item : T) → now.inside ≡ option_to_list slot → ((back : T) → Put.Delayed back ≡ put_answer now item → ⊥) → (stopped_by now.sides ≡ Some Receiver → ⊥) → slot ≡ None
+  empty_room now slot item is waits refused = none_held slot (sym is ∙ (has_room now item waits refused).0)
+
+  -- an item of a buffer that isn't empty
+  held_in : (inside : List T) → (inside ≡ [] → ⊥) → T
+  held_in [] full = absurd (full refl)
+  held_in (held ∷ more) full = held
 
   -- a sender that can go on isn't delayed
   pub put_goes_on : (by : Option Side) (inside : List T) (item back : T) → length inside ≤ 1 → (Lacks 1 inside Sender → ⊥) ⊎ (by ≡ Some Receiver) → Put.Delayed back ≡ put_by by inside item → ⊥
@@ -88,13 +107,12 @@ module _ {T : Type 0} where
         let same_item = refused_item (stopped_by now.sides) now.inside item back answer in
         rw (is, seen_is) record { process = refl; may_enter = may.0; not_stopped = may.1; answer_is = rw (sym same) (subst (λ b. Put.Stopped b ≡ put_answer now item) same_item answer); after_is = rw (sym same) then }
 
-    pub waits_to_put : (back : T) → Put.Delayed back ≡ put_answer now item → after ≡ after_put now 1 item (Put.Delayed back) → Rests number state after
-    waits_to_put back answer then =
-        let same_item = delayed_item (stopped_by now.sides) now.inside item back answer in
-        put_rests item (rw is record { process = refl; may_enter = may.0; not_stopped = may.1; answer_is = rw (sym same) (subst (λ b. Put.Delayed b ≡ put_answer now item) same_item answer); after_is = rw (sym same) then })
-
-  pub same_back : (now : Slot T) (item back : T) → Put.Delayed back ≡ put_answer now item → back ≡ item
-  same_back now item back answer = delayed_item (stopped_by now.sides) now.inside item back answer
+  -- a put that waits: any item would, and the one inside is one
+  pub waits_to_put : (number : ℕ) (state now after : Slot T) → number ≡ 1 → now ≡ state → MayEnter state.sides Sender 1 × (has_stopped state.sides Sender ≡ false) → (now.inside ≡ [] → ⊥) → ((item : T) → Put.Delayed item ≡ put_answer now item)
+      → after ≡ record { inside = now.inside; sides = delayed (entered now.sides Sender) Sender 1 } → Rests number state after
+  waits_to_put number state now after is same may full waits then =
+      let item = held_in now.inside full in
+      put_rests item (rw is record { process = refl; may_enter = may.0; not_stopped = may.1; answer_is = rw (sym same) (waits item); after_is = rw (sym same) then })
 
   module _ (number : ℕ) (state now after : Slot T) (is : number ≡ 2) (same : now ≡ state) (may : MayEnter state.sides Receiver 2 × (has_stopped state.sides Receiver ≡ false)) where
     pub has_taken : (answer : Take T) → answer ≡ take_answer now → after ≡ after_take now 2 answer → Takes number state answer after

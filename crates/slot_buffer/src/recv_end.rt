@@ -5,13 +5,17 @@ ghost use Rattle.slot_buffer.specs.declared.call.SlotCall.TheVariants as call;
 ghost use Rattle.slot_buffer.specs.Slot.{Slot, take_answer};
 ghost use Rattle.slot_buffer.specs.Calls.{TookAll, has_stop, taken_of, value};
 ghost use Rattle.monitor_gate.specs.declared.view.Stage.TheVariants.{Outside};
+ghost use Rattle.monitor_gate.specs.Inside.{state_of, gate_of, pass_of, lender_of, HasTaken, IsEntered};
+ghost use Rattle.monitor_gate.specs.Ends.{entered};
+ghost use Rattle.queue_var.specs.Sides.{MayEnter, has_stopped};
+ghost use Rattle.slot_buffer.specs.declared.answers.Take.{Take};
 ghost use Rattle.monitor_gate.specs.Calls.{IsEndOf, HasCalled, after_call, calls_in};
 ghost use Rattle.slot_buffer.specs.Ends.{Finds, empty_slot, take_call, take_given};
 
 use crate::gate::{SlotGate, SlotPass};
 use crate::send_end::stop;
-use crate::{Ended, SlotCall, SlotKind, Take};
-use monitor_gate::Gate;
+use crate::{Ended, SlotCall, SlotKind};
+use monitor_gate::{Gate, Inside};
 use solo_base::{NoMemory, Side};
 use std::alloc::Global;
 use std::marker::Model;
@@ -101,31 +105,40 @@ fn take<T: Send, R: Threads + Wait + Sync>(
     ensures call { HasCalled value pass.old pass.new (take_call result) }
     ensures answer { (state : Slot T) × Finds Receiver (calls_in value pass.old) state × (take_given result ≡ take_answer state) }
 {
-    let mut inside = gate.enter(pass, rt);
-    match inside.state().take(2) {
-        Take::Item(item) => {
+    let mut inside = enter(gate, pass, rt);
+    match inside.state().take_out() {
+        Ok(item) => {
             inside.leave(SlotCall::Take(Snapshot::of(&item)));
             Ok(item)
         }
-        Take::Stopped => {
+        Err(Ended) => {
             inside.leave(SlotCall::TakeRefused);
             Err(Ended)
         }
-        Take::Delayed => {
-            let mut inside = inside.delay(rt);
-            match inside.state().take(2) {
-                Take::Item(item) => {
-                    inside.leave(SlotCall::Take(Snapshot::of(&item)));
-                    Ok(item)
-                }
-                Take::Stopped => {
-                    inside.leave(SlotCall::TakeRefused);
-                    Err(Ended)
-                }
-                Take::Delayed => unreachable!(),
-            }
-        }
     }
+}
+
+// Enters, and waits until an item is there or the sender has stopped.
+fn enter<'a, T: Send, R: Threads + Wait + Sync>(
+    gate: &'a Gate<SlotKind<T>>,
+    pass: &'a mut SlotPass<T>,
+    rt: &R,
+) -> Inside<'a, SlotKind<T>>
+    requires pass { IsEndOf gate.now 2 pass.old }
+    requires not_stopped { has_stop (calls_in value pass.old) ≡ false }
+    ensures gate { gate_of result ≡ gate.now }
+    ensures lender { lender_of result ≡ pass.entry.ghost_name }
+    ensures pass { (pass_of result ≡ entered pass.old (state_of result)) × IsEntered result }
+    ensures taken { HasTaken result (state_of result) }
+    ensures found { Finds Receiver (calls_in value pass.old) (state_of result) }
+    ensures may { MayEnter (state_of result).sides Receiver 2 × (has_stopped (state_of result).sides Receiver ≡ false) }
+    ensures not_delayed { Take.Delayed ≡ take_answer (state_of result) → ⊥ }
+{
+    let mut inside = gate.enter(pass, rt);
+    if inside.state().waits_to_take(2) {
+        return inside.delay(rt);
+    }
+    inside
 }
 
 impl<T> RecvEnd<T> {

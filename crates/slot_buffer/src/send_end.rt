@@ -6,12 +6,16 @@ ghost use Rattle.slot_buffer.specs.Slot.{Slot, put_answer};
 ghost use Rattle.slot_buffer.specs.Calls.{PutAll, PutFirst, has_stop, value, was_refused};
 ghost use Rattle.queue_var.specs.BetweenTwo.{process_at};
 ghost use Rattle.monitor_gate.specs.declared.view.Stage.TheVariants.{Outside};
+ghost use Rattle.monitor_gate.specs.Inside.{state_of, gate_of, pass_of, lender_of, HasTaken, IsEntered};
+ghost use Rattle.monitor_gate.specs.Ends.{entered};
+ghost use Rattle.queue_var.specs.Sides.{MayEnter, has_stopped};
+ghost use Rattle.slot_buffer.specs.declared.answers.Put.{Put};
 ghost use Rattle.monitor_gate.specs.Calls.{IsEndOf, HasCalled, after_call, calls_in};
 ghost use Rattle.slot_buffer.specs.Ends.{Finds, empty_slot, put_call, put_given};
 
 use crate::gate::{SlotGate, SlotPass};
-use crate::{Put, SlotCall, SlotKind, Stopped};
-use monitor_gate::Gate;
+use crate::{SlotCall, SlotKind, Stopped};
+use monitor_gate::{Gate, Inside};
 use solo_base::Side;
 use std::marker::Model;
 use std::snapshot::Snapshot;
@@ -98,31 +102,37 @@ fn put<T: Send, R: Threads + Wait + Sync>(
     ensures answer { (state : Slot T) × Finds Sender (calls_in value pass.old) state × (put_given item result ≡ put_answer state item) }
 {
     let seen = Snapshot::of(&item);
-    let mut inside = gate.enter(pass, rt);
-    match inside.state().put(1, item) {
-        Put::Done => {
-            inside.leave(SlotCall::Put(seen));
-            Ok(())
-        }
-        Put::Stopped(item) => {
-            inside.leave(SlotCall::PutRefused(seen));
-            Err(Stopped(item))
-        }
-        Put::Delayed(item) => {
-            let mut inside = inside.delay(rt);
-            match inside.state().put(1, item) {
-                Put::Done => {
-                    inside.leave(SlotCall::Put(seen));
-                    Ok(())
-                }
-                Put::Stopped(item) => {
-                    inside.leave(SlotCall::PutRefused(seen));
-                    Err(Stopped(item))
-                }
-                Put::Delayed(_) => unreachable!(),
-            }
-        }
+    let mut inside = enter(gate, pass, rt);
+    if inside.state().refuses_put() {
+        inside.leave(SlotCall::PutRefused(seen));
+        return Err(Stopped(item));
     }
+    inside.state().put_in(item);
+    inside.leave(SlotCall::Put(seen));
+    Ok(())
+}
+
+// Enters, and waits until there is room or the receiver has stopped.
+fn enter<'a, T: Send, R: Threads + Wait + Sync>(
+    gate: &'a Gate<SlotKind<T>>,
+    pass: &'a mut SlotPass<T>,
+    rt: &R,
+) -> Inside<'a, SlotKind<T>>
+    requires pass { IsEndOf gate.now 1 pass.old }
+    requires not_stopped { has_stop (calls_in value pass.old) ≡ false }
+    ensures gate { gate_of result ≡ gate.now }
+    ensures lender { lender_of result ≡ pass.entry.ghost_name }
+    ensures pass { (pass_of result ≡ entered pass.old (state_of result)) × IsEntered result }
+    ensures taken { HasTaken result (state_of result) }
+    ensures found { Finds Sender (calls_in value pass.old) (state_of result) }
+    ensures may { MayEnter (state_of result).sides Sender 1 × (has_stopped (state_of result).sides Sender ≡ false) }
+    ensures not_delayed { (item back : T) → Put.Delayed back ≡ put_answer (state_of result) item → ⊥ }
+{
+    let mut inside = gate.enter(pass, rt);
+    if inside.state().waits_to_put(1) {
+        return inside.delay(rt);
+    }
+    inside
 }
 
 // A stop of either side.

@@ -1,16 +1,17 @@
 // A monitor with one slot.
-ghost use Rattle.std.specs.Prelude.{◌≡◌, ◌↔◌, ◌⊎◌, ℕ, ◌++◌, List, [], ◌∷◌, Bool, false, IsTrue, Some, option_to_list};
+ghost use Rattle.std.specs.Prelude.{◌≡◌, ◌≢◌, ◌↔◌, ◌⊎◌, ℕ, ◌++◌, List, [], ◌∷◌, Bool, true, false, IsTrue, Some, option_to_list};
 ghost use Rattle.solo_base.specs.declared.outcome.Side.{Side};
 ghost use Rattle.solo_base.specs.declared.outcome.Side.TheVariants.{Sender, Receiver};
 ghost use Rattle.queue_var.specs.declared.turn.Turn.TheVariants.{Free};
 ghost use Rattle.queue_var.specs.Turn.{handed};
-ghost use Rattle.queue_var.specs.Sides.{MayEnter, MayStop, queue, nobody, stopped_by, has_stopped};
+ghost use Rattle.queue_var.specs.Sides.{MayEnter, MayStop, queue, nobody, entered, delayed, continued, stopped_by, has_stopped};
 ghost use Rattle.queue_var.specs.HandsOver.{earliest};
 ghost use Rattle.slot_buffer.specs.declared.answers.Put.{Put};
 ghost use Rattle.slot_buffer.specs.declared.answers.Take.{Take};
+ghost use Rattle.slot_buffer.specs.Ends.{take_given};
 ghost use Rattle.slot_buffer.specs.Slot.{StandsFor, put_answer, after_put, sent_with, take_answer, after_take, taken_with, after_stop};
 
-use crate::{Put, Take};
+use crate::{Ended, Put, Take};
 use queue_var::Sides;
 use solo_base::{ProcNo, Side};
 use std::marker::Model;
@@ -95,16 +96,13 @@ impl<T> SlotBuffer<T> {
         ensures after { self.new ≡ after_put self.old p item result }
         ensures history { (sent taken : List T) (stops : List Side) → StandsFor sent taken stops self.old → StandsFor (sent_with sent item result) taken stops self.new }
     {
-        self.sides.enter(Side::Sender);
-        if self.sides.stopped_by() == Some(Side::Receiver) {
-            return Put::Stopped(item);
-        }
-        if self.slot.is_some() {
-            self.sides.delay(Side::Sender, p);
+        if self.waits_to_put(p) {
             return Put::Delayed(item);
         }
-        fill(&mut self.slot, item);
-        self.sides.cont(Side::Receiver);
+        if self.refuses_put() {
+            return Put::Stopped(item);
+        }
+        self.put_in(item);
         Put::Done
     }
 
@@ -117,16 +115,98 @@ impl<T> SlotBuffer<T> {
         ensures after { self.new ≡ after_take self.old p result }
         ensures history { (sent taken : List T) (stops : List Side) → StandsFor sent taken stops self.old → StandsFor sent (taken_with taken result) stops self.new }
     {
-        self.sides.enter(Side::Receiver);
-        if let Some(item) = self.slot.take() {
-            self.sides.cont(Side::Sender);
-            return Take::Item(item);
+        if self.waits_to_take(p) {
+            return Take::Delayed;
+        }
+        match self.take_out() {
+            Ok(item) => Take::Item(item),
+            Err(Ended) => Take::Stopped,
+        }
+    }
+
+    /// Whether a sender has to wait, since the buffer is full and the receiver didn't stop first. It waits
+    /// then; where not, nothing changes.
+    pub(crate) fn waits_to_put(&mut self, p: ProcNo) -> bool
+        requires may_enter { MayEnter self.old.sides Sender p }
+        ensures waits { result ≡ true → ((item : T) → Put.Delayed item ≡ put_answer self.old item)
+            × (self.new ≡ record { inside = self.old.inside; sides = delayed (entered self.old.sides Sender) Sender p }) }
+        ensures full { result ≡ true → self.old.inside ≢ [] }
+        ensures goes_on { result ≡ false → (self.new ≡ self.old) × ((item back : T) → Put.Delayed back ≡ put_answer self.old item → ⊥) }
+    {
+        if self.slot.is_none() {
+            return false;
+        }
+        if self.sides.stopped_by() == Some(Side::Receiver) {
+            return false;
+        }
+        self.sides.enter(Side::Sender);
+        self.sides.delay(Side::Sender, p);
+        true
+    }
+
+    /// Whether the receiver stopped first. The put is refused then; where not, nothing changes.
+    pub(crate) fn refuses_put(&mut self) -> bool
+        requires may_enter { (p : ℕ) × MayEnter self.old.sides Sender p }
+        ensures refuses { result ≡ true → (stopped_by self.old.sides ≡ Some Receiver)
+            × (self.new ≡ record { inside = self.old.inside; sides = entered self.old.sides Sender }) }
+        ensures goes_on { result ≡ false → (self.new ≡ self.old) × (stopped_by self.old.sides ≢ Some Receiver) }
+    {
+        if self.sides.stopped_by() == Some(Side::Receiver) {
+            self.sides.enter(Side::Sender);
+            return true;
+        }
+        false
+    }
+
+    /// Puts an item in, where neither the buffer nor the receiver is in the way.
+    #[inline(always)]
+    pub(crate) fn put_in(&mut self, item: T)
+        requires may_enter { (p : ℕ) × MayEnter self.old.sides Sender p }
+        requires not_delayed { (back : T) → Put.Delayed back ≡ put_answer self.old item → ⊥ }
+        requires not_refused { stopped_by self.old.sides ≢ Some Receiver }
+        ensures answer { Put.Done ≡ put_answer self.old item }
+        ensures after { self.new ≡ record { inside = self.old.inside ++ item ∷ []; sides = continued (entered self.old.sides Sender) Receiver } }
+    {
+        self.sides.enter(Side::Sender);
+        fill(&mut self.slot, item);
+        self.sides.cont(Side::Receiver);
+    }
+
+    /// Whether a receiver has to wait, since the buffer is empty and the sender didn't stop first. It waits
+    /// then; where not, nothing changes.
+    pub(crate) fn waits_to_take(&mut self, p: ProcNo) -> bool
+        requires may_enter { MayEnter self.old.sides Receiver p }
+        ensures waits { result ≡ true → (Take.Delayed ≡ take_answer self.old) × (self.new ≡ after_take self.old p Take.Delayed) }
+        ensures goes_on { result ≡ false → (self.new ≡ self.old) × (Take.Delayed ≡ take_answer self.old → ⊥) }
+    {
+        if self.slot.is_some() {
+            return false;
         }
         if self.sides.stopped_by() == Some(Side::Sender) {
-            return Take::Stopped;
+            return false;
         }
+        self.sides.enter(Side::Receiver);
         self.sides.delay(Side::Receiver, p);
-        Take::Delayed
+        true
+    }
+
+    /// Takes the item out for a receiver that doesn't have to wait. An `Err`: the sender stopped first, and
+    /// none is left.
+    #[inline(always)]
+    pub(crate) fn take_out(&mut self) -> Result<T, Ended>
+        requires may_enter { (p : ℕ) × MayEnter self.old.sides Receiver p }
+        requires not_delayed { Take.Delayed ≡ take_answer self.old → ⊥ }
+        ensures answer { take_given result ≡ take_answer self.old }
+        ensures after { (p : ℕ) → self.new ≡ after_take self.old p (take_given result) }
+    {
+        self.sides.enter(Side::Receiver);
+        match self.slot.take() {
+            Some(item) => {
+                self.sides.cont(Side::Sender);
+                Ok(item)
+            }
+            None => Err(Ended),
+        }
     }
 
     /// Stops a side for good, and lets the other side know if it waits.
@@ -153,6 +233,7 @@ impl<T> SlotBuffer<T> {
 }
 
 /// Puts an item into a slot that is empty.
+#[inline(always)]
 fn fill<T>(slot: &mut Option<T>, item: T)
     requires { slot.old ≡ None }
     ensures { slot.new ≡ Some item }

@@ -1,51 +1,27 @@
-use Rattle.std.proofs.Common.{refl, sym, ap, ◌∙◌, rules}
-use Rattle.solo_base.specs.declared.outcome.Side.TheVariants.{Sender}
-use Rattle.slot_buffer.proofs.Running.{finds, enters, resumes, has_put, was_refused_put, waits_to_put, same_back}
+use Rattle.std.proofs.Common.{sym, ap, ◌∙◌, rules}
+use Rattle.queue_var.specs.Sides.{stopped_by}
+use Rattle.slot_buffer.proofs.Running.{has_put, was_refused_put, stopped_answer}
 use Rattle.slot_buffer.proofs.send_end.put.Goals as goal
-
-pub put-requires-clause-may_enter : goal.put-requires-clause-may_enter
-put-requires-clause-may_enter g c =
-    let inside = c.enter-inside in
-    let pass = c.args.pass.now.view in
-    let found = finds Sender c.args.gate.now.opening pass.number pass.entries pass.entries inside.result.state inside.ensures.tied c.requires.pass.number_is refl in
-    let may = enters Sender _ pass.number inside.result.state found c.requires.pass.number_is inside.ensures.free inside.ensures.not_waiting c.requires.not_stopped in
-    rw c.state.ensures.value may.0
 
 pub leave-requires-clause-moved : goal.leave-requires-clause-moved
 leave-requires-clause-moved g c κs within =
     let inside = c.enter-inside in
-    let pass = c.args.pass.now.view in
-    let found = finds Sender c.args.gate.now.opening pass.number pass.entries pass.entries inside.result.state inside.ensures.tied c.requires.pass.number_is refl in
-    let may = enters Sender _ pass.number inside.result.state found c.requires.pass.number_is inside.ensures.free inside.ensures.not_waiting c.requires.not_stopped in
-    let put = has_put inside.result.pass.now.view.number inside.result.state c.state.result.now c.put.new.self c.args.item c.of-seen.result.value (ap (λ p. p.view.number) inside.ensures.pass.0 ∙ c.requires.pass.number_is) c.state.ensures.value c.of-seen.ensures may in
-    (inside.result.state, search rules, put c.in-Done.ensures.answer c.in-Done.ensures.after)
+    let now = c.state.result.now in
+    let number_is = ap (λ p. p.view.number) inside.ensures.pass.0 ∙ c.requires.pass.number_is in
+    let told = c.refuses_put.ensures.refuses c.if-refuses_put.true in
+    let refused = was_refused_put inside.result.pass.now.view.number inside.result.state now c.refuses_put.new.self c.args.item c.of-seen.result.value number_is c.state.ensures.value c.of-seen.ensures inside.ensures.may in
+    (inside.result.state, search rules, refused c.args.item (stopped_answer (stopped_by now.sides) now.inside c.args.item told.0) told.1)
 
-pub leave-requires-in-Stopped-clause-moved : goal.leave-requires-in-Stopped-clause-moved
-leave-requires-in-Stopped-clause-moved g c κs within =
+pub returns-then-refuses_put-clause-answer : goal.returns-then-refuses_put-clause-answer
+returns-then-refuses_put-clause-answer g c =
+    let state = c.enter-inside.result.state in
+    let told = c.refuses_put.ensures.refuses c.if-refuses_put.true in
+    (state, c.enter-inside.ensures.found, stopped_answer (stopped_by state.sides) state.inside c.args.item (ap (λ s. stopped_by s.sides) (sym c.state.ensures.value) ∙ told.0))
+
+pub leave-requires-2-clause-moved : goal.leave-requires-2-clause-moved
+leave-requires-2-clause-moved g c κs within =
     let inside = c.enter-inside in
-    let pass = c.args.pass.now.view in
-    let found = finds Sender c.args.gate.now.opening pass.number pass.entries pass.entries inside.result.state inside.ensures.tied c.requires.pass.number_is refl in
-    let may = enters Sender _ pass.number inside.result.state found c.requires.pass.number_is inside.ensures.free inside.ensures.not_waiting c.requires.not_stopped in
-    let refused = was_refused_put inside.result.pass.now.view.number inside.result.state c.state.result.now c.put.new.self c.args.item c.of-seen.result.value (ap (λ p. p.view.number) inside.ensures.pass.0 ∙ c.requires.pass.number_is) c.state.ensures.value c.of-seen.ensures may in
-    (inside.result.state, search rules, refused c.in-Stopped.item c.in-Stopped.ensures.answer c.in-Stopped.ensures.after)
-
-pub delay-inside-requires-clause-rested : goal.delay-inside-requires-clause-rested
-delay-inside-requires-clause-rested g c κs within =
-    let inside = c.enter-inside in
-    let pass = c.args.pass.now.view in
-    let found = finds Sender c.args.gate.now.opening pass.number pass.entries pass.entries inside.result.state inside.ensures.tied c.requires.pass.number_is refl in
-    let may = enters Sender _ pass.number inside.result.state found c.requires.pass.number_is inside.ensures.free inside.ensures.not_waiting c.requires.not_stopped in
-    let waits = waits_to_put inside.result.pass.now.view.number inside.result.state c.state.result.now c.put.new.self c.args.item c.of-seen.result.value (ap (λ p. p.view.number) inside.ensures.pass.0 ∙ c.requires.pass.number_is) c.state.ensures.value c.of-seen.ensures may in
-    (inside.result.state, search rules, waits c.in-Delayed.item c.in-Delayed.ensures.answer c.in-Delayed.ensures.after)
-
-pub leave-requires-in-Done-put-clause-moved : goal.leave-requires-in-Done-put-clause-moved
-leave-requires-in-Done-put-clause-moved g c κs within =
-    let first = c.enter-inside in
-    let inside = c.delay-inside in
-    let pass = first.result.pass.now.view in
-    let number_is = ap (λ p. p.view.number) first.ensures.pass.0 ∙ c.requires.pass.number_is in
-    let found = finds Sender first.result.gate.now.opening pass.number pass.entries c.args.pass.now.view.entries inside.result.state inside.ensures.tied number_is (ap (λ p. p.view.entries) first.ensures.pass.0) in
-    let may = resumes Sender _ pass.number inside.result.state found number_is inside.ensures.handed c.requires.not_stopped in
-    let back = same_back c.state.result.now c.args.item c.in-Delayed.item c.in-Delayed.ensures.answer in
-    let put = has_put inside.result.pass.now.view.number inside.result.state c.state-in-Delayed.result.now c.put-in-Delayed.new.self c.in-Delayed.item c.of-seen.result.value (ap (λ p. p.view.number) inside.ensures.pass.0 ∙ number_is) c.state-in-Delayed.ensures.value (c.of-seen.ensures ∙ sym back) may in
-    (inside.result.state, search rules, put c.in-Done-put.ensures.answer c.in-Done-put.ensures.after)
+    let number_is = ap (λ p. p.view.number) inside.ensures.pass.0 ∙ c.requires.pass.number_is in
+    let same = c.state-2.ensures.value ∙ (c.refuses_put.ensures.goes_on c.if-refuses_put.false).0 ∙ c.state.ensures.value in
+    let put = has_put inside.result.pass.now.view.number inside.result.state c.state-2.result.now c.put_in.new.self c.args.item c.of-seen.result.value number_is same c.of-seen.ensures inside.ensures.may in
+    (inside.result.state, search rules, put c.put_in.ensures.answer c.put_in.ensures.after)
