@@ -1,4 +1,5 @@
 pub mod Items
+pub mod Due
 pub mod Form
 pub mod Places
 pub mod Packing
