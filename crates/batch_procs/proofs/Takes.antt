@@ -1,7 +1,8 @@
 -- What one parcel more gives, by the list function of each process that takes feeds.
-use Rattle.std.proofs.Common.{◌≡◌, ℕ, Bool, true, false, ◌||◌, List, [], ◌∷◌, ◌++◌, refl, sym, ◌∙◌, ap, append_assoc}
+use Rattle.std.proofs.Common.{◌≡◌, ℕ, Bool, true, false, ◌||◌, List, [], ◌∷◌, ◌++◌, length, drop, Option, None, Some, refl, sym, ◌∙◌, ap, append_assoc}
 use Rattle.std.specs.Prelude.{option_to_list}
 use Rattle.solo_base.specs.declared.item.Item.{Item}
+use Rattle.solo_base.specs.declared.page.Page.{Page}
 use Rattle.solo_base.specs.declared.item.Item.TheVariants.{Line, Spoiled}
 use Rattle.solo_base.specs.declared.item.Feed.{Feed}
 use Rattle.solo_base.specs.declared.item.Feed.TheVariants as feed
@@ -15,7 +16,7 @@ use Rattle.batch_procs.specs.Sends.{feeds, as_parcels, as_lines, marked, has_end
 use Rattle.batch_procs.specs.Table.{card, input, printer}
 use Rattle.batch_procs.specs.Due.{KeepsDue, hand_of, KeepsInput}
 use Rattle.batch_procs.specs.Work.{MayTake}
-use Rattle.batch_procs.specs.Parts.{part-whole}
+use Rattle.batch_procs.specs.Parts.{drop-part, part-whole}
 use Rattle.batch_procs.specs.Relays.{goes-on}
 
 or-false : (t u : Bool) → (t || u) ≡ false → u ≡ false
@@ -71,6 +72,15 @@ module _ {L : Type 0} where
   pub still-going : (p : Process L) (due : List (Parcel L)) (was : Bool) (taken sent : List (Parcel L)) (r : Reply L) → KeepsDue p due was taken sent false
       → MayTake p taken sent r → was ≡ false
   still-going p due was taken sent r keeps may = keeps.ended_is ∙ may.goes_on
+
+  -- no page is due where all is put
+  pub none-due : (page : Option Page) (last was : Bool) (p : Process L) (taken sent : List (Parcel L)) (r : Reply L)
+      → KeepsDue p (marked last (option_to_list page)) was taken sent false → MayTake p taken sent r → page ≡ None
+  none-due None last was p taken sent r keeps may = refl
+  none-due (Some page) last was p taken sent r keeps may =
+      let due = OfPage page last ∷ [] in
+      let none : due ≡ [] = sym (drop-part sent due) ∙ ap (drop (length sent)) keeps.due_is ∙ may.nothing_due in
+      absurd cc
 
   -- ---- feeds
   pub feeds-more : (some : List (Parcel L)) (f : Feed) → feeds (some ++ OfFeed f ∷ []) ≡ feeds some ++ f ∷ []

@@ -2,12 +2,12 @@ ghost use Rattle.std.specs.Prelude.{◌≡◌, option_to_list};
 
 use crate::job_work::JobWork;
 use crate::machine::Machine;
+use crate::pages::finish;
 use crate::work::Work;
 use crate::{Action, Lent, Reply};
 use page_codec::Packer;
 use solo_base::{BufferNo, Feed, NoMemory, Outcome, Page};
 use std::alloc::Global;
-use std::mem;
 
 /// The input process: it takes cards from the line buffer 1, packs them into pages, and puts these into
 /// the spool 2.
@@ -72,10 +72,9 @@ impl<J: JobWork> Work<J> for InputWork {
         ensures err { OnErr result (((input {L = J.Load}).works ≡ true) × MayLack act.TakePage reply.entry) }
     {
         match reply {
-            Reply::Feed(Feed::Item(item)) => self.due = self.packer.push(&item),
+            Reply::Feed(Feed::Item(item)) => self.packer.push_into(&item, &mut self.due),
             Reply::Feed(Feed::End) => {
-                let packer = mem::replace(&mut self.packer, Packer::new());
-                self.due = Some(packer.finish());
+                finish(&mut self.packer, &mut self.due);
                 self.ended = true;
             }
             _other => {}

@@ -5,13 +5,12 @@ ghost use Rattle.batch_procs.specs.Process.{works_on};
 use crate::job_work::JobWork;
 use crate::machine::Machine;
 use crate::output_proc::damage;
-use crate::pages::Pages;
+use crate::pages::{Pages, finish};
 use crate::work::Work;
 use crate::{Action, Lent, Reply};
 use page_codec::Packer;
 use solo_base::{BufferNo, Ident, NoMemory, Outcome, Page};
 use std::alloc::Global;
-use std::mem;
 
 /// The job process: it takes pages of cards from the spool 2, and puts pages of the jobs' lines into the
 /// spool 3.
@@ -113,8 +112,7 @@ impl<J: JobWork> Work<J> for JobProcWork<J> {
                 Ok(())
             }
             None if self.pages.is_ended() => {
-                let packer = mem::replace(&mut self.packer, Packer::new());
-                self.due = Some(packer.finish());
+                finish(&mut self.packer, &mut self.due);
                 Ok(())
             }
             None => Ok(()),

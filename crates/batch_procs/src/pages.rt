@@ -1,10 +1,12 @@
-ghost use Rattle.std.specs.Prelude.{◌≡◌, false};
+ghost use Rattle.std.specs.Prelude.{◌≡◌, true, false, Some};
+ghost use Rattle.page_codec.specs.Form.{page_of};
 ghost use Rattle.page_codec.specs.Reading.{page_read};
 ghost use Rattle.page_codec.specs.Stream.{at_the_first, awaited_after};
 
-use page_codec::{BadPage, PageItems, Unpacker};
+use page_codec::{BadPage, Packer, PageItems, Unpacker};
 use solo_base::Page;
 use std::marker::Model;
+use std::mem;
 
 /// The pages of a stream, of which none is taken behind the last.
 #[derive(Drop)]
@@ -52,4 +54,13 @@ impl Pages {
         self.ended = last;
         Ok(items)
     }
+}
+
+/// The last page of a packer, into the caller's place.
+#[inline(never)]
+pub fn finish(packer: &mut Packer, due: &mut Option<Page>)
+    ensures { due.new ≡ Some (page_of packer.old.place true packer.old.content) }
+{
+    let packer = mem::replace(packer, Packer::new());
+    *due = Some(packer.finish());
 }
