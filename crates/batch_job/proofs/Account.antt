@@ -1,6 +1,6 @@
 -- What the code keeps and what it stands for: of lines, of a part, and of what an item does.
 use Rattle.std.proofs.Common.{◌≡◌, ℕ, ◌==◌, Bool, true, false, ◌||◌, List, [], ◌∷◌, ◌++◌, length, drop, Option, Some, None, option_to_list, refl, sym, ◌∙◌, ap, subst, append_assoc}
-use Rattle.std.specs.Prelude.{flat_map, if◌then◌else◌, Result, Ok, Err, IfOk}
+use Rattle.std.specs.Prelude.{if◌then◌else◌}
 use Rattle.std.proofs.lemmas.Bool.{eqb-true}
 use Rattle.std.proofs.lemmas.List.{append-nil}
 use Rattle.solo_base.specs.declared.item.Item.{Item}
@@ -444,15 +444,15 @@ pub not-there : (found : Option (List ℕ)) → Rattle.std.specs.Option.is_some 
 not-there None is = refl
 not-there (Some line) is = absurd cc
 
--- ---- answers
-pub if-ok : {A E : Type 0} (r : Result A E) (P Q : A → Type 0) → ((x : A) → P x → Q x) → IfOk r P → IfOk r Q
-if-ok (Ok x) P Q each is = each x is
-if-ok (Err e) P Q each is = tt
+pub not-none : (found : Option (List ℕ)) → Rattle.std.specs.Option.is_some found ≡ true → found ≡ None → ⊥
+not-none None is none = absurd cc
+not-none (Some line) is none = absurd cc
 
+-- ---- answers
 pub none-found : (found : Option Opener) → ((o : Opener) → found ≡ Some o → ⊥) → found ≡ None
 none-found None not = refl
 none-found (Some o) not = absurd (not o refl)
 
-pub no-page : (found : Option Page) → ((page : Page) → found ≡ Some page → ⊥) → found ≡ None
-no-page None not = refl
-no-page (Some page) not = absurd (not page refl)
+pub not-due : (due : Option Page) → Rattle.std.specs.Option.is_some due ≡ false → due ≡ None
+not-due None is = refl
+not-due (Some page) is = absurd cc

@@ -1,6 +1,6 @@
 -- What an item does that neither opens nor ends a group, by the part that it comes to.
 use Rattle.std.proofs.Common.{◌≡◌, ℕ, ◌+◌, Bool, true, false, ◌||◌, List, [], ◌∷◌, ◌++◌, length, drop, Option, Some, None, Ok, Err, refl, sym, ◌∙◌, ap, subst, append_assoc}
-use Rattle.std.specs.Prelude.{flat_map, if◌then◌else◌}
+use Rattle.std.specs.Prelude.{if◌then◌else◌}
 use Rattle.std.proofs.lemmas.List.{append-nil}
 use Rattle.solo_base.specs.declared.item.Item.{Item}
 use Rattle.solo_base.specs.declared.item.Item.TheVariants.{Line, Spoiled}
@@ -11,7 +11,7 @@ use Rattle.deck_format.specs.declared.control.Control.TheVariants as control
 use Rattle.deck_format.specs.declared.job.CardFault.{CardFault}
 use Rattle.deck_format.specs.declared.group.Group.{Group}
 use Rattle.deck_format.specs.Control.{control_of}
-use Rattle.deck_format.specs.Jobs.{cut, is_some, counts, card_count, data_in, before_end, after_end, stretch, spoiled_at, control_at}
+use Rattle.deck_format.specs.Jobs.{cut, is_some, counts, card_count, data_in, before_end, after_end, spoiled_at, control_at}
 use Rattle.deck_format.specs.JobReader.{control_in, added as added_to_group}
 use Rattle.batch_program.specs.Laws.{IsPrefix}
 use Rattle.code_law.specs.Compiling.{compiling}

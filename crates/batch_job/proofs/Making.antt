@@ -9,7 +9,7 @@ use Rattle.deck_format.specs.declared.control.Opener.TheVariants as opener
 use Rattle.deck_format.specs.Jobs.{opener_of}
 use Rattle.disk_contents.specs.declared.loading.Loaded.{Loaded}
 use Rattle.disk_contents.specs.declared.loading.Loaded.TheVariants.{NoFile}
-use Rattle.batch_job.specs.Loads.{file_named, files_named, load_for}
+use Rattle.batch_job.specs.Loads.{file_named, files_named}
 use Rattle.batch_job.specs.JobStream.{Stream, Account, AreWanted, IsAccount, Passes, Rests, made_of}
 use Rattle.batch_job.specs.declared.lines_ahead.End.{End}
 use Rattle.batch_job.specs.declared.lines_ahead.End.TheVariants as end
@@ -31,9 +31,9 @@ pub same-loads : (old new : Stream) → new.left ≡ old.left → new.loads ≡ 
 same-loads old new left loads wanted end = record { left = left; loads = loads; wanted = wanted; end = end }
 
 -- a line that waits
-pub waiting-line : (old new : Stream) (a : Account) (line : List ℕ) → IsAccount old a → new.part ≡ old.part → SameLoads old new
-    → ((rest : List (List ℕ)) × (a.waiting ≡ (line ∷ []) ++ rest) × Holds new.waiting rest) → Passes a new (line ∷ [])
-waiting-line old new a line is part same (rest, all, holds) = record {
+pub waiting-line : (old new : Stream) (a : Account) (lines : List (List ℕ)) → IsAccount old a → new.part ≡ old.part → SameLoads old new
+    → ((rest : List (List ℕ)) × (a.waiting ≡ lines ++ rest) × Holds new.waiting rest) → Passes a new lines
+waiting-line old new a lines is part same (rest, all, holds) = record {
   then_is = record { place = a.place; waiting = rest; left = a.left; loads = a.loads; end = a.end };
   is = record {
     part = subst (λ p. IsPart p a.place) (sym part) is.part;
@@ -44,7 +44,7 @@ waiting-line old new a line is part same (rest, all, holds) = record {
     wanted = subst (λ w. AreWanted a.left a.loads w) (sym same.wanted) is.wanted;
   };
   gives = λ more later ended. ap (λ ls. ls ++ made_of a.place a.left a.loads a.end more later ended) all
-      ∙ append_assoc (line ∷ []) rest (made_of a.place a.left a.loads a.end more later ended);
+      ∙ append_assoc lines rest (made_of a.place a.left a.loads a.end more later ended);
 }
 
 -- no line waits any more

@@ -13,7 +13,7 @@ use Rattle.batch_job.specs.Loads.{Loading, first_of, files_named}
 use Rattle.batch_job.specs.LinesSoFar.{lines_so_far}
 use Rattle.batch_job.specs.LinesAhead.{Where, Outside, lines_ahead}
 use Rattle.page_codec.specs.Pushes.{pages_given, hand_behind, IsGivenLast}
-use Rattle.batch_job.specs.JobStream.{new_stream, stream_of, fed, with_load, AreWanted, end_of, made_of, IsTold, Stream, Account, IsAccount, Passes, StandsBy, StandsFor, Gives, IsSpent, ahead, goes_on, Packs, Pushing, Rests, Resting, StandsStill}
+use Rattle.batch_job.specs.JobStream.{new_stream, stream_of, fed, with_load, AreWanted, end_of, made_of, IsTold, Stream, Account, IsAccount, Passes, StandsBy, StandsFor, Gives, IsSpent, ahead, goes_on, Packs, PacksMade, Pushing, Rests, Resting, StandsStill}
 use Rattle.batch_job.specs.declared.lines_ahead.End.{End}
 use Rattle.batch_job.specs.declared.lines_ahead.LinesAhead.{LinesAhead}
 use Rattle.batch_job.specs.declared.lines_ahead.End.TheVariants as end
@@ -112,6 +112,19 @@ pushed-page before old new hand middle then_hand line page so_far same wanted gi
   same_end = same ∙ so_far.same_end;
   same_wanted = wanted ∙ so_far.same_wanted;
 }
+
+pub pushed-due : (before old new : Stream) (hand middle then_hand : PageInHand) (line : List ℕ) (due : Option Page)
+    → Rattle.std.specs.Option.is_some due ≡ true → Pushing before hand old middle
+    → goes_on new.end ≡ goes_on old.end → new.wanted ≡ old.wanted → ((a : Account) → IsAccount old a → Passes a new (line ∷ [])) →
+    page_given middle (Line line) ≡ due → then_hand ≡ hand_after middle (Line line) → PacksMade before hand due new then_hand
+pushed-due before old new hand middle then_hand line None there so_far same wanted given is after = absurd cc
+pushed-due before old new hand middle then_hand line (Some page) there so_far same wanted given is after =
+    pushed-page before old new hand middle then_hand line page so_far same wanted given is after
+
+pub packs-due : (before after : Stream) (hand then_hand : PageInHand) (due : Option Page) → Rattle.std.specs.Option.is_some due ≡ true
+    → PacksMade before hand due after then_hand → Packs before hand due after then_hand
+packs-due before after hand then_hand None there packs = absurd cc
+packs-due before after hand then_hand (Some page) there packs = packs
 
 -- nothing is pushed before the first line, nor while an item's lines are made
 pub begins : (stream : Stream) (hand : PageInHand) → Pushing stream hand stream hand

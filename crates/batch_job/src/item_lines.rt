@@ -24,15 +24,24 @@ impl ItemLines {
         }
     }
 
-    /// This line alone.
-    pub fn of(line: Line) -> ItemLines
-        ensures { Holds result (line ∷ []) }
+    /// Makes them none.
+    // What is not there is not written: a line is copied whole where none is put in its place.
+    pub fn clear(&mut self)
+        ensures { self.new ≡ no_lines }
     {
-        ItemLines {
-            ending: ProgramLines::Over,
-            own: Some(line),
-            note: None,
+        if !matches!(self.ending, ProgramLines::Over) {
+            self.ending = ProgramLines::Over;
         }
+        clear_line(&mut self.own);
+        clear_line(&mut self.note);
+    }
+
+    /// Makes them this line alone.
+    pub fn hold(&mut self, line: &Line)
+        ensures { Holds self.new (line.now ∷ []) }
+    {
+        self.clear();
+        self.own = Some(line.copy());
     }
 
     /// The lines of a part behind which no more comes.
@@ -59,6 +68,18 @@ impl ItemLines {
         if self.own.is_some() {
             return self.own.take();
         }
-        self.note.take()
+        if self.note.is_some() {
+            return self.note.take();
+        }
+        None
+    }
+}
+
+/// Makes it no line.
+fn clear_line(line: &mut Option<Line>)
+    ensures { line.new ≡ None }
+{
+    if line.is_some() {
+        *line = None;
     }
 }

@@ -7,7 +7,7 @@ ghost use Rattle.batch_job.specs.JobStream.{new_stream, fed, with_load, StandsFo
 use crate::lines_ahead::{End, LinesAhead};
 use disk_system::Loaded;
 use page_codec::{Packer, PageItems};
-use solo_base::{Ident, Item, NoMemory, Page};
+use solo_base::{Ident, NoMemory, Page};
 use std::alloc::Global;
 use std::marker::Model;
 
@@ -88,9 +88,11 @@ fn pack_lines(ahead: &mut LinesAhead, packer: &mut Packer) -> Result<Option<Page
     ensures { IfOk result (λ page.
         Packs (stream_of ahead.old) packer.old page (stream_of ahead.new) packer.new) }
 {
+    let mut due = None;
     'packing: loop {
-        if let Some(page) = push_made(ahead, packer) {
-            return Ok(Some(page));
+        push_made(ahead, packer, &mut due);
+        if due.is_some() {
+            return Ok(due);
         }
         if !ahead.make()? {
             return Ok(None);
@@ -98,19 +100,20 @@ fn pack_lines(ahead: &mut LinesAhead, packer: &mut Packer) -> Result<Option<Page
     }
 }
 
-/// Pushes the lines that are made until a push gives a page.
-fn push_made(ahead: &mut LinesAhead, packer: &mut Packer) -> Option<Page>
+/// Pushes the lines that are made until a push gives a page, which is then due. None was due before.
+fn push_made(ahead: &mut LinesAhead, packer: &mut Packer, due: &mut Option<Page>)
+    requires { due.old ≡ None }
     ensures packs { (first : Stream) (hand : PageInHand)
         → Pushing first hand (stream_of ahead.old) packer.old
-        → PacksMade first hand result (stream_of ahead.new) packer.new }
-    ensures none { result ≡ None → HasNoLine (stream_of ahead.new) }
+        → PacksMade first hand due.new (stream_of ahead.new) packer.new }
+    ensures none { due.new ≡ None → HasNoLine (stream_of ahead.new) }
     ensures turns { turns_left (stream_of ahead.new) ≡ turns_left (stream_of ahead.old) }
     ensures wanted { (stream_of ahead.new).wanted ≡ (stream_of ahead.old).wanted }
 {
     'pushing: while let Some(line) = ahead.next() {
-        if let Some(page) = packer.push(&Item::Line(line)) {
-            return Some(page);
+        packer.push_line(&line, due);
+        if due.is_some() {
+            return;
         }
     }
-    None
 }

@@ -71,8 +71,10 @@ impl LinesAhead {
         ensures end { self.new.end ≡ self.old.end }
         ensures wanted { (stream_of self.new).wanted ≡ (stream_of self.old).wanted }
     {
-        if let Some(line) = self.waiting.next() {
-            return Some(line);
+        // The line goes out as it comes: one that is taken out and put in again is copied twice more.
+        let waiting = self.waiting.next();
+        if waiting.is_some() {
+            return waiting;
         }
         self.part.next()
     }
@@ -121,7 +123,8 @@ impl LinesAhead {
         match next_item(&mut self.items) {
             None => Ok(false),
             Some(item) => {
-                self.waiting = take_item(self.alloc, &mut self.part, &mut self.loads, &item)?;
+                let waiting = &mut self.waiting;
+                take_item(self.alloc, &mut self.part, &mut self.loads, &item, waiting)?;
                 Ok(true)
             }
         }

@@ -1,5 +1,5 @@
 // What an item does to the part of the deck that it comes to.
-ghost use Rattle.std.specs.Prelude.{◌≡◌, ◌+◌, ◌++◌, ◌∷◌, ℕ, List, [], Some, IfOk, OnOk, if◌then◌else◌};
+ghost use Rattle.std.specs.Prelude.{◌≡◌, ◌+◌, ◌++◌, ◌∷◌, ℕ, List, [], Some, Ok, Err, IfOk, IfErr, OnOk, if◌then◌else◌};
 ghost use Rattle.solo_base.specs.declared.item.Item.{Item as ItemOf};
 ghost use Rattle.deck_format.specs.JobReader.{control_in};
 ghost use Rattle.deck_format.specs.Jobs.{card_count, counts, data_in, is_some, opener_of};
@@ -24,30 +24,31 @@ use solo_base::{Ident, Item, Line, LineList, NoMemory};
 use std::alloc::Global;
 use std::mem;
 
-/// The lines of the next item, which leads to another part. All lines of the items before were given, and
-/// what its file was loaded as, if it opens a job of a file.
+/// The lines of the next item, which leads to another part, in the place of those that waited. All lines of
+/// the items before were given, and what its file was loaded as, if it opens a job of a file.
 pub fn take_item(
     alloc: Global,
     part: &mut Part,
     loads: &mut PageLoads,
     item: &Item,
-) -> Result<ItemLines, NoMemory>
+    waiting: &mut ItemLines,
+) -> Result<(), NoMemory>
     requires { IsSpentPart part.old }
-    ensures leads { IfOk result (λ lines. (place : Where) → IsPart part.old place
+    ensures leads { OnOk result ((place : Where) → IsPart part.old place
         → HasLoad (opener_of item.now) loads.old.given
-        → Leads place item.now loads.old.given loads.new.given lines part.new) }
+        → Leads place item.now loads.old.given loads.new.given waiting.new part.new) }
     ensures wanted { loads.new.wanted ≡ loads.old.wanted }
-    ensures left { IfOk result (λ lines. HasLoad (opener_of item.now) loads.old.given
+    ensures left { OnOk result (HasLoad (opener_of item.now) loads.old.given
         → LeavesLoads (opener_of item.now) loads.old.given loads.new.given) }
 {
     let control = control_in(item);
     if let Some(opener) = opener_in(&control) {
-        return take_opener(alloc, part, loads, opener);
+        return take_opener(alloc, part, loads, opener, waiting);
     }
     if ends_in(&control) && part.is_in_group() {
-        return take_end(alloc, part);
+        return take_end(alloc, part, waiting);
     }
-    add(alloc, part, item, &control)
+    add(alloc, part, item, &control, waiting)
 }
 
 /// The lines of a part behind which no more comes.
@@ -88,23 +89,27 @@ pub fn end_part(alloc: Global, part: &mut Part) -> Result<ProgramLines, NoMemory
 }
 
 /// The lines of the end of a group.
-fn take_end(alloc: Global, part: &mut Part) -> Result<ItemLines, NoMemory>
-    ensures { IfOk result (λ lines. (place : Where) → IsPart part.old place → Ends place lines part.new) }
+#[inline(never)]
+fn take_end(alloc: Global, part: &mut Part, waiting: &mut ItemLines) -> Result<(), NoMemory>
+    ensures { OnOk result ((place : Where) → IsPart part.old place → Ends place waiting.new part.new) }
 {
     let ending = end_part(alloc, part)?;
-    Ok(ItemLines::ending_with(ending))
+    *waiting = ItemLines::ending_with(ending);
+    Ok(())
 }
 
 /// The lines of an opener.
+#[inline(never)]
 fn take_opener(
     alloc: Global,
     part: &mut Part,
     loads: &mut PageLoads,
     opener: Opener,
-) -> Result<ItemLines, NoMemory>
-    ensures opens { IfOk result (λ lines. (place : Where) (load : LoadedOf) (left : List LoadedOf)
+    waiting: &mut ItemLines,
+) -> Result<(), NoMemory>
+    ensures opens { OnOk result ((place : Where) (load : LoadedOf) (left : List LoadedOf)
         → IsPart part.old place → load_for opener loads.old.given ≡ Some (load, left)
-        → Opens place opener loads.old.given left lines part.new) }
+        → Opens place opener loads.old.given left waiting.new part.new) }
     ensures left { (load : LoadedOf) (left : List LoadedOf)
         → load_for opener loads.old.given ≡ Some (load, left) → loads.new.given ≡ left }
     ensures wanted { loads.new.wanted ≡ loads.old.wanted }
@@ -113,11 +118,12 @@ fn take_opener(
     let ending = end_part(alloc, part)?;
     let (name, then) = opened(alloc, opener, load)?;
     *part = then;
-    Ok(ItemLines {
+    *waiting = ItemLines {
         ending,
         own: Some(heading(&name)),
         note: None,
-    })
+    };
+    Ok(())
 }
 
 /// The name of the group behind an opener, and the part that it is, whose file was loaded so if it is one of
@@ -154,29 +160,40 @@ fn add(
     part: &mut Part,
     item: &Item,
     control: &Option<Control>,
-) -> Result<ItemLines, NoMemory>
+    waiting: &mut ItemLines,
+) -> Result<(), NoMemory>
     requires spent { IsSpentPart part.old }
     requires control { control.now ≡ control_in item.now }
-    ensures { IfOk result (λ lines. (place : Where) → IsPart part.old place
-        → Adds place item.now lines part.new) }
+    ensures { OnOk result ((place : Where) → IsPart part.old place
+        → Adds place item.now waiting.new part.new) }
 {
     match part {
         Part::Stretch { count } => {
             *count = counted(*count, item);
-            Ok(ItemLines::none())
+            waiting.clear();
+            Ok(())
         }
-        Part::List { .. } => Ok(add_to_list(part, item, control)),
-        Part::Program { .. } => add_to_program(alloc, part, item, control),
-        Part::Input { .. } => Ok(add_to_input(part, item, control)),
-        Part::Dropped => Ok(ItemLines::none()),
+        Part::List { .. } => {
+            add_to_list(part, item, control, waiting);
+            Ok(())
+        }
+        Part::Program { .. } => add_to_program(alloc, part, item, control, waiting),
+        Part::Input { .. } => {
+            add_to_input(part, item, control, waiting);
+            Ok(())
+        }
+        Part::Dropped => {
+            waiting.clear();
+            Ok(())
+        }
     }
 }
 
 /// Adds an item to a list: a card of it, or its fault.
-fn add_to_list(part: &mut Part, item: &Item, control: &Option<Control>) -> ItemLines
+fn add_to_list(part: &mut Part, item: &Item, control: &Option<Control>, waiting: &mut ItemLines)
     requires list { (name : List ℕ) × (count : ℕ) × (part.old ≡ PartOf.List name count) }
     requires control { control.now ≡ control_in item.now }
-    ensures { (place : Where) → IsPart part.old place → Adds place item.now result part.new }
+    ensures { (place : Where) → IsPart part.old place → Adds place item.now waiting.new part.new }
 {
     let Part::List { name, count } = part else {
         unreachable!()
@@ -185,12 +202,11 @@ fn add_to_list(part: &mut Part, item: &Item, control: &Option<Control>) -> ItemL
     match card_of(item, control, number, false) {
         Ok(card) => {
             *count = number;
-            ItemLines::of(card)
+            waiting.hold(card);
         }
         Err(fault) => {
-            let line = fault_line(name, fault);
+            waiting.hold(&fault_line(name, fault));
             *part = Part::Dropped;
-            ItemLines::of(line)
         }
     }
 }
@@ -211,12 +227,13 @@ fn add_to_program(
     part: &mut Part,
     item: &Item,
     control: &Option<Control>,
-) -> Result<ItemLines, NoMemory>
+    waiting: &mut ItemLines,
+) -> Result<(), NoMemory>
     requires program { (name : List ℕ) × (limit : ℕ) × (number : ℕ) × (cards : List (List ℕ))
         × (part.old ≡ PartOf.Program name limit number cards) }
     requires control { control.now ≡ control_in item.now }
-    ensures { IfOk result (λ lines. (place : Where) → IsPart part.old place
-        → Adds place item.now lines part.new) }
+    ensures { OnOk result ((place : Where) → IsPart part.old place
+        → Adds place item.now waiting.new part.new) }
 {
     let Part::Program {
         name,
@@ -230,19 +247,21 @@ fn add_to_program(
     let next = number.saturating_add(1);
     match card_of(item, control, *number, false) {
         Ok(card) => {
-            cards.push(&card)?;
+            cards.push(card)?;
             *number = next;
-            Ok(ItemLines::none())
+            waiting.clear();
+            Ok(())
         }
         Err(fault) => {
             if !data_in(control) {
-                let line = fault_line(name, fault);
+                waiting.hold(&fault_line(name, fault));
                 *part = Part::Dropped;
-                return Ok(ItemLines::of(line));
+                return Ok(());
             }
             let lines = ProgramLines::start(alloc, *name, *limit, cards)?;
             *part = input_from(*name, next, lines);
-            Ok(ItemLines::none())
+            waiting.clear();
+            Ok(())
         }
     }
 }
@@ -259,12 +278,12 @@ fn input_from(name: Ident, number: u32, lines: ProgramLines) -> Part
 }
 
 /// Adds an item to the input of a program: a card of it, or its fault, behind which no further card comes.
-fn add_to_input(part: &mut Part, item: &Item, control: &Option<Control>) -> ItemLines
+fn add_to_input(part: &mut Part, item: &Item, control: &Option<Control>, waiting: &mut ItemLines)
     requires input { (name : List ℕ) × (number : ℕ) × (lines : ProgramLinesOf)
         × (part.old ≡ PartOf.Input name number lines) }
     requires spent { IsSpentPart part.old }
     requires control { control.now ≡ control_in item.now }
-    ensures { (place : Where) → IsPart part.old place → Adds place item.now result part.new }
+    ensures { (place : Where) → IsPart part.old place → Adds place item.now waiting.new part.new }
 {
     let Part::Input {
         name,
@@ -276,20 +295,20 @@ fn add_to_input(part: &mut Part, item: &Item, control: &Option<Control>) -> Item
     };
     match card_of(item, control, *number, true) {
         Ok(card) => {
-            lines.feed(&card);
+            lines.feed(card);
             *number = number.saturating_add(1);
-            ItemLines::none()
+            waiting.clear();
         }
         Err(fault) => {
             lines.close();
             let ending = mem::replace(lines, ProgramLines::Over);
             let note = Some(fault_line(name, fault));
             *part = Part::Dropped;
-            ItemLines {
+            *waiting = ItemLines {
                 ending,
                 own: None,
                 note,
-            }
+            };
         }
     }
 }
@@ -302,19 +321,22 @@ fn data_in(control: &Option<Control>) -> bool
 }
 
 /// The card of a group that an item of this number is, or the fault that it is there.
-fn card_of(
-    item: &Item,
+fn card_of<'a>(
+    item: &'a Item,
     control: &Option<Control>,
     number: u32,
     in_input: bool,
-) -> Result<Line, CardFault>
+) -> Result<&'a Line, CardFault>
     requires { control.now ≡ control_in item.now }
-    ensures { result ≡ card_or_fault in_input item.now (is_some control.now) number }
+    ensures ok { IfOk result (λ card.
+        card_or_fault in_input item.now (is_some control.now) number ≡ Ok card.now) }
+    ensures err { IfErr result (λ fault.
+        card_or_fault in_input item.now (is_some control.now) number ≡ Err fault) }
 {
     let kind = match item {
         Item::Spoiled => CardFaultKind::Spoiled,
         Item::Line(_) if control.is_some() => CardFaultKind::Control,
-        Item::Line(card) => return Ok(card.copy()),
+        Item::Line(card) => return Ok(card),
     };
     Err(CardFault {
         kind,

@@ -1,5 +1,5 @@
-use Rattle.std.proofs.Common.{subst, sym, ap, ◌++◌, ◌∙◌, ◌≡◌}
-use Rattle.batch_job.specs.JobStream.{fed, StandsFor, stream_of}
+use Rattle.std.proofs.Common.{subst, sym, ap, ◌++◌, ◌∙◌}
+use Rattle.batch_job.specs.JobStream.{fed, StandsFor}
 use Rattle.batch_job.proofs.RunLines.{on-ok}
 use Rattle.batch_job.proofs.PushingLines.{stands-fed}
 use Rattle.batch_job.proofs.job_stream.JobStream.feed.Goals as goal
