@@ -1,10 +1,11 @@
 -- Which buffers of the law the six buffers stand for, and what a call on one of them is.
-use Rattle.std.specs.Prelude.{◌≡◌, ◌≤◌, ◌==◌, ℕ, false, if◌then◌else◌, List, [], ◌∷◌, map, length, Option, Some}
+use Rattle.std.specs.Prelude.{◌≡◌, ◌≤◌, ◌==◌, ℕ, false, IsTrue, if◌then◌else◌, List, [], ◌∷◌, map, length, Option, Some}
 use Rattle.solo_base.specs.declared.outcome.Side.{Side}
-use Rattle.queue_var.specs.Sides.{Sides, MayEnter, has_stopped, stopped_by}
+use Rattle.queue_var.specs.Sides.{Sides, MayEnter, MayStop, has_stopped, stopped_by}
 use Rattle.slot_buffer.specs.Slot.{Slot}
 use Rattle.network_law.specs.Buffer.{Buffer}
 use Rattle.network_law.specs.Network.{Fits, buffers_after}
+use Rattle.network_law.specs.Stepping.{is_named}
 use Rattle.exchange_law.specs.Parcels.{Parcel, OfArg, OfPage, mark}
 use Rattle.place_law.specs.Process.{went}
 use Rattle.solo_law.specs.Actions.{Action}
@@ -12,6 +13,8 @@ use Rattle.solo_law.specs.Buffers.{call}
 use Rattle.solo_law.specs.Replies.{view}
 use Rattle.solo_law.specs.Solo.{SoloState}
 use Rattle.solo_procs.specs.declared.actions.SoloReply.{SoloReply}
+use Rattle.solo_net.specs.declared.buffers.Asked.{Asked}
+use Rattle.solo_net.specs.declared.buffers.Asked.TheVariants as asked
 use Rattle.solo_net.specs.declared.buffers.Buffers.{Buffers}
 use Rattle.solo_net.specs.Replies.{entry_of, SoloReplyFits}
 pub use Rattle.solo_net.specs.Actions.{IsArgBuffer, IsPageBuffer}
@@ -52,6 +55,12 @@ first_stops six =
     stopped_by six.card_orders.sides ∷ stopped_by six.card_pages.sides ∷ stopped_by six.card_reports.sides
     ∷ stopped_by six.print_orders.sides ∷ stopped_by six.print_pages.sides
     ∷ stopped_by six.print_reports.sides ∷ []
+
+-- what is asked of them
+abbrev pub IsSo : Asked → Sides → Type 0
+IsSo (asked.Enter side p) sides = MayEnter sides side p
+IsSo (asked.Stop side) sides = MayStop sides side
+IsSo asked.Handed sides = IsTrue (is_named sides.turn)
 
 -- ---- a call
 -- A side may make a call that waits, and hasn't stopped.

@@ -1,7 +1,7 @@
 // The six buffers between the three processes.
 ghost use Rattle.std.specs.Prelude.{◌≡◌, ◌↔◌, ℕ, IsTrue, Some};
 ghost use Rattle.solo_base.specs.declared.outcome.Side.TheVariants.{Sender, Receiver};
-ghost use Rattle.queue_var.specs.Sides.{MayEnter, MayStop};
+ghost use Rattle.queue_var.specs.Sides.{MayStop};
 ghost use Rattle.network_law.specs.Stepping.{is_named};
 ghost use Rattle.exchange_law.specs.Parcels.{Parcel};
 ghost use Rattle.solo_law.specs.Actions as act;
@@ -9,7 +9,7 @@ ghost use Rattle.solo_law.specs.Devices.{Devices};
 ghost use Rattle.solo_law.specs.Solo.{SoloState, opened};
 ghost use Rattle.solo_law.specs.Holds.{IsBuffer};
 ghost use Rattle.solo_procs.specs.declared.actions.SoloReply.TheVariants as hear;
-ghost use Rattle.solo_net.specs.SixBuffers.{SoloBuffersStand, SoloVisited, SoloWaitsAt, IsArgBuffer, IsPageBuffer, sides_at, first_stops};
+ghost use Rattle.solo_net.specs.SixBuffers.{SoloBuffersStand, SoloVisited, SoloWaitsAt, IsSo, IsArgBuffer, IsPageBuffer, sides_at, first_stops};
 
 use crate::{arg_reply, page_reply, put_reply};
 use slot_buffer::{ArgBuffer, PageBuffer, SlotBuffer};
@@ -27,6 +27,16 @@ pub struct Buffers {
     pub print_orders: ArgBuffer,
     pub print_pages: PageBuffer,
     pub print_reports: ArgBuffer,
+}
+
+/// What is asked of a buffer.
+pub enum Asked {
+    /// Whether a process may make its call by this side, a put or a take.
+    Enter { side: Side, p: ProcNo },
+    /// Whether this side may stop.
+    Stop(Side),
+    /// Whether the turn is handed to who waits there.
+    Handed,
 }
 
 impl Buffers {
@@ -126,60 +136,22 @@ impl Buffers {
         }
     }
 
-    /// Whether a process may make its call by a side of a buffer, a put or a take.
-    pub fn may_enter(&self, b: BufferNo, side: Side, p: ProcNo) -> bool
-        ensures { IsTrue result ↔ MayEnter (sides_at self.now b) side p }
+    /// What is asked of a buffer.
+    pub fn ask(&self, b: BufferNo, asked: Asked) -> bool
+        ensures { IsTrue result ↔ IsSo asked (sides_at self.now b) }
     {
         if b == 1 {
-            self.card_orders.may_enter(side, p)
+            is_so(&self.card_orders, asked)
         } else if b == 2 {
-            self.card_pages.may_enter(side, p)
+            is_so(&self.card_pages, asked)
         } else if b == 3 {
-            self.card_reports.may_enter(side, p)
+            is_so(&self.card_reports, asked)
         } else if b == 4 {
-            self.print_orders.may_enter(side, p)
+            is_so(&self.print_orders, asked)
         } else if b == 5 {
-            self.print_pages.may_enter(side, p)
+            is_so(&self.print_pages, asked)
         } else {
-            self.print_reports.may_enter(side, p)
-        }
-    }
-
-    /// Whether a side of a buffer may stop.
-    pub fn may_stop(&self, b: BufferNo, side: Side) -> bool
-        ensures { IsTrue result ↔ MayStop (sides_at self.now b) side }
-    {
-        if b == 1 {
-            self.card_orders.may_stop(side)
-        } else if b == 2 {
-            self.card_pages.may_stop(side)
-        } else if b == 3 {
-            self.card_reports.may_stop(side)
-        } else if b == 4 {
-            self.print_orders.may_stop(side)
-        } else if b == 5 {
-            self.print_pages.may_stop(side)
-        } else {
-            self.print_reports.may_stop(side)
-        }
-    }
-
-    /// Whether the turn of a buffer is handed to who waits there.
-    pub fn is_handed(&self, b: BufferNo) -> bool
-        ensures { result ≡ is_named (sides_at self.now b).turn }
-    {
-        if b == 1 {
-            self.card_orders.handed().is_some()
-        } else if b == 2 {
-            self.card_pages.handed().is_some()
-        } else if b == 3 {
-            self.card_reports.handed().is_some()
-        } else if b == 4 {
-            self.print_orders.handed().is_some()
-        } else if b == 5 {
-            self.print_pages.handed().is_some()
-        } else {
-            self.print_reports.handed().is_some()
+            is_so(&self.print_reports, asked)
         }
     }
 
@@ -196,6 +168,24 @@ impl Buffers {
             self.print_reports.stopped_by(),
         ]
     }
+}
+
+/// The answer of one buffer.
+fn is_so<T>(buffer: &SlotBuffer<T>, asked: Asked) -> bool
+    ensures { IsTrue result ↔ IsSo asked buffer.now.sides }
+{
+    match asked {
+        Asked::Enter { side, p } => buffer.may_enter(side, p),
+        Asked::Stop(side) => buffer.may_stop(side),
+        Asked::Handed => is_handed(buffer),
+    }
+}
+
+/// Whether the turn of a buffer is handed to who waits there.
+fn is_handed<T>(buffer: &SlotBuffer<T>) -> bool
+    ensures { result ≡ is_named buffer.now.sides.turn }
+{
+    buffer.handed().is_some()
 }
 
 ghost use Rattle.solo_law.specs.Buffers.{side_at};

@@ -14,7 +14,7 @@ ghost use Rattle.solo_net.specs.SixBuffers.{SoloBuffersStand, sides_at};
 ghost use Rattle.solo_net.specs.Turns.{SoloIsAtTurn};
 
 use crate::Buffers;
-use crate::buffers::side_at;
+use crate::buffers::{Asked, side_at};
 use network_run::Stepped;
 use solo_base::{BufferNo, ProcNo, Side};
 use solo_procs::{Machine, Proc, SoloAction};
@@ -26,11 +26,35 @@ impl Buffers {
             → IsTrue result ↔ MayCall s p (call p (unsaid action.now)) }
     {
         match action {
-            SoloAction::PutArg { buffer, .. } => self.may_enter(*buffer, Side::Sender, p),
-            SoloAction::TakeArg(buffer) => self.may_enter(*buffer, Side::Receiver, p),
-            SoloAction::PutPage { buffer, .. } => self.may_enter(*buffer, Side::Sender, p),
-            SoloAction::TakePage(buffer) => self.may_enter(*buffer, Side::Receiver, p),
-            SoloAction::Stop(buffer) => self.may_stop(*buffer, side_at(p, *buffer)),
+            SoloAction::PutArg { buffer, .. } => self.ask(
+                *buffer,
+                Asked::Enter {
+                    side: Side::Sender,
+                    p,
+                },
+            ),
+            SoloAction::TakeArg(buffer) => self.ask(
+                *buffer,
+                Asked::Enter {
+                    side: Side::Receiver,
+                    p,
+                },
+            ),
+            SoloAction::PutPage { buffer, .. } => self.ask(
+                *buffer,
+                Asked::Enter {
+                    side: Side::Sender,
+                    p,
+                },
+            ),
+            SoloAction::TakePage(buffer) => self.ask(
+                *buffer,
+                Asked::Enter {
+                    side: Side::Receiver,
+                    p,
+                },
+            ),
+            SoloAction::Stop(buffer) => self.ask(*buffer, Asked::Stop(side_at(p, *buffer))),
             _ => true,
         }
     }
@@ -47,12 +71,7 @@ impl Buffers {
             SoloAction::PutPage { buffer, .. } => self.goes_at(*buffer),
             SoloAction::TakePage(buffer) => self.goes_at(*buffer),
             SoloAction::Ended(_) => Stepped::Ended,
-            SoloAction::Stop(_)
-            | SoloAction::Accept
-            | SoloAction::Display(_)
-            | SoloAction::ReadCard
-            | SoloAction::Print(_)
-            | SoloAction::Work => Stepped::Acted,
+            _ => Stepped::Acted,
         }
     }
 
@@ -60,7 +79,7 @@ impl Buffers {
     fn goes_at(&self, b: BufferNo) -> Stepped
         ensures { result ≡ stepped_so false false (is_named (sides_at self.now b).turn) }
     {
-        if self.is_handed(b) {
+        if self.ask(b, Asked::Handed) {
             Stepped::Resumed
         } else {
             Stepped::Acted

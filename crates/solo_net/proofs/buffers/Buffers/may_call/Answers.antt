@@ -12,28 +12,28 @@ use Rattle.solo_net.proofs.buffers.Buffers.may_call.Goals as goal
 pub returns-in-PutArg : goal.returns-in-PutArg
 returns-in-PutArg c =
     enters c.args.self.now c.args.action.now _ c.in-PutArg.buffer Sender (ap unsaid c.in-PutArg.is) (λ place. arg-is _ place) c.args.p
-    c.may_enter.result refl c.may_enter.ensures
+    c.ask.result refl c.ask.ensures
 
 pub returns-in-TakeArg : goal.returns-in-TakeArg
 returns-in-TakeArg c =
     enters c.args.self.now c.args.action.now _ c.in-TakeArg.buffer Receiver (ap unsaid c.in-TakeArg.is) (λ place. arg-is _ place) c.args.p
-    c.may_enter-in-TakeArg.result refl c.may_enter-in-TakeArg.ensures
+    c.ask-in-TakeArg.result refl c.ask-in-TakeArg.ensures
 
 pub returns-in-PutPage : goal.returns-in-PutPage
 returns-in-PutPage c =
     enters c.args.self.now c.args.action.now _ c.in-PutPage.buffer Sender (ap unsaid c.in-PutPage.is) (λ place. page-is _ place) c.args.p
-    c.may_enter-in-PutPage.result refl c.may_enter-in-PutPage.ensures
+    c.ask-in-PutPage.result refl c.ask-in-PutPage.ensures
 
 pub returns-in-TakePage : goal.returns-in-TakePage
 returns-in-TakePage c =
     enters c.args.self.now c.args.action.now _ c.in-TakePage.buffer Receiver (ap unsaid c.in-TakePage.is) (λ place. page-is _ place) c.args.p
-    c.may_enter-in-TakePage.result refl c.may_enter-in-TakePage.ensures
+    c.ask-in-TakePage.result refl c.ask-in-TakePage.ensures
 
 pub returns-in-Stop : goal.returns-in-Stop
 returns-in-Stop c =
     stops c.args.self.now c.args.action.now _ c.in-Stop.buffer (side_at c.args.p c.in-Stop.buffer) (ap unsaid c.in-Stop.is) (λ place. place) c.args.p
-    c.may_stop.result refl
-    (subst (λ side. IsTrue c.may_stop.result ↔ MayStop (sides_at c.args.self.now c.in-Stop.buffer) side) c.side_at.ensures c.may_stop.ensures)
+    c.ask-in-Stop.result refl
+    (subst (λ side. IsTrue c.ask-in-Stop.result ↔ MayStop (sides_at c.args.self.now c.in-Stop.buffer) side) c.side_at.ensures c.ask-in-Stop.ensures)
 
 pub returns-in_default : goal.returns-in_default
 returns-in_default c = λ s six place.
