@@ -38,6 +38,10 @@ drop-past [] (suc n) past = refl
 drop-past (x ∷ xs) zero past = absurd (omega (arith, past))
 drop-past (x ∷ xs) (suc n) past = drop-past xs n (omega (arith, past))
 
+-- the commands of two that are the same
+pub same-commands : {C : Type 0} (a b : JobProc C) → a ≡ b → a.commands ≡ b.commands
+same-commands {C} a b e = ap (λ (j : JobProc C). j.commands) e
+
 module _ {C : Type 0} (awaits : C → ℕ → Kind → Type 0) (j : JobProc C) where
   -- ---- a need that the work came to
   module _ (work : Work) (needed : law.Need) (came : CameSo awaits j work needed) where

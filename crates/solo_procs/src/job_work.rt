@@ -5,10 +5,10 @@ ghost use Rattle.place_law.specs.Process.{Entry, next_action};
 ghost use Rattle.solo_law.specs.Work.{Work, Given as GivenOf};
 ghost use Rattle.solo_law.specs.Actions.{Action, Reply, Works};
 ghost use Rattle.solo_law.specs.Replies.{view};
-ghost use Rattle.solo_law.specs.JobPlaces.{job, Toils};
+ghost use Rattle.solo_law.specs.JobPlaces.{job};
 ghost use Rattle.solo_procs.specs.declared.actions.SoloReply.TheVariants as hear;
 ghost use Rattle.solo_procs.specs.Machine.{StandsFor};
-ghost use Rattle.solo_procs.specs.Job.{job_at, JobStands, WorkedSo, HasWorked, LedSo};
+ghost use Rattle.solo_procs.specs.Job.{job_at, JobStands, HasWorked, LedSo};
 
 use crate::SoloReply;
 use crate::commands::{Commands, Given, WorkFault};
@@ -38,30 +38,10 @@ impl<C: Commands> Machine<JobProc<C>> {
         ensures failed { result ≡ hear.Failed → Rose (C.faults files.old) (C.faults files.new) }
         ensures counts { C.faults files.old ≤ C.faults files.new }
     {
-        self.process.work(files)
-    }
-}
-
-impl<C: Commands> JobProc<C> {
-    fn work(&mut self, files: &mut C::Files) -> SoloReply
-        requires sound { C.sound files.old }
-        ensures works { (work : Work) → JobStands C.awaits self.old (Toils work)
-            → WorkedSo C.awaits (C.plans self.old.commands files.old) (C.plans self.new.commands files.new)
-            self.new work result }
-        ensures follows { (work : Work) → JobStands C.awaits self.old (Toils work)
-            → (opening : C.Files) (before : List GivenOf)
-            → C.follows self.old.commands opening before files.old
-            → LedSo result (C.follows self.new.commands opening (before ++ work.given ∷ []) files.new)
-            (C.passes opening (before ++ work.given ∷ []) files.new) }
-        ensures place { self.new.place ≡ self.old.place }
-        ensures sound { result ≡ hear.Done → C.sound files.new }
-        ensures failed { result ≡ hear.Failed → Rose (C.faults files.old) (C.faults files.new) }
-        ensures counts { C.faults files.old ≤ C.faults files.new }
-    {
-        let given = mem::replace(&mut self.given, Given::Nothing);
-        match self.commands.work(given, files) {
+        let given = mem::replace(&mut self.process.given, Given::Nothing);
+        match self.process.commands.work(given, files) {
             Ok(need) => {
-                self.met = Some(need);
+                self.process.met = Some(need);
                 SoloReply::Done
             }
             Err(WorkFault::Failed) => SoloReply::Failed,

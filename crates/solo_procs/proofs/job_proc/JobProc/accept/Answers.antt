@@ -3,7 +3,7 @@ use Rattle.solo_base.specs.declared.item.Item.TheVariants.{Line, Spoiled}
 use Rattle.solo_base.specs.declared.item.Feed.TheVariants as feed
 use Rattle.solo_law.specs.Work.{OfTyped}
 use Rattle.solo_procs.specs.declared.commands.Given.TheVariants as given
-use Rattle.solo_procs.proofs.JobNeeds.{accepts, accepts-on}
+use Rattle.solo_procs.proofs.JobNeeds.{accepts, accepts-on, same-commands}
 use Rattle.solo_procs.proofs.job_proc.JobProc.accept.Goals as goal
 
 pub returns-in-Card-clause-ready : goal.returns-in-Card-clause-ready
@@ -23,3 +23,12 @@ returns-in-End-clause-ready g c = λ pages kept.
 pub returns-in_default-clause-ready : goal.returns-in_default-clause-ready
 returns-in_default-clause-ready g c = λ pages kept.
     accepts-on g.C.Commands.awaits c.args.self.now c.args.typed c.in_default.not-Card c.in_default.not-Spoiled c.in_default.not-End pages kept
+
+pub returns-in-Card-clause-kept : goal.returns-in-Card-clause-kept
+returns-in-Card-clause-kept g c = same-commands _ _ c.toil.ensures
+
+pub returns-in-Spoiled-clause-kept : goal.returns-in-Spoiled-clause-kept
+returns-in-Spoiled-clause-kept g c = same-commands _ _ c.toil-in-Spoiled.ensures
+
+pub returns-in-End-clause-kept : goal.returns-in-End-clause-kept
+returns-in-End-clause-kept g c = same-commands _ _ c.toil-in-End.ensures

@@ -1,5 +1,5 @@
 use Rattle.solo_base.specs.declared.item.Item.TheVariants.{Spoiled}
-use Rattle.solo_procs.proofs.JobNeeds.{begins, leaves, listens-on}
+use Rattle.solo_procs.proofs.JobNeeds.{begins, leaves, listens-on, same-commands}
 use Rattle.solo_procs.proofs.job_proc.JobProc.listen.Goals as goal
 
 pub returns-in-Card-clause-ready : goal.returns-in-Card-clause-ready
@@ -14,3 +14,6 @@ returns-in-End-clause-ready g c = λ kept. rw c.in-End.is (leaves g.C.Commands.a
 pub returns-in_default-clause-ready : goal.returns-in_default-clause-ready
 returns-in_default-clause-ready g c = λ kept.
     listens-on g.C.Commands.awaits c.args.self.now c.args.typed c.in_default.not-Card c.in_default.not-Spoiled c.in_default.not-End kept
+
+pub returns-in-Spoiled-clause-kept : goal.returns-in-Spoiled-clause-kept
+returns-in-Spoiled-clause-kept g c = same-commands _ _ c.toil.ensures

@@ -2,6 +2,7 @@ use Rattle.solo_procs.specs.declared.commands.Given.TheVariants as given
 use Rattle.solo_procs.specs.declared.job_proc.JobAt.TheVariants as here
 use Rattle.solo_procs.specs.Job.{JobStands}
 use Rattle.solo_procs.proofs.JobSteps.{no-toils, done-toils, done-else, done-orders_cards, done-displays, done-orders_printer, done-puts, done-answers, done-dismisses_input, done-dismisses_output, done-idle}
+use Rattle.solo_procs.proofs.JobNeeds.{same-commands}
 use Rattle.solo_procs.proofs.job_proc.JobProcProc.done.Goals as goal
 
 pub returns-in-Toils-clause-ready : goal.returns-in-Toils-clause-ready
@@ -62,3 +63,6 @@ returns-in_default-clause-ready g c =
       input = c.in_default.not-DismissesInput;
       output = c.in_default.not-DismissesOutput;
     })
+
+pub returns-in-Displays-clause-kept : goal.returns-in-Displays-clause-kept
+returns-in-Displays-clause-kept g c = same-commands _ _ c.toil.ensures
