@@ -38,7 +38,7 @@ pub enum JobAt {
 /// What the job process keeps: its commands, its place, what its next work begins with and what the last one
 /// came to, the card file in hand, the pages that it awaits, the lines that are still to answer its command,
 /// whether the command has ended, and whether it has put a page.
-// Its drop is written out, so that it is proved here alone, and is one call where a machine is dropped.
+#[derive(Drop)]
 pub struct JobProc<C> {
     pub(crate) commands: C,
     pub(crate) place: JobAt,
@@ -51,24 +51,6 @@ pub struct JobProc<C> {
     pub(crate) ends: bool,
     pub(crate) prints: bool,
     pub(crate) alloc: Global,
-}
-
-impl<C: Drop> Drop for JobProc<C> {
-    fn drop(self) {
-        let Self {
-            commands: _,
-            place: _,
-            given: _,
-            met: _,
-            cards: _,
-            pages: _,
-            answers: _,
-            answered: _,
-            ends: _,
-            prints: _,
-            alloc: _,
-        } = self;
-    }
 }
 
 impl<C: Commands> Proc for JobProc<C> {
