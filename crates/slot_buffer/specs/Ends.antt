@@ -1,5 +1,5 @@
 -- What contracts see of the ends of a running buffer, and of its gate.
-use Rattle.std.specs.Prelude.{◌≡◌, true, false, Option, None, Result, Ok, Err, List, [], ◌++◌, option_to_list}
+use Rattle.std.specs.Prelude.{◌≡◌, true, false, Option, None, Some, Result, Ok, Err, List, [], ◌++◌, option_to_list}
 use Rattle.std.proofs.Common.{sym, ap, ◌∙◌}
 use Rattle.std.proofs.lemmas.Bool.{false_from_ne_true}
 use Rattle.std.proofs.lemmas.List.{append-nil}
@@ -46,6 +46,11 @@ take_call (Err ended) = call.TakeRefused
 abbrev pub take_given : {T : Type 0} → Result T Ended → Take T
 take_given (Ok item) = Take.Item item
 take_given (Err ended) = Take.Stopped
+
+-- the answer of the monitor to a take that doesn't wait, by what came out of the slot
+abbrev pub taken_out : {T : Type 0} → Option T → Take T
+taken_out (Some item) = Take.Item item
+taken_out None = Take.Stopped
 
 -- What stands when both ends have met: what was taken and what rests is what was put, it is known who stopped first, and a
 -- receiver that was told of a stop leaves nothing.

@@ -106,16 +106,12 @@ fn take<T: Send, R: Threads + Wait + Sync>(
     ensures answer { (state : Slot T) × Finds Receiver (calls_in value pass.old) state × (take_given result ≡ take_answer state) }
 {
     let mut inside = enter(gate, pass, rt);
-    match inside.state().take_out() {
-        Ok(item) => {
-            inside.leave(SlotCall::Take(Snapshot::of(&item)));
-            Ok(item)
-        }
-        Err(Ended) => {
-            inside.leave(SlotCall::TakeRefused);
-            Err(Ended)
-        }
-    }
+    let Some(item) = inside.state().take_out() else {
+        inside.leave(SlotCall::TakeRefused);
+        return Err(Ended);
+    };
+    inside.leave(SlotCall::Take(Snapshot::of(&item)));
+    Ok(item)
 }
 
 // Enters, and waits until an item is there or the sender has stopped.

@@ -58,7 +58,15 @@ impl<T: Send> SendEnd<T> {
         ensures handed_back { IfErr result (λ stopped. stopped.0 ≡ item) }
         ensures answer { (state : Slot T) × Finds Sender self.old.calls state × (put_given item result ≡ put_answer state item) }
     {
-        put(&gate.gate, &mut self.pass, item, rt)
+        let seen = Snapshot::of(&item);
+        let mut inside = enter(&gate.gate, &mut self.pass, rt);
+        if inside.state().refuses_put() {
+            inside.leave(SlotCall::PutRefused(seen));
+            return Err(Stopped(item));
+        }
+        inside.state().put_in(item);
+        inside.leave(SlotCall::Put(seen));
+        Ok(())
     }
 
     /// Puts these items in, one after the other, and stops behind the last. It ends at the first that the
@@ -87,29 +95,6 @@ impl<T: Send> SendEnd<T> {
     {
         stop(&gate.gate, &mut self.pass, Side::Sender, rt);
     }
-}
-
-fn put<T: Send, R: Threads + Wait + Sync>(
-    gate: &Gate<SlotKind<T>>,
-    pass: &mut SlotPass<T>,
-    item: T,
-    rt: &R,
-) -> Result<(), Stopped<T>>
-    requires pass { IsEndOf gate.now 1 pass.old }
-    requires not_stopped { has_stop (calls_in value pass.old) ≡ false }
-    ensures call { HasCalled value pass.old pass.new (put_call item result) }
-    ensures handed_back { IfErr result (λ stopped. stopped.0 ≡ item) }
-    ensures answer { (state : Slot T) × Finds Sender (calls_in value pass.old) state × (put_given item result ≡ put_answer state item) }
-{
-    let seen = Snapshot::of(&item);
-    let mut inside = enter(gate, pass, rt);
-    if inside.state().refuses_put() {
-        inside.leave(SlotCall::PutRefused(seen));
-        return Err(Stopped(item));
-    }
-    inside.state().put_in(item);
-    inside.leave(SlotCall::Put(seen));
-    Ok(())
 }
 
 // Enters, and waits until there is room or the receiver has stopped.

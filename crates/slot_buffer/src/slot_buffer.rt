@@ -8,10 +8,10 @@ ghost use Rattle.queue_var.specs.Sides.{MayEnter, MayStop, queue, nobody, entere
 ghost use Rattle.queue_var.specs.HandsOver.{earliest};
 ghost use Rattle.slot_buffer.specs.declared.answers.Put.{Put};
 ghost use Rattle.slot_buffer.specs.declared.answers.Take.{Take};
-ghost use Rattle.slot_buffer.specs.Ends.{take_given};
+ghost use Rattle.slot_buffer.specs.Ends.{taken_out};
 ghost use Rattle.slot_buffer.specs.Slot.{StandsFor, put_answer, after_put, sent_with, take_answer, after_take, taken_with, after_stop};
 
-use crate::{Ended, Put, Take};
+use crate::{Put, Take};
 use queue_var::Sides;
 use solo_base::{ProcNo, Side};
 use std::marker::Model;
@@ -119,8 +119,8 @@ impl<T> SlotBuffer<T> {
             return Take::Delayed;
         }
         match self.take_out() {
-            Ok(item) => Take::Item(item),
-            Err(Ended) => Take::Stopped,
+            Some(item) => Take::Item(item),
+            None => Take::Stopped,
         }
     }
 
@@ -167,8 +167,8 @@ impl<T> SlotBuffer<T> {
         ensures answer { Put.Done ≡ put_answer self.old item }
         ensures after { self.new ≡ record { inside = self.old.inside ++ item ∷ []; sides = continued (entered self.old.sides Sender) Receiver } }
     {
-        self.sides.enter(Side::Sender);
         fill(&mut self.slot, item);
+        self.sides.enter(Side::Sender);
         self.sides.cont(Side::Receiver);
     }
 
@@ -190,23 +190,20 @@ impl<T> SlotBuffer<T> {
         true
     }
 
-    /// Takes the item out for a receiver that doesn't have to wait. An `Err`: the sender stopped first, and
-    /// none is left.
+    /// Takes the item out for a receiver that doesn't have to wait. None: the sender stopped first, and no item
+    /// is left.
     #[inline(always)]
-    pub(crate) fn take_out(&mut self) -> Result<T, Ended>
+    pub(crate) fn take_out(&mut self) -> Option<T>
         requires may_enter { (p : ℕ) × MayEnter self.old.sides Receiver p }
         requires not_delayed { Take.Delayed ≡ take_answer self.old → ⊥ }
-        ensures answer { take_given result ≡ take_answer self.old }
-        ensures after { (p : ℕ) → self.new ≡ after_take self.old p (take_given result) }
+        ensures answer { taken_out result ≡ take_answer self.old }
+        ensures after { (p : ℕ) → self.new ≡ after_take self.old p (taken_out result) }
     {
         self.sides.enter(Side::Receiver);
-        match self.slot.take() {
-            Some(item) => {
-                self.sides.cont(Side::Sender);
-                Ok(item)
-            }
-            None => Err(Ended),
+        if self.slot.is_some() {
+            self.sides.cont(Side::Sender);
         }
+        self.slot.take()
     }
 
     /// Stops a side for good, and lets the other side know if it waits.

@@ -28,7 +28,7 @@ use Rattle.twin_law.specs.Process.{Entry, stands_behind, place, given_cause, cau
 use Rattle.twin_law.specs.Sides.{Twin, A, B, other, to_job, from_job}
 use Rattle.twin_law.specs.Ends.{CardPlace, ReadsCard, PutsCard, PutsEnd, HasPut, card_aims, behind_read, card, PrinterPlace, TakesLine, PrintsLine, HasPrinted, printer_aims, behind_line, printer}
 use Rattle.twin_law.specs.Input.{InputPlace, Takes, PutsFull, PutsLast, PutsEmptyA, PutsEmptyB, HasDealt, last_of, input_aims, pushes, packs, deals, ends_deck, behind_feed, behind_last, input}
-use Rattle.twin_law.specs.Output.{Turn, OutputPlace, TakesLines, PutsLine, PutsOver, HasGathered, output_aims, puts_line, turn_behind, behind_lines, page_due, output}
+use Rattle.twin_law.specs.Output.{Turn, OutputPlace, TakesLines, PutsLine, PutsOver, HasGathered, output_aims, puts_line, turn_behind, behind_lines, page_in_turn, output}
 use Rattle.twin_law.specs.Twin.{call, went_by, Fits, twin}
 use Rattle.twin_law.proofs.Marks.{trues, bit, makes, marks_by, marks_at, stands, OneSide, plus-none, plus-false, plus-true, plus-bit}
 
@@ -161,7 +161,7 @@ output-ends-step : {L : Type 0} (x : OutputPlace) (r : Reply L) (xs ys : List Bo
     → OneSide output_ends (stands_behind output x (makes (output_aims x)) r) (xs ++ marks_by 6 Sender (call 5 (makes (output_aims x))) (went_by (makes (output_aims x)) r))
     (ys ++ marks_by 6 Sender (call 5 (makes (output_aims x))) (went_by (makes (output_aims x)) r))
 output-ends-step (TakesLines t) (reply.Page page last) xs ys fits none is =
-    plus-nothing xs _ _ (none-at-6 t.side (OfPage page last)) (is ∙ sym (taken-ends t (page_due t page last)))
+    plus-nothing xs _ _ (none-at-6 t.side (OfPage page last)) (is ∙ sym (taken-ends t (page_in_turn t page last)))
 output-ends-step (TakesLines t) reply.Failed xs ys fits none is = absurd cc
 output-ends-step (PutsLine line later t over) reply.Done xs ys fits none is = plus-false xs _ (is ∙ sym (puts-ends later t over))
 output-ends-step (PutsLine line later t over) reply.Stopped xs ys fits none is = absurd cc

@@ -17,7 +17,7 @@ use Rattle.batch_procs.specs.declared.actions.Reply.TheVariants as reply
 use Rattle.twin_law.specs.Process.{Entry, stands_behind, place, given_cause, caused}
 use Rattle.twin_law.specs.Sides.{Twin, A, B, other, from_job}
 use Rattle.twin_law.specs.Job.{damage}
-use Rattle.twin_law.specs.Output.{Turn, OutputPlace, TakesLines, PutsLine, PutsOver, HasGathered, output_aims, puts_line, turn_behind, behind_lines, page_due, output}
+use Rattle.twin_law.specs.Output.{Turn, OutputPlace, TakesLines, PutsLine, PutsOver, HasGathered, output_aims, puts_line, turn_behind, behind_lines, page_in_turn, output}
 use Rattle.twin_law.specs.Twin.{call, went_by, Fits, twin}
 use Rattle.twin_law.proofs.PagesRead.{read-either}
 use Rattle.twin_law.proofs.DealCounts.{InTurn, turn-nil, turn-false-a, turn-false-b, turn-true-a, turn-true-b}
@@ -76,8 +76,8 @@ turn-on B false us vs is = turn-false-b us vs is
 abbrev Moves-in : {L : Type 0} → ℕ → Twin → Parcel L → List Bool
 Moves-in b side parcel = marks_by b Receiver (At (from_job side) Receiver Moves) (Moved parcel)
 
-taken-is : {L : Type 0} (t : Turn) (page : Page) (last : Bool) (parcel : Parcel L) (us vs : List Bool) → is_last parcel ≡ last → fault_in (damage (page_due t page last)) ≡ None
-    → InTurn t.side (trues us) (trues vs) → OutputIs (behind_lines t (page_due t page last)) (us ++ Moves-in 4 t.side parcel) (vs ++ Moves-in 5 t.side parcel)
+taken-is : {L : Type 0} (t : Turn) (page : Page) (last : Bool) (parcel : Parcel L) (us vs : List Bool) → is_last parcel ≡ last → fault_in (damage (page_in_turn t page last)) ≡ None
+    → InTurn t.side (trues us) (trues vs) → OutputIs (behind_lines t (page_in_turn t page last)) (us ++ Moves-in 4 t.side parcel) (vs ++ Moves-in 5 t.side parcel)
 taken-is t page last parcel us vs same none is =
     let moved4 = Moves-in 4 t.side parcel in
     let moved5 = Moves-in 5 t.side parcel in

@@ -14,7 +14,7 @@ use Rattle.batch_procs.specs.Parcels.{Parcel, OfFeed, OfPage, mark}
 use Rattle.solo_base.specs.declared.item.Feed.TheVariants as feed
 use Rattle.twin_law.specs.Sides.{Twin, A, B, other, from_job, dealt}
 use Rattle.twin_law.specs.Input.{empty_page}
-use Rattle.twin_law.specs.Output.{Turn, OutputPlace, TakesLines, PutsOver, HasGathered, puts_line, is_some, turn_behind, behind_lines, page_due, output_behind, output}
+use Rattle.twin_law.specs.Output.{Turn, OutputPlace, TakesLines, PutsOver, HasGathered, puts_line, is_some, turn_behind, behind_lines, page_in_turn, output_behind, output}
 use Rattle.twin_law.specs.Alone.{reply_of, first_parcel, less_one, Put, alone, puts}
 use Rattle.twin_law.proofs.After.{after}
 use Rattle.twin_law.proofs.Goes.{Goes, goes-on}
@@ -75,7 +75,7 @@ module _ {L : Type 0} (F : FilesAs L) where
       (suc m, omega (arith, low), ap (λ more. record { at = 6; parcel = OfFeed (feed.Item (Line line)) } ∷ more) e, s)
 
   take-goes : (t : Turn) (w : W) (page : Page) (last : Bool) (rest : List (Parcel L)) → w (from_job t.side) ≡ OfPage page last ∷ rest
-      → Gets (TakesLines t) w [] (behind_lines t (page_due t page last)) (less_one w (from_job t.side))
+      → Gets (TakesLines t) w [] (behind_lines t (page_in_turn t page last)) (less_one w (from_job t.side))
   take-goes t w page last rest e n = (
     suc n,
     omega arith,

@@ -27,7 +27,7 @@ use Rattle.twin_law.specs.Sides.{Twin, A, B, from_job}
 use Rattle.twin_law.specs.Ends.{card}
 use Rattle.twin_law.specs.Input.{input}
 use Rattle.twin_law.specs.Job.{job}
-use Rattle.twin_law.specs.Output.{Turn, OutputPlace, TakesLines, PutsLine, PutsOver, HasGathered, output_aims, puts_line, turn_behind, behind_lines, page_due, output_behind, output_finds, output}
+use Rattle.twin_law.specs.Output.{Turn, OutputPlace, TakesLines, PutsLine, PutsOver, HasGathered, output_aims, puts_line, turn_behind, behind_lines, page_in_turn, output_behind, output_finds, output}
 use Rattle.twin_law.specs.Table.{process}
 use Rattle.twin_law.specs.Twin.{seat, Fits, twin, TwinState, IsProcess}
 use Rattle.twin_law.specs.Outcomes.{HasEndedSo}
@@ -72,7 +72,7 @@ module _ {L : Type 0} where
   lines-well : (side : Twin) (pages : ℕ) (some ended : Bool) (page : Page) (last : Bool) (t f : List (Parcel L)) → IsDue pages last page
       → InTurn side (turned pages last) t f
       → OutputIs (behind_lines (record { side = side; pages = pages; some = some; ended = ended })
-      (page_due (record { side = side; pages = pages; some = some; ended = ended }) page last)) t f
+      (page_in_turn (record { side = side; pages = pages; some = some; ended = ended }) page last)) t f
   lines-well side pages some ended page last t f due is =
       let u : Turn = record { side = side; pages = pages; some = some; ended = ended } in
       subst (λ (result : Result PageContent BadPage). OutputIs (behind_lines u result) t f) (sym (read-due pages last page due))

@@ -20,7 +20,7 @@ use Rattle.twin_law.specs.Process.{Action, AwaitRoom, AwaitItem, Request, Releas
 use Rattle.twin_law.specs.Sides.{Twin, A, B, from_job}
 use Rattle.twin_law.specs.Ends.{PrinterPlace, TakesLine, PrintsLine, HasPrinted, printer_aims}
 use Rattle.twin_law.specs.Input.{InputPlace, Takes, PutsFull, PutsLast, PutsEmptyA, PutsEmptyB, HasDealt, last_of, input_aims, pushes, packs, behind_feed}
-use Rattle.twin_law.specs.Output.{Turn, OutputPlace, TakesLines, PutsLine, PutsOver, HasGathered, output_aims, puts_line, turn_behind, behind_lines, page_due}
+use Rattle.twin_law.specs.Output.{Turn, OutputPlace, TakesLines, PutsLine, PutsOver, HasGathered, output_aims, puts_line, turn_behind, behind_lines, page_in_turn}
 use Rattle.twin_law.specs.Twin.{Fits}
 use Rattle.twin_law.proofs.Marks.{bit, makes, IsAround}
 use Rattle.twin_law.proofs.Pays.{spot, many_by, prints_one, nothing}
@@ -104,7 +104,7 @@ lines-worth [] t true = omega arith
 lines-worth [] t false = omega arith
 lines-worth (line ∷ later) t over = omega arith
 
-page-worth : (t : Turn) (page : Page) (last : Bool) → output_worth (behind_lines t (page_due t page last)) ≤ 507
+page-worth : (t : Turn) (page : Page) (last : Bool) → output_worth (behind_lines t (page_in_turn t page last)) ≤ 507
 page-worth t page last =
     good-page (λ result. output_worth (behind_lines t result) ≤ 507) (t.pages % 2 ^ 16) last page
     (λ items few are.

@@ -57,17 +57,17 @@ behind_lines t (Ok content) =
     puts_line (lines_of content.items) (turn_behind t content.last content.items) (content.last && t.ended)
 
 -- the page that is taken next, read at its place in the stream
-abbrev pub page_due : Turn → Page → Bool → Result PageContent BadPage
-page_due t page last = page_read (t.pages % 2 ^ 16) last page
+abbrev pub page_in_turn : Turn → Page → Bool → Result PageContent BadPage
+page_in_turn t page last = page_read (t.pages % 2 ^ 16) last page
 
 abbrev pub output_behind : {L : Type 0} → OutputPlace → Reply L → OutputPlace
-output_behind (TakesLines t) (reply.Page page last) = behind_lines t (page_due t page last)
+output_behind (TakesLines t) (reply.Page page last) = behind_lines t (page_in_turn t page last)
 output_behind (PutsLine line later t over) reply.Done = puts_line later t over
 output_behind PutsOver reply.Done = HasGathered
 output_behind at r = at
 
 abbrev pub output_finds : {L : Type 0} → OutputPlace → Reply L → Option Cause
-output_finds (TakesLines t) (reply.Page page last) = damage (page_due t page last)
+output_finds (TakesLines t) (reply.Page page last) = damage (page_in_turn t page last)
 output_finds at r = None
 
 abbrev pub first_turn : Turn

@@ -21,7 +21,7 @@ use Rattle.network_law.specs.Network.{IsOne, happens}
 use Rattle.twin_law.specs.Process.{Action, ReadCard, TakePage, Print, Entry, Process, place, fault_at, given_cause, caused}
 use Rattle.twin_law.specs.Sides.{A}
 use Rattle.twin_law.specs.Job.{JobPlace, TakesItems, page_taken, damage, job}
-use Rattle.twin_law.specs.Output.{OutputPlace, TakesLines, page_due, output}
+use Rattle.twin_law.specs.Output.{OutputPlace, TakesLines, page_in_turn, output}
 use Rattle.twin_law.specs.Table.{process}
 use Rattle.twin_law.specs.Twin.{MayLack, Suits, twin, TwinState, TwinEvent}
 use Rattle.twin_law.proofs.Lawful.{each-process}
@@ -132,7 +132,7 @@ module _ {L : Type 0} (J : Jobs L) where
 
   output-finds : (at : OutputPlace) (page : Page) (last : Bool) (c : Cause)
       → fault_in ((output {L = L}).finds at (reply.Page page last)) ≡ Some (outcome.Fault c) → IsDamaged c
-  output-finds (TakesLines t) page last c e = damaged-by (page_due t page last) c e
+  output-finds (TakesLines t) page last c e = damaged-by (page_in_turn t page last) c e
   output-finds at page last c e = absurd cc
 
   finds-damage : (p : ℕ) → IsOne (twin J) p → FindsDamage p

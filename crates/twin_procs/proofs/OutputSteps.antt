@@ -13,7 +13,7 @@ use Rattle.batch_procs.specs.Sends.{lines_of}
 use Rattle.place_law.specs.Process.{fault_in}
 use Rattle.twin_law.specs.Sides.{other}
 use Rattle.twin_law.specs.Job.{damage}
-use Rattle.twin_law.specs.Output.{Turn, OutputPlace, TakesLines, PutsLine, PutsOver, HasGathered, output, output_aims, is_some, turn_behind, behind_lines, page_due}
+use Rattle.twin_law.specs.Output.{Turn, OutputPlace, TakesLines, PutsLine, PutsOver, HasGathered, output, output_aims, is_some, turn_behind, behind_lines, page_in_turn}
 use Rattle.twin_procs.specs.declared.output_proc.OutputProc.{OutputProc}
 use Rattle.twin_procs.specs.Said.{twin}
 use Rattle.twin_procs.specs.Hands.{page_behind}
@@ -66,7 +66,7 @@ module _ (L : Type 0) (j : OutputProc) (r : Reply L) (page : Page) (last : Bool)
       → GoesOn (record next { items = Some content }) new → (at : OutputPlace) → OutputStands j at → IsHanded (output_aims at) r
       → Takes output (OutputStands new) at r None
   output-takes content taken next new reads after side some ended turns goes = takes-lines (λ at. Takes output (OutputStands new) at r None) (λ t kept.
-      let read : page_due t page last ≡ Ok content = ap (λ n. page_read n last page) (sym kept.pages_are) ∙ reads in
+      let read : page_in_turn t page last ≡ Ok content = ap (λ n. page_read n last page) (sym kept.pages_are) ∙ reads in
       let marked = last-read j.pages last page content reads in
       let before : taken.pages ≡ page_behind last (t.pages % 2 ^ 16) = after ∙ ap (page_behind last) kept.pages_are in
       let turn = turned taken next content.items last t (ap twin side ∙ kept.side_is) (some ∙ kept.some_is) (ended ∙ kept.ended_is) before turns in
@@ -86,7 +86,7 @@ module _ (L : Type 0) (j : OutputProc) (r : Reply L) (page : Page) (last : Bool)
       → (at : OutputPlace) → OutputStands j at → IsHanded (output_aims at) r → Takes output (OutputStands new) at r (Some (outcome.Fault cause))
   output-damaged bad cause new reads is_damage =
       takes-lines (λ at. Takes output (OutputStands new) at r (Some (outcome.Fault cause))) (λ t kept.
-      let read : page_due t page last ≡ Err bad = ap (λ n. page_read n last page) (sym kept.pages_are) ∙ reads in
+      let read : page_in_turn t page last ≡ Err bad = ap (λ n. page_read n last page) (sym kept.pages_are) ∙ reads in
       rw is (sym (ap (λ r. fault_in (damage r)) read ∙ ap fault_in is_damage), λ none. absurd cc))
 
 pub no-page : {L : Type 0} (r : Reply L) → ((page : Page) (last : Bool) → r ≡ reply.Page page last → ⊥) → (at : OutputPlace) → IsHanded (output_aims at) r
