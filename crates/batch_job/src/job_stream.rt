@@ -1,4 +1,4 @@
-ghost use Rattle.std.specs.Prelude.{◌≡◌, ◌++◌, ◌∷◌, ℕ, List, [], None, IfOk, OnOk};
+ghost use Rattle.std.specs.Prelude.{◌≡◌, ◌++◌, ◌∷◌, ℕ, List, [], None, OnOk};
 ghost use Rattle.solo_base.specs.declared.item.Item.{Item as ItemOf};
 ghost use Rattle.disk_contents.specs.declared.loading.Loaded.{Loaded as LoadedOf};
 ghost use Rattle.batch_job.specs.Loads.{first_of};
@@ -68,13 +68,13 @@ impl JobStream {
         self.ahead.loads.give(loaded);
     }
 
-    /// Makes and pushes the next lines until a push gives a page. No page says that all lines of the
-    /// items so far are pushed. No file is wanted.
-    pub fn pack(&mut self, packer: &mut Packer) -> Result<Option<Page>, NoMemory>
+    /// Makes and pushes the next lines until a push gives a page, and writes it into the caller's place. Where
+    /// there is none then, all lines of the items so far are pushed. No file is wanted.
+    pub fn pack(&mut self, packer: &mut Packer, due: &mut Option<Page>) -> Result<(), NoMemory>
         requires { self.old.wanted ≡ [] }
-        ensures packs { IfOk result (λ page. Packs self.old packer.old page self.new packer.new) }
+        ensures packs { OnOk result (Packs self.old packer.old due.new self.new packer.new) }
     {
-        pack_lines(&mut self.ahead, packer)
+        pack_lines(&mut self.ahead, packer, due)
     }
 }
 
@@ -82,20 +82,19 @@ ghost use Rattle.batch_job.specs.declared.lines_ahead.End.TheVariants as End;
 ghost use Rattle.page_codec.specs.Packing.{PageInHand};
 ghost use Rattle.batch_job.specs.JobStream.{Stream, stream_of, Pushing, PacksMade, HasNoLine, turns_left};
 
-/// Makes and pushes lines until a push gives a page.
-fn pack_lines(ahead: &mut LinesAhead, packer: &mut Packer) -> Result<Option<Page>, NoMemory>
+/// Makes and pushes lines until a push gives a page, which is then due. What was due before is dropped.
+fn pack_lines(ahead: &mut LinesAhead, packer: &mut Packer, due: &mut Option<Page>) -> Result<(), NoMemory>
     requires { (stream_of ahead.old).wanted ≡ [] }
-    ensures { IfOk result (λ page.
-        Packs (stream_of ahead.old) packer.old page (stream_of ahead.new) packer.new) }
+    ensures { OnOk result (Packs (stream_of ahead.old) packer.old due.new (stream_of ahead.new) packer.new) }
 {
-    let mut due = None;
+    *due = None;
     'packing: loop {
-        push_made(ahead, packer, &mut due);
+        push_made(ahead, packer, due);
         if due.is_some() {
-            return Ok(due);
+            return Ok(());
         }
         if !ahead.make()? {
-            return Ok(None);
+            return Ok(());
         }
     }
 }

@@ -106,17 +106,11 @@ impl<J: JobWork> Work<J> for JobProcWork<J> {
 
     fn work(&mut self) -> Result<(), NoMemory> {
         self.unworked = false;
-        match self.jobs.pack(&mut self.packer)? {
-            Some(page) => {
-                self.due = Some(page);
-                Ok(())
-            }
-            None if self.pages.is_ended() => {
-                finish(&mut self.packer, &mut self.due);
-                Ok(())
-            }
-            None => Ok(()),
+        self.jobs.pack(&mut self.packer, &mut self.due)?;
+        if self.due.is_none() && self.pages.is_ended() {
+            finish(&mut self.packer, &mut self.due);
         }
+        Ok(())
     }
 }
 

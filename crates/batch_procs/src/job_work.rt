@@ -1,4 +1,4 @@
-ghost use Rattle.std.specs.Prelude.{◌≡◌, ◌∷◌, ℕ, List, [], true, false, IfOk, OnOk};
+ghost use Rattle.std.specs.Prelude.{◌≡◌, ◌∷◌, ℕ, List, [], true, false, OnOk};
 ghost use Rattle.batch_procs.specs.Jobs.{Jobs, AreJobs};
 ghost use Rattle.batch_procs.specs.JobTold.{JobTold, nothing_told, with_page, with_found, wanted, first_of, PushesLines};
 
@@ -36,11 +36,11 @@ pub trait JobWork: Drop {
         ensures { (told : JobTold Self.Load) (file : List ℕ) (later : List (List ℕ)) → keeps self.old told
             → wanted jobs told ≡ file ∷ later → keeps self.new (with_found told load) };
 
-    /// Makes and pushes the next lines until a push gives a page. No page says that all lines of the items so
-    /// far are pushed. No file is wanted.
-    fn pack(&mut self, packer: &mut Packer) -> Result<Option<Page>, NoMemory>
-        ensures { IfOk result (λ page. (told : JobTold Self.Load) → keeps self.old told
-            → wanted jobs told ≡ [] → PushesLines jobs (keeps self.new) told packer.old page packer.new) };
+    /// Makes and pushes the next lines until a push gives a page, and writes it into the caller's place. Where
+    /// there is none then, all lines of the items so far are pushed. No file is wanted.
+    fn pack(&mut self, packer: &mut Packer, due: &mut Option<Page>) -> Result<(), NoMemory>
+        ensures { OnOk result ((told : JobTold Self.Load) → keeps self.old told → wanted jobs told ≡ []
+            → PushesLines jobs (keeps self.new) told packer.old due.new packer.new) };
 
     /// What holds of its jobs.
     ghost are_jobs: { AreJobs jobs };

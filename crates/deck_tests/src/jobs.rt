@@ -237,7 +237,9 @@ fn packed(alloc: Global, stream: &mut JobStream) -> Result<Vec<u8>, Fail> {
     if stream.wants().is_some() {
         return Err("a file is wanted".into());
     }
-    if stream.pack(&mut packer)?.is_some() {
+    let mut due = None;
+    stream.pack(&mut packer, &mut due)?;
+    if due.is_some() {
         return Err("more than a page".into());
     }
     text_of(alloc, packer)

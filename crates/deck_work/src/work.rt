@@ -41,10 +41,10 @@ impl JobWork for DeckWork {
         self.stream.load(load);
     }
 
-    fn pack(&mut self, packer: &mut Packer) -> Result<Option<Page>, NoMemory> {
+    fn pack(&mut self, packer: &mut Packer, due: &mut Option<Page>) -> Result<(), NoMemory> {
         match self.stream.wants() {
-            Some(_wanted) => Ok(None),
-            None => self.stream.pack(packer),
+            Some(_wanted) => Ok(()),
+            None => self.stream.pack(packer, due),
         }
     }
 }

@@ -169,7 +169,9 @@ impl<J: JobWork, S: OnSide> JobProc<J, S> {
             OnOk result (job_stands J.jobs J.keeps self.new
             (behind_work s last (packs_lines s.hand s.packed (lines_ahead J.jobs s last)))) }
     {
-        match self.jobs.pack(&mut self.packer)? {
+        let mut due = None;
+        self.jobs.pack(&mut self.packer, &mut due)?;
+        match due {
             Some(page) => self.place = JobAt::PutsLines(page),
             None => {
                 if self.last {
