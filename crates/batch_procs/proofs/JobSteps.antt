@@ -1,6 +1,6 @@
 -- What the job process keeps at each of its steps.
 use Rattle.std.proofs.Common.{◌≡◌, ◌≤◌, ℕ, zero, suc, Bool, true, false, not, ◌||◌, if◌then◌else◌, ◌%◌, ◌^◌, List, [], ◌∷◌, ◌++◌, length, drop, Option, None, Some, Result, Ok, Err, refl, sym, ◌∙◌, ap, subst, append_assoc, arith}
-use Rattle.std.specs.Prelude.{option_to_list, ◌==◌, IsTrue}
+use Rattle.std.specs.Prelude.{option_to_list, is_some, ◌==◌, IsTrue}
 use Rattle.std.proofs.lemmas.Bool.{eqb-true, eq-eqb}
 use Rattle.std.specs.List.{AllByRecursion}
 use Rattle.std.proofs.lemmas.List.{append-nil}
@@ -327,9 +327,11 @@ module _ {L : Type 0} {J : Jobs L} (jobs : AreJobs J) where
 
   module _ {old now : JobTold L → Type 0} {awaited : Awaited} {packer hand : PageInHand} {due : Option Page} {toil : Bool} {taken sent : List (Parcel L)}
       (keeps : KeepsJob J old awaited packer due toil taken sent true) (loaded : job_wants J taken ≡ []) where
-    pub job-works-page : (page : Page) → ((told : JobTold L) → old told → wanted J told ≡ [] → PushesLines J now told packer (Some page) hand)
-        → KeepsJob J now awaited hand (Some page) false taken sent false
-    job-works-page page packing =
+    pub job-works-page : (then_due : Option Page) → is_some then_due ≡ true
+        → ((told : JobTold L) → old told → wanted J told ≡ [] → PushesLines J now told packer then_due hand)
+        → KeepsJob J now awaited hand then_due false taken sent false
+    job-works-page None given packing = absurd cc
+    job-works-page (Some page) given packing =
         let told = packs keeps loaded (Some page) packing in
         let kept = (keeps.toiling (sym keeps.work_is)).1 in
         let put : HasSent hand (keeps.pushed ++ told.lines) (sent ++ OfPage page false ∷ []) =
@@ -381,13 +383,14 @@ module _ {L : Type 0} {J : Jobs L} (jobs : AreJobs J) where
         ∙ ap (λ ps. ps ++ behind) (sym put.pages))
         ∙ drop-part sent behind
 
-    pub job-works-on : (then_due : Option Page) → then_due ≡ None → awaited.ended ≡ false
-        → ((told : JobTold L) → old told → wanted J told ≡ [] → PushesLines J now told packer None hand)
+    pub job-works-on : (then_due : Option Page) → is_some then_due ≡ false → awaited.ended ≡ false
+        → ((told : JobTold L) → old told → wanted J told ≡ [] → PushesLines J now told packer then_due hand)
         → KeepsJob J now awaited hand then_due false taken sent false
-    job-works-on then_due gone goes packing =
+    job-works-on (Some page) none goes packing = absurd cc
+    job-works-on None none goes packing =
         let told = packs keeps loaded None packing in
         let put = no-page packing in
-        rw gone record {
+        record {
           work_is = refl;
           ended_is = keeps.ended_is;
           end_is = keeps.end_is;
@@ -403,10 +406,10 @@ module _ {L : Type 0} {J : Jobs L} (jobs : AreJobs J) where
           awaiting = λ e is goes_on. (refl, put);
         }
 
-    pub job-works-last : (page : Page) (new : PageInHand) → page ≡ page_of hand.place true hand.content → awaited.ended ≡ true
+    works-last : (page : Page) (new : PageInHand) → page ≡ page_of hand.place true hand.content → awaited.ended ≡ true
         → ((told : JobTold L) → old told → wanted J told ≡ [] → PushesLines J now told packer None hand)
         → KeepsJob J now awaited new (Some page) false taken sent false
-    job-works-last page new is over packing =
+    works-last page new is over packing =
         let told = packs keeps loaded None packing in
         let put = no-page packing in
         let closed : mark page ≡ true = ap mark is ∙ mark-of hand.place true hand.content in
@@ -432,6 +435,14 @@ module _ {L : Type 0} {J : Jobs L} (jobs : AreJobs J) where
           last = λ p e same is_last. over;
           awaiting = λ e same. absurd cc;
         }
+
+    pub job-works-last : (given then_due : Option Page) (new : PageInHand) → is_some given ≡ false
+        → then_due ≡ Some (page_of hand.place true hand.content) → awaited.ended ≡ true
+        → ((told : JobTold L) → old told → wanted J told ≡ [] → PushesLines J now told packer given hand)
+        → KeepsJob J now awaited new then_due false taken sent false
+    job-works-last (Some page) then_due new none is over packing = absurd cc
+    job-works-last None then_due new none is over packing =
+        rw is (works-last (page_of hand.place true hand.content) new refl over packing)
 
   -- ---- a file is loaded
   ended-load : (taken : List (Parcel L)) (load : L) → is_ended (taken ++ OfLoad load ∷ []) ≡ is_ended taken
