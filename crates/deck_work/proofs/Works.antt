@@ -1,6 +1,6 @@
 -- What the work on a deck's jobs keeps at each of its steps.
 use Rattle.std.proofs.Common.{◌≡◌, ℕ, ◌+◌, Bool, true, false, not, List, [], ◌∷◌, ◌++◌, length, length-append, drop, Option, None, Some, refl, sym, ◌∙◌, ap, append_assoc}
-use Rattle.std.specs.Prelude.{Result, Ok, Err, IfOk, OnOk}
+use Rattle.std.specs.Prelude.{Result, Ok, Err, OnOk}
 use Rattle.std.proofs.lemmas.List.{append-nil}
 use Rattle.solo_base.specs.declared.no_memory.NoMemory.{NoMemory}
 use Rattle.solo_base.specs.declared.item.Item.{Item}
@@ -175,9 +175,9 @@ packs old new hand hand_then page is told keeps none =
         let (rest, all) = some-left new told.items told.loads (told.pushed ++ is.lines) stands in
         (rest, (ap (lines_so_far told.items told.loads) (sym ends) ∙ all, λ no_page. absurd (let both = sym is_page ∙ no_page in cc)))
 
-pub packs-ok : (result : Result (Option Page) NoMemory) (old new : Stream) (hand hand_then : PageInHand)
-    → IfOk result (λ page. StreamPacks old hand page new hand_then)
-    → IfOk result (λ page. (told : JobTold Loaded) → KeepsDeck old told → wanted deck_jobs told ≡ []
+pub packs-ok : (result : Result (Unit {0}) NoMemory) (old new : Stream) (hand hand_then : PageInHand) (page : Option Page)
+    → OnOk result (StreamPacks old hand page new hand_then)
+    → OnOk result ((told : JobTold Loaded) → KeepsDeck old told → wanted deck_jobs told ≡ []
     → PushesLines deck_jobs (KeepsDeck new) told hand page hand_then)
-packs-ok (Ok page) old new hand hand_then is = packs old new hand hand_then page is
-packs-ok (Err refused) old new hand hand_then is = tt
+packs-ok (Ok done) old new hand hand_then page is = packs old new hand hand_then page is
+packs-ok (Err refused) old new hand hand_then page is = tt

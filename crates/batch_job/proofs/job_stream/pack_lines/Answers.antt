@@ -16,8 +16,9 @@ returns-then-not-branch c =
     let none = not-due c.push_made.new.due (sym c.is_some.ensures ∙ c.if-is_some.false) in
     let resting = subst (λ r. PacksMade first hand r pushed c.push_made.new.packer) none (c.push_made.ensures.packs first hand c.packing.invariant.0) in
     let (same, told) = c.in_ok-make.ensures.none c.if-not-branch.true in
-    subst (λ s. Packs first hand None s c.push_made.new.packer) (sym same)
-    (packs-all first pushed hand c.push_made.new.packer resting (c.push_made.ensures.none none, subst (λ s. IsTold s.end s.left) same told))
+    subst (λ r. Packs first hand r (stream_of c.make.new.self) c.push_made.new.packer) (sym none)
+    (subst (λ s. Packs first hand None s c.push_made.new.packer) (sym same)
+    (packs-all first pushed hand c.push_made.new.packer resting (c.push_made.ensures.none none, subst (λ s. IsTold s.end s.left) same told)))
 
 pub packing-preserved : goal.packing-preserved
 packing-preserved c =

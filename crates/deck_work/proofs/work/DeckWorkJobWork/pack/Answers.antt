@@ -7,4 +7,4 @@ returns-in-Some c = λ told keeps none.
 
 pub returns-in-None : goal.returns-in-None
 returns-in-None c =
-    packs-ok c.pack.result c.args.self.now.stream c.pack.new.self c.args.packer.now c.pack.new.packer c.pack.ensures.packs
+    packs-ok c.pack.result c.args.self.now.stream c.pack.new.self c.args.packer.now c.pack.new.packer c.pack.new.due c.pack.ensures.packs
