@@ -70,9 +70,11 @@ impl<J: JobWork> Work<J> for JobProcWork<J> {
 
     #[inline(always)]
     fn put(&mut self) {
-        if let Some(page) = self.due.take() {
-            self.unworked = !page.last();
-        }
+        let Some(page) = &self.due else {
+            return;
+        };
+        self.unworked = !page.last();
+        self.due = None;
     }
 
     // The clauses of `Work`, which the prover does not yet give this method by itself.
