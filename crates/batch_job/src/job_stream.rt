@@ -83,7 +83,11 @@ ghost use Rattle.page_codec.specs.Packing.{PageInHand};
 ghost use Rattle.batch_job.specs.JobStream.{Stream, stream_of, Pushing, PacksMade, HasNoLine, turns_left};
 
 /// Makes and pushes lines until a push gives a page, which is then due. What was due before is dropped.
-fn pack_lines(ahead: &mut LinesAhead, packer: &mut Packer, due: &mut Option<Page>) -> Result<(), NoMemory>
+fn pack_lines(
+    ahead: &mut LinesAhead,
+    packer: &mut Packer,
+    due: &mut Option<Page>,
+) -> Result<(), NoMemory>
     requires { (stream_of ahead.old).wanted ≡ [] }
     ensures { OnOk result (Packs (stream_of ahead.old) packer.old due.new (stream_of ahead.new) packer.new) }
 {
