@@ -1,5 +1,5 @@
-ghost use Rattle.std.specs.Prelude.{◌≡◌, ◌+◌, ◌/◌, ◌%◌, ◌<◌, ◌≤◌, length, slice_get};
-ghost use Rattle.network_run.specs.Rules.{first_above, numbers_from, or_first, drawn, pick, behind};
+ghost use Rattle.std.specs.Prelude.{◌≡◌, ◌/◌, ◌%◌, ◌≤◌, length, slice_get};
+ghost use Rattle.network_run.specs.Rules.{first_above, or_first, drawn, pick, behind};
 
 use solo_base::ProcNo;
 
@@ -15,27 +15,26 @@ pub enum Rule {
 }
 
 impl Rule {
-    /// The process that steps next, by whether each may go on, in order of their numbers. None:
-    /// none may.
-    pub fn pick(&mut self, going: &[bool]) -> Option<ProcNo>
-        requires few { length going.now < 255 }
-        ensures picks { result ≡ pick self.old (numbers_from 1 going.now) }
+    /// The process that steps next, of those that may go on, in order of their numbers. None: there is none.
+    pub fn pick(&mut self, goers: &[ProcNo]) -> Option<ProcNo>
+        requires few { length goers.now ≤ 16 }
+        ensures picks { result ≡ pick self.old goers.now }
         ensures goes_on { self.new ≡ behind self.old result }
     {
-        let picked = self.picked(going);
+        let picked = self.picked(goers);
         *self = self.behind(picked);
         picked
     }
 
     // The process that steps next.
-    fn picked(&self, going: &[bool]) -> Option<ProcNo>
-        requires few { length going.now < 255 }
-        ensures { result ≡ pick self.now (numbers_from 1 going.now) }
+    fn picked(&self, goers: &[ProcNo]) -> Option<ProcNo>
+        requires few { length goers.now ≤ 16 }
+        ensures { result ≡ pick self.now goers.now }
     {
         match self {
-            Rule::Least => nth(0, 1, going),
-            Rule::Cyclic { last } => first_behind(*last, going),
-            Rule::Numbered { number } => at_drawn(draw(*number), going),
+            Rule::Least => goers.first().copied(),
+            Rule::Cyclic { last } => first_behind(*last, goers),
+            Rule::Numbered { number } => at_drawn(draw(*number), goers),
         }
     }
 
@@ -63,94 +62,38 @@ fn draw(number: u32) -> u32
 }
 
 // The first that may go on behind the one that stepped last, or the first of all.
-fn first_behind(last: ProcNo, going: &[bool]) -> Option<ProcNo>
-    requires few { length going.now < 255 }
-    ensures { result ≡ or_first (first_above last (numbers_from 1 going.now)) (numbers_from 1 going.now) }
+fn first_behind(last: ProcNo, goers: &[ProcNo]) -> Option<ProcNo>
+    ensures { result ≡ or_first (first_above last goers.now) goers.now }
 {
-    match above(last, 1, going) {
+    match above(last, goers) {
         Some(p) => Some(p),
-        None => nth(0, 1, going),
+        None => goers.first().copied(),
     }
 }
 
 // The one at the place that a number draws.
-fn at_drawn(drawn: u32, going: &[bool]) -> Option<ProcNo>
-    requires few { length going.now < 255 }
-    ensures { result ≡ slice_get (numbers_from 1 going.now)
-        ((drawn / 65536) % length (numbers_from 1 going.now)) }
+fn at_drawn(drawn: u32, goers: &[ProcNo]) -> Option<ProcNo>
+    requires few { length goers.now ≤ 16 }
+    ensures { result ≡ slice_get goers.now ((drawn / 65536) % length goers.now) }
 {
-    let count = count(1, going);
-    if count == 0 {
+    if goers.is_empty() {
         return None;
     }
-    nth(u64::from(drawn / 65536) % count, 1, going)
+    let place = drawn / 65536 % goers.len() as u32;
+    goers.get(place as usize).copied()
 }
 
-// How many of a row may go on, the first of which has this number.
-fn count(number: ProcNo, going: &[bool]) -> u64
-    requires few { number + length going.now < 256 }
-    ensures counted { result ≡ length (numbers_from number going.now) }
-    ensures most { result ≤ length going.now }
+// The first above a number.
+fn above(last: ProcNo, goers: &[ProcNo]) -> Option<ProcNo>
+    ensures { result ≡ first_above last goers.now }
 {
-    let mut found = 0;
-    // Only the proof reads it: the invariant names by it what is still to be counted.
-    let mut next = number;
-    let mut rest = going;
-    loop {
-        match rest {
-            [] => return found,
-            [false, later @ ..] => {
-                next += 1;
-                rest = later;
-            }
-            [true, later @ ..] => {
-                found += 1;
-                next += 1;
-                rest = later;
-            }
-        }
-    }
-}
-
-// The process at a place among those that may go on.
-fn nth(place: u64, number: ProcNo, going: &[bool]) -> Option<ProcNo>
-    requires few { number + length going.now < 256 }
-    ensures { result ≡ slice_get (numbers_from number going.now) place }
-{
-    let mut before = place;
-    let mut next = number;
-    let mut rest = going;
-    loop {
-        match rest {
-            [] => return None,
-            [false, later @ ..] => {
-                next += 1;
-                rest = later;
-            }
-            [true, later @ ..] => {
-                if before == 0 {
-                    return Some(next);
-                }
-                before -= 1;
-                next += 1;
-                rest = later;
-            }
-        }
-    }
-}
-
-// The first above a number among those that may go on.
-fn above(last: ProcNo, number: ProcNo, going: &[bool]) -> Option<ProcNo>
-    requires few { number + length going.now < 256 }
-    ensures { result ≡ first_above last (numbers_from number going.now) }
-{
-    match going {
+    match goers {
         [] => None,
-        [may, later @ ..] => {
-            if *may && last < number {
-                Some(number)
+        [p, later @ ..] => {
+            if last < *p {
+                Some(*p)
             } else {
-                above(last, number + 1, later)
+                above(last, later)
             }
         }
     }

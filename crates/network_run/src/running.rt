@@ -1,8 +1,8 @@
-ghost use Rattle.std.specs.Prelude.{◌≡◌, ◌≤◌, ◌<◌, length, None, IfSome};
+ghost use Rattle.std.specs.Prelude.{◌≡◌, ◌≤◌, ◌<◌, take, None, IfSome};
 ghost use Rattle.network_run.specs.declared.rules.Rule.TheVariants as rule;
 ghost use Rattle.network_run.specs.Law.{Placed, AllEnded, MayStep};
 ghost use Rattle.network_run.specs.Rules.{behind};
-ghost use Rattle.network_run.specs.Runs.{AreGoing, IsPicked, WholeRun, TurnTaken, most_events};
+ghost use Rattle.network_run.specs.Runs.{AreGoers, IsPicked, WholeRun, TurnTaken, most_events};
 
 use crate::{Counts, Network, Rule};
 use solo_base::ProcNo;
@@ -51,14 +51,23 @@ pub trait Falling: Network {
         → Self.left net at.state ≤ most_events };
 }
 
-// Writes for each process, from the first on, whether it may go on.
-fn fill_row<N: Network>(net: &N, row: &mut [bool])
-    requires few { length row.old ≤ 16 }
-    ensures { (at : Placed N.law (N.Stands net.now)) → AreGoing N.law at.state 1 row.new }
+/// How many processes a network has at most.
+const MOST_PROCESSES: usize = 16;
+
+// Writes those that may go on to the front, in order of their numbers, and says how many there are.
+// Each is written: what is written of one that may not is overwritten by the next.
+fn find_goers<N: Network>(net: &N, goers: &mut [ProcNo; MOST_PROCESSES]) -> usize
+    ensures few { result ≤ 16 }
+    ensures are { (at : Placed N.law (N.Stands net.now)) → AreGoers N.law at.state (take result goers.new) }
 {
-    'asking: for i in 0..row.len() {
-        row[i] = net.enabled(i as u8 + 1);
+    let size = net.size();
+    let mut found = 0;
+    'asking: for before in 0..size {
+        let p = before + 1;
+        goers[found] = p;
+        found += usize::from(net.enabled(p));
     }
+    found
 }
 
 /// The process that a rule picks. None: all have ended, since no network is stuck.
@@ -69,11 +78,9 @@ pub fn next_by<N: Network>(net: &N, rule: &mut Rule) -> Option<ProcNo>
     ensures goes_on { rule.new ≡ behind rule.old result }
     ensures ended { (at : Placed N.law (N.Stands net.now)) → result ≡ None → AllEnded N.law at.state }
 {
-    let mut row = [false; 16];
-    let size = net.size() as usize;
-    let going = &mut row[..size];
-    fill_row(net, going);
-    rule.pick(going)
+    let mut goers = [0; MOST_PROCESSES];
+    let found = find_goers(net, &mut goers);
+    rule.pick(&goers[..found])
 }
 
 // Lets a process take its turn, and counts it.
