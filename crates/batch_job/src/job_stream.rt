@@ -91,7 +91,7 @@ fn pack_lines(
     requires { (stream_of ahead.old).wanted ≡ [] }
     ensures { OnOk result (Packs (stream_of ahead.old) packer.old due.new (stream_of ahead.new) packer.new) }
 {
-    *due = None;
+    clear(due);
     'packing: loop {
         push_made(ahead, packer, due);
         if due.is_some() {
@@ -100,6 +100,16 @@ fn pack_lines(
         if !ahead.make()? {
             return Ok(());
         }
+    }
+}
+
+/// Makes it no page.
+// What is not there is not written: a page is copied whole where none is put in its place.
+fn clear(due: &mut Option<Page>)
+    ensures { due.new ≡ None }
+{
+    if due.is_some() {
+        *due = None;
     }
 }
 
