@@ -87,6 +87,57 @@ fn a_page_that_the_drive_has_not_whole_is_neither_read_nor_written(
     Ok(())
 }
 
+/// Asks all this of four pages of a drive, whose file gets so many bytes by its other handle once the area is
+/// made.
+fn ask_resized(
+    rt: &impl Abort,
+    drive: File,
+    other: &File,
+    length: u64,
+    asks: &[Ask],
+) -> Result<(), Fail> {
+    let mut area = DriveArea::new(Some(drive), 0, 4);
+    other.set_len(length)?;
+    ask_all(rt, &mut area, asks);
+    Ok(())
+}
+
+#[test]
+fn nothing_is_written_behind_the_end_that_a_drive_had_when_its_area_was_made(
+    rt: HostRuntime,
+) -> Result<(), Fail> {
+    let path = "solo_edge_longer";
+    fs::write(&rt, path, [9; 2 * 512].as_slice())?;
+    let asks = [Ask::Reads(2, 0), Ask::WriteFails(2), Ask::Writes(1, 7)];
+    ask_resized(&rt, opened(&rt, path)?, &opened(&rt, path)?, 4 * 512, &asks)?;
+    let bytes = fs::read(&rt, path)?;
+    assert_eq!(rt; bytes.len(), 4 * 512);
+    for (at, byte) in [(511, 9), (512, 7), (1023, 7), (1024, 0), (1535, 0)] {
+        assert_eq!(rt; bytes.get(at).copied(), Some(byte), "at {at}");
+    }
+    fs::remove_file(&rt, path)?;
+    Ok(())
+}
+
+#[test]
+fn a_page_that_a_drive_lost_is_not_read_and_the_drive_gets_no_longer_than_it_was(
+    rt: HostRuntime,
+) -> Result<(), Fail> {
+    let path = "solo_edge_cut";
+    fs::write(&rt, path, [9; 3 * 512].as_slice())?;
+    let asks = [
+        Ask::Reads(1, 9),
+        Ask::ReadFails(2),
+        Ask::WriteFails(3),
+        Ask::Writes(2, 7),
+        Ask::Reads(2, 7),
+    ];
+    ask_resized(&rt, opened(&rt, path)?, &opened(&rt, path)?, 2 * 512, &asks)?;
+    assert_eq!(rt; fs::read(&rt, path)?.len(), 3 * 512);
+    fs::remove_file(&rt, path)?;
+    Ok(())
+}
+
 #[test]
 fn a_drive_that_is_not_there_is_made_of_zeros_under_its_other_name(
     rt: HostRuntime,

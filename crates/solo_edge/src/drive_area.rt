@@ -1,33 +1,44 @@
-ghost use Rattle.std.specs.Prelude.{◌≡◌, ◌<◌, ◌≤◌, ◌^◌, ◌*◌, ◌+◌, ◌↔◌, None, true};
+ghost use Rattle.std.specs.Prelude.{◌≡◌, ◌<◌, ◌≤◌, ◌^◌, ◌*◌, ◌+◌, ◌↔◌, ℕ, None};
 ghost use Rattle.solo_devices.specs.Area.{ReadsFrom, Writes, CountsFaults, HasWholePages};
 
 use solo_base::{PAGE_LENGTH, Page};
 use solo_devices::{Area, Moved};
-use std::io::{self, ErrorKind, Seek, SeekFrom};
+use std::io::{self, Seek, SeekFrom};
 use std::os::unix::fs::FileExt;
 
 /// A range of pages of a drive, which is a file or anything else that is read and written at positions.
-/// A drive that couldn't be opened is none: each call fails then. So does a call on a page that the drive
-/// doesn't have whole: nothing is written behind its end. What failed is counted.
+/// A drive that couldn't be opened is none: each call fails then. So does a read of a page that the drive
+/// doesn't have whole, and a write of one that it didn't have whole when the area was made: nothing is
+/// written behind the end that it had then. What failed is counted.
 #[derive(Drop)]
 pub struct DriveArea<D> {
     drive: Option<D>,
     first: u16,
     pages: u16,
+    /// How many pages the drive had whole when the area was made.
+    whole: u64,
     faults: u64,
 }
 
-impl<D: FileExt + Seek> DriveArea<D> {
-    /// The area of so many pages of the drive, from page `first` on.
-    pub fn new(drive: Option<D>, first: u16, pages: u16) -> DriveArea<D>
+impl<D: FileExt> DriveArea<D> {
+    /// The area of so many pages of the drive, from page `first` on. A drive whose length can't be told has
+    /// no page to be written.
+    pub fn new(mut drive: Option<D>, first: u16, pages: u16) -> DriveArea<D>
+    where
+        D: Seek,
         ensures untold { ⟦<DriveArea<D> as Area>⟧.pages result ≡ None }
         ensures size { ⟦<DriveArea<D> as Area>⟧.size result ≡ pages }
         ensures faults { ⟦<DriveArea<D> as Area>⟧.faults result ≡ 0 }
     {
+        let whole = match &mut drive {
+            Some(drive) => whole_pages(drive.seek(SeekFrom::End(0)).unwrap_or(0)),
+            None => 0,
+        };
         DriveArea {
             drive,
             first,
             pages,
+            whole,
             faults: 0,
         }
     }
@@ -40,7 +51,7 @@ impl<D: FileExt + Seek> DriveArea<D> {
     }
 }
 
-impl<D: FileExt + Seek> Area for DriveArea<D> {
+impl<D: FileExt> Area for DriveArea<D> {
     ghost pages = { λ _. None };
 
     ghost size = { λ area. area.pages };
@@ -65,7 +76,7 @@ impl<D: FileExt + Seek> Area for DriveArea<D> {
             (⟦<DriveArea<D> as Area>⟧.faults self.new) result }
     {
         let address = u64::from(self.first) + u64::from(n);
-        let is_done = match &mut self.drive {
+        let is_done = match &self.drive {
             Some(drive) => read_page(drive, address, page).is_ok(),
             None => false,
         };
@@ -86,9 +97,9 @@ impl<D: FileExt + Seek> Area for DriveArea<D> {
             (⟦<DriveArea<D> as Area>⟧.faults self.new) result }
     {
         let address = u64::from(self.first) + u64::from(n);
-        let is_done = match &mut self.drive {
-            Some(drive) => write_page(drive, address, page).is_ok(),
-            None => false,
+        let is_done = match &self.drive {
+            Some(drive) if address < self.whole => write_page(drive, address, page).is_ok(),
+            _ => false,
         };
         counted(&mut self.faults, is_done)
     }
@@ -114,21 +125,16 @@ fn read_page<D: FileExt>(drive: &D, address: u64, page: &mut Page) -> io::Result
     drive.read_exact_at(&mut page.0, address * PAGE_LENGTH as u64)
 }
 
-/// Writes the page at this address of the drive, where the drive has it.
-fn write_page<D: FileExt + Seek>(drive: &mut D, address: u64, page: &Page) -> io::Result<()>
+/// Writes the page at this address of the drive.
+fn write_page<D: FileExt>(drive: &D, address: u64, page: &Page) -> io::Result<()>
     requires { address < 2 ^ 17 }
 {
-    let length = drive.seek(SeekFrom::End(0))?;
-    if !has_page(length, address) {
-        return Err(io::Error::from(ErrorKind::UnexpectedEof));
-    }
     drive.write_all_at(&page.0, address * PAGE_LENGTH as u64)
 }
 
-/// Whether a drive of so many bytes has the whole page of this address.
-fn has_page(length: u64, address: u64) -> bool
-    requires { address < 2 ^ 17 }
-    ensures { (result ≡ true) ↔ ((address + 1) * 512 ≤ length) }
+/// How many whole pages a drive of so many bytes has: each page that ends within them.
+fn whole_pages(length: u64) -> u64
+    ensures { (page : ℕ) → (page < result) ↔ ((page + 1) * 512 ≤ length) }
 {
-    (address + 1) * PAGE_LENGTH as u64 <= length
+    length / PAGE_LENGTH as u64
 }
