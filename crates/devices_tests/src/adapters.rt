@@ -1,6 +1,8 @@
 use crate::asking::{Ask, ask_all};
 use solo_devices::{Area, Gave, Sink, Source, Took};
-use solo_edge::{DriveArea, ReaderSource, WriterSink, open_drive, paper_over, take_drive};
+use solo_edge::{
+    DriveArea, ReaderSource, WriterSink, deck_over, open_drive, paper_over, take_drive,
+};
 use std::fs::{self, File, OpenOptions};
 use std::process::Abort;
 use std::test::Fail;
@@ -136,6 +138,36 @@ fn a_page_that_a_drive_lost_is_not_read_and_the_drive_gets_no_longer_than_it_was
     assert_eq!(rt; fs::read(&rt, path)?.len(), 3 * 512);
     fs::remove_file(&rt, path)?;
     Ok(())
+}
+
+/// The bytes of a long deck come in their order to their end, whatever is read ahead of them.
+fn take_to_end(rt: &HostRuntime, deck: File, bytes: &[u8]) -> Result<(), Fail> {
+    let mut source = ReaderSource::new(deck_over(rt.alloc(), deck)?);
+    let mut piece = [0; 512];
+    let mut taken = Vec::new(rt.alloc());
+    for _ in 0..bytes.len() {
+        let Took::Bytes(count) = source.take(&mut piece) else {
+            return Err(Fail::new("a take failed"));
+        };
+        if count == 0 {
+            break;
+        }
+        taken.extend_from_slice(&piece[..count])?;
+    }
+    if taken.as_slice() != bytes {
+        return Err(Fail::new("other bytes came"));
+    }
+    Ok(())
+}
+
+#[test]
+fn a_deck_that_is_read_ahead_is_taken_to_its_end(rt: HostRuntime) -> Result<(), Fail> {
+    let mut bytes = Vec::new(rt.alloc());
+    for line in 0..2000_u32 {
+        bytes.extend_from_slice(format!(in rt.alloc(); "CARD {line}\n")?.as_bytes())?;
+    }
+    let deck = drive(&rt, "solo_edge_ahead", bytes.as_slice())?;
+    take_to_end(&rt, deck, bytes.as_slice())
 }
 
 #[test]

@@ -11,7 +11,7 @@ use solo_base::NoMemory;
 use solo_cli::{Command, Finished, command_of, top};
 use solo_devices::{Area, Sink, Source, SureSink, SureSource};
 use solo_edge::{
-    DriveArea, OwnDrive, ReaderSource, WriterSink, hold_streams, open_drive, paper_over,
+    DriveArea, OwnDrive, ReaderSource, WriterSink, deck_over, hold_streams, open_drive, paper_over,
     reads_file, take_drive,
 };
 use std::env;
@@ -141,18 +141,18 @@ where
         return run_session(rt, path, words, by_line);
     }
     let output = WriterSink::new(paper_over(rt.alloc(), io::writer(rt), by_line)?);
-    let input = ReaderSource::new(rt.reader());
     let memory = SureSink::new(rt.alloc());
     // What was printed so far goes out whatever the status, and the lowest status decides.
     if words.iter().any(|word| word.as_str() == "times") {
-        let deck = no_bytes(rt);
-        let (_, mut console, ended) = over_drive(rt, path, words, deck, input, memory, output);
+        let (deck, keys) = (no_bytes(rt), ReaderSource::new(rt.reader()));
+        let (_, mut console, ended) = over_drive(rt, path, words, deck, keys, memory, output);
         if console.flush().is_err() && (ended.status == 0 || ended.status > 5) {
             return Ok(Ended::with(5, Fault::Console));
         }
         return Ok(ended);
     }
-    let (mut paper, _, ended) = over_drive(rt, path, words, input, no_bytes(rt), output, memory);
+    let deck = ReaderSource::new(deck_over(rt.alloc(), rt.reader())?);
+    let (mut paper, _, ended) = over_drive(rt, path, words, deck, no_bytes(rt), output, memory);
     if paper.flush().is_err() && (ended.status == 0 || ended.status > 4) {
         return Ok(Ended::with(4, Fault::Print));
     }
@@ -176,7 +176,8 @@ where
     let Ok(printer) = make_printer(rt) else {
         return Ok(Ended::with(4, Fault::Print));
     };
-    let (deck, keys) = (ReaderSource::new(cards), ReaderSource::new(rt.reader()));
+    let deck = ReaderSource::new(deck_over(rt.alloc(), cards)?);
+    let keys = ReaderSource::new(rt.reader());
     let paper = WriterSink::new(paper_over(rt.alloc(), printer, by_line)?);
     let console = WriterSink::new(paper_over(rt.alloc(), io::writer(rt), true)?);
     let (mut paper, mut console, ended) = over_drive(rt, path, words, deck, keys, paper, console);

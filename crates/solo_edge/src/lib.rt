@@ -2,6 +2,7 @@
 //! drive. They tell nothing of what they hold; what failed is counted.
 #![tactic(auto)]
 
+mod deck;
 mod drive_area;
 mod drive_file;
 mod paper;
@@ -10,6 +11,7 @@ mod retried;
 mod streams;
 mod writer_sink;
 
+pub use deck::deck_over;
 pub use drive_area::DriveArea;
 pub use drive_file::{OwnDrive, open_drive, take_drive};
 pub use paper::paper_over;
