@@ -5,3 +5,4 @@ pub mod Frames
 pub mod Holds
 pub mod Parts
 pub mod Has
+pub mod Seen

@@ -30,6 +30,6 @@ fn judge(tree: &Tree) -> Result<(), CheckFault>
     ensures broken { (line rule : ℕ) → result ≡ Err (CheckFault.Semantic line rule)
         → broken (seen_program tree.now) ≡ Some (record { rule = rule; line = line }) }
 {
-    let mut scope = Scope::new(*tree.program.routines.allocator())?;
+    let mut scope = Scope::new(*tree.program.routines.allocator());
     judge_program(&mut scope, &tree.program)
 }

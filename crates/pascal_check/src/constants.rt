@@ -11,11 +11,12 @@ ghost use Rattle.pascal_check.specs.Faults.{IsFault};
 
 use crate::earlier::Earlier;
 use crate::fault::CheckFault;
+use crate::meaning::Meaning;
 use crate::scope::Scope;
 use crate::types::is_same;
 use pascal_tree::constant::{Constant, Labels};
 use pascal_tree::leaf::Name;
-use pascal_tree::{Broken, Means, Scalar};
+use pascal_tree::{Broken, Scalar};
 
 /// The type of a constant and its value, or its code.
 #[derive(Clone, Copy)]
@@ -59,10 +60,7 @@ fn judge_constant_name(scope: &Scope, name: &Name) -> Result<Valued, Broken>
     let line = name.line;
     match scope.meaning(name) {
         None => Err(Broken { rule: 2, line }),
-        Some(Means::Constant(type_, value)) => Ok(Valued {
-            type_: *type_,
-            value: *value,
-        }),
+        Some(Meaning::Constant(type_, value)) => Ok(Valued { type_, value }),
         Some(_) => Err(Broken { rule: 3, line }),
     }
 }

@@ -13,6 +13,7 @@ ghost use Rattle.pascal_check.specs.Holds.{means_held};
 
 use crate::constants::{Valued, judge_constant};
 use crate::fault::CheckFault;
+use crate::meaning::Meaning;
 use crate::scope::Scope;
 use crate::types::{is_same, words};
 use pascal_tree::constant::Constant;
@@ -181,7 +182,7 @@ fn type_named(scope: &Scope, name: &Name) -> Option<Scalar>
     ensures { result ≡ scalar_named scope.now name.now }
 {
     match scope.meaning(name) {
-        Some(Means::TypeName(found)) => Some(*found),
+        Some(Meaning::TypeName(found)) => Some(found),
         _ => None,
     }
 }

@@ -10,6 +10,7 @@ mod expressions;
 mod fault;
 mod groups;
 mod laws;
+mod meaning;
 mod names;
 mod operands;
 mod parameters;

@@ -1,9 +1,10 @@
 // A list of declarations.
 
-ghost use Rattle.std.specs.Prelude.{◌≡◌, [], ◌∷◌, OnOk, None, is_some};
-ghost use Rattle.std.specs.Option.{option_copied};
+ghost use Rattle.std.specs.Prelude.{◌≡◌, [], ◌∷◌, OnOk, None, is_some, option_map};
 ghost use Rattle.pascal_tree.specs.Scopes.{found, named_as};
+ghost use Rattle.pascal_check.specs.Seen.{seen_meaning};
 
+use crate::meaning::Meaning;
 use pascal_tree::Means;
 use solo_base::NoMemory;
 use std::alloc::Global;
@@ -53,11 +54,11 @@ impl Names {
     }
 
     /// What a name means by its declaration here.
-    pub fn get(&self, name: &[u8]) -> Option<&Means>
-        ensures { option_copied result ≡ found self.now name.now }
+    pub fn get(&self, name: &[u8]) -> Option<Meaning<'_>>
+        ensures { option_map seen_meaning result ≡ found self.now name.now }
     {
         match self.entries.get(name) {
-            Some((_, means)) => Some(means),
+            Some((_, means)) => Some(Meaning::of(means)),
             None => None,
         }
     }

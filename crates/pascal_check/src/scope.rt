@@ -1,13 +1,14 @@
 // What the names at a place of a program mean.
 
-ghost use Rattle.std.specs.Prelude.{◌≡◌, OnOk, IfOk, None, Some, is_some};
-ghost use Rattle.std.specs.Option.{option_copied};
+ghost use Rattle.std.specs.Prelude.{◌≡◌, OnOk, None, Some, is_some, option_map};
 ghost use Rattle.pascal_tree.specs.Scopes.{found, means_of};
 ghost use Rattle.pascal_tree.specs.Scopes as scopes;
 ghost use Rattle.pascal_tree.specs.StatementRules.{is_within};
 ghost use Rattle.pascal_tree.specs.DeclarationRules.{empty_scope, inside};
 ghost use Rattle.pascal_check.specs.Entered.{outside, left};
+ghost use Rattle.pascal_check.specs.Seen.{seen_meaning};
 
+use crate::meaning::Meaning;
 use crate::names::Names;
 use crate::predeclared::predeclared;
 use pascal_tree::leaf::Name;
@@ -25,7 +26,6 @@ pub struct Scope {
     alloc: Global,
     own: Names,
     outer: Names,
-    predeclared: Names,
     within: Option<Letters>,
 }
 
@@ -36,35 +36,30 @@ impl Drop for Scope {
             alloc: _,
             own: _,
             outer: _,
-            predeclared: _,
             within: _,
         } = self;
     }
 }
 
 impl Model for Scope {
-    ghost use Rattle.std.specs.Prelude.{◌≡◌};
     ghost use Rattle.pascal_tree.specs.Scopes as scopes;
 
     ghost Value = { scopes.Scope };
 
     ghost view = { λ s. record { own = s.own; outer = s.outer; within = s.within } };
-
-    ghost invariant = { λ s. s.predeclared ≡ scopes.predeclared };
 }
 
 impl Scope {
     /// Where a program begins.
-    pub fn new(alloc: Global) -> Result<Scope, NoMemory>
-        ensures { IfOk result (λ scope. scope ≡ empty_scope) }
+    pub fn new(alloc: Global) -> Scope
+        ensures { result ≡ empty_scope }
     {
-        Ok(Scope {
+        Scope {
             alloc,
             own: Names::new(alloc),
             outer: Names::new(alloc),
-            predeclared: predeclared(alloc)?,
             within: None,
-        })
+        }
     }
 
     /// Where memory is taken from.
@@ -73,8 +68,8 @@ impl Scope {
     }
 
     /// What a name means here.
-    pub fn meaning(&self, name: &Name) -> Option<&Means>
-        ensures { option_copied result ≡ means_of self.now name.now.letters }
+    pub fn meaning(&self, name: &Name) -> Option<Meaning<'_>>
+        ensures { option_map seen_meaning result ≡ means_of self.now name.now.letters }
     {
         let name = name.letters.bytes();
         if let Some(means) = self.own.get(name) {
@@ -83,7 +78,7 @@ impl Scope {
         if let Some(means) = self.outer.get(name) {
             return Some(means);
         }
-        self.predeclared.get(name)
+        predeclared(name)
     }
 
     /// Whether a name is declared in the list itself.

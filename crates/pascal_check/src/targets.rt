@@ -6,10 +6,11 @@ ghost use Rattle.pascal_tree.specs.StatementRules.{judged_target, judged_call, j
 ghost use Rattle.pascal_tree.specs.DeclarationRules.{first_broken};
 ghost use Rattle.pascal_check.specs.Parts.{judged_element_set};
 
+use crate::meaning::Meaning;
 use crate::scope::Scope;
 use crate::types::is_same;
 use pascal_tree::leaf::Name;
-use pascal_tree::{Broken, Means, Scalar, VariableType};
+use pascal_tree::{Broken, Scalar, VariableType};
 
 /// What a name without an index is set to: a value of this type. On line `becomes` stands `:=`.
 pub fn judge_target(scope: &Scope, name: &Name, value: Scalar, becomes: u32) -> Result<(), Broken>
@@ -21,15 +22,15 @@ pub fn judge_target(scope: &Scope, name: &Name, value: Scalar, becomes: u32) -> 
     let line = name.line;
     match scope.meaning(name) {
         None => Err(Broken { rule: 2, line }),
-        Some(Means::Variable(VariableType::Plain(found))) => agree(*found, value, becomes),
-        Some(Means::Reference(found)) => agree(*found, value, becomes),
-        Some(Means::Variable(VariableType::Array { .. })) => Err(Broken {
+        Some(Meaning::Variable(VariableType::Plain(found))) => agree(found, value, becomes),
+        Some(Meaning::Reference(found)) => agree(found, value, becomes),
+        Some(Meaning::Variable(VariableType::Array { .. })) => Err(Broken {
             rule: 10,
             line: becomes,
         }),
-        Some(Means::Function(_, found)) => {
+        Some(Meaning::Function(_, found)) => {
             if scope.is_within(name) {
-                agree(*found, value, becomes)
+                agree(found, value, becomes)
             } else {
                 Err(Broken { rule: 3, line })
             }
@@ -70,17 +71,17 @@ pub fn judge_element(
     let line = name.line;
     match scope.meaning(name) {
         None => Err(Broken { rule: 2, line }),
-        Some(Means::Variable(VariableType::Array { element, .. })) => {
-            agree(*element, value, becomes)?;
+        Some(Meaning::Variable(VariableType::Array { element, .. })) => {
+            agree(element, value, becomes)?;
             if is_same(index, Scalar::Integer) {
                 Ok(())
             } else {
                 Err(Broken { rule: 11, line })
             }
         }
-        Some(Means::Variable(VariableType::Plain(_))) => Err(Broken { rule: 11, line }),
-        Some(Means::Reference(_)) => Err(Broken { rule: 11, line }),
-        Some(Means::Function(..)) => {
+        Some(Meaning::Variable(VariableType::Plain(_))) => Err(Broken { rule: 11, line }),
+        Some(Meaning::Reference(_)) => Err(Broken { rule: 11, line }),
+        Some(Meaning::Function(..)) => {
             let rule = if scope.is_within(name) { 11 } else { 3 };
             Err(Broken { rule, line })
         }
@@ -97,8 +98,8 @@ pub fn judge_call(scope: &Scope, name: &Name, count: usize, suit: bool) -> Resul
     let line = name.line;
     match scope.meaning(name) {
         None => Err(Broken { rule: 2, line }),
-        Some(Means::Procedure(parameters)) => {
-            if count != parameters.parameters().len() {
+        Some(Meaning::Procedure(parameters)) => {
+            if count != parameters.len() {
                 return Err(Broken { rule: 12, line });
             }
             if suit {
@@ -130,8 +131,8 @@ pub fn judge_control(
             rule: 2,
             line: name.line,
         }),
-        Some(Means::Variable(VariableType::Plain(Scalar::Integer))) if bounds => Ok(()),
-        Some(Means::Reference(Scalar::Integer)) if bounds => Ok(()),
+        Some(Meaning::Variable(VariableType::Plain(Scalar::Integer))) if bounds => Ok(()),
+        Some(Meaning::Reference(Scalar::Integer)) if bounds => Ok(()),
         Some(_) => Err(Broken { rule: 14, line }),
     }
 }

@@ -1,12 +1,13 @@
 // What is asked of types.
 
-ghost use Rattle.std.specs.Prelude.{◌≡◌, Some, IfSome};
-ghost use Rattle.std.specs.Option.{option_copied};
+ghost use Rattle.std.specs.Prelude.{◌≡◌, option_map};
 ghost use Rattle.pascal_tree.specs.Scopes.{same_scalar, elements, words_of_type};
 ghost use Rattle.pascal_tree.specs.ExpressionRules.{parameters_of, is_variable, is_characters, adding_type, multiplying_type};
+ghost use Rattle.pascal_check.specs.Seen.{seen_meaning};
 
+use crate::meaning::Meaning;
 use pascal_tree::expression::{Adding, Multiplying};
-use pascal_tree::{Means, Parameter, Scalar, VariableType};
+use pascal_tree::{Parameter, Scalar, VariableType};
 
 /// Whether two scalar types are one.
 pub fn is_same(a: Scalar, b: Scalar) -> bool
@@ -58,41 +59,41 @@ pub fn multiplying_type(multiplying: Multiplying) -> Scalar
 }
 
 /// The parameters of a routine, and none of what is no routine.
-pub fn parameters_of(means: Option<&Means>) -> &[Parameter]
-    ensures { result.now ≡ parameters_of (option_copied means.entry) }
+pub fn parameters_of(meaning: Option<Meaning<'_>>) -> &[Parameter]
+    ensures { result.now ≡ parameters_of (option_map seen_meaning meaning.entry) }
 {
-    match means {
-        Some(Means::Procedure(parameters)) => parameters.parameters(),
-        Some(Means::Function(parameters, _)) => parameters.parameters(),
+    match meaning {
+        Some(Meaning::Procedure(parameters)) => parameters,
+        Some(Meaning::Function(parameters, _)) => parameters,
         _ => &[],
     }
 }
 
 /// Whether a name is that of a scalar variable of a type.
-pub fn is_variable(means: Option<&Means>, wanted: Scalar) -> bool
-    ensures { result ≡ is_variable (option_copied means.entry) wanted }
+pub fn is_variable(meaning: Option<Meaning<'_>>, wanted: Scalar) -> bool
+    ensures { result ≡ is_variable (option_map seen_meaning meaning.entry) wanted }
 {
-    match means {
-        Some(Means::Variable(VariableType::Plain(found))) => is_same(*found, wanted),
-        Some(Means::Reference(found)) => is_same(*found, wanted),
+    match meaning {
+        Some(Meaning::Variable(VariableType::Plain(found))) => is_same(found, wanted),
+        Some(Meaning::Reference(found)) => is_same(found, wanted),
         _ => false,
     }
 }
 
 /// Whether a name is that of an array of so many characters.
-pub fn is_characters(means: Option<&Means>, length: u16) -> bool
-    ensures { result ≡ is_characters (option_copied means.entry) length }
+pub fn is_characters(meaning: Option<Meaning<'_>>, length: u16) -> bool
+    ensures { result ≡ is_characters (option_map seen_meaning meaning.entry) length }
 {
-    match means {
+    match meaning {
         Some(
-            Means::Variable(
+            Meaning::Variable(
                 VariableType::Array {
                     low,
                     high,
                     element: Scalar::Character,
                 },
             ),
-        ) => elements(*low, *high) == u32::from(length),
+        ) => elements(low, high) == u32::from(length),
         _ => false,
     }
 }

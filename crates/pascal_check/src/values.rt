@@ -5,10 +5,11 @@ ghost use Rattle.pascal_tree.specs.Scopes.{means_of};
 ghost use Rattle.pascal_tree.specs.ExpressionRules.{judged_name, judged_element_of, judged_called, named_type, element_type, called_type};
 ghost use Rattle.pascal_tree.specs.DeclarationRules.{first_broken};
 
+use crate::meaning::Meaning;
 use crate::scope::Scope;
 use crate::types::is_same;
 use pascal_tree::leaf::Name;
-use pascal_tree::{Broken, Means, Scalar, VariableType};
+use pascal_tree::{Broken, Scalar, VariableType};
 
 /// A name as a factor, and its type.
 pub fn judge_name(scope: &Scope, name: &Name) -> Result<Scalar, Broken>
@@ -19,19 +20,19 @@ pub fn judge_name(scope: &Scope, name: &Name) -> Result<Scalar, Broken>
     let line = name.line;
     match scope.meaning(name) {
         None => Err(Broken { rule: 2, line }),
-        Some(Means::Constant(found, _)) => Ok(*found),
-        Some(Means::Variable(VariableType::Plain(found))) => Ok(*found),
-        Some(Means::Variable(VariableType::Array { .. })) => Err(Broken { rule: 11, line }),
-        Some(Means::Reference(found)) => Ok(*found),
-        Some(Means::Procedure(_)) => Err(Broken { rule: 3, line }),
-        Some(Means::Function(parameters, found)) => {
-            if parameters.parameters().is_empty() {
-                Ok(*found)
+        Some(Meaning::Constant(found, _)) => Ok(found),
+        Some(Meaning::Variable(VariableType::Plain(found))) => Ok(found),
+        Some(Meaning::Variable(VariableType::Array { .. })) => Err(Broken { rule: 11, line }),
+        Some(Meaning::Reference(found)) => Ok(found),
+        Some(Meaning::Procedure(_)) => Err(Broken { rule: 3, line }),
+        Some(Meaning::Function(parameters, found)) => {
+            if parameters.is_empty() {
+                Ok(found)
             } else {
                 Err(Broken { rule: 12, line })
             }
         }
-        Some(Means::TypeName(_)) => Err(Broken { rule: 3, line }),
+        Some(Meaning::TypeName(_)) => Err(Broken { rule: 3, line }),
     }
 }
 
@@ -43,15 +44,15 @@ pub fn judge_array_name(scope: &Scope, name: &Name) -> Result<(), Broken>
     let line = name.line;
     match scope.meaning(name) {
         None => Err(Broken { rule: 2, line }),
-        Some(Means::Procedure(_)) => Err(Broken { rule: 3, line }),
-        Some(Means::Function(parameters, _)) => {
-            if parameters.parameters().is_empty() {
+        Some(Meaning::Procedure(_)) => Err(Broken { rule: 3, line }),
+        Some(Meaning::Function(parameters, _)) => {
+            if parameters.is_empty() {
                 Ok(())
             } else {
                 Err(Broken { rule: 12, line })
             }
         }
-        Some(Means::TypeName(_)) => Err(Broken { rule: 3, line }),
+        Some(Meaning::TypeName(_)) => Err(Broken { rule: 3, line }),
         Some(_) => Ok(()),
     }
 }
@@ -66,15 +67,15 @@ pub fn judge_element_of(scope: &Scope, name: &Name, index: Scalar) -> Result<Sca
     let line = name.line;
     match scope.meaning(name) {
         None => Err(Broken { rule: 2, line }),
-        Some(Means::Variable(VariableType::Array { element, .. })) => {
+        Some(Meaning::Variable(VariableType::Array { element, .. })) => {
             if is_same(index, Scalar::Integer) {
-                Ok(*element)
+                Ok(element)
             } else {
                 Err(Broken { rule: 11, line })
             }
         }
-        Some(Means::Procedure(_)) => Err(Broken { rule: 3, line }),
-        Some(Means::TypeName(_)) => Err(Broken { rule: 3, line }),
+        Some(Meaning::Procedure(_)) => Err(Broken { rule: 3, line }),
+        Some(Meaning::TypeName(_)) => Err(Broken { rule: 3, line }),
         Some(_) => Err(Broken { rule: 11, line }),
     }
 }
@@ -90,18 +91,18 @@ pub fn judge_called(scope: &Scope, name: &Name, count: usize, suit: bool) -> Res
     let line = name.line;
     match scope.meaning(name) {
         None => Err(Broken { rule: 2, line }),
-        Some(Means::Function(parameters, found)) => {
-            if count != parameters.parameters().len() {
+        Some(Meaning::Function(parameters, found)) => {
+            if count != parameters.len() {
                 return Err(Broken { rule: 12, line });
             }
             if !suit {
                 return Err(Broken { rule: 13, line });
             }
-            Ok(*found)
+            Ok(found)
         }
-        Some(Means::Variable(VariableType::Array { .. })) => Err(Broken { rule: 11, line }),
-        Some(Means::Procedure(_)) => Err(Broken { rule: 3, line }),
-        Some(Means::TypeName(_)) => Err(Broken { rule: 3, line }),
+        Some(Meaning::Variable(VariableType::Array { .. })) => Err(Broken { rule: 11, line }),
+        Some(Meaning::Procedure(_)) => Err(Broken { rule: 3, line }),
+        Some(Meaning::TypeName(_)) => Err(Broken { rule: 3, line }),
         Some(_) => Err(Broken { rule: 12, line }),
     }
 }
