@@ -81,13 +81,15 @@ pub(crate) fn take_free<M: MonitorKind, R: Wait>(
     ensures found { (opening : M.State) → seat.old.me.0.opening ≡ Some opening → Found M.ties opening seat.old.me.0.number seat.old.me.0.entries result }
     ensures free { (M.handed_to result ≡ None) × (M.waits seat.old.me.0.number result ≡ false) }
 {
+    // Taken for free before it is looked at: the step tells what the word was, and a look is a transfer more.
+    let mut found = FREE;
     for _ in rt.forever() {
-        let found = look::<M>(word, FREE, patience);
         if found % ASLEEP != FREE {
             sleep::<M, R>(rt, word, seat, found);
         } else if word.compare_exchange::<Enter<M>>(seat, 0, found, found + INSIDE) == found {
             return word.exchange(seat, 0, None).unwrap();
         }
+        found = look::<M>(word, FREE, patience);
     }
     unreachable!()
 }
