@@ -1,4 +1,4 @@
-ghost use Rattle.std.specs.Prelude.{◌≡◌, ◌/◌, ◌%◌, ◌≤◌, length, slice_get};
+ghost use Rattle.std.specs.Prelude.{◌≡◌, ◌/◌, ◌%◌, length, slice_get};
 ghost use Rattle.network_run.specs.Rules.{first_above, or_first, drawn, pick, behind};
 
 use solo_base::ProcNo;
@@ -17,7 +17,6 @@ pub enum Rule {
 impl Rule {
     /// The process that steps next, of those that may go on, in order of their numbers. None: there is none.
     pub fn pick(&mut self, goers: &[ProcNo]) -> Option<ProcNo>
-        requires few { length goers.now ≤ 16 }
         ensures picks { result ≡ pick self.old goers.now }
         ensures goes_on { self.new ≡ behind self.old result }
     {
@@ -28,7 +27,6 @@ impl Rule {
 
     // The process that steps next.
     fn picked(&self, goers: &[ProcNo]) -> Option<ProcNo>
-        requires few { length goers.now ≤ 16 }
         ensures { result ≡ pick self.now goers.now }
     {
         match self {
@@ -73,14 +71,12 @@ fn first_behind(last: ProcNo, goers: &[ProcNo]) -> Option<ProcNo>
 
 // The one at the place that a number draws.
 fn at_drawn(drawn: u32, goers: &[ProcNo]) -> Option<ProcNo>
-    requires few { length goers.now ≤ 16 }
     ensures { result ≡ slice_get goers.now ((drawn / 65536) % length goers.now) }
 {
     if goers.is_empty() {
         return None;
     }
-    let place = drawn / 65536 % goers.len() as u32;
-    goers.get(place as usize).copied()
+    goers.get(drawn as usize / 65536 % goers.len()).copied()
 }
 
 // The first above a number.
