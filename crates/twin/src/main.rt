@@ -10,7 +10,8 @@ use fault::Fault;
 use solo_base::NoMemory;
 use solo_devices::Area;
 use solo_edge::{
-    DriveArea, ReaderSource, WriterSink, hold_streams, open_drive, paper_over, reads_file,
+    DriveArea, ReaderSource, WriterSink, deck_over, hold_streams, open_drive, paper_over,
+    reads_file,
 };
 use std::env;
 use std::fs::{File, Files, OpenOptions};
@@ -136,7 +137,7 @@ where
     } = twin_top(
         rt.alloc(),
         words,
-        ReaderSource::new(rt.reader()),
+        ReaderSource::new(deck_over(rt.alloc(), rt.reader())?),
         WriterSink::new(paper_over(rt.alloc(), io::writer(rt), by_line)?),
         area(rt, path, 0, FILE_PAGES),
         area(rt, path, FILE_PAGES, HALF_PAGES),
