@@ -5,7 +5,7 @@ ghost use Rattle.std.specs.Prelude.{◌≡◌, ◌+◌, ◌-◌, ◌<◌, true, 
 // long as a sleep and a wake.
 const FEW_LOOKS: u32 = 200;
 
-const MANY_LOOKS: u32 = 20_000;
+const MANY_LOOKS: u32 = 5_000;
 
 // So many waits are short at most behind a long one.
 const MOST_SHORT: u8 = 15;
@@ -35,7 +35,7 @@ impl Patience {
     /// How often a process looks at most in the wait that comes.
     pub(crate) fn looks(&self) -> u32
         ensures few { 0 < self.now.short → result ≡ 200 }
-        ensures many { self.now.short ≡ 0 → result ≡ 20000 }
+        ensures many { self.now.short ≡ 0 → result ≡ 5000 }
     {
         if self.short > 0 {
             FEW_LOOKS
