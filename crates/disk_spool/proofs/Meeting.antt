@@ -1,12 +1,11 @@
 -- Both ends of a spool meet.
-use Rattle.std.proofs.Common.{◌≡◌, ℕ, ◌-◌, ◌≤◌, Bool, true, Option, Some, List, [], ◌∷◌, ◌++◌, map, length, take, refl, sym, ap, ◌∙◌, subst, arith}
+use Rattle.std.proofs.Common.{◌≡◌, ℕ, ◌-◌, Option, List, [], ◌++◌, map, length, take, sym, ap, ◌∙◌, subst, arith}
 use Rattle.std.proofs.lemmas.List.{length-append, length-map, take-map}
 use Rattle.std.proofs.Math.Seq.{take-append_seam}
 use Rattle.std.specs.declared.snapshot.Snapshot.{Snapshot}
 use Rattle.solo_base.specs.declared.outcome.Side.{Side}
 use Rattle.solo_base.specs.declared.outcome.Side.TheVariants.{Sender, Receiver}
 use Rattle.solo_base.specs.declared.page.Page.{Page}
-use Rattle.queue_var.specs.Circle.{places}
 use Rattle.queue_var.specs.Sides.{stopped_by}
 use Rattle.queue_var.specs.BetweenTwo.{by_side, calls_of}
 use Rattle.queue_var.proofs.BetweenTwo.{calls-met, who-stopped}

@@ -1,5 +1,5 @@
 -- What an end of a spool finds inside its gate, and what it may do there.
-use Rattle.std.proofs.Common.{◌≡◌, ◌≢◌, inl, inr, ℕ, ◌<◌, ◌≤◌, ◌-◌, Bool, true, false, Option, None, Some, List, [], ◌∷◌, ◌++◌, map, length, take, refl, sym, ap, ◌∙◌, subst, arith}
+use Rattle.std.proofs.Common.{◌≡◌, inl, inr, ℕ, Bool, true, false, Option, None, Some, List, [], ◌∷◌, ◌++◌, map, refl, sym, ap, ◌∙◌}
 use Rattle.std.specs.Prelude.{Result, Ok, Err, OnOk}
 use Rattle.std.proofs.lemmas.List.{map_push}
 use Rattle.std.specs.declared.snapshot.Snapshot.{Snapshot}
@@ -17,7 +17,7 @@ use Rattle.disk_spool.specs.declared.answers.Fetched.{Fetched}
 use Rattle.disk_spool.specs.declared.call.SpoolCall.{SpoolCall}
 use Rattle.disk_spool.specs.Ring.{next_place}
 use Rattle.disk_spool.specs.Spool.{Spool, mark, moved, AnswersFirst, after_await, after_put, after_take, after_stop}
-use Rattle.disk_spool.specs.Calls.{IsTied, Awaits, MayMove, Puts, Takes, Stops, Rests, Has, await_answer, has_stop, is_ready, is_await, ready_after, handed_to, is_waiting, value}
+use Rattle.disk_spool.specs.Calls.{IsTied, Awaits, MayMove, Puts, Takes, Stops, await_answer, has_stop, is_ready, is_await, ready_after, handed_to, is_waiting, value}
 use Rattle.monitor_gate.specs.Ends.{PassView}
 use Rattle.monitor_gate.specs.Calls.{HasCalled, calls_in}
 use Rattle.disk_spool.specs.declared.answers.Ended.{Ended}

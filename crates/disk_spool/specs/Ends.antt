@@ -1,10 +1,9 @@
 -- What contracts see of the ends of a running spool, and of its gate.
-use Rattle.std.specs.Prelude.{◌≡◌, ℕ, ◌-◌, ◌≤◌, Bool, true, false, Option, None, Some, Result, Ok, Err, List, length, map, take}
+use Rattle.std.specs.Prelude.{◌≡◌, ℕ, ◌-◌, ◌≤◌, true, Option, Some, Result, Ok, Err, List, length, map, take}
 use Rattle.solo_base.specs.declared.outcome.Side.{Side}
 use Rattle.solo_base.specs.declared.outcome.Side.TheVariants.{Sender, Receiver}
 use Rattle.queue_var.specs.BetweenTwo.{WhoStopped}
 use Rattle.monitor_gate.specs.Ends.{TableId}
-use Rattle.solo_devices.specs.Count.{Rose}
 use Rattle.solo_devices.specs.declared.area.Moved.{Moved}
 use Rattle.disk_spool.specs.declared.answers.Await.{Await}
 use Rattle.disk_spool.specs.declared.answers.Ended.{Ended}

@@ -1,15 +1,15 @@
 -- The two laws of a running spool: each entry keeps the tie, and whoever gets the turn can go on.
-use Rattle.std.specs.Prelude.{◌≡◌, ◌≢◌, ◌⊎◌, ℕ, ◌<◌, ◌≤◌, ◌==◌, length, drop, Bool, true, false, List, [], ◌∷◌, ◌++◌, Option, Some, None, IsSome}
+use Rattle.std.specs.Prelude.{◌≡◌, ◌≢◌, ℕ, ◌<◌, ◌≤◌, ◌==◌, length, drop, Bool, true, false, List, [], ◌∷◌, ◌++◌, Option, Some, None, IsSome}
 use Rattle.std.specs.declared.snapshot.Snapshot.{Snapshot}
 use Rattle.std.specs.Option.{is_some}
-use Rattle.std.proofs.Common.{refl, sym, ap, ◌∙◌, subst, arith, inl, inr, length-drop, eq-eqb}
+use Rattle.std.proofs.Common.{refl, sym, ap, ◌∙◌, subst, arith, inl, inr, eq-eqb}
 use Rattle.std.proofs.lemmas.Bool.{cases_eq}
 use Rattle.solo_base.specs.declared.outcome.Side.{Side}
 use Rattle.solo_base.specs.declared.outcome.Side.TheVariants.{Sender, Receiver}
 use Rattle.solo_base.specs.declared.page.Page.{Page}
-use Rattle.queue_var.specs.Sides.{Sides, MayStop, has_stopped, stopped_by, other, entered, continued, delayed, stopped}
+use Rattle.queue_var.specs.Sides.{has_stopped, stopped_by, other, entered, continued, delayed}
 use Rattle.queue_var.specs.HandsOver.{Lacks}
-use Rattle.queue_var.specs.BetweenTwo.{IsTiedToCalls, LetsOut, LetsWait, process_at, calls_of, with_call}
+use Rattle.queue_var.specs.BetweenTwo.{LetsOut, LetsWait, process_at, calls_of, with_call}
 use Rattle.queue_var.proofs.BetweenTwo.{entered-between, continued-between, delayed-between, entered-lets_out, inside-continues, unchanged-lets_out, stopped-lets_out, delayed-lets_wait, any-same, any-own, any-either, gives-more, gives-same, calls-with, two-apart, some_inside, tied-waits, tied-called, tied-stopped}
 use Rattle.queue_var.proofs.Waits.{not_first}
 use Rattle.monitor_gate.specs.Kind.{with_entry, Completes, Suspends}
@@ -22,9 +22,9 @@ use Rattle.disk_spool.specs.declared.answers.Fetched.{Fetched}
 use Rattle.disk_spool.specs.declared.call.SpoolCall.{SpoolCall}
 use Rattle.disk_spool.specs.declared.call.SpoolCall.TheVariants as call
 use Rattle.disk_spool.specs.Ring.{Ring, with_page, without_first, next_place}
-use Rattle.disk_spool.specs.Spool.{Spool, Received, StandsFor, mark, room_by, room_answer, item_by, item_answer, sent_with, taken_with, moved, AnswersFirst}
+use Rattle.disk_spool.specs.Spool.{Spool, StandsFor, mark, room_by, item_by, sent_with, taken_with, moved}
 use Rattle.disk_spool.specs.History.{room-stands, item-stands, put-stands, take-stands, stop-stands}
-use Rattle.disk_spool.specs.Calls.{sent_of, taken_of, was_refused, has_failure, has_move, page_put, page_taken, is_stop, is_refusal, is_failure, is_move, is_await, ready_after, is_ready, IsTiedToArea, TellsOn, Has, IsTied, handed_to, is_waiting, IsWoken, await_answer, Awaits, MayMove, Puts, Takes, Stops, Moves, Rests, value}
+use Rattle.disk_spool.specs.Calls.{sent_of, taken_of, was_refused, page_put, page_taken, is_stop, is_refusal, is_failure, is_move, is_await, ready_after, is_ready, IsTiedToArea, TellsOn, Has, IsTied, handed_to, is_waiting, IsWoken, await_answer, Awaits, Puts, Takes, Stops, Moves, Rests, value}
 
 -- ---- what the answers say
 below-full : (count capacity : ℕ) → (count == capacity) ≡ false → count ≤ capacity → count < capacity

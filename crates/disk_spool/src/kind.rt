@@ -37,6 +37,10 @@ impl<A: Area + Send> MonitorKind for SpoolKind<A> {
         state.handed()
     }
 
+    fn would_wait(state: &Spool<A>) -> Option<ProcNo> {
+        state.would_wait()
+    }
+
     ghost completes = { λ opening before after lists p entry tied moved. (
       moves_tied A.pages A.faults opening.area before after lists p entry tied moved,
       moves_done A.pages A.faults opening.area before after p (calls_of value lists) (value entry) tied moved,

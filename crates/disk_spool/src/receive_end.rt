@@ -118,6 +118,7 @@ fn await_item<A: Area + Send, R: Threads + Wait + Sync>(
     ensures call { HasCalled value pass.old pass.new (await_call Receiver result) }
     ensures answer { (state : Spool A) × Finds A.pages A.faults gate.now.opening.area Receiver (calls_in value pass.old) state × (await_given result ≡ item_answer state) }
 {
+    gate.nap(pass, rt);
     let mut inside = gate.enter(pass, rt);
     match inside.state().await_item(2) {
         Await::Ready => {

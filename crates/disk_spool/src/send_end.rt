@@ -118,6 +118,7 @@ fn await_room<A: Area + Send, R: Threads + Wait + Sync>(
     ensures call { HasCalled value pass.old pass.new (await_call Sender result) }
     ensures answer { (state : Spool A) × Finds A.pages A.faults gate.now.opening.area Sender (calls_in value pass.old) state × (await_given result ≡ room_answer state) }
 {
+    gate.nap(pass, rt);
     let mut inside = gate.enter(pass, rt);
     match inside.state().await_room(1) {
         Await::Ready => {

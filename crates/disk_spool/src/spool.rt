@@ -1,11 +1,12 @@
 // A monitor with a ring of pages on a disk.
-ghost use Rattle.std.specs.Prelude.{◌≡◌, ◌≢◌, ◌↔◌, ◌⊎◌, ◌<◌, ◌≤◌, ℕ, List, [], ◌∷◌, ◌++◌, length, false, IsTrue, Some};
+ghost use Rattle.std.specs.Prelude.{◌≡◌, ◌≢◌, ◌↔◌, ◌⊎◌, ◌<◌, ◌≤◌, ℕ, List, [], ◌∷◌, ◌++◌, length, false, IsTrue, IsSome, IfSome, None, Some};
 ghost use Rattle.solo_base.specs.declared.outcome.Side.{Side};
 ghost use Rattle.solo_base.specs.declared.outcome.Side.TheVariants.{Sender, Receiver};
 ghost use Rattle.queue_var.specs.declared.turn.Turn.TheVariants.{Free};
 ghost use Rattle.queue_var.specs.Turn.{handed};
 ghost use Rattle.queue_var.specs.Sides.{MayEnter, MayStop, queue, stopped_by, has_stopped};
 ghost use Rattle.queue_var.specs.HandsOver.{earliest};
+ghost use Rattle.queue_var.specs.BetweenTwo.{process_at};
 ghost use Rattle.solo_devices.specs.Area.{ReadsFrom, Writes, CountsFaults};
 ghost use Rattle.disk_spool.specs.Ring.{next_place};
 ghost use Rattle.disk_spool.specs.Spool.{Received, StandsFor, empty_spool, mark, room_answer, item_answer, after_await, after_put, sent_with, after_take, taken_with, moved, AnswersFirst, after_stop};
@@ -94,6 +95,25 @@ impl<A: Area> Spool<A> {
             → StandsFor A.pages sent taken stops self.now → result ≡ earliest stops }
     {
         self.sides.stopped_by()
+    }
+
+    /// The process that would only be delayed now: the sender where the ring is full, the receiver where it is
+    /// empty, and neither once a side has stopped.
+    pub(crate) fn would_wait(&self) -> Option<ProcNo>
+        ensures waits { IfSome result (λ p. ((p ≡ process_at Sender) × (room_answer self.now ≡ Await.Delayed))
+            ⊎ ((p ≡ process_at Receiver) × (item_answer self.now ≡ Await.Delayed))) }
+        ensures neither { result ≡ None → IsSome (stopped_by self.now.sides)
+            ⊎ ((room_answer self.now ≡ Await.Ready) × (item_answer self.now ≡ Await.Ready)) }
+    {
+        if self.sides.stopped_by().is_some() {
+            None
+        } else if self.ring.is_full() {
+            Some(1)
+        } else if self.ring.is_empty() {
+            Some(2)
+        } else {
+            None
+        }
     }
 
     /// Awaits room for a page, unless the receiver stopped first.

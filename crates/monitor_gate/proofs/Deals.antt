@@ -27,11 +27,11 @@ module _ {S E : Type 0} (handed : S → Option ℕ) (ties : S → S → (ℕ →
     owner = λ _. 0;
     made = 0;
     turn = 0;
-    asleep = 0;
+    marks = 0;
     inside = 0;
     one_word = refl;
     word_is = omega arith;
-    word_low = (omega arith, omega arith);
+    word_low = omega arith;
     few = omega arith;
     tied = tied;
     unmade = λ p not. refl;
@@ -122,7 +122,7 @@ module _ {S E : Type 0} (handed : S → Option ℕ) (ties : S → S → (ℕ →
             owner = owners;
             made = r.made + 1;
             turn = r.turn;
-            asleep = r.asleep;
+            marks = r.marks;
             inside = r.inside;
             one_word = r.one_word;
             word_is = r.word_is;
@@ -217,7 +217,7 @@ module _ {S E : Type 0} (handed : S → Option ℕ) (ties : S → S → (ℕ →
       owner = merged;
       made = r.made;
       turn = r.turn;
-      asleep = r.asleep;
+      marks = r.marks;
       inside = r.inside;
       one_word = r.one_word;
       word_is = r.word_is;

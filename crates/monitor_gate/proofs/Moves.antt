@@ -1,5 +1,5 @@
 -- Each step on the word keeps the rule, and tells what it is to tell.
-use Rattle.std.proofs.Common.{◌≡◌, ℕ, ◌≢◌, ◌+◌, ◌*◌, ◌%◌, ◌<◌, ◌≤◌, eqb, Bool, true, true≢false, List, [], ◌∷◌, ◌++◌, get_or, set, Option, Some, None, refl, sym, ap, ◌∙◌, subst, ⊎_elim, arith, get_or-set_same, length-set}
+use Rattle.std.proofs.Common.{◌≡◌, ℕ, ◌≢◌, ◌+◌, ◌*◌, ◌/◌, ◌%◌, ◌<◌, ◌≤◌, eqb, Bool, true, true≢false, List, [], ◌∷◌, ◌++◌, get_or, set, Option, Some, None, refl, sym, ap, ◌∙◌, subst, ⊎_elim, arith, get_or-set_same, length-set}
 use mathlib.Core.Logic.{dite}
 use mathlib.Core.Option as maybe
 use mathlib.Core.Option.{some, none, some-injective, some-ne-none}
@@ -33,9 +33,9 @@ module _ {S E : Type 0} (handed : S → Option ℕ) (ties : S → S → (ℕ →
 
   -- the word after a step, and what it says
   record Turned (s : Table) (word : ℕ) (homes : List (maybe.Option (Option S))) (now : S) (turn : ℕ) : Type 0 where
-    asleep : ℕ
-    word_is : word ≡ turn + 65536 * asleep
-    word_low : (turn < 65536) × (asleep ≤ 1)
+    marks : ℕ
+    word_is : word ≡ turn + 65536 * marks
+    word_low : turn < 65536
     home : turn ≢ 1 → homes ≡ some (Some now) ∷ []
     out : turn ≡ 1 → homes ≡ none ∷ []
     free : turn ≡ 0 → handed now ≡ None
@@ -72,7 +72,7 @@ module _ {S E : Type 0} (handed : S → Option ℕ) (ties : S → S → (ℕ →
           owner = r.owner;
           made = r.made;
           turn = turn;
-          asleep = t.asleep;
+          marks = t.marks;
           inside = inside;
           one_word = length-set s.words 0 word ∙ one;
           word_is = get_or-set_same s.words 0 word 0 (omega arith) ∙ t.word_is;
@@ -103,11 +103,11 @@ module _ {S E : Type 0} (handed : S → Option ℕ) (ties : S → S → (ℕ →
     }
 
     -- the process of seat `id` takes the turn, where the gate is free or handed to it
-    takes_turn : (cs : List (ℕ × Option S)) (word : ℕ) → IsActive v.stage → r.turn ≢ 1 → (asleep : ℕ) → word ≡ 1 + 65536 * asleep → asleep ≤ 1 → Rule (stepped s 0 word id cs (at_stage (Inside r.now) v) (takes 0 (Some r.now)))
-    takes_turn cs word act apart asleep word_is low = turns (at_stage (Inside r.now) v) word (set s.homes 0 none) r.now r.lists 1 id act refl (λ q ne. refl) (λ q ne. refl) (λ one. absurd (apart one)) (inside_fits act id refl) (λ _. tt) r.tied record {
-      asleep = asleep;
+    takes_turn : (cs : List (ℕ × Option S)) (word : ℕ) → IsActive v.stage → r.turn ≢ 1 → (marks : ℕ) → word ≡ 1 + 65536 * marks → Rule (stepped s 0 word id cs (at_stage (Inside r.now) v) (takes 0 (Some r.now)))
+    takes_turn cs word act apart marks word_is = turns (at_stage (Inside r.now) v) word (set s.homes 0 none) r.now r.lists 1 id act refl (λ q ne. refl) (λ q ne. refl) (λ one. absurd (apart one)) (inside_fits act id refl) (λ _. tt) r.tied record {
+      marks = marks;
       word_is = word_is;
-      word_low = (omega arith, low);
+      word_low = omega arith;
       home = λ ne. absurd (ne refl);
       out = λ _. ap (λ (hs : List (maybe.Option (Option S))). set hs 0 none) (r.home apart);
       free = λ e. absurd (omega arith);
@@ -135,13 +135,13 @@ module _ {S E : Type 0} (handed : S → Option ℕ) (ties : S → S → (ℕ →
   pub enters : (slots id : ℕ) (me : Sat) (old new : ℕ) → old % 65536 ≡ 0 → new ≡ old + 1 → me.0.stage ≡ Outside
       → Allows Rule slots id me 0 (λ n. either (eqb n old) new n) (entered handed ties waits (step slots 0 old new none) me)
   enters slots id me old new is_free next outside s r _ at _ = dite (ℕ_discrete (get_or s.words 0 0) old)
-      (λ e. let word_is = r.word_is in let low = r.word_low.0 in let few = r.word_low.1 in let free : r.turn ≡ 0 = omega arith in
+      (λ e. let word_is = r.word_is in let low = r.word_low in let free : r.turn ≡ 0 = omega arith in
       let act = as_active Outside me.0 outside tt in (
         at_stage (Inside r.now) me.0,
         takes 0 (Some r.now),
         ap (λ (hs : List (maybe.Option (Option S))). get_elem? hs 0) (r.home (omega arith)),
         subst (λ (z : ℕ). Rule (stepped s 0 z id me.1 (at_stage (Inside r.now) me.0) (takes 0 (Some r.now)))) (sym (either_hit (get_or s.words 0 0) old new e))
-            (takes_turn s r id me.0 at me.1 new act (omega arith) r.asleep (omega arith) few),
+            (takes_turn s r id me.0 at me.1 new act (omega arith) r.marks (omega arith)),
         ((λ _. (r.now, refl, found_as s r id me.0 at act, r.free free, stood Outside s r id me.0 at outside)), (λ ne. absurd (ne e))),
       ))
       (λ ne. (me.0, keeps, tt, unmoved s r id me.0 me.1 _ at (either_miss (get_or s.words 0 0) old new ne), ((λ e. absurd (ne e)), (λ _. refl))))
@@ -149,33 +149,33 @@ module _ {S E : Type 0} (handed : S → Option ℕ) (ties : S → S → (ℕ →
   pub resumes : (slots id : ℕ) (me : Sat) (old new : ℕ) → old % 65536 ≡ me.0.number + 2 → new + me.0.number + 1 ≡ old → me.0.stage ≡ Delayed
       → Allows Rule slots id me 0 (λ n. either (eqb n old) new n) (resumed handed ties waits wakes (step slots 0 old new none) me)
   resumes slots id me old new is_mine next waiting s r _ at _ = dite (ℕ_discrete (get_or s.words 0 0) old)
-      (λ e. let word_is = r.word_is in let low = r.word_low.0 in let few = r.word_low.1 in let mine : r.turn ≡ me.0.number + 2 = omega arith in
+      (λ e. let word_is = r.word_is in let low = r.word_low in let mine : r.turn ≡ me.0.number + 2 = omega arith in
       let act = as_active Delayed me.0 waiting tt in let on = r.handed_on me.0.number mine in (
         at_stage (Inside r.now) me.0,
         takes 0 (Some r.now),
         ap (λ (hs : List (maybe.Option (Option S))). get_elem? hs 0) (r.home (omega arith)),
         subst (λ (z : ℕ). Rule (stepped s 0 z id me.1 (at_stage (Inside r.now) me.0) (takes 0 (Some r.now)))) (sym (either_hit (get_or s.words 0 0) old new e))
-            (takes_turn s r id me.0 at me.1 new act (omega arith) r.asleep (omega arith) few),
+            (takes_turn s r id me.0 at me.1 new act (omega arith) r.marks (omega arith)),
         ((λ _. (r.now, refl, found_as s r id me.0 at act, on.turn, on.waiting, on.wakes_it)), (λ ne. absurd (ne e))),
       ))
       (λ ne. (me.0, keeps, tt, unmoved s r id me.0 me.1 _ at (either_miss (get_or s.words 0 0) old new ne), ((λ e. absurd (ne e)), (λ _. refl))))
 
   -- the word and the slot after the process inside gave the state y back
-  record GivesBack (y : S) (new : ℕ) : Type 0 where
-    small : (new ≢ 1) × (new < 65536)
-    free : new ≡ 0 → handed y ≡ None
-    handed_on : (p : ℕ) → new ≡ p + 2 → HandedTo handed waits wakes p y
+  record GivesBack (y : S) (turn : ℕ) : Type 0 where
+    apart : turn ≢ 1
+    free : turn ≡ 0 → handed y ≡ None
+    handed_on : (p : ℕ) → turn ≡ p + 2 → HandedTo handed waits wakes p y
 
-  leaves_as : (x y : S) (e : E) (lists : ℕ → List E) (p new : ℕ) → Completes handed waits wakes p x y → (new ≡ 0 → handed y ≡ None) → ((q : ℕ) → new ≡ q + 2 → handed y ≡ Some q) → new ≢ 1 → new < 65536 → GivesBack y new
-  leaves_as x y e lists p new done free on apart small = record { small = (apart, small); free = free; handed_on = λ q is. record { turn = on q is; waiting = (done.woken q (on q is)).0; wakes_it = (done.woken q (on q is)).1 } }
+  leaves_as : (x y : S) (e : E) (lists : ℕ → List E) (p turn : ℕ) → Completes handed waits wakes p x y → (turn ≡ 0 → handed y ≡ None) → ((q : ℕ) → turn ≡ q + 2 → handed y ≡ Some q) → turn ≢ 1 → GivesBack y turn
+  leaves_as x y e lists p turn done free on apart = record { apart = apart; free = free; handed_on = λ q is. record { turn = on q is; waiting = (done.woken q (on q is)).0; wakes_it = (done.woken q (on q is)).1 } }
 
-  turned_back : (s : Table) (y : S) (new : ℕ) (homes : List (maybe.Option (Option S))) → GivesBack y new → homes ≡ some (Some y) ∷ [] → Turned s new homes y new
-  turned_back s y new homes b is = let small = b.small.1 in record {
-    asleep = 0;
+  turned_back : (s : Table) (y : S) (new : ℕ) (homes : List (maybe.Option (Option S))) → GivesBack y (new % 65536) → homes ≡ some (Some y) ∷ [] → Turned s new homes y (new % 65536)
+  turned_back s y new homes b is = record {
+    marks = new / 65536;
     word_is = omega arith;
-    word_low = (b.small.1, omega arith);
+    word_low = omega arith;
     home = λ _. is;
-    out = λ e. absurd (b.small.0 e);
+    out = λ e. absurd (b.apart e);
     free = b.free;
     handed_on = b.handed_on;
   }
@@ -187,22 +187,22 @@ module _ {S E : Type 0} (handed : S → Option ℕ) (ties : S → S → (ℕ →
   pub leaves : (slots id : ℕ) (me : Sat) (x y : S) (entry : E) (cs : List (ℕ × Option S)) (gained : List E) (new : ℕ)
       → ((lists : ℕ → List E) → ties opening x lists → ties opening y (with_entry lists me.0.number entry) × Completes handed waits wakes me.0.number x y)
       → me.0.stage ≡ Inside x → me.0.joined ≡ [] → me.1 ≡ (0, Some y) ∷ cs → gained ≡ entry ∷ []
-      → (new ≡ 0 → handed y ≡ None) → ((q : ℕ) → new ≡ q + 2 → handed y ≡ Some q) → new ≢ 1 → new < 65536
+      → (new % 65536 ≡ 0 → handed y ≡ None) → ((q : ℕ) → new % 65536 ≡ q + 2 → handed y ≡ Some q) → new % 65536 ≢ 1
       → Allows Rule slots id me 0 (λ _. new) (left gained (step slots 0 new 0 none) me)
-  leaves slots id me x y entry cs gained new law in_x alone has adds free on apart small s r _ at _ =
+  leaves slots id me x y entry cs gained new law in_x alone has adds free on apart s r _ at _ =
       let v = me.0 in let p = me.0.number in
       let in_now = stood (Inside x) s r id v at in_x in
       let act = as_active (Inside x) v in_x tt in
       let own = active_own waits opening r.now r.lists r.owner r.made r.turn r.inside id v (r.each id v at) act in
       let lawful = law r.lists (subst (λ (z : S). ties opening z r.lists) (sym in_now.0) r.tied) in
       let done : Completes handed waits wakes p r.now y = subst (λ (z : S). Completes handed waits wakes p z y) in_now.0 lawful.1 in
-      let back = leaves_as r.now y entry r.lists p new done free on apart small in
+      let back = leaves_as r.now y entry r.lists p (new % 65536) done free on apart in
       let w : View S E = completed gained v in (
         w,
         gives,
         tt,
         subst (λ (hs : List (maybe.Option (Option S))). Rule record { words = set s.words 0 new; homes = hs; views = set s.views id w }) (sym (given_back s r me.1 y cs has in_now.1))
-            (turns s r id v at w new (some (Some y) ∷ []) y (with_entry r.lists p entry) new r.inside act refl done.others (with_entry_other r.lists p entry) (λ _. in_now.2) record {
+            (turns s r id v at w new (some (Some y) ∷ []) y (with_entry r.lists p entry) (new % 65536) r.inside act refl done.others (with_entry_other r.lists p entry) (λ _. in_now.2) record {
               agrees = active_agrees opening v.stage v.opening act (r.each id v at).agrees;
               stands = done.out;
               listed = (
@@ -215,11 +215,11 @@ module _ {S E : Type 0} (handed : S → Option ℕ) (ties : S → S → (ℕ →
       )
 
   -- The process inside gives back the state y, and is delayed.
-  pub delays : (slots id : ℕ) (me : Sat) (x y : S) (cs : List (ℕ × Option S))
+  pub delays : (slots id : ℕ) (me : Sat) (x y : S) (cs : List (ℕ × Option S)) (marks new : ℕ) → new ≡ 65536 * marks
       → ((lists : ℕ → List E) → ties opening x lists → ties opening y lists × Suspends handed waits me.0.number x y)
       → me.0.stage ≡ Inside x → me.1 ≡ (0, Some y) ∷ cs
-      → Allows Rule slots id me 0 (λ _. 0) (delayed (step slots 0 0 0 none) me)
-  delays slots id me x y cs law in_x has s r _ at _ =
+      → Allows Rule slots id me 0 (λ _. new) (delayed (step slots 0 new 0 none) me)
+  delays slots id me x y cs marks new word_is law in_x has s r _ at _ =
       let v = me.0 in
       let in_now = stood (Inside x) s r id v at in_x in
       let act = as_active (Inside x) v in_x tt in
@@ -229,16 +229,16 @@ module _ {S E : Type 0} (handed : S → Option ℕ) (ties : S → S → (ℕ →
         w,
         gives,
         tt,
-        subst (λ (hs : List (maybe.Option (Option S))). Rule record { words = set s.words 0 0; homes = hs; views = set s.views id w }) (sym (given_back s r me.1 y cs has in_now.1))
-            (turns s r id v at w 0 (some (Some y) ∷ []) y r.lists 0 r.inside act refl rests.others (λ q ne. refl) (λ _. in_now.2) record {
+        subst (λ (hs : List (maybe.Option (Option S))). Rule record { words = set s.words 0 new; homes = hs; views = set s.views id w }) (sym (given_back s r me.1 y cs has in_now.1))
+            (turns s r id v at w new (some (Some y) ∷ []) y r.lists 0 r.inside act refl rests.others (λ q ne. refl) (λ _. in_now.2) record {
               agrees = active_agrees opening v.stage v.opening act (r.each id v at).agrees;
               stands = rests.waiting;
               listed = active_listed waits opening r.now r.lists r.owner r.made r.turn r.inside id v (r.each id v at) act;
               apart = active_apart waits opening r.now r.lists r.owner r.made r.turn r.inside id v (r.each id v at) act;
             } (λ _. tt) lawful.0 record {
-              asleep = 0;
+              marks = marks;
               word_is = omega arith;
-              word_low = (omega arith, omega arith);
+              word_low = omega arith;
               home = λ _. refl;
               out = λ e. absurd (omega arith);
               free = λ _. rests.free;
@@ -248,18 +248,18 @@ module _ {S E : Type 0} (handed : S → Option ℕ) (ties : S → S → (ℕ →
       )
 
   -- only the word changes, and not its turn
-  reworded : (s : Table) (r : Rule s) (new : ℕ) → new ≡ get_or s.words 0 0 % 65536 + 65536 → Rule record { words = set s.words 0 new; homes = s.homes; views = s.views }
+  reworded : (s : Table) (r : Rule s) (new : ℕ) → new % 65536 ≡ get_or s.words 0 0 % 65536 → Rule record { words = set s.words 0 new; homes = s.homes; views = s.views }
   reworded s r new next = let one = r.one_word in let is = r.word_is in let low = r.word_low in record {
     now = r.now;
     lists = r.lists;
     owner = r.owner;
     made = r.made;
     turn = r.turn;
-    asleep = 1;
+    marks = new / 65536;
     inside = r.inside;
     one_word = length-set s.words 0 new ∙ one;
     word_is = get_or-set_same s.words 0 new 0 (omega arith) ∙ omega arith;
-    word_low = (low.0, omega arith);
+    word_low = low;
     few = r.few;
     tied = r.tied;
     unmade = r.unmade;
@@ -273,7 +273,7 @@ module _ {S E : Type 0} (handed : S → Option ℕ) (ties : S → S → (ℕ →
   }
 
   -- A process says that it may be asleep.
-  pub tells : (slots id : ℕ) (me : Sat) (old new : ℕ) → new ≡ old % 65536 + 65536
+  pub tells : (slots id : ℕ) (me : Sat) (old new : ℕ) → new % 65536 ≡ old % 65536
       → Allows Rule slots id me 0 (λ n. either (eqb n old) new n) (unchanged (step slots 0 old new none) me)
   tells slots id me old new next s r _ at _ = (
     me.0,
@@ -281,7 +281,7 @@ module _ {S E : Type 0} (handed : S → Option ℕ) (ties : S → S → (ℕ →
     tt,
     dite (ℕ_discrete (get_or s.words 0 0) old)
         (λ e. subst (λ (z : ℕ). Rule (stepped s 0 z id me.1 me.0 keeps)) (sym (either_hit (get_or s.words 0 0) old new e))
-        (subst (λ (vs : List (View S E)). Rule record { words = set s.words 0 new; homes = s.homes; views = vs }) (sym (set_again s.views id me.0 at)) (reworded s r new (next ∙ ap (λ (n : ℕ). n % 65536 + 65536) (sym e)))))
+        (subst (λ (vs : List (View S E)). Rule record { words = set s.words 0 new; homes = s.homes; views = vs }) (sym (set_again s.views id me.0 at)) (reworded s r new (next ∙ ap (λ (n : ℕ). n % 65536) (sym e)))))
         (λ ne. unmoved s r id me.0 me.1 _ at (either_miss (get_or s.words 0 0) old new ne)),
     refl,
   )
@@ -290,14 +290,14 @@ module _ {S E : Type 0} (handed : S → Option ℕ) (ties : S → S → (ℕ →
   pub leaves_from : (slots id : ℕ) (before me : Sat) (x y : S) (entry : E) (gained : List E) (new : ℕ) → me ≡ (before.0, (0, Some y) ∷ [])
       → ((lists : ℕ → List E) → ties opening x lists → ties opening y (with_entry lists before.0.number entry) × Completes handed waits wakes before.0.number x y)
       → before.0.stage ≡ Inside x → before.0.joined ≡ [] → gained ≡ entry ∷ []
-      → (new ≡ 0 → handed y ≡ None) → ((q : ℕ) → new ≡ q + 2 → handed y ≡ Some q) → new ≢ 1 → new < 65536
+      → (new % 65536 ≡ 0 → handed y ≡ None) → ((q : ℕ) → new % 65536 ≡ q + 2 → handed y ≡ Some q) → new % 65536 ≢ 1
       → Allows Rule slots id me 0 (λ _. new) (left gained (step slots 0 new 0 none) me)
-  leaves_from slots id before me x y entry gained new holding law in_x alone adds free on apart small = subst (λ (m : Sat). Allows Rule slots id m 0 (λ _. new) (left gained (step slots 0 new 0 none) m)) (sym holding)
-      (leaves slots id (before.0, (0, Some y) ∷ []) x y entry [] gained new law in_x alone refl adds free on apart small)
+  leaves_from slots id before me x y entry gained new holding law in_x alone adds free on apart = subst (λ (m : Sat). Allows Rule slots id m 0 (λ _. new) (left gained (step slots 0 new 0 none) m)) (sym holding)
+      (leaves slots id (before.0, (0, Some y) ∷ []) x y entry [] gained new law in_x alone refl adds free on apart)
 
-  pub delays_from : (slots id : ℕ) (before me : Sat) (x y : S) → me ≡ (before.0, (0, Some y) ∷ [])
+  pub delays_from : (slots id : ℕ) (before me : Sat) (x y : S) (marks new : ℕ) → new ≡ 65536 * marks → me ≡ (before.0, (0, Some y) ∷ [])
       → ((lists : ℕ → List E) → ties opening x lists → ties opening y lists × Suspends handed waits before.0.number x y)
       → before.0.stage ≡ Inside x
-      → Allows Rule slots id me 0 (λ _. 0) (delayed (step slots 0 0 0 none) me)
-  delays_from slots id before me x y holding law in_x = subst (λ (m : Sat). Allows Rule slots id m 0 (λ _. 0) (delayed (step slots 0 0 0 none) m)) (sym holding)
-      (delays slots id (before.0, (0, Some y) ∷ []) x y [] law in_x refl)
+      → Allows Rule slots id me 0 (λ _. new) (delayed (step slots 0 new 0 none) me)
+  delays_from slots id before me x y marks new word_is holding law in_x = subst (λ (m : Sat). Allows Rule slots id m 0 (λ _. new) (delayed (step slots 0 new 0 none) m)) (sym holding)
+      (delays slots id (before.0, (0, Some y) ∷ []) x y [] marks new word_is law in_x refl)

@@ -1,5 +1,5 @@
 -- The entries of two passes, once the first has joined the second.
-use Rattle.std.proofs.Common.{◌≡◌, ℕ, [], ◌∷◌, ◌++◌, refl, cond}
+use Rattle.std.proofs.Common.{◌≡◌, [], refl}
 use Rattle.monitor_gate.specs.Views.{entries_of}
 use Rattle.monitor_gate.specs.Ends.{PassView, joined, lists_of}
 

@@ -1,5 +1,5 @@
 -- The rule of a gate, which holds between any two steps.
--- The word is the turn: 0 where the gate is free, 1 where a process is inside, p + 2 where it is handed to process p. It is 65536 more where a process may be asleep.
+-- The word is the turn: 0 where the gate is free, 1 where a process is inside, p + 2 where it is handed to process p. Above the turn it has marks, of which the rule says nothing: whether a process may be asleep on it, and which process would only be delayed inside.
 -- The slot has the state, and is out with the process inside.
 use Rattle.std.specs.Prelude.{◌≡◌, ◌≢◌, ℕ, ◌+◌, ◌*◌, ◌<◌, ◌≤◌, Bool, true, false, List, [], ◌∷◌, length, slice_index, Option, Some, None}
 use mathlib.Core.Option.{some, none}
@@ -73,12 +73,12 @@ pub record IsKept {S E : Type 0} (handed : S → Option ℕ) (ties : S → S →
   -- how many passes were made
   pub made : ℕ
   pub turn : ℕ
-  pub asleep : ℕ
+  pub marks : ℕ
   -- the seat of the process inside
   pub inside : ℕ
   pub one_word : length s.words ≡ 1
-  pub word_is : slice_index s.words 0 ≡ turn + 65536 * asleep
-  pub word_low : (turn < 65536) × (asleep ≤ 1)
+  pub word_is : slice_index s.words 0 ≡ turn + 65536 * marks
+  pub word_low : turn < 65536
   pub few : made ≤ passes
   pub tied : ties opening now lists
   pub unmade : (p : ℕ) → (1 ≤ p → made < p) → lists p ≡ []

@@ -12,12 +12,17 @@ use crate::gate::Gate;
 use crate::inside::Inside;
 use crate::kind::MonitorKind;
 use crate::pass::Pass;
-use crate::turn::{hand_on, rest, take_free, take_handed};
+use crate::turn::{hand_on, nap, rest, take_free, take_handed};
 use std::marker::Brand;
 use std::sync::Wait;
 use std::thread::Threads;
 
 impl<M: MonitorKind> Gate<M> {
+    /// Naps a few times at most, as long as the process would only be delayed inside. It enters nothing.
+    pub fn nap<R: Threads + Wait + Sync>(&self, pass: &Pass<M>, rt: &R) {
+        nap::<M, R>(rt, &self.table.shared, pass.number);
+    }
+
     /// Waits until the gate is free, and enters. The state is tied to the lists of all passes, and its turn isn't handed.
     pub fn enter<'a, R: Threads + Wait + Sync>(
         &'a self,
@@ -37,7 +42,7 @@ impl<M: MonitorKind> Gate<M> {
         ensures not_waiting { M.waits pass.old.view.number (state_of result) ≡ false }
     {
         let word = &self.table.shared;
-        let state = take_free::<M, R>(rt, word, &mut pass.seat, &mut pass.patience);
+        let state = take_free::<M, R>(rt, word, &mut pass.seat, pass.number, &mut pass.patience);
         Inside {
             pass,
             gate: self,

@@ -36,6 +36,12 @@ pub trait MonitorKind {
     fn handed(state: &Self::State) -> Option<ProcNo>
         ensures { result ≡ handed_to state.now };
 
+    /// The process that would only be delayed if it entered now, where there is one. It looks from outside for a
+    /// while before it enters. No promise of a gate rests on it.
+    fn would_wait(_state: &Self::State) -> Option<ProcNo> {
+        None
+    }
+
     // The first law: a completed entry keeps the tie, once it stands on the list of its process.
     ghost completes: { (opening before after : Self.State) (lists : ℕ → List Self.Entry) (p : ℕ) (entry : Self.Entry) → ties opening before lists → moves p before entry after → ties opening after (with_entry lists p entry) × Completes handed_to waits wakes p before after };
 

@@ -1,5 +1,5 @@
 //! The steps on the word of a gate: a process takes the turn with the state, and gives both up or hands them on.
-ghost use Rattle.std.specs.Prelude.{◌≡◌, ◌≢◌, ℕ, ◌+◌, ◌%◌, ◌<◌, true, false, [], ◌∷◌, None, Some, IfSome};
+ghost use Rattle.std.specs.Prelude.{◌≡◌, ◌≢◌, ℕ, ◌+◌, ◌*◌, ◌/◌, ◌%◌, ◌<◌, ◌≤◌, ◌==◌, ◌&&◌, not, true, false, [], ◌∷◌, None, Some, IfSome};
 ghost use Rattle.monitor_gate.specs.declared.view.Stage.TheVariants.{Outside, Inside, Delayed};
 ghost use Rattle.monitor_gate.specs.Views.{at_stage, completed};
 ghost use Rattle.monitor_gate.specs.Steps.{Found};
@@ -13,6 +13,7 @@ use atomic_table::{Seat, Shared};
 use solo_base::ProcNo;
 use std::hint::spin_loop;
 use std::sync::Wait;
+use std::time::Duration;
 
 /// The word of a gate that is free. It is `INSIDE` while a process is inside, and `HANDED + p` once it is handed to process `p`.
 pub(crate) const FREE: u64 = 0;
@@ -23,6 +24,17 @@ const HANDED: u64 = 2;
 
 // It is so much more while a process may be asleep on it.
 const ASLEEP: u64 = 65536;
+
+// It is as many times this more as the number of the process that would only be delayed inside.
+const KEEPS_OUT: u64 = 131_072;
+
+// Who sleeps on the word sleeps on so much of it.
+const SLEPT_ON: u64 = 4_294_967_296;
+
+// How often a process naps at most outside a gate that keeps it out, and how long each time at least.
+const MOST_NAPS: u8 = 16;
+
+const NAP_NANOSECONDS: u64 = 50_000;
 
 pub(crate) type Place<M> = Seat<
     Option<Kept<<M as MonitorKind>::State>>,
@@ -36,18 +48,26 @@ pub(crate) type Word<M> = Shared<
     GateRule<M>,
 >;
 
-// Looks at the word until it shows this turn, as often as its patience says, and gives what it showed last.
-fn look<M: MonitorKind>(word: &Word<M>, turn: u64, patience: &mut Patience) -> u64
+// Whether a word shows this turn, and doesn't keep the process of this number out.
+fn lets_in(found: u64, turn: u64, number: u64) -> bool
+    ensures { result ≡ (found % 65536 == turn && not (found / 131072 == number)) }
+{
+    found % ASLEEP == turn && found / KEEPS_OUT != number
+}
+
+// Looks at the word until it lets the process in at this turn, as often as its patience says, and gives what it
+// showed last.
+fn look<M: MonitorKind>(word: &Word<M>, turn: u64, number: u64, patience: &mut Patience) -> u64
     requires { word.now.table_id.words ≡ 1 }
 {
     let found = word.peek(0);
-    if found % ASLEEP == turn {
+    if lets_in(found, turn, number) {
         return found;
     }
     for _ in 0..patience.looks() {
         spin_loop();
         let found = word.peek(0);
-        if found % ASLEEP == turn {
+        if lets_in(found, turn, number) {
             patience.learn(true);
             return found;
         }
@@ -61,11 +81,25 @@ fn sleep<M: MonitorKind, R: Wait>(rt: &R, word: &Word<M>, seat: &mut Place<M>, f
     requires { (seat.old.table_id ≡ word.now.table_id) × (word.now.table_id.words ≡ 1) }
     ensures { (seat.new.table_id ≡ seat.old.table_id) × (seat.new.me ≡ seat.old.me) }
 {
-    let asleep = found % ASLEEP + ASLEEP;
+    let asleep = found / KEEPS_OUT * KEEPS_OUT + ASLEEP + found % ASLEEP;
     if found != asleep && word.compare_exchange::<Tell>(seat, 0, found, asleep) != found {
         return;
     }
-    word.park(rt, 0, asleep as u32);
+    word.park(rt, 0, (asleep % SLEPT_ON) as u32);
+}
+
+/// Naps as long as the word keeps the process out, so often at most.
+pub(crate) fn nap<M: MonitorKind, R: Wait>(rt: &R, word: &Word<M>, number: ProcNo)
+    requires { word.now.table_id.words ≡ 1 }
+{
+    for _ in 0..MOST_NAPS {
+        let found = word.peek(0);
+        if found / KEEPS_OUT != u64::from(number) {
+            return;
+        }
+        let nap = Duration::from_nanos(NAP_NANOSECONDS);
+        word.park_timeout(rt, 0, (found % SLEPT_ON) as u32, nap);
+    }
 }
 
 /// Waits until the gate is free, and takes the turn.
@@ -73,6 +107,7 @@ pub(crate) fn take_free<M: MonitorKind, R: Wait>(
     rt: &R,
     word: &Word<M>,
     seat: &mut Place<M>,
+    number: ProcNo,
     patience: &mut Patience,
 ) -> Kept<M::State>
     requires gate { (seat.old.table_id ≡ word.now.table_id) × (word.now.table_id.words ≡ 1) }
@@ -81,15 +116,14 @@ pub(crate) fn take_free<M: MonitorKind, R: Wait>(
     ensures found { (opening : M.State) → seat.old.me.0.opening ≡ Some opening → Found M.ties opening seat.old.me.0.number seat.old.me.0.entries result }
     ensures free { (M.handed_to result ≡ None) × (M.waits seat.old.me.0.number result ≡ false) }
 {
-    // Taken for free before it is looked at: the step tells what the word was, and a look is a transfer more.
-    let mut found = FREE;
+    let number = u64::from(number);
     for _ in rt.forever() {
+        let found = look::<M>(word, FREE, number, patience);
         if found % ASLEEP != FREE {
             sleep::<M, R>(rt, word, seat, found);
         } else if word.compare_exchange::<Enter<M>>(seat, 0, found, found + INSIDE) == found {
             return word.exchange(seat, 0, None).unwrap();
         }
-        found = look::<M>(word, FREE, patience);
     }
     unreachable!()
 }
@@ -109,20 +143,31 @@ fn put_back<M: MonitorKind>(word: &Word<M>, seat: &mut Place<M>, state: Kept<M::
 fn wake<M: MonitorKind>(word: &Word<M>, found: u64)
     requires { word.now.table_id.words ≡ 1 }
 {
-    if found >= ASLEEP {
+    if found / ASLEEP % 2 == 1 {
         word.wake_all(0);
     }
 }
 
-// The turn that a state leaves: free, or handed to the process that it names.
-fn turn_of<M: MonitorKind>(state: &M::State) -> u64
-    ensures free { result ≡ 0 → M.handed_to state.now ≡ None }
-    ensures handed { (p : ℕ) → result ≡ p + 2 → M.handed_to state.now ≡ Some p }
-    ensures not_inside { (result ≢ 1) × (result < 65536) }
+// What the word of a gate that is free shows besides: the process that would only be delayed in a state.
+fn kept_out<M: MonitorKind>(state: &M::State) -> u64
+    ensures { (number : ℕ) × (result ≡ 131072 * number) × (number < 256) }
 {
+    match M::would_wait(state) {
+        None => 0,
+        Some(p) => KEEPS_OUT * u64::from(p),
+    }
+}
+
+// The word that a state leaves: free, or handed to the process that it names.
+fn word_of<M: MonitorKind>(state: &M::State) -> u64
+    ensures free { result % 65536 ≡ 0 → M.handed_to state.now ≡ None }
+    ensures handed { (p : ℕ) → result % 65536 ≡ p + 2 → M.handed_to state.now ≡ Some p }
+    ensures not_inside { result % 65536 ≢ 1 }
+{
+    let kept_out = kept_out::<M>(state);
     match M::handed(state) {
-        None => FREE,
-        Some(p) => HANDED + u64::from(p),
+        None => FREE + kept_out,
+        Some(p) => HANDED + u64::from(p) + kept_out,
     }
 }
 
@@ -140,9 +185,9 @@ pub(crate) fn hand_on<M: MonitorKind, G: Gains<M::Entry>>(
     requires picked { G.gained ≡ entry ∷ [] }
     ensures { (seat.new.table_id ≡ seat.old.table_id) × (seat.new.me ≡ (completed (entry ∷ []) seat.old.me.0, [])) }
 {
-    let turn = turn_of::<M>(state.get());
+    let left = word_of::<M>(state.get());
     put_back::<M>(word, seat, state);
-    let found = word.swap::<Leave<G>>(seat, 0, turn);
+    let found = word.swap::<Leave<G>>(seat, 0, left);
     wake::<M>(word, found);
     drop(entry);
 }
@@ -154,8 +199,9 @@ pub(crate) fn rest<M: MonitorKind>(word: &Word<M>, seat: &mut Place<M>, state: K
     requires rested { (x : M.State) × (seat.old.me.0.stage ≡ Inside x) × M.rests seat.old.me.0.number x state }
     ensures { (seat.new.table_id ≡ seat.old.table_id) × (seat.new.me ≡ (at_stage Delayed seat.old.me.0, [])) }
 {
+    let left = FREE + kept_out::<M>(state.get());
     put_back::<M>(word, seat, state);
-    let found = word.swap::<Delay>(seat, 0, FREE);
+    let found = word.swap::<Delay>(seat, 0, left);
     wake::<M>(word, found);
 }
 
@@ -176,7 +222,7 @@ pub(crate) fn take_handed<M: MonitorKind, R: Wait>(
 {
     let number = u64::from(number);
     for _ in rt.forever() {
-        let found = look::<M>(word, HANDED + number, patience);
+        let found = look::<M>(word, HANDED + number, number, patience);
         if found % ASLEEP != HANDED + number {
             sleep::<M, R>(rt, word, seat, found);
         } else if word.compare_exchange::<Resume<M>>(seat, 0, found, found - number - INSIDE)

@@ -36,6 +36,10 @@ impl<T: Send> MonitorKind for SlotKind<T> {
         state.handed()
     }
 
+    fn would_wait(state: &SlotBuffer<T>) -> Option<ProcNo> {
+        state.would_wait()
+    }
+
     ghost completes = { λ opening before after lists p entry tied moved.
         (moves_tied before after lists p entry tied moved, moves_done before after p (calls_of value lists) (value entry) tied moved) };
 

@@ -1,11 +1,12 @@
 // A monitor with one slot.
-ghost use Rattle.std.specs.Prelude.{◌≡◌, ◌≢◌, ◌↔◌, ◌⊎◌, ℕ, ◌++◌, List, [], ◌∷◌, Bool, true, false, IsTrue, Some, option_to_list};
+ghost use Rattle.std.specs.Prelude.{◌≡◌, ◌≢◌, ◌↔◌, ◌⊎◌, ℕ, ◌++◌, List, [], ◌∷◌, Bool, true, false, IsTrue, IsSome, IfSome, None, Some, option_to_list};
 ghost use Rattle.solo_base.specs.declared.outcome.Side.{Side};
 ghost use Rattle.solo_base.specs.declared.outcome.Side.TheVariants.{Sender, Receiver};
 ghost use Rattle.queue_var.specs.declared.turn.Turn.TheVariants.{Free};
 ghost use Rattle.queue_var.specs.Turn.{handed};
 ghost use Rattle.queue_var.specs.Sides.{MayEnter, MayStop, queue, nobody, entered, delayed, continued, stopped_by, has_stopped};
 ghost use Rattle.queue_var.specs.HandsOver.{earliest};
+ghost use Rattle.queue_var.specs.BetweenTwo.{process_at};
 ghost use Rattle.slot_buffer.specs.declared.answers.Put.{Put};
 ghost use Rattle.slot_buffer.specs.declared.answers.Take.{Take};
 ghost use Rattle.slot_buffer.specs.Ends.{taken_out};
@@ -85,6 +86,22 @@ impl<T> SlotBuffer<T> {
         ensures history { (sent taken : List T) (stops : List Side) → StandsFor sent taken stops self.now → result ≡ earliest stops }
     {
         self.sides.stopped_by()
+    }
+
+    /// The process that would only be delayed now: the sender where the buffer is full, the receiver where it is
+    /// empty, and neither once a side has stopped.
+    pub(crate) fn would_wait(&self) -> Option<ProcNo>
+        ensures waits { IfSome result (λ p. ((p ≡ process_at Sender) × ((item : T) → put_answer self.now item ≡ Put.Delayed item))
+            ⊎ ((p ≡ process_at Receiver) × (take_answer self.now ≡ Take.Delayed))) }
+        ensures neither { result ≡ None → IsSome (stopped_by self.now.sides) }
+    {
+        if self.sides.stopped_by().is_some() {
+            None
+        } else if self.slot.is_some() {
+            Some(1)
+        } else {
+            Some(2)
+        }
     }
 
     /// Puts an item in, if there is room and the receiver didn't stop first.

@@ -1,4 +1,4 @@
-use Rattle.std.proofs.Common.{◌≡◌, refl, sym, ap, ◌∙◌, rules}
+use Rattle.std.proofs.Common.{refl, sym, ap, ◌∙◌, rules}
 use Rattle.solo_base.specs.declared.outcome.Side.TheVariants.{Sender}
 use Rattle.disk_spool.specs.declared.answers.Await.TheVariants as Await
 use Rattle.disk_spool.specs.Spool.{room_answer}

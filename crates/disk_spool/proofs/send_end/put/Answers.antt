@@ -1,4 +1,4 @@
-use Rattle.std.proofs.Common.{◌≡◌, refl, sym, ap, ◌∙◌, rules}
+use Rattle.std.proofs.Common.{refl, ap, rules}
 use Rattle.solo_base.specs.declared.outcome.Side.TheVariants.{Sender}
 use Rattle.solo_base.specs.declared.page.Page.{Page}
 use Rattle.solo_devices.specs.declared.area.Moved.TheVariants as Moved

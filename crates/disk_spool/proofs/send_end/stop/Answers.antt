@@ -1,4 +1,4 @@
-use Rattle.std.proofs.Common.{◌≡◌, refl, sym, ap, ◌∙◌, rules}
+use Rattle.std.proofs.Common.{refl, ap, ◌∙◌, rules}
 use Rattle.disk_spool.proofs.Running.{finds, lets_in, stops}
 use Rattle.disk_spool.proofs.send_end.stop.Goals as goal
 
