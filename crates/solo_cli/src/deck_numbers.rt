@@ -1,13 +1,15 @@
 //! How many jobs and cards a deck has.
-ghost use Rattle.std.specs.Prelude.{◌≡◌, ◌≤◌, ◌<◌, ◌+◌, ◌^◌, ℕ, List, [], ◌∷◌, Some, IsSome, IfSome, IfOk, OnOk, length, true};
+ghost use Rattle.std.specs.Prelude.{◌≡◌, ◌≤◌, ◌<◌, ◌+◌, ◌^◌, ℕ, List, [], ◌∷◌, Some, IsSome, IfSome, IfOk, length, true};
+ghost use Rattle.std.specs.Option.{is_some};
 ghost use Rattle.solo_base.specs.Card.{cards};
 ghost use Rattle.solo_base.specs.declared.item.Item.{Item as ItemOf};
+ghost use Rattle.solo_base.specs.declared.item.Item.TheVariants.{Line};
 ghost use Rattle.solo_devices.specs.CardUnit.{byte_limit, bytes_total, items_ahead, work_ahead};
-ghost use Rattle.deck_format.specs.Jobs.{jobs};
-ghost use Rattle.solo_cli.specs.Tallies.{CountsOn, IsNextOf};
+ghost use Rattle.deck_format.specs.Jobs.{jobs, opener_in};
+ghost use Rattle.solo_cli.specs.Tallies.{CountsOn, IsNextOf, jobs_begun, role_of};
 
-use deck_format::JobReader;
-use solo_base::{Item, NoMemory};
+use deck_format::{Control, control_of, ends_in};
+use solo_base::NoMemory;
 use solo_devices::{CardRead, CardUnit, Source, SureSource};
 use std::alloc::Global;
 
@@ -28,15 +30,28 @@ pub fn numbers_of(alloc: Global, deck: &[u8]) -> Result<DeckNumbers, NoMemory>
     ensures cards { IfOk result (λ numbers. numbers.cards ≡ length (cards deck.now)) }
 {
     let mut unit = CardUnit::new(SureSource::new(deck.to_vec(alloc)?, PIECE));
-    let mut tally = Tally::new(alloc);
-    while let Some(item) = next_item(&mut unit) {
-        tally.add(&item)?;
+    let mut tally = Tally::new();
+    while let Some(role) = next_role(&mut unit) {
+        tally.add(role);
     }
-    Ok(tally.finish())
+    Ok(tally.numbers)
 }
 
-// The next item of a deck in memory.
-fn next_item(unit: &mut CardUnit<SureSource>) -> Option<Item>
+/// What a card is to the jobs of its deck.
+#[derive(Clone, Copy)]
+enum Role {
+    /// It opens a group.
+    Opens,
+    /// It ends a group; outside groups it counts.
+    Ends,
+    /// It counts, where it stands outside groups.
+    Counts,
+    /// It is blank.
+    Blank,
+}
+
+// What the next card of a deck in memory is.
+fn next_role(unit: &mut CardUnit<SureSource>) -> Option<Role>
     requires live { unit.old.live ≡ true }
     requires within { IfSome (bytes_total (⟦<SureSource as Source>⟧.taken unit.old.source)
         (⟦<SureSource as Source>⟧.left unit.old.source)) (λ total. total ≤ byte_limit) }
@@ -52,57 +67,102 @@ fn next_item(unit: &mut CardUnit<SureSource>) -> Option<Item>
         work_ahead (⟦<SureSource as Source>⟧.taken unit.new.source) unit.new.pending unit.new.ended
         < work_ahead (⟦<SureSource as Source>⟧.taken unit.old.source) unit.old.pending unit.old.ended }
 {
-    match unit.read() {
-        CardRead::Card(line) => Some(Item::Line(line)),
-        CardRead::Spoiled => Some(Item::Spoiled),
+    let read = unit.read();
+    match &read {
+        CardRead::Card(card) => Some(role_of(card.bytes())),
+        CardRead::Spoiled => Some(Role::Counts),
         CardRead::End => None,
         CardRead::Failed | CardRead::Limit => unreachable!(),
     }
 }
 
-/// The jobs and cards that were counted so far.
-#[derive(Drop)]
+// What a card of these characters is.
+fn role_of(card: &[u8]) -> Role
+    ensures { result ≡ role_of (Line card.now) }
+{
+    let control = control_of(card);
+    if opens(&control) {
+        return Role::Opens;
+    }
+    if ends_in(&control) {
+        return Role::Ends;
+    }
+    if card.is_empty() {
+        return Role::Blank;
+    }
+    Role::Counts
+}
+
+// Whether a control card opens a group.
+fn opens(control: &Option<Control>) -> bool
+    ensures { result ≡ is_some (opener_in control.now) }
+{
+    matches!(control, Some(Control::Opens(_)))
+}
+
+/// Where a tally stands in its deck.
+#[derive(Clone, Copy)]
+enum Spot {
+    /// Outside groups, where no card that counts stands before it.
+    Fresh,
+    /// Outside groups, behind cards that count: they are one job.
+    Skipping,
+    /// In a group, whose job is counted.
+    InGroup,
+}
+
+impl Spot {
+    // Where a card leads, and how many jobs it begins.
+    fn behind(self, role: Role) -> (Spot, u64)
+        ensures one { result.1 ≤ 1 }
+        ensures begins { (item : ItemOf) (rest : List ItemOf) → role ≡ role_of item →
+            length (jobs_begun self (item ∷ rest)) ≡ result.1 + length (jobs_begun result.0 rest) }
+    {
+        match role {
+            Role::Opens => (Spot::InGroup, 1),
+            Role::Ends => match self {
+                Spot::Fresh => (Spot::Skipping, 1),
+                Spot::Skipping => (Spot::Skipping, 0),
+                Spot::InGroup => (Spot::Fresh, 0),
+            },
+            Role::Counts => match self {
+                Spot::Fresh => (Spot::Skipping, 1),
+                Spot::Skipping => (Spot::Skipping, 0),
+                Spot::InGroup => (Spot::InGroup, 0),
+            },
+            Role::Blank => (self, 0),
+        }
+    }
+}
+
+/// The cards that were counted so far, and the jobs that they began.
+#[derive(Clone, Copy)]
 struct Tally {
-    reader: JobReader,
+    spot: Spot,
     numbers: DeckNumbers,
 }
 
 impl Tally {
     // Before the first card.
-    fn new(alloc: Global) -> Tally
+    fn new() -> Tally
         ensures { (items : List ItemOf) → CountsOn items items result }
     {
         Tally {
-            reader: JobReader::new(alloc),
+            spot: Spot::Fresh,
             numbers: DeckNumbers { jobs: 0, cards: 0 },
         }
     }
 
-    // Counts one more card, and the job that it completes.
-    fn add(&mut self, item: &Item) -> Result<(), NoMemory>
+    // Counts one more card, and the job that it begins.
+    fn add(&mut self, role: Role)
         requires few { self.old.numbers.cards < 2 ^ 32 }
         requires jobs { self.old.numbers.jobs ≤ self.old.numbers.cards }
-        ensures { OnOk result ((items rest : List ItemOf) → CountsOn items (item.now ∷ rest) self.old →
-            CountsOn items rest self.new) }
+        ensures { (items rest : List ItemOf) (item : ItemOf) → role ≡ role_of item →
+            CountsOn items (item ∷ rest) self.old → CountsOn items rest self.new }
     {
-        if self.reader.push(item)?.is_some() {
-            self.numbers.jobs += 1;
-        }
+        let (spot, jobs) = self.spot.behind(role);
+        self.spot = spot;
+        self.numbers.jobs += jobs;
         self.numbers.cards += 1;
-        Ok(())
-    }
-
-    // Counts the job that the end of the deck completes.
-    fn finish(self) -> DeckNumbers
-        requires few { self.numbers.jobs < 2 ^ 32 }
-        ensures jobs { (items : List ItemOf) → CountsOn items [] self → result.jobs ≡ length (jobs items) }
-        ensures cards { (items : List ItemOf) → CountsOn items [] self → result.cards ≡ length items }
-    {
-        let Tally { reader, numbers } = self;
-        let last = u64::from(reader.finish().is_some());
-        DeckNumbers {
-            jobs: numbers.jobs + last,
-            cards: numbers.cards,
-        }
     }
 }
