@@ -97,8 +97,8 @@ impl<A: Area> Spool<A> {
         self.sides.stopped_by()
     }
 
-    /// The process that would only be delayed now: the sender where the ring is full, the receiver where it is
-    /// empty, and neither once a side has stopped.
+    /// The process that would only be delayed now: the sender where the ring is full, the receiver where it
+    /// is empty, and neither once a side has stopped.
     pub(crate) fn would_wait(&self) -> Option<ProcNo>
         ensures waits { IfSome result (λ p. ((p ≡ process_at Sender) × (room_answer self.now ≡ Await.Delayed))
             ⊎ ((p ≡ process_at Receiver) × (item_answer self.now ≡ Await.Delayed))) }

@@ -103,7 +103,8 @@ module _ {S E : Type 0} (handed : S → Option ℕ) (ties : S → S → (ℕ →
     }
 
     -- the process of seat `id` takes the turn, where the gate is free or handed to it
-    takes_turn : (cs : List (ℕ × Option S)) (word : ℕ) → IsActive v.stage → r.turn ≢ 1 → (marks : ℕ) → word ≡ 1 + 65536 * marks → Rule (stepped s 0 word id cs (at_stage (Inside r.now) v) (takes 0 (Some r.now)))
+    takes_turn : (cs : List (ℕ × Option S)) (word : ℕ) → IsActive v.stage → r.turn ≢ 1 → (marks : ℕ) → word ≡ 1 + 65536 * marks
+        → Rule (stepped s 0 word id cs (at_stage (Inside r.now) v) (takes 0 (Some r.now)))
     takes_turn cs word act apart marks word_is = turns (at_stage (Inside r.now) v) word (set s.homes 0 none) r.now r.lists 1 id act refl (λ q ne. refl) (λ q ne. refl) (λ one. absurd (apart one)) (inside_fits act id refl) (λ _. tt) r.tied record {
       marks = marks;
       word_is = word_is;
@@ -169,7 +170,8 @@ module _ {S E : Type 0} (handed : S → Option ℕ) (ties : S → S → (ℕ →
   leaves_as : (x y : S) (e : E) (lists : ℕ → List E) (p turn : ℕ) → Completes handed waits wakes p x y → (turn ≡ 0 → handed y ≡ None) → ((q : ℕ) → turn ≡ q + 2 → handed y ≡ Some q) → turn ≢ 1 → GivesBack y turn
   leaves_as x y e lists p turn done free on apart = record { apart = apart; free = free; handed_on = λ q is. record { turn = on q is; waiting = (done.woken q (on q is)).0; wakes_it = (done.woken q (on q is)).1 } }
 
-  turned_back : (s : Table) (y : S) (new : ℕ) (homes : List (maybe.Option (Option S))) → GivesBack y (new % 65536) → homes ≡ some (Some y) ∷ [] → Turned s new homes y (new % 65536)
+  turned_back : (s : Table) (y : S) (new : ℕ) (homes : List (maybe.Option (Option S))) → GivesBack y (new % 65536) → homes ≡ some (Some y) ∷ []
+      → Turned s new homes y (new % 65536)
   turned_back s y new homes b is = record {
     marks = new / 65536;
     word_is = omega arith;

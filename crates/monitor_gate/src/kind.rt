@@ -36,8 +36,8 @@ pub trait MonitorKind {
     fn handed(state: &Self::State) -> Option<ProcNo>
         ensures { result ≡ handed_to state.now };
 
-    /// The process that would only be delayed if it entered now, where there is one. It looks from outside for a
-    /// while before it enters. No promise of a gate rests on it.
+    /// The process that would only be delayed if it entered now, where there is one. It looks from outside
+    /// for a while before it enters. No promise of a gate rests on it.
     fn would_wait(_state: &Self::State) -> Option<ProcNo> {
         None
     }

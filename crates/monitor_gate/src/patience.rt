@@ -3,9 +3,9 @@ ghost use Rattle.std.specs.Prelude.{◌≡◌, ◌+◌, ◌-◌, ◌<◌, true, 
 
 // How often a process looks at the word of a gate in a short wait, and in a long one, which takes about as
 // long as a sleep and a wake.
-const FEW_LOOKS: u32 = 200;
+const FEW_LOOKS: u32 = 50;
 
-const MANY_LOOKS: u32 = 5_000;
+const MANY_LOOKS: u32 = 500;
 
 // So many waits are short at most behind a long one.
 const MOST_SHORT: u8 = 15;
@@ -34,8 +34,8 @@ impl Patience {
 
     /// How often a process looks at most in the wait that comes.
     pub(crate) fn looks(&self) -> u32
-        ensures few { 0 < self.now.short → result ≡ 200 }
-        ensures many { self.now.short ≡ 0 → result ≡ 5000 }
+        ensures few { 0 < self.now.short → result ≡ 50 }
+        ensures many { self.now.short ≡ 0 → result ≡ 500 }
     {
         if self.short > 0 {
             FEW_LOOKS

@@ -28,7 +28,7 @@ const ASLEEP: u64 = 65536;
 // It is as many times this more as the number of the process that would only be delayed inside.
 const KEEPS_OUT: u64 = 131_072;
 
-// Who sleeps on the word sleeps on so much of it.
+// What the system compares of the word before a process sleeps on it is its value below this.
 const SLEPT_ON: u64 = 4_294_967_296;
 
 // How often a process naps at most outside a gate that keeps it out, and how long each time at least.
@@ -55,8 +55,8 @@ fn lets_in(found: u64, turn: u64, number: u64) -> bool
     found % ASLEEP == turn && found / KEEPS_OUT != number
 }
 
-// Looks at the word until it lets the process in at this turn, as often as its patience says, and gives what it
-// showed last.
+// Looks at the word until it lets the process in at this turn, as often as its patience says, and gives what
+// it showed last.
 fn look<M: MonitorKind>(word: &Word<M>, turn: u64, number: u64, patience: &mut Patience) -> u64
     requires { word.now.table_id.words ≡ 1 }
 {

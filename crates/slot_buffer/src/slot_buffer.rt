@@ -88,10 +88,11 @@ impl<T> SlotBuffer<T> {
         self.sides.stopped_by()
     }
 
-    /// The process that would only be delayed now: the sender where the buffer is full, the receiver where it is
-    /// empty, and neither once a side has stopped.
+    /// The process that would only be delayed now: the sender where the buffer is full, the receiver where
+    /// it is empty, and neither once a side has stopped.
     pub(crate) fn would_wait(&self) -> Option<ProcNo>
-        ensures waits { IfSome result (λ p. ((p ≡ process_at Sender) × ((item : T) → put_answer self.now item ≡ Put.Delayed item))
+        ensures waits { IfSome result (λ p.
+            ((p ≡ process_at Sender) × ((item : T) → put_answer self.now item ≡ Put.Delayed item))
             ⊎ ((p ≡ process_at Receiver) × (take_answer self.now ≡ Take.Delayed))) }
         ensures neither { result ≡ None → IsSome (stopped_by self.now.sides) }
     {
