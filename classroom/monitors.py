@@ -55,12 +55,19 @@ def frozen(value):
 
 class Scene:
     """Who calls what: of each process its name and its calls, one after the other, each an entry's name and what it is given. `judge` is given
-    a run behind each event and says what is wrong with it, and `finish` where all calls are done."""
+    a run behind each event and says what is wrong with it, and `finish` where nobody can go on. `ghost` is what of the past `judge` asks for:
+    two runs are in one state only where they agree in it."""
 
-    def __init__(self, make, processes, judge=lambda run: None, finish=lambda run: None, hand_over=True):
-        self.make, self.judge, self.finish, self.hand_over = make, judge, finish, hand_over
+    def __init__(self, make, processes, judge=lambda run: None, finish=None, hand_over=True, ghost=lambda run: None):
+        self.make, self.judge, self.hand_over, self.ghost = make, judge, hand_over, ghost
+        self.finish = finish or all_called
         self.names = {p: name for p, (name, _) in enumerate(processes, 1)}
         self.calls = {p: calls for p, (_, calls) in enumerate(processes, 1)}
+
+
+def all_called(run):
+    """What is wrong where nobody can go on, and nothing else is known."""
+    return None if run.ended() else "nobody can go on"
 
 
 class Run:
@@ -75,6 +82,10 @@ class Run:
         """The call that a process makes, or None where it has made all."""
         at = len(self.answers[p])
         return self.scene.calls[p][at] if at < len(self.scene.calls[p]) else None
+
+    def ended_call(self, p):
+        """Whether its latest call is done."""
+        return p not in self.inside and bool(self.answers[p])
 
     def waits(self, p):
         """Whether it stands in a queue, and nobody has continued it."""
@@ -96,7 +107,7 @@ class Run:
         inside = tuple((p, entry.gi_frame.f_lasti, frozen({name: value for name, value in entry.gi_frame.f_locals.items() if name != "self"}))
                        for p, entry in sorted(self.inside.items()))
         queues = tuple(sorted((repr(name), tuple(queue)) for name, queue in self.monitor._queues.items() if queue))
-        return (self.monitor.variables(), queues, inside, self.turn, frozen(self.answers))
+        return (self.monitor.variables(), queues, inside, self.turn, frozen(self.answers), frozen(self.scene.ghost(self)))
 
     def step(self, p):
         """One event: a call up to its delay or its end, or the rest of one that was delayed. It tells the event's words."""
@@ -158,7 +169,7 @@ def search(scene, most=60000):
         run = replay(scene, way)
         may = run.may()
         if not may:
-            problem = scene.finish(run) if run.ended() else "nobody can go on"
+            problem = scene.finish(run)
             if problem:
                 return Found(len(ways), events, problem, way)
         for p in may:
@@ -200,7 +211,7 @@ def told(scene, way):
             said, came = f"calls {call}", f"{type(failed).__name__}"
         queues = " ".join(f"{name}:" + ",".join(map(str, queue)) for name, queue in run.monitor._queues.items() if queue)
         turn = f" turn:{run.turn}" if run.turn else ""
-        lines.append(f"{number:5} {p} {run.scene.names[p]:10}{said + ' -> ' + came:40}{queues}{turn}".rstrip())
+        lines.append(f"{number:5} {p} {run.scene.names[p]:12}{said + ' -> ' + came:40}{queues}{turn}".rstrip())
     return lines
 
 

@@ -61,5 +61,5 @@ def scene(cards, hand_over):
 
     def finish(run):
         taken = run.answers[3]
-        return None if sorted(taken) == sorted(words) else f"taken were {taken}"
+        return None if run.ended() and sorted(taken) == sorted(words) else f"nobody can go on, and taken were {taken}"
     return Scene(Places if hand_over else Place, processes, judge, finish, hand_over)
