@@ -1,9 +1,9 @@
-use Rattle.real_time.specs.Unstuck.{sound}
-use Rattle.real_time.specs.Sureness.{sure}
-use Rattle.real_time.specs.Consoles.{timed}
-use Rattle.real_time.specs.Reaching.{holds}
-use Rattle.real_time.specs.Weights.{falls}
-use Rattle.real_time.specs.LineDeeds.{line-shows, line-starts}
+use Rattle.real_time.proofs.Unstuck.{sound}
+use Rattle.real_time.proofs.Sureness.{sure}
+use Rattle.real_time.proofs.Consoles.{timed}
+use Rattle.real_time.proofs.Reaching.{holds}
+use Rattle.real_time.proofs.Weights.{falls}
+use Rattle.real_time.proofs.LineDeeds.{line-shows, line-starts}
 use Rattle.real_time.proofs.laws.timing_law.Goals as goal
 
 pub returns-clause-sound : goal.returns-clause-sound

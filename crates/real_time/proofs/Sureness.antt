@@ -25,9 +25,10 @@ use Rattle.real_time.specs.Deeds.{Deed, Enters, Shows, Wakes, Returns}
 use Rattle.real_time.specs.Table.{Table, MayComeIn, all_left, has_left, sleeper_at, operator_resumed, seat_queue, woken_by}
 use Rattle.real_time.specs.States.{Stage, Works, Closes, Joins, Tells, Ended, TimeState, Opening, opened, ended_at, Action, Reads, Prints, Calls, Ends, Nothing, action_at, TimeEvent, Accepts, Displays, Moves, process_of, keys_behind, after_woken, joined_by, join_move, operator_move, task_move, move_of, occurs, OperatorMay, TaskMay, MayMove, IsMove, MayHappen}
 use Rattle.real_time.specs.TimesLaw.{timing, IsTypedAnswer, IsUntroubled, longest_of}
-use Rattle.real_time.specs.Reaching.{Holds, at-opening, keeps}
-use Rattle.real_time.specs.Accounts.{accounts}
-use Rattle.real_time.specs.Weights.{falls, lines_read, work_left}
+use Rattle.real_time.proofs.Reaching.{Holds, at-opening, keeps}
+use Rattle.real_time.proofs.Accounts.{accounts}
+use Rattle.real_time.specs.Weights.{lines_read, work_left}
+use Rattle.real_time.proofs.Weights.{falls}
 use Rattle.std.proofs.lemmas.List.{append-nil}
 
 -- ---- who may go on can be told
