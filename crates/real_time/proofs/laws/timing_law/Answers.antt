@@ -1,5 +1,5 @@
 use Rattle.real_time.proofs.Unstuck.{sound}
-use Rattle.real_time.proofs.Sureness.{sure}
+use Rattle.real_time.proofs.Sureness.{few-events, sure}
 use Rattle.real_time.proofs.Consoles.{timed}
 use Rattle.real_time.proofs.Reaching.{holds}
 use Rattle.real_time.proofs.Weights.{falls}
@@ -20,6 +20,9 @@ returns-clause-orderly c = λ o s reached. (holds o s reached).table
 
 pub returns-clause-falls : goal.returns-clause-falls
 returns-clause-falls c = λ o s event reached is. falls s event (holds o s reached) is
+
+pub returns-clause-bound : goal.returns-clause-bound
+returns-clause-bound c = few-events
 
 pub returns-clause-lines : goal.returns-clause-lines
 returns-clause-lines c = line-shows
