@@ -23,7 +23,8 @@ pub trait JobWork: HasJobs + Drop {
 
     /// The first file of the jobs that were fed whose load wasn't given yet.
     fn wants(&self) -> Option<Ident>
-        ensures { (told : JobTold Self.Load) → keeps self.now told → result ≡ first_of (wanted Self.jobs told) };
+        ensures { (told : JobTold Self.Load) → keeps self.now told
+            → result ≡ first_of (wanted Self.jobs told) };
 
     /// Gives what was found of that file.
     fn load(&mut self, load: Self::Load)

@@ -17,7 +17,7 @@ use Rattle.network_law.specs.Network.{IsEnabled, happens}
 use Rattle.network_law.specs.Stepping.{MayGo}
 use Rattle.network_law.proofs.Goers as goers
 use Rattle.network_law.proofs.Telling.{may-tell}
-use Rattle.core_law.specs.Core.{Devices, Allows, core, read_off, items_by, upstream, CoreState, CoreEvent}
+use Rattle.core_law.specs.Core.{Devices, Allows, core, read_off, upstream, CoreState, CoreEvent}
 use Rattle.core_law.specs.Ends.{IsProcess, IsSmooth}
 use Rattle.core_law.specs.Opening.{AreGoodFiles, Opening, told_of, first_state}
 use Rattle.core_law.specs.TheLaw.{TellsAll, the_openings, the_law, IsReached}

@@ -24,7 +24,7 @@ use Rattle.real_time.specs.Deeds.{Deed, Enters, Shows, Wakes, Returns, deeds_of,
 use Rattle.real_time.specs.States.{Stage, Works, Closes, Joins, Tells, Ended, TimeState, ended_at, names_by, Prints, action_at, TimeEvent, Accepts, Displays, Moves, keys_behind, after_item, after_accept, behind_display, behind_fault, after_display, after_woken, joined_by, join_move, operator_move, stage_told, waits, task_move, occurs, OperatorMay, TaskMay, IsMove, MayHappen}
 use Rattle.real_time.proofs.Reaching.{Fits, Holds, reads-at, not-awaiting, is-outside, awaited-is}
 use Rattle.solo_base.specs.declared.outcome.Cause.{Cause}
-use Rattle.real_time.specs.Weights.{deed_weight, deeds_weight, stage_weight, operator_weight, turn_weight, task_weight, task_work_at, tasks_weight, work_left, lines_read}
+use Rattle.real_time.specs.Weights.{deeds_weight, stage_weight, operator_weight, turn_weight, task_work_at, tasks_weight, work_left, lines_read}
 
 -- ---- the deeds of a line
 weight-append : (some more : List Deed) → deeds_weight (some ++ more) ≡ deeds_weight some + deeds_weight more

@@ -1,5 +1,5 @@
 -- The law of the nine processes at their time table.
-use Rattle.std.specs.Prelude.{◌≡◌, ℕ, List, None, Some}
+use Rattle.std.specs.Prelude.{◌≡◌, List, None, Some}
 use Rattle.solo_base.specs.declared.item.Item.{Item}
 use Rattle.solo_devices.specs.declared.card_read.CardRead.{CardRead}
 use Rattle.solo_devices.specs.declared.card_read.CardRead.TheVariants as read

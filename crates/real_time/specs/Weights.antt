@@ -42,7 +42,8 @@ task_weight false false (Some p) = 3
 task_weight false false None = 4
 
 abbrev pub task_work_at : List Bool → Table → ℕ → ℕ
-task_work_at ended t place = task_weight (slice_index_or ended place true) (has_left t place) (sleeper_at t.queues place)
+task_work_at ended t place =
+    task_weight (slice_index_or ended place true) (has_left t place) (sleeper_at t.queues place)
 
 -- of so many tasks
 abbrev pub tasks_weight : ℕ → List Bool → Table → ℕ
@@ -50,7 +51,8 @@ tasks_weight zero ended t = 0
 tasks_weight (suc place) ended t = tasks_weight place ended t + task_work_at ended t place
 
 abbrev pub work_left : TimeState → ℕ
-work_left s = stage_weight s.stage + operator_weight s.table.operator + turn_weight s.table.turn + tasks_weight 8 s.ended s.table
+work_left s = stage_weight s.stage + operator_weight s.table.operator + turn_weight s.table.turn
+    + tasks_weight 8 s.ended s.table
 
 -- whether a line is read
 abbrev pub lines_read : TimeEvent → ℕ
