@@ -87,7 +87,7 @@ pub record SoloOpening : Type 0 where
   pub devices : Devices
   pub sound : AreSound devices
 
--- A program may ask for typed lines as long as there are any, so of no opening it is said how long a run is.
+-- A program may ask for typed lines as long as there are any, so of no opening it is said that runs end.
 abbrev pub openings : Openings Devices SoloEntry
 openings = record {
   Opening = SoloOpening;
@@ -95,7 +95,6 @@ openings = record {
   sizes = λ o b. 1;
   told = λ o b. true;
   IsTold = λ o. ⊥;
-  longest = λ o. 0;
   IsSmooth = IsSmooth;
 }
 
