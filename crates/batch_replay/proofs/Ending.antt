@@ -35,7 +35,7 @@ use Rattle.batch_sides.specs.Lines.{does_printer}
 use Rattle.batch_sides.specs.Input.{does_input}
 use Rattle.batch_sides.specs.Job.{does_job}
 use Rattle.batch_sides.specs.Output.{does_output}
-use Rattle.batch_sides.specs.DoesOnly.{card-does, input-does, job-does, output-does, printer-does}
+use Rattle.batch_sides.proofs.DoesOnly.{card-does, input-does, job-does, output-does, printer-does}
 use Rattle.batch_sides.proofs.LineCalls as line_calls_are
 use Rattle.batch_sides.proofs.SpoolCalls as spool_calls_are
 use Rattle.batch_replay.proofs.Streams.{PutsFeeds, PutsPages, TakesFeeds, TakesPages, line-sent, line-taken, line-part, spool-sent, spool-taken, spool-part}

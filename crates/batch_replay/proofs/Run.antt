@@ -37,7 +37,7 @@ use Rattle.batch_sides.specs.Lines.{does_printer}
 use Rattle.batch_sides.specs.Input.{does_input}
 use Rattle.batch_sides.specs.Job.{does_job}
 use Rattle.batch_sides.specs.Output.{does_output}
-use Rattle.batch_sides.specs.DoesOnly.{card-does, input-does, job-does, output-does, printer-does}
+use Rattle.batch_sides.proofs.DoesOnly.{card-does, input-does, job-does, output-does, printer-does}
 use Rattle.batch_replay.specs.FiveRan.{BatchRan, histories}
 use Rattle.batch_replay.proofs.Ending as ending
 use Rattle.batch_replay.proofs.Streams.{PutsFeeds, PutsPages, TakesFeeds, TakesPages}

@@ -46,7 +46,7 @@ use Rattle.batch_ends.specs.Causes.{Counts}
 use Rattle.batch_ends.specs.Ended.{outcome_at, all_done, none_stopped, stopped_at, StoppedBeside, SomeFault, EndTogether, FaultsAre, NoneDamaged}
 use Rattle.batch_ends.specs.Faults.{FaultsAreCounted}
 use Rattle.batch_ends.specs.declared.ends.Ran.{Ran}
-use Rattle.batch_sides.specs.DoesOnly.{card-does, input-does, job-does, output-does, printer-does}
+use Rattle.batch_sides.proofs.DoesOnly.{card-does, input-does, job-does, output-does, printer-does}
 use Rattle.batch_sides.specs.Files.{FileTells}
 use Rattle.batch_replay.specs.FiveRan.{BatchRan, FiveRan, histories}
 use Rattle.batch_sides.specs.Lines.{does_printer, newest_print}

@@ -27,7 +27,7 @@ use Rattle.batch_sides.specs.Lines.{PaperRan, PrinterMayMake, PrinterMade, Print
 use Rattle.batch_sides.specs.Running.{Performed}
 use Rattle.batch_sides.proofs.LineCalls.{not-stopped}
 use Rattle.batch_sides.proofs.Papers.{paper-printed}
-use Rattle.batch_sides.specs.DoesOnly.{printer-does}
+use Rattle.batch_sides.proofs.DoesOnly.{printer-does}
 use Rattle.batch_sides.proofs.Performing.{both-as, only-does}
 
 module _ {L : Type 0} {J : Jobs L} (jobs : AreJobs J) where

@@ -10,7 +10,8 @@ use Rattle.solo_devices.specs.PrinterUnit.{Gains}
 use Rattle.batch_job.specs.OneThread.{one_thread_output}
 use Rattle.batch_job.specs.Report.{Loads}
 use Rattle.core_law.specs.Core.{Devices as CoreDevices}
-use Rattle.deck_work.specs.DeckJobs.{deck_jobs, AreFound, files_found, found_are_loads}
+use Rattle.deck_work.specs.DeckJobs.{deck_jobs, AreFound, files_found}
+use Rattle.deck_work.specs.DeckLaws.{found_are_loads}
 use Rattle.batch_ends.specs.Ended.{NoneDamaged, all_done}
 use Rattle.net_core.specs.WholeRuns.{RunsToEnd}
 use Rattle.disk_contents.specs.declared.loading.Loaded.{Loaded}

@@ -12,7 +12,8 @@ use Rattle.batch_procs.specs.Faults.{IsDamaged}
 use Rattle.core_law.specs.TheLaw.{the_law}
 use Rattle.batch_ends.specs.Ended.{TellsWhere, all_done}
 use Rattle.batch_ends.specs.declared.ends.Outcomes.{Outcomes}
-use Rattle.deck_work.specs.DeckJobs.{deck_jobs, files_found, found_are_loads}
+use Rattle.deck_work.specs.DeckJobs.{deck_jobs, files_found}
+use Rattle.deck_work.specs.DeckLaws.{found_are_loads}
 use Rattle.batch_job.specs.Report.{Loads, no_files}
 use Rattle.made_deck.specs.MadeDeck.{made_deck}
 use Rattle.network_run.specs.OneRun.{AreItsCounts}

@@ -13,7 +13,8 @@ use Rattle.batch_ends.specs.Ended.{TellsWhere}
 use Rattle.batch_job.specs.OneThread.{one_thread_output}
 use Rattle.core_law.specs.Holds.{AreTold}
 use Rattle.core_law.specs.Opening.{AreInBounds}
-use Rattle.deck_work.specs.DeckJobs.{files_found, found_are_loads}
+use Rattle.deck_work.specs.DeckJobs.{files_found}
+use Rattle.deck_work.specs.DeckLaws.{found_are_loads}
 use Rattle.made_deck.specs.MadeDeck.{made_deck}
 use Rattle.network_run.specs.declared.rules.Rule.TheVariants.{Numbered}
 use Rattle.solo_cli.specs.declared.refusal.Refusal.{Refusal}

@@ -20,11 +20,11 @@ use Rattle.network_run.proofs.OneRun.{its-counts}
 use Rattle.real_time.specs.declared.table.Woken.{Woken}
 use Rattle.real_time.specs.declared.table.Woken.TheVariants as woken
 use Rattle.real_time.specs.Deeds.{Deed, Enters, Shows, Wakes, Returns}
-use Rattle.real_time.specs.Sureness.{sure}
+use Rattle.real_time.proofs.Sureness.{sure}
 use Rattle.real_time.specs.States.{Stage, Works, Closes, Joins, Tells, Ended, Accepts, Displays, Moves, TimeEvent, TimeState, after_woken, join_move, joined_by, move_of, occurs, operator_move, task_move}
 use Rattle.real_time.specs.Table.{Table, all_left, has_left, operator_resumed, sleeper_at, woken_by}
 use Rattle.real_time.specs.TimesLaw.{IsUntroubled, timing}
-use Rattle.real_time.specs.Unstuck.{sound}
+use Rattle.real_time.proofs.Unstuck.{sound}
 use Rattle.time_net.specs.declared.net.TimeNet.{TimeNet}
 use Rattle.time_net.specs.TimeStands.{IsCounted, IsFaultOfTimes, TimesStand, OpensOver, Tellers, outcome_with}
 use Rattle.time_net.specs.TimesRuns.{TimesRun, fault_told}

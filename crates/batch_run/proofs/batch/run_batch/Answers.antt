@@ -10,7 +10,7 @@ use Rattle.batch_run.proofs.batch.run_batch.Goals as goal
 
 pub returns-in-Ok-clause-ran : goal.returns-in-Ok-clause-ran
 returns-in-Ok-clause-ran g c =
-    subst (λ units. IfOk c.run_made.result (λ ran. BatchRan g.J.JobWork.jobs g.S.Source.left g.S.Source.taken g.S.Source.faults g.K.Sink.given
+    subst (λ units. IfOk c.run_made.result (λ ran. BatchRan g.J.HasJobs.jobs g.S.Source.left g.S.Source.taken g.S.Source.faults g.K.Sink.given
     g.K.Sink.faults (loading g.F.Loader.found g.F.Loader.pages g.F.Loader.faults g.F.Loader.sound) g.A.Area.size g.A.Area.pages
     g.A.Area.faults g.B.Area.size g.B.Area.pages g.B.Area.faults units ran))
     (same-units c.args.units _ _ c.in-Ok.ensures.areas.0 c.in-Ok.ensures.areas.1) c.run_made.ensures.ran

@@ -1,7 +1,9 @@
 use Rattle.std.proofs.Common.{◌≡◌, Some, [], refl, sym, ◌∙◌, ap, subst, arith}
 use Rattle.solo_base.specs.Card.{cards}
 use Rattle.solo_base.specs.Text.{text}
-use Rattle.deck_work.specs.DeckJobs.{deck_jobs, files_found, found_are_loads, one_thread_is}
+use Rattle.deck_work.specs.DeckJobs.{deck_jobs, files_found}
+use Rattle.deck_work.specs.DeckLaws.{found_are_loads}
+use Rattle.deck_work.proofs.OneThread.{one_thread_is}
 use Rattle.solo_devices.specs.Count.{Rose}
 use Rattle.solo_devices.specs.CardUnit.{bytes_total, items_ahead}
 use Rattle.solo_cli.specs.Decides.{Nothing}

@@ -4,7 +4,8 @@ use Rattle.solo_base.specs.Text.{line_text, text}
 use Rattle.solo_devices.specs.Count.{Rose}
 use Rattle.core_law.specs.Opening.{opened}
 use Rattle.net_core.specs.WholeRuns.{RunsToEnd}
-use Rattle.deck_work.specs.DeckJobs.{deck_jobs, files_found, one_thread_is}
+use Rattle.deck_work.specs.DeckJobs.{deck_jobs, files_found}
+use Rattle.deck_work.proofs.OneThread.{one_thread_is}
 use Rattle.network_run.specs.declared.rules.Rule.TheVariants.{Numbered}
 use Rattle.solo_devices.specs.CardUnit.{bytes_total, items_ahead}
 use Rattle.solo_cli.specs.Decides.{LineBehind, decides, list_of}

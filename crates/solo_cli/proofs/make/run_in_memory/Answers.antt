@@ -9,7 +9,9 @@ use Rattle.core_law.specs.Core.{Devices}
 use Rattle.core_law.specs.Opening.{opened}
 use Rattle.network_run.specs.declared.rules.Rule.TheVariants.{Numbered}
 use Rattle.batch_ends.specs.Openings.{spools_over}
-use Rattle.deck_work.specs.DeckJobs.{deck_jobs, files_found, found_are_loads, one_thread_is}
+use Rattle.deck_work.specs.DeckJobs.{deck_jobs, files_found}
+use Rattle.deck_work.specs.DeckLaws.{found_are_loads}
+use Rattle.deck_work.proofs.OneThread.{one_thread_is}
 use Rattle.net_core.specs.WholeRuns.{RunsToEnd}
 use Rattle.solo_cli.specs.Causes.{IsMakeCause}
 use Rattle.solo_cli.specs.Decides.{LowestDecides, Nothing, decides, list_of}

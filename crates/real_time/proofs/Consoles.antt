@@ -15,8 +15,8 @@ use Rattle.real_time.specs.Deeds.{Deed, Enters, Shows, Wakes, Returns}
 use Rattle.real_time.specs.States.{Stage, Works, Closes, Joins, Tells, Ended, TimeState, Opening, opened, seen_at, Prints, action_at, TimeEvent, Accepts, Displays, Moves, after_accept, behind_display, lines_printed, after_display, after_woken, joined_by, join_move, operator_move, task_move, occurs, MayHappen}
 use Rattle.real_time.specs.TimesLaw.{timing}
 use Rattle.real_time.specs.Owed.{lines_owed, starts_owed, pending_of, IsBehind}
-use Rattle.real_time.specs.Reaching.{Holds, at-opening, keeps, holds, Fits}
-use Rattle.real_time.specs.Accounts.{Accounts, Displayed, accounts, accounts-open, closed-pending, displays-first, keeps-accounts}
+use Rattle.real_time.proofs.Reaching.{Holds, at-opening, keeps, holds, Fits}
+use Rattle.real_time.proofs.Accounts.{Accounts, Displayed, accounts, accounts-open, closed-pending, displays-first, keeps-accounts}
 use Rattle.real_time.specs.Timed.{IsDone, IsWhole, IsTimed}
 use Rattle.real_time.specs.declared.table.Woken.{Woken}
 use Rattle.network_run.specs.declared.stepped.Stepped.{Stepped}

@@ -30,9 +30,9 @@ use Rattle.real_time.specs.Deeds.{Deed, Enters, Shows, Wakes, Returns, starts, s
 use Rattle.real_time.specs.States.{Stage, Works, Closes, Joins, Tells, Ended, TimeState, Opening, opened, seen_at, Prints, told_line, action_at, TimeEvent, Accepts, Displays, Moves, keys_behind, after_item, after_accept, behind_display, behind_fault, display_cause, lines_printed, after_display, after_woken, names_by, names_told, joined_by, join_move, operator_move, with_start, stage_told, waits, task_move, occurs, OperatorMay, TaskMay, IsMove, MayHappen}
 use Rattle.real_time.specs.TimesLaw.{timing}
 use Rattle.real_time.specs.Owed.{lines_shown, starts_by, lines_owed, starts_owed, pending, pending_of, LinesAdd, StartsAdd, IsBehind}
-use Rattle.real_time.specs.LineDeeds.{line-shows, line-starts}
-use Rattle.real_time.specs.Counted.{behind_all, runs-told}
-use Rattle.real_time.specs.Reaching.{Fits, Holds, at-opening, keeps, reads-at, not-awaiting, is-outside, awaited-is}
+use Rattle.real_time.proofs.LineDeeds.{line-shows, line-starts}
+use Rattle.real_time.proofs.Counted.{behind_all, runs-told}
+use Rattle.real_time.proofs.Reaching.{Fits, Holds, at-opening, keeps, reads-at, not-awaiting, is-outside, awaited-is}
 
 -- the names that are still told are those of the tasks from the place on
 abbrev pub IsTelling : Stage → Option Cause → List (List ℕ) → Type 0

@@ -24,10 +24,11 @@ use Rattle.real_time.specs.declared.table.Woken.TheVariants as woken
 use Rattle.real_time.specs.Deeds.{Deed, Enters, Shows, Wakes, Returns}
 use Rattle.real_time.specs.Table.{Table, MayComeIn, all_left, has_left, sleeper_at, operator_resumed, seat_queue, woken_by}
 use Rattle.real_time.specs.States.{Stage, Works, Closes, Joins, Tells, Ended, TimeState, Opening, opened, ended_at, Action, Reads, Prints, Calls, Ends, Nothing, action_at, TimeEvent, Accepts, Displays, Moves, process_of, keys_behind, after_woken, joined_by, join_move, operator_move, task_move, move_of, occurs, OperatorMay, TaskMay, MayMove, IsMove, MayHappen}
-use Rattle.real_time.specs.TimesLaw.{timing, IsTypedAnswer, IsUntroubled, longest_of}
-use Rattle.real_time.specs.Reaching.{Holds, at-opening, keeps}
-use Rattle.real_time.specs.Accounts.{accounts}
-use Rattle.real_time.specs.Weights.{falls, lines_read, work_left}
+use Rattle.real_time.specs.TimesLaw.{timing, IsTypedAnswer, IsUntroubled}
+use Rattle.real_time.proofs.Reaching.{Holds, at-opening, keeps}
+use Rattle.real_time.proofs.Accounts.{accounts}
+use Rattle.real_time.specs.Weights.{lines_read, work_left}
+use Rattle.real_time.proofs.Weights.{falls}
 use Rattle.std.proofs.lemmas.List.{append-nil}
 
 -- ---- who may go on can be told
@@ -314,12 +315,12 @@ no-longer s (event ∷ events) rest h keys all =
     let more = no-longer (occurs s event) events later (keeps s event h all.0) is all.1 in
     omega (arith, less, sum, more)
 
-few-events : (o : Opening) (events : List TimeEvent) → (items : List Item) → o.keys ≡ Some items → AreEnabled timing (opened o) events
-    → length events ≤ longest_of o.keys
-few-events o events items told all =
+pub few-events : (o : Opening) (items : List Item) (events : List TimeEvent) → o.keys ≡ Some items → AreEnabled timing (opened o) events
+    → length events ≤ 90000000 * length items + 1000
+few-events o items events told all =
     let few = no-longer (opened o) events items (at-opening o) told all in
     let start : work_left (opened o) ≡ 87 = refl in
-    rw told (omega (arith, few, start))
+    omega (arith, few, start)
 
 pub sure : IsSureLaw timing
 sure = record {
@@ -331,5 +332,5 @@ sure = record {
       let a = accounts o s told.0 reached told.1 in
       let some = some-of s a.rest p a.keys may in
       (some.event, some.is, some.process_is, some.smooth);
-  no_longer = λ o events told all. few-events o events told.0 told.1 all;
+  no_longer = λ o told. (90000000 * length told.0 + 1000, λ events all. few-events o told.0 events told.1 all);
 }

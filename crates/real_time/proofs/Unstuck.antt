@@ -12,7 +12,7 @@ use Rattle.real_time.specs.Table.{Table, MayComeIn, has_left, sleeper_at}
 use Rattle.real_time.specs.Deeds.{Enters, Shows, Wakes, Returns}
 use Rattle.real_time.specs.States.{Stage, Works, Closes, Joins, Tells, Ended, TimeState, Opening, opened, ended_at, action_at, TimeEvent, Accepts, Displays, Moves, process_of, OperatorMay, TaskMay, MayMove, HasEnded, MayHappen}
 use Rattle.real_time.specs.TimesLaw.{timing}
-use Rattle.real_time.specs.Reaching.{Holds, Fits, holds}
+use Rattle.real_time.proofs.Reaching.{Holds, Fits, holds}
 
 -- a place at which something is lies in the list
 in-list : (queues : List (Option ℕ)) (place p : ℕ) → sleeper_at queues place ≡ Some p → place < length queues

@@ -18,7 +18,7 @@ use Rattle.real_time.specs.declared.table.Waited.{Waited}
 use Rattle.real_time.specs.declared.table.Waited.TheVariants as waited
 use Rattle.real_time.specs.Table.{Table, MayComeIn, after_close, behind_wait, after_wake, all_left, behind_leave, has_left, sleeper_at, is_awaited, operator_resumed, out_of_queue, woken_by}
 use Rattle.real_time.specs.Orderly.{IsOrderly}
-use Rattle.real_time.specs.Entries.{opens, continues, awaits, closes, joins, operator-resumes, leaves, starts, sleeps, resumes, resumes-leaving}
+use Rattle.real_time.proofs.Entries.{opens, continues, awaits, closes, joins, operator-resumes, leaves, starts, sleeps, resumes, resumes-leaving}
 use Rattle.real_time.specs.Typed.{Typed, Blank, Names, Plans, Stops, Passes, Bad, typed}
 use Rattle.real_time.specs.Starts.{Script, Change, answer, behind_line, behind_seconds, is_due, is_task, may_plan, next_second, plan_of, within_clock}
 use Rattle.real_time.specs.Deeds.{Deed, Enters, Shows, Wakes, Returns, deeds_of, deeds_of_seconds, shows_start, wakes_of}
