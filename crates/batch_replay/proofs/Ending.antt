@@ -29,7 +29,7 @@ use Rattle.core_law.proofs.Row.{each-buffer}
 use Rattle.core_law.proofs.Passing.{HandOver}
 use Rattle.core_law.proofs.Stopping.{AreFirst, WasToldBy}
 use Rattle.batch_sides.specs.Calls.{line_calls, spool_calls}
-use Rattle.batch_run.specs.FiveRan.{FiveRan, histories}
+use Rattle.batch_replay.specs.FiveRan.{FiveRan, histories}
 use Rattle.batch_sides.specs.Cards.{does_card}
 use Rattle.batch_sides.specs.Lines.{does_printer}
 use Rattle.batch_sides.specs.Input.{does_input}
@@ -38,8 +38,8 @@ use Rattle.batch_sides.specs.Output.{does_output}
 use Rattle.batch_sides.proofs.DoesOnly.{card-does, input-does, job-does, output-does, printer-does}
 use Rattle.batch_sides.proofs.LineCalls as line_calls_are
 use Rattle.batch_sides.proofs.SpoolCalls as spool_calls_are
-use Rattle.batch_run.proofs.Streams.{PutsFeeds, PutsPages, TakesFeeds, TakesPages, line-sent, line-taken, line-part, spool-sent, spool-taken, spool-part}
-use Rattle.batch_run.proofs.Given.{was-told, put-refused, take-refused, room-refused, item-refused}
+use Rattle.batch_replay.proofs.Streams.{PutsFeeds, PutsPages, TakesFeeds, TakesPages, line-sent, line-taken, line-part, spool-sent, spool-taken, spool-part}
+use Rattle.batch_replay.proofs.Given.{was-told, put-refused, take-refused, room-refused, item-refused}
 use Rattle.batch_procs.specs.Jobs.{Jobs, AreJobs}
 
 -- ---- the calls of both sides of a buffer, by the histories
@@ -47,6 +47,11 @@ pub line-met : (s r s' r' : List (SlotCall Feed)) (rest : Option Feed) (first : 
     → lines.Meets (by_side s' r') rest first
 line-met s r s' r' rest first a b met =
     subst (λ s. lines.Meets (by_side s r') rest first) a (subst (λ r. lines.Meets (by_side s r) rest first) b met)
+
+pub room-met : (s r s' r' : List (SpoolCall (List ℕ))) (size left : ℕ) → s ≡ s' → r ≡ r' → spools.MeetsRoom size (by_side s r) left
+    → spools.MeetsRoom size (by_side s' r') left
+room-met s r s' r' size left a b met =
+    subst (λ s. spools.MeetsRoom size (by_side s r') left) a (subst (λ r. spools.MeetsRoom size (by_side s r) left) b met)
 
 module _ {A : Type 0} (told_by : A → Option (List (List ℕ))) (faults : A → ℕ) (opening area : A) where
   pub spool-met : (s r s' r' : List (SpoolCall (List ℕ))) (left : ℕ) (first : Option Side) → s ≡ s' → r ≡ r'

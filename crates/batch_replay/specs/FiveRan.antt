@@ -1,6 +1,7 @@
 -- What the five did, by five histories: each did what its history asks for, their calls at the buffers have met,
 -- and the devices have become what they are by these.
 use Rattle.std.specs.Prelude.{◌≡◌, ◌==◌, ℕ, if◌then◌else◌, List, [], ◌∷◌, Option, Some}
+use Rattle.std.specs.List.{AllByRecursion}
 use Rattle.solo_base.specs.declared.item.Feed.{Feed}
 use Rattle.solo_base.specs.declared.outcome.Outcome.{Outcome}
 use Rattle.solo_base.specs.declared.outcome.Outcome.TheVariants as outcome
@@ -23,6 +24,7 @@ use Rattle.batch_sides.specs.Calls.{line_calls, spool_calls}
 use Rattle.batch_sides.specs.Cards.{DeckRan}
 use Rattle.batch_sides.specs.Files.{FileTells, FilesRan}
 use Rattle.batch_sides.specs.Lines.{PaperRan}
+use Rattle.batch_sides.specs.Running.{IsPrompt}
 
 -- Each history follows its process. At each buffer the calls of both sides have met: what was taken and what
 -- is left inside is what was put, and it is known which side stopped first.
@@ -69,10 +71,11 @@ module _ {L A B : Type 0} {J : Jobs L} {input_told : A → Option (List (List �
       else if p == 5 then ran.printer_history
       else []
 
--- A process ended so, and what it sent is a first part of its list function of what it took, and all of it
+-- A process ended so, none of its calls waited, and what it sent is a first part of its list function of what it took, and all of it
 -- where it is done.
 pub record EndedSo {L : Type 0} (p : Process L) (h : List (Entry L)) (how : Outcome) : Type 0 where
   pub ended : newest h ≡ Some (act.Ended how)
+  pub prompt : AllByRecursion IsPrompt h
   pub sends : IsPrefixOf (sent h) (p.sends (taken h))
   pub all : how ≡ outcome.Done → sent h ≡ p.sends (taken h)
 
@@ -80,11 +83,18 @@ pub record EndedSo {L : Type 0} (p : Process L) (h : List (Entry L)) (how : Outc
 pub record BatchRan {L S K F A B : Type 0} (J : Jobs L) (left : S → Option (List ℕ))
     (taken source_faults : S → ℕ)
     (given : K → Option (List ℕ)) (sink_faults : K → ℕ) (loader : FileTells L F)
-    (input_told : A → Option (List (List ℕ))) (input_faults : A → ℕ)
-    (output_told : B → Option (List (List ℕ))) (output_faults : B → ℕ)
+    (from_size : A → ℕ) (input_told : A → Option (List (List ℕ))) (input_faults : A → ℕ)
+    (to_size : B → ℕ) (output_told : B → Option (List (List ℕ))) (output_faults : B → ℕ)
     (units : Units S K F A B) (ran : Ran S K F A B) : Type 0 where
   pub five : FiveRan J input_told input_faults output_told output_faults units.input ran.units.input
       units.output ran.units.output (stopped_at ran.stopped_by)
+  -- no more rests in a spool than its area has pages, room was found only where it was, and a page only where
+  -- one was put
+  pub input_room : spools.MeetsRoom (from_size units.input)
+      (by_side (spool_calls Sender 2 five.input_history) (spool_calls Receiver 2 five.job_history)) five.input_left
+  pub output_room : spools.MeetsRoom (to_size units.output)
+      (by_side (spool_calls Sender 3 five.job_history) (spool_calls Receiver 3 five.output_history))
+      five.output_left
   -- each outcome is that of its history, and the four sides are those that stopped the four buffers first
   pub ends : (p : ℕ) → IsProcess p → EndedSo (process J p) (histories five p) (outcome_at ran.outcomes p)
   pub four : ran.stopped_by ≡ stopped_at ran.stopped_by 1 ∷ stopped_at ran.stopped_by 2
