@@ -14,8 +14,9 @@ from wrong import WRONG, failing  # noqa: F401
 NAMES = ("disk-first", "no-continue", "signal-and-leave", "no-stop", "two-disks", "early-last")
 
 
-def problem_of(five, right):
-    """What is wrong with a state: two have the disk, nobody can go on, or all have ended and the paper is another one."""
+def problem_of(whole, right):
+    """What is wrong with a state: two have the disk, nobody can go on, or all have ended and the paper is another one; a first part of it will
+    do where it needn't be whole."""
     def wrong(graph, state, moves):
         holder = graph.values["disk"][state[graph.places["disk"]]]["holder"]
         if isinstance(holder, str):
@@ -25,7 +26,7 @@ def problem_of(five, right):
         if not graph.ended(state):
             return "nobody can go on"
         paper = tables.paper_of(graph, state)
-        if paper != right[:len(paper)] or five.whole and paper != right:
+        if paper != right[:len(paper)] or whole and paper != right:
             return "all have ended, and the paper isn't that of the jobs one after another"
         return None
     return wrong
@@ -44,10 +45,10 @@ def show(options, five, most):
         return
     wrong = WRONG[options.wrong]
     room = options.page or (five.least_page() if options.wrong == "early-last" else None)
-    five.whole = options.wrong != "no-stop"
+    whole = options.wrong != "no-stop"
     right = right_paper(five, room)
     graph = five.graph(wrong, room)
-    search = Search(graph, most, problem_of(five, right))
+    search = Search(graph, most, problem_of(whole, right))
     print(f"{options.deck}, {options.wrong}: {sentence(wrong)}")
     if not search.problem:
         print(f"  nothing goes wrong in {len(search.states)} states: the deck is too small for that, or its spools too large")
@@ -62,7 +63,7 @@ def show(options, five, most):
         title = f"{options.wrong}: {search.problem}, events 1 to {len(events)} of {len(events)}"
         Path(options.picture).write_text(Picture(title, five.names, events).text())
     if options.odds:
-        print_odds(five, wrong, room, right, most)
+        print_odds(five, wrong, room, problem_of(whole, right), right, most)
 
 
 def sentence(function):
@@ -83,10 +84,10 @@ def behind(search, five, core, right):
         yield f"should be: {shown(right)}"
 
 
-def print_odds(five, wrong, room, right, most):
+def print_odds(five, wrong, room, judge, right, most):
     """All states of the wrong five, and how often a run goes wrong."""
     graph = five.graph(wrong, room)
-    search, judge = Search(graph, most), problem_of(five, right)
+    search = Search(graph, most)
     bad = {at for at, state in enumerate(search.states) if judge(graph, state, graph.moves(state))}
     orders = Orders(search, bad)
     well = sum(orders.chance.get(at, 0) for at in search.ends if at not in bad)

@@ -1,5 +1,5 @@
 -- What the five did side by side is a run of the core.
-use Rattle.std.proofs.Common.{◌≡◌, ℕ, Bool, Option, refl, ap, sym, ◌∙◌, lit≤}
+use Rattle.std.proofs.Common.{◌≡◌, Bool, Option, refl, ap, sym, ◌∙◌, lit≤}
 use Rattle.solo_base.specs.declared.outcome.Side.{Side}
 use Rattle.queue_var.specs.BetweenTwo.{WhoStopped}
 use Rattle.batch_procs.specs.Jobs.{Jobs, AreJobs}

@@ -6,7 +6,6 @@ mod ReadToEnd
 mod Mounted
 mod Unmounted
 mod Uncounted
-mod BatchTold
 mod DeckRan
 mod MadeRuns
 mod MemoryRuns

@@ -9,6 +9,8 @@ use Rattle.disk_layout.specs.Format.{IsBad, IsSoloDisk}
 use Rattle.solo_devices.specs.CardUnit.{items_ahead}
 use Rattle.batch_job.specs.OneThread.{one_thread_output}
 use Rattle.core_law.specs.Opening.{opened}
+use Rattle.core_law.specs.TheLaw.{the_law}
+use Rattle.network_run.specs.Law.{IsReached}
 use Rattle.net_core.specs.WholeRuns.{RunsToEnd}
 use Rattle.deck_work.specs.DeckJobs.{deck_jobs, AreFound, files_found}
 use Rattle.made_deck.specs.MadeDeck.{made_deck}
@@ -63,7 +65,15 @@ module _ {S Y K T F I O : Type 0} {before mid after : Kit S Y K T F I O} {answer
 
   -- ---- `batch`
   batch-ends : BatchEnds (moved before mid) after answer → BatchEnds before after answer
-  batch-ends e = record { ends = deck-ends e.ends; histories_are = e.histories_are; each = e.each }
+  batch-ends e = record {
+    ends = deck-ends e.ends;
+    state = e.state;
+    reached = subst (λ pages. IsReached (the_law deck_jobs)
+        (opened (spools_told before) (items_ahead before.deck.left []) before.paper.given (files_found pages)) e.state) m.left e.reached;
+    each = e.each;
+    stopped = e.stopped;
+    paper = e.paper;
+  }
 
   of-batch : RunsBatch (moved before mid) after answer → RunsBatch before after answer
   of-batch ran = record {

@@ -11,15 +11,15 @@ use Rattle.batch_job.specs.OneThread.{one_thread_output}
 use Rattle.network_run.specs.declared.counts.Counts.{Counts}
 use Rattle.network_run.specs.declared.rules.Rule.{Rule}
 use Rattle.network_run.specs.declared.rules.Rule.TheVariants.{Numbered}
+use Rattle.network_run.specs.Law.{IsReached}
 use Rattle.network_run.specs.OneRun.{AreItsCounts}
 use Rattle.core_law.specs.Core.{CoreState, Devices as CoreDevices}
 use Rattle.core_law.specs.Opening.{Spools, opened}
 use Rattle.core_law.specs.TheLaw.{the_law}
-use Rattle.core_law.specs.Ends.{IsProcess}
-use Rattle.batch_procs.specs.Table.{process}
+use Rattle.core_law.specs.Ends.{IsProcess, HasEndedSo}
+use Rattle.core_replay.specs.Five.{AreFirstStops}
 use Rattle.batch_ends.specs.Ended.{outcome_at, stopped_at}
 use Rattle.batch_ends.specs.Openings.{spools_over}
-use Rattle.batch_run.specs.FiveRan.{EndedSo, FiveRan, histories}
 use Rattle.net_core.specs.WholeRuns.{RunsToEnd}
 use Rattle.deck_work.specs.DeckJobs.{AreFound, deck_jobs, files_found}
 use Rattle.solo_cli.specs.declared.refusal.Refusal.{Refusal}
@@ -44,21 +44,18 @@ abbrev pub core_over : {S Y K T F I O : Type 0} → Kit S Y K T F I O → Option
 core_over told deck paper = opened (spools_told told) deck paper (files_found told.files.pages)
 
 -- ---- `batch`
-abbrev pub pages_told : {F : Type 0} → AreaTold F → Option (List (List ℕ))
-pages_told area = area.pages
-
-abbrev pub faults_told : {F : Type 0} → AreaTold F → ℕ
-faults_told area = area.faults
-
--- The five that ran so: each has a history of its own, by which the calls of both sides of each of the four
--- buffers have met, and ended as this history says; by these outcomes the cause is decided.
+-- The five that ran so are a run of the core: some list of enabled events leads, over these devices, to a state in
+-- which each of them has ended with its outcome, where these sides stopped the four buffers first and the paper is
+-- as it is now. By these outcomes the cause is decided.
 pub record BatchEnds {S Y K T F I O : Type 0} (before after : Kit S Y K T F I O) (answer : Option Refusal)
     : Type 0 where
   pub ends : DeckEnds Nothing before after answer
-  pub histories_are : FiveRan deck_jobs pages_told faults_told pages_told faults_told before.input after.input
-      before.output after.output (stopped_at ends.five.stopped_by)
-  pub each : (p : ℕ) → IsProcess p
-      → EndedSo (process deck_jobs p) (histories histories_are p) (outcome_at ends.five.outcomes p)
+  pub state : CoreState Loaded
+  pub reached : IsReached (the_law deck_jobs)
+      (core_over before (items_ahead before.deck.left []) before.paper.given) state
+  pub each : (p : ℕ) → IsProcess p → HasEndedSo state (outcome_at ends.five.outcomes p) p
+  pub stopped : AreFirstStops deck_jobs state (stopped_at ends.five.stopped_by)
+  pub paper : state.devices.paper ≡ after.paper.given
 
 -- The paper gains what one thread prints of the deck, with the files as they are told, or with any where no
 -- job names one; or a prefix of it, and all of it where there is no cause.
