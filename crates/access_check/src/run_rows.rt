@@ -5,8 +5,8 @@ ghost use Rattle.access_check.specs.RunRows.{process_p, process_q, monitor_a, mo
 ghost use Rattle.access_check.specs.RunRows.{to_itself, to_each_other, in_order, LeadsToCycle, LeadsInside, IsHeldUp};
 ghost use Rattle.access_check.specs.declared.fault.AccessFault.TheVariants as why;
 
-/// Of two descriptions that aren't accepted, runs lead to a cycle: of one process, which waits for itself, and
-/// of two. Nothing is done here: the contract is the law.
+/// Of two descriptions that aren't accepted, runs lead to a cycle: of one process, which waits for itself,
+/// and of two. Nothing is done here: the contract is the law.
 pub fn runs_into_cycles()
     ensures itself { judge to_itself ≡ Err (why.Backward monitor_a monitor_a) }
     ensures alone { LeadsToCycle to_itself (Enters process_p monitor_a ∷ []) process_p [] }

@@ -22,7 +22,8 @@ module _ {L : Type 0} {J : Jobs L} (jobs : AreJobs J) {S K F A B : Type 0} {left
     {given : K → Option (List ℕ)} {sink_faults : K → ℕ} {loader : FileTells L F} {from_size : A → ℕ} {input_told : A → Option (List (List ℕ))}
     {input_faults : A → ℕ} {to_size : B → ℕ} {output_told : B → Option (List (List ℕ))} {output_faults : B → ℕ} {units : Units S K F A B} {ran : Ran S K F A B}
     {did : BatchRan J left taken_from source_faults given sink_faults loader from_size input_told input_faults to_size output_told output_faults units ran}
-    {opening : Opening J} (run : IsARun J left taken_from source_faults given sink_faults loader from_size input_told input_faults to_size output_told output_faults
+    {opening : Opening J} (run : IsARun J left taken_from source_faults given sink_faults loader from_size input_told input_faults to_size output_told
+    output_faults
     units ran did opening) where
   done-at : (p : ℕ) → IsProcess p → outcome_at all_done p ≡ outcome.Done
   done-at p one = each-process jobs (λ p. outcome_at all_done p ≡ outcome.Done) p one refl refl refl refl refl
@@ -38,6 +39,12 @@ module _ {L : Type 0} {J : Jobs L} (jobs : AreJobs J) {S K F A B : Type 0} {left
       let gains = run.holds.prints told items found deck are in
       record {
         told = λ before e.
-            (let of = gains.told before e in record { part = of.part; now_is = sym run.paper ∙ of.now_is; prefix = of.prefix; all_is = λ done. of.all_is (all-done done) });
+            (let of = gains.told before e in record {
+              part = of.part;
+              now_is = sym run.paper
+                  ∙ of.now_is;
+              prefix = of.prefix;
+              all_is = λ done. of.all_is (all-done done);
+            });
         untold = λ none. sym run.paper ∙ gains.untold none;
       }

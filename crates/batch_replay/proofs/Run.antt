@@ -164,7 +164,8 @@ module _ {L : Type 0} {J : Jobs L} (jobs : AreJobs J) where
       (units : Units S K F A B) (ran : Ran S K F A B)
       (did : BatchRan J left taken_from source_faults given sink_faults loader from_size input_told input_faults to_size output_told output_faults units ran)
       (opening : Opening J)
-      (opens : OpensOver J left taken_from source_faults given sink_faults loader from_size input_told input_faults to_size output_told output_faults units ran did
+      (opens : OpensOver J left taken_from source_faults given sink_faults loader from_size input_told input_faults to_size output_told output_faults units
+      ran did
       opening) where
     abbrev part : List ℕ
     part = did.paper.gave.0
@@ -188,14 +189,16 @@ module _ {L : Type 0} {J : Jobs L} (jobs : AreJobs J) where
     abbrev MetAt : Spools → ℕ → Type 0
     MetAt spools b = HaveMet (core J (process J)) (size_of spools b) (told_of spools b) H b (first b)
 
-    line-at : (b : ℕ) (rest : _) → lines.Meets (by_side (line_calls Sender b (histories did.five b)) (line_calls Receiver b (histories did.five (suc b)))) rest (first b)
+    line-at : (b : ℕ) (rest : _) → lines.Meets (by_side (line_calls Sender b (histories did.five b)) (line_calls Receiver b (histories did.five
+        (suc b)))) rest (first b)
         → lines.Meets (by_side (line_calls Sender b (H b)) (line_calls Receiver b (H (suc b)))) rest (first b)
     line-at b rest met =
         ending.line-met _ _ _ _ rest (first b) (ap (line_calls Sender b) (sym (same b))) (ap (line_calls Receiver b) (sym (same (suc b)))) met
 
     cards-met : MetAt opening.spools 1
     cards-met =
-        line-met jobs H follows 1 (lit≤ tt, lit≤ tt) (card-does jobs) (input-does jobs) card-puts input-gets card-rooms input-finds did.five.cards_rest (first 1)
+        line-met jobs H follows 1 (lit≤ tt, lit≤ tt) (card-does jobs) (input-does jobs) card-puts input-gets card-rooms input-finds did.five.cards_rest
+        (first 1)
         (line-at 1 did.five.cards_rest did.five.cards) true
 
     lines-met : MetAt opening.spools 4
@@ -210,7 +213,8 @@ module _ {L : Type 0} {J : Jobs L} (jobs : AreJobs J) where
         let room = ending.room-met _ _ _ _ (from_size units.input) did.five.input_left (ap (spool_calls Sender 2) (sym (same 2)))
         (ap (spool_calls Receiver 2) (sym (same 3))) did.input_room in
         subst (λ spools. MetAt spools 2) (sym opens.spools)
-        (spool-met jobs H follows 2 (lit≤ tt, lit≤ tt) (input-does jobs) (job-does jobs) input-pages job-gets input-sends_not job-takes_not input_told input_faults
+        (spool-met jobs H follows 2 (lit≤ tt, lit≤ tt) (input-does jobs) (job-does jobs) input-pages job-gets input-sends_not job-takes_not input_told
+        input_faults
         units.input ran.units.input did.five.input_left (from_size units.input) (first 2) met room
         (is_some (input_told units.input)) (λ e. told-some (input_told ran.units.input) (did.five.input_meets.tells e)))
 
@@ -221,7 +225,8 @@ module _ {L : Type 0} {J : Jobs L} (jobs : AreJobs J) where
         let room = ending.room-met _ _ _ _ (to_size units.output) did.five.output_left (ap (spool_calls Sender 3) (sym (same 3)))
         (ap (spool_calls Receiver 3) (sym (same 4))) did.output_room in
         subst (λ spools. MetAt spools 3) (sym opens.spools)
-        (spool-met jobs H follows 3 (lit≤ tt, lit≤ tt) (job-does jobs) (output-does jobs) job-pages output-gets job-sends_not output-takes_not output_told output_faults
+        (spool-met jobs H follows 3 (lit≤ tt, lit≤ tt) (job-does jobs) (output-does jobs) job-pages output-gets job-sends_not output-takes_not output_told
+        output_faults
         units.output ran.units.output did.five.output_left (to_size units.output) (first 3) met room
         (is_some (output_told units.output)) (λ e. told-some (output_told ran.units.output) (did.five.output_meets.tells e)))
 
@@ -234,7 +239,8 @@ module _ {L : Type 0} {J : Jobs L} (jobs : AreJobs J) where
         untold-allowed jobs card (card-does jobs) card-plain (devices_at opening) part e did.five.card_history did.five.card_follows
     card-allowed (Some items) e =
         let reads = did.deck.reads items (sym opens.deck ∙ e) in
-        (reads-allowed jobs card (card-does jobs) card-plain (devices_at opening) part items e did.five.card_history did.five.card_follows reads.0 reads.2 reads.3).0
+        (reads-allowed jobs card (card-does jobs) card-plain (devices_at opening) part items e did.five.card_history did.five.card_follows reads.0 reads.2
+        reads.3).0
 
     allowed-at : (p : ℕ) → IsProcess p → Allowed_at p
     allowed-at p one =
@@ -243,7 +249,8 @@ module _ {L : Type 0} {J : Jobs L} (jobs : AreJobs J) where
         (loads-allowed jobs (job J) (job-does jobs) job-plain (devices_at opening) part did.five.job_history did.five.job_follows
         (λ found e. did.files.loads found (opens.files found e)))
         (none-used jobs output (output-does jobs) output-plain (devices_at opening) part did.five.output_history did.five.output_follows)
-        (prints-allowed jobs printer (printer-does jobs) printer-plain (devices_at opening) part did.five.printer_history did.five.printer_follows did.paper.gave.1)
+        (prints-allowed jobs printer (printer-does jobs) printer-plain (devices_at opening) part did.five.printer_history did.five.printer_follows
+        did.paper.gave.1)
 
     thread-at : (p : ℕ) → IsProcess p → IsThread (core J (process J)) p (devices_at opening) (deeds p)
     thread-at p one = record {
@@ -274,10 +281,12 @@ module _ {L : Type 0} {J : Jobs L} (jobs : AreJobs J) where
         → (stood (core J (process J)) (devices_at opening) (deeds 1)).deck ≡ items_ahead (left ran.units.deck.source) ran.units.deck.pending
     deck-then items e =
         let reads = did.deck.reads items (sym opens.deck ∙ e) in
-        (reads-allowed jobs card (card-does jobs) card-plain (devices_at opening) part items e did.five.card_history did.five.card_follows reads.0 reads.2 reads.3).1
+        (reads-allowed jobs card (card-does jobs) card-plain (devices_at opening) part items e did.five.card_history did.five.card_follows reads.0 reads.2
+        reads.3).1
         ∙ sym reads.1
 
-    pub is-a-run : IsARun J left taken_from source_faults given sink_faults loader from_size input_told input_faults to_size output_told output_faults units ran did
+    pub is-a-run : IsARun J left taken_from source_faults given sink_faults loader from_size input_told input_faults to_size output_told output_faults
+        units ran did
         opening
     is-a-run =
         let run = five-are-a-run jobs opening deeds first beside in

@@ -135,7 +135,8 @@ module _ {L : Type 0} {J : Jobs L} (jobs : AreJobs J) where
 
   -- ---- what was awaited
   split-below : {X : Type 0} (moves : SpoolCall (List ℕ) → List X) (most many : ℕ) (some more : List (SpoolCall (List ℕ)))
-      → pages.AreBelow moves most many (some ++ more) → pages.AreBelow moves most many some × pages.AreBelow moves most (many + length (flat_map moves some)) more
+      → pages.AreBelow moves most many (some ++ more) → pages.AreBelow moves most many some
+      × pages.AreBelow moves most (many + length (flat_map moves some)) more
   split-below moves most many [] more all = (tt, subst (λ n. pages.AreBelow moves most n more) (with-none many) all) where
     with-none : (n : ℕ) → n ≡ n + 0
     with-none n = omega arith
@@ -146,7 +147,8 @@ module _ {L : Type 0} {J : Jobs L} (jobs : AreJobs J) where
       ((all.0, parts.0), subst (λ n. pages.AreBelow moves most n more) same parts.1)
 
   then-below : {X : Type 0} (moves : SpoolCall (List ℕ) → List X) (most many : ℕ) (some more : List (SpoolCall (List ℕ)))
-      → pages.AreBelow moves most many (and_then some more) → pages.AreBelow moves most many some × pages.AreBelow moves most (many + length (flat_map moves some)) more
+      → pages.AreBelow moves most many (and_then some more) → pages.AreBelow moves most many some
+      × pages.AreBelow moves most (many + length (flat_map moves some)) more
   then-below moves most many some [] all = (all, tt)
   then-below moves most many some (call ∷ more) all = split-below moves most many some (call ∷ more) all
 
@@ -198,21 +200,27 @@ module _ {L : Type 0} {J : Jobs L} (jobs : AreJobs J) where
   below-takes moves b most many (act.Stop c) r kind fits all = tt
   below-takes moves b most many (act.Ended how) r kind fits all = tt
 
-  below-does : {X : Type 0} (moves : SpoolCall (List ℕ) → List X) (b : ℕ) (side : Side) (most many : ℕ) (a : Action) (r : Reply L) → PassesNot side a → Fits J a r
+  below-does : {X : Type 0} (moves : SpoolCall (List ℕ) → List X) (b : ℕ) (side : Side) (most many : ℕ) (a : Action) (r : Reply L) → PassesNot side a
+      → Fits J a r
       → pages.AreBelow moves most many (spool_call side b a r) → BelowSo b side most many a r
   below-does moves b Sender most many a r kind fits all = below-sends moves b most many a r kind fits all
   below-does moves b Receiver most many a r kind fits all = below-takes moves b most many a r kind fits all
 
   awaits-are : (p : Process L) (b : ℕ) (side : Side) {does : Action → Type 0} (only : DoesOnly J p does) (kind : (a : Action) → does a → PassesNot side a)
       {X : Type 0} (moves : SpoolCall (List ℕ) → List X)
-      → ((h : List (Entry L)) → Follows J p h → length (flat_map moves (spool_calls side b h)) ≡ length (moved b side (law.acts (the_core jobs) (seat b side) h)))
+      → ((h : List (Entry L)) → Follows J p h → length (flat_map moves (spool_calls side b h)) ≡ length (moved b side (law.acts (the_core jobs)
+      (seat b side) h)))
       → (most : ℕ) (h : List (Entry L)) → Follows J p h → pages.AreBelow moves most 0 (spool_calls side b h)
       → AreAwaitedBelow b side most (law.acts (the_core jobs) (seat b side) h)
   awaits-are p b side only kind moves long most [] follows all = tt
   awaits-are p b side only kind moves long most (Does a r ∷ h) follows all =
       let parts = then-below moves most 0 (spool_calls side b h) (spool_call side b a r) all in
-      let here = subst (λ n. pages.AreBelow moves most n (spool_call side b a r)) (from-none (length (flat_map moves (spool_calls side b h))) ∙ long h follows.2) parts.1 in
-      (below-does moves b side most _ a r (kind a (only h a follows.2 follows.0)) follows.1 here, awaits-are p b side only kind moves long most h follows.2 parts.0) where
+      let here = subst (λ n. pages.AreBelow moves most n (spool_call side b a r)) (from-none (length (flat_map moves (spool_calls side b h)))
+      ∙ long h follows.2) parts.1 in (
+        below-does moves b side most _ a r (kind a (only h a follows.2 follows.0)) follows.1 here,
+        awaits-are p b side only kind moves long most h follows.2
+            parts.0,
+      ) where
         from-none : (n : ℕ) → 0 + n ≡ n
         from-none n = omega arith
   awaits-are p b side only kind moves long most (LacksMemory a r ∷ h) follows all =
@@ -272,7 +280,8 @@ module _ {L : Type 0} {J : Jobs L} (jobs : AreJobs J) where
         ∙ sym (map-both mark (take kept put_pages) (drop kept put_pages)) ∙ ap (map mark) (take-append-drop kept put_pages) ∙ sym (put-marks put_pages)
         ∙ ap (map is_last) sent-is
 
-    length-sent : (h : List (Entry L)) → Follows J (process J b) h → length (pages.sent_of (spool_calls Sender b h)) ≡ length (moved b Sender (law.acts (the_core jobs) b h))
+    length-sent : (h : List (Entry L)) → Follows J (process J b) h → length (pages.sent_of (spool_calls Sender b h)) ≡ length (moved b Sender (law.acts
+        (the_core jobs) b h))
     length-sent h f =
         sym (map-long (page_parcel {L = L}) (pages.sent_of (spool_calls Sender b h))) ∙ ap length (spool-sent jobs (process J b) b only_sends puts h f
         ∙ sym (passed-sent jobs (the-five jobs) b at h f))
@@ -280,7 +289,8 @@ module _ {L : Type 0} {J : Jobs L} (jobs : AreJobs J) where
     length-taken : (h : List (Entry L)) → Follows J (process J (suc b)) h
         → length (pages.taken_of (spool_calls Receiver b h)) ≡ length (moved b Receiver (law.acts (the_core jobs) (suc b) h))
     length-taken h f =
-        sym (map-long (received_parcel jobs) (pages.taken_of (spool_calls Receiver b h))) ∙ ap length (spool-taken jobs (process J (suc b)) b only_takes gets h f
+        sym (map-long (received_parcel jobs) (pages.taken_of (spool_calls Receiver b h)))
+        ∙ ap length (spool-taken jobs (process J (suc b)) b only_takes gets h f
         ∙ sym (passed-taken jobs (the-five jobs) (suc b) (not-first jobs b at.0) h f))
 
     took-long : length took_pages ≡ length (moved_at (the_core jobs) H b Receiver)
@@ -296,7 +306,8 @@ module _ {L : Type 0} {J : Jobs L} (jobs : AreJobs J) where
       parcels = λ e. (let (all, is) = tells e in
           spool-part jobs took_pages kept put_pages (moved_at (the_core jobs) H b Receiver) (moved_at (the_core jobs) H b Sender) (met.pages all is) met.marks
           taken-is sent-is);
-      within = (let long = map-long mark (drop kept put_pages) in let many = long-drop left put_pages met.few in let few = room.within in omega (arith, long, many, few));
+      within = (let long = map-long mark (drop kept put_pages) in let many = long-drop left put_pages met.few in let few = room.within in omega
+          (arith, long, many, few));
       stopped = record {
         neither = λ e side. calls-stop side ∙ met.stopped.neither e side;
         did = λ side e. calls-stop side ∙ met.stopped.did side e;
@@ -305,7 +316,8 @@ module _ {L : Type 0} {J : Jobs L} (jobs : AreJobs J) where
       nothing_left = λ e. nothing (met.nothing_left (sym (calls-told Receiver) ∙ e));
       rooms = awaits-are (process J b) b Sender only_sends sends_not pages.page_put length-sent (size + length (moved_at (the_core jobs) H b Receiver)) (H b)
           (follows b) (subst (λ n. pages.AreBelow pages.page_put (size + n) 0 (spool_calls Sender b (H b))) took-long room.found.rooms);
-      finds = awaits-are (process J (suc b)) b Receiver only_takes takes_not pages.page_taken length-taken (length (moved_at (the_core jobs) H b Sender)) (H (suc b))
+      finds = awaits-are (process J (suc b)) b Receiver only_takes takes_not pages.page_taken length-taken (length (moved_at (the_core jobs) H b Sender))
+          (H (suc b))
           (follows (suc b)) (subst (λ n. pages.AreBelow pages.page_taken n 0 (spool_calls Receiver b (H (suc b)))) put-long room.found.finds);
     } where
       nothing : left ≡ 0 → map mark (drop kept put_pages) ≡ []

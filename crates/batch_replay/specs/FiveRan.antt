@@ -1,5 +1,5 @@
--- What the five did, by five histories: each did what its history asks for, their calls at the buffers have met,
--- and the devices have become what they are by these.
+-- What the five did, by five histories: each did what its history asks for, their calls at the buffers have
+-- met, and the devices have become what they are by these.
 use Rattle.std.specs.Prelude.{◌≡◌, ◌==◌, ℕ, if◌then◌else◌, List, [], ◌∷◌, Option, Some}
 use Rattle.std.specs.List.{AllByRecursion}
 use Rattle.solo_base.specs.declared.item.Feed.{Feed}
@@ -71,8 +71,8 @@ module _ {L A B : Type 0} {J : Jobs L} {input_told : A → Option (List (List �
       else if p == 5 then ran.printer_history
       else []
 
--- A process ended so, none of its calls waited, and what it sent is a first part of its list function of what it took, and all of it
--- where it is done.
+-- A process ended so, none of its calls waited, and what it sent is a first part of its list function of what
+-- it took, and all of it where it is done.
 pub record EndedSo {L : Type 0} (p : Process L) (h : List (Entry L)) (how : Outcome) : Type 0 where
   pub ended : newest h ≡ Some (act.Ended how)
   pub prompt : AllByRecursion IsPrompt h
@@ -91,7 +91,8 @@ pub record BatchRan {L S K F A B : Type 0} (J : Jobs L) (left : S → Option (Li
   -- no more rests in a spool than its area has pages, room was found only where it was, and a page only where
   -- one was put
   pub input_room : spools.MeetsRoom (from_size units.input)
-      (by_side (spool_calls Sender 2 five.input_history) (spool_calls Receiver 2 five.job_history)) five.input_left
+      (by_side (spool_calls Sender 2 five.input_history)
+      (spool_calls Receiver 2 five.job_history)) five.input_left
   pub output_room : spools.MeetsRoom (to_size units.output)
       (by_side (spool_calls Sender 3 five.job_history) (spool_calls Receiver 3 five.output_history))
       five.output_left

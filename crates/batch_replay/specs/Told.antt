@@ -51,8 +51,8 @@ module _ {L S K F A B : Type 0} (J : Jobs L) (left : S → Option (List ℕ)) (t
   abbrev pub BatchIsARun : Type 0
   BatchIsARun = (opening : Opening J) → OpensOver opening → IsARun opening
 
-  -- So over areas that tell their pages the paper gained a first part of what one thread prints, and all of it
-  -- where all five are done.
+  -- So over areas that tell their pages the paper gained a first part of what one thread prints, and all of
+  -- it where all five are done.
   abbrev pub BatchPrints : Type 0
   BatchPrints = (opening : Opening J) → OpensOver opening → AreTold opening.spools → (items : List Item)
       (found : FilesAs L) → opening.deck ≡ Some items → AreFound J opening.files found items
@@ -66,19 +66,20 @@ module _ {L S K F A B : Type 0} (J : Jobs L) (left : S → Option (List ℕ)) (t
     pub tells : opening.files ≡ files
 
   abbrev pub BatchOpens : Type 0
-  BatchOpens = AreInBounds (spools_over (from_size units.input) (input_told units.input) (to_size units.output)
-      (output_told units.output)) → (files : Option (FilesAs L)) → AreGoodFiles J files
+  BatchOpens = AreInBounds (spools_over (from_size units.input) (input_told units.input)
+      (to_size units.output) (output_told units.output)) → (files : Option (FilesAs L)) → AreGoodFiles J files
       → ((found : FilesAs L) → files ≡ Some found → loader.found units.files ≡ Some found) → HasOpening files
 
 -- How a batch ran over these units: by five histories, which are those of a run of the core.
-pub record RanAsOne {L S K F A B : Type 0} (J : Jobs L) (left : S → Option (List ℕ)) (taken_from source_faults : S → ℕ)
+pub record RanAsOne {L S K F A B : Type 0} (J : Jobs L) (left : S → Option (List ℕ))
+    (taken_from source_faults : S → ℕ)
     (given : K → Option (List ℕ)) (sink_faults : K → ℕ) (loader : FileTells L F)
     (from_size : A → ℕ) (input_told : A → Option (List (List ℕ))) (input_faults : A → ℕ)
     (to_size : B → ℕ) (output_told : B → Option (List (List ℕ))) (output_faults : B → ℕ)
     (units : Units S K F A B) (ran : Ran S K F A B) : Type 0 where
-  pub did : BatchRan J left taken_from source_faults given sink_faults loader from_size input_told input_faults
-      to_size output_told output_faults units ran
-  pub run : BatchIsARun J left taken_from source_faults given sink_faults loader from_size input_told input_faults
-      to_size output_told output_faults units ran did
-  pub opens : BatchOpens J left taken_from source_faults given sink_faults loader from_size input_told input_faults
-      to_size output_told output_faults units ran did
+  pub did : BatchRan J left taken_from source_faults given sink_faults loader from_size input_told
+      input_faults to_size output_told output_faults units ran
+  pub run : BatchIsARun J left taken_from source_faults given sink_faults loader from_size input_told
+      input_faults to_size output_told output_faults units ran did
+  pub opens : BatchOpens J left taken_from source_faults given sink_faults loader from_size input_told
+      input_faults to_size output_told output_faults units ran did

@@ -8,8 +8,8 @@ use batch_procs::{JobWork, Loader};
 use solo_devices::{Area, Sink, Source};
 
 /// How a batch ran is a run of the core: from each opening over these units a state is reached with its five
-/// histories, where a told deck and the paper are as the batch left them, and there is such an opening. Nothing
-/// is done here: the contract is the law.
+/// histories, where a told deck and the paper are as the batch left them, and there is such an opening.
+/// Nothing is done here: the contract is the law.
 pub fn a_batch_is_a_run<J: JobWork, S: Source, K: Sink, F: Loader<J>, A: Area, B: Area>()
     ensures run { (units : Units S K F A B) (ran : Ran S K F A B)
         → BatchRan J.jobs S.left S.taken S.faults K.given K.faults
@@ -22,5 +22,6 @@ pub fn a_batch_is_a_run<J: JobWork, S: Source, K: Sink, F: Loader<J>, A: Area, B
         (did : BatchRan J.jobs S.left S.taken S.faults K.given K.faults
         (loading F.found F.pages F.faults F.sound) A.size A.pages A.faults B.size B.pages B.faults units ran)
         → BatchPrints J.jobs S.left S.taken S.faults K.given K.faults
-        (loading F.found F.pages F.faults F.sound) A.size A.pages A.faults B.size B.pages B.faults units ran did }
+        (loading F.found F.pages F.faults F.sound) A.size A.pages A.faults B.size B.pages B.faults units
+        ran did }
 {}

@@ -40,7 +40,8 @@ module _ {L : Type 0} {J : Jobs L} (jobs : AreJobs J) where
       (begins : BeginsBy gates ends deck paper files row)
       (ran : RowRan J left taken source_faults given sink_faults loader from_size to_size row ended) (is : IsParted ended parted) where
     module _ (input_told : A → Option (List (List ℕ))) (input_faults : A → ℕ) (output_told : B → Option (List (List ℕ))) (output_faults : B → ℕ)
-        (met : Met A B) (meets : AllMeet (from_size gates.input.area) (to_size gates.output.area) input_told input_faults output_told output_faults gates parted.ends met) where
+        (met : Met A B) (meets : AllMeet (from_size gates.input.area) (to_size gates.output.area) input_told input_faults output_told output_faults gates
+        parted.ends met) where
       abbrev first : ℕ → Option Side
       first = stopped_at met.stopped_by
 

@@ -90,7 +90,8 @@ module _ {L : Type 0} {J : Jobs L} (jobs : AreJobs J) where
   by-failed P a fits put take print load = absurd fits
 
   module _ {S K F A B : Type 0} {left : S → Option (List ℕ)} {taken source_faults : S → ℕ} {given : K → Option (List ℕ)} {sink_faults : K → ℕ}
-      {loader : FileTells L F} {from_size : A → ℕ} {input_told : A → Option (List (List ℕ))} {input_faults : A → ℕ} {to_size : B → ℕ} {output_told : B → Option (List (List ℕ))}
+      {loader : FileTells L F} {from_size : A → ℕ} {input_told : A → Option (List (List ℕ))} {input_faults : A → ℕ} {to_size : B → ℕ} {output_told : B
+      → Option (List (List ℕ))}
       {output_faults : B → ℕ} {units : Units S K F A B} {ran : Ran S K F A B}
       (batch : BatchRan J left taken source_faults given sink_faults loader from_size input_told input_faults to_size output_told output_faults units ran) where
     abbrev five : FiveRan J input_told input_faults output_told output_faults units.input ran.units.input units.output ran.units.output

@@ -36,7 +36,8 @@ module _ {L : Type 0} {J : Jobs L} (jobs : AreJobs J) where
 
   module _ {W X : Type 0} {p : Process L} {keeps : W → List (Parcel L) → List (Parcel L) → Bool → Type 0} {machine : Machine X W} where
     pub going-first : {Stands : List (Entry L) → Type 0} → StandsFor J p keeps machine [] → Stands [] → Going p keeps machine Stands
-    going-first stands connected = record { history = []; machine_stands = stands; connected = connected; prompt = tt; goes_on = λ ended. (let e = ended.1 in absurd cc) }
+    going-first stands connected =
+        record { history = []; machine_stands = stands; connected = connected; prompt = tt; goes_on = λ ended. (let e = ended.1 in absurd cc) }
 
     module _ {q : Process L} {Stands : List (Entry L) → Type 0} {a : Action} (same : q ≡ p) (going : Going p keeps machine Stands)
         (next : (h : List (Entry L)) → StandsFor J p keeps machine h → NextIs (next_action p h) a) where

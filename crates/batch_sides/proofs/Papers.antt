@@ -110,7 +110,8 @@ module _ {L : Type 0} {J : Jobs L} (jobs : AreJobs J) where
 
   module _ {K : Type 0} {given : K → Option (List ℕ)} {faults : K → ℕ} (start old new : Printing K) (h : List (Entry L)) (line : List ℕ)
       (r : Reply L) where
-    pub paper-printed : (process : Process L) → Follows J process h → PaperRan given faults start old h → caused h ≡ None → PrintsLine J (given old.sink) (given new.sink) line r
+    pub paper-printed : (process : Process L) → Follows J process h → PaperRan given faults start old h → caused h ≡ None
+        → PrintsLine J (given old.sink) (given new.sink) line r
         → (r ≡ reply.Failed → Rose (faults old.sink) (faults new.sink)) → faults old.sink ≤ faults new.sink → (r ≡ reply.Done → new.live ≡ true)
         → PaperRan given faults start new (Does (act.Print line) r ∷ h)
     paper-printed process follows ran free print failed counts live =

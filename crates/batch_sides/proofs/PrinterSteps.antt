@@ -69,7 +69,10 @@ module _ {L : Type 0} {J : Jobs L} (jobs : AreJobs J) where
       -- a call of the line buffer
       called : (a : Action) (r : Reply L) (call : SlotCall Feed) → line_calls Receiver 4 (Does a r ∷ h) ≡ line_calls Receiver 4 h ++ call ∷ []
           → text_tried (Does a r ∷ h) ≡ text_tried h → newest_print (Does a r ∷ h) ≡ newest_print h
-          → ((part : List ℕ) → IsPartOf part (Does a r) × (gained_by part (Does a r) ≡ [])) → PrinterRan given faults start (record old { lines = after_call old.lines call }) had (Does a r ∷ h)
+          → ((part : List ℕ) → IsPartOf part (Does a r) × (gained_by part (Does a r) ≡ [])) → PrinterRan given faults start (record old {
+            lines =
+                after_call old.lines call;
+          }) had (Does a r ∷ h)
       called a r call calls text newest none_gained = record {
         gate = ran.gate;
         calls = ap (λ calls. calls ++ call ∷ []) ran.calls ∙ sym calls;
@@ -93,7 +96,8 @@ module _ {L : Type 0} {J : Jobs L} (jobs : AreJobs J) where
             only-does J act.TakeFeed (reply.Feed f) h tt (λ may. may)
             (as-new _ _ did (called act.TakeFeed (reply.Feed f) (slot.Take f) refl refl refl (λ part. (tt, refl))))
         printer-did act.TakeFeed reply.Stopped does next did =
-            only-does J act.TakeFeed reply.Stopped h tt (λ may. may) (as-new _ _ did (called act.TakeFeed reply.Stopped slot.TakeRefused refl refl refl (λ part. (tt, refl))))
+            only-does J act.TakeFeed reply.Stopped h tt (λ may. may) (as-new _ _ did (called act.TakeFeed reply.Stopped slot.TakeRefused refl refl refl
+            (λ part. (tt, refl))))
         printer-did (act.Print line) r does next did =
             let print = did.2 in
             only-does J (act.Print line) r h print.prints.suits (print-lacks line r)

@@ -39,8 +39,9 @@ pub record AreEndsOf {A B : Type 0} (input_size output_size : ℕ) (gates : Gate
   pub seats : AreSeatsOf gates.disk ends.seats
 
 -- The ends of each buffer have met, with something or nothing left inside.
-pub record AllMeet {A B : Type 0} (input_size output_size : ℕ) (input_told : A → Option (List (List ℕ))) (input_faults : A → ℕ)
-    (output_told : B → Option (List (List ℕ))) (output_faults : B → ℕ) (gates : Gates A B) (ends : Ends A B)
+pub record AllMeet {A B : Type 0} (input_size output_size : ℕ) (input_told : A → Option (List (List ℕ)))
+    (input_faults : A → ℕ) (output_told : B → Option (List (List ℕ))) (output_faults : B → ℕ)
+    (gates : Gates A B) (ends : Ends A B)
     (met : Met A B) : Type 0 where
   pub cards_rest : Option Feed
   pub cards : line.Meets (by_side ends.cards.0.calls ends.cards.1.calls) cards_rest

@@ -25,8 +25,8 @@ over opening deeds by = record {
   by = by;
 }
 
--- Of each buffer this is the side that stopped it first: where none is named nobody did, one that is named did,
--- and only the other side was told so.
+-- Of each buffer this is the side that stopped it first: where none is named nobody did, one that is named
+-- did, and only the other side was told so.
 abbrev pub AreFirstStops : {L : Type 0} → Jobs L → CoreState L → (ℕ → Option Side) → Type 0
 AreFirstStops J s by = (b : ℕ) → IsBuffer b
     → WhoStopped (λ side. made_stop b side (acts_by (core J (process J)) s.histories b side))
