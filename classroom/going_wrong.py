@@ -46,10 +46,9 @@ def show(options, five, most):
         return
     wrong = WRONG[options.wrong]
     room = options.page or (five.least_page() if options.wrong == "early-last" else None)
-    whole = options.wrong != "no-stop"
     right = right_paper(five, room)
-    graph = five.graph(wrong, room)
-    search = Search(graph, most, problem_of(whole, right))
+    judge = problem_of(options.wrong != "no-stop", right)
+    search = Search(five.graph(wrong, room), most, judge)
     print(f"{options.deck}, {options.wrong}: {sentence(wrong)}")
     if not search.problem:
         print(f"  nothing goes wrong in {len(search.states)} states: the deck is too small for that, or its spools too large")
@@ -64,7 +63,7 @@ def show(options, five, most):
         title = f"{options.wrong}: {search.problem}, events 1 to {len(events)} of {len(events)}"
         Picture(title, five.names, events).write(options.picture)
     if options.odds:
-        print_odds(five, wrong, room, problem_of(whole, right), right, most)
+        print_odds(Search(five.graph(wrong, room), most), judge, right)
 
 
 def sentence(function):
@@ -85,10 +84,9 @@ def behind(search, five, core, right):
         yield f"should be: {shown(right)}"
 
 
-def print_odds(five, wrong, room, judge, right, most):
-    """All states of the wrong five, and how often a run goes wrong."""
-    graph = five.graph(wrong, room)
-    search = Search(graph, most)
+def print_odds(search, judge, right):
+    """Of all states of the wrong five, how many are wrong, and how often a run comes to one."""
+    graph = search.graph
     bad = {at for at, state in enumerate(search.states) if judge(graph, state, graph.moves(state))}
     orders = Orders(search, bad)
     well = sum(orders.chance.get(at, 0) for at in search.ends if at not in bad)
