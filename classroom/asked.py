@@ -60,6 +60,8 @@ def check(options):
         refuse("a deck, --times SCRIPT or --solo KEYS CARDS")
     if options.wrong and (options.wrong not in NAMES or not options.deck or options.twins):
         refuse(f"--wrong is for a deck and the five, and is one of {', '.join(NAMES)}")
+    if options.picture and not (options.wrong or options.most and options.deck) or options.odds and not options.wrong:
+        refuse("--picture goes with --wrong or --most, and --odds with --wrong")
     for path in filter(None, (options.deck, options.times, options.keys, options.cards, options.paper)):
         try:
             open(path, "rb").close()
@@ -67,9 +69,9 @@ def check(options):
             refuse(f"{path}: {failed.strerror}")
 
 
-def too_many(options, looked, known):
+def too_many(options, known):
     """What one can do where there are too many states."""
     cut = {"deck": "take fewer cards, or --spools 1, so that fewer pages are on their way", "times": "take fewer tasks (--tasks N) or fewer lines",
            "keys": "type fewer commands"}
     kind = "deck" if options.deck else "times" if options.times else "keys"
-    return f"every: more than {looked:,} states, and {known - looked:,} more are known: {cut[kind]}"
+    return f"every: more than {known:,} states: {cut[kind]}"

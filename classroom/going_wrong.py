@@ -8,9 +8,10 @@ import senders
 import tables
 from graph import Orders, Search
 from runpicture import Picture
-from trace import waits_for
+from runtable import waits_for
 from wrong import WRONG, failing  # noqa: F401
 
+MOST_CARDS = 6
 NAMES = ("disk-first", "no-continue", "signal-and-leave", "no-stop", "two-disks", "early-last")
 
 
@@ -45,10 +46,9 @@ def show(options, five, most):
         return
     wrong = WRONG[options.wrong]
     room = options.page or (five.least_page() if options.wrong == "early-last" else None)
-    whole = options.wrong != "no-stop"
     right = right_paper(five, room)
-    graph = five.graph(wrong, room)
-    search = Search(graph, most, problem_of(whole, right))
+    judge = problem_of(options.wrong != "no-stop", right)
+    search = Search(five.graph(wrong, room), most, judge)
     print(f"{options.deck}, {options.wrong}: {sentence(wrong)}")
     if not search.problem:
         print(f"  nothing goes wrong in {len(search.states)} states: the deck is too small for that, or its spools too large")
@@ -61,9 +61,9 @@ def show(options, five, most):
         print(line)
     if options.picture:
         title = f"{options.wrong}: {search.problem}, events 1 to {len(events)} of {len(events)}"
-        Path(options.picture).write_text(Picture(title, five.names, events).text())
+        Picture(title, five.names, events).write(options.picture)
     if options.odds:
-        print_odds(five, wrong, room, problem_of(whole, right), right, most)
+        print_odds(Search(five.graph(wrong, room), most), judge, right)
 
 
 def sentence(function):
@@ -84,10 +84,9 @@ def behind(search, five, core, right):
         yield f"should be: {shown(right)}"
 
 
-def print_odds(five, wrong, room, judge, right, most):
-    """All states of the wrong five, and how often a run goes wrong."""
-    graph = five.graph(wrong, room)
-    search = Search(graph, most)
+def print_odds(search, judge, right):
+    """Of all states of the wrong five, how many are wrong, and how often a run comes to one."""
+    graph = search.graph
     bad = {at for at, state in enumerate(search.states) if judge(graph, state, graph.moves(state))}
     orders = Orders(search, bad)
     well = sum(orders.chance.get(at, 0) for at in search.ends if at not in bad)
@@ -104,10 +103,12 @@ def rounded(number):
 def show_senders(options):
     """Two senders at one line buffer, in every order."""
     simulate = tables.load("simulate")
-    cards = [simulate.shown(card) for card in simulate.cards(Path(options.deck).read_bytes())]
+    cards = [simulate.shown(card) for card in simulate.cards(Path(options.deck).read_bytes())][:MOST_CARDS]
     scene = senders.scene(cards, False)
     found, right = monitors.search(scene), monitors.search(senders.scene(cards, True))
     print(f"{options.deck}, signal-and-leave: two senders put its cards in turn, and test by `if`; who continues goes on inside")
+    if len(cards) == MOST_CARDS:
+        print(f"  (its first {MOST_CARDS} cards)")
     if right.problem:
         sys.exit(f"every: the right one goes wrong too: {right.problem}")
     if not found.problem:
@@ -118,4 +119,4 @@ def show_senders(options):
     print(f"with the turn handed over, nothing is lost in all {right.states} states")
     if options.picture:
         events = monitors.events(scene, found.way)
-        Path(options.picture).write_text(Picture(f"signal-and-leave: {found.problem.split(',')[0]}", scene.names, events).text())
+        Picture(f"signal-and-leave: {found.problem.split(',')[0]}", scene.names, events).write(options.picture)

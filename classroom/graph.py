@@ -188,7 +188,7 @@ class Search:
                     self.before.append(at)
                     self.by.append(slot)
             if len(self.states) > most:
-                raise Refused(at, len(self.states))
+                raise Refused(len(self.states))
 
     def note(self, at, state, moves):
         self.events += len(moves)

@@ -217,7 +217,7 @@ def told(scene, way):
 
 def events(scene, way):
     """The events of a way as a picture has them."""
-    from trace import Event
+    from runtable import Event
     run, found = Run(scene), []
     for number, p in enumerate(way, 1):
         said, came = run.step(p)

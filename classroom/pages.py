@@ -10,7 +10,7 @@ import timetable
 from graph import Graph, Refused, Search
 from wrong import FAULT, STOPPED, WRONG
 
-MOST = 60_000
+MOST, MOST_LOOKED = 60_000, 1_100_000
 SIDES = {"put": "s", "putpage": "s", "take": "r", "takepage": "r"}
 
 
@@ -28,13 +28,15 @@ def of_deck(options, deck):
     paper = Path(options.paper or Path(deck).with_suffix(".paper"))
     lines = paper.read_bytes().split(b"\n")[:-1] if paper.is_file() else []
     wrong = WRONG[options.wrong] if options.wrong else None
-    oracle, make = tables.five(Path(deck).read_bytes(), plain.from_paper(lines), (options.spools,) * 2, options.page, wrong)
+    text, programs = Path(deck).read_bytes(), plain.from_paper(lines)
+    room = options.page or (tables.least_page(text, programs) if options.wrong == "early-last" else None)
+    oracle, make = tables.five(text, programs, (options.spools,) * 2, room, wrong)
     graph = Graph(tables.Table(make))
     columns = [[("p", 1)], [("m", 1)], [("p", 2)], [("m", 2)], [("p", 3)], [("m", 3)], [("p", 4)], [("m", 4)], [("p", 5)]]
     title = f"The five over {Path(deck).name}" + (f", {options.wrong}" if options.wrong else "")
     made = Made(title, graph, oracle.NAMES, columns, [("m", "disk")], DeckTeller(oracle, graph))
     if wrong:
-        core = plain.Core(Path(deck).read_bytes(), plain.from_paper(lines))
+        core = plain.Core(text, programs)
         core.run("least")
         made.right = options.wrong != "no-stop", tuple(core.paper)
     return made
@@ -227,7 +229,7 @@ class TimesTeller:
 def shortest(made):
     """The places of the processes that go on, on the shortest way into what goes wrong."""
     graph, right = made.graph, made.right
-    search = Search(graph, MOST, going_wrong.problem_of(right[0], right[1]))
+    search = Search(graph, MOST_LOOKED, going_wrong.problem_of(right[0], right[1]))
     return [graph.processes.index(p) for p in search.way(search.wrong_at)] if search.problem else recorded(graph, "least")
 
 

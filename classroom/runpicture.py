@@ -1,6 +1,7 @@
 """Draws a run as core_trace draws it: a line for each process, an event every thirty pixels, who hands what to whom, who waits and has the
 turn, and who has the disk. It is light or dark as its reader's page is."""
 from html import escape
+from pathlib import Path
 
 LEFT, STEP, FIRST, LANE, RIGHT, LEAST_WIDTH = 130, 30, 120, 84, 96, 1010
 COLOURS = (("#0072b2", "#56b4e9"), ("#c04f00", "#ff9c4a"), ("#00785a", "#3fd0a4"), ("#aa4499", "#e08fd3"), ("#7a5f00", "#dcbb4b"),
@@ -167,6 +168,11 @@ class Picture:
                 yield sign(kind, x, y) + f'<text class="words" x="{x + 40}" y="{y}">{words}</text>'
         yield f'<text class="name" x="12" y="{self.disk_y + 72}">legend</text>'
         yield "</g>"
+
+    def write(self, path):
+        file = Path(path)
+        file.parent.mkdir(parents=True, exist_ok=True)
+        file.write_text(self.text())
 
     def text(self):
         height = self.disk_y + 140

@@ -101,3 +101,11 @@ def twins(deck, programs, spools, room=None, wrong=None):
     if wrong:
         wrong(twin.simulate)
     return twin, lambda: twin.Twin(deck, programs, spools)
+
+
+def least_page(deck, programs):
+    """The bytes of the smallest page that has room for each card and each line of a deck."""
+    oracle = load("simulate")
+    core = oracle.Core(deck, programs)
+    core.run("least")
+    return 1 + max(len(line or b"") for line in [*oracle.cards(deck), *core.paper])

@@ -24,7 +24,7 @@ def walked(path, changed):
 
 
 def stuck(path):
-    """Piece 6: with the disk asked for first, nobody can go on behind at most 20 events."""
+    """Piece 6: with the disk asked for first, nobody can go on behind at most 20 events, and output has the disk."""
     core, events, problem = walked(path, wrong.disk_first)
     may = [p for p in core.processes if core.enabled(p)]
     if problem:
@@ -33,7 +33,9 @@ def stuck(path):
         return f"behind event {events} the process {may[0]} can still go on"
     if all(core.next[p] is None for p in core.processes):
         return f"behind event {events} all five have ended: that is no deadlock"
-    return f"nobody can go on behind event {events}; find a way of at most {MOST}" if events > MOST else None
+    if core.desk.holder != 4:
+        return f"nobody can go on behind event {events}, and process {core.desk.holder} has the disk; find one in which output has it"
+    return f"nobody can go on behind event {events}, and output has the disk; find a way of at most {MOST}" if events > MOST else None
 
 
 def longest(path):

@@ -55,7 +55,7 @@ def program(path):
 def session(path):
     """Piece 3: over the cards, the typed lines give this console and this paper."""
     room = WORK / "3-session"
-    told = solosession.session(path.read_bytes(), (room / "cards.txt").read_bytes(), {})
+    told = solosession.session(path.read_bytes(), (room / "session.cards").read_bytes(), {})
     return differs("the console", told.console, lines_of(room / "console.txt")) or differs("the paper", told.paper, lines_of(room / "paper.txt"))
 
 

@@ -164,7 +164,8 @@ def senders_scene(make, senders, receivers, count):
         twice = [item for item in found if item not in items or found.count(item) > 1]
         if twice:
             return f"{twice[0]} was taken, which is lost, twice taken or was never put"
-        return f"{done(run, 'put')} were put and {len(found)} taken, and there is one place" if done(run, "put") > len(found) + 1 else None
+        put = done(run, "put")
+        return f"{put} were put and {len(found)} taken, and there is one place" if put > len(found) + 1 else None
 
     def finish(run):
         return None if run.ended() else f"nobody can go on, and taken were {', '.join(map(str, taken(run))) or 'none'}"
