@@ -58,17 +58,20 @@ const LEGEND: &str = r##"<g transform="translate(12 832)">
 <text class="name">legend</text>
 <line class="handed" x1="112" y1="-14" x2="148" y2="2"/><text x="160">handed over: put, then taken</text>
 <line class="inside" x1="452" y1="-14" x2="488" y2="2"/><text x="500">taken outside of the picture</text>
-<rect class="wait grey" x="792" y="-16" width="36" height="20"/><text x="840">waits: in which queue</text>
+<rect class="wait grey" x="792" y="-16" width="36" height="20"/>
+<text x="840">waits: in which queue</text>
 </g>
 <g transform="translate(12 864)">
 <use href="#done" class="grey" x="130" y="-6"/><text x="160">an action that is done</text>
 <use href="#waits" class="grey" x="470" y="-6"/><text x="500">a call that has to wait</text>
-<rect class="turn grey" x="792" y="-16" width="36" height="20"/><text x="840">has the turn: it goes next</text>
+<rect class="turn grey" x="792" y="-16" width="36" height="20"/>
+<text x="840">has the turn: it goes next</text>
 </g>
 <g transform="translate(12 896)">
 <use href="#device" class="grey" x="130" y="-6"/><text x="160">reads, prints or loads</text>
 <use href="#ends" class="grey" x="470" y="-6"/><text x="500">ends, and how</text>
-<rect class="disk grey" x="792" y="-16" width="36" height="20"/><text x="840">has the disk: which process</text>
+<rect class="disk grey" x="792" y="-16" width="36" height="20"/>
+<text x="840">has the disk: which process</text>
 </g>
 </svg>"##;
 

@@ -136,7 +136,7 @@ impl Picture {
         Ok(())
     }
 
-    /// Draws the bar of a process that waited until this event, and over it the part in which it had the turn.
+    /// Draws the bar of a process that waited until this event, and over it the part with the turn.
     fn draw_wait(&mut self, waiting: Waiting, until: u64) -> Result<(), AllocError> {
         let Waiting {
             process,
