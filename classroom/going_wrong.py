@@ -119,4 +119,4 @@ def show_senders(options):
     print(f"with the turn handed over, nothing is lost in all {right.states} states")
     if options.picture:
         events = monitors.events(scene, found.way)
-        Picture(f"signal-and-leave: {found.problem.split(',')[0]}", scene.names, events).write(options.picture)
+        Picture(f"signal-and-leave: {found.problem.split(' was in')[0]} is lost", scene.names, events).write(options.picture)

@@ -62,7 +62,7 @@ def words_of(event):
     pages = {"puts a page": "page", "puts the last page": "last page"}
     if event.does.startswith("stops buffer"):
         return "stop"
-    return pages.get(event.does) or next((event.does[len(verb):] for verb in ("puts ", "loads ", "calls ") if event.does.startswith(verb)), "")
+    return pages.get(event.does) or next((event.does[len(verb):] for verb in ("puts ", "loads ", "calls ", "goes on in ") if event.does.startswith(verb)), "")
 
 
 class Drawn:

@@ -16,7 +16,7 @@ BUILD = 'load("@rattle//bazel/rattle:crate.bzl", "rattle_crate")\n\nrattle_crate
 
 def clauses_of(path):
     """The clauses of a file: its lines without those that begin with //."""
-    return "\n".join(line for line in path.read_text().splitlines() if line.strip() and not line.strip().startswith("//"))
+    return "\n".join(line for line in path.read_text(errors="replace").splitlines() if line.strip() and not line.strip().startswith("//"))
 
 
 def contract(path):

@@ -28,6 +28,8 @@ def tried(path, name, scenes):
         return str(wrong)
     except SyntaxError as failed:
         return f"Python doesn't read it: {failed}"
+    except Exception as failed:
+        return f"before any call, {type(failed).__name__}: {failed}"
     return None
 
 
