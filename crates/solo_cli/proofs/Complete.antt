@@ -1,6 +1,6 @@
 -- Where nothing fails the whole work is done; and which words end with status 1.
-use Rattle.std.proofs.Common.{◌≡◌, ◌≢◌, ◌⊎◌, ◌↔◌, inl, inr, ◌≤◌, ◌<◌, ℕ, Bool, true, false, List, Option, Some, None, refl, sym, ◌∙◌, ap, subst, arith}
-use Rattle.std.specs.Prelude.{IfSome, IsSome}
+use Rattle.std.proofs.Common.{◌≡◌, ◌≢◌, ◌⊎◌, ◌↔◌, inl, inr, ◌≤◌, ◌<◌, ℕ, Bool, true, false, Option, Some, None, refl, sym, ◌∙◌, ap, subst, arith}
+use Rattle.std.specs.Prelude.{IfSome}
 use Rattle.solo_base.specs.declared.outcome.Cause.{Cause}
 use Rattle.solo_base.specs.declared.outcome.Cause.TheVariants as cause
 use Rattle.solo_devices.specs.Count.{Rose, Stayed}
@@ -10,7 +10,7 @@ use Rattle.solo_cli.specs.declared.refusal.Refusal.TheVariants.{Fault, NoRoom}
 use Rattle.solo_cli.specs.declared.words.Command.{Command}
 use Rattle.solo_cli.specs.declared.words.Command.TheVariants as command
 use Rattle.solo_cli.specs.Reasons.{Answers, NothingFails}
-use Rattle.solo_cli.specs.Causes.{IsMakeCause, IsCheckCause, IsWithinLimit}
+use Rattle.solo_cli.specs.Causes.{IsMakeCause, IsCheckCause}
 use Rattle.solo_cli.specs.Devices.{Kit}
 use Rattle.solo_cli.specs.Does.{DoesItsWork}
 use Rattle.solo_cli.specs.Ready.{MayBeGiven}
@@ -89,11 +89,6 @@ room-is (Some command.Check) needed free is = absurd is
 room-is (Some (command.Times schedule)) needed free is = absurd is
 room-is (Some command.Solo) needed free is = absurd is
 
--- what is within the limit tells its bytes
-tells : (left : Option (List ℕ)) → IsWithinLimit left → IsSome left
-tells None within = absurd within
-tells (Some bytes) within = refl
-
 module _ {S Y K T F I O : Type 0} (before after : Kit S Y K T F I O) where
   -- ---- no device was counted to fail
   no-read : (keys deck : Bool) → of_some keys deck (Rose before.deck.faults after.deck.faults) (Rose before.keys.faults after.keys.faults)
@@ -128,26 +123,22 @@ module _ {S Y K T F I O : Type 0} (before after : Kit S Y K T F I O) where
       → OfSomeRead (uses asked) (byte_limit < after.deck.taken) (byte_limit < after.keys.taken) → ⊥
   no-limit None n ready known total more = cc
   no-limit (Some command.Batch) n ready known total more =
-      none-beyond after.deck.taken before.deck.taken after.deck.left before.deck.left n.deck_within ready.deck total more
+      none-beyond before.deck after.deck n.deck_within ready.deck total more
   no-limit (Some (command.Core schedule)) n ready known total more =
-      none-beyond after.deck.taken before.deck.taken after.deck.left before.deck.left n.deck_within ready.deck total more
+      none-beyond before.deck after.deck n.deck_within ready.deck total more
   no-limit (Some (command.Make number)) n ready known total more = not_limit known
   no-limit (Some command.Format) n ready known total more = cc
   no-limit (Some command.Migrate) n ready (inl is) total more = cc
   no-limit (Some command.Migrate) n ready (inr (inl is)) total more = cc
   no-limit (Some command.Migrate) n ready (inr (inr (page, is))) total more = cc
   no-limit (Some command.Check) n ready known total more =
-      none-beyond after.deck.taken before.deck.taken after.deck.left before.deck.left n.deck_within ready.deck total more
+      none-beyond before.deck after.deck n.deck_within ready.deck total more
   no-limit (Some (command.Times schedule)) n ready known total more =
-      none-beyond after.keys.taken before.keys.taken after.keys.left before.keys.left n.keys_within ready.keys total more
+      none-beyond before.keys after.keys n.keys_within ready.keys total more
   no-limit (Some command.Solo) n ready known total (inl more) =
-      none-beyond after.deck.taken before.deck.taken after.deck.left before.deck.left n.deck_within ready.deck total.0 more
+      none-beyond before.deck after.deck n.deck_within ready.deck total.0 more
   no-limit (Some command.Solo) n ready known total (inr more) =
-      none-beyond after.keys.taken before.keys.taken after.keys.left before.keys.left n.keys_within ready.keys total.1 more
-
-  told-where : (used : Bool) → IfUsed used (IsWithinLimit before.deck.left) → IfUsed used (IsSome before.deck.left)
-  told-where true within = tells before.deck.left within
-  told-where false within = tt
+      none-beyond before.keys after.keys n.keys_within ready.keys total.1 more
 
   -- ---- all of it
   pub completes : (asked : Option Command) (answer : Option Refusal) → asked ≢ None → NothingFails asked before after → MayBeGiven before
@@ -163,7 +154,7 @@ module _ {S Y K T F I O : Type 0} (before after : Kit S Y K T F I O) where
   completes asked (Some (Fault cause.DeckLimit)) some n ready does a = absurd (no-limit asked n ready a.known a.total (a.limit refl))
   completes asked (Some (Fault (cause.NotSolo page))) some n ready does a = absurd (none-named before after asked page n.usable a.known does)
   completes asked (Some (Fault (cause.Damaged expected found at))) some n ready does a =
-      absurd (a.undamaged n.input_told n.output_told (told-where (uses asked).deck n.deck_within) refl)
+      absurd (a.undamaged n.input_told n.output_told refl)
   completes asked (Some (Fault cause.NoMemory)) some n ready does a = inr (inl refl)
 
 -- ---- status 1

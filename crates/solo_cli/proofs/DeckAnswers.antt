@@ -168,7 +168,7 @@ module _ {S Y K T F I O : Type 0} {Behind : Cause → Type 0} {before after : Ki
     limit = by cause.DeckLimit (λ at. ends.counted.limit (limit-in ends.five.outcomes ends.five.faults at))
         (λ behind. absurd (not-behind before after cause.DeckLimit (λ e. cc) (λ e. cc) behind));
     beyond = beyond;
-    undamaged = λ input output told. whole-of answer (none input output) ends.five.one_of;
+    undamaged = λ input output. whole-of answer (none input output) ends.five.one_of;
     numbers = numbers-of answer ends.five.one_of;
     total = total;
     kept = kept;

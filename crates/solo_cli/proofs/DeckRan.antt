@@ -91,7 +91,7 @@ module _ {S Y K T F I O : Type 0} {before after : Kit S Y K T F I O} {answer : O
     shown = λ at. absurd (let no : Some (Fault cause.NoMemory) ≡ Some (Fault cause.ConsoleFault) = sym is ∙ at in cc);
     limit = λ at. absurd (let no : Some (Fault cause.NoMemory) ≡ Some (Fault cause.DeckLimit) = sym is ∙ at in cc);
     beyond = λ more. absurd (let none : after.deck.taken ≡ 0 = ap (λ d. d.taken) untouched.deck ∙ zero in omega (arith, none, more));
-    undamaged = λ input output told eight. (let nine : status_of answer ≡ 9 = ap status_of is in omega (arith, nine, eight));
+    undamaged = λ input output eight. (let nine : status_of answer ≡ 9 = ap status_of is in omega (arith, nine, eight));
     numbers = subst (λ answer. IfSome answer TellsPlace) (sym is) tt;
     total = ap (λ d. bytes_total d.taken d.left) untouched.deck;
     kept = record { deck = tt; keys = keys; paper = tt; console = console; files = tt; input = tt; output = tt };

@@ -65,7 +65,7 @@ files-answers {before = before} {after = after} {answer = answer} may known disk
   shown = λ is. absurd (other answer cause.ConsoleFault no-show known is);
   limit = λ is. absurd (other answer cause.DeckLimit no-limit known is);
   beyond = λ more. absurd (let none : after.deck.taken ≡ 0 = ap (λ t. t.deck.taken) stays ∙ ready.deck in omega (arith, none, more));
-  undamaged = λ input output told. whole answer known;
+  undamaged = λ input output. whole answer known;
   numbers = numbers answer known;
   total = ap (λ t. bytes_total t.deck.taken t.deck.left) stays;
   kept = record {
@@ -91,7 +91,7 @@ usage-answers {told = told} ready = record {
   shown = λ is. absurd (let none : Some (Fault cause.Usage) ≡ Some (Fault cause.ConsoleFault) = is in cc);
   limit = λ is. absurd (let none : Some (Fault cause.Usage) ≡ Some (Fault cause.DeckLimit) = is in cc);
   beyond = λ more. absurd (let none = ready.deck in omega (arith, none, more));
-  undamaged = λ input output read eight. (let no : 1 ≡ 8 = eight in cc);
+  undamaged = λ input output eight. (let no : 1 ≡ 8 = eight in cc);
   numbers = tt;
   total = refl;
   kept = record { deck = refl; keys = refl; paper = refl; console = refl; files = refl; input = refl; output = refl };

@@ -64,7 +64,7 @@ module _ {S Y K T F I O : Type 0} {before after : Kit S Y K T F I O} {answer : O
     shown = shown;
     limit = limit;
     beyond = λ over. inr (inr (beyond over));
-    undamaged = λ input output told. times-whole answer known;
+    undamaged = λ input output. times-whole answer known;
     numbers = times-numbers answer known;
     total = total;
     kept = kept;
@@ -123,7 +123,7 @@ module _ {S Y K T F I O : Type 0} {before after : Kit S Y K T F I O} {answer : O
     shown = λ is. absurd (other answer IsCheckCause cause.ConsoleFault no-console known is);
     limit = limit;
     beyond = λ over. inr (inr (beyond over));
-    undamaged = λ input output told. check-whole answer known;
+    undamaged = λ input output. check-whole answer known;
     numbers = check-numbers answer known;
     total = total;
     kept = kept;

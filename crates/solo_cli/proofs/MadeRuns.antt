@@ -6,16 +6,19 @@ use Rattle.solo_base.specs.Text.{text}
 use Rattle.solo_base.specs.declared.outcome.Cause.{Cause}
 use Rattle.solo_base.specs.declared.outcome.Cause.TheVariants as cause
 use Rattle.solo_base.specs.declared.outcome.Outcome.TheVariants as outcome
+use Rattle.solo_base.specs.declared.outcome.Side.{Side}
 use Rattle.solo_devices.specs.Count.{Rose}
 use Rattle.solo_devices.specs.CardUnit.{byte_limit, bytes_total}
 use Rattle.batch_procs.specs.Faults.{IsDamaged}
-use Rattle.core_law.specs.TheLaw.{the_law}
-use Rattle.batch_ends.specs.Ended.{TellsWhere, all_done}
+use Rattle.core_law.specs.Core.{Devices as CoreDevices}
+use Rattle.batch_ends.specs.Ended.{EndTogether, FaultsAre, NoneDamaged, TellsWhere}
 use Rattle.batch_ends.specs.declared.ends.Outcomes.{Outcomes}
 use Rattle.deck_work.specs.DeckJobs.{deck_jobs, files_found, found_are_loads}
 use Rattle.batch_job.specs.Report.{Loads, no_files}
 use Rattle.made_deck.specs.MadeDeck.{made_deck}
-use Rattle.network_run.specs.OneRun.{AreItsCounts}
+use Rattle.net_core.specs.WholeRuns.{RunsToEnd}
+use Rattle.disk_contents.specs.declared.loading.Loaded.{Loaded}
+use Rattle.page_codec.proofs.CardItems.{card-items}
 use Rattle.network_run.specs.declared.counts.Counts.{Counts}
 use Rattle.network_run.specs.declared.rules.Rule.TheVariants.{Numbered}
 use Rattle.solo_cli.specs.declared.refusal.Refusal.{Refusal}
@@ -24,18 +27,23 @@ use Rattle.solo_cli.specs.Reasons.{Answers, AsRun}
 use Rattle.solo_cli.specs.Causes.{IsMakeCause, IsPrintCause}
 use Rattle.solo_cli.specs.DeckNumbers.{deck_lines}
 use Rattle.solo_cli.specs.DeckRuns.{SpoolsTell, core_over, spools_told}
-use Rattle.solo_cli.specs.Decides.{IsIn, LineBehind, LowestDecides, Nothing, list_of}
+use Rattle.solo_cli.specs.Decides.{IsIn, JobMeetsItsOwn, LineBehind, decides, list_of}
 use Rattle.solo_cli.specs.Devices.{Kit}
-use Rattle.solo_cli.specs.MakesDeck.{GainsNumbers, MakesDeck}
+use Rattle.solo_cli.specs.MakesDeck.{AreasCounted, GainsNumbers, MakeEnds, MakesDeck}
 use Rattle.solo_cli.specs.Mounting.{Untouched}
 use Rattle.solo_cli.specs.Printing.{PrintsBytes}
 use Rattle.solo_cli.specs.Ready.{MayBeGiven}
-use Rattle.solo_cli.specs.Refusals.{OfFault, TellsPlace}
+use Rattle.solo_cli.specs.Refusals.{OfFault, TellsPlace, as_refusal}
 use Rattle.solo_cli.specs.Status.{number_of, status_of}
 use Rattle.solo_cli.specs.Uses.{made_used}
-use Rattle.solo_cli.proofs.AllDone.{numbers-in}
-use Rattle.solo_cli.proofs.DeckAnswers.{later-line}
+use Rattle.solo_cli.proofs.AllDone.{all-done, disk-in, in-none, numbers-in, print-in}
+use Rattle.solo_cli.proofs.Counted.{counted-whole}
+use Rattle.solo_cli.proofs.DeckAnswers.{later-line, run-cause}
+use Rattle.solo_cli.proofs.Lowest.{among}
+use Rattle.solo_cli.proofs.LowestCause.{comes-behind, lowest-decides}
+use Rattle.solo_cli.proofs.MemoryRuns.{made-of}
 use Rattle.solo_cli.proofs.NoFiles.{no-files}
+use Rattle.solo_cli.proofs.Statuses.{eight-is}
 use Rattle.solo_cli.proofs.Uncounted.{no-numbers}
 use Rattle.solo_cli.proofs.Unmounted.{both-tell, in-bounds}
 
@@ -112,26 +120,6 @@ not-printed before after answer n ready some paper spools =
     (no-numbers (Numbered n) (spools_told before) (files_found before.files.pages) (made_deck n) before.paper.given (answer ≡ None)
     (found_are_loads before.files.pages) (no-files n) (in-bounds ready) (both-tell spools) some)
 
--- the lowest cause of a run is so whatever would come behind it
-as-one-of : {S Y K T F I O : Type 0} (before after : Kit S Y K T F I O) (outcomes : Outcomes) (ran : Refusal)
-    → OfFault (λ why. IsIn (outcome.Fault why) (list_of outcomes) ⊎ ((outcomes ≡ all_done) × Nothing why)) ran
-    → OfFault (λ why. IsIn (outcome.Fault why) (list_of outcomes) ⊎ ((outcomes ≡ all_done) × LineBehind before after why)) ran
-as-one-of before after outcomes (NoRoom needed free) one = one
-as-one-of before after outcomes (Fault why) (inl at) = inl at
-as-one-of before after outcomes (Fault why) (inr both) = absurd both.1
-
-as-lowest : {S Y K T F I O : Type 0} (before after : Kit S Y K T F I O) (ran : Refusal) → LowestDecides Nothing (Some ran)
-    → LowestDecides (LineBehind before after) (Some ran)
-as-lowest before after ran lowest = record {
-  outcomes = lowest.outcomes;
-  stopped_by = lowest.stopped_by;
-  together = lowest.together;
-  faults = lowest.faults;
-  one_of = as-one-of before after lowest.outcomes ran lowest.one_of;
-  none_lower = lowest.none_lower;
-  done = lowest.done;
-}
-
 module _ {S Y K T F I O : Type 0} {before after : Kit S Y K T F I O} {answer : Option Refusal} (ready : MayBeGiven before)
     (deck : after.deck ≡ before.deck) (keys : after.keys ≡ before.keys) (console : after.console ≡ before.console)
     (size : after.files.size ≡ before.files.size) where
@@ -149,7 +137,7 @@ module _ {S Y K T F I O : Type 0} {before after : Kit S Y K T F I O} {answer : O
     shown = λ is. absurd (never answer cause.ConsoleFault no-show known is);
     limit = λ is. absurd (never answer cause.DeckLimit no-limit known is);
     beyond = λ more. absurd (let none : after.deck.taken ≡ 0 = ap (λ d. d.taken) deck ∙ ready.deck in omega (arith, none, more));
-    undamaged = λ input output told. whole input output;
+    undamaged = λ input output. whole input output;
     numbers = numbers;
     total = ap (λ d. bytes_total d.taken d.left) deck;
     kept = record { deck = deck; keys = keys; paper = tt; console = console; files = tt; input = tt; output = tt };
@@ -172,80 +160,94 @@ module _ {S Y K T F I O : Type 0} {before after : Kit S Y K T F I O} {answer : O
           (subst (λ answer. IfSome answer TellsPlace) (sym is) tt),
     )
 
-    -- ---- a run that met a fault
-    module _ (ran : Refusal) (is : answer ≡ Some ran) (paper : after.paper ≡ before.paper) (lowest : LowestDecides Nothing (Some ran)) where
-      pub made-failed : OfFault IsMakeCause ran → ran ≢ Fault cause.PrintFault
-          → (Some ran ≡ Some (Fault cause.DiskFault)
-          → Rose before.input.faults after.input.faults ⊎ Rose before.output.faults after.output.faults ⊎ Rose before.files.faults after.files.faults)
-          → (IsSome before.input.pages → IsSome before.output.pages → status_of (Some ran) ≢ 8)
+    -- ---- a run that ended so
+    module _ (outcomes : Outcomes) (stops : List (Option Side)) (together : EndTogether outcomes stops) (faults : FaultsAre outcomes) (counts : Counts)
+        (devices : CoreDevices Loaded) (counted : AreasCounted before after outcomes) (own : JobMeetsItsOwn before after outcomes)
+        (runs : RunsToEnd deck_jobs (Numbered n) (core_over before (Some (cards (made_deck n))) (Some [])) counts outcomes stops devices)
+        (undamaged : IsSome before.input.pages → IsSome before.output.pages → NoneDamaged outcomes) where
+      by-its-outcomes : answer ≡ as_refusal (decides (list_of outcomes)) → MakeEnds n before after answer
+      by-its-outcomes is = subst (MakeEnds n before after) (sym is) record {
+        five = lowest-decides outcomes stops together faults (LineBehind before after);
+        counted = counted;
+        own = own;
+        counts = counts;
+        devices = devices;
+        runs = runs;
+      }
+
+      by-its-line : decides (list_of outcomes) ≡ None → IfSome answer (OfFault (LineBehind before after)) → MakeEnds n before after answer
+      by-its-line none later = record {
+        five = comes-behind outcomes stops together faults (LineBehind before after) answer none later;
+        counted = counted;
+        own = own;
+        counts = counts;
+        devices = devices;
+        runs = runs;
+      }
+
+      -- one that met a fault
+      module _ (why : Cause) (is : decides (list_of outcomes) ≡ Some why) (told : answer ≡ Some (Fault why)) (paper : after.paper ≡ before.paper) where
+        at : IsIn (outcome.Fault why) (list_of outcomes)
+        at = among (list_of outcomes) why is
+
+        other : (c : Cause) → answer ≡ Some (Fault c) → IsIn (outcome.Fault c) (list_of outcomes)
+        other c answered = subst (λ c. IsIn (outcome.Fault c) (list_of outcomes)) (same (sym told ∙ answered)) at where
+          same : Some (Fault why) ≡ Some (Fault c) → why ≡ c
+          same e = cc
+
+        disk : (outcomes.input ≡ outcome.Fault cause.DiskFault)
+            ⊎ ((outcomes.job ≡ outcome.Fault cause.DiskFault) ⊎ (outcomes.output ≡ outcome.Fault cause.DiskFault))
+            → Rose before.input.faults after.input.faults ⊎ Rose before.output.faults after.output.faults ⊎ Rose before.files.faults after.files.faults
+        disk (inl is) = inl (counted.input is)
+        disk (inr (inl is)) = counted.job is
+        disk (inr (inr is)) = inr (inl (counted.output is))
+
+        made-failed : AsRun (MakesDeck n) made_used IsMakeCause before after answer
+        made-failed = (
+          record {
+            prints = not-printed before after answer n ready (λ none. (let no : Some (Fault why) ≡ None = sym told ∙ none in cc)) paper;
+            unprinted = λ _. paper;
+            ends = inl (by-its-outcomes (told ∙ ap as_refusal (sym is)));
+          },
+          made-answers (subst (λ answer. IfSome answer (OfFault IsMakeCause)) (sym told)
+              (made-of outcomes faults (counted.card cause.ReadFault) (counted.card cause.DeckLimit) why at (run-cause outcomes faults why at)))
+              (λ is. disk (disk-in outcomes faults (other cause.DiskFault is)))
+              (λ is. absurd (counted.printer (print-in outcomes faults (other cause.PrintFault is))))
+              (λ input output eight. in-none outcomes (undamaged input output) why (eight-is why (ap status_of (sym told) ∙ eight)) at)
+              (subst (λ answer. IfSome answer TellsPlace) (sym told) (numbers-in outcomes faults why at)),
+        )
+
+      -- one that is done, and its numbers
+      made-done : decides (list_of outcomes) ≡ None → IfSome answer (OfFault IsPrintCause)
+          → (answer ≡ Some (Fault cause.PrintFault) → Rose before.paper.faults after.paper.faults)
+          → (SpoolsTell before → (found : Loads) → PrintsBytes before.paper after.paper (text (deck_lines found (made_deck n) counts)) answer)
           → AsRun (MakesDeck n) made_used IsMakeCause before after answer
-      made-failed known sure disk whole = (
+      made-done none known failed prints = (
         record {
-          prints = not-printed before after answer n ready (λ none. (let no : Some ran ≡ None = sym is ∙ none in cc)) paper;
-          unprinted = λ _. paper;
-          ends = inl (subst (LowestDecides (LineBehind before after)) (sym is) (as-lowest before after ran lowest));
+          prints = λ spools. record {
+            counts = counts;
+            counted = counted-whole (spools_told before) (cards (made_deck n)) no_files (found_are_loads before.files.pages) (in-bounds ready)
+                (card-items (made_deck n)) (inr (no-files n)) runs (both-tell spools) (all-done outcomes stops together none);
+            gains = λ found. (prints spools found).gains;
+          };
+          unprinted = λ at. absurd (three-or-eight (status_of answer) at (print-status answer known));
+          ends = inl (by-its-line none (later-line before after answer known failed));
         },
-        made-answers (subst (λ answer. IfSome answer (OfFault IsMakeCause)) (sym is) known) (λ at. disk (sym is ∙ at))
-            (λ at. absurd (sure (some-is (sym is ∙ at)))) (λ input output eight. whole input output (ap status_of (sym is) ∙ eight))
-            (subst (λ answer. IfSome answer TellsPlace) (sym is) (numbers ran lowest.one_of)),
-      ) where
-        numbers : (ran : Refusal)
-            → OfFault (λ why. IsIn (outcome.Fault why) (list_of lowest.outcomes) ⊎ ((lowest.outcomes ≡ all_done) × Nothing why)) ran → TellsPlace ran
-        numbers (NoRoom needed free) one = tt
-        numbers (Fault why) (inl at) = numbers-in lowest.outcomes lowest.faults why at
-        numbers (Fault why) (inr both) = absurd both.1
+        made-answers (print-make answer known)
+            (λ is. absurd (no-disk (subst (λ answer. IfSome answer (OfFault IsPrintCause)) is known))) failed
+            (λ input output eight. three-or-eight (status_of answer) (inr eight) (print-status answer known)) (print-numbers answer known),
+      )
 
-        some-is : {a b : Refusal} → Some a ≡ Some b → a ≡ b
-        some-is same = cc
-
-    -- ---- one that is done, and its numbers
-    pub made-done : (counts : Counts) → LowestDecides Nothing None → IfSome answer (OfFault IsPrintCause)
-        → (answer ≡ Some (Fault cause.PrintFault) → Rose before.paper.faults after.paper.faults)
-        → (SpoolsTell before → AreItsCounts (the_law deck_jobs) (Numbered n) (core_over before (Some (cards (made_deck n))) (Some [])) counts)
-        → (SpoolsTell before → (found : Loads) → PrintsBytes before.paper after.paper (text (deck_lines found (made_deck n) counts)) answer)
-        → AsRun (MakesDeck n) made_used IsMakeCause before after answer
-    made-done counts lowest known failed counted prints = (
-      record {
-        prints = λ spools. record { counts = counts; counted = counted spools; gains = λ found. (prints spools found).gains };
-        unprinted = λ at. absurd (three-or-eight (status_of answer) at (print-status answer known));
-        ends = inl record {
-          outcomes = lowest.outcomes;
-          stopped_by = lowest.stopped_by;
-          together = lowest.together;
-          faults = lowest.faults;
-          one_of = behind answer (later-line before after answer known failed);
-          none_lower = λ fault at. absurd (let lower = lowest.none_lower fault at in (let none : None ≡ Some (Fault lower.0) = lower.1 in cc));
-          done = λ _. lowest.done refl;
-        };
-      },
-      made-answers (print-make answer known)
-          (λ is. absurd (no-disk (subst (λ answer. IfSome answer (OfFault IsPrintCause)) is known))) failed
-          (λ input output eight. three-or-eight (status_of answer) (inr eight) (print-status answer known)) (print-numbers answer known),
-    ) where
-      behind : (answer : Option Refusal) → IfSome answer (OfFault (LineBehind before after))
-          → IfSome answer (OfFault (λ why. IsIn (outcome.Fault why) (list_of lowest.outcomes)
-          ⊎ ((lowest.outcomes ≡ all_done) × LineBehind before after why)))
-      behind None later = tt
-      behind (Some (NoRoom needed free)) later = later
-      behind (Some (Fault why)) later = inr (lowest.done refl, later)
-
-    -- ---- both
-    pub made-ran : (ran : Option Refusal) (counts : Counts) → IfSome ran (λ why. (answer ≡ Some why) × (after.paper ≡ before.paper))
-        → LowestDecides Nothing ran → IfSome ran (OfFault IsMakeCause) → ran ≢ Some (Fault cause.PrintFault)
-        → (ran ≡ Some (Fault cause.DiskFault)
-        → Rose before.input.faults after.input.faults ⊎ Rose before.output.faults after.output.faults ⊎ Rose before.files.faults after.files.faults)
-        → (IsSome before.input.pages → IsSome before.output.pages → status_of ran ≢ 8)
-        → (ran ≡ None → IfSome answer (OfFault IsPrintCause))
-        → (ran ≡ None → answer ≡ Some (Fault cause.PrintFault) → Rose before.paper.faults after.paper.faults)
-        → (SpoolsTell before → ran ≡ None
-        → AreItsCounts (the_law deck_jobs) (Numbered n) (core_over before (Some (cards (made_deck n))) (Some [])) counts)
-        → (SpoolsTell before → ran ≡ None → (found : Loads)
-        → PrintsBytes before.paper after.paper (text (deck_lines found (made_deck n) counts)) answer)
-        → AsRun (MakesDeck n) made_used IsMakeCause before after answer
-    made-ran None counts fault lowest known sure disk whole printed failed counted prints =
-        made-done counts lowest (printed refl) (failed refl) (λ spools. counted spools refl) (λ spools found. prints spools refl found)
-    made-ran (Some why) counts fault lowest known sure disk whole printed failed counted prints =
-        made-failed why fault.0 fault.1 lowest known (λ is. sure (ap Some is)) disk whole
+      -- both
+      pub made-ran : (found : Option Cause) → decides (list_of outcomes) ≡ found
+          → IfSome (as_refusal found) (λ why. (answer ≡ Some why) × (after.paper ≡ before.paper))
+          → (as_refusal found ≡ None → IfSome answer (OfFault IsPrintCause))
+          → (as_refusal found ≡ None → answer ≡ Some (Fault cause.PrintFault) → Rose before.paper.faults after.paper.faults)
+          → (SpoolsTell before → as_refusal found ≡ None → (found : Loads)
+          → PrintsBytes before.paper after.paper (text (deck_lines found (made_deck n) counts)) answer)
+          → AsRun (MakesDeck n) made_used IsMakeCause before after answer
+      made-ran None is fault known failed prints = made-done is (known refl) (failed refl) (λ spools. prints spools refl)
+      made-ran (Some why) is fault known failed prints = made-failed why is fault.0 fault.1
 
 -- what stays as it was tells the same
 pub as-told : {A B : Type 0} (tells : A → B) (before after : A) (answer ran : Option Refusal)

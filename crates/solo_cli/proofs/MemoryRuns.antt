@@ -1,5 +1,5 @@
 -- What may end a run over a deck and a paper in memory.
-use Rattle.std.proofs.Common.{◌≡◌, ◌≢◌, ◌⊎◌, inl, inr, ◌≤◌, ◌<◌, ℕ, ◌+◌, List, length, Option, Some, None, refl, ap, subst, arith}
+use Rattle.std.proofs.Common.{◌≡◌, ◌≢◌, ◌⊎◌, inl, inr, ◌≤◌, ◌<◌, ℕ, ◌+◌, List, length, Option, Some, None, refl, ◌∙◌, ap, arith, subst}
 use Rattle.std.specs.Prelude.{IfSome}
 use Rattle.solo_base.specs.declared.outcome.Cause.{Cause}
 use Rattle.solo_base.specs.declared.outcome.Cause.TheVariants as cause
@@ -33,14 +33,17 @@ within-limit taken place left before bytes total zero is few more =
     same : {A : Type 0} {a b : A} → Some a ≡ Some b → a ≡ b
     same e = cc
 
--- the cause of a run by that of the command
-pub cause-is : (why : Option Cause) (it : Cause) → as_refusal why ≡ Some (Fault it) → why ≡ Some it
-cause-is None it is = cc
-cause-is (Some why) it is = (let same : why ≡ it = cc in ap Some same)
+-- a deck in memory gives each card
+pub no-card : (outcomes : Outcomes) → FaultsAre outcomes → (outcomes.card ≡ outcome.Fault cause.ReadFault → ⊥)
+    → (outcomes.card ≡ outcome.Fault cause.DeckLimit → ⊥) → (why : Cause) → outcomes.card ≡ outcome.Fault why → ⊥
+no-card outcomes faults read limit why at = elim (faults.card why at) [
+  | inl is ↦ read (at ∙ ap outcome.Fault is)
+  | inr is ↦ limit (at ∙ ap outcome.Fault is)
+]
 
 module _ (outcomes : Outcomes) (faults : FaultsAre outcomes) (reads : outcomes.card ≡ outcome.Fault cause.ReadFault → ⊥)
     (limit : outcomes.card ≡ outcome.Fault cause.DeckLimit → ⊥) where
-  made-of : (why : Cause) → IsIn (outcome.Fault why) (list_of outcomes) → IsRunCause why → IsMakeCause why
+  pub made-of : (why : Cause) → IsIn (outcome.Fault why) (list_of outcomes) → IsRunCause why → IsMakeCause why
   made-of why at (inl is) = absurd (reads (read-in outcomes faults (subst (λ why. IsIn (outcome.Fault why) (list_of outcomes)) is at)))
   made-of why at (inr (inl is)) = inl is
   made-of why at (inr (inr (inl is))) = inr (inl is)
@@ -48,18 +51,3 @@ module _ (outcomes : Outcomes) (faults : FaultsAre outcomes) (reads : outcomes.c
       absurd (limit (limit-in outcomes faults (subst (λ why. IsIn (outcome.Fault why) (list_of outcomes)) is at)))
   made-of why at (inr (inr (inr (inr (inl is))))) = inr (inr (inl is))
   made-of why at (inr (inr (inr (inr (inr is))))) = inr (inr (inr is))
-
-  made-by : (found : Option Cause) → decides (list_of outcomes) ≡ found → IfSome (as_refusal found) (OfFault IsMakeCause)
-  made-by None is = tt
-  made-by (Some why) is =
-      let at = among (list_of outcomes) why is in made-of why at (run-cause outcomes faults why at)
-
-  pub known-made : IfSome (as_refusal (decides (list_of outcomes))) (OfFault IsMakeCause)
-  known-made = made-by (decides (list_of outcomes)) refl
-
-whole-by : (outcomes : Outcomes) → NoneDamaged outcomes → (found : Option Cause) → decides (list_of outcomes) ≡ found → status_of (as_refusal found) ≢ 8
-whole-by outcomes none None is eight = cc
-whole-by outcomes none (Some why) is eight = in-none outcomes none why (eight-is why eight) (among (list_of outcomes) why is)
-
-pub whole-made : (outcomes : Outcomes) → NoneDamaged outcomes → status_of (as_refusal (decides (list_of outcomes))) ≢ 8
-whole-made outcomes none = whole-by outcomes none (decides (list_of outcomes)) refl

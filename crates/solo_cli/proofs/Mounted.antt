@@ -19,7 +19,7 @@ use Rattle.solo_cli.specs.Reasons.{Answers}
 use Rattle.solo_cli.specs.DeckRuns.{BatchEnds, CoreEnds, GainsCounted, RunsBatch, RunsCore, spools_told}
 use Rattle.solo_cli.specs.Decides.{DeckEnds, Nothing}
 use Rattle.solo_cli.specs.Devices.{Kit}
-use Rattle.solo_cli.specs.MakesDeck.{GainsNumbers, MakesDeck}
+use Rattle.solo_cli.specs.MakesDeck.{GainsNumbers, MakeEnds, MakesDeck}
 use Rattle.solo_cli.specs.Mounting.{AreMounted, MountsFiles, Untouched}
 use Rattle.solo_cli.specs.Causes.{IsMakeCause, IsRunCause}
 use Rattle.solo_cli.specs.Refusals.{IsDeckCause, IsMadeDeckCause, OfFault}
@@ -105,6 +105,24 @@ module _ {S Y K T F I O : Type 0} {before mid after : Kit S Y K T F I O} {answer
   mounted-core n ran = of-core n (subst (λ told. RunsCore n told after answer) m.stays ran)
 
   -- ---- `make`
+  abbrev make-ends : (n : ℕ) → MakeEnds n (moved before mid) after answer → MakeEnds n before after answer
+  make-ends n e = record {
+    five = e.five;
+    counted = record {
+      card = e.counted.card;
+      input = e.counted.input;
+      job = λ is. disk-on before mid after m.later (e.counted.job is);
+      output = e.counted.output;
+      printer = e.counted.printer;
+    };
+    own = λ is. disk-on before mid after m.later (e.own is);
+    counts = e.counts;
+    devices = e.devices;
+    runs = subst (λ pages. RunsToEnd deck_jobs (Numbered n)
+        (opened (spools_told before) (Some (cards (made_deck n))) (Some []) (files_found pages)) e.counts
+        e.five.outcomes e.five.stopped_by e.devices) m.left e.runs;
+  }
+
   of-make : (n : ℕ) → MakesDeck n (moved before mid) after answer → MakesDeck n before after answer
   of-make n made = record {
     prints = λ spools.
@@ -112,7 +130,7 @@ module _ {S Y K T F I O : Type 0} {before mid after : Kit S Y K T F I O} {answer
         (made_deck n) before.paper.given after.paper.given (answer ≡ None)) m.left
         (made.prints record { input = spools.input; output = spools.output });
     unprinted = made.unprinted;
-    ends = or-untouched before mid after (λ e. e) made.ends;
+    ends = or-untouched before mid after (make-ends n) made.ends;
   }
 
   pub mounted-make : (n : ℕ) → MakesDeck n mid after answer → MakesDeck n before after answer

@@ -81,7 +81,7 @@ module _ {S Y K T F I O : Type 0} {before after : Kit S Y K T F I O} {answer : O
     shown = λ at. absurd (other cause.ConsoleFault not-shown at);
     limit = λ at. absurd (other cause.DeckLimit not-limit at);
     beyond = λ more. absurd (over more);
-    undamaged = λ input output told eight. not-eight why one (ap status_of (sym is) ∙ eight);
+    undamaged = λ input output eight. not-eight why one (ap status_of (sym is) ∙ eight);
     numbers = subst (λ answer. IfSome answer TellsPlace) (sym is) (mount-numbers why one);
     total = (ap (λ d. bytes_total d.taken d.left) none.untouched.deck, ap (λ d. bytes_total d.taken d.left) none.keys);
     kept = record { deck = tt; keys = tt; paper = tt; console = tt; files = tt; input = none.untouched.input; output = none.untouched.output };

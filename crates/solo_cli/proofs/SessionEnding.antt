@@ -265,7 +265,7 @@ module _ {S Y K T F I O : Type 0} {before after : Kit S Y K T F I O} {answer : O
     shown = shown;
     limit = limit;
     beyond = beyond deck keys;
-    undamaged = λ input output told. session-whole answer known;
+    undamaged = λ input output. session-whole answer known;
     numbers = session-numbers answer known;
     total = (deck_total, keys_total);
     kept = kept;

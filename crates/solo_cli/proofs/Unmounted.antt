@@ -166,7 +166,7 @@ module _ {S Y K T F I O : Type 0} {before after : Kit S Y K T F I O} {answer : O
     shown = λ is. absurd (other-than cause.ConsoleFault no-show is);
     limit = λ is. absurd (other-than cause.DeckLimit no-limit is);
     beyond = λ more. absurd (let none : after.deck.taken ≡ 0 = ap (λ t. t.deck.taken) u.stays ∙ ready.deck in omega (arith, none, more));
-    undamaged = λ input output told. not-eight u.why;
+    undamaged = λ input output. not-eight u.why;
     numbers = (let some = some-cause u.why in subst (λ answer. IfSome answer TellsPlace) (sym some.1) (mount-numbers some.0 some.2));
     total = ap (λ t. bytes_total t.deck.taken t.deck.left) u.stays;
     kept = record {

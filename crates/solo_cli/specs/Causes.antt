@@ -1,8 +1,7 @@
 -- What may end a run, a judgement or the making of a deck.
-use Rattle.std.specs.Prelude.{◌≡◌, ◌≤◌, ◌⊎◌, ℕ, List, Option, Some, None, length}
+use Rattle.std.specs.Prelude.{◌≡◌, ◌⊎◌}
 use Rattle.solo_base.specs.declared.outcome.Cause.{Cause}
 use Rattle.solo_base.specs.declared.outcome.Cause.TheVariants as cause
-use Rattle.solo_devices.specs.CardUnit.{byte_limit}
 use Rattle.batch_procs.specs.Faults.{IsDamaged}
 
 -- what may end a run of the five processes
@@ -38,8 +37,3 @@ IsSessionCause (cause.Damaged expected found at) = ⊥
 -- what may end the printing of a line
 abbrev pub IsPrintCause : Cause → Type 0
 IsPrintCause c = (c ≡ cause.PrintFault) ⊎ (c ≡ cause.NoMemory)
-
--- a deck that tells its bytes, no more than the limit allows
-abbrev pub IsWithinLimit : Option (List ℕ) → Type 0
-IsWithinLimit None = ⊥
-IsWithinLimit (Some bytes) = length bytes ≤ byte_limit

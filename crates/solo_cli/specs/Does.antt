@@ -19,7 +19,7 @@ use Rattle.solo_cli.specs.MakesDeck.{MakesDeck}
 use Rattle.solo_cli.specs.Mounting.{MountsFiles}
 use Rattle.solo_cli.specs.Reading.{ReadsToEnd}
 use Rattle.solo_cli.specs.Sessions.{MountsFirst, RunsSession}
-use Rattle.solo_cli.specs.TimesConsole.{GainsTimes}
+use Rattle.solo_cli.specs.TimesConsole.{GainsTimes, TimesEnds}
 
 -- `check`: the paper gains the line of the judgement of the deck, as a description of access rights, or a
 -- prefix of it, and all of it where there is no cause.
@@ -31,12 +31,14 @@ pub record Checks {S Y K T F I O : Type 0} (before after : Kit S Y K T F I O) (a
   pub reads : ReadsToEnd before.deck after.deck (answer ≡ None)
 
 -- `times`: the console gains the lines of the script that is typed and behind them the line of the counts, or
--- a prefix of them, and all of them where there is no cause.
+-- a prefix of them, and all of them where there is no cause. What is displayed when is what a run of the nine
+-- does.
 pub record RunsTimes {S Y K T F I O : Type 0} (schedule : ℕ) (before after : Kit S Y K T F I O)
     (answer : Option Refusal) : Type 0 where
   pub shows : (bytes : List ℕ) → before.keys.left ≡ Some bytes
       → GainsTimes (Numbered schedule) (cards bytes) before.console.given after.console.given (answer ≡ None)
   pub reads : ReadsToEnd before.keys after.keys (answer ≡ None)
+  pub ends : TimesEnds (Numbered schedule) before.keys after.keys before.console after.console answer
 
 -- `format`: an area without a file, and whatever fails the pages of files stay.
 pub record Formats {S Y K T F I O : Type 0} (before after : Kit S Y K T F I O) (answer : Option Refusal)

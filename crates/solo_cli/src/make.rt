@@ -1,5 +1,5 @@
 //! The command that makes the deck of a number, runs it in memory and prints the numbers of both.
-ghost use Rattle.std.specs.Prelude.{◌≡◌, ◌≢◌, ◌⊎◌, ◌≤◌, ◌<◌, ◌==◌, ℕ, List, [], Some, None, IsSome, IfSome, IfOk, length, count_by, true};
+ghost use Rattle.std.specs.Prelude.{◌≡◌, ◌≤◌, ◌==◌, ℕ, List, Some, None, IfSome, IfOk, length, count_by, true};
 ghost use Rattle.std.specs.List.{AllByRecursion};
 ghost use Rattle.solo_base.specs.Text.{text};
 ghost use Rattle.solo_base.specs.Card.{cards};
@@ -7,17 +7,9 @@ ghost use Rattle.solo_base.specs.Line.{IsLine};
 ghost use Rattle.solo_devices.specs.CardUnit.{byte_limit};
 ghost use Rattle.solo_devices.specs.Count.{Rose};
 ghost use Rattle.deck_format.specs.Jobs.{jobs};
-ghost use Rattle.batch_job.specs.Report.{Loads};
-ghost use Rattle.batch_job.specs.OneThread.{one_thread_output};
 ghost use Rattle.made_deck.specs.MadeDeck.{made_deck};
-ghost use Rattle.core_law.specs.Opening.{opened};
-ghost use Rattle.core_law.specs.TheLaw.{the_law};
-ghost use Rattle.batch_ends.specs.Openings.{spools_over};
-ghost use Rattle.network_run.specs.OneRun.{AreItsCounts};
-ghost use Rattle.deck_work.specs.DeckJobs.{AreFound, files_found, deck_jobs};
 ghost use Rattle.solo_cli.specs.Reasons.{Answers, AsRun};
 ghost use Rattle.solo_cli.specs.Causes.{IsMakeCause, IsPrintCause};
-ghost use Rattle.solo_cli.specs.Decides.{LowestDecides, Nothing};
 ghost use Rattle.solo_cli.specs.DeckNumbers.{five_lines, characters_of};
 ghost use Rattle.solo_cli.specs.Devices.{sink_told, kit, kit_of};
 ghost use Rattle.solo_cli.specs.MakesDeck.{MakesDeck};
@@ -25,7 +17,6 @@ ghost use Rattle.solo_cli.specs.Mounting.{MountsFiles};
 ghost use Rattle.solo_cli.specs.Printing.{PrintsBytes};
 ghost use Rattle.solo_cli.specs.Ready.{MayBeGiven};
 ghost use Rattle.solo_cli.specs.Refusals.{MayBeRefused, OfFault};
-ghost use Rattle.solo_cli.specs.Status.{status_of};
 ghost use Rattle.solo_cli.specs.Uses.{made_used, uses};
 
 use crate::counts::{counts_line, number_line};
@@ -107,7 +98,8 @@ fn deck_of(alloc: Global, number: u32) -> Result<(Vec<u8>, DeckNumbers), NoMemor
     Ok((deck, numbers))
 }
 
-// Runs a deck in memory, and prints its numbers and what was counted.
+// Runs a deck to a paper in memory, under the schedule of this number, and prints its numbers and what was
+// counted.
 #[inline(never)]
 fn run_made<S: Source, Y: Source, K: Sink, T: Sink, F: Area + Drop, I: Area, O: Area>(
     alloc: Global,
@@ -138,77 +130,11 @@ fn run_made<S: Source, Y: Source, K: Sink, T: Sink, F: Area + Drop, I: Area, O: 
         input,
         output,
     } = devices;
-    let ran = run_in_memory(alloc, number, deck, files, input, output);
-    let InMemory {
-        cause,
-        printed,
-        counts,
-        files,
-        input,
-        output,
-    } = ran;
-    let (cause, paper) = print_numbers(paper, cause, numbers, &printed, counts);
-    Done {
-        cause,
-        devices: Devices {
-            deck: unread,
-            keys,
-            paper,
-            console,
-            files,
-            input,
-            output,
-        },
-    }
-}
-
-/// How a run in memory ended: what it printed and counted, and the areas that it used.
-struct InMemory<F, I, O> {
-    cause: Option<Refusal>,
-    printed: SureSink,
-    counts: Counts,
-    files: F,
-    input: I,
-    output: O,
-}
-
-// Runs a deck to a paper in memory, under the schedule of this number.
-#[inline(never)]
-fn run_in_memory<F: Area + Drop, I: Area, O: Area>(
-    alloc: Global,
-    number: u32,
-    deck: Vec<u8>,
-    files: FileArea<F>,
-    input: I,
-    output: O,
-) -> InMemory<F, I, O>
-    requires files { files.sound ≡ true }
-    requires deck { length deck.items ≤ byte_limit }
-    requires input { (0 < I.size input) × (I.size input ≤ 256) }
-    requires output { (0 < O.size output) × (O.size output ≤ 256) }
-    ensures counted { (found : Loads) → AreFound (files_found (F.pages files.area)) found (cards deck.items) →
-        IsSome (I.pages input) → IsSome (O.pages output) → result.cause ≡ None →
-        AreItsCounts (the_law deck_jobs) (Rule.Numbered number)
-        (opened (spools_over (I.size input) (I.pages input) (O.size output) (O.pages output))
-        (Some (cards deck.items)) (Some []) (files_found (F.pages files.area))) result.counts }
-    ensures printed { (found : Loads) → AreFound (files_found (F.pages files.area)) found (cards deck.items) →
-        IsSome (I.pages input) → IsSome (O.pages output) → result.cause ≡ None →
-        ⟦<SureSink as Sink>⟧.given result.printed ≡ Some (text (one_thread_output found deck.items)) }
-    ensures lowest { LowestDecides Nothing result.cause }
-    ensures disk { result.cause ≡ Some (Refusal.Fault Cause.DiskFault) →
-        Rose (I.faults input) (I.faults result.input) ⊎ Rose (O.faults output) (O.faults result.output)
-        ⊎ Rose (F.faults files.area) (F.faults result.files) }
-    ensures left { F.pages result.files ≡ F.pages files.area }
-    ensures size { F.size result.files ≡ 4288 }
-    ensures undamaged { IsSome (I.pages input) → IsSome (O.pages output) → status_of result.cause ≢ 8 }
-    ensures known { IfSome result.cause (OfFault IsMakeCause) }
-    ensures sure { result.cause ≢ Some (Refusal.Fault Cause.PrintFault) }
-{
-    let deck = SureSource::new(deck, PIECE);
-    let paper = SureSink::new(alloc);
+    let source = SureSource::new(deck, PIECE);
+    let sink = SureSink::new(alloc);
     let units = Units {
-        deck: CardUnit::new(deck),
-        paper: PrinterUnit::new(paper),
+        deck: CardUnit::new(source),
+        paper: PrinterUnit::new(sink),
         files: DeckFiles { files },
         input,
         output,
@@ -227,13 +153,18 @@ fn run_in_memory<F: Area + Drop, I: Area, O: Area>(
         input,
         output,
     } = devices;
-    InMemory {
+    let (cause, paper) = print_numbers(paper, cause, numbers, &printed, counts);
+    Done {
         cause,
-        printed,
-        counts,
-        files,
-        input,
-        output,
+        devices: Devices {
+            deck: unread,
+            keys,
+            paper,
+            console,
+            files,
+            input,
+            output,
+        },
     }
 }
 

@@ -9,11 +9,11 @@ ghost use Rattle.time_net.specs.TimeStands.{IsTimesCause};
 ghost use Rattle.time_net.specs.TimesRuns.{fault_told};
 ghost use Rattle.solo_cli.specs.Reasons.{Answers};
 ghost use Rattle.solo_cli.specs.CountsLine.{counts_line};
-ghost use Rattle.solo_cli.specs.Devices.{kit_of};
+ghost use Rattle.solo_cli.specs.Devices.{kit_of, sink_told, source_told};
 ghost use Rattle.solo_cli.specs.Does.{RunsTimes};
 ghost use Rattle.solo_cli.specs.Ready.{MayBeGiven};
 ghost use Rattle.solo_cli.specs.Refusals.{MayBeRefused, OfFault};
-ghost use Rattle.solo_cli.specs.TimesConsole.{GainsTimes};
+ghost use Rattle.solo_cli.specs.TimesConsole.{GainsTimes, TimesEnds};
 ghost use Rattle.solo_cli.specs.Uses.{uses};
 
 use crate::counts::counts_line;
@@ -71,6 +71,8 @@ fn run_script<Y: Source, T: Sink>(schedule: u32, keys: Y, console: T) -> (Option
     ensures output { (bytes : List ℕ) → Y.left keys ≡ Some bytes →
         GainsTimes (Rule.Numbered schedule) (cards bytes) (T.given console) (T.given result.2)
         (result.0 ≡ None) }
+    ensures ends { TimesEnds (Rule.Numbered schedule) (source_told Y.Source keys)
+        (source_told Y.Source result.1) (sink_told T.Sink console) (sink_told T.Sink result.2) result.0 }
     ensures all_taken { result.0 ≡ None → IsAllTaken (Y.left result.1) }
     ensures read { result.0 ≡ Some (Refusal.Fault Cause.ReadFault) →
         Rose (Y.faults keys) (Y.faults result.1) }

@@ -38,6 +38,34 @@ returns-in-Some-clause-output g c = λ bytes told.
     (ran.outcome ≡ Done) (λ none. cc)
     (gains-same _ _ _ _ _ _ _ _ refl (ap g.T.Sink.given (sym c.into_inner-keys.ensures.console)) refl (λ done. done) (e.shows (cards bytes) keys))
 
+pub returns-in-None-clause-ends : goal.returns-in-None-clause-ends
+returns-in-None-clause-ends g c =
+    let e = c.run_times-ran.ensures in
+    let ran = c.run_times-ran.result.0 in
+    record {
+      counts = c.run_times-ran.result.1;
+      pending = ran.typewriter.keys.pending;
+      displayed = g.T.Sink.given c.into_inner-keys.result.1;
+      fault = None;
+      runs = rw (c.into_inner-keys.ensures.keys, c.into_inner-keys.ensures.console) e.runs;
+      faulty = tt;
+      faultless = λ _. c.show_counts-cause.ensures.line;
+    }
+
+pub returns-in-Some-clause-ends : goal.returns-in-Some-clause-ends
+returns-in-Some-clause-ends g c =
+    let e = c.run_times-ran.ensures in
+    let ran = c.run_times-ran.result.0 in
+    record {
+      counts = c.run_times-ran.result.1;
+      pending = ran.typewriter.keys.pending;
+      displayed = g.T.Sink.given c.into_inner-keys.result.1;
+      fault = Some c.in-Some.cause;
+      runs = rw (c.into_inner-keys.ensures.keys, c.into_inner-keys.ensures.console) e.runs;
+      faulty = (refl, refl);
+      faultless = λ none. absurd cc;
+    }
+
 pub returns-in-None-clause-all_taken : goal.returns-in-None-clause-all_taken
 returns-in-None-clause-all_taken g c = λ none.
     let e = c.run_times-ran.ensures in

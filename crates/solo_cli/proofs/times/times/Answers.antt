@@ -9,7 +9,11 @@ run_script-cause-requires g c = c.requires.keys
 pub returns-clause-times : goal.returns-clause-times
 returns-clause-times g c =
     let e = c.run_script-cause.ensures in
-    record { shows = e.output; reads = reads-to-end c.requires.keys e.total e.all_taken (λ over. inr (inr (e.beyond over))) }
+    record {
+      shows = e.output;
+      reads = reads-to-end c.requires.keys e.total e.all_taken (λ over. inr (inr (e.beyond over)));
+      ends = e.ends;
+    }
 
 pub returns-clause-answers : goal.returns-clause-answers
 returns-clause-answers g c =
