@@ -2,9 +2,9 @@
 use Rattle.std.proofs.Common.{◌≡◌, ◌⊎◌, inl, inr, ◌<◌, ◌≤◌, ◌+◌, ℕ, List, [], length, Option, Some, None, refl, sym, ◌∙◌, ap, arith}
 use Rattle.solo_base.specs.declared.outcome.Cause.TheVariants as cause
 use Rattle.solo_devices.specs.CardUnit.{byte_limit, bytes_total, IsAllTaken}
+use Rattle.run_report.specs.Told.{SourceTold}
 use Rattle.solo_cli.specs.declared.refusal.Refusal.{Refusal}
 use Rattle.solo_cli.specs.declared.refusal.Refusal.TheVariants.{Fault}
-use Rattle.solo_cli.specs.Devices.{SourceTold}
 use Rattle.solo_cli.specs.Reading.{IsWithinLimit, ReadsToEnd, StaysWithin}
 
 -- of a deck that told its bytes no more was taken than it had, and all of it where nothing is left

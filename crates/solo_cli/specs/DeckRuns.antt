@@ -15,60 +15,44 @@ use Rattle.network_run.specs.OneRun.{AreItsCounts}
 use Rattle.core_law.specs.Core.{CoreState, Devices as CoreDevices}
 use Rattle.core_law.specs.Opening.{Spools, opened}
 use Rattle.core_law.specs.TheLaw.{the_law}
-use Rattle.core_law.specs.Ends.{IsProcess}
-use Rattle.batch_procs.specs.Table.{process}
-use Rattle.batch_ends.specs.Ended.{outcome_at, stopped_at}
 use Rattle.batch_ends.specs.Openings.{spools_over}
-use Rattle.batch_run.specs.FiveRan.{EndedSo, FiveRan, histories}
 use Rattle.net_core.specs.WholeRuns.{RunsToEnd}
 use Rattle.deck_work.specs.DeckJobs.{AreFound, deck_jobs, files_found}
+use Rattle.run_report.specs.CountsLine.{counts_line}
 use Rattle.solo_cli.specs.declared.refusal.Refusal.{Refusal}
-use Rattle.solo_cli.specs.CountsLine.{counts_line}
 use Rattle.solo_cli.specs.Decides.{DeckEnds, JobMeetsItsOwn, LineBehind, Nothing}
-use Rattle.solo_cli.specs.Devices.{AreaTold, Kit}
+use Rattle.solo_cli.specs.Devices.{DeckKit}
 use Rattle.solo_cli.specs.Mounting.{Untouched}
 use Rattle.solo_cli.specs.Reading.{ReadsToEnd}
 
 -- the spools over the areas for them
-abbrev pub spools_told : {S Y K T F I O : Type 0} → Kit S Y K T F I O → Spools
+abbrev pub spools_told : {S K F I O : Type 0} → DeckKit S K F I O → Spools
 spools_told told = spools_over told.input.size told.input.pages told.output.size told.output.pages
 
 -- both areas tell their pages
-pub record SpoolsTell {S Y K T F I O : Type 0} (told : Kit S Y K T F I O) : Type 0 where
+pub record SpoolsTell {S K F I O : Type 0} (told : DeckKit S K F I O) : Type 0 where
   pub input : IsSome told.input.pages
   pub output : IsSome told.output.pages
 
 -- the core before a run of these cards to this paper, with the files and over the spools of these devices
-abbrev pub core_over : {S Y K T F I O : Type 0} → Kit S Y K T F I O → Option (List Item)
+abbrev pub core_over : {S K F I O : Type 0} → DeckKit S K F I O → Option (List Item)
     → Option (List ℕ) → CoreState Loaded
 core_over told deck paper = opened (spools_told told) deck paper (files_found told.files.pages)
 
 -- ---- `batch`
-abbrev pub pages_told : {F : Type 0} → AreaTold F → Option (List (List ℕ))
-pages_told area = area.pages
-
-abbrev pub faults_told : {F : Type 0} → AreaTold F → ℕ
-faults_told area = area.faults
-
--- The five that ran so: each has a history of its own, by which the calls of both sides of each of the four
--- buffers have met, and ended as this history says; by these outcomes the cause is decided.
-pub record BatchEnds {S Y K T F I O : Type 0} (before after : Kit S Y K T F I O) (answer : Option Refusal)
-    : Type 0 where
-  pub ends : DeckEnds Nothing before after answer
-  pub histories_are : FiveRan deck_jobs pages_told faults_told pages_told faults_told before.input after.input
-      before.output after.output (stopped_at ends.five.stopped_by)
-  pub each : (p : ℕ) → IsProcess p
-      → EndedSo (process deck_jobs p) (histories histories_are p) (outcome_at ends.five.outcomes p)
-
 -- The paper gains what one thread prints of the deck, with the files as they are told, or with any where no
--- job names one; or a prefix of it, and all of it where there is no cause.
-pub record RunsBatch {S Y K T F I O : Type 0} (before after : Kit S Y K T F I O) (answer : Option Refusal)
+-- job names one; or a prefix of it, and all of it where this holds.
+abbrev pub GainsReports : {S K F I O : Type 0} → DeckKit S K F I O → Option (List ℕ) → Type 0 → Type 0
+GainsReports before now all =
+    (bytes : List ℕ) (found : Loads) → before.deck.left ≡ Some bytes
+    → AreFound (files_found before.files.pages) found (cards bytes) → SpoolsTell before
+    → Gains before.paper.given now (text (one_thread_output found bytes)) all
+
+pub record RunsBatch {S K F I O : Type 0} (before after : DeckKit S K F I O) (answer : Option Refusal)
     : Type 0 where
-  pub prints : (bytes : List ℕ) (found : Loads) → before.deck.left ≡ Some bytes
-      → AreFound (files_found before.files.pages) found (cards bytes) → SpoolsTell before
-      → Gains before.paper.given after.paper.given (text (one_thread_output found bytes)) (answer ≡ None)
+  pub prints : GainsReports before after.paper.given (answer ≡ None)
   pub reads : ReadsToEnd before.deck after.deck (answer ≡ None)
-  pub ends : BatchEnds before after answer ⊎ Untouched before after
+  pub ends : DeckEnds Nothing before after answer ⊎ Untouched before after
 
 -- ---- `core`
 -- A paper gains these lines and behind them the line of these counts, or a prefix of that; all of it where
@@ -82,7 +66,7 @@ pub record GainsCounted (rule : Rule) (s : CoreState Loaded) (before now : Optio
       (text (lines ++ counts_line counts.events counts.delays counts.grants ∷ [])) all
 
 -- A run of the deck by the rule ended so.
-pub record CoreEnds {S Y K T F I O : Type 0} (rule : Rule) (before after : Kit S Y K T F I O)
+pub record CoreEnds {S K F I O : Type 0} (rule : Rule) (before after : DeckKit S K F I O)
     (answer : Option Refusal) : Type 0 where
   pub ends : DeckEnds (LineBehind before after) before after answer
   pub own : JobMeetsItsOwn before after ends.five.outcomes
@@ -93,7 +77,7 @@ pub record CoreEnds {S Y K T F I O : Type 0} (rule : Rule) (before after : Kit S
       ends.five.outcomes ends.five.stopped_by devices
 
 -- The same as of `batch`, and behind it what is counted under the schedule of this number.
-pub record RunsCore {S Y K T F I O : Type 0} (schedule : ℕ) (before after : Kit S Y K T F I O)
+pub record RunsCore {S K F I O : Type 0} (schedule : ℕ) (before after : DeckKit S K F I O)
     (answer : Option Refusal) : Type 0 where
   pub prints : (bytes : List ℕ) (found : Loads) → before.deck.left ≡ Some bytes
       → AreFound (files_found before.files.pages) found (cards bytes) → SpoolsTell before

@@ -23,7 +23,7 @@ use Rattle.solo_cli.specs.declared.refusal.Refusal.{Refusal}
 use Rattle.solo_cli.specs.DeckNumbers.{deck_lines}
 use Rattle.solo_cli.specs.DeckRuns.{SpoolsTell, core_over}
 use Rattle.solo_cli.specs.Decides.{JobMeetsItsOwn, LineBehind, LowestDecides}
-use Rattle.solo_cli.specs.Devices.{Kit}
+use Rattle.solo_cli.specs.Devices.{DeckKit}
 use Rattle.solo_cli.specs.Mounting.{Untouched}
 use Rattle.solo_cli.specs.Status.{status_of}
 
@@ -38,7 +38,7 @@ pub record GainsNumbers (rule : Rule) (s : CoreState Loaded) (deck : List ℕ)
 
 -- Each fault of these outcomes was counted by an area since. The deck and the paper are in memory: no card
 -- fails, and only want of memory ends the printing.
-pub record AreasCounted {S Y K T F I O : Type 0} (before after : Kit S Y K T F I O) (outcomes : Outcomes)
+pub record AreasCounted {S K F I O : Type 0} (before after : DeckKit S K F I O) (outcomes : Outcomes)
     : Type 0 where
   pub card : (why : Cause) → outcomes.card ≡ Fault why → ⊥
   pub input : outcomes.input ≡ Fault cause.DiskFault → Rose before.input.faults after.input.faults
@@ -49,20 +49,21 @@ pub record AreasCounted {S Y K T F I O : Type 0} (before after : Kit S Y K T F I
 
 -- A run of this deck to a paper in memory by the rule ended so: with these outcomes, by which the cause is
 -- decided, and these counts.
-pub record MakeEnds {S Y K T F I O : Type 0} (number : ℕ) (before after : Kit S Y K T F I O)
+pub record MakeEnds {S K F I O : Type 0} (number : ℕ) (before after : DeckKit S K F I O)
     (answer : Option Refusal) : Type 0 where
   pub five : LowestDecides (LineBehind before after) answer
   pub counted : AreasCounted before after five.outcomes
   pub own : JobMeetsItsOwn before after five.outcomes
   pub counts : Counts
   pub devices : CoreDevices Loaded
-  pub runs : RunsToEnd deck_jobs (Numbered number) (core_over before (Some (cards (made_deck number))) (Some []))
-      counts five.outcomes five.stopped_by devices
+  pub runs : RunsToEnd deck_jobs (Numbered number)
+      (core_over before (Some (cards (made_deck number))) (Some [])) counts
+      five.outcomes five.stopped_by devices
 
 -- The paper gains the numbers of the deck of this number, and what is counted of its run to a paper in
 -- memory, under the schedule of this number. Where an area failed or a spool gave a damaged page it gains
 -- nothing.
-pub record MakesDeck {S Y K T F I O : Type 0} (number : ℕ) (before after : Kit S Y K T F I O)
+pub record MakesDeck {S K F I O : Type 0} (number : ℕ) (before after : DeckKit S K F I O)
     (answer : Option Refusal) : Type 0 where
   pub prints : SpoolsTell before → GainsNumbers (Numbered number)
       (core_over before (Some (cards (made_deck number))) (Some [])) (made_deck number) before.paper.given

@@ -1,7 +1,7 @@
 -- What is read to its end.
 use Rattle.std.specs.Prelude.{◌≡◌, ◌<◌, ◌≤◌, ◌⊎◌, ℕ, List, [], Option, Some, None, length}
 use Rattle.solo_devices.specs.CardUnit.{byte_limit}
-use Rattle.solo_cli.specs.Devices.{SourceTold}
+use Rattle.run_report.specs.Told.{SourceTold}
 
 -- Where all is done nothing is left of what told its bytes. That never comes where there are more of them
 -- than the limit allows.

@@ -1,6 +1,5 @@
 -- Why a command ended as it did, told by its devices.
 use Rattle.std.specs.Prelude.{◌≡◌, ◌≢◌, ◌<◌, ◌⊎◌, Bool, true, false, Option, Some, IfSome, IsSome}
-use Rattle.solo_base.specs.declared.outcome.Cause.{Cause}
 use Rattle.solo_base.specs.declared.outcome.Cause.TheVariants as cause
 use Rattle.solo_devices.specs.Count.{Rose, Stayed}
 use Rattle.solo_devices.specs.CardUnit.{byte_limit, bytes_total}
@@ -10,7 +9,7 @@ use Rattle.solo_cli.specs.declared.words.Command.{Command}
 use Rattle.solo_cli.specs.Devices.{Kit}
 use Rattle.solo_cli.specs.FileCommands.{CanUse}
 use Rattle.solo_cli.specs.Reading.{StaysWithin}
-use Rattle.solo_cli.specs.Refusals.{OfFault, TellsPlace}
+use Rattle.solo_cli.specs.Refusals.{TellsPlace}
 use Rattle.solo_cli.specs.Status.{status_of}
 use Rattle.solo_cli.specs.Uses.{DevicesUsed, Kept, IfUsed, OfEachRead, OfSomeRead, uses}
 
@@ -54,13 +53,6 @@ pub record Answers {S Y K T F I O : Type 0} (used : DevicesUsed) (MayBe : Refusa
       (bytes_total after.keys.taken after.keys.left ≡ bytes_total before.keys.taken before.keys.left)
   pub kept : Kept used before after
   pub size : after.files.size ≡ before.files.size
-
--- What a run does with these devices, and why it ended so.
-abbrev pub AsRun : {S Y K T F I O : Type 0}
-    → (Kit S Y K T F I O → Kit S Y K T F I O → Option Refusal → Type 0) → DevicesUsed → (Cause → Type 0)
-    → Kit S Y K T F I O → Kit S Y K T F I O → Option Refusal → Type 0
-AsRun Runs used May before after answer =
-    Runs before after answer × Answers used (OfFault May) before after answer
 
 -- What a command is asked for can be done: what it reads stays within the limit, its spools tell their pages,
 -- its files are those that it wants, and no device was counted to fail.

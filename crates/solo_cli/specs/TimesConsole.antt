@@ -12,10 +12,10 @@ use Rattle.real_time.specs.Starts.{times}
 use Rattle.real_time.specs.States.{TimeState, opened}
 use Rattle.real_time.specs.TimesLaw.{timing}
 use Rattle.time_net.specs.TimesRuns.{TimesRun}
+use Rattle.run_report.specs.CountsLine.{counts_line}
+use Rattle.run_report.specs.Told.{SinkTold, SourceTold}
 use Rattle.solo_cli.specs.declared.refusal.Refusal.{Refusal}
 use Rattle.solo_cli.specs.declared.refusal.Refusal.TheVariants.{Fault}
-use Rattle.solo_cli.specs.CountsLine.{counts_line}
-use Rattle.solo_cli.specs.Devices.{SinkTold, SourceTold}
 
 -- the nine before the first of these lines, at a console that has this
 abbrev pub script_opened : List Item → Option (List ℕ) → TimeState
