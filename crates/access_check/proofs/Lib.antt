@@ -3,3 +3,4 @@ mod Pushing
 pub mod Reading
 mod Finding
 mod Climbing
+mod Entering

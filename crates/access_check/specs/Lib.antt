@@ -4,3 +4,4 @@ pub mod Description
 pub mod Judgement
 pub mod Adding
 pub mod Runs
+pub mod RunRows

@@ -8,6 +8,8 @@ mod fault;
 mod judge;
 mod name_list;
 mod names;
+mod run_rows;
 
 pub use fault::{Accepted, AccessFault};
 pub use judge::check;
+pub use run_rows::{a_run_in_order, runs_into_cycles};

@@ -4,6 +4,7 @@
 mod actions;
 mod card_proc;
 mod feeds;
+mod has_jobs;
 mod histories;
 mod input_proc;
 mod job_proc;
@@ -20,6 +21,7 @@ mod work;
 pub use actions::{Action, Reply};
 pub use card_proc::{CardProc, CardWork};
 pub use feeds::copy_feed;
+pub use has_jobs::HasJobs;
 pub use histories::histories_keep;
 pub use input_proc::{InputProc, InputWork};
 pub use job_proc::{JobProc, JobProcWork};

@@ -1,5 +1,6 @@
 -- A batch by its five histories, from what its processes did and how their ends met.
 use Rattle.std.proofs.Common.{◌≡◌, ℕ, List, Option, Some, sym, ◌∙◌, ap, subst}
+use Rattle.std.specs.List.{AllByRecursion}
 use Rattle.solo_base.specs.declared.outcome.Side.{Side}
 use Rattle.solo_base.specs.declared.outcome.Outcome.{Outcome}
 use Rattle.solo_devices.specs.CardUnit.{Held}
@@ -24,12 +25,13 @@ use Rattle.batch_ends.specs.declared.ends.Ran.{Ran}
 use Rattle.batch_sides.specs.Begun.{BeginsBy, units_at}
 use Rattle.batch_sides.specs.Cards.{DeckRan}
 use Rattle.batch_sides.specs.Files.{FileTells, FilesRan}
-use Rattle.batch_run.specs.FiveRan.{BatchRan, EndedSo, FiveRan, histories}
+use Rattle.batch_replay.specs.FiveRan.{BatchRan, EndedSo, FiveRan, histories}
 use Rattle.batch_sides.specs.Lines.{PaperRan}
 use Rattle.batch_sides.specs.Met.{AllMeet}
 use Rattle.batch_run.specs.Apart.{IsParted}
 use Rattle.batch_sides.specs.Row.{RowRan}
-use Rattle.batch_run.proofs.Ending.{each-process, follows, line-met, spool-met}
+use Rattle.batch_sides.specs.Running.{IsPrompt}
+use Rattle.batch_replay.proofs.Ending.{each-process, follows, line-met, spool-met, room-met}
 
 module _ {L : Type 0} {J : Jobs L} (jobs : AreJobs J) where
   module _ {S K F A B : Type 0} (left : S → Option (List ℕ)) (taken source_faults : S → ℕ) (given : K → Option (List ℕ)) (sink_faults : K → ℕ)
@@ -38,7 +40,8 @@ module _ {L : Type 0} {J : Jobs L} (jobs : AreJobs J) where
       (begins : BeginsBy gates ends deck paper files row)
       (ran : RowRan J left taken source_faults given sink_faults loader from_size to_size row ended) (is : IsParted ended parted) where
     module _ (input_told : A → Option (List (List ℕ))) (input_faults : A → ℕ) (output_told : B → Option (List (List ℕ))) (output_faults : B → ℕ)
-        (met : Met A B) (meets : AllMeet input_told input_faults output_told output_faults gates parted.ends met) where
+        (met : Met A B) (meets : AllMeet (from_size gates.input.area) (to_size gates.output.area) input_told input_faults output_told output_faults gates
+        parted.ends met) where
       abbrev first : ℕ → Option Side
       first = stopped_at met.stopped_by
 
@@ -100,6 +103,8 @@ module _ {L : Type 0} {J : Jobs L} (jobs : AreJobs J) where
       ended-so : (p : ℕ) → IsProcess p → EndedSo (process J p) (histories five p) (outcome_at outcomes p)
       ended-so p one = record {
         ended = ended-at p one;
+        prompt = each-process jobs (λ p. AllByRecursion IsPrompt (histories five p)) p one ran.cards.prompt ran.pages.prompt ran.jobs.prompt ran.lines.prompt
+            ran.paper.prompt;
         sends = sent-is-part J (process J p) (histories five p) ((the-five jobs).relays p) (follows jobs five p);
         all = λ done. ((ended-rightly J (process J p) (histories five p) (outcome_at outcomes p) ((the-five jobs).relays p) (follows jobs five p)
             (ended-at p one)).done done).0;
@@ -120,10 +125,14 @@ module _ {L : Type 0} {J : Jobs L} (jobs : AreJobs J) where
           subst (λ f. FilesRan loader f parted.files five.job_history) begins.files_are
           (subst (λ f. FilesRan loader row.jobs.files f five.job_history) (sym is.files) ran.jobs.stands.files)
 
-      pub batch-ran : BatchRan J left taken source_faults given sink_faults loader input_told input_faults output_told output_faults
+      pub batch-ran : BatchRan J left taken source_faults given sink_faults loader from_size input_told input_faults to_size output_told output_faults
           (units_at gates deck paper files) ran_to
       batch-ran = record {
         five = five;
+        input_room = room-met _ _ _ _ (from_size gates.input.area) meets.input_left (ap (λ e. e.calls) is.input_sender ∙ ran.pages.stands.to_calls)
+            (ap (λ e. e.calls) is.input_receiver ∙ ran.jobs.stands.from_calls) meets.input_room;
+        output_room = room-met _ _ _ _ (to_size gates.output.area) meets.output_left (ap (λ e. e.calls) is.output_sender ∙ ran.jobs.stands.to_calls)
+            (ap (λ e. e.calls) is.output_receiver ∙ ran.lines.stands.from_calls) meets.output_room;
         ends = ended-so;
         four = meets.four;
         deck = deck-ran;

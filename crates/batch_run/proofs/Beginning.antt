@@ -50,6 +50,7 @@ module _ {L : Type 0} (J : Jobs L) where
       paper []
   paper-begins given faults paper live = record {
     prints = λ before told. ([], nothing-gained (given paper.sink) before told, ([], refl), (λ none. refl));
+    gave = ([], tt, λ before told. told ∙ ap Some (sym (append-nil before)));
     untold = λ none. none;
     counts = same≤ (faults paper.sink);
     failed = λ e. absurd cc;

@@ -125,7 +125,7 @@ module _ {S K F A B : Type 0} (from_size : A → ℕ) (to_size : B → ℕ) {gat
 
     -- the units come back as they were
     pub units-back : {input_told : A → Option (List (List ℕ))} {input_faults : A → ℕ} {output_told : B → Option (List (List ℕ))} {output_faults : B → ℕ}
-        {met : Met A B} → AllMeet input_told input_faults output_told output_faults gates parted.ends met
+        {met : Met A B} {input_size output_size : ℕ} → AllMeet input_size output_size input_told input_faults output_told output_faults gates parted.ends met
         → record { deck = parted.deck; paper = parted.paper; files = parted.files; input = met.input; output = met.output }
         ≡ units_at gates deck paper files
     units-back {met = met} meets =

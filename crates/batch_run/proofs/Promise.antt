@@ -46,17 +46,17 @@ use Rattle.batch_ends.specs.Causes.{Counts}
 use Rattle.batch_ends.specs.Ended.{outcome_at, all_done, none_stopped, stopped_at, StoppedBeside, SomeFault, EndTogether, FaultsAre, NoneDamaged}
 use Rattle.batch_ends.specs.Faults.{FaultsAreCounted}
 use Rattle.batch_ends.specs.declared.ends.Ran.{Ran}
-use Rattle.batch_sides.specs.DoesOnly.{card-does, input-does, job-does, output-does, printer-does}
+use Rattle.batch_sides.proofs.DoesOnly.{card-does, input-does, job-does, output-does, printer-does}
 use Rattle.batch_sides.specs.Files.{FileTells}
-use Rattle.batch_run.specs.FiveRan.{BatchRan, FiveRan, histories}
+use Rattle.batch_replay.specs.FiveRan.{BatchRan, FiveRan, histories}
 use Rattle.batch_sides.specs.Lines.{does_printer, newest_print}
 use Rattle.batch_sides.specs.Input.{does_input}
 use Rattle.batch_sides.specs.Job.{does_job}
 use Rattle.batch_sides.specs.Output.{does_output}
 use Rattle.batch_run.proofs.Devices.{deck-reads, cards-taken, paper-gained}
 use Rattle.batch_sides.proofs.FileLoads.{all-loaded}
-use Rattle.batch_run.proofs.Ending.{each-process, follows, hand-over, are-first}
-use Rattle.batch_run.proofs.Given.{has-failed, put-failed, take-failed, read-failed, print-failed, load-failed, limit-cause}
+use Rattle.batch_replay.proofs.Ending.{each-process, follows, hand-over, are-first}
+use Rattle.batch_replay.proofs.Given.{has-failed, put-failed, take-failed, read-failed, print-failed, load-failed, limit-cause}
 use Rattle.batch_ends.specs.declared.units.Units.{Units}
 
 fault-cause : (found : Option Outcome) (c : Cause) → outcome_by found ≡ outcome.Fault c → found ≡ Some (outcome.Fault c)
@@ -90,9 +90,10 @@ module _ {L : Type 0} {J : Jobs L} (jobs : AreJobs J) where
   by-failed P a fits put take print load = absurd fits
 
   module _ {S K F A B : Type 0} {left : S → Option (List ℕ)} {taken source_faults : S → ℕ} {given : K → Option (List ℕ)} {sink_faults : K → ℕ}
-      {loader : FileTells L F} {input_told : A → Option (List (List ℕ))} {input_faults : A → ℕ} {output_told : B → Option (List (List ℕ))}
+      {loader : FileTells L F} {from_size : A → ℕ} {input_told : A → Option (List (List ℕ))} {input_faults : A → ℕ} {to_size : B → ℕ} {output_told : B
+      → Option (List (List ℕ))}
       {output_faults : B → ℕ} {units : Units S K F A B} {ran : Ran S K F A B}
-      (batch : BatchRan J left taken source_faults given sink_faults loader input_told input_faults output_told output_faults units ran) where
+      (batch : BatchRan J left taken source_faults given sink_faults loader from_size input_told input_faults to_size output_told output_faults units ran) where
     abbrev five : FiveRan J input_told input_faults output_told output_faults units.input ran.units.input units.output ran.units.output
         (stopped_at ran.stopped_by)
     five = batch.five

@@ -13,7 +13,8 @@ ghost use Rattle.batch_ends.specs.Faults.{FaultsAreCounted};
 ghost use Rattle.batch_ends.specs.Openings.{spools_over};
 ghost use Rattle.batch_sides.specs.Begun.{AreFresh, units_at};
 ghost use Rattle.batch_sides.specs.Files.{loading};
-ghost use Rattle.batch_run.specs.FiveRan.{BatchRan};
+ghost use Rattle.batch_replay.specs.FiveRan.{BatchRan};
+ghost use Rattle.batch_replay.specs.Told.{RanAsOne};
 ghost use Rattle.batch_run.specs.Apart.{IsParted};
 
 use batch_ends::{Outcomes, Peripherals, Ran, Units};
@@ -61,7 +62,14 @@ where
     // Each process did what a history asks for, and ended so, and the devices became what these histories
     // make of them; the side that stopped each buffer first is one of its two.
     ensures ran { IfOk result (λ ran. BatchRan J.jobs S.left S.taken S.faults K.given K.faults
-        (loading F.found F.pages F.faults F.sound) A.pages A.faults B.pages B.faults units ran) }
+        (loading F.found F.pages F.faults F.sound) A.size A.pages A.faults B.size B.pages B.faults units
+        ran) }
+
+    // And that is a run of the core: from each opening over these units some list of enabled events leads to
+    // a state with these five histories, where a told deck and the paper are as this batch left them.
+    ensures one_run { IfOk result (λ ran. RanAsOne J.jobs S.left S.taken S.faults K.given K.faults
+        (loading F.found F.pages F.faults F.sound) A.size A.pages A.faults B.size B.pages B.faults units
+        ran) }
 
     // How the five ended together, and where their faults come from.
     ensures together { IfOk result (λ ran. EndTogether ran.outcomes ran.stopped_by) }
@@ -155,7 +163,7 @@ where
     requires fresh { AreFresh (A.size gates.input.area) (B.size gates.output.area) gates ends }
     ensures refused { IfErr result (λ back. back.0 ≡ units_at gates deck paper files) }
     ensures ran { IfOk result (λ ran. BatchRan J.jobs S.left S.taken S.faults K.given K.faults
-        (loading F.found F.pages F.faults F.sound) A.pages A.faults B.pages B.faults
+        (loading F.found F.pages F.faults F.sound) A.size A.pages A.faults B.size B.pages B.faults
         (units_at gates deck paper files) ran) }
 {
     know_jobs::<J>();

@@ -25,7 +25,7 @@ use Rattle.batch_sides.specs.Cards.{CardMayMake, CardMade, CardRan, DeckRan, car
 use Rattle.batch_sides.specs.Running.{Performed}
 use Rattle.batch_sides.proofs.Decks.{deck-read}
 use Rattle.batch_sides.proofs.LineCalls.{not-stopped}
-use Rattle.batch_sides.specs.DoesOnly.{card-does}
+use Rattle.batch_sides.proofs.DoesOnly.{card-does}
 use Rattle.batch_sides.proofs.Performing.{both-as, only-does}
 
 module _ {L : Type 0} {J : Jobs L} (jobs : AreJobs J) where

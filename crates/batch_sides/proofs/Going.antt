@@ -1,6 +1,7 @@
 -- A process that runs over its side of the buffers: its machine and it stand for one history, up to its end.
 use Rattle.std.proofs.Common.{◌≡◌, Bool, List, [], ◌∷◌, Option, None, Some, Result, Ok, Err, refl, sym, ◌∙◌, ap, subst}
 use Rattle.std.specs.Prelude.{OnOk, OnErr}
+use Rattle.std.specs.List.{AllByRecursion}
 use Rattle.solo_base.specs.declared.outcome.Outcome.{Outcome}
 use Rattle.solo_base.specs.declared.no_memory.NoMemory.{NoMemory}
 use Rattle.batch_procs.specs.declared.actions.Action.{Action}
@@ -15,7 +16,7 @@ use Rattle.batch_procs.specs.Machine.{StandsFor, NextIs}
 use Rattle.batch_procs.specs.Laws.{HasEnded}
 use Rattle.batch_procs.specs.Parts.{some-same}
 use Rattle.batch_procs.proofs.Holding.{none-next}
-use Rattle.batch_sides.specs.Running.{DoesOnly, Performed, EndsSo, end_of}
+use Rattle.batch_sides.specs.Running.{DoesOnly, Performed, IsPrompt, EndsSo, end_of}
 use Rattle.batch_procs.specs.Jobs.{Jobs, AreJobs}
 
 module _ {L : Type 0} {J : Jobs L} (jobs : AreJobs J) where
@@ -25,6 +26,7 @@ module _ {L : Type 0} {J : Jobs L} (jobs : AreJobs J) where
     pub history : List (Entry L)
     pub machine_stands : StandsFor J p keeps machine history
     pub connected : Stands history
+    pub prompt : AllByRecursion IsPrompt history
     pub goes_on : HasEnded history → ⊥
 
   next-here : (p : Process L) (a : Action) (h : List (Entry L)) → (HasEnded h → ⊥) → NextIs (next_action p h) a → next_action p h ≡ Some a
@@ -34,7 +36,8 @@ module _ {L : Type 0} {J : Jobs L} (jobs : AreJobs J) where
 
   module _ {W X : Type 0} {p : Process L} {keeps : W → List (Parcel L) → List (Parcel L) → Bool → Type 0} {machine : Machine X W} where
     pub going-first : {Stands : List (Entry L) → Type 0} → StandsFor J p keeps machine [] → Stands [] → Going p keeps machine Stands
-    going-first stands connected = record { history = []; machine_stands = stands; connected = connected; goes_on = λ ended. (let e = ended.1 in absurd cc) }
+    going-first stands connected =
+        record { history = []; machine_stands = stands; connected = connected; prompt = tt; goes_on = λ ended. (let e = ended.1 in absurd cc) }
 
     module _ {q : Process L} {Stands : List (Entry L) → Type 0} {a : Action} (same : q ≡ p) (going : Going p keeps machine Stands)
         (next : (h : List (Entry L)) → StandsFor J p keeps machine h → NextIs (next_action p h) a) where
@@ -61,6 +64,7 @@ module _ {L : Type 0} {J : Jobs L} (jobs : AreJobs J) where
         history = Does a r ∷ going.history;
         stands = performed.done;
         follows = (next-is, performed.fits, follows-now);
+        prompt = (tt, going.prompt);
         ended = ap Some (end-is a how end);
       }
 
@@ -81,6 +85,7 @@ module _ {L : Type 0} {J : Jobs L} (jobs : AreJobs J) where
         history = Does a r ∷ going.history;
         machine_stands = ok going.history a going.machine_stands next-now performed.fits;
         connected = performed.done;
+        prompt = (tt, going.prompt);
         goes_on = not-ended r end;
       }
       going-on {Then} {r} (Err refused) performed end ok err =
@@ -89,5 +94,6 @@ module _ {L : Type 0} {J : Jobs L} (jobs : AreJobs J) where
             history = LacksMemory a r ∷ going.history;
             machine_stands = stands;
             connected = performed.lacks stands.follows.1.1;
+            prompt = (tt, going.prompt);
             goes_on = not-ended r end;
           }

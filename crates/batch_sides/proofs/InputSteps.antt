@@ -25,7 +25,7 @@ use Rattle.batch_sides.specs.Desks.{IsAt}
 use Rattle.batch_sides.specs.Input.{InputEndsAtGates, InputMayMake, InputMade, InputRan, does_input, input_with_stop}
 use Rattle.batch_sides.specs.Running.{Performed}
 use Rattle.batch_sides.proofs.LineCalls as lines
-use Rattle.batch_sides.specs.DoesOnly.{input-does}
+use Rattle.batch_sides.proofs.DoesOnly.{input-does}
 use Rattle.batch_sides.proofs.Performing.{both-as, ended-without, only-does}
 use Rattle.batch_sides.proofs.SpoolCalls as spools
 

@@ -28,7 +28,7 @@ use Rattle.batch_sides.specs.Files.{AreLoadedAs, FileTells, FilesRan, newest_loa
 use Rattle.batch_sides.specs.Job.{JobEndsAtGates, JobMayMake, JobMade, JobRan, does_job, job_with_stop}
 use Rattle.batch_sides.specs.Running.{Performed}
 use Rattle.batch_sides.proofs.FileLoads.{file-loaded, load-fits}
-use Rattle.batch_sides.specs.DoesOnly.{job-does}
+use Rattle.batch_sides.proofs.DoesOnly.{job-does}
 use Rattle.batch_sides.proofs.Performing.{both-as, ended-without, only-does}
 use Rattle.batch_sides.proofs.SpoolCalls.{may-put, may-take, not-stopped}
 

@@ -1,3 +1,4 @@
+pub mod DoesOnly
 pub mod Going
 pub mod Performing
 pub mod LineCalls

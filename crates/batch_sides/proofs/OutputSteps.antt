@@ -26,7 +26,7 @@ use Rattle.batch_sides.specs.Desks.{IsAt}
 use Rattle.batch_sides.specs.Output.{OutputEndsAtGates, OutputMayMake, OutputMade, OutputRan, does_output, output_with_stop}
 use Rattle.batch_sides.specs.Running.{Performed}
 use Rattle.batch_sides.proofs.LineCalls as lines
-use Rattle.batch_sides.specs.DoesOnly.{output-does}
+use Rattle.batch_sides.proofs.DoesOnly.{output-does}
 use Rattle.batch_sides.proofs.Performing.{both-as, ended-without, only-does}
 use Rattle.batch_sides.proofs.SpoolCalls as spools
 

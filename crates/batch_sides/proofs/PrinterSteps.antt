@@ -1,5 +1,5 @@
 -- One action of the printer process more: that it may perform it, and what its side has become.
-use Rattle.std.proofs.Common.{◌≡◌, ℕ, List, [], ◌∷◌, ◌++◌, Option, Some, refl, sym, ◌∙◌, ap, subst}
+use Rattle.std.proofs.Common.{◌≡◌, ℕ, List, [], ◌∷◌, ◌++◌, Option, Some, refl, sym, ◌∙◌, ap, subst, append-nil}
 use Rattle.solo_base.specs.declared.item.Feed.{Feed}
 use Rattle.solo_base.specs.declared.outcome.Side.TheVariants.{Receiver}
 use Rattle.monitor_gate.specs.Calls.{after_call}
@@ -23,19 +23,20 @@ use Rattle.batch_procs.proofs.Closing.{or-none}
 use Rattle.batch_procs.proofs.Relay.{open-next}
 use Rattle.batch_sides.specs.declared.printer_side.PrinterSide.{PrinterSide}
 use Rattle.batch_sides.specs.Calls.{line_calls}
-use Rattle.batch_sides.specs.Lines.{PaperRan, PrinterMayMake, PrinterMade, PrinterRan, does_printer, newest_print, text_tried}
+use Rattle.batch_sides.specs.Lines.{PaperRan, PrinterMayMake, PrinterMade, PrinterRan, does_printer, newest_print, text_tried, gained_by, gained_in_all, IsPartOf}
 use Rattle.batch_sides.specs.Running.{Performed}
 use Rattle.batch_sides.proofs.LineCalls.{not-stopped}
 use Rattle.batch_sides.proofs.Papers.{paper-printed}
-use Rattle.batch_sides.specs.DoesOnly.{printer-does}
+use Rattle.batch_sides.proofs.DoesOnly.{printer-does}
 use Rattle.batch_sides.proofs.Performing.{both-as, only-does}
 
 module _ {L : Type 0} {J : Jobs L} (jobs : AreJobs J) where
   module _ {K : Type 0} (given : K → Option (List ℕ)) (faults : K → ℕ) where
     -- a paper on which nothing is printed
     paper-still : (start now : Printing K) (h : List (Entry L)) (a : Action) (r : Reply L) → text_tried (Does a r ∷ h) ≡ text_tried h
-        → newest_print (Does a r ∷ h) ≡ newest_print h → PaperRan given faults start now h → PaperRan given faults start now (Does a r ∷ h)
-    paper-still start now h a r text newest ran = record {
+        → newest_print (Does a r ∷ h) ≡ newest_print h → ((part : List ℕ) → IsPartOf part (Does a r) × (gained_by part (Does a r) ≡ []))
+        → PaperRan given faults start now h → PaperRan given faults start now (Does a r ∷ h)
+    paper-still start now h a r text newest none_gained ran = record {
       prints = λ before told.
           let (gained, is, part, all) = ran.prints before told in (
             gained,
@@ -43,6 +44,12 @@ module _ {L : Type 0} {J : Jobs L} (jobs : AreJobs J) where
             subst (λ tried. IsPrefixOf gained tried) (sym text) part,
             (λ none. all (or-none (caused h) (given_cause a r h) none) ∙ sym text),
           );
+      gave = (
+        ran.gave.0,
+        ((none_gained ran.gave.0).0, ran.gave.1),
+        λ before told. ran.gave.2 before told ∙ ap (λ all. Some (before ++ all)) (sym (append-nil (gained_in_all ran.gave.0 h))
+            ∙ ap (λ more. gained_in_all ran.gave.0 h ++ more) (sym (none_gained ran.gave.0).1)),
+      );
       untold = ran.untold;
       counts = ran.counts;
       failed = λ is. ran.failed (sym newest ∙ is);
@@ -62,11 +69,14 @@ module _ {L : Type 0} {J : Jobs L} (jobs : AreJobs J) where
       -- a call of the line buffer
       called : (a : Action) (r : Reply L) (call : SlotCall Feed) → line_calls Receiver 4 (Does a r ∷ h) ≡ line_calls Receiver 4 h ++ call ∷ []
           → text_tried (Does a r ∷ h) ≡ text_tried h → newest_print (Does a r ∷ h) ≡ newest_print h
-          → PrinterRan given faults start (record old { lines = after_call old.lines call }) had (Does a r ∷ h)
-      called a r call calls text newest = record {
+          → ((part : List ℕ) → IsPartOf part (Does a r) × (gained_by part (Does a r) ≡ [])) → PrinterRan given faults start (record old {
+            lines =
+                after_call old.lines call;
+          }) had (Does a r ∷ h)
+      called a r call calls text newest none_gained = record {
         gate = ran.gate;
         calls = ap (λ calls. calls ++ call ∷ []) ran.calls ∙ sym calls;
-        paper = paper-still start.paper old.paper h a r text newest ran.paper;
+        paper = paper-still start.paper old.paper h a r text newest none_gained ran.paper;
         none = ran.none;
       }
 
@@ -84,29 +94,30 @@ module _ {L : Type 0} {J : Jobs L} (jobs : AreJobs J) where
             → PrinterMade J given faults old had new has a r → Performed J Stood a r h
         printer-did act.TakeFeed (reply.Feed f) does next did =
             only-does J act.TakeFeed (reply.Feed f) h tt (λ may. may)
-            (as-new _ _ did (called act.TakeFeed (reply.Feed f) (slot.Take f) refl refl refl))
+            (as-new _ _ did (called act.TakeFeed (reply.Feed f) (slot.Take f) refl refl refl (λ part. (tt, refl))))
         printer-did act.TakeFeed reply.Stopped does next did =
-            only-does J act.TakeFeed reply.Stopped h tt (λ may. may) (as-new _ _ did (called act.TakeFeed reply.Stopped slot.TakeRefused refl refl refl))
+            only-does J act.TakeFeed reply.Stopped h tt (λ may. may) (as-new _ _ did (called act.TakeFeed reply.Stopped slot.TakeRefused refl refl refl
+            (λ part. (tt, refl))))
         printer-did (act.Print line) r does next did =
             let print = did.2 in
             only-does J (act.Print line) r h print.prints.suits (print-lacks line r)
             (as-new (Does (act.Print line) r ∷ h) (record old { paper = new.paper }) (did.0, did.1) record {
               gate = ran.gate;
               calls = ran.calls;
-              paper = paper-printed jobs start.paper old.paper new.paper h line r ran.paper (open-next J printer h (act.Print line) next tt)
+              paper = paper-printed jobs start.paper old.paper new.paper h line r printer follows ran.paper (open-next J printer h (act.Print line) next tt)
                   print.prints print.failed print.counts print.live;
               none = ran.none;
             })
         printer-did (act.Stop b) reply.Done does next did =
             subst (λ b. Performed J Stood (act.Stop b) reply.Done h) (sym does)
             (only-does J (act.Stop 4) reply.Done h tt (λ may. may)
-            (as-new _ _ did (called (act.Stop 4) reply.Done (slot.Stop Receiver) refl refl refl)))
+            (as-new _ _ did (called (act.Stop 4) reply.Done (slot.Stop Receiver) refl refl refl (λ part. (tt, refl)))))
         printer-did (act.Ended how) reply.Done does next did =
             only-does J (act.Ended how) reply.Done h tt (λ may. may)
             (as-new (Does (act.Ended how) reply.Done ∷ h) old did record {
               gate = ran.gate;
               calls = ran.calls;
-              paper = paper-still start.paper old.paper h (act.Ended how) reply.Done refl refl ran.paper;
+              paper = paper-still start.paper old.paper h (act.Ended how) reply.Done refl refl (λ part. (tt, refl)) ran.paper;
               none = ran.none;
             })
         printer-did a r does next did = absurd did

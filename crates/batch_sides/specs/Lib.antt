@@ -8,6 +8,5 @@ pub mod Input
 pub mod Job
 pub mod Output
 pub mod Row
-pub mod DoesOnly
 pub mod Begun
 pub mod Met

@@ -36,6 +36,27 @@ newest_print (Does action r ∷ h) = newest_print h
 newest_print (LacksMemory action r ∷ h) = newest_print h
 newest_print (Delays action ∷ h) = newest_print h
 
+-- ---- what it gained by each entry
+-- A line that was printed is gained whole, and of one that wasn't this part.
+abbrev pub gained_by : {L : Type 0} → List ℕ → Entry L → List ℕ
+gained_by part (Does (act.Print line) reply.Done) = line_text line
+gained_by part (Does (act.Print line) r) = part
+gained_by part entry = []
+
+abbrev pub gained_in_all : {L : Type 0} → List ℕ → List (Entry L) → List ℕ
+gained_in_all part [] = []
+gained_in_all part (entry ∷ h) = gained_in_all part h ++ gained_by part entry
+
+abbrev pub IsPartOf : {L : Type 0} → List ℕ → Entry L → Type 0
+IsPartOf part (Does (act.Print line) reply.Done) = Unit {0}
+IsPartOf part (Does (act.Print line) r) = IsPrefixOf part (line_text line)
+IsPartOf part entry = Unit {0}
+
+-- it is a part of each line that wasn't printed whole
+abbrev pub ArePartsOf : {L : Type 0} → List ℕ → List (Entry L) → Type 0
+ArePartsOf part [] = Unit {0}
+ArePartsOf part (entry ∷ h) = IsPartOf part entry × ArePartsOf part h
+
 -- By what it was at first: a told paper gained a part of what was tried, and all of it where nothing failed;
 -- one that isn't told stays so. A failure was counted.
 pub record PaperRan {L K : Type 0} (given : K → Option (List ℕ)) (faults : K → ℕ) (start now : Printing K)
@@ -43,6 +64,9 @@ pub record PaperRan {L K : Type 0} (given : K → Option (List ℕ)) (faults : K
   pub prints : (before : List ℕ) → given start.sink ≡ Some before →
       (gained : List ℕ) × (given now.sink ≡ Some (before ++ gained)) × IsPrefixOf gained (text_tried h)
       × (caused h ≡ None → gained ≡ text_tried h)
+  -- each line that was printed, and of one that wasn't a part
+  pub gave : (part : List ℕ) × ArePartsOf part h × ((before : List ℕ) → given start.sink ≡ Some before
+      → given now.sink ≡ Some (before ++ gained_in_all part h))
   pub untold : given start.sink ≡ None → given now.sink ≡ None
   pub counts : faults start.sink ≤ faults now.sink
   pub failed : newest_print h ≡ Some reply.Failed → Rose (faults start.sink) (faults now.sink)

@@ -39,8 +39,9 @@ pub record AreEndsOf {A B : Type 0} (input_size output_size : ℕ) (gates : Gate
   pub seats : AreSeatsOf gates.disk ends.seats
 
 -- The ends of each buffer have met, with something or nothing left inside.
-pub record AllMeet {A B : Type 0} (input_told : A → Option (List (List ℕ))) (input_faults : A → ℕ)
-    (output_told : B → Option (List (List ℕ))) (output_faults : B → ℕ) (gates : Gates A B) (ends : Ends A B)
+pub record AllMeet {A B : Type 0} (input_size output_size : ℕ) (input_told : A → Option (List (List ℕ)))
+    (input_faults : A → ℕ) (output_told : B → Option (List (List ℕ))) (output_faults : B → ℕ)
+    (gates : Gates A B) (ends : Ends A B)
     (met : Met A B) : Type 0 where
   pub cards_rest : Option Feed
   pub cards : line.Meets (by_side ends.cards.0.calls ends.cards.1.calls) cards_rest
@@ -48,9 +49,11 @@ pub record AllMeet {A B : Type 0} (input_told : A → Option (List (List ℕ))) 
   pub input_left : ℕ
   pub input : spool.Meets input_told input_faults gates.input.area met.input
       (by_side ends.input.0.calls ends.input.1.calls) input_left (stopped_at met.stopped_by 2)
+  pub input_room : spool.MeetsRoom input_size (by_side ends.input.0.calls ends.input.1.calls) input_left
   pub output_left : ℕ
   pub output : spool.Meets output_told output_faults gates.output.area met.output
       (by_side ends.output.0.calls ends.output.1.calls) output_left (stopped_at met.stopped_by 3)
+  pub output_room : spool.MeetsRoom output_size (by_side ends.output.0.calls ends.output.1.calls) output_left
   pub lines_rest : Option Feed
   pub lines : line.Meets (by_side ends.lines.0.calls ends.lines.1.calls) lines_rest
       (stopped_at met.stopped_by 4)

@@ -61,7 +61,7 @@ pub(crate) fn run_cards<'a, 's, J: JobWork, S: Source + Drop + Send, R: Threads 
 ) -> (Ended<CardSide<'a, S>>, Told<'s>)
     requires { CardRan {L = J.Load} S.left S.taken S.faults cards cards None [] }
     ensures { CardsCame J.jobs S.left S.taken S.faults
-        start.now result.1.of result.1.value cards.entry result.0 }
+        start.now.lock result.1.of result.1.value cards.entry result.0 }
 {
     run_to_end!(
         J,

@@ -102,7 +102,8 @@ impl<A: Area + Send, B: Area + Send> Gates<A, B> {
     #[inline(never)]
     pub fn meet(self, ends: Ends<A, B>) -> AllMet<A, B>
         requires { AreEndsOf (A.size self.input.area) (B.size self.output.area) self ends }
-        ensures { AllMeet A.pages A.faults B.pages B.faults self ends result }
+        ensures { AllMeet (A.size self.input.area) (B.size self.output.area) A.pages A.faults B.pages B.faults
+            self ends result }
     {
         let Gates {
             cards,

@@ -88,7 +88,7 @@ pub(crate) fn run_pages<'a, 's, J: JobWork, A: Area + Send, R: Threads + Wait + 
 ) -> (Ended<InputSide<'a, A>>, Told<'s>)
     requires { InputRan {L = J.Load} A.size pages pages None [] }
     ensures { PagesCame J.jobs A.size
-        start.now result.1.of result.1.value pages.entry result.0 }
+        start.now.lock result.1.of result.1.value pages.entry result.0 }
 {
     run_to_end!(
         J,

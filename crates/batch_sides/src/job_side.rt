@@ -119,7 +119,7 @@ pub(crate) fn run_jobs<
     requires { JobRan {L = J.Load} (loading F.found F.pages F.faults F.sound) A.size B.size
         jobs jobs None [] }
     ensures { JobsCame J.jobs (loading F.found F.pages F.faults F.sound) A.size B.size
-        start.now result.1.of result.1.value jobs.entry result.0 }
+        start.now.lock result.1.of result.1.value jobs.entry result.0 }
 {
     run_to_end!(
         J,

@@ -96,7 +96,7 @@ pub(crate) fn run_lines<'a, 's, J: JobWork, B: Area + Send, R: Threads + Wait + 
 ) -> (Ended<OutputSide<'a, B>>, Told<'s>)
     requires { OutputRan {L = J.Load} B.size lines lines None [] }
     ensures { LinesCame J.jobs B.size
-        start.now result.1.of result.1.value lines.entry result.0 }
+        start.now.lock result.1.of result.1.value lines.entry result.0 }
 {
     run_to_end!(
         J,

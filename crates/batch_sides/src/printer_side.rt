@@ -57,7 +57,7 @@ pub(crate) fn run_paper<'a, 's, J: JobWork, K: Sink + Drop + Send, R: Threads + 
 ) -> (Ended<PrinterSide<'a, K>>, Told<'s>)
     requires { PrinterRan {L = J.Load} K.given K.faults paper paper None [] }
     ensures { PaperCame J.jobs K.given K.faults
-        start.now result.1.of result.1.value paper.entry result.0 }
+        start.now.lock result.1.of result.1.value paper.entry result.0 }
 {
     run_to_end!(
         J,

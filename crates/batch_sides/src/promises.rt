@@ -48,24 +48,24 @@ impl<'s, J, C> Drop for Coming<'s, J, C> {
 impl<'a, 's, J: JobWork, S: Source + Drop> Promise<(Ended<CardSide<'a, S>>, Told<'s>)>
     for Coming<'s, J, CardSide<'a, S>> {
     ghost kept_by = { λ coming came. CardsCame J.jobs S.left S.taken S.faults
-        coming.start.now came.1.of came.1.value coming.side.value came.0 };
+        coming.start.now.lock came.1.of came.1.value coming.side.value came.0 };
 }
 
 impl<'a, 's, J: JobWork, A: Area + Send> Promise<(Ended<InputSide<'a, A>>, Told<'s>)>
     for Coming<'s, J, InputSide<'a, A>> {
     ghost kept_by = { λ coming came. PagesCame J.jobs A.size
-        coming.start.now came.1.of came.1.value coming.side.value came.0 };
+        coming.start.now.lock came.1.of came.1.value coming.side.value came.0 };
 }
 
 impl<'a, 's, J: JobWork, F: Loader<J>, A: Area + Send, B: Area + Send> Promise<
     (Ended<JobSide<'a, F, A, B>>, Told<'s>),
 > for Coming<'s, J, JobSide<'a, F, A, B>> {
     ghost kept_by = { λ coming came. JobsCame J.jobs (loading F.found F.pages F.faults F.sound) A.size B.size
-        coming.start.now came.1.of came.1.value coming.side.value came.0 };
+        coming.start.now.lock came.1.of came.1.value coming.side.value came.0 };
 }
 
 impl<'a, 's, J: JobWork, B: Area + Send> Promise<(Ended<OutputSide<'a, B>>, Told<'s>)>
     for Coming<'s, J, OutputSide<'a, B>> {
     ghost kept_by = { λ coming came. LinesCame J.jobs B.size
-        coming.start.now came.1.of came.1.value coming.side.value came.0 };
+        coming.start.now.lock came.1.of came.1.value coming.side.value came.0 };
 }

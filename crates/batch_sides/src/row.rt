@@ -75,7 +75,7 @@ where
         (loading F.found F.pages F.faults F.sound) A.size B.size jobs lines paper }
     ensures { RestCame J.jobs K.given K.faults
         (loading F.found F.pages F.faults F.sound) A.size B.size
-        start.now result.1.of result.1.value jobs.entry lines.entry paper.entry result.0 }
+        start.now.lock result.1.of result.1.value jobs.entry lines.entry paper.entry result.0 }
 {
     let promises = (
         Coming::<J, JobSide<F, A, B>>::with(start, &jobs),
@@ -89,17 +89,17 @@ where
             requires { JobRan {L = J.Load} (loading F.found F.pages F.faults F.sound)
                 A.size B.size jobs jobs None [] }
             ensures { JobsCame J.jobs (loading F.found F.pages F.faults F.sound) A.size B.size
-                start.entry.now result.1.of result.1.value jobs.entry result.0 }
+                start.entry.now.lock result.1.of result.1.value jobs.entry result.0 }
         { run_jobs::<J, F, A, B, R>(rt, alloc, start, jobs) },
         move || -> (Ended<OutputSide<B>>, Told<'_>)
             requires { OutputRan {L = J.Load} B.size lines lines None [] }
             ensures { LinesCame J.jobs B.size
-                start.entry.now result.1.of result.1.value lines.entry result.0 }
+                start.entry.now.lock result.1.of result.1.value lines.entry result.0 }
         { run_lines::<J, B, R>(rt, alloc, start, lines) },
         move || -> (Ended<PrinterSide<K>>, Told<'_>)
             requires { PrinterRan {L = J.Load} K.given K.faults paper paper None [] }
             ensures { PaperCame J.jobs K.given K.faults
-                start.entry.now result.1.of result.1.value paper.entry result.0 }
+                start.entry.now.lock result.1.of result.1.value paper.entry result.0 }
         { run_paper::<J, K, R>(rt, alloc, start, paper) },
     );
     told.agrees(&of_lines);
@@ -146,12 +146,12 @@ where
         move || -> (Ended<CardSide<S>>, Told<'_>)
             requires { CardRan {L = J.Load} S.left S.taken S.faults cards cards None [] }
             ensures { CardsCame J.jobs S.left S.taken S.faults
-                start.entry.now result.1.of result.1.value cards.entry result.0 }
+                start.entry.now.lock result.1.of result.1.value cards.entry result.0 }
         { run_cards::<J, S, R>(rt, alloc, start, cards) },
         move || -> (Ended<InputSide<A>>, Told<'_>)
             requires { InputRan {L = J.Load} A.size pages pages None [] }
             ensures { PagesCame J.jobs A.size
-                start.entry.now result.1.of result.1.value pages.entry result.0 }
+                start.entry.now.lock result.1.of result.1.value pages.entry result.0 }
         { run_pages::<J, A, R>(rt, alloc, start, pages) },
         move || -> (
             (
@@ -165,7 +165,7 @@ where
                 (loading F.found F.pages F.faults F.sound) A.size B.size jobs lines paper }
             ensures { RestCame J.jobs K.given K.faults
                 (loading F.found F.pages F.faults F.sound) A.size B.size
-                start.entry.now result.1.of result.1.value
+                start.entry.now.lock result.1.of result.1.value
                 jobs.entry lines.entry paper.entry result.0 }
         { run_rest::<J, K, F, A, B, R>(rt, alloc, start, jobs, lines, paper) },
     );

@@ -17,10 +17,10 @@ use Rattle.network_law.specs.Network.{IsEnabled, happens}
 use Rattle.network_law.specs.Stepping.{MayGo}
 use Rattle.network_law.proofs.Goers as goers
 use Rattle.network_law.proofs.Telling.{may-tell}
-use Rattle.core_law.specs.Core.{Devices, Allows, core, read_off, items_by, upstream, CoreState, CoreEvent}
+use Rattle.core_law.specs.Core.{Devices, Allows, core, read_off, upstream, CoreState, CoreEvent}
 use Rattle.core_law.specs.Ends.{IsProcess, IsSmooth}
 use Rattle.core_law.specs.Opening.{AreGoodFiles, Opening, told_of, first_state}
-use Rattle.core_law.specs.TheLaw.{TellsAll, cards_told, first_work, the_openings, the_law, IsReached}
+use Rattle.core_law.specs.TheLaw.{TellsAll, the_openings, the_law, IsReached}
 use Rattle.core_law.specs.Work.{events_left, LeavesFewer}
 use Rattle.core_law.proofs.Answers.{smooth-event}
 use Rattle.core_law.proofs.Ends.{the-five}
@@ -109,14 +109,11 @@ module _ {L : Type 0} {J : Jobs L} (jobs : AreJobs J) where
       (leaves-fewer s.devices event.entry event.gained left are.0.allowed is) in
       omega (arith, rest, less)
 
-  no-longer : (o : Opening J) (events : List (CoreEvent L)) → TellsAll o → AreEnabled (the_law J) (first_state o) events → length events ≤ first_work o
-  no-longer o events told are =
-      by o.deck told.deck (few-events (first_state o) (first_state o) told.items events (opening-centre jobs o.spools o.deck o.paper o.files) told.deck are)
-    where
-      by : (deck : Option (List Item)) → deck ≡ Some told.items → length events ≤ events_left J (length told.items) (first_state o)
-          → length events ≤ events_left J (length (cards_told deck)) (first_state o)
-      by deck is few =
-          subst (λ deck. length events ≤ events_left J (length (cards_told deck)) (first_state o)) (sym is) few
+  no-longer : (o : Opening J) → TellsAll o → (most : ℕ) × ((events : List (CoreEvent L)) → AreEnabled (the_law J) (first_state o) events → length events ≤ most)
+  no-longer o told = (
+    events_left J (length told.items) (first_state o),
+    λ events are. few-events (first_state o) (first_state o) told.items events (opening-centre jobs o.spools o.deck o.paper o.files) told.deck are,
+  )
 
   pub sure : IsSureLaw (the_law J)
   sure = record { may_tell = may-tell (core J (process J)); one_event = one-event; some_event = some-event; no_longer = no-longer }

@@ -1,5 +1,5 @@
 -- The law of the core, and its reached states.
-use Rattle.std.specs.Prelude.{◌≡◌, ℕ, List, [], length, Option, None, Some}
+use Rattle.std.specs.Prelude.{◌≡◌, List, Some}
 use Rattle.solo_base.specs.declared.item.Item.{Item}
 use Rattle.batch_procs.specs.Jobs.{Jobs}
 use Rattle.batch_procs.specs.History.{Entry}
@@ -11,7 +11,6 @@ use Rattle.core_law.specs.Ends.{IsSmooth}
 use Rattle.core_law.specs.FilesKnown.{AreFilesKnown}
 use Rattle.core_law.specs.Holds.{AreTold}
 use Rattle.core_law.specs.Opening.{Opening, size_of, told_of, devices_at, first_state}
-use Rattle.core_law.specs.Work.{events_left}
 
 -- The spools tell their pages and the deck its cards, and what is known of the files that these name.
 pub record TellsAll {L : Type 0} {J : Jobs L} (opening : Opening J) : Type 0 where
@@ -20,15 +19,6 @@ pub record TellsAll {L : Type 0} {J : Jobs L} (opening : Opening J) : Type 0 whe
   pub deck : opening.deck ≡ Some items
   pub files : AreFilesKnown J opening.files items
 
--- the cards ahead, where they are told
-abbrev pub cards_told : Option (List Item) → List Item
-cards_told None = []
-cards_told (Some items) = items
-
--- A run over told devices has no more events than the work that is left at its opening.
-abbrev pub first_work : {L : Type 0} {J : Jobs L} → Opening J → ℕ
-first_work {L} {J} opening = events_left J (length (cards_told opening.deck)) (first_state opening)
-
 abbrev pub the_openings : {L : Type 0} → Jobs L → Openings (Devices L) (Entry L)
 the_openings J = record {
   Opening = Opening J;
@@ -36,7 +26,6 @@ the_openings J = record {
   sizes = λ opening. size_of opening.spools;
   told = λ opening. told_of opening.spools;
   IsTold = λ opening. TellsAll opening;
-  longest = λ opening. first_work opening;
   IsSmooth = λ entry. IsSmooth entry;
 }
 

@@ -11,12 +11,13 @@ pub enum Place {
     Disk,
 }
 
-/// A process that waits, from this event on.
+/// A process that waits, from this event on, and the event that handed it the turn, once one did.
 #[derive(Clone, Copy)]
 pub struct Waiting {
     pub process: ProcNo,
     pub place: Place,
     pub since: u64,
+    pub turn: Option<u64>,
 }
 
 /// What a network doesn't tell of itself, noted from the events so far: what the line buffers 1 and 4 hold,
@@ -57,6 +58,7 @@ impl Board {
                         process,
                         place,
                         since: number,
+                        turn: None,
                     })?;
                 }
             }
@@ -64,6 +66,20 @@ impl Board {
             _ => {}
         }
         Ok(())
+    }
+
+    /// Notes to whom the turn of a place is handed behind the event of this number.
+    pub fn hand(&mut self, place: Place, handed: Option<ProcNo>, number: u64) {
+        let Some(process) = handed else {
+            return;
+        };
+        for at in 0..self.waiting.len() {
+            let waiting = self.waiting[at];
+            if waiting.place == place && waiting.process == process && waiting.turn.is_none() {
+                self.waiting[at].turn = Some(number);
+                return;
+            }
+        }
     }
 
     /// A process goes on. Where it waited so far, if it did.

@@ -6,24 +6,26 @@ use crate::said::name_of;
 use network_run::Rule;
 use solo_base::ProcNo;
 
-/// The least width of a picture, which the legend takes, and what is left free at its right side.
-const LEAST_WIDTH: u64 = 940;
+/// The least width of a picture, which the legend takes, what is left free at its right side, and its height.
+const LEAST_WIDTH: u64 = 1112;
 
-const RIGHT: u64 = 84;
+const RIGHT: u64 = 96;
+
+const HEIGHT: u64 = 912;
 
 /// How often an event has its number below it, and how far down its line goes.
 const NUMBERED: u64 = 5;
 
-const AXIS: u64 = 518;
+const AXIS: u64 = 772;
 
 /// The colours of the five, the forms of the marks, and the legend.
 const STYLE: &str = r##"<style>
-text{font:11px 'DejaVu Sans Mono',monospace;fill:#222}
-.title{font-size:16px;font-weight:bold}
-.name{font-size:13px;font-weight:bold}
+text{font:16px 'DejaVu Sans Mono',monospace;fill:#222}
+.title{font-size:22px;font-weight:bold}
+.name{font-size:18px;font-weight:bold}
 .number{text-anchor:middle;fill:#555}
-.label{font-size:10px;paint-order:stroke;stroke:#fff;stroke-width:3px;stroke-linejoin:round}
-.in{font-size:10px}
+.label{font-size:18px;paint-order:stroke;stroke:#fff;stroke-width:4px;stroke-linejoin:round}
+.in{font-size:16px}
 .lane{stroke:#999}
 .event{stroke:#e4e4e4}
 .p1{fill:#0072b2;stroke:#0072b2;color:#0072b2}
@@ -33,40 +35,40 @@ text{font:11px 'DejaVu Sans Mono',monospace;fill:#222}
 .p5{fill:#8a6d00;stroke:#8a6d00;color:#8a6d00}
 text.name{stroke:none}
 .grey{fill:#666;stroke:#666}
-.wait{fill-opacity:.22;stroke-opacity:.5}
+.wait{fill-opacity:.2;stroke-opacity:.5}
+.turn{fill-opacity:.6;stroke:none}
 .disk{fill-opacity:.45;stroke:none}
-.handed{stroke:#333;stroke-width:1.3;marker-end:url(#head)}
-.inside{stroke:#333;stroke-width:1.3;stroke-dasharray:4 3}
+.handed{stroke:#333;stroke-width:1.8;marker-end:url(#head)}
+.inside{stroke:#333;stroke-width:1.8;stroke-dasharray:6 4}
 </style>
 <defs>
 <marker id="head" viewBox="0 0 8 8" refX="7" refY="4" markerWidth="7" markerHeight="7" orient="auto">
 <path d="M0 0L8 4L0 8z" fill="#333"/>
 </marker>
-<circle id="done" r="4" stroke="none"/>
-<circle id="waits" r="4" style="fill:#fff" stroke-width="2"/>
-<path id="device" d="M-4.5-4.5h9v9h-9z" stroke="none"/>
-<path id="ends" d="M-5-5L5 5M-5 5L5-5" fill="none" stroke-width="2.5"/>
+<circle id="done" r="6" stroke="none"/>
+<circle id="waits" r="6" style="fill:#fff" stroke-width="3"/>
+<path id="device" d="M-6-6h12v12h-12z" stroke="none"/>
+<path id="ends" d="M-7-7L7 7M-7 7L7-7" fill="none" stroke-width="4"/>
 </defs>
 <rect width="100%" height="100%" fill="#fff"/>
-<text class="name" x="12" y="504">disk</text>
-<text class="name" x="12" y="532">event</text>"##;
+<text class="name" x="12" y="752">disk</text>
+<text class="name" x="12" y="792">event</text>"##;
 
-const LEGEND: &str = r##"<g transform="translate(12 570)">
+const LEGEND: &str = r##"<g transform="translate(12 832)">
 <text class="name">legend</text>
-<line class="handed" x1="108" y1="-12" x2="140" y2="4"/><text x="150">handed over: put, then taken</text>
-<line class="inside" x1="370" y1="-12" x2="402" y2="4"/><text x="412">taken outside of the picture</text>
-<rect class="wait grey" x="632" y="-10" width="32" height="12"/>
-<text x="674">waits in a queue: which one</text>
+<line class="handed" x1="112" y1="-14" x2="148" y2="2"/><text x="160">handed over: put, then taken</text>
+<line class="inside" x1="452" y1="-14" x2="488" y2="2"/><text x="500">taken outside of the picture</text>
+<rect class="wait grey" x="792" y="-16" width="36" height="20"/><text x="840">waits: in which queue</text>
 </g>
-<g transform="translate(12 596)">
-<use href="#done" class="grey" x="124" y="-4"/><text x="150">an action that is done</text>
-<use href="#waits" class="grey" x="386" y="-4"/><text x="412">a call that has to wait</text>
-<rect class="disk grey" x="632" y="-10" width="32" height="12"/>
-<text x="674">has the disk</text>
+<g transform="translate(12 864)">
+<use href="#done" class="grey" x="130" y="-6"/><text x="160">an action that is done</text>
+<use href="#waits" class="grey" x="470" y="-6"/><text x="500">a call that has to wait</text>
+<rect class="turn grey" x="792" y="-16" width="36" height="20"/><text x="840">has the turn: it goes next</text>
 </g>
-<g transform="translate(12 622)">
-<use href="#device" class="grey" x="124" y="-4"/><text x="150">reads, prints or loads</text>
-<use href="#ends" class="grey" x="386" y="-4"/><text x="412">ends, and how</text>
+<g transform="translate(12 896)">
+<use href="#device" class="grey" x="130" y="-6"/><text x="160">reads, prints or loads</text>
+<use href="#ends" class="grey" x="470" y="-6"/><text x="500">ends, and how</text>
+<rect class="disk grey" x="792" y="-16" width="36" height="20"/><text x="840">has the disk: which process</text>
 </g>
 </svg>"##;
 
@@ -78,7 +80,8 @@ pub fn print_picture(
     events: u64,
 ) -> Result<(), Fault> {
     let width = LEAST_WIDTH.max(LEFT + STEP * picture.cut.shown() + RIGHT);
-    println!(rt; "<svg xmlns=\"http://www.w3.org/2000/svg\" width=\"{width}\" height=\"640\">")?;
+    print!(rt; "<svg xmlns=\"http://www.w3.org/2000/svg\" viewBox=\"0 0 {width} {HEIGHT}\" ")?;
+    println!(rt; "width=\"{width}\" height=\"{HEIGHT}\">")?;
     println!(rt; "{STYLE}")?;
     print_title(rt, picture, rule, events)?;
     for step in 0..picture.cut.shown() {
@@ -94,7 +97,7 @@ pub fn print_picture(
 
 fn print_title(rt: &impl Print, picture: &Picture, rule: Rule, events: u64) -> Result<(), Fault> {
     let Cut { from, to } = picture.cut;
-    print!(rt; "<text class=\"title\" x=\"12\" y=\"30\">A run of the five processes: ")?;
+    print!(rt; "<text class=\"title\" x=\"12\" y=\"34\">A run of the five processes: ")?;
     print!(rt; "events {from} to {to} of {events}, ")?;
     match rule {
         Rule::Least => print!(rt; "by the least process")?,
@@ -108,9 +111,9 @@ fn print_title(rt: &impl Print, picture: &Picture, rule: Rule, events: u64) -> R
 /// The line of an event across all processes, and its number where it has one below.
 fn print_event(rt: &impl Print, cut: Cut, number: u64) -> Result<(), Fault> {
     let x = cut.place_of(number);
-    println!(rt; "<line class=\"event\" x1=\"{x}\" y1=\"100\" x2=\"{x}\" y2=\"{AXIS}\"/>")?;
+    println!(rt; "<line class=\"event\" x1=\"{x}\" y1=\"150\" x2=\"{x}\" y2=\"{AXIS}\"/>")?;
     if number % NUMBERED == 0 {
-        println!(rt; "<text class=\"number\" x=\"{x}\" y=\"532\">{number}</text>")?;
+        println!(rt; "<text class=\"number\" x=\"{x}\" y=\"792\">{number}</text>")?;
     }
     Ok(())
 }
@@ -118,9 +121,9 @@ fn print_event(rt: &impl Print, cut: Cut, number: u64) -> Result<(), Fault> {
 /// The line of a process, and its name.
 fn print_lane(rt: &impl Print, process: ProcNo, width: u64) -> Result<(), Fault> {
     let y = lane(process);
-    let (lower, end) = (y.saturating_add(4), width.saturating_sub(12));
+    let (lower, end) = (y.saturating_add(6), width.saturating_sub(12));
     let name = name_of(process);
-    println!(rt; "<line class=\"lane\" x1=\"104\" y1=\"{y}\" x2=\"{end}\" y2=\"{y}\"/>")?;
+    println!(rt; "<line class=\"lane\" x1=\"120\" y1=\"{y}\" x2=\"{end}\" y2=\"{y}\"/>")?;
     println!(rt; "<text class=\"name p{process}\" x=\"12\" y=\"{lower}\">{process} {name}</text>")?;
     Ok(())
 }

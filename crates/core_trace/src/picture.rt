@@ -3,7 +3,7 @@ ghost use Rattle.std.specs.Prelude.{◌≤◌};
 use crate::board::{Board, Place, Waiting};
 use crate::deed::Deed;
 use crate::event::{Event, Told};
-use crate::said::{name_of, outcome_of, write_feed, write_name};
+use crate::said::{outcome_of, write_feed, write_name};
 use crate::svg::{Mark, Point, write_bar, write_label, write_line, write_mark, write_text};
 use crate::words::Asked;
 use solo_base::{BufferNo, ProcNo};
@@ -13,19 +13,19 @@ use std::alloc::{AllocError, Global};
 pub const MOST_EVENTS: u64 = 400;
 
 /// Where the first event stands, and how far it is to the next one.
-pub const LEFT: u64 = 120;
+pub const LEFT: u64 = 136;
 
 pub const STEP: u64 = 24;
 
 const HALF: u64 = STEP / 2;
 
 /// The line of the first process, and how far it is to the next one.
-const FIRST_LANE: u64 = 120;
+const FIRST_LANE: u64 = 170;
 
-const LANE_HEIGHT: u64 = 84;
+const LANE_HEIGHT: u64 = 130;
 
 /// The bar of the disk.
-pub const DISK: u64 = 500;
+pub const DISK: u64 = 746;
 
 /// Something that was handed to a buffer by this event, and isn't taken yet.
 #[derive(Clone, Copy)]
@@ -136,21 +136,20 @@ impl Picture {
         Ok(())
     }
 
-    /// Draws the bar of a process that waited until this event.
+    /// Draws the bar of a process that waited until this event, and over it the part in which it had the turn.
     fn draw_wait(&mut self, waiting: Waiting, until: u64) -> Result<(), AllocError> {
         let Waiting {
             process,
             place,
             since,
+            turn,
         } = waiting;
-        self.draw_bar(
-            "wait",
-            process,
-            lane(process),
-            since,
-            until,
-            at_place(place),
-        )
+        let y = lane(process);
+        self.draw_bar("wait", process, y, since, until, at_place(place))?;
+        match turn {
+            Some(handed) => self.draw_bar("turn", process, y, handed, until, ""),
+            None => Ok(()),
+        }
     }
 
     /// Notes who has the disk behind an event, and draws how long the one before had it.
@@ -159,7 +158,7 @@ impl Picture {
             if holder == Some(process) {
                 return Ok(());
             }
-            self.draw_bar("disk", process, DISK, since, number, name_of(process))?;
+            self.draw_bar("disk", process, DISK, since, number, number_of(process))?;
         }
         self.holding = holder.map(|process| Holding {
             process,
@@ -185,12 +184,12 @@ impl Picture {
             return Ok(());
         }
         write_bar(&mut self.under, class, process, Point { x, y }, width)?;
-        if width < 2 * STEP {
+        if width < 2 * STEP || word.is_empty() {
             return Ok(());
         }
         let inside = Point {
             x: x.saturating_add(8),
-            y: y.saturating_add(4),
+            y: y.saturating_add(6),
         };
         write_text(&mut self.over, "in", inside, word)
     }
@@ -246,9 +245,9 @@ fn draw_handed(svg: &mut String, cut: Cut, inside: Inside, taken: u64) -> Result
     if !cut.shows(put) && !cut.shows(taken) {
         return Ok(());
     }
-    let upper = if cut.shows(put) { 6 } else { LANE_HEIGHT / 2 };
+    let upper = if cut.shows(put) { 9 } else { LANE_HEIGHT / 2 };
     let lower = if cut.shows(taken) {
-        LANE_HEIGHT - 7
+        LANE_HEIGHT - 10
     } else {
         LANE_HEIGHT / 2
     };
@@ -272,11 +271,19 @@ pub fn lane(process: ProcNo) -> u64 {
 /// What is written into the bar of a process that waits.
 fn at_place(place: Place) -> &'static str {
     match place {
-        Place::Buffer(1) => "1",
-        Place::Buffer(2) => "2",
-        Place::Buffer(3) => "3",
-        Place::Buffer(_) => "4",
+        Place::Buffer(buffer) => number_of(buffer),
         Place::Disk => "disk",
+    }
+}
+
+/// The number of a process or of a buffer.
+fn number_of(number: u8) -> &'static str {
+    match number {
+        1 => "1",
+        2 => "2",
+        3 => "3",
+        4 => "4",
+        _ => "5",
     }
 }
 

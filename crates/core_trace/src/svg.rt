@@ -59,7 +59,7 @@ pub fn write_bar(
         svg,
         "<rect class=\"{class} p{process}\" transform=\"translate({x} {y})\" "
     )?;
-    writeln!(svg, "y=\"-6\" width=\"{width}\" height=\"12\"/>")
+    writeln!(svg, "y=\"-10\" width=\"{width}\" height=\"20\"/>")
 }
 
 /// A line from one place to another.
@@ -85,7 +85,7 @@ pub fn write_label(svg: &mut String, at: Point, words: &str) -> Result<(), Alloc
     let Point { x, y } = at;
     write!(
         svg,
-        "<text class=\"label\" transform=\"translate({x} {y}) rotate(-40)\" x=\"10\" y=\"-3\">"
+        "<text class=\"label\" transform=\"translate({x} {y}) rotate(-55)\" x=\"14\" y=\"-1\">"
     )?;
     escape(svg, words)?;
     svg.push_str("</text>\n")

@@ -1,7 +1,7 @@
 ghost use Rattle.network_run.specs.Law.{Placed};
 ghost use Rattle.core_law.specs.TheLaw.{the_law};
 
-use crate::board::{Board, Waiting};
+use crate::board::{Board, Place, Waiting};
 use crate::deed::Deed;
 use crate::event::{Event, Told, happen};
 use crate::fault::Fault;
@@ -143,11 +143,25 @@ fn show<J: JobWork, S: Source, K: Sink, F: Loader<J>, A: Area, B: Area>(
         }
         Form::Table => {}
         Form::Picture => {
+            note_turns(&mut run.board, number, shared);
             run.picture
                 .add(event, number, waited, shared.desk.holder())?;
         }
     }
     Ok(true)
+}
+
+/// Notes to whom a turn is handed behind an event.
+fn note_turns<J: JobWork, S: Source, K: Sink, F: Loader<J>, A: Area, B: Area>(
+    board: &mut Board,
+    number: u64,
+    shared: &Shared<J, S, K, F, A, B>,
+) {
+    board.hand(Place::Buffer(1), shared.cards.handed(), number);
+    board.hand(Place::Buffer(2), shared.input.handed(), number);
+    board.hand(Place::Buffer(3), shared.output.handed(), number);
+    board.hand(Place::Buffer(4), shared.lines.handed(), number);
+    board.hand(Place::Disk, shared.desk.handed(), number);
 }
 
 /// The counts with one event more. A request that doesn't wait has the disk.

@@ -1,3 +1,4 @@
 pub mod DeckJobs
+pub mod DeckLaws
 pub mod KeepsDeck
 pub mod DeckKeeps

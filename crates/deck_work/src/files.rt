@@ -14,7 +14,8 @@ pub struct DeckFiles<A: Area + Drop> {
 
 impl<A: Area + Drop> Loader<DeckWork> for DeckFiles<A> {
     ghost use Rattle.std.specs.Prelude.{◌≡◌, true};
-    ghost use Rattle.deck_work.specs.DeckJobs.{files_found, found_are_loads};
+    ghost use Rattle.deck_work.specs.DeckJobs.{files_found};
+    ghost use Rattle.deck_work.specs.DeckLaws.{found_are_loads};
 
     ghost found = { λ loader. files_found (A.pages loader.files.area) };
 

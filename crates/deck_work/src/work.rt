@@ -1,5 +1,5 @@
 use batch_job::JobStream;
-use batch_procs::JobWork;
+use batch_procs::{HasJobs, JobWork};
 use disk_system::Loaded;
 use page_codec::{Packer, PageItems};
 use solo_base::{Ident, NoMemory, Page};
@@ -11,17 +11,21 @@ pub struct DeckWork {
     stream: JobStream,
 }
 
-impl JobWork for DeckWork {
-    ghost use Rattle.deck_work.specs.DeckJobs.{deck_jobs, deck_are_jobs};
-    ghost use Rattle.deck_work.specs.DeckKeeps.{deck_keeps};
+impl HasJobs for DeckWork {
+    ghost use Rattle.deck_work.specs.DeckJobs.{deck_jobs};
+    ghost use Rattle.deck_work.specs.DeckLaws.{deck_are_jobs};
 
     type Load = Loaded;
 
     ghost jobs = { deck_jobs };
 
-    ghost keeps = { deck_keeps };
-
     ghost are_jobs = { deck_are_jobs };
+}
+
+impl JobWork for DeckWork {
+    ghost use Rattle.deck_work.specs.DeckKeeps.{deck_keeps};
+
+    ghost keeps = { deck_keeps };
 
     fn begin(alloc: Global) -> DeckWork {
         DeckWork {

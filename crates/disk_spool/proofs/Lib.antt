@@ -1,3 +1,4 @@
 pub mod RingSteps
 pub mod Running
 pub mod Meeting
+mod Opening

@@ -26,10 +26,11 @@ use Rattle.disk_spool.specs.Ends.{Finds, await_call}
 module _ {A : Type 0} (told_by : A → Option (List (List ℕ))) (faults : A → ℕ) where
   -- what the gate gives to the process of a side
   pub finds : (side : Side) (opening : Spool A) (number : ℕ) (entries own : List (SpoolCall (Snapshot Page))) (state : Spool A)
-      → Found (λ (opening state : Spool A) lists. IsTied told_by faults opening.area (calls_of value lists) state) opening number entries state → number ≡ process_at side → entries ≡ own → Finds told_by faults opening.area side (map value own) state
+      → Found (λ (opening state : Spool A) lists. IsTied told_by faults opening.ring.capacity opening.area (calls_of value lists) state) opening number entries state → number ≡ process_at side → entries ≡ own → Finds told_by faults opening.area side (map value own) state
   finds side opening number entries own state found is same = record {
     calls = calls_of value found.lists;
     own_calls = ap (map value) (ap found.lists (sym is) ∙ found.mine ∙ same);
+    room = opening.ring.capacity;
     tied = found.tied;
   }
 

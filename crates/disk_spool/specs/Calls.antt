@@ -1,5 +1,5 @@
 -- The calls of a running spool, and what they have to do with its state.
-use Rattle.std.specs.Prelude.{◌≡◌, ◌≢◌, ℕ, ◌<◌, ◌≤◌, Bool, true, false, Option, IsSome, List, [], ◌∷◌, length}
+use Rattle.std.specs.Prelude.{◌≡◌, ◌≢◌, ℕ, ◌+◌, ◌<◌, ◌≤◌, Bool, true, false, Option, IsSome, List, [], ◌∷◌, length}
 use Rattle.std.specs.List.{flat_map, list_any}
 use Rattle.std.specs.declared.snapshot.Snapshot.{Snapshot}
 use Rattle.solo_base.specs.declared.outcome.Side.{Side}
@@ -103,11 +103,27 @@ abbrev pub Has : Side → Ring → Type 0
 Has Sender ring = length ring.marks < ring.capacity
 Has Receiver ring = ring.marks ≢ []
 
+-- ---- what was awaited
+-- An await that found what it wanted came behind fewer moves than these.
+abbrev pub IsBelow : ℕ → ℕ → SpoolCall (List ℕ) → Type 0
+IsBelow most many (call.Await side) = many < most
+IsBelow most many _ = Unit {0}
+
+-- each of these calls, the oldest first, by what each moves
+abbrev pub AreBelow : {X : Type 0} → (SpoolCall (List ℕ) → List X) → ℕ → ℕ → List (SpoolCall (List ℕ)) → Type 0
+AreBelow moves most many [] = Unit {0}
+AreBelow moves most many (call ∷ later) = IsBelow most many call × AreBelow moves most (many + length (moves call)) later
+
+-- Room was found only where it was, and a page only where one was put.
+pub record HaveFound (capacity : ℕ) (calls : Side → List (SpoolCall (List ℕ))) : Type 0 where
+  pub rooms : AreBelow page_put (capacity + length (taken_of (calls Receiver))) 0 (calls Sender)
+  pub finds : AreBelow page_taken (length (sent_of (calls Sender))) 0 (calls Receiver)
+
 -- The spool stands where it does after the calls of both ends: what was taken, and then what is inside, is
 -- what was put; who stopped first is known, and only the other end was told so, the receiver only where
 -- nothing was left. A side whose await found what it wanted finds it there until its next call. An area that
 -- told its pages goes on telling them.
-pub record IsTied {A : Type 0} (told_by : A → Option (List (List ℕ))) (faults : A → ℕ) (opening : A) (calls : Side → List (SpoolCall (List ℕ))) (state : Spool A) : Type 0 where
+pub record IsTied {A : Type 0} (told_by : A → Option (List (List ℕ))) (faults : A → ℕ) (room : ℕ) (opening : A) (calls : Side → List (SpoolCall (List ℕ))) (state : Spool A) : Type 0 where
   pub stops : List Side
   pub stands : StandsFor told_by (sent_of (calls Sender)) (taken_of (calls Receiver)) stops state
   pub sides : IsTiedToCalls (λ side. has_stop (calls side)) (λ side. was_refused (calls side)) state.sides
@@ -115,6 +131,8 @@ pub record IsTied {A : Type 0} (told_by : A → Option (List (List ℕ))) (fault
   pub area : IsTiedToArea faults opening state.area calls
   pub tells : TellsOn told_by opening state.area
   pub ready : (side : Side) → is_ready (calls side) ≡ true → Has side state.ring
+  pub capacity : state.ring.capacity ≡ room
+  pub found : HaveFound room calls
 
 -- ---- the queues and the turn
 abbrev pub handed_to : {A : Type 0} → Spool A → Option ℕ

@@ -11,7 +11,7 @@ use Rattle.disk_spool.specs.declared.answers.Fetched.{Fetched}
 use Rattle.disk_spool.specs.declared.call.SpoolCall.{SpoolCall}
 use Rattle.disk_spool.specs.declared.call.SpoolCall.TheVariants as call
 use Rattle.disk_spool.specs.Spool.{Spool, empty_spool, mark, received_mark, received_page}
-use Rattle.disk_spool.specs.Calls.{IsTied, IsTiedToArea, TellsOn, sent_of, taken_of, has_stop, was_refused}
+use Rattle.disk_spool.specs.Calls.{IsTied, HaveFound, IsTiedToArea, TellsOn, sent_of, taken_of, has_stop, was_refused}
 
 -- which spool it is, and the area that it was made with
 pub record Opened (A : Type 0) : Type 0 where
@@ -32,7 +32,8 @@ known size spool = record { name = spool.name; opening = Some (empty_spool spool
 pub record Finds {A : Type 0} (told_by : A → Option (List (List ℕ))) (faults : A → ℕ) (opening : A) (side : Side) (own : List (SpoolCall (List ℕ))) (state : Spool A) : Type 0 where
   pub calls : Side → List (SpoolCall (List ℕ))
   pub own_calls : calls side ≡ own
-  pub tied : IsTied told_by faults opening calls state
+  pub room : ℕ
+  pub tied : IsTied told_by faults room opening calls state
 
 -- the call that an await was, by what it gave
 abbrev pub await_call : Side → Result (Unit {0}) Ended → SpoolCall (List ℕ)
@@ -70,3 +71,9 @@ pub record Meets {A : Type 0} (told_by : A → Option (List (List ℕ))) (faults
   pub nothing_left : was_refused (calls Receiver) ≡ true → left ≡ 0
   pub of_area : IsTiedToArea faults opening area calls
   pub tells : TellsOn told_by opening area
+
+-- And the room of the spool: no more pages are left than it has places, room was found only where it was, and a page
+-- only where one was put.
+pub record MeetsRoom (size : ℕ) (calls : Side → List (SpoolCall (List ℕ))) (left : ℕ) : Type 0 where
+  pub within : left ≤ size
+  pub found : HaveFound size calls

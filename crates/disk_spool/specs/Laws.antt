@@ -1,5 +1,5 @@
 -- The two laws of a running spool: each entry keeps the tie, and whoever gets the turn can go on.
-use Rattle.std.specs.Prelude.{◌≡◌, ◌≢◌, ℕ, ◌<◌, ◌≤◌, ◌==◌, length, drop, Bool, true, false, List, [], ◌∷◌, ◌++◌, Option, Some, None, IsSome}
+use Rattle.std.specs.Prelude.{◌≡◌, ◌≢◌, ℕ, ◌+◌, ◌<◌, ◌≤◌, ◌==◌, length, drop, map, Bool, true, false, List, [], ◌∷◌, ◌++◌, Option, Some, None, IsSome}
 use Rattle.std.specs.declared.snapshot.Snapshot.{Snapshot}
 use Rattle.std.specs.Option.{is_some}
 use Rattle.std.proofs.Common.{refl, sym, ap, ◌∙◌, subst, arith, inl, inr, eq-eqb}
@@ -22,9 +22,11 @@ use Rattle.disk_spool.specs.declared.answers.Fetched.{Fetched}
 use Rattle.disk_spool.specs.declared.call.SpoolCall.{SpoolCall}
 use Rattle.disk_spool.specs.declared.call.SpoolCall.TheVariants as call
 use Rattle.disk_spool.specs.Ring.{Ring, with_page, without_first, next_place}
-use Rattle.disk_spool.specs.Spool.{Spool, StandsFor, mark, room_by, item_by, sent_with, taken_with, moved}
+use Rattle.disk_spool.specs.Spool.{Spool, StandsFor, mark, received_mark, room_by, item_by, sent_with, taken_with, moved}
 use Rattle.disk_spool.specs.History.{room-stands, item-stands, put-stands, take-stands, stop-stands}
-use Rattle.disk_spool.specs.Calls.{sent_of, taken_of, was_refused, page_put, page_taken, is_stop, is_refusal, is_failure, is_move, is_await, ready_after, is_ready, IsTiedToArea, TellsOn, Has, IsTied, handed_to, is_waiting, IsWoken, await_answer, Awaits, Puts, Takes, Stops, Moves, Rests, value}
+use Rattle.std.specs.List.{flat_map}
+use Rattle.std.proofs.lemmas.List.{length-append, length-map}
+use Rattle.disk_spool.specs.Calls.{IsBelow, AreBelow, HaveFound, sent_of, taken_of, was_refused, page_put, page_taken, is_stop, is_refusal, is_failure, is_move, is_await, ready_after, is_ready, IsTiedToArea, TellsOn, Has, IsTied, handed_to, is_waiting, IsWoken, await_answer, Awaits, Puts, Takes, Stops, Moves, Rests, value}
 
 -- ---- what the answers say
 below-full : (count capacity : ℕ) → (count == capacity) ≡ false → count ≤ capacity → count < capacity
@@ -83,6 +85,64 @@ ready-called calls before after Sender call tied own keeps Receiver is = keeps (
 ready-called calls before after Receiver call tied own keeps Receiver is = own (sym (ready-push false (calls Receiver) call) ∙ is)
 ready-called calls before after Receiver call tied own keeps Sender is = keeps (tied Sender is)
 
+-- ---- what was awaited
+below-more : (most more many : ℕ) (call : SpoolCall (List ℕ)) → most ≤ more → IsBelow most many call → IsBelow more many call
+below-more most more many (call.Await side) wider below = omega (arith, wider, below)
+below-more most more many (call.AwaitRefused side) wider below = tt
+below-more most more many (call.Put page) wider below = tt
+below-more most more many (call.PutFailed page) wider below = tt
+below-more most more many (call.Take page last) wider below = tt
+below-more most more many call.TakeFailed wider below = tt
+below-more most more many (call.Stop side) wider below = tt
+
+module _ {X : Type 0} (moves : SpoolCall (List ℕ) → List X) where
+  wider-below : (most more many : ℕ) (calls : List (SpoolCall (List ℕ))) → most ≤ more → AreBelow moves most many calls → AreBelow moves more many calls
+  wider-below most more many [] wider all = all
+  wider-below most more many (call ∷ later) wider all = (below-more most more many call wider all.0, wider-below most more (many + length (moves call)) later wider all.1)
+
+  push-below : (most many : ℕ) (calls : List (SpoolCall (List ℕ))) (call : SpoolCall (List ℕ)) → AreBelow moves most many calls
+      → IsBelow most (many + length (flat_map moves calls)) call → AreBelow moves most many (calls ++ call ∷ [])
+  push-below most many [] call all own = (subst (λ n. IsBelow most n call) (nothing-more many) own, tt) where
+    nothing-more : (n : ℕ) → n + 0 ≡ n
+    nothing-more n = omega arith
+  push-below most many (first ∷ later) call all own =
+      let long = length-append (moves first) (flat_map moves later) in
+      let same : many + length (flat_map moves (first ∷ later)) ≡ (many + length (moves first)) + length (flat_map moves later) = omega (arith, long) in
+      (all.0, push-below most (many + length (moves first)) later call all.1 (subst (λ n. IsBelow most n call) same own))
+
+  push-longer : (calls : List (SpoolCall (List ℕ))) (call : SpoolCall (List ℕ)) → length (flat_map moves calls) ≤ length (flat_map moves (calls ++ call ∷ []))
+  push-longer [] call = omega arith
+  push-longer (first ∷ later) call =
+      let rest = push-longer later call in
+      let a = length-append (moves first) (flat_map moves later) in
+      let b = length-append (moves first) (flat_map moves (later ++ call ∷ [])) in
+      omega (arith, rest, a, b)
+
+-- how many were moved by the side, and how many may be
+abbrev many_by : (Side → List (SpoolCall (List ℕ))) → Side → ℕ
+many_by calls Sender = length (sent_of (calls Sender))
+many_by calls Receiver = length (taken_of (calls Receiver))
+
+abbrev most_by : ℕ → (Side → List (SpoolCall (List ℕ))) → Side → ℕ
+most_by room calls Sender = room + length (taken_of (calls Receiver))
+most_by room calls Receiver = length (sent_of (calls Sender))
+
+from-none : (n : ℕ) → n ≡ 0 + n
+from-none n = omega arith
+
+found-called : (room : ℕ) (calls : Side → List (SpoolCall (List ℕ))) (side : Side) (call : SpoolCall (List ℕ)) → HaveFound room calls
+    → IsBelow (most_by room calls side) (many_by calls side) call → HaveFound room (with_call calls side call)
+found-called room calls Sender call found own = record {
+  rooms = push-below page_put _ 0 (calls Sender) call found.rooms (subst (λ n. IsBelow (most_by room calls Sender) n call) (from-none (many_by calls Sender)) own);
+  finds = wider-below page_taken _ _ 0 (calls Receiver) (push-longer page_put (calls Sender) call) found.finds;
+}
+found-called room calls Receiver call found own = record {
+  rooms = wider-below page_put _ _ 0 (calls Sender) (more-room room _ _ (push-longer page_taken (calls Receiver) call)) found.rooms;
+  finds = push-below page_taken _ 0 (calls Receiver) call found.finds (subst (λ n. IsBelow (most_by room calls Receiver) n call) (from-none (many_by calls Receiver)) own);
+} where
+  more-room : (n a b : ℕ) → a ≤ b → n + a ≤ n + b
+  more-room n a b less = omega (arith, less)
+
 -- ---- the area
 module _ {A : Type 0} (faults : A → ℕ) (opening before now : A) (calls : Side → List (SpoolCall (List ℕ))) (tied : IsTiedToArea faults opening before calls) where
   area-same : (side : Side) (call : SpoolCall (List ℕ)) → is_failure call ≡ false → is_move call ≡ false → now ≡ before → IsTiedToArea faults opening now (with_call calls side call)
@@ -111,9 +171,9 @@ written-told : (before now : Option (List (List ℕ))) (n : ℕ) (answer : Moved
 written-told (Some pages) now n answer page writes told = told-then pages now n answer page (writes.told pages refl)
 written-told None now n answer page writes told = absurd cc
 
-module _ {A : Type 0} (told_by : A → Option (List (List ℕ))) (faults : A → ℕ) (opening : A) (before after : Spool A) (p : ℕ) (calls : Side → List (SpoolCall (List ℕ))) where
+module _ {A : Type 0} (told_by : A → Option (List (List ℕ))) (faults : A → ℕ) (room : ℕ) (opening : A) (before after : Spool A) (p : ℕ) (calls : Side → List (SpoolCall (List ℕ))) where
   abbrev Tied : (Side → List (SpoolCall (List ℕ))) → Spool A → Type 0
-  Tied = IsTied told_by faults opening
+  Tied = IsTied told_by faults room opening
 
   completes : LetsOut (Lacks after.ring.capacity after.ring.marks) p before.sides after.sides → Completes handed_to is_waiting IsWoken p before after
   completes let_out = record { out = let_out.out; others = let_out.others; woken = let_out.woken }
@@ -136,6 +196,30 @@ module _ {A : Type 0} (told_by : A → Option (List (List ℕ))) (faults : A →
   left-same : (side : Side) (call : SpoolCall (List ℕ)) → is_refusal call ≡ false → (marks : List Bool) → (was_refused (calls Receiver) ≡ true → marks ≡ []) → was_refused (with_call calls side call Receiver) ≡ true → marks ≡ []
   left-same side call none marks left told = left (sym (any-same is_refusal calls side call none Receiver) ∙ told)
 
+  -- an await found room, or a page
+  inside-count : Tied calls before → length (sent_of (calls Sender)) ≡ length (taken_of (calls Receiver)) + length before.ring.marks
+  inside-count tied =
+      let order = ap length tied.stands.marks.in_order in
+      let a = length-map (sent_of (calls Sender)) mark in
+      let b = length-map (taken_of (calls Receiver)) received_mark in
+      let c = length-append (map received_mark (taken_of (calls Receiver))) before.ring.marks in
+      omega (arith, order, a, b, c)
+
+  some-long : (marks : List Bool) → marks ≢ [] → 0 < length marks
+  some-long [] some = absurd (some refl)
+  some-long (x ∷ marks) some = omega arith
+
+  await-below : (side : Side) (tied : Tied calls before) → Awaits p before side Await.Ready after → IsBelow (most_by room calls side) (many_by calls side) (call.Await side)
+  await-below Sender tied moved =
+      let has : Has Sender before.ring = await-ready Sender before tied.stands.marks.within moved.answer_is in
+      let count = inside-count tied in
+      let same = tied.capacity in
+      omega (arith, has, count, same)
+  await-below Receiver tied moved =
+      let some = some-long before.ring.marks (await-ready Receiver before tied.stands.marks.within moved.answer_is) in
+      let count = inside-count tied in
+      omega (arith, some, count)
+
   await_tied : (side : Side) → Tied calls before → Awaits p before side Await.Ready after → Tied (with_call calls side (call.Await side)) after
   await_tied side tied moved =
       let done = call.Await side in record {
@@ -146,6 +230,8 @@ module _ {A : Type 0} (told_by : A → Option (List (List ℕ))) (faults : A →
         area = area-same faults opening before.area after.area calls tied.area side done refl refl (ap (λ (s : Spool A). s.area) moved.after_is);
         tells = subst (λ a. TellsOn told_by opening a) (sym (ap (λ (s : Spool A). s.area) moved.after_is)) tied.tells;
         ready = rw moved.after_is (ready-called calls before.ring before.ring side done tied.ready (λ e. await-ready side before tied.stands.marks.within moved.answer_is) (λ has. has));
+        capacity = ap (λ (s : Spool A). s.ring.capacity) moved.after_is ∙ tied.capacity;
+        found = found-called room calls side done tied.found (await-below side tied moved);
       }
 
   refused_left : (side : Side) → Tied calls before → Await.Stopped ≡ await_answer side before → was_refused (with_call calls side (call.AwaitRefused side) Receiver) ≡ true → before.ring.marks ≡ []
@@ -162,6 +248,8 @@ module _ {A : Type 0} (told_by : A → Option (List (List ℕ))) (faults : A →
         area = area-same faults opening before.area after.area calls tied.area side done refl refl (ap (λ (s : Spool A). s.area) moved.after_is);
         tells = subst (λ a. TellsOn told_by opening a) (sym (ap (λ (s : Spool A). s.area) moved.after_is)) tied.tells;
         ready = rw moved.after_is (ready-called calls before.ring before.ring side done tied.ready (λ e. absurd cc) (λ has. has));
+        capacity = ap (λ (s : Spool A). s.ring.capacity) moved.after_is ∙ tied.capacity;
+        found = found-called room calls side done tied.found tt;
       }
 
   -- a sender that hasn't stopped: the receiver wasn't told of a stop
@@ -184,6 +272,8 @@ module _ {A : Type 0} (told_by : A → Option (List (List ℕ))) (faults : A →
         area = area-moved faults opening before.area after.area calls tied.area Sender done Moved.Done moved.cause refl (λ e. absurd cc);
         tells = λ first. written-told (told_by before.area) (told_by after.area) (next_place before.ring) Moved.Done page moved.area (tied.tells first);
         ready = rw ring (ready-called calls before.ring (with_page before.ring (mark page)) Sender done tied.ready (λ e. absurd cc) (λ has. some_inside before.ring.marks (mark page)));
+        capacity = ap (λ (s : Spool A). s.ring.capacity) moved.after_is ∙ tied.capacity;
+        found = found-called room calls Sender done tied.found tt;
       }
 
   put_failed_tied : (page : List ℕ) → Tied calls before → Puts told_by faults p before page Moved.Failed after → Tied (with_call calls Sender (call.PutFailed page)) after
@@ -198,6 +288,8 @@ module _ {A : Type 0} (told_by : A → Option (List (List ℕ))) (faults : A →
         area = area-moved faults opening before.area after.area calls tied.area Sender done Moved.Failed moved.cause refl (λ e. refl);
         tells = λ first. written-told (told_by before.area) (told_by after.area) (next_place before.ring) Moved.Failed page moved.area (tied.tells first);
         ready = rw ring (ready-called calls before.ring before.ring Sender done tied.ready (λ e. absurd cc) (λ has. has));
+        capacity = ap (λ (s : Spool A). s.ring.capacity) moved.after_is ∙ tied.capacity;
+        found = found-called room calls Sender done tied.found tt;
       }
 
   take_stands : (page : List ℕ) (answer : Fetched) (tied : Tied calls before) → Takes told_by faults p before page answer after → StandsFor told_by (sent_of (calls Sender)) (taken_with (taken_of (calls Receiver)) page answer) tied.stops after
@@ -216,6 +308,8 @@ module _ {A : Type 0} (told_by : A → Option (List (List ℕ))) (faults : A →
         area = area-moved faults opening before.area after.area calls tied.area Receiver done Moved.Done moved.cause refl (λ e. absurd cc);
         tells = λ first. ap is_some moved.area.left ∙ tied.tells first;
         ready = rw ring (ready-called calls before.ring (without_first before.ring) Receiver done tied.ready (λ e. absurd cc) (λ has. some_room before.ring.marks before.ring.capacity moved.may.has tied.stands.marks.within));
+        capacity = ap (λ (s : Spool A). s.ring.capacity) moved.after_is ∙ tied.capacity;
+        found = found-called room calls Receiver done tied.found tt;
       }
 
   take_failed_tied : (page : List ℕ) → Tied calls before → Takes told_by faults p before page Fetched.Failed after → Tied (with_call calls Receiver call.TakeFailed) after
@@ -230,6 +324,8 @@ module _ {A : Type 0} (told_by : A → Option (List (List ℕ))) (faults : A →
         area = area-moved faults opening before.area after.area calls tied.area Receiver done Moved.Failed moved.cause refl (λ e. refl);
         tells = λ first. ap is_some moved.area.left ∙ tied.tells first;
         ready = rw ring (ready-called calls before.ring before.ring Receiver done tied.ready (λ e. absurd cc) (λ has. has));
+        capacity = ap (λ (s : Spool A). s.ring.capacity) moved.after_is ∙ tied.capacity;
+        found = found-called room calls Receiver done tied.found tt;
       }
 
   stop_tied : (side : Side) → Tied calls before → Stops p before side after → Tied (with_call calls side (call.Stop side)) after
@@ -242,6 +338,8 @@ module _ {A : Type 0} (told_by : A → Option (List (List ℕ))) (faults : A →
         area = area-same faults opening before.area after.area calls tied.area side done refl refl (ap (λ (s : Spool A). s.area) moved.after_is);
         tells = subst (λ a. TellsOn told_by opening a) (sym (ap (λ (s : Spool A). s.area) moved.after_is)) tied.tells;
         ready = rw moved.after_is (ready-called calls before.ring before.ring side done tied.ready (λ e. absurd cc) (λ has. has));
+        capacity = ap (λ (s : Spool A). s.ring.capacity) moved.after_is ∙ tied.capacity;
+        found = found-called room calls side done tied.found tt;
       }
 
   pub rests_tied : Tied calls before → Rests p before after → Tied calls after
@@ -255,6 +353,8 @@ module _ {A : Type 0} (told_by : A → Option (List (List ℕ))) (faults : A →
         area = subst (λ a. IsTiedToArea faults opening a calls) (sym (ap (λ (s : Spool A). s.area) moved.after_is)) tied.area;
         tells = subst (λ a. TellsOn told_by opening a) (sym (ap (λ (s : Spool A). s.area) moved.after_is)) tied.tells;
         ready = rw moved.after_is tied.ready;
+        capacity = ap (λ (s : Spool A). s.ring.capacity) moved.after_is ∙ tied.capacity;
+        found = tied.found;
       }
 
   pub rests_done : Tied calls before → Rests p before after → Suspends handed_to is_waiting p before after
@@ -290,16 +390,16 @@ one_more : (lists : ℕ → List (SpoolCall (Snapshot Page))) (p : ℕ) (side : 
 one_more lists p side entry is =
     rw is (calls-with value lists (with_entry lists (process_at side) entry) side entry (with_entry_same lists (process_at side) entry) (with_entry_other lists (process_at side) entry (process_at (other side)) (two-apart side)))
 
-module _ {A : Type 0} (told_by : A → Option (List (List ℕ))) (faults : A → ℕ) (opening : A) (before after : Spool A) (lists : ℕ → List (SpoolCall (Snapshot Page))) (p : ℕ) where
-  by_side : (side : Side) (entry : SpoolCall (Snapshot Page)) → p ≡ process_at side → IsTied told_by faults opening (with_call (calls_of value lists) side (value entry)) after
-      → IsTied told_by faults opening (calls_of value (with_entry lists p entry)) after
-  by_side side entry is tied = subst (λ calls. IsTied told_by faults opening calls after) (sym (one_more lists p side entry is)) tied
+module _ {A : Type 0} (told_by : A → Option (List (List ℕ))) (faults : A → ℕ) (room : ℕ) (opening : A) (before after : Spool A) (lists : ℕ → List (SpoolCall (Snapshot Page))) (p : ℕ) where
+  by_side : (side : Side) (entry : SpoolCall (Snapshot Page)) → p ≡ process_at side → IsTied told_by faults room opening (with_call (calls_of value lists) side (value entry)) after
+      → IsTied told_by faults room opening (calls_of value (with_entry lists p entry)) after
+  by_side side entry is tied = subst (λ calls. IsTied told_by faults room opening calls after) (sym (one_more lists p side entry is)) tied
 
-  pub moves_tied : (entry : SpoolCall (Snapshot Page)) → IsTied told_by faults opening (calls_of value lists) before → Moves told_by faults p before (value entry) after → IsTied told_by faults opening (calls_of value (with_entry lists p entry)) after
-  moves_tied (call.Await side) tied moved = by_side side (call.Await side) moved.process (await_tied told_by faults opening before after p (calls_of value lists) side tied moved)
-  moves_tied (call.AwaitRefused side) tied moved = by_side side (call.AwaitRefused side) moved.process (refused_tied told_by faults opening before after p (calls_of value lists) side tied moved)
-  moves_tied (call.Put page) tied moved = by_side Sender (call.Put page) moved.may.process (put_tied told_by faults opening before after p (calls_of value lists) page.value.0 tied moved)
-  moves_tied (call.PutFailed page) tied moved = by_side Sender (call.PutFailed page) moved.may.process (put_failed_tied told_by faults opening before after p (calls_of value lists) page.value.0 tied moved)
-  moves_tied (call.Take page last) tied moved = by_side Receiver (call.Take page last) moved.may.process (take_tied told_by faults opening before after p (calls_of value lists) page.value.0 last tied moved)
-  moves_tied call.TakeFailed tied moved = by_side Receiver call.TakeFailed moved.1.may.process (take_failed_tied told_by faults opening before after p (calls_of value lists) moved.0 tied moved.1)
-  moves_tied (call.Stop side) tied moved = by_side side (call.Stop side) moved.process (stop_tied told_by faults opening before after p (calls_of value lists) side tied moved)
+  pub moves_tied : (entry : SpoolCall (Snapshot Page)) → IsTied told_by faults room opening (calls_of value lists) before → Moves told_by faults p before (value entry) after → IsTied told_by faults room opening (calls_of value (with_entry lists p entry)) after
+  moves_tied (call.Await side) tied moved = by_side side (call.Await side) moved.process (await_tied told_by faults room opening before after p (calls_of value lists) side tied moved)
+  moves_tied (call.AwaitRefused side) tied moved = by_side side (call.AwaitRefused side) moved.process (refused_tied told_by faults room opening before after p (calls_of value lists) side tied moved)
+  moves_tied (call.Put page) tied moved = by_side Sender (call.Put page) moved.may.process (put_tied told_by faults room opening before after p (calls_of value lists) page.value.0 tied moved)
+  moves_tied (call.PutFailed page) tied moved = by_side Sender (call.PutFailed page) moved.may.process (put_failed_tied told_by faults room opening before after p (calls_of value lists) page.value.0 tied moved)
+  moves_tied (call.Take page last) tied moved = by_side Receiver (call.Take page last) moved.may.process (take_tied told_by faults room opening before after p (calls_of value lists) page.value.0 last tied moved)
+  moves_tied call.TakeFailed tied moved = by_side Receiver call.TakeFailed moved.1.may.process (take_failed_tied told_by faults room opening before after p (calls_of value lists) moved.0 tied moved.1)
+  moves_tied (call.Stop side) tied moved = by_side side (call.Stop side) moved.process (stop_tied told_by faults room opening before after p (calls_of value lists) side tied moved)

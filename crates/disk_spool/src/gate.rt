@@ -1,7 +1,7 @@
 // A running spool.
 ghost use Rattle.std.specs.Prelude.{◌≡◌, ◌<◌, ◌≤◌, [], IfOk, IfErr};
 ghost use Rattle.queue_var.specs.BetweenTwo.{by_side};
-ghost use Rattle.disk_spool.specs.Ends.{Meets, known};
+ghost use Rattle.disk_spool.specs.Ends.{Meets, MeetsRoom, known};
 
 use crate::receive_end::SpoolRecv;
 use crate::ring::MOST_PAGES;
@@ -82,7 +82,8 @@ pub fn meet<A: Area + Send>(
 ) -> SpoolMet<A>
     requires sender { sender.gate ≡ known (A.size gate.area) gate }
     requires receiver { receiver.gate ≡ known (A.size gate.area) gate }
-    ensures { Meets A.pages A.faults gate.area result.area (by_side sender.calls receiver.calls) result.left result.stopped_by }
+    ensures rooms { MeetsRoom (A.size gate.area) (by_side sender.calls receiver.calls) result.left }
+    ensures meets { Meets A.pages A.faults gate.area result.area (by_side sender.calls receiver.calls) result.left result.stopped_by }
 {
     let SpoolGate { gate } = gate;
     let mut into = sender.into_pass();

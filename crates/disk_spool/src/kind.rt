@@ -23,7 +23,7 @@ impl<A: Area + Send> MonitorKind for SpoolKind<A> {
 
     ghost handed_to = { handed_to };
 
-    ghost ties = { λ opening state lists. IsTied A.pages A.faults opening.area (calls_of value lists) state };
+    ghost ties = { λ opening state lists. IsTied A.pages A.faults opening.ring.capacity opening.area (calls_of value lists) state };
 
     ghost waits = { is_waiting };
 
@@ -42,12 +42,12 @@ impl<A: Area + Send> MonitorKind for SpoolKind<A> {
     }
 
     ghost completes = { λ opening before after lists p entry tied moved. (
-      moves_tied A.pages A.faults opening.area before after lists p entry tied moved,
-      moves_done A.pages A.faults opening.area before after p (calls_of value lists) (value entry) tied moved,
+      moves_tied A.pages A.faults opening.ring.capacity opening.area before after lists p entry tied moved,
+      moves_done A.pages A.faults opening.ring.capacity opening.area before after p (calls_of value lists) (value entry) tied moved,
     ) };
 
     ghost suspends = { λ opening before after lists p tied rested. (
-      rests_tied A.pages A.faults opening.area before after p (calls_of value lists) tied rested,
-      rests_done A.pages A.faults opening.area before after p (calls_of value lists) tied rested,
+      rests_tied A.pages A.faults opening.ring.capacity opening.area before after p (calls_of value lists) tied rested,
+      rests_done A.pages A.faults opening.ring.capacity opening.area before after p (calls_of value lists) tied rested,
     ) };
 }

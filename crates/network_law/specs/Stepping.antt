@@ -10,15 +10,14 @@ use Rattle.network_law.specs.Acts.{Call, Alone, At, Asks, Gives, Visit, Awaits, 
 use Rattle.network_law.specs.Network.{Network, State, Event, IsOne, IsEnabled, MayCall, call_of, happens, opening}
 
 -- From what a network opens: what the devices hold, how large the buffers are and which of them are told. And
--- of which opening all that is inside its devices is told, how many events a run from such a one has at most,
--- and in which entries no device fails and no memory is refused.
+-- of which opening all that is inside its devices is told, and in which entries no device fails and no memory
+-- is refused.
 pub record Openings (Devices Entry : Type 0) : Type 1 where
   pub Opening : Type 0
   pub devices : Opening → Devices
   pub sizes : Opening → ℕ → ℕ
   pub told : Opening → ℕ → Bool
   pub IsTold : Opening → Type 0
-  pub longest : Opening → ℕ
   pub IsSmooth : Entry → Type 0
 
 -- A process has a next action, and is at its turn.
@@ -77,5 +76,4 @@ law_of {Devices} {Action} {Entry} {Parcel} network openings = record {
   grants = λ s event. length (happens network s event).desk.granted - length s.desk.granted;
   IsTold = openings.IsTold;
   IsSmooth = λ event. openings.IsSmooth event.entry;
-  longest = openings.longest;
 }

@@ -70,9 +70,9 @@ module _ (law : Law) where
 
     -- ---- there is one: it takes a turn more, up to where none may
     some-events : (fuel : ℕ) (r : Rule) (s : law.State) (reached : IsReached law (law.opened opening) s)
-        → law.longest opening < length reached.events + fuel → (events : List law.Event) × IsUndisturbed law r s events
+        → (sure.no_longer opening told).0 < length reached.events + fuel → (events : List law.Event) × IsUndisturbed law r s events
     some-events zero r s reached few =
-        (let most = sure.no_longer opening reached.events told reached.enabled in absurd (omega (arith, most, few)))
+        (let most = (sure.no_longer opening told).1 reached.events reached.enabled in absurd (omega (arith, most, few)))
     some-events (suc fuel) r s reached few =
         elim (chosen law sure.may_tell r s) as (λ _. (events : List law.Event) × IsUndisturbed law r s events) [
           | inr none ↦ ([], record { enabled = tt; by_rule = tt; smooth = tt; ends = sound.never_stuck opening s reached none })
@@ -93,7 +93,7 @@ module _ (law : Law) where
 
     pub some-run : (r : Rule) (s : law.State) → IsReached law (law.opened opening) s → TheRun law r s
     some-run r s reached =
-        let (events, is) = some-events (suc (law.longest opening)) r s reached (omega arith) in
+        let (events, is) = some-events (suc (sure.no_longer opening told).0) r s reached (omega arith) in
         the-run r s events reached is
 
   pub same-counts : (r : Rule) (s : law.State) (some others : Counts) → AreItsCounts law r s some → AreItsCounts law r s others → others ≡ some

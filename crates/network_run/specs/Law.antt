@@ -23,8 +23,6 @@ pub record Law : Type 1 where
   -- what is inside the devices of an opening is told; in an event no device fails and no memory is refused
   pub IsTold : Opening → Type 0
   pub IsSmooth : Event → Type 0
-  -- over told devices no run has more events
-  pub longest : Opening → ℕ
 
 abbrev pub IsOne : Law → ℕ → Type 0
 IsOne law p = (1 ≤ p) × (p ≤ law.size)

@@ -26,5 +26,6 @@ pub record IsSureLaw (law : Law) : Type 0 where
   pub some_event : (opening : law.Opening) (s : law.State) (p : ℕ) → IsReached law (law.opened opening) s
       → law.IsTold opening → law.MayGo s p
       → (event : law.Event) × law.IsEnabled s event × (law.process event ≡ p) × law.IsSmooth event
-  pub no_longer : (opening : law.Opening) (events : List law.Event) → law.IsTold opening
-      → AreEnabled law (law.opened opening) events → length events ≤ law.longest opening
+  -- no run is longer than some number
+  pub no_longer : (opening : law.Opening) → law.IsTold opening → (most : ℕ)
+      × ((events : List law.Event) → AreEnabled law (law.opened opening) events → length events ≤ most)

@@ -4,3 +4,12 @@ pub mod Changing
 pub mod Answering
 pub mod Naming
 pub mod Passing
+pub mod LineDeeds
+pub mod Counted
+pub mod Entries
+pub mod Reaching
+pub mod Unstuck
+pub mod Accounts
+pub mod Consoles
+pub mod Weights
+pub mod Sureness

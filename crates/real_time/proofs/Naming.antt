@@ -11,7 +11,7 @@ use Rattle.real_time.specs.Typed.{Names}
 use Rattle.real_time.specs.Starts.{Script, Change, plan_of}
 use Rattle.real_time.specs.Awaiting.{Row, Awaits, has_name, unplanned}
 use Rattle.real_time.specs.Answers.{StandsForScript, AllNamed, AnswersLine, name_text}
-use Rattle.real_time.specs.Counted.{any-more}
+use Rattle.real_time.proofs.Counted.{any-more}
 use Rattle.real_time.proofs.Changing.{name_of, all-append}
 use Rattle.real_time.proofs.Answering.{is-task}
 

@@ -5,17 +5,9 @@ pub mod Answers
 pub mod Rows
 pub mod Table
 pub mod Orderly
-pub mod Entries
 pub mod Deeds
 pub mod States
 pub mod TimesLaw
-pub mod Reaching
-pub mod Unstuck
 pub mod Owed
-pub mod LineDeeds
-pub mod Counted
-pub mod Accounts
 pub mod Timed
-pub mod Consoles
 pub mod Weights
-pub mod Sureness

@@ -1,5 +1,5 @@
 -- The law of the nine processes at their time table.
-use Rattle.std.specs.Prelude.{◌≡◌, ◌+◌, ◌*◌, ℕ, List, Option, None, Some, length}
+use Rattle.std.specs.Prelude.{◌≡◌, List, None, Some}
 use Rattle.solo_base.specs.declared.item.Item.{Item}
 use Rattle.solo_devices.specs.declared.card_read.CardRead.{CardRead}
 use Rattle.solo_devices.specs.declared.card_read.CardRead.TheVariants as read
@@ -23,11 +23,6 @@ IsUntroubled (Accepts answer) = IsTypedAnswer answer
 IsUntroubled (Displays fault now) = fault ≡ None
 IsUntroubled (Moves p how) = Unit {0}
 
--- a line is at most a million seconds for eight tasks
-abbrev pub longest_of : Option (List Item) → ℕ
-longest_of None = 0
-longest_of (Some items) = 90000000 * length items + 1000
-
 abbrev pub timing : Law
 timing = record {
   Opening = Opening;
@@ -45,5 +40,4 @@ timing = record {
   grants = λ s event. 0;
   IsTold = AreTypedKeys;
   IsSmooth = IsUntroubled;
-  longest = λ o. longest_of o.keys;
 }

@@ -25,13 +25,13 @@ ghost use Rattle.net_core.specs.WholeRuns.{RunsToEnd};
 ghost use Rattle.schedule_law.specs.NoneCounted.{NoneCounted, NoneLacked};
 
 use batch_ends::{Peripherals, Units};
-use batch_procs::{JobWork, Loader};
+use batch_procs::{HasJobs, JobWork, Loader};
 use solo_devices::{Area, Sink, Source};
 
 /// In each state that is reached over told devices a process has at most one event in which no device fails
 /// and no memory is refused. The files may be untold where the deck names none. Nothing is done here: the
 /// contract is the law.
-pub fn one_event<J: JobWork>()
+pub fn one_event<J: HasJobs>()
     ensures { (opening : Opening J.jobs) (s : CoreState J.Load) (event other : CoreEvent J.Load)
         → IsReached opening s → TellsAll opening
         → IsEnabled (core J.jobs (process J.jobs)) s event
@@ -41,7 +41,7 @@ pub fn one_event<J: JobWork>()
 
 /// Over told devices there is, under each rule, one run to the end in which no device fails and no memory is
 /// refused: some run, and no other. So its counts are one. Nothing is done here: the contract is the law.
-pub fn one_run<J: JobWork>()
+pub fn one_run<J: HasJobs>()
     ensures some { (opening : Opening J.jobs) (s : CoreState J.Load) (rule : Rule)
         → IsReached opening s → TellsAll opening → TheRun (the_law J.jobs) rule s }
     ensures only { (opening : Opening J.jobs) (s : CoreState J.Load) (rule : Rule)

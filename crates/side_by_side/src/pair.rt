@@ -35,7 +35,7 @@ pub fn beside<
                     (thread.join(rt), after)
                 }
                 Err(refused) => {
-                    start.refuse(rt);
+                    let _ = start.refuse(rt);
                     let after = second();
                     ((refused.value)(), after)
                 }

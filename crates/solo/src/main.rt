@@ -106,10 +106,7 @@ fn finish_drive<R: Files<File = File> + AllocGlobal + Threads + Wait + Sync>(
 ) -> Result<Ended, NoMemory> {
     let mut words = Vec::new(rt.alloc());
     words.push(String::from_str(rt.alloc(), "format")?)?;
-    let paper = SureSink::new(rt.alloc());
-    let console = SureSink::new(rt.alloc());
-    let (deck, keys) = (no_bytes(rt), no_bytes(rt));
-    let (_, _, ended) = over_drive(rt, Some(NEW_DRIVE), &words, deck, keys, paper, console);
+    let ended = without_streams(rt, Some(NEW_DRIVE), &words);
     if ended.status == 0 && fs::rename(rt, NEW_DRIVE, DRIVE).is_err() {
         return Ok(Ended::with(3, Fault::Disk));
     }
@@ -170,6 +167,11 @@ fn run_session<R: Input + Print + Files<File = File> + AllocGlobal + Threads + W
 where
     R::Reader: Send + Drop,
 {
+    // The paper of an earlier session stays where the files can't be mounted: a session of no keys says so.
+    let mounted = without_streams(rt, path, words);
+    if mounted.status != 0 {
+        return Ok(mounted);
+    }
     let Ok(cards) = open_cards(rt) else {
         return Ok(Ended::with(2, Fault::Read));
     };
@@ -206,6 +208,19 @@ fn make_printer<R: Files<File = File>>(rt: &R) -> io::Result<File> {
         Ok(printer) => Ok(printer),
         Err(_) => File::open(rt, ROOT),
     }
+}
+
+/// Runs the command of the words over the drive at this path, with no cards and no keys. What it prints and
+/// displays is dropped.
+fn without_streams<R: Files<File = File> + AllocGlobal + Threads + Wait + Sync>(
+    rt: &R,
+    path: Option<&str>,
+    words: &[String],
+) -> Ended {
+    let (deck, keys) = (no_bytes(rt), no_bytes(rt));
+    let (paper, console) = (SureSink::new(rt.alloc()), SureSink::new(rt.alloc()));
+    let (_, _, ended) = over_drive(rt, path, words, deck, keys, paper, console);
+    ended
 }
 
 /// A deck of no cards, or keys on which nothing is typed.

@@ -22,7 +22,8 @@ use Rattle.network_run.specs.OneRun.{TheRun, AreItsCounts}
 use Rattle.network_run.proofs.OneRun.{some-run}
 use Rattle.schedule_law.proofs.TheCounts.{where-done}
 use Rattle.disk_contents.specs.declared.loading.Loaded.{Loaded}
-use Rattle.deck_work.specs.DeckJobs.{AreFound, deck_jobs, deck_are_jobs}
+use Rattle.deck_work.specs.DeckJobs.{AreFound, deck_jobs}
+use Rattle.deck_work.specs.DeckLaws.{deck_are_jobs}
 
 pub known-files : (files : Option Loads) (found : Loads) (items : List Item) → AreFound files found items → AreFilesKnown deck_jobs files items
 known-files files found items (inl told) = inl (ap is_some told)

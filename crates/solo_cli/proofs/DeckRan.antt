@@ -6,8 +6,17 @@ use Rattle.solo_base.specs.Text.{line_text}
 use Rattle.solo_base.specs.declared.outcome.Cause.TheVariants as cause
 use Rattle.solo_devices.specs.CardUnit.{items_ahead}
 use Rattle.batch_job.specs.OneThread.{one_thread_output}
-use Rattle.deck_work.specs.DeckJobs.{deck_jobs, files_found, found_are_loads}
+use Rattle.deck_work.specs.DeckJobs.{deck_jobs, files_found}
+use Rattle.deck_work.specs.DeckLaws.{found_are_loads}
 use Rattle.net_core.specs.WholeRuns.{RunsToEnd}
+use Rattle.network_run.specs.Law.{IsReached}
+use Rattle.core_law.specs.Core.{CoreState}
+use Rattle.core_law.specs.Ends.{HasEndedSo, IsProcess}
+use Rattle.core_law.specs.Opening.{opened}
+use Rattle.core_law.specs.TheLaw.{the_law}
+use Rattle.core_replay.specs.Five.{AreFirstStops}
+use Rattle.batch_ends.specs.Ended.{outcome_at, stopped_at}
+use Rattle.disk_contents.specs.declared.loading.Loaded.{Loaded}
 use Rattle.network_run.specs.declared.counts.Counts.{Counts}
 use Rattle.network_run.specs.declared.rules.Rule.TheVariants.{Numbered}
 use Rattle.page_codec.proofs.CardItems.{card-items}
@@ -39,16 +48,28 @@ mounted-ready m ready =
 
 module _ {S K F I O : Type 0} {before : DeckKit S K F I O} {files : AreaTold F} (m : IsMounted before.files files) (ready : MayRunDeck before) where
   -- ---- `batch`
-  pub batch-ran : {after : DeckKit S K F I O} {answer : Option Refusal} → RanFive (record before { files = files }) after answer
+  pub batch-ran : {after : DeckKit S K F I O} {answer : Option Refusal} (ran : RanFive (record before { files = files }) after answer)
+      (state : CoreState Loaded)
+      → IsReached (the_law deck_jobs) (core_over (record before { files = files }) (items_ahead before.deck.left []) before.paper.given) state
+      → ((p : ℕ) → IsProcess p → HasEndedSo state (outcome_at ran.ends.five.outcomes p) p)
+      → AreFirstStops deck_jobs state (stopped_at ran.ends.five.stopped_by) → state.devices.paper ≡ after.paper.given
       → RanDeck RunsBatch true (7 ∷ run_statuses) before after answer
-  batch-ran {after = after} {answer = answer} ran =
+  batch-ran {after = after} {answer = answer} ran state reached each stopped paper =
       let r : RanFive before after answer = on-area m ran in
       let reasons = deck-reasons r.ends (λ why none. absurd none) r.undamaged r.total r.size in
       record {
         runs = record {
           prints = r.prints;
           reads = reads-to-end ready.deck r.total r.all_taken reasons.beyond;
-          ends = inl r.ends;
+          ends = inl record {
+            ends = r.ends;
+            state = state;
+            reached = subst (λ pages. IsReached (the_law deck_jobs)
+                (opened (spools_told before) (items_ahead before.deck.left []) before.paper.given (files_found pages)) state) m.left reached;
+            each = each;
+            stopped = stopped;
+            paper = paper;
+          };
         };
         mounts = mounts-files m r.left (λ page. never run_statuses answer (deck-known r.ends (λ why none. absurd none)) (cause.NotSolo page) refl);
         reasons = reasons;

@@ -13,7 +13,8 @@ use Rattle.batch_ends.specs.declared.ends.Outcomes.{Outcomes}
 use Rattle.batch_ends.specs.Ended.{FaultsAre}
 use Rattle.batch_job.specs.OneThread.{one_thread_output}
 use Rattle.batch_job.specs.Report.{Loads, no_files}
-use Rattle.deck_work.specs.DeckJobs.{deck_jobs, files_found, found_are_loads}
+use Rattle.deck_work.specs.DeckJobs.{deck_jobs, files_found}
+use Rattle.deck_work.specs.DeckLaws.{found_are_loads}
 use Rattle.made_deck.specs.MadeDeck.{made_deck}
 use Rattle.net_core.specs.WholeRuns.{RunsToEnd}
 use Rattle.network_run.specs.declared.counts.Counts.{Counts}

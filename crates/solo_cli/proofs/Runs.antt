@@ -22,7 +22,8 @@ use Rattle.batch_ends.specs.declared.ends.Ran.{Ran}
 use Rattle.batch_ends.specs.declared.units.Units.{Units}
 use Rattle.net_core.specs.Faults.{JobFaultIsOwn}
 use Rattle.net_core.specs.WholeRuns.{RunsToEnd}
-use Rattle.deck_work.specs.DeckJobs.{AreFound, deck_jobs, files_found, one_thread_is}
+use Rattle.deck_work.specs.DeckJobs.{AreFound, deck_jobs, files_found}
+use Rattle.deck_work.proofs.OneThread.{one_thread_is}
 use Rattle.network_run.specs.declared.counts.Counts.{Counts}
 use Rattle.network_run.specs.declared.rules.Rule.{Rule}
 use Rattle.run_report.specs.Decides.{decides}

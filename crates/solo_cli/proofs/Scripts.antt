@@ -12,9 +12,9 @@ use Rattle.network_run.specs.OneRun.{AreItsCounts, TheRun}
 use Rattle.network_run.proofs.OneRun.{some-run}
 use Rattle.real_time.specs.Starts.{times}
 use Rattle.real_time.specs.States.{Opening}
-use Rattle.real_time.specs.Sureness.{sure}
+use Rattle.real_time.proofs.Sureness.{sure}
 use Rattle.real_time.specs.TimesLaw.{timing}
-use Rattle.real_time.specs.Unstuck.{sound}
+use Rattle.real_time.proofs.Unstuck.{sound}
 use Rattle.time_net.specs.TimeStands.{outcome_with}
 use Rattle.time_net.specs.TimesRuns.{fault_told}
 use Rattle.run_report.specs.CountsLine.{counts_line}

@@ -14,7 +14,8 @@ use Rattle.disk_files.specs.declared.fault.FileFault.TheVariants.{DiskFault}
 use Rattle.batch_job.specs.OneThread.{one_thread_output}
 use Rattle.core_law.specs.Holds.{AreTold}
 use Rattle.core_law.specs.Opening.{AreInBounds}
-use Rattle.deck_work.specs.DeckJobs.{files_found, found_are_loads}
+use Rattle.deck_work.specs.DeckJobs.{files_found}
+use Rattle.deck_work.specs.DeckLaws.{found_are_loads}
 use Rattle.made_deck.specs.MadeDeck.{made_deck}
 use Rattle.network_run.specs.declared.rules.Rule.TheVariants.{Numbered}
 use Rattle.run_report.specs.Told.{AreaTold}

@@ -11,10 +11,14 @@ use Rattle.batch_job.specs.OneThread.{one_thread_output}
 use Rattle.network_run.specs.declared.counts.Counts.{Counts}
 use Rattle.network_run.specs.declared.rules.Rule.{Rule}
 use Rattle.network_run.specs.declared.rules.Rule.TheVariants.{Numbered}
+use Rattle.network_run.specs.Law.{IsReached}
 use Rattle.network_run.specs.OneRun.{AreItsCounts}
 use Rattle.core_law.specs.Core.{CoreState, Devices as CoreDevices}
 use Rattle.core_law.specs.Opening.{Spools, opened}
 use Rattle.core_law.specs.TheLaw.{the_law}
+use Rattle.core_law.specs.Ends.{IsProcess, HasEndedSo}
+use Rattle.core_replay.specs.Five.{AreFirstStops}
+use Rattle.batch_ends.specs.Ended.{outcome_at, stopped_at}
 use Rattle.batch_ends.specs.Openings.{spools_over}
 use Rattle.net_core.specs.WholeRuns.{RunsToEnd}
 use Rattle.deck_work.specs.DeckJobs.{AreFound, deck_jobs, files_found}
@@ -48,11 +52,24 @@ GainsReports before now all =
     → AreFound (files_found before.files.pages) found (cards bytes) → SpoolsTell before
     → Gains before.paper.given now (text (one_thread_output found bytes)) all
 
+-- The five that ran so are a run of the core: some list of enabled events leads, over these devices, to a
+-- state in which each of them has ended with its outcome, where these sides stopped the four buffers first
+-- and the paper is as it is now. By these outcomes the cause is decided.
+pub record BatchEnds {S K F I O : Type 0} (before after : DeckKit S K F I O) (answer : Option Refusal)
+    : Type 0 where
+  pub ends : DeckEnds Nothing before after answer
+  pub state : CoreState Loaded
+  pub reached : IsReached (the_law deck_jobs)
+      (core_over before (items_ahead before.deck.left []) before.paper.given) state
+  pub each : (p : ℕ) → IsProcess p → HasEndedSo state (outcome_at ends.five.outcomes p) p
+  pub stopped : AreFirstStops deck_jobs state (stopped_at ends.five.stopped_by)
+  pub paper : state.devices.paper ≡ after.paper.given
+
 pub record RunsBatch {S K F I O : Type 0} (before after : DeckKit S K F I O) (answer : Option Refusal)
     : Type 0 where
   pub prints : GainsReports before after.paper.given (answer ≡ None)
   pub reads : ReadsToEnd before.deck after.deck (answer ≡ None)
-  pub ends : DeckEnds Nothing before after answer ⊎ Untouched before after
+  pub ends : BatchEnds before after answer ⊎ Untouched before after
 
 -- ---- `core`
 -- A paper gains these lines and behind them the line of these counts, or a prefix of that; all of it where

@@ -30,17 +30,19 @@ pub record GainsTimes (rule : Rule) (items : List Item) (before now : Option (Li
     pub counted : AreItsCounts timing rule (script_opened items before) counts
     pub gains : Gains before now (text (times items ++ counts_line counts.events counts.delays 0 ∷ [])) all
 
--- The nine ran by the rule to their end, and came to these counts: so much is left of the keys, with what was
--- taken of them and is in no line yet, and this is what the run displayed. Where it met a fault that is the
--- cause, and nothing is displayed behind it; else the line of the counts, or a prefix of it.
+-- The nine ran by the rule to their end, and came to these counts: each task saw so many starts, so much is
+-- left of the keys, with what was taken of them and is in no line yet, and this is what the run displayed.
+-- Where it met a fault that is the cause, and nothing is displayed behind it; else the line of the counts, or
+-- a prefix of it.
 pub record TimesEnds {Y T : Type 0} (rule : Rule) (keys keys_then : SourceTold Y)
     (console console_then : SinkTold T) (answer : Option Refusal) : Type 0 where
   pub counts : Counts
+  pub starts : List ℕ
   pub pending : List ℕ
   pub displayed : Option (List ℕ)
   pub fault : Option Cause
   pub runs : TimesRun rule (opened record { keys = items_ahead keys.left []; console = console.given }) counts
-      (items_ahead keys_then.left pending) displayed
+      starts (items_ahead keys_then.left pending) displayed
   pub faulty : IfSome fault (λ why. (answer ≡ Some (Fault why)) × (console_then.given ≡ displayed))
   pub faultless : fault ≡ None → Gains displayed console_then.given
       (line_text (counts_line counts.events counts.delays counts.grants)) (answer ≡ None)

@@ -1,10 +1,9 @@
 -- Solo's network: three processes and six buffers of one slot each.
-use Rattle.std.specs.Prelude.{ℕ, ◌==◌, Bool, true, false, [], None}
+use Rattle.std.specs.Prelude.{ℕ, ◌==◌, ◌≤◌, Bool, true, false, [], None}
 use Rattle.solo_base.specs.declared.outcome.Outcome.TheVariants as outcome
 use Rattle.solo_devices.specs.declared.card_read.CardRead.TheVariants as read
 use Rattle.network_law.specs.Network.{Network, State, Event, IsEnabled, opening}
 use Rattle.network_law.specs.Acts.{Alone}
-use Rattle.network_law.specs.Network as law
 use Rattle.network_law.specs.Stepping.{Openings, law_of}
 use Rattle.network_run.specs.Law.{Law}
 use Rattle.network_run.specs.Law as run
@@ -88,7 +87,7 @@ pub record SoloOpening : Type 0 where
   pub devices : Devices
   pub sound : AreSound devices
 
--- A program may ask for typed lines as long as there are any, so of no opening it is said how long a run is.
+-- A program may ask for typed lines as long as there are any, so of no opening it is said that runs end.
 abbrev pub openings : Openings Devices SoloEntry
 openings = record {
   Opening = SoloOpening;
@@ -96,7 +95,6 @@ openings = record {
   sizes = λ o b. 1;
   told = λ o b. true;
   IsTold = λ o. ⊥;
-  longest = λ o. 0;
   IsSmooth = IsSmooth;
 }
 
@@ -108,8 +106,9 @@ pub record IsReached (devices : Devices) (s : SoloState) : Type 0 where
   pub sound : AreSound devices
   pub reached : run.IsReached the_law (opened devices) s
 
+-- one of the three
 abbrev pub IsProcess : ℕ → Type 0
-IsProcess p = law.IsOne solo p
+IsProcess p = (1 ≤ p) × (p ≤ 3)
 
 -- Some process has not ended, and no event may happen in which no device fails and no memory is refused.
 pub record IsStuck (s : SoloState) : Type 0 where

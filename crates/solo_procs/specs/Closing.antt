@@ -1,3 +1,4 @@
+-- A law.
 -- How each of the three closes down.
 use Rattle.std.proofs.Common.{lit<, ◌≡◌, ℕ, false, None, refl}
 use Rattle.solo_law.specs.Actions.{Reply}

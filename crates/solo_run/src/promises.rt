@@ -19,7 +19,7 @@ pub struct InputComing<'a, 's, S: Source + Drop> {
 impl<'a, 's, S: Source + Drop> Promise<(Ended<InputSide<'a, S>>, Told<'s>)>
     for InputComing<'a, 's, S> {
     ghost kept_by = { λ coming came. InputCame S.left S.taken S.faults
-        coming.start.now came.1.of came.1.value coming.input.value came.0 };
+        coming.start.now.lock came.1.of came.1.value coming.input.value came.0 };
 }
 
 impl<'a, 's, S: Source + Drop> Drop for InputComing<'a, 's, S> {
@@ -37,7 +37,7 @@ pub struct OutputComing<'a, 's, K: Sink + Drop> {
 impl<'a, 's, K: Sink + Drop> Promise<(Ended<OutputSide<'a, K>>, Told<'s>)>
     for OutputComing<'a, 's, K> {
     ghost kept_by = { λ coming came. OutputCame K.given K.faults
-        coming.start.now came.1.of came.1.value coming.output.value came.0 };
+        coming.start.now.lock came.1.of came.1.value coming.output.value came.0 };
 }
 
 impl<'a, 's, K: Sink + Drop> Drop for OutputComing<'a, 's, K> {

@@ -45,7 +45,7 @@ fn begin_input<'a, 's, S: Source + Drop + Send, R: Threads + Wait + Sync>(
     input: InputSide<'a, S>,
 ) -> (Ended<InputSide<'a, S>>, Told<'s>)
     requires { InputRan S.left S.taken S.faults input input [] }
-    ensures { InputCame S.left S.taken S.faults start.now result.1.of result.1.value input.entry result.0 }
+    ensures { InputCame S.left S.taken S.faults start.now.lock result.1.of result.1.value input.entry result.0 }
 {
     let told = start.come(rt);
     let mut side = input;
@@ -64,7 +64,7 @@ fn begin_output<'a, 's, K: Sink + Drop + Send, R: Threads + Wait + Sync>(
     output: OutputSide<'a, K>,
 ) -> (Ended<OutputSide<'a, K>>, Told<'s>)
     requires { OutputRan K.given K.faults output output [] }
-    ensures { OutputCame K.given K.faults start.now result.1.of result.1.value output.entry result.0 }
+    ensures { OutputCame K.given K.faults start.now.lock result.1.of result.1.value output.entry result.0 }
 {
     let told = start.come(rt);
     let mut side = output;
@@ -96,7 +96,7 @@ where
         (C.opens job.files) job job [] }
     ensures { JobCame (job_world Y.left Y.taken Y.faults T.given T.faults C.sound C.faults C.opens
         C.follows C.passes)
-        start.now result.1.of result.1.value job.entry result.0 }
+        start.now.lock result.1.of result.1.value job.entry result.0 }
 {
     let told = start.come(rt);
     let mut side = job;
@@ -134,7 +134,7 @@ where
         K.given K.faults job output }
     ensures { BackCame (job_world Y.left Y.taken Y.faults T.given T.faults C.sound C.faults C.opens
         C.follows C.passes)
-        K.given K.faults start.now result.1.of result.1.value job.entry output.entry result.0 }
+        K.given K.faults start.now.lock result.1.of result.1.value job.entry output.entry result.0 }
 {
     let ((output, told), (job, also)) = beside(
         rt,
@@ -146,7 +146,7 @@ where
         move || -> (Ended<OutputSide<K>>, Told<'_>)
             requires { OutputRan K.given K.faults output output [] }
             ensures { OutputCame K.given K.faults
-                start.entry.now result.1.of result.1.value output.entry result.0 }
+                start.entry.now.lock result.1.of result.1.value output.entry result.0 }
         { begin_output(rt, alloc, start, output) },
         move || -> (Ended<JobSide<Y, T, C::Files>>, Told<'_>)
             requires { JobRan (job_world Y.left Y.taken Y.faults T.given T.faults C.sound C.faults C.opens
@@ -154,7 +154,7 @@ where
                 (C.opens job.files) job job [] }
             ensures { JobCame (job_world Y.left Y.taken Y.faults T.given T.faults C.sound C.faults C.opens
                 C.follows C.passes)
-                start.entry.now result.1.of result.1.value job.entry result.0 }
+                start.entry.now.lock result.1.of result.1.value job.entry result.0 }
         { begin_job::<C, Y, T, R>(rt, alloc, start, job) },
     );
     told.agrees(&also);
@@ -201,7 +201,7 @@ where
         move || -> (Ended<InputSide<S>>, Told<'_>)
             requires { InputRan S.left S.taken S.faults input input [] }
             ensures { InputCame S.left S.taken S.faults
-                start.entry.now result.1.of result.1.value input.entry result.0 }
+                start.entry.now.lock result.1.of result.1.value input.entry result.0 }
         { begin_input(rt, alloc, start, input) },
         move || -> (
             (Ended<JobSide<Y, T, C::Files>>, Ended<OutputSide<K>>),
@@ -212,7 +212,7 @@ where
                 K.given K.faults job output }
             ensures { BackCame (job_world Y.left Y.taken Y.faults T.given T.faults C.sound C.faults C.opens
                 C.follows C.passes)
-                K.given K.faults start.entry.now result.1.of result.1.value
+                K.given K.faults start.entry.now.lock result.1.of result.1.value
                 job.entry output.entry result.0 }
         { run_back::<C, Y, K, T, R>(rt, alloc, start, job, output) },
     );

@@ -9,9 +9,9 @@ use Rattle.solo_devices.specs.CardUnit.{IsAllTaken, items_ahead}
 use Rattle.solo_devices.specs.PrinterUnit.{Gains}
 use Rattle.network_run.specs.Law.{Placed}
 use Rattle.real_time.specs.Awaiting.{Row}
-use Rattle.real_time.specs.Consoles.{timed}
+use Rattle.real_time.proofs.Consoles.{timed}
 use Rattle.real_time.specs.Deeds.{Returns, Wakes, shows_start}
-use Rattle.real_time.specs.Reaching.{holds}
+use Rattle.real_time.proofs.Reaching.{holds}
 use Rattle.real_time.specs.Starts.{Script, times}
 use Rattle.real_time.specs.States.{Stage, Works, Ended}
 use Rattle.real_time.specs.TimesLaw.{timing}

@@ -20,7 +20,7 @@ use Rattle.real_time.specs.Table.{Table}
 use Rattle.real_time.specs.Starts.{Script}
 use Rattle.real_time.specs.States.{Stage, Works, Closes, Joins, Tells, Ended, Accepts, Displays, MayHappen, MayMove, Moved, Moves, Opening, OperatorMay, Prints, TimeEvent, TimeState, action_at, after_answer, behind_display, behind_fault, display_cause, how_went, keys_behind, move_of, occurs, opened, operator_move, process_of}
 use Rattle.real_time.specs.TimesLaw.{timing}
-use Rattle.real_time.specs.Reaching.{Fits, holds}
+use Rattle.real_time.proofs.Reaching.{Fits, holds}
 use Rattle.time_net.specs.declared.calling.Call.{Call}
 use Rattle.time_net.specs.declared.net.TimeNet.{TimeNet}
 use Rattle.time_net.specs.declared.operator.Operator.{Operator}

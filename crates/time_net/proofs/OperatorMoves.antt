@@ -9,7 +9,7 @@ use Rattle.real_time.specs.Table.{MayComeIn, Table, after_wake, all_left, operat
 use Rattle.real_time.specs.declared.typed_line.Typed.{Typed}
 use Rattle.real_time.specs.Deeds.{Deed, Enters, Wakes, Returns}
 use Rattle.real_time.specs.States.{Stage, Works, Closes, Joins, IsMove, MayMove, Moved, OperatorMay, TimeState, action_at, after_woken, join_move, joined_by, operator_move}
-use Rattle.real_time.specs.Reaching.{Fits, Holds, is-outside}
+use Rattle.real_time.proofs.Reaching.{Fits, Holds, is-outside}
 use Rattle.time_net.specs.declared.calling.Call.{Call}
 use Rattle.time_net.specs.declared.calling.Call.TheVariants as call
 use Rattle.time_net.specs.Standing.{CallsFor, IsCall, behind_call}

@@ -23,8 +23,8 @@ use Rattle.real_time.specs.Starts.{Change, Script, behind_line, is_due, is_task,
 use Rattle.real_time.specs.Deeds.{Deed, Enters, Shows, Wakes, Returns, starts, starts_from, starts_in_second, starts_named, starts_of_line, starts_of_seconds}
 use Rattle.real_time.specs.States.{Stage, Works, Closes, Joins, Tells, Ended, Opening, TimeState, TimeEvent, Accepts, Displays, Moves, Moved, after_woken, behind_display, behind_fault, join_move, joined_by, move_of, occurs, opened, operator_move, seen_at, stage_told, task_move, MayHappen}
 use Rattle.real_time.specs.TimesLaw.{timing}
-use Rattle.real_time.specs.Reaching.{Holds, at-opening, keeps, reads-at}
-use Rattle.real_time.specs.Accounts.{Accounts, accounts-open, keeps-accounts}
+use Rattle.real_time.proofs.Reaching.{Holds, at-opening, keeps, reads-at}
+use Rattle.real_time.proofs.Accounts.{Accounts, accounts-open, keeps-accounts}
 use Rattle.time_net.proofs.Ticking.{time-behind}
 
 -- ---- a script has at most one start of a task in a second

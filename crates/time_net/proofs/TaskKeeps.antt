@@ -8,7 +8,7 @@ use Rattle.real_time.specs.Starts.{Script}
 use Rattle.real_time.specs.Awaiting.{Row}
 use Rattle.real_time.specs.Deeds.{Deed, Enters, Shows, Wakes, Returns, shows_start}
 use Rattle.real_time.specs.States.{Stage, Works, Closes, Joins, Tells, Ended, MayMove, Moved, TimeState, move_of, stage_told, task_move, waits}
-use Rattle.real_time.specs.Reaching.{Fits, Holds, awaited-is}
+use Rattle.real_time.proofs.Reaching.{Fits, Holds, awaited-is}
 use Rattle.time_net.specs.declared.operator.Doing.{Doing}
 use Rattle.time_net.specs.declared.operator.Doing.TheVariants as doing
 use Rattle.time_net.specs.declared.operator.Operator.{Operator}

@@ -11,7 +11,7 @@ use Rattle.real_time.specs.declared.table.Seat.TheVariants.{Task}
 use Rattle.real_time.specs.declared.table.Waited.TheVariants as waited
 use Rattle.real_time.specs.Table.{MayComeIn, Table, behind_leave, behind_wait, has_left, is_awaited, out_of_queue, resumed_by, sleeper_at, waited_by}
 use Rattle.real_time.specs.States.{MayMove, Moved, Stage, TimeState, TaskMay, ended_at, goes_on, move_of, seen_at, task_move, waits, with_start}
-use Rattle.real_time.specs.Reaching.{Holds}
+use Rattle.real_time.proofs.Reaching.{Holds}
 use Rattle.time_net.specs.declared.task_proc.Phase.{Phase}
 use Rattle.time_net.specs.declared.task_proc.Phase.TheVariants.{Runs, Waits, Left, Ended}
 use Rattle.time_net.specs.declared.task_proc.TaskProc.{TaskProc}

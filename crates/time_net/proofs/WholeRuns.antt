@@ -20,13 +20,13 @@ use Rattle.network_run.proofs.OneRun.{its-counts}
 use Rattle.real_time.specs.declared.table.Woken.{Woken}
 use Rattle.real_time.specs.declared.table.Woken.TheVariants as woken
 use Rattle.real_time.specs.Deeds.{Deed, Enters, Shows, Wakes, Returns}
-use Rattle.real_time.specs.Sureness.{sure}
+use Rattle.real_time.proofs.Sureness.{sure}
 use Rattle.real_time.specs.States.{Stage, Works, Closes, Joins, Tells, Ended, Accepts, Displays, Moves, TimeEvent, TimeState, after_woken, join_move, joined_by, move_of, occurs, operator_move, task_move}
 use Rattle.real_time.specs.Table.{Table, all_left, has_left, operator_resumed, sleeper_at, woken_by}
 use Rattle.real_time.specs.TimesLaw.{IsUntroubled, timing}
-use Rattle.real_time.specs.Unstuck.{sound}
+use Rattle.real_time.proofs.Unstuck.{sound}
 use Rattle.time_net.specs.declared.net.TimeNet.{TimeNet}
-use Rattle.time_net.specs.TimeStands.{IsCounted, IsFaultOfTimes, TimesStand, OpensOver, Tellers, outcome_with}
+use Rattle.time_net.specs.TimeStands.{IsCounted, IsFaultOfTimes, TimesStand, OpensOver, Tellers, all_runs, outcome_with}
 use Rattle.time_net.specs.TimesRuns.{TimesRun, fault_told}
 
 -- ---- a fault stays
@@ -129,14 +129,15 @@ module _ {Y T : Type 0} (tells : Tellers Y T) (net : TimeNet Y T) (keys : Y) (co
 -- ---- the run
 module _ {Y T : Type 0} (tells : Tellers Y T) (first last : TimeNet Y T) (rule : Rule) (at : Placed timing (TimesStand tells first)) (counts : Counts)
     (ran : RunsBy timing (TimesStand tells last) rule at.state counts) (ended : AllEnded timing (run timing at.state ran.events)) where
-  pub to-end : (t : Typing Y T) → t ≡ last.typewriter → TimesRun rule at.state counts (items_ahead (tells.left t.keys.source) t.keys.pending)
-      (tells.given t.console.sink)
-  to-end t same = record {
+  pub to-end : (starts : List ℕ) → starts ≡ all_runs (run timing at.state ran.events) → (t : Typing Y T) → t ≡ last.typewriter
+      → TimesRun rule at.state counts starts (items_ahead (tells.left t.keys.source) t.keys.pending) (tells.given t.console.sink)
+  to-end starts seen t same = record {
     events = ran.events;
     enabled = ran.enabled;
     by_rule = ran.by_rule;
     counts_are = ran.counts_are;
     ended = ended;
+    starts_are = seen;
     keys_are = ran.stands.is.keys ∙ ap (λ (t : Typing Y T). items_ahead (tells.left t.keys.source) t.keys.pending) (sym same);
     console_is = ran.stands.is.console ∙ ap (λ (t : Typing Y T). tells.given t.console.sink) (sym same);
   }

@@ -1,3 +1,4 @@
+-- A law.
 -- Each event leaves fewer.
 use Rattle.std.proofs.Common.{◌≡◌, ℕ, zero, suc, ◌+◌, ◌*◌, ◌<◌, ◌≤◌, Bool, true, false, Option, None, Some, List, [], ◌∷◌, refl, arith}
 use Rattle.solo_devices.specs.declared.card_read.CardRead.TheVariants as read
@@ -12,8 +13,9 @@ use Rattle.real_time.specs.Table.{Table, all_left, has_left, operator_resumed, s
 use Rattle.real_time.specs.Deeds.{Deed, Enters, Shows, Wakes, Returns}
 use Rattle.real_time.specs.States.{Stage, Works, Closes, Joins, Tells, Ended, Opening, TimeState, TimeEvent, Accepts, Displays, Moves, after_woken, behind_display, behind_fault, join_move, joined_by, move_of, occurs, opened, operator_move, stage_told, task_move, MayHappen}
 use Rattle.real_time.specs.TimesLaw.{timing}
-use Rattle.real_time.specs.Reaching.{holds, reads-at}
-use Rattle.real_time.specs.Weights.{falls, lines_read}
+use Rattle.real_time.proofs.Reaching.{holds, reads-at}
+use Rattle.real_time.specs.Weights.{lines_read}
+use Rattle.real_time.proofs.Weights.{falls}
 use Rattle.time_net.specs.declared.net.TimeNet.{TimeNet}
 use Rattle.time_net.specs.TimeStands.{LeavesLines, Tellers, events_ahead, keys_ahead, reading_work}
 

@@ -11,16 +11,18 @@ use Rattle.network_run.specs.Law.{AllEnded, AreEnabled, run}
 use Rattle.network_run.specs.Runs.{AreByRule}
 use Rattle.real_time.specs.States.{TimeEvent, TimeState}
 use Rattle.real_time.specs.TimesLaw.{timing}
+use Rattle.time_net.specs.TimeStands.{all_runs}
 
--- Enabled events by the rule, which come to these counts. Behind them all nine have ended, this is left of
--- the keys, and the console has this, where they tell it.
-pub record TimesRun (rule : Rule) (s : TimeState) (counts : Counts) (keys : Option (List Item))
-    (console : Option (List ℕ)) : Type 0 where
+-- Enabled events by the rule, which come to these counts. Behind them all nine have ended, each task saw so
+-- many starts, this is left of the keys, and the console has this, where they tell it.
+pub record TimesRun (rule : Rule) (s : TimeState) (counts : Counts) (starts : List ℕ)
+    (keys : Option (List Item)) (console : Option (List ℕ)) : Type 0 where
   pub events : List TimeEvent
   pub enabled : AreEnabled timing s events
   pub by_rule : AreByRule timing rule s events
   pub counts_are : counts ≡ counts_of timing s events
   pub ended : AllEnded timing (run timing s events)
+  pub starts_are : starts ≡ all_runs (run timing s events)
   pub keys_are : (run timing s events).keys ≡ keys
   pub console_is : (run timing s events).console ≡ console
 

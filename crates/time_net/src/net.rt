@@ -2,8 +2,8 @@ ghost use Rattle.std.specs.Prelude.{◌≡◌, ◌≤◌, ◌↔◌, ◌-◌, �
 ghost use Rattle.network_run.specs.Law.{Placed, MayStep, Steps};
 ghost use Rattle.real_time.specs.States.{HasEnded, MayMove, OperatorMay, Prints, Stage, Tells, TimeState, Works, action_at};
 ghost use Rattle.real_time.specs.TimesLaw.{timing};
-ghost use Rattle.real_time.specs.Unstuck.{sound};
-ghost use Rattle.real_time.specs.Sureness.{sure};
+ghost use Rattle.real_time.proofs.Unstuck.{sound};
+ghost use Rattle.real_time.proofs.Sureness.{sure};
 ghost use Rattle.time_net.specs.Falls.{net-falls};
 ghost use Rattle.time_net.specs.Standing.{ActsAt, CallsFor};
 ghost use Rattle.time_net.specs.TableCalls.{MayCallTable};

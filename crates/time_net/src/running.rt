@@ -20,10 +20,11 @@ use solo_devices::{Sink, Source};
 pub fn run_times<Y: Source, T: Sink>(source: Y, sink: T, rule: Rule) -> (TimeRan<Y, T>, Counts)
     requires { Y.taken source ≡ 0 }
 
-    // What is counted is the run of the rule from the opening over these devices.
+    // What is counted is the run of the rule from the opening over these devices, and so is how often each
+    // task started.
     ensures runs { TimesRun rule
         (opened record { keys = items_ahead (Y.left source) []; console = T.given sink }) result.1
-        (items_ahead (Y.left result.0.typewriter.keys.source) result.0.typewriter.keys.pending)
+        result.0.runs (items_ahead (Y.left result.0.typewriter.keys.source) result.0.typewriter.keys.pending)
         (T.given result.0.typewriter.console.sink) }
     ensures counts { (items : List Item) → items_ahead (Y.left source) [] ≡ Some items →
         result.0.outcome ≡ Outcome.Done → AreItsCounts timing rule

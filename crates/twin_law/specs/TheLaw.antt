@@ -16,7 +16,6 @@ the_openings J = record {
   sizes = λ o. size_of o.spools;
   told = λ o. told_of o.spools;
   IsTold = λ o. ⊥;
-  longest = λ o. 0;
   IsSmooth = λ entry. IsSmooth entry;
 }
 

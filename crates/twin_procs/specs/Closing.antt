@@ -1,3 +1,4 @@
+-- A law.
 -- The buffers that each of the six stops stand in order.
 use Rattle.std.proofs.Common.{lit<}
 use Rattle.batch_procs.specs.Jobs.{Jobs}

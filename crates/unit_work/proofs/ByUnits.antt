@@ -13,7 +13,8 @@ use Rattle.deck_units.proofs.UnitJobs.{are-units}
 use Rattle.batch_job.specs.Report.{Loads, report}
 use Rattle.batch_job.specs.OneThread.{one_thread_lines}
 use Rattle.batch_procs.specs.Jobs.{one_thread}
-use Rattle.deck_work.specs.DeckJobs.{deck_jobs, one_thread_is}
+use Rattle.deck_work.specs.DeckJobs.{deck_jobs}
+use Rattle.deck_work.proofs.OneThread.{one_thread_is}
 use Rattle.twin_law.specs.Output.{is_some}
 use Rattle.twin_law.specs.UnitWork.{AreByUnits}
 

@@ -10,7 +10,9 @@ use Rattle.disk_contents.specs.declared.loading.Loaded.{Loaded}
 use Rattle.batch_job.specs.Report.{Loads}
 use Rattle.batch_job.specs.OneThread.{one_thread_lines}
 use Rattle.batch_procs.specs.Jobs.{one_thread}
-use Rattle.deck_work.specs.DeckJobs.{deck_jobs, deck_are_jobs, one_thread_is}
+use Rattle.deck_work.specs.DeckJobs.{deck_jobs}
+use Rattle.deck_work.specs.DeckLaws.{deck_are_jobs}
+use Rattle.deck_work.proofs.OneThread.{one_thread_is}
 use Rattle.twin_law.specs.Twin.{TwinState, TwinEvent}
 use Rattle.twin_law.specs.Opening.{AreTold, Opening}
 use Rattle.twin_law.specs.Outcomes.{AllDone}

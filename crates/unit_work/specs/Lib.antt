@@ -1,1 +1,2 @@
+pub mod CoreBatch
 pub mod TwinBatch

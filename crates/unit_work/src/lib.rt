@@ -1,7 +1,7 @@
-//! A batch on two job processes: its jobs can be worked on unit by unit, so the law of the twin network holds
-//! of it whole.
+//! A batch on one job process and on two, in every order of events: the laws of the core and of the twin
+//! network, in the words of the reports. Its jobs can be worked on unit by unit.
 #![tactic(auto)]
 
 mod laws;
 
-pub use laws::{batch_by_units, batch_of_two_workers};
+pub use laws::{batch_by_units, batch_of_one_worker, batch_of_two_workers};

@@ -7,8 +7,8 @@ use Rattle.batch_procs.proofs.histories.histories_keep.Goals as goal
 
 pub returns : goal.returns
 returns g c =
-    let jobs = g.met.J.JobWork.are_jobs in
-    let J = g.J.JobWork.jobs in
+    let jobs = g.J.HasJobs.are_jobs in
+    let J = g.J.HasJobs.jobs in
     record {
       five = relays jobs;
       keep = kept.histories_keep J;

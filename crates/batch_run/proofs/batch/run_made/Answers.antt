@@ -6,7 +6,7 @@ use Rattle.batch_run.proofs.batch.run_made.Goals as goal
 
 pub run_five-ended-requires-after_bounds : goal.run_five-ended-requires-after_bounds
 run_five-ended-requires-after_bounds g c κs within =
-    row-begins g.J.JobWork.jobs g.S.Source.left g.S.Source.taken g.S.Source.faults g.K.Sink.given g.K.Sink.faults
+    row-begins g.J.HasJobs.jobs g.S.Source.left g.S.Source.taken g.S.Source.faults g.K.Sink.given g.K.Sink.faults
     (loading g.F.Loader.found g.F.Loader.pages g.F.Loader.faults g.F.Loader.sound) g.A.Area.size g.B.Area.size
     c.args.gates c.args.ends c.args.deck c.args.paper c.args.files c.row.result c.requires.fresh c.row.ensures c.requires.live.0 c.requires.live.1
     c.requires.sound

@@ -6,5 +6,5 @@ use Rattle.batch_sides.proofs.card_side.run_cards.Given as goal
 
 abbrev pub invariant-loop : goal.invariant-loop
 invariant-loop g l =
-    Going g.met.J.JobWork.are_jobs card card_keeps l.machine
+    Going g.J.HasJobs.are_jobs card card_keeps l.machine
     (CardRan g.S.Source.left g.S.Source.taken g.S.Source.faults l.initial.at.side l.at.side l.at.pass)

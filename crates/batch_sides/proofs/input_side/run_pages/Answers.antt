@@ -7,42 +7,42 @@ use Rattle.batch_sides.proofs.InputSteps.{input-may_next, input-did_next, input-
 use Rattle.batch_sides.proofs.input_side.run_pages.Goals as goal
 
 pub loop-init : goal.loop-init
-loop-init g c = going-first g.met.J.JobWork.are_jobs c.new-machine.ensures c.requires
+loop-init g c = going-first g.J.HasJobs.are_jobs c.new-machine.ensures c.requires
 
 pub perform-reply-requires-clause-may : goal.perform-reply-requires-clause-may
 perform-reply-requires-clause-may g c κs within =
-    input-may_next g.met.J.JobWork.are_jobs _ c.loop.at.side c.loop.at.pass c.loop.invariant.history _ c.loop.invariant.connected
-    (follows-now g.met.J.JobWork.are_jobs refl c.loop.invariant c.next-action.ensures.next)
-    (next-is g.met.J.JobWork.are_jobs refl c.loop.invariant c.next-action.ensures.next)
+    input-may_next g.J.HasJobs.are_jobs _ c.loop.at.side c.loop.at.pass c.loop.invariant.history _ c.loop.invariant.connected
+    (follows-now g.J.HasJobs.are_jobs refl c.loop.invariant c.next-action.ensures.next)
+    (next-is g.J.HasJobs.are_jobs refl c.loop.invariant c.next-action.ensures.next)
 
 pub without_disk-requires : goal.without_disk-requires
 without_disk-requires g c =
-    let ends = (ends-here g.met.J.JobWork.are_jobs refl c.loop.invariant c.next-action.ensures.next
-    (input-did_next g.met.J.JobWork.are_jobs _ c.loop.at.side c.loop.at.pass c.loop.invariant.history _ c.loop.invariant.connected
-    (follows-now g.met.J.JobWork.are_jobs refl c.loop.invariant c.next-action.ensures.next)
-    (next-is g.met.J.JobWork.are_jobs refl c.loop.invariant c.next-action.ensures.next) c.perform-reply.new.running.side
+    let ends = (ends-here g.J.HasJobs.are_jobs refl c.loop.invariant c.next-action.ensures.next
+    (input-did_next g.J.HasJobs.are_jobs _ c.loop.at.side c.loop.at.pass c.loop.invariant.history _ c.loop.invariant.connected
+    (follows-now g.J.HasJobs.are_jobs refl c.loop.invariant c.next-action.ensures.next)
+    (next-is g.J.HasJobs.are_jobs refl c.loop.invariant c.next-action.ensures.next) c.perform-reply.new.running.side
     c.perform-reply.new.running.pass c.perform-reply.result c.perform-reply.ensures.performs) (sym c.end_of-end.ensures ∙ c.in-Some-end.is)) in
-    input-without g.met.J.JobWork.are_jobs _ ends.history _ ends.stands ends.follows ends.ended
+    input-without g.J.HasJobs.are_jobs _ ends.history _ ends.stands ends.follows ends.ended
 
 pub returns-then-not-whole : goal.returns-then-not-whole
 returns-then-not-whole g c = came-stays c.come-told.ensures c.is_whole-whole.ensures c.if-not-whole.true refl
 
 pub returns-in-Some-end : goal.returns-in-Some-end
 returns-in-Some-end g c =
-    let ends = (ends-here g.met.J.JobWork.are_jobs refl c.loop.invariant c.next-action.ensures.next
-    (input-did_next g.met.J.JobWork.are_jobs _ c.loop.at.side c.loop.at.pass c.loop.invariant.history _ c.loop.invariant.connected
-    (follows-now g.met.J.JobWork.are_jobs refl c.loop.invariant c.next-action.ensures.next)
-    (next-is g.met.J.JobWork.are_jobs refl c.loop.invariant c.next-action.ensures.next) c.perform-reply.new.running.side
+    let ends = (ends-here g.J.HasJobs.are_jobs refl c.loop.invariant c.next-action.ensures.next
+    (input-did_next g.J.HasJobs.are_jobs _ c.loop.at.side c.loop.at.pass c.loop.invariant.history _ c.loop.invariant.connected
+    (follows-now g.J.HasJobs.are_jobs refl c.loop.invariant c.next-action.ensures.next)
+    (next-is g.J.HasJobs.are_jobs refl c.loop.invariant c.next-action.ensures.next) c.perform-reply.new.running.side
     c.perform-reply.new.running.pass c.perform-reply.result c.perform-reply.ensures.performs) (sym c.end_of-end.ensures ∙ c.in-Some-end.is)) in
     came-whole c.come-told.ensures c.is_whole-whole.ensures c.if-not-whole.false
-    (ended-so g.J.JobWork.jobs input (InputRan g.A.Area.size c.args.pages) ends
-    (input-without g.met.J.JobWork.are_jobs _ ends.history _ ends.stands ends.follows ends.ended) c.without_disk.ensures)
+    (ended-so g.J.HasJobs.jobs input (InputRan g.A.Area.size c.args.pages) ends
+    (input-without g.J.HasJobs.are_jobs _ ends.history _ ends.stands ends.follows ends.ended) c.without_disk.ensures)
 
 pub loop-preserved : goal.loop-preserved
 loop-preserved g c =
-    going-on g.met.J.JobWork.are_jobs refl c.loop.invariant c.next-action.ensures.next c.give.result
-    (input-did_next g.met.J.JobWork.are_jobs _ c.loop.at.side c.loop.at.pass c.loop.invariant.history _ c.loop.invariant.connected
-    (follows-now g.met.J.JobWork.are_jobs refl c.loop.invariant c.next-action.ensures.next)
-    (next-is g.met.J.JobWork.are_jobs refl c.loop.invariant c.next-action.ensures.next) c.perform-reply.new.running.side
+    going-on g.J.HasJobs.are_jobs refl c.loop.invariant c.next-action.ensures.next c.give.result
+    (input-did_next g.J.HasJobs.are_jobs _ c.loop.at.side c.loop.at.pass c.loop.invariant.history _ c.loop.invariant.connected
+    (follows-now g.J.HasJobs.are_jobs refl c.loop.invariant c.next-action.ensures.next)
+    (next-is g.J.HasJobs.are_jobs refl c.loop.invariant c.next-action.ensures.next) c.perform-reply.new.running.side
     c.perform-reply.new.running.pass c.perform-reply.result c.perform-reply.ensures.performs) (sym c.end_of-end.ensures
     ∙ c.in_default.is) c.give.ensures.ok c.give.ensures.err

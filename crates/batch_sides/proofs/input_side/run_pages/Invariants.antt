@@ -6,5 +6,5 @@ use Rattle.batch_sides.proofs.input_side.run_pages.Given as goal
 
 abbrev pub invariant-loop : goal.invariant-loop
 invariant-loop g l =
-    Going g.met.J.JobWork.are_jobs input input_keeps l.machine
+    Going g.J.HasJobs.are_jobs input input_keeps l.machine
     (InputRan g.A.Area.size l.initial.at.side l.at.side l.at.pass)

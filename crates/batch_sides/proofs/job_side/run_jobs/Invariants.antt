@@ -7,5 +7,5 @@ use Rattle.batch_sides.proofs.job_side.run_jobs.Given as goal
 
 abbrev pub invariant-loop : goal.invariant-loop
 invariant-loop g l =
-    Going g.met.J.JobWork.are_jobs (job g.J.JobWork.jobs) (job_keeps g.J.JobWork.jobs g.J.JobWork.keeps) l.machine
+    Going g.J.HasJobs.are_jobs (job g.J.HasJobs.jobs) (job_keeps g.J.HasJobs.jobs g.J.JobWork.keeps) l.machine
     (JobRan (loading g.F.Loader.found g.F.Loader.pages g.F.Loader.faults g.F.Loader.sound) g.A.Area.size g.B.Area.size l.initial.at.side l.at.side l.at.pass)

@@ -6,5 +6,5 @@ use Rattle.batch_sides.proofs.output_side.run_lines.Given as goal
 
 abbrev pub invariant-loop : goal.invariant-loop
 invariant-loop g l =
-    Going g.met.J.JobWork.are_jobs output output_keeps l.machine
+    Going g.J.HasJobs.are_jobs output output_keeps l.machine
     (OutputRan g.B.Area.size l.initial.at.side l.at.side l.at.pass)

@@ -6,5 +6,5 @@ use Rattle.batch_sides.proofs.printer_side.run_paper.Given as goal
 
 abbrev pub invariant-loop : goal.invariant-loop
 invariant-loop g l =
-    Going g.met.J.JobWork.are_jobs printer printer_keeps l.machine
+    Going g.J.HasJobs.are_jobs printer printer_keeps l.machine
     (PrinterRan g.K.Sink.given g.K.Sink.faults l.initial.at.side l.at.side l.at.pass)

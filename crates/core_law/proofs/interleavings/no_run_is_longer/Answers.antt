@@ -2,4 +2,4 @@ use Rattle.core_law.proofs.Bounded.{no-run_longer}
 use Rattle.core_law.proofs.interleavings.no_run_is_longer.Goals as goal
 
 pub returns : goal.returns
-returns g c = no-run_longer g.met.J.JobWork.are_jobs
+returns g c = no-run_longer g.J.HasJobs.are_jobs

@@ -9,4 +9,4 @@ step-stepped-requires g c = record { may = c.requires }
 pub returns : goal.returns
 returns g c =
     let steps = c.step-stepped.ensures.steps c.requires.at c.requires.may in
-    place-behind (the_law g.J.JobWork.jobs) _ _ c.requires.at (steps.event ∷ []) (steps.enabled, tt) steps.stands
+    place-behind (the_law g.J.HasJobs.jobs) _ _ c.requires.at (steps.event ∷ []) (steps.enabled, tt) steps.stands

@@ -6,7 +6,7 @@ use Rattle.core_trace.proofs.trace.go_through.Given as goal
 -- the network stands for a state that was reached
 abbrev pub invariant-running : goal.invariant-running
 invariant-running g l =
-    Placed (the_law g.J.JobWork.jobs) (StandsWithin g.J.JobWork.jobs (the_keeps g.J.JobWork.jobs g.J.JobWork.keeps) record {
+    Placed (the_law g.J.HasJobs.jobs) (StandsWithin g.J.HasJobs.jobs (the_keeps g.J.HasJobs.jobs g.J.JobWork.keeps) record {
       left = g.S.Source.left;
       taken = g.S.Source.taken;
       given = g.K.Sink.given;

@@ -17,7 +17,7 @@ finish-requires g c =
 
 pub returns-clause-runs : goal.returns-clause-runs
 returns-clause-runs g c =
-    runs-to-end g.met.J.JobWork.are_jobs _ _ c.args.rule c.run_by-counts.new.self _ c.run_by-counts.result
+    runs-to-end g.J.HasJobs.are_jobs _ _ c.args.rule c.run_by-counts.new.self _ c.run_by-counts.result
     (c.run_by-counts.ensures.runs (first_place c.make-net.ensures.opens))
     c.finish.result.outcomes c.finish.result.stopped_by c.finish.ensures.ends c.finish.result.units c.finish.ensures.units
 
@@ -31,24 +31,24 @@ pub returns-clause-prints : goal.returns-clause-prints
 returns-clause-prints g c = λ items found is are_found told.
     let at = first_place c.make-net.ensures.opens in
     let ran = c.run_by-counts.ensures.runs at in
-    c.finish.ensures.prints (place-behind (the_law g.J.JobWork.jobs) _ _ at ran.events ran.enabled ran.stands) told items found is are_found
+    c.finish.ensures.prints (place-behind (the_law g.J.HasJobs.jobs) _ _ at ran.events ran.enabled ran.stands) told items found is are_found
 
 pub returns-clause-reads : goal.returns-clause-reads
 returns-clause-reads g c = λ items is done.
     let at = first_place c.make-net.ensures.opens in
     let ran = c.run_by-counts.ensures.runs at in
-    c.finish.ensures.reads (place-behind (the_law g.J.JobWork.jobs) _ _ at ran.events ran.enabled ran.stands) items is done
+    c.finish.ensures.reads (place-behind (the_law g.J.HasJobs.jobs) _ _ at ran.events ran.enabled ran.stands) items is done
 
 pub returns-clause-undamaged : goal.returns-clause-undamaged
 returns-clause-undamaged g c = λ told.
     let at = first_place c.make-net.ensures.opens in
     let ran = c.run_by-counts.ensures.runs at in
-    c.finish.ensures.undamaged (place-behind (the_law g.J.JobWork.jobs) _ _ at ran.events ran.enabled ran.stands) told
+    c.finish.ensures.undamaged (place-behind (the_law g.J.HasJobs.jobs) _ _ at ran.events ran.enabled ran.stands) told
 
 pub returns-clause-bound : goal.returns-clause-bound
 returns-clause-bound g c = λ items found is are_found told.
     let at = first_place c.make-net.ensures.opens in
-    run-bounded g.met.J.JobWork.are_jobs _ _ c.args.rule c.run_by-counts.new.self at.opening at.state c.run_by-counts.result items found at.reached told is
+    run-bounded g.J.HasJobs.are_jobs _ _ c.args.rule c.run_by-counts.new.self at.opening at.state c.run_by-counts.result items found at.reached told is
     are_found
     (c.run_by-counts.ensures.runs at)
 
@@ -67,7 +67,7 @@ returns-clause-all_taken g c = λ done.
     (ap (λ (u : Units _ _ _ _ _). bytes_total (g.S.Source.taken u.deck.source) (g.S.Source.left u.deck.source)) c.finish.ensures.units
     ∙ c.run_by-counts.ensures.keeps.total
     ∙ ap (λ (u : Units _ _ _ _ _). bytes_total (g.S.Source.taken u.deck.source) (g.S.Source.left u.deck.source)) c.make-net.ensures.units)
-    (λ items is. c.finish.ensures.reads (place-behind (the_law g.J.JobWork.jobs) _ _ at ran.events ran.enabled ran.stands) items is done)
+    (λ items is. c.finish.ensures.reads (place-behind (the_law g.J.HasJobs.jobs) _ _ at ran.events ran.enabled ran.stands) items is done)
 
 pub returns-clause-files : goal.returns-clause-files
 returns-clause-files g c =

@@ -1,9 +1,9 @@
-use Rattle.real_time.specs.Unstuck.{sound}
-use Rattle.real_time.specs.Sureness.{sure}
-use Rattle.real_time.specs.Consoles.{timed}
-use Rattle.real_time.specs.Reaching.{holds}
-use Rattle.real_time.specs.Weights.{falls}
-use Rattle.real_time.specs.LineDeeds.{line-shows, line-starts}
+use Rattle.real_time.proofs.Unstuck.{sound}
+use Rattle.real_time.proofs.Sureness.{few-events, sure}
+use Rattle.real_time.proofs.Consoles.{timed}
+use Rattle.real_time.proofs.Reaching.{holds}
+use Rattle.real_time.proofs.Weights.{falls}
+use Rattle.real_time.proofs.LineDeeds.{line-shows, line-starts}
 use Rattle.real_time.proofs.laws.timing_law.Goals as goal
 
 pub returns-clause-sound : goal.returns-clause-sound
@@ -20,6 +20,9 @@ returns-clause-orderly c = λ o s reached. (holds o s reached).table
 
 pub returns-clause-falls : goal.returns-clause-falls
 returns-clause-falls c = λ o s event reached is. falls s event (holds o s reached) is
+
+pub returns-clause-bound : goal.returns-clause-bound
+returns-clause-bound c = few-events
 
 pub returns-clause-lines : goal.returns-clause-lines
 returns-clause-lines c = line-shows

@@ -4,12 +4,12 @@ use Rattle.core_law.proofs.Law.{sound, sure}
 use Rattle.schedule_law.proofs.laws.one_run.Goals as goal
 
 pub returns-clause-some : goal.returns-clause-some
-returns-clause-some g c = λ opening s rule reached told. some-run (the_law g.J.JobWork.jobs) (sound g.met.J.JobWork.are_jobs)
-    (sure g.met.J.JobWork.are_jobs) opening told rule s reached
+returns-clause-some g c = λ opening s rule reached told. some-run (the_law g.J.HasJobs.jobs) (sound g.J.HasJobs.are_jobs)
+    (sure g.J.HasJobs.are_jobs) opening told rule s reached
 
 pub returns-clause-only : goal.returns-clause-only
 returns-clause-only g c = λ opening s rule events others reached told first second.
-    one-run (the_law g.J.JobWork.jobs) (sound g.met.J.JobWork.are_jobs) (sure g.met.J.JobWork.are_jobs) opening told rule s events others reached first second
+    one-run (the_law g.J.HasJobs.jobs) (sound g.J.HasJobs.are_jobs) (sure g.J.HasJobs.are_jobs) opening told rule s events others reached first second
 
 pub returns-clause-counts : goal.returns-clause-counts
-returns-clause-counts g c = λ s rule. same-counts (the_law g.J.JobWork.jobs) rule s
+returns-clause-counts g c = λ s rule. same-counts (the_law g.J.HasJobs.jobs) rule s

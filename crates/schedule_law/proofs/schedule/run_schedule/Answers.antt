@@ -8,7 +8,7 @@ use Rattle.schedule_law.proofs.schedule.run_schedule.Goals as goal
 
 pub returns : goal.returns
 returns g c =
-    let o : Opening g.J.JobWork.jobs
+    let o : Opening g.J.HasJobs.jobs
     = record {
       spools = spools_over (g.A.Area.size c.args.units.input) (g.A.Area.pages c.args.units.input)
           (g.B.Area.size c.args.units.output) (g.B.Area.pages c.args.units.output);
@@ -27,9 +27,9 @@ returns g c =
     record {
       runs = c.run_core.ensures.runs;
       done = λ items is known told.
-          where-done g.met.J.JobWork.are_jobs o _ (opening-reached g.met.J.JobWork.are_jobs o)
+          where-done g.J.HasJobs.are_jobs o _ (opening-reached g.J.HasJobs.are_jobs o)
           record { spools = told; items = items; deck = is; files = known } c.run_core.ensures.runs;
       uncounted = λ items is known told.
-          where-none_counted g.met.J.JobWork.are_jobs o _ (opening-reached g.met.J.JobWork.are_jobs o)
+          where-none_counted g.J.HasJobs.are_jobs o _ (opening-reached g.J.HasJobs.are_jobs o)
           record { spools = told; items = items; deck = is; files = known } c.run_core.ensures.runs c.run_core.ensures.counted;
     }

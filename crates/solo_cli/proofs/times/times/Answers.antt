@@ -40,6 +40,7 @@ returns-in-None-clause-ends g c =
     let ran = c.run_times-ran.result.0 in
     record {
       counts = c.run_times-ran.result.1;
+      starts = ran.runs;
       pending = ran.typewriter.keys.pending;
       displayed = g.T.Sink.given c.into_inner-keys.result.1;
       fault = None;
@@ -54,6 +55,7 @@ returns-in-Some-clause-ends g c =
     let ran = c.run_times-ran.result.0 in
     record {
       counts = c.run_times-ran.result.1;
+      starts = ran.runs;
       pending = ran.typewriter.keys.pending;
       displayed = g.T.Sink.given c.into_inner-keys.result.1;
       fault = Some c.in-Some.cause;

@@ -19,8 +19,9 @@ returns-clause-runs g c =
     let tells = tellers g.Y.Source.left g.Y.Source.taken g.Y.Source.faults g.T.Sink.given g.T.Sink.faults in
     let at = times_place c.make-net.ensures in
     let ran = c.run_by-counts.ensures.runs at in
-    to-end tells c.make-net.result c.run_by-counts.new.self c.args.rule at c.run_by-counts.result ran
-    (c.run_by-counts.ensures.ended (place-behind timing _ _ at ran.events ran.enabled ran.stands)) c.finish.result.typewriter c.finish.ensures.typewriter
+    let behind = place-behind timing _ _ at ran.events ran.enabled ran.stands in
+    to-end tells c.make-net.result c.run_by-counts.new.self c.args.rule at c.run_by-counts.result ran (c.run_by-counts.ensures.ended behind)
+    c.finish.result.runs (c.finish.ensures.runs behind) c.finish.result.typewriter c.finish.ensures.typewriter
 
 pub returns-clause-counts : goal.returns-clause-counts
 returns-clause-counts g c =

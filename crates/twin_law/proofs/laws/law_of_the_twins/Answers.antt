@@ -2,4 +2,4 @@ use Rattle.twin_law.proofs.Reached.{sound}
 use Rattle.twin_law.proofs.laws.law_of_the_twins.Goals as goal
 
 pub returns : goal.returns
-returns g c = record { sound = sound g.met.J.JobWork.are_jobs }
+returns g c = record { sound = sound g.J.HasJobs.are_jobs }

@@ -15,7 +15,7 @@ finish-requires g c = (let run = c.run_by-counts.ensures in record { ended = rec
 
 pub returns-clause-runs : goal.returns-clause-runs
 returns-clause-runs g c =
-    runs-to-end g.met.J.JobWork.are_jobs _ _ c.args.rule c.run_by-counts.new.self _ c.args.units c.make-net.ensures.opens c.run_by-counts.result
+    runs-to-end g.J.HasJobs.are_jobs _ _ c.args.rule c.run_by-counts.new.self _ c.args.units c.make-net.ensures.opens c.run_by-counts.result
     (c.run_by-counts.ensures.runs (twin_first_place c.make-net.ensures.opens)) c.finish.result.outcomes c.finish.result.stopped_by c.finish.ensures.ends
     c.finish.result.units c.finish.ensures.units
 
@@ -26,29 +26,29 @@ pub returns-clause-prints : goal.returns-clause-prints
 returns-clause-prints g c = λ by told items found deck files.
     let at = twin_first_place c.make-net.ensures.opens in
     let ran = c.run_by-counts.ensures.runs at in
-    c.finish.ensures.prints (place-behind (the_law g.J.JobWork.jobs) _ _ at ran.events ran.enabled ran.stands) by told items found deck files
+    c.finish.ensures.prints (place-behind (the_law g.J.HasJobs.jobs) _ _ at ran.events ran.enabled ran.stands) by told items found deck files
 
 pub returns-clause-reads : goal.returns-clause-reads
 returns-clause-reads g c = λ items is done.
     let at = twin_first_place c.make-net.ensures.opens in
     let ran = c.run_by-counts.ensures.runs at in
-    c.finish.ensures.reads (place-behind (the_law g.J.JobWork.jobs) _ _ at ran.events ran.enabled ran.stands) items is done
+    c.finish.ensures.reads (place-behind (the_law g.J.HasJobs.jobs) _ _ at ran.events ran.enabled ran.stands) items is done
 
 pub returns-clause-together : goal.returns-clause-together
 returns-clause-together g c = λ by told items found deck files.
     let at = twin_first_place c.make-net.ensures.opens in
     let ran = c.run_by-counts.ensures.runs at in
-    c.finish.ensures.together (place-behind (the_law g.J.JobWork.jobs) _ _ at ran.events ran.enabled ran.stands) by told items found deck files
+    c.finish.ensures.together (place-behind (the_law g.J.HasJobs.jobs) _ _ at ran.events ran.enabled ran.stands) by told items found deck files
 
 pub returns-clause-undamaged : goal.returns-clause-undamaged
 returns-clause-undamaged g c = λ told.
     let at = twin_first_place c.make-net.ensures.opens in
     let ran = c.run_by-counts.ensures.runs at in
-    c.finish.ensures.undamaged (place-behind (the_law g.J.JobWork.jobs) _ _ at ran.events ran.enabled ran.stands) told
+    c.finish.ensures.undamaged (place-behind (the_law g.J.HasJobs.jobs) _ _ at ran.events ran.enabled ran.stands) told
 
 pub returns-clause-bound : goal.returns-clause-bound
 returns-clause-bound g c = λ by told items found deck files.
-    run-bounded g.met.J.JobWork.are_jobs _ _ c.args.rule c.run_by-counts.new.self _ c.args.units c.make-net.ensures.opens c.run_by-counts.result items found by
+    run-bounded g.J.HasJobs.are_jobs _ _ c.args.rule c.run_by-counts.new.self _ c.args.units c.make-net.ensures.opens c.run_by-counts.result items found by
     told deck files (c.run_by-counts.ensures.runs (twin_first_place c.make-net.ensures.opens))
 
 pub returns-clause-total : goal.returns-clause-total

@@ -5,7 +5,8 @@ use Rattle.solo_devices.specs.Count.{Rose}
 use Rattle.solo_devices.specs.CardUnit.{bytes_total, items_ahead}
 use Rattle.network_law.specs.Network.{opening}
 use Rattle.network_run.specs.declared.rules.Rule.TheVariants.{Numbered}
-use Rattle.deck_work.specs.DeckJobs.{deck_jobs, files_found, one_thread_is}
+use Rattle.deck_work.specs.DeckJobs.{deck_jobs, files_found}
+use Rattle.deck_work.proofs.OneThread.{one_thread_is}
 use Rattle.net_core.proofs.WholeRuns.{all-taken}
 use Rattle.unit_work.proofs.ByUnits.{by-units}
 use Rattle.twin_law.specs.Opening.{size_of, told_of}

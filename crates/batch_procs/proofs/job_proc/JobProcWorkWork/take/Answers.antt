@@ -9,7 +9,7 @@ pub returns-in_ok-feed-in-Ok-clause-ok : goal.returns-in_ok-feed-in-Ok-clause-ok
 returns-in_ok-feed-in-Ok-clause-ok g c = λ taken sent keeps may.
     let same = ap (page_read c.args.self.now.pages.place c.in-Page.last) c.get.ensures in
     let read = sym same ∙ (sym c.take.ensures.read ∙ c.in-Ok.is) in
-    let all = job-takes g.met.J.JobWork.are_jobs (g.J.JobWork.keeps c.args.self.now.jobs)
+    let all = job-takes g.J.HasJobs.are_jobs (g.J.JobWork.keeps c.args.self.now.jobs)
     (g.J.JobWork.keeps c.feed.new.self) _ _ _ _ _ taken sent c.args.reply c.in-Page.page c.in-Page.last c.in-Ok.items c.in-Page.is
     (sym c.is_ended.ensures
     ∙ c.if-is_ended.false) read (page-last _ c.in-Page.last c.in-Page.page c.in-Ok.items read)

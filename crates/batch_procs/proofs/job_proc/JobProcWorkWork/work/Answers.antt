@@ -8,11 +8,11 @@ use Rattle.batch_procs.proofs.job_proc.JobProcWorkWork.work.Goals as goal
 
 pub returns-then-is_ended-clause-ok : goal.returns-then-is_ended-clause-ok
 returns-then-is_ended-clause-ok g c = λ taken sent keeps loaded.
-    job-works-last g.met.J.JobWork.are_jobs keeps loaded c.pack.new.due c.finish.new.due c.finish.new.packer c.if-is_none.ensures c.finish.ensures
+    job-works-last g.J.HasJobs.are_jobs keeps loaded c.pack.new.due c.finish.new.due c.finish.new.packer c.if-is_none.ensures c.finish.ensures
     (sym c.if-is_ended.ensures) c.in_ok-pack.ensures
 
 pub returns-else-is_none-clause-ok : goal.returns-else-is_none-clause-ok
 returns-else-is_none-clause-ok g c = λ taken sent keeps loaded. elim c.else-is_none.branch [
-  | not-ended w ↦ job-works-on g.met.J.JobWork.are_jobs keeps loaded c.pack.new.due w.if-is_none.ensures (sym w.if-is_ended.ensures) c.in_ok-pack.ensures
-  | page-due w ↦ job-works-page g.met.J.JobWork.are_jobs keeps loaded c.pack.new.due w.if-is_none.ensures c.in_ok-pack.ensures
+  | not-ended w ↦ job-works-on g.J.HasJobs.are_jobs keeps loaded c.pack.new.due w.if-is_none.ensures (sym w.if-is_ended.ensures) c.in_ok-pack.ensures
+  | page-due w ↦ job-works-page g.J.HasJobs.are_jobs keeps loaded c.pack.new.due w.if-is_none.ensures c.in_ok-pack.ensures
 ]

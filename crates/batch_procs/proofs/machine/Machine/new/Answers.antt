@@ -3,4 +3,4 @@ use Rattle.batch_procs.proofs.Machines.{stands-new}
 use Rattle.batch_procs.proofs.machine.Machine.new.Goals as goal
 
 pub returns : goal.returns
-returns g c = stands-new g.J.JobWork.jobs g.W.Work.process g.W.Work.keeps _ c.begin.ensures refl refl refl
+returns g c = stands-new g.J.HasJobs.jobs g.W.Work.process g.W.Work.keeps _ c.begin.ensures refl refl refl

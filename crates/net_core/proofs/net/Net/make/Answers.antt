@@ -38,7 +38,7 @@ returns-clause-opens g c = record {
       paper_live = λ free. ap (λ (u : Units _ _ _ _ _). u.paper.live) c.make.ensures.units ∙ c.requires.paper;
       files_sound = λ free. subst (λ (u : Units _ _ _ _ _). g.F.Loader.sound u.files) (sym c.make.ensures.units) c.requires.sound;
     };
-    within = opening-within g.met.J.JobWork.are_jobs (cards_left g.S.Source.taken c.make.result.deck)
+    within = opening-within g.J.HasJobs.are_jobs (cards_left g.S.Source.taken c.make.result.deck)
         (spools_over (g.A.Area.size c.args.units.input) (g.A.Area.pages c.args.units.input)
         (g.B.Area.size c.args.units.output) (g.B.Area.pages c.args.units.output))
         (items_ahead (g.S.Source.left c.args.units.deck.source) c.args.units.deck.pending)
@@ -50,4 +50,4 @@ returns-clause-opens g c = record {
 
 pub returns-clause-counted : goal.returns-clause-counted
 returns-clause-counted g c =
-    made-counted g.met.J.JobWork.are_jobs _ _ _ _ c.args.units _ (returns-clause-opens g c).stands.is c.make.ensures.units refl
+    made-counted g.J.HasJobs.are_jobs _ _ _ _ c.args.units _ (returns-clause-opens g c).stands.is c.make.ensures.units refl

@@ -3,27 +3,27 @@ use Rattle.net_core.proofs.net.NetNetwork.step.Goals as goal
 
 pub step_machine-requires : goal.step_machine-requires
 step_machine-requires g c = record {
-  may = may-step g.met.J.JobWork.are_jobs _ _ c.args.self.now c.args.p 1 _ c.if-p-eq1.true c.requires.may c.requires.may.at.stands.is.card;
+  may = may-step g.J.HasJobs.are_jobs _ _ c.args.self.now c.args.p 1 _ c.if-p-eq1.true c.requires.may c.requires.may.at.stands.is.card;
 }
 
 pub step_machine-requires-then-p-eq2 : goal.step_machine-requires-then-p-eq2
 step_machine-requires-then-p-eq2 g c = record {
-  may = may-step g.met.J.JobWork.are_jobs _ _ c.args.self.now c.args.p 2 _ c.if-p-eq2.true c.requires.may c.requires.may.at.stands.is.input;
+  may = may-step g.J.HasJobs.are_jobs _ _ c.args.self.now c.args.p 2 _ c.if-p-eq2.true c.requires.may c.requires.may.at.stands.is.input;
 }
 
 pub step_machine-requires-then-p-eq3 : goal.step_machine-requires-then-p-eq3
 step_machine-requires-then-p-eq3 g c = record {
-  may = may-step g.met.J.JobWork.are_jobs _ _ c.args.self.now c.args.p 3 _ c.if-p-eq3.true c.requires.may c.requires.may.at.stands.is.job;
+  may = may-step g.J.HasJobs.are_jobs _ _ c.args.self.now c.args.p 3 _ c.if-p-eq3.true c.requires.may c.requires.may.at.stands.is.job;
 }
 
 pub step_machine-requires-then-p-eq4 : goal.step_machine-requires-then-p-eq4
 step_machine-requires-then-p-eq4 g c = record {
-  may = may-step g.met.J.JobWork.are_jobs _ _ c.args.self.now c.args.p 4 _ c.if-p-eq4.true c.requires.may c.requires.may.at.stands.is.output;
+  may = may-step g.J.HasJobs.are_jobs _ _ c.args.self.now c.args.p 4 _ c.if-p-eq4.true c.requires.may c.requires.may.at.stands.is.output;
 }
 
 pub step_machine-requires-else-p-eq4 : goal.step_machine-requires-else-p-eq4
 step_machine-requires-else-p-eq4 g c = record {
-  may = may-step g.met.J.JobWork.are_jobs _ _ c.args.self.now c.args.p 5 _
+  may = may-step g.J.HasJobs.are_jobs _ _ c.args.self.now c.args.p 5 _
       (last-number c.args.p c.requires.may.may.one c.if-p-eq1.false c.if-p-eq2.false c.if-p-eq3.false c.if-p-eq4.false) c.requires.may
       c.requires.may.at.stands.is.printer;
 }
@@ -31,21 +31,21 @@ step_machine-requires-else-p-eq4 g c = record {
 pub returns-then-p-eq1 : goal.returns-then-p-eq1
 returns-then-p-eq1 g c = record {
   steps = λ at may.
-      steps-at g.met.J.JobWork.are_jobs _ _ _ c.args.self.now
+      steps-at g.J.HasJobs.are_jobs _ _ _ c.args.self.now
       (record c.args.self.now { card = c.step_machine.new.machine; shared = c.step_machine.new.shared; room = c.step_machine.new.room })
       at.state _ c.args.p 1
       may.action c.step_machine.result (at.state.histories 1) c.if-p-eq1.true
-      (at-card g.met.J.JobWork.are_jobs _ _ _ c.args.self.now at.opening at.state at.reached at.stands c.step_machine.new.machine
+      (at-card g.J.HasJobs.are_jobs _ _ _ c.args.self.now at.opening at.state at.reached at.stands c.step_machine.new.machine
       c.step_machine.new.shared c.step_machine.new.room may.action c.step_machine.result)
-      (in-step g.met.J.JobWork.are_jobs at.state c.args.p may)
+      (in-step g.J.HasJobs.are_jobs at.state c.args.p may)
       (c.step_machine.ensures (at.state.histories 1) may.action at.stands.is.card
-      (next-at g.met.J.JobWork.are_jobs at.state c.args.p 1 may.action c.if-p-eq1.true (in-step g.met.J.JobWork.are_jobs at.state c.args.p may)));
+      (next-at g.J.HasJobs.are_jobs at.state c.args.p 1 may.action c.if-p-eq1.true (in-step g.J.HasJobs.are_jobs at.state c.args.p may)));
 }
 
 pub returns-then-p-eq2 : goal.returns-then-p-eq2
 returns-then-p-eq2 g c = record {
   steps = λ at may.
-      steps-at g.met.J.JobWork.are_jobs _ _ _ c.args.self.now
+      steps-at g.J.HasJobs.are_jobs _ _ _ c.args.self.now
       (record c.args.self.now {
         input = c.step_machine-then-p-eq2.new.machine;
         shared = c.step_machine-then-p-eq2.new.shared;
@@ -53,17 +53,17 @@ returns-then-p-eq2 g c = record {
       })
       at.state _ c.args.p 2
       may.action c.step_machine-then-p-eq2.result (at.state.histories 2) c.if-p-eq2.true
-      (at-input g.met.J.JobWork.are_jobs _ _ _ c.args.self.now at.opening at.state at.reached at.stands c.step_machine-then-p-eq2.new.machine
+      (at-input g.J.HasJobs.are_jobs _ _ _ c.args.self.now at.opening at.state at.reached at.stands c.step_machine-then-p-eq2.new.machine
       c.step_machine-then-p-eq2.new.shared c.step_machine-then-p-eq2.new.room may.action c.step_machine-then-p-eq2.result)
-      (in-step g.met.J.JobWork.are_jobs at.state c.args.p may)
+      (in-step g.J.HasJobs.are_jobs at.state c.args.p may)
       (c.step_machine-then-p-eq2.ensures (at.state.histories 2) may.action at.stands.is.input
-      (next-at g.met.J.JobWork.are_jobs at.state c.args.p 2 may.action c.if-p-eq2.true (in-step g.met.J.JobWork.are_jobs at.state c.args.p may)));
+      (next-at g.J.HasJobs.are_jobs at.state c.args.p 2 may.action c.if-p-eq2.true (in-step g.J.HasJobs.are_jobs at.state c.args.p may)));
 }
 
 pub returns-then-p-eq3 : goal.returns-then-p-eq3
 returns-then-p-eq3 g c = record {
   steps = λ at may.
-      steps-at g.met.J.JobWork.are_jobs _ _ _ c.args.self.now
+      steps-at g.J.HasJobs.are_jobs _ _ _ c.args.self.now
       (record c.args.self.now {
         job = c.step_machine-then-p-eq3.new.machine;
         shared = c.step_machine-then-p-eq3.new.shared;
@@ -71,17 +71,17 @@ returns-then-p-eq3 g c = record {
       })
       at.state _ c.args.p 3
       may.action c.step_machine-then-p-eq3.result (at.state.histories 3) c.if-p-eq3.true
-      (at-job g.met.J.JobWork.are_jobs _ _ _ c.args.self.now at.opening at.state at.reached at.stands c.step_machine-then-p-eq3.new.machine
+      (at-job g.J.HasJobs.are_jobs _ _ _ c.args.self.now at.opening at.state at.reached at.stands c.step_machine-then-p-eq3.new.machine
       c.step_machine-then-p-eq3.new.shared c.step_machine-then-p-eq3.new.room may.action c.step_machine-then-p-eq3.result)
-      (in-step g.met.J.JobWork.are_jobs at.state c.args.p may)
+      (in-step g.J.HasJobs.are_jobs at.state c.args.p may)
       (c.step_machine-then-p-eq3.ensures (at.state.histories 3) may.action at.stands.is.job
-      (next-at g.met.J.JobWork.are_jobs at.state c.args.p 3 may.action c.if-p-eq3.true (in-step g.met.J.JobWork.are_jobs at.state c.args.p may)));
+      (next-at g.J.HasJobs.are_jobs at.state c.args.p 3 may.action c.if-p-eq3.true (in-step g.J.HasJobs.are_jobs at.state c.args.p may)));
 }
 
 pub returns-then-p-eq4 : goal.returns-then-p-eq4
 returns-then-p-eq4 g c = record {
   steps = λ at may.
-      steps-at g.met.J.JobWork.are_jobs _ _ _ c.args.self.now
+      steps-at g.J.HasJobs.are_jobs _ _ _ c.args.self.now
       (record c.args.self.now {
         output = c.step_machine-then-p-eq4.new.machine;
         shared = c.step_machine-then-p-eq4.new.shared;
@@ -89,17 +89,17 @@ returns-then-p-eq4 g c = record {
       })
       at.state _ c.args.p 4
       may.action c.step_machine-then-p-eq4.result (at.state.histories 4) c.if-p-eq4.true
-      (at-output g.met.J.JobWork.are_jobs _ _ _ c.args.self.now at.opening at.state at.reached at.stands c.step_machine-then-p-eq4.new.machine
+      (at-output g.J.HasJobs.are_jobs _ _ _ c.args.self.now at.opening at.state at.reached at.stands c.step_machine-then-p-eq4.new.machine
       c.step_machine-then-p-eq4.new.shared c.step_machine-then-p-eq4.new.room may.action c.step_machine-then-p-eq4.result)
-      (in-step g.met.J.JobWork.are_jobs at.state c.args.p may)
+      (in-step g.J.HasJobs.are_jobs at.state c.args.p may)
       (c.step_machine-then-p-eq4.ensures (at.state.histories 4) may.action at.stands.is.output
-      (next-at g.met.J.JobWork.are_jobs at.state c.args.p 4 may.action c.if-p-eq4.true (in-step g.met.J.JobWork.are_jobs at.state c.args.p may)));
+      (next-at g.J.HasJobs.are_jobs at.state c.args.p 4 may.action c.if-p-eq4.true (in-step g.J.HasJobs.are_jobs at.state c.args.p may)));
 }
 
 pub returns-else-p-eq4 : goal.returns-else-p-eq4
 returns-else-p-eq4 g c = record {
   steps = λ at may.
-      steps-at g.met.J.JobWork.are_jobs _ _ _ c.args.self.now
+      steps-at g.J.HasJobs.are_jobs _ _ _ c.args.self.now
       (record c.args.self.now {
         printer = c.step_machine-else-p-eq4.new.machine;
         shared = c.step_machine-else-p-eq4.new.shared;
@@ -108,10 +108,10 @@ returns-else-p-eq4 g c = record {
       at.state _ c.args.p 5
       may.action c.step_machine-else-p-eq4.result (at.state.histories 5) (last-number c.args.p may.one c.if-p-eq1.false c.if-p-eq2.false c.if-p-eq3.false
       c.if-p-eq4.false)
-      (at-printer g.met.J.JobWork.are_jobs _ _ _ c.args.self.now at.opening at.state at.reached at.stands c.step_machine-else-p-eq4.new.machine
+      (at-printer g.J.HasJobs.are_jobs _ _ _ c.args.self.now at.opening at.state at.reached at.stands c.step_machine-else-p-eq4.new.machine
       c.step_machine-else-p-eq4.new.shared c.step_machine-else-p-eq4.new.room may.action c.step_machine-else-p-eq4.result)
-      (in-step g.met.J.JobWork.are_jobs at.state c.args.p may)
+      (in-step g.J.HasJobs.are_jobs at.state c.args.p may)
       (c.step_machine-else-p-eq4.ensures (at.state.histories 5) may.action at.stands.is.printer
-      (next-at g.met.J.JobWork.are_jobs at.state c.args.p 5 may.action (last-number c.args.p may.one c.if-p-eq1.false c.if-p-eq2.false c.if-p-eq3.false
-      c.if-p-eq4.false) (in-step g.met.J.JobWork.are_jobs at.state c.args.p may)));
+      (next-at g.J.HasJobs.are_jobs at.state c.args.p 5 may.action (last-number c.args.p may.one c.if-p-eq1.false c.if-p-eq2.false c.if-p-eq3.false
+      c.if-p-eq4.false) (in-step g.J.HasJobs.are_jobs at.state c.args.p may)));
 }

@@ -10,24 +10,24 @@ use Rattle.net_core.proofs.shared.Shared.put_feed.Goals as goal
 
 pub returns-then-p-eq1-clause-performs : goal.returns-then-p-eq1-clause-performs
 returns-then-p-eq1-clause-performs g c =
-    at-cards g.met.J.JobWork.are_jobs _ c.args.self.now c.args.p (act.PutFeed c.args.feed.now) c.put_feed.result c.put_feed.new.buffer Sender Passes tt
+    at-cards g.J.HasJobs.are_jobs _ c.args.self.now c.args.p (act.PutFeed c.args.feed.now) c.put_feed.result c.put_feed.new.buffer Sender Passes tt
     (ap (λ p. call p (act.PutFeed c.args.feed.now)) c.if-p-eq1.true) c.put_feed.ensures
 
 pub returns-else-p-eq1-clause-performs : goal.returns-else-p-eq1-clause-performs
 returns-else-p-eq1-clause-performs g c =
     let last = at-second c.args.p 1 4 (WaitsAt c.args.self.now.cards.sides Sender)
     (WaitsAt c.args.self.now.lines.sides Sender) c.requires.may c.if-p-eq1.false in
-    at-lines g.met.J.JobWork.are_jobs _ c.args.self.now c.args.p (act.PutFeed c.args.feed.now) c.put_feed-else-p-eq1.result c.put_feed-else-p-eq1.new.buffer
+    at-lines g.J.HasJobs.are_jobs _ c.args.self.now c.args.p (act.PutFeed c.args.feed.now) c.put_feed-else-p-eq1.result c.put_feed-else-p-eq1.new.buffer
     Sender Passes tt
     (ap (λ p. call p (act.PutFeed c.args.feed.now)) last.number) c.put_feed-else-p-eq1.ensures
 
 pub returns-then-p-eq1-clause-causes : goal.returns-then-p-eq1-clause-causes
 returns-then-p-eq1-clause-causes g c =
-    quiet-causes g.met.J.JobWork.are_jobs _ _ c.args.self.now _ c.args.p (act.PutFeed c.args.feed.now) c.put_feed.result tt c.put_feed.ensures.suits
+    quiet-causes g.J.HasJobs.are_jobs _ _ c.args.self.now _ c.args.p (act.PutFeed c.args.feed.now) c.put_feed.result tt c.put_feed.ensures.suits
     record { deck = refl; paper = refl; input = refl; output = refl; files = refl }
 
 pub returns-else-p-eq1-clause-causes : goal.returns-else-p-eq1-clause-causes
 returns-else-p-eq1-clause-causes g c =
-    quiet-causes g.met.J.JobWork.are_jobs _ _ c.args.self.now _ c.args.p (act.PutFeed c.args.feed.now) c.put_feed-else-p-eq1.result tt
+    quiet-causes g.J.HasJobs.are_jobs _ _ c.args.self.now _ c.args.p (act.PutFeed c.args.feed.now) c.put_feed-else-p-eq1.result tt
     c.put_feed-else-p-eq1.ensures.suits
     record { deck = refl; paper = refl; input = refl; output = refl; files = refl }

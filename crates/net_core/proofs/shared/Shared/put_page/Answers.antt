@@ -10,24 +10,24 @@ use Rattle.net_core.proofs.shared.Shared.put_page.Goals as goal
 
 pub returns-then-p-eq2-clause-performs : goal.returns-then-p-eq2-clause-performs
 returns-then-p-eq2-clause-performs g c =
-    at-input g.met.J.JobWork.are_jobs _ c.args.self.now c.args.p (act.PutPage c.args.page.now) (Some c.put_page.result) c.put_page.new.spool Sender Moves tt
+    at-input g.J.HasJobs.are_jobs _ c.args.self.now c.args.p (act.PutPage c.args.page.now) (Some c.put_page.result) c.put_page.new.spool Sender Moves tt
     (ap (λ p. call p (act.PutPage c.args.page.now)) c.if-p-eq2.true) (c.put_page.ensures.visited c.args.p)
 
 pub returns-else-p-eq2-clause-performs : goal.returns-else-p-eq2-clause-performs
 returns-else-p-eq2-clause-performs g c =
     let last = at-second c.args.p 2 3 (λ p. PutsAt c.args.self.now.input) (λ p. PutsAt c.args.self.now.output) c.requires.may c.if-p-eq2.false in
-    at-output g.met.J.JobWork.are_jobs _ c.args.self.now c.args.p (act.PutPage c.args.page.now)
+    at-output g.J.HasJobs.are_jobs _ c.args.self.now c.args.p (act.PutPage c.args.page.now)
     (Some c.put_page-else-p-eq2.result) c.put_page-else-p-eq2.new.spool Sender Moves tt
     (ap (λ p. call p (act.PutPage c.args.page.now)) last.number) (c.put_page-else-p-eq2.ensures.visited c.args.p)
 
 pub returns-then-p-eq2-clause-causes : goal.returns-then-p-eq2-clause-causes
 returns-then-p-eq2-clause-causes g c =
-    input-causes g.met.J.JobWork.are_jobs _ _ c.args.self.now _ c.args.p (act.PutPage c.args.page.now) c.put_page.result tt
+    input-causes g.J.HasJobs.are_jobs _ _ c.args.self.now _ c.args.p (act.PutPage c.args.page.now) c.put_page.result tt
     (c.put_page.ensures.visited c.args.p).suits
     (λ other. (let same = sym c.if-p-eq2.true ∙ other in cc)) refl refl refl refl c.put_page.ensures.failed c.put_page.ensures.counts
 
 pub returns-else-p-eq2-clause-causes : goal.returns-else-p-eq2-clause-causes
 returns-else-p-eq2-clause-causes g c =
-    output-causes g.met.J.JobWork.are_jobs _ _ c.args.self.now _ c.args.p (act.PutPage c.args.page.now) c.put_page-else-p-eq2.result tt
+    output-causes g.J.HasJobs.are_jobs _ _ c.args.self.now _ c.args.p (act.PutPage c.args.page.now) c.put_page-else-p-eq2.result tt
     (c.put_page-else-p-eq2.ensures.visited c.args.p).suits
     c.if-p-eq2.false refl refl refl refl c.put_page-else-p-eq2.ensures.failed c.put_page-else-p-eq2.ensures.counts

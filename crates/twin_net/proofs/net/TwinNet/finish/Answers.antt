@@ -3,21 +3,21 @@ use Rattle.twin_net.proofs.net.TwinNet.finish.Goals as goal
 
 pub returns : goal.returns
 returns g c = record {
-  ends = ends g.met.J.JobWork.are_jobs g.J.JobWork.keeps _ c.args.self c.ended_as-outcomes.result c.stopped_by.result c.into_units.result
+  ends = ends g.J.HasJobs.are_jobs g.J.JobWork.keeps _ c.args.self c.ended_as-outcomes.result c.stopped_by.result c.into_units.result
       c.requires.ended c.ended_as-outcomes.ensures c.stopped_by.ensures c.into_units.ensures;
-  faults = faults g.met.J.JobWork.are_jobs g.J.JobWork.keeps _ c.args.self c.ended_as-outcomes.result c.stopped_by.result c.into_units.result
+  faults = faults g.J.HasJobs.are_jobs g.J.JobWork.keeps _ c.args.self c.ended_as-outcomes.result c.stopped_by.result c.into_units.result
       c.requires.ended c.ended_as-outcomes.ensures c.stopped_by.ensures c.into_units.ensures;
-  stopped = stopped g.met.J.JobWork.are_jobs g.J.JobWork.keeps _ c.args.self c.ended_as-outcomes.result c.stopped_by.result c.into_units.result
+  stopped = stopped g.J.HasJobs.are_jobs g.J.JobWork.keeps _ c.args.self c.ended_as-outcomes.result c.stopped_by.result c.into_units.result
       c.requires.ended c.ended_as-outcomes.ensures c.stopped_by.ensures c.into_units.ensures;
-  counted = counted g.met.J.JobWork.are_jobs g.J.JobWork.keeps _ c.args.self c.ended_as-outcomes.result c.stopped_by.result c.into_units.result
+  counted = counted g.J.HasJobs.are_jobs g.J.JobWork.keeps _ c.args.self c.ended_as-outcomes.result c.stopped_by.result c.into_units.result
       c.requires.ended c.ended_as-outcomes.ensures c.stopped_by.ensures c.into_units.ensures _;
-  prints = prints g.met.J.JobWork.are_jobs g.J.JobWork.keeps _ c.args.self c.ended_as-outcomes.result c.stopped_by.result c.into_units.result
+  prints = prints g.J.HasJobs.are_jobs g.J.JobWork.keeps _ c.args.self c.ended_as-outcomes.result c.stopped_by.result c.into_units.result
       c.requires.ended c.ended_as-outcomes.ensures c.stopped_by.ensures c.into_units.ensures;
-  reads = reads g.met.J.JobWork.are_jobs g.J.JobWork.keeps _ c.args.self c.ended_as-outcomes.result c.stopped_by.result c.into_units.result
+  reads = reads g.J.HasJobs.are_jobs g.J.JobWork.keeps _ c.args.self c.ended_as-outcomes.result c.stopped_by.result c.into_units.result
       c.requires.ended c.ended_as-outcomes.ensures c.stopped_by.ensures c.into_units.ensures;
-  together = together g.met.J.JobWork.are_jobs g.J.JobWork.keeps _ c.args.self c.ended_as-outcomes.result c.stopped_by.result c.into_units.result
+  together = together g.J.HasJobs.are_jobs g.J.JobWork.keeps _ c.args.self c.ended_as-outcomes.result c.stopped_by.result c.into_units.result
       c.requires.ended c.ended_as-outcomes.ensures c.stopped_by.ensures c.into_units.ensures;
-  undamaged = undamaged g.met.J.JobWork.are_jobs g.J.JobWork.keeps _ c.args.self c.ended_as-outcomes.result c.stopped_by.result c.into_units.result
+  undamaged = undamaged g.J.HasJobs.are_jobs g.J.JobWork.keeps _ c.args.self c.ended_as-outcomes.result c.stopped_by.result c.into_units.result
       c.requires.ended c.ended_as-outcomes.ensures c.stopped_by.ensures c.into_units.ensures;
   units = c.into_units.ensures;
 }

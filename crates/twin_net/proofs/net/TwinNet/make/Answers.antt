@@ -18,7 +18,7 @@ make-requires g c = record {
 
 pub returns-clause-opens : goal.returns-clause-opens
 returns-clause-opens g c =
-    opens-over g.met.J.JobWork.are_jobs g.J.JobWork.keeps _ c.args.units _ record {
+    opens-over g.J.HasJobs.are_jobs g.J.JobWork.keeps _ c.args.units _ record {
       to_a = record { some = c.requires.to_a.0; most = c.requires.to_a.1 };
       to_b = record { some = c.requires.to_b.0; most = c.requires.to_b.1 };
       from_a = record { some = c.requires.from_a.0; most = c.requires.from_a.1 };
@@ -41,6 +41,6 @@ returns-clause-opens g c =
 
 pub returns-clause-counted : goal.returns-clause-counted
 returns-clause-counted g c =
-    counted-first g.J.JobWork.jobs _ _ c.args.units c.make.ensures.units c.make.ensures.sound
+    counted-first g.J.HasJobs.jobs _ _ c.args.units c.make.ensures.units c.make.ensures.sound
     (free-done _ _ _ _ _ _ c.new.ensures.cause c.new-2.ensures.cause c.new-3.ensures.cause c.new-4.ensures.cause c.new-5.ensures.cause
     c.new-6.ensures.cause)

@@ -10,15 +10,15 @@ use Rattle.twin_net.proofs.shared.TwinShared.put_feed.Goals as goal
 
 pub returns-then-b-eq1 : goal.returns-then-b-eq1
 returns-then-b-eq1 g c =
-    at-cards g.J.JobWork.jobs _ _ c.args.self.now c.args.p (PutFeed c.args.b c.args.feed.now) c.put_feed.result c.put_feed.new.buffer Sender Passes tt tt
+    at-cards g.J.HasJobs.jobs _ _ c.args.self.now c.args.p (PutFeed c.args.b c.args.feed.now) c.put_feed.result c.put_feed.new.buffer Sender Passes tt tt
     (ap (λ b. At b Sender Passes) c.if-b-eq1.true)
-    (puts-feed g.J.JobWork.jobs LineStands c.args.self.now.cards c.put_feed.new.buffer c.args.p c.args.b c.args.feed.now c.put_feed.result c.put_feed.ensures)
+    (puts-feed g.J.HasJobs.jobs LineStands c.args.self.now.cards c.put_feed.new.buffer c.args.p c.args.b c.args.feed.now c.put_feed.result c.put_feed.ensures)
 
 pub returns-else-b-eq1 : goal.returns-else-b-eq1
 returns-else-b-eq1 g c =
     let last = choice-last c.args.b 6 _ (choice-rest c.args.b 1 _ _ c.requires c.if-b-eq1.false) in
-    at-lines g.J.JobWork.jobs _ _ c.args.self.now c.args.p
+    at-lines g.J.HasJobs.jobs _ _ c.args.self.now c.args.p
     (PutFeed c.args.b c.args.feed.now) c.put_feed-else-b-eq1.result c.put_feed-else-b-eq1.new.buffer Sender Passes tt tt
     (ap (λ b. At b Sender Passes) last.number)
-    (puts-feed g.J.JobWork.jobs LineStands c.args.self.now.lines c.put_feed-else-b-eq1.new.buffer c.args.p c.args.b c.args.feed.now c.put_feed-else-b-eq1.result
+    (puts-feed g.J.HasJobs.jobs LineStands c.args.self.now.lines c.put_feed-else-b-eq1.new.buffer c.args.p c.args.b c.args.feed.now c.put_feed-else-b-eq1.result
     c.put_feed-else-b-eq1.ensures)

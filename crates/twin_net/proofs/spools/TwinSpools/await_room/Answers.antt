@@ -10,38 +10,38 @@ use Rattle.twin_net.proofs.spools.TwinSpools.await_room.Goals as goal
 
 pub returns-then-b-eq2 : goal.returns-then-b-eq2
 returns-then-b-eq2 g c =
-    at-to_a g.J.JobWork.jobs g.A.Area.pages g.A.Area.faults c.args.self.now c.await_room.new.spool Sender Awaits c.args.p c.args.b
+    at-to_a g.J.HasJobs.jobs g.A.Area.pages g.A.Area.faults c.args.self.now c.await_room.new.spool Sender Awaits c.args.p c.args.b
     (AwaitRoom c.args.b) c.await_room.result c.if-b-eq2.true
-    (awaits-room g.J.JobWork.jobs (SpoolStands g.A.Area.pages) c.args.self.now.to_a c.await_room.new.spool c.args.p c.args.b c.await_room.result
+    (awaits-room g.J.HasJobs.jobs (SpoolStands g.A.Area.pages) c.args.self.now.to_a c.await_room.new.spool c.args.p c.args.b c.await_room.result
     c.await_room.ensures.visited)
-    (same-counts g.J.JobWork.jobs g.A.Area.faults c.args.self.now.to_a.area c.await_room.new.spool.area (AwaitRoom c.args.b)
+    (same-counts g.J.HasJobs.jobs g.A.Area.faults c.args.self.now.to_a.area c.await_room.new.spool.area (AwaitRoom c.args.b)
     c.await_room.result tt c.await_room.ensures.area)
 
 pub returns-then-b-eq3 : goal.returns-then-b-eq3
 returns-then-b-eq3 g c =
-    at-to_b g.J.JobWork.jobs g.A.Area.pages g.A.Area.faults c.args.self.now c.await_room-then-b-eq3.new.spool Sender Awaits c.args.p c.args.b
+    at-to_b g.J.HasJobs.jobs g.A.Area.pages g.A.Area.faults c.args.self.now c.await_room-then-b-eq3.new.spool Sender Awaits c.args.p c.args.b
     (AwaitRoom c.args.b) c.await_room-then-b-eq3.result c.if-b-eq3.true
-    (awaits-room g.J.JobWork.jobs (SpoolStands g.A.Area.pages) c.args.self.now.to_b c.await_room-then-b-eq3.new.spool c.args.p c.args.b
+    (awaits-room g.J.HasJobs.jobs (SpoolStands g.A.Area.pages) c.args.self.now.to_b c.await_room-then-b-eq3.new.spool c.args.p c.args.b
     c.await_room-then-b-eq3.result c.await_room-then-b-eq3.ensures.visited)
-    (same-counts g.J.JobWork.jobs g.A.Area.faults c.args.self.now.to_b.area c.await_room-then-b-eq3.new.spool.area (AwaitRoom c.args.b)
+    (same-counts g.J.HasJobs.jobs g.A.Area.faults c.args.self.now.to_b.area c.await_room-then-b-eq3.new.spool.area (AwaitRoom c.args.b)
     c.await_room-then-b-eq3.result tt c.await_room-then-b-eq3.ensures.area)
 
 pub returns-then-b-eq4 : goal.returns-then-b-eq4
 returns-then-b-eq4 g c =
-    at-from_a g.J.JobWork.jobs g.A.Area.pages g.A.Area.faults c.args.self.now c.await_room-then-b-eq4.new.spool Sender Awaits c.args.p c.args.b
+    at-from_a g.J.HasJobs.jobs g.A.Area.pages g.A.Area.faults c.args.self.now c.await_room-then-b-eq4.new.spool Sender Awaits c.args.p c.args.b
     (AwaitRoom c.args.b) c.await_room-then-b-eq4.result c.if-b-eq4.true
-    (awaits-room g.J.JobWork.jobs (SpoolStands g.A.Area.pages) c.args.self.now.from_a c.await_room-then-b-eq4.new.spool c.args.p c.args.b
+    (awaits-room g.J.HasJobs.jobs (SpoolStands g.A.Area.pages) c.args.self.now.from_a c.await_room-then-b-eq4.new.spool c.args.p c.args.b
     c.await_room-then-b-eq4.result c.await_room-then-b-eq4.ensures.visited)
-    (same-counts g.J.JobWork.jobs g.A.Area.faults c.args.self.now.from_a.area c.await_room-then-b-eq4.new.spool.area (AwaitRoom c.args.b)
+    (same-counts g.J.HasJobs.jobs g.A.Area.faults c.args.self.now.from_a.area c.await_room-then-b-eq4.new.spool.area (AwaitRoom c.args.b)
     c.await_room-then-b-eq4.result tt c.await_room-then-b-eq4.ensures.area)
 
 pub returns-else-b-eq4 : goal.returns-else-b-eq4
 returns-else-b-eq4 g c =
     let last = last-number c.args.self.now c.args.b
     (λ spool. WaitsAt spool.sides Sender c.args.p) c.requires c.if-b-eq2.false c.if-b-eq3.false c.if-b-eq4.false in
-    at-from_b g.J.JobWork.jobs g.A.Area.pages g.A.Area.faults c.args.self.now c.await_room-else-b-eq4.new.spool Sender Awaits c.args.p c.args.b
+    at-from_b g.J.HasJobs.jobs g.A.Area.pages g.A.Area.faults c.args.self.now c.await_room-else-b-eq4.new.spool Sender Awaits c.args.p c.args.b
     (AwaitRoom c.args.b) c.await_room-else-b-eq4.result last.number
-    (awaits-room g.J.JobWork.jobs (SpoolStands g.A.Area.pages) c.args.self.now.from_b c.await_room-else-b-eq4.new.spool c.args.p c.args.b
+    (awaits-room g.J.HasJobs.jobs (SpoolStands g.A.Area.pages) c.args.self.now.from_b c.await_room-else-b-eq4.new.spool c.args.p c.args.b
     c.await_room-else-b-eq4.result c.await_room-else-b-eq4.ensures.visited)
-    (same-counts g.J.JobWork.jobs g.A.Area.faults c.args.self.now.from_b.area c.await_room-else-b-eq4.new.spool.area (AwaitRoom c.args.b)
+    (same-counts g.J.HasJobs.jobs g.A.Area.faults c.args.self.now.from_b.area c.await_room-else-b-eq4.new.spool.area (AwaitRoom c.args.b)
     c.await_room-else-b-eq4.result tt c.await_room-else-b-eq4.ensures.area)

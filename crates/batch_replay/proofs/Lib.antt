@@ -1,0 +1,9 @@
+pub mod Streams
+pub mod Given
+pub mod Ending
+pub mod Lines
+pub mod Spools
+pub mod Deeds
+pub mod Run
+pub mod Follows
+pub mod AsOne

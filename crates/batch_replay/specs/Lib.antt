@@ -1,0 +1,3 @@
+pub mod FiveRan
+pub mod Deeds
+pub mod Told
