@@ -1,5 +1,7 @@
-ghost use Rattle.std.specs.Prelude.{◌≡◌, ◌+◌, ◌≤◌, ◌++◌, length};
+ghost use Rattle.std.specs.Prelude.{◌≡◌, ◌+◌, ◌≤◌, ◌++◌, length, IsTrue};
+ghost use Rattle.std.specs.List.{list_all};
 ghost use Rattle.std.specs.Fmt.{decimal};
+ghost use Rattle.solo_base.specs.Line.{is_printable};
 ghost use Rattle.run_report.specs.CountsLine.{counts_line};
 
 use network_run::Counts;
@@ -24,8 +26,20 @@ pub fn counts_line(counts: Counts) -> Line
     line
 }
 
-// Adds a count at the end, in decimal.
-fn append_count(line: &mut Line, count: u64)
+/// A word, and a number behind it.
+pub fn number_line(word: &[u8], number: u64) -> Line
+    requires room { length word.now + COUNT_LENGTH ≤ 132 }
+    requires printable { IsTrue (list_all is_printable word.now) }
+    ensures { result ≡ word.now ++ decimal number }
+{
+    let mut line = Line::new();
+    line.append(word);
+    append_count(&mut line, number);
+    line
+}
+
+/// Adds a count at the end, in decimal.
+pub fn append_count(line: &mut Line, count: u64)
     requires room { length line.old + COUNT_LENGTH ≤ 132 }
     ensures text { line.new ≡ line.old ++ decimal count }
     ensures short { length line.new ≤ length line.old + COUNT_LENGTH }

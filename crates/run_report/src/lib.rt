@@ -5,6 +5,6 @@ mod counts;
 mod decide;
 mod status;
 
-pub use counts::counts_line;
+pub use counts::{append_count, counts_line, number_line};
 pub use decide::decides;
-pub use status::status_of;
+pub use status::{number_of, status_of};

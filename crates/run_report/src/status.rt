@@ -13,6 +13,7 @@ pub fn status_of(cause: Option<Cause>) -> u8
     }
 }
 
+/// The number of a cause.
 pub fn number_of(cause: Cause) -> u8
     ensures { result ≡ number_of cause }
 {

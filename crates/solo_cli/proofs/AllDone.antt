@@ -1,5 +1,5 @@
 -- Where no cause decides, all five did their work; and whose fault the deciding cause is.
-use Rattle.std.proofs.Common.{◌≡◌, ◌⊎◌, inl, inr, ℕ, List, Option, Some, None, refl, subst, arith}
+use Rattle.std.proofs.Common.{◌≡◌, ◌⊎◌, inl, inr, ℕ, List, Option, None, refl, subst, arith}
 use Rattle.solo_base.specs.declared.outcome.Cause.{Cause}
 use Rattle.solo_base.specs.declared.outcome.Cause.TheVariants as cause
 use Rattle.solo_base.specs.declared.outcome.Outcome.{Outcome}
@@ -10,8 +10,9 @@ use Rattle.core_law.specs.Ends.{IsProcess}
 use Rattle.batch_ends.specs.declared.ends.Outcomes.{Outcomes}
 use Rattle.batch_ends.specs.Ended.{outcome_at, all_done, EndTogether, FaultsAre, NoneDamaged, TellsWhere}
 use Rattle.core_law.proofs.Row.{each-process}
-use Rattle.solo_cli.specs.Decides.{decides, list_of, IsIn}
-use Rattle.solo_cli.proofs.Lowest.{among, no-fault}
+use Rattle.run_report.specs.Decides.{IsIn, decides}
+use Rattle.solo_cli.specs.Decides.{list_of}
+use Rattle.run_report.proofs.Lowest.{no-fault}
 
 -- the outcome of each process is one of the list
 is-in : (outcomes : Outcomes) (p : ℕ) → IsProcess p → IsIn (outcome_at outcomes p) (list_of outcomes)
@@ -55,9 +56,6 @@ module _ (outcomes : Outcomes) (faults : FaultsAre outcomes) where
   read-in (inr (inr (inr (inr (inl at))))) = absurd (neither (λ e. cc) (λ e. cc) (faults.printer cause.ReadFault at))
   read-in (inr (inr (inr (inr (inr at))))) = absurd at
 
-  pub by-read : decides (list_of outcomes) ≡ Some cause.ReadFault → outcomes.card ≡ outcome.Fault cause.ReadFault
-  by-read is = read-in (among (list_of outcomes) cause.ReadFault is)
-
   pub limit-in : IsIn (outcome.Fault cause.DeckLimit) (list_of outcomes) → outcomes.card ≡ outcome.Fault cause.DeckLimit
   limit-in (inl at) = at
   limit-in (inr (inl at)) = absurd (let no : cause.DeckLimit ≡ cause.DiskFault = faults.input cause.DeckLimit at in cc)
@@ -66,9 +64,6 @@ module _ (outcomes : Outcomes) (faults : FaultsAre outcomes) where
   limit-in (inr (inr (inr (inr (inl at))))) = absurd (neither (λ e. cc) (λ e. cc) (faults.printer cause.DeckLimit at))
   limit-in (inr (inr (inr (inr (inr at))))) = absurd at
 
-  pub by-limit : decides (list_of outcomes) ≡ Some cause.DeckLimit → outcomes.card ≡ outcome.Fault cause.DeckLimit
-  by-limit is = limit-in (among (list_of outcomes) cause.DeckLimit is)
-
   pub print-in : IsIn (outcome.Fault cause.PrintFault) (list_of outcomes) → outcomes.printer ≡ outcome.Fault cause.PrintFault
   print-in (inl at) = absurd (neither (λ e. cc) (λ e. cc) (faults.card cause.PrintFault at))
   print-in (inr (inl at)) = absurd (let no : cause.PrintFault ≡ cause.DiskFault = faults.input cause.PrintFault at in cc)
@@ -76,9 +71,6 @@ module _ (outcomes : Outcomes) (faults : FaultsAre outcomes) where
   print-in (inr (inr (inr (inl at)))) = absurd (neither (λ e. cc) (λ d. d) (faults.output cause.PrintFault at))
   print-in (inr (inr (inr (inr (inl at))))) = at
   print-in (inr (inr (inr (inr (inr at))))) = absurd at
-
-  pub by-print : decides (list_of outcomes) ≡ Some cause.PrintFault → outcomes.printer ≡ outcome.Fault cause.PrintFault
-  by-print is = print-in (among (list_of outcomes) cause.PrintFault is)
 
   pub disk-in : IsIn (outcome.Fault cause.DiskFault) (list_of outcomes) → (outcomes.input ≡ outcome.Fault cause.DiskFault)
       ⊎ ((outcomes.job ≡ outcome.Fault cause.DiskFault) ⊎ (outcomes.output ≡ outcome.Fault cause.DiskFault))
@@ -89,10 +81,6 @@ module _ (outcomes : Outcomes) (faults : FaultsAre outcomes) where
   disk-in (inr (inr (inr (inr (inl at))))) = absurd (neither (λ e. cc) (λ e. cc) (faults.printer cause.DiskFault at))
   disk-in (inr (inr (inr (inr (inr at))))) = absurd at
 
-  pub by-disk : decides (list_of outcomes) ≡ Some cause.DiskFault → (outcomes.input ≡ outcome.Fault cause.DiskFault)
-      ⊎ ((outcomes.job ≡ outcome.Fault cause.DiskFault) ⊎ (outcomes.output ≡ outcome.Fault cause.DiskFault))
-  by-disk is = disk-in (among (list_of outcomes) cause.DiskFault is)
-
 -- where no process met a damaged page none decides
 module _ (outcomes : Outcomes) (none : NoneDamaged outcomes) (c : Cause) (damaged : IsDamaged c) where
   pub in-none : IsIn (outcome.Fault c) (list_of outcomes) → ⊥
@@ -102,9 +90,6 @@ module _ (outcomes : Outcomes) (none : NoneDamaged outcomes) (c : Cause) (damage
   in-none (inr (inr (inr (inl at)))) = none 4 c (omega arith, omega arith) at damaged
   in-none (inr (inr (inr (inr (inl at))))) = none 5 c (omega arith, omega arith) at damaged
   in-none (inr (inr (inr (inr (inr at))))) = at
-
-  pub by-none : decides (list_of outcomes) ≡ Some c → ⊥
-  by-none is = in-none (among (list_of outcomes) c is)
 
 -- the numbers of a fault of one of them agree
 pub numbers-in : (outcomes : Outcomes) → FaultsAre outcomes → (c : Cause) → IsIn (outcome.Fault c) (list_of outcomes) → TellsWhere c

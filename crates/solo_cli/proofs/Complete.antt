@@ -1,7 +1,5 @@
 -- Where nothing fails the whole work is done; and which words end with status 1.
-use Rattle.std.proofs.Common.{◌≡◌, ◌≢◌, ◌⊎◌, ◌↔◌, inl, inr, ◌≤◌, ◌<◌, ℕ, Bool, true, false, List, Option, Some, None, refl, sym, ◌∙◌, ap, subst, arith}
-use Rattle.std.specs.Prelude.{IfSome, IsSome}
-use Rattle.solo_base.specs.declared.outcome.Cause.{Cause}
+use Rattle.std.proofs.Common.{◌≡◌, ◌≢◌, ◌⊎◌, inl, inr, ◌<◌, ℕ, Bool, true, false, Option, Some, None, refl, arith}
 use Rattle.solo_base.specs.declared.outcome.Cause.TheVariants as cause
 use Rattle.solo_devices.specs.Count.{Rose, Stayed}
 use Rattle.solo_devices.specs.CardUnit.{byte_limit, bytes_total}
@@ -10,89 +8,39 @@ use Rattle.solo_cli.specs.declared.refusal.Refusal.TheVariants.{Fault, NoRoom}
 use Rattle.solo_cli.specs.declared.words.Command.{Command}
 use Rattle.solo_cli.specs.declared.words.Command.TheVariants as command
 use Rattle.solo_cli.specs.Reasons.{Answers, NothingFails}
-use Rattle.solo_cli.specs.Causes.{IsMakeCause, IsCheckCause, IsWithinLimit}
+use Rattle.solo_cli.specs.Causes.{MayBeRefused}
 use Rattle.solo_cli.specs.Devices.{Kit}
 use Rattle.solo_cli.specs.Does.{DoesItsWork}
 use Rattle.solo_cli.specs.Ready.{MayBeGiven}
-use Rattle.solo_cli.specs.Refusals.{IsDeckCause, IsMadeDeckCause, IsMigrateCause, IsSoloCause, MayBeRefused}
 use Rattle.solo_cli.specs.Status.{status_of}
 use Rattle.solo_cli.specs.Uses.{IfUsed, OfEachRead, OfSomeRead, of_some, uses}
 use Rattle.solo_cli.proofs.Migrations.{none-named}
 use Rattle.solo_cli.proofs.ReadToEnd.{none-beyond}
-use Rattle.solo_cli.proofs.Statuses.{by_one, not_limit}
-
--- ---- which causes there are
-among-run : (why : Cause) → IsMakeCause why → IsDeckCause why
-among-run why (inl is) = inl (inr (inl is))
-among-run why (inr (inl is)) = inl (inr (inr (inl is)))
-among-run why (inr (inr (inl is))) = inl (inr (inr (inr (inr (inl is)))))
-among-run why (inr (inr (inr is))) = inl (inr (inr (inr (inr (inr is)))))
-
-among-made : (why : Cause) → IsMadeDeckCause why → IsDeckCause why
-among-made why (inl is) = among-run why is
-among-made why (inr is) = inr is
-
-among-migrate : (why : Cause) → IsMigrateCause why → IsDeckCause why
-among-migrate why (inl is) = inl (inr (inl is))
-among-migrate why (inr (inl is)) = inl (inr (inr (inr (inr (inr is)))))
-among-migrate why (inr (inr is)) = inr is
-
-among-check : (why : Cause) → IsCheckCause why → IsDeckCause why
-among-check why (inl is) = inl (inr (inr (inl is)))
-among-check why (inr (inl is)) = inl (inl is)
-among-check why (inr (inr (inl is))) = inl (inr (inr (inr (inl is))))
-among-check why (inr (inr (inr is))) = inl (inr (inr (inr (inr (inr is)))))
-
-no-usage : IsDeckCause cause.Usage → ⊥
-no-usage (inl (inl is)) = cc
-no-usage (inl (inr (inl is))) = cc
-no-usage (inl (inr (inr (inl is)))) = cc
-no-usage (inl (inr (inr (inr (inl is))))) = cc
-no-usage (inl (inr (inr (inr (inr (inl is)))))) = is
-no-usage (inl (inr (inr (inr (inr (inr is)))))) = cc
-no-usage (inr (page, is)) = cc
-
-no-console : IsDeckCause cause.ConsoleFault → ⊥
-no-console (inl (inl is)) = cc
-no-console (inl (inr (inl is))) = cc
-no-console (inl (inr (inr (inl is)))) = cc
-no-console (inl (inr (inr (inr (inl is))))) = cc
-no-console (inl (inr (inr (inr (inr (inl is)))))) = is
-no-console (inl (inr (inr (inr (inr (inr is)))))) = cc
-no-console (inr (page, is)) = cc
-
-no-session : IsSoloCause cause.Usage → ⊥
-no-session (inl is) = is
-no-session (inr (page, is)) = cc
+use Rattle.solo_cli.proofs.Tables.{untrue}
 
 -- words that are no command, by the cause
 pub usage-is : (asked : Option Command) → MayBeRefused asked (Fault cause.Usage) → asked ≡ None
 usage-is None known = refl
-usage-is (Some command.Batch) known = absurd (no-usage known)
-usage-is (Some (command.Core schedule)) known = absurd (no-usage known)
-usage-is (Some (command.Make number)) known = absurd (no-usage (among-made cause.Usage known))
-usage-is (Some command.Format) known = cc
-usage-is (Some command.Migrate) known = absurd (no-usage (among-migrate cause.Usage known))
-usage-is (Some command.Check) known = absurd (no-usage (among-check cause.Usage known))
-usage-is (Some (command.Times schedule)) known = absurd known
-usage-is (Some command.Solo) known = absurd (no-session known)
+usage-is (Some command.Batch) known = absurd (untrue known)
+usage-is (Some (command.Core schedule)) known = absurd (untrue known)
+usage-is (Some (command.Make number)) known = absurd (untrue known)
+usage-is (Some command.Format) known = absurd (untrue known)
+usage-is (Some command.Migrate) known = absurd (untrue known)
+usage-is (Some command.Check) known = absurd (untrue known)
+usage-is (Some (command.Times schedule)) known = absurd (untrue known)
+usage-is (Some command.Solo) known = absurd (untrue known)
 
 -- want of room is a migration's
 room-is : (asked : Option Command) (needed free : ℕ) → MayBeRefused asked (NoRoom needed free) → asked ≡ Some command.Migrate
-room-is None needed free is = cc
-room-is (Some command.Batch) needed free is = absurd is
-room-is (Some (command.Core schedule)) needed free is = absurd is
-room-is (Some (command.Make number)) needed free is = absurd is
-room-is (Some command.Format) needed free is = cc
+room-is None needed free is = absurd (untrue is)
+room-is (Some command.Batch) needed free is = absurd (untrue is)
+room-is (Some (command.Core schedule)) needed free is = absurd (untrue is)
+room-is (Some (command.Make number)) needed free is = absurd (untrue is)
+room-is (Some command.Format) needed free is = absurd (untrue is)
 room-is (Some command.Migrate) needed free is = refl
-room-is (Some command.Check) needed free is = absurd is
-room-is (Some (command.Times schedule)) needed free is = absurd is
-room-is (Some command.Solo) needed free is = absurd is
-
--- what is within the limit tells its bytes
-tells : (left : Option (List ℕ)) → IsWithinLimit left → IsSome left
-tells None within = absurd within
-tells (Some bytes) within = refl
+room-is (Some command.Check) needed free is = absurd (untrue is)
+room-is (Some (command.Times schedule)) needed free is = absurd (untrue is)
+room-is (Some command.Solo) needed free is = absurd (untrue is)
 
 module _ {S Y K T F I O : Type 0} (before after : Kit S Y K T F I O) where
   -- ---- no device was counted to fail
@@ -111,13 +59,13 @@ module _ {S Y K T F I O : Type 0} (before after : Kit S Y K T F I O) where
 
   no-show : (asked : Option Command) → NothingFails asked before after → MayBeRefused asked (Fault cause.ConsoleFault)
       → Rose before.console.faults after.console.faults → ⊥
-  no-show None n known rose = cc
-  no-show (Some command.Batch) n known rose = no-console known
-  no-show (Some (command.Core schedule)) n known rose = no-console known
-  no-show (Some (command.Make number)) n known rose = no-console (among-made cause.ConsoleFault known)
-  no-show (Some command.Format) n known rose = cc
-  no-show (Some command.Migrate) n known rose = no-console (among-migrate cause.ConsoleFault known)
-  no-show (Some command.Check) n known rose = no-console (among-check cause.ConsoleFault known)
+  no-show None n known rose = absurd (untrue known)
+  no-show (Some command.Batch) n known rose = absurd (untrue known)
+  no-show (Some (command.Core schedule)) n known rose = absurd (untrue known)
+  no-show (Some (command.Make number)) n known rose = absurd (untrue known)
+  no-show (Some command.Format) n known rose = absurd (untrue known)
+  no-show (Some command.Migrate) n known rose = absurd (untrue known)
+  no-show (Some command.Check) n known rose = absurd (untrue known)
   no-show (Some (command.Times schedule)) n known rose = (let stayed = n.console in omega (arith, rose, stayed))
   no-show (Some command.Solo) n known rose = (let stayed = n.console in omega (arith, rose, stayed))
 
@@ -126,28 +74,22 @@ module _ {S Y K T F I O : Type 0} (before after : Kit S Y K T F I O) where
       → OfEachRead (uses asked) (bytes_total after.deck.taken after.deck.left ≡ bytes_total before.deck.taken before.deck.left)
       (bytes_total after.keys.taken after.keys.left ≡ bytes_total before.keys.taken before.keys.left)
       → OfSomeRead (uses asked) (byte_limit < after.deck.taken) (byte_limit < after.keys.taken) → ⊥
-  no-limit None n ready known total more = cc
+  no-limit None n ready known total more = absurd (untrue known)
   no-limit (Some command.Batch) n ready known total more =
-      none-beyond after.deck.taken before.deck.taken after.deck.left before.deck.left n.deck_within ready.deck total more
+      none-beyond before.deck after.deck n.deck_within ready.deck total more
   no-limit (Some (command.Core schedule)) n ready known total more =
-      none-beyond after.deck.taken before.deck.taken after.deck.left before.deck.left n.deck_within ready.deck total more
-  no-limit (Some (command.Make number)) n ready known total more = not_limit known
-  no-limit (Some command.Format) n ready known total more = cc
-  no-limit (Some command.Migrate) n ready (inl is) total more = cc
-  no-limit (Some command.Migrate) n ready (inr (inl is)) total more = cc
-  no-limit (Some command.Migrate) n ready (inr (inr (page, is))) total more = cc
+      none-beyond before.deck after.deck n.deck_within ready.deck total more
+  no-limit (Some (command.Make number)) n ready known total more = absurd (untrue known)
+  no-limit (Some command.Format) n ready known total more = absurd (untrue known)
+  no-limit (Some command.Migrate) n ready known total more = absurd (untrue known)
   no-limit (Some command.Check) n ready known total more =
-      none-beyond after.deck.taken before.deck.taken after.deck.left before.deck.left n.deck_within ready.deck total more
+      none-beyond before.deck after.deck n.deck_within ready.deck total more
   no-limit (Some (command.Times schedule)) n ready known total more =
-      none-beyond after.keys.taken before.keys.taken after.keys.left before.keys.left n.keys_within ready.keys total more
+      none-beyond before.keys after.keys n.keys_within ready.keys total more
   no-limit (Some command.Solo) n ready known total (inl more) =
-      none-beyond after.deck.taken before.deck.taken after.deck.left before.deck.left n.deck_within ready.deck total.0 more
+      none-beyond before.deck after.deck n.deck_within ready.deck total.0 more
   no-limit (Some command.Solo) n ready known total (inr more) =
-      none-beyond after.keys.taken before.keys.taken after.keys.left before.keys.left n.keys_within ready.keys total.1 more
-
-  told-where : (used : Bool) → IfUsed used (IsWithinLimit before.deck.left) → IfUsed used (IsSome before.deck.left)
-  told-where true within = tells before.deck.left within
-  told-where false within = tt
+      none-beyond before.keys after.keys n.keys_within ready.keys total.1 more
 
   -- ---- all of it
   pub completes : (asked : Option Command) (answer : Option Refusal) → asked ≢ None → NothingFails asked before after → MayBeGiven before
@@ -163,13 +105,5 @@ module _ {S Y K T F I O : Type 0} (before after : Kit S Y K T F I O) where
   completes asked (Some (Fault cause.DeckLimit)) some n ready does a = absurd (no-limit asked n ready a.known a.total (a.limit refl))
   completes asked (Some (Fault (cause.NotSolo page))) some n ready does a = absurd (none-named before after asked page n.usable a.known does)
   completes asked (Some (Fault (cause.Damaged expected found at))) some n ready does a =
-      absurd (a.undamaged n.input_told n.output_told (told-where (uses asked).deck n.deck_within) refl)
+      absurd (a.undamaged n.input_told n.output_told refl)
   completes asked (Some (Fault cause.NoMemory)) some n ready does a = inr (inl refl)
-
--- ---- status 1
-pub usage : {S Y K T F I O : Type 0} {before after : Kit S Y K T F I O} (asked : Option Command) (answer : Option Refusal)
-    → DoesItsWork asked before after answer → Answers (uses asked) (MayBeRefused asked) before after answer → (status_of answer ≡ 1) ↔ (asked ≡ None)
-usage {before = before} {after = after} asked answer does a = (
-  λ one. usage-is asked (subst (λ answer. IfSome answer (MayBeRefused asked)) (by_one answer one) a.known),
-  λ none. ap status_of (subst (λ asked. DoesItsWork asked before after answer) none does),
-)

@@ -5,7 +5,7 @@ use Rattle.std.proofs.lemmas.Fmt.{length-decimal-le}
 use Rattle.solo_base.specs.Text.{text, line_text}
 use Rattle.solo_devices.specs.CardUnit.{byte_limit}
 use Rattle.made_deck.specs.MadeDeck.{numbered_cards, list_cards, loop_card, program_cards, job_cards, jobs_to, made_deck}
-use Rattle.solo_cli.proofs.Adding.{text-append}
+use Rattle.run_report.proofs.Adding.{text-append}
 
 -- the text of lines behind each other
 both-long : (lines more : List (List ℕ)) → length (text (lines ++ more)) ≡ length (text lines) + length (text more)

@@ -1,3 +1,4 @@
+mod Tables
 mod Statuses
 mod Complete
 mod LowestCause
@@ -6,13 +7,11 @@ mod ReadToEnd
 mod Mounted
 mod Unmounted
 mod Uncounted
+mod Runs
 mod DeckRan
 mod MadeRuns
-mod MemoryRuns
 mod Migrations
-mod Lowest
 mod AllDone
-mod Adding
 mod Counted
 mod FewCards
 mod DeckLength
@@ -23,8 +22,7 @@ mod NoFiles
 mod ReadingItems
 pub mod Printings
 mod Scripts
-mod KeysAnswers
-mod FilesAnswers
+mod Finishing
 mod Judging
 mod SessionEnding
 mod SessionFiles

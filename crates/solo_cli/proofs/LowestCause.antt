@@ -1,5 +1,5 @@
 -- The lowest number decides how a run of the five ends a command.
-use Rattle.std.proofs.Common.{◌≡◌, ◌≤◌, ◌⊎◌, inl, inr, List, Option, Some, None, refl, ap}
+use Rattle.std.proofs.Common.{◌≡◌, ◌≤◌, ◌⊎◌, inl, inr, List, Option, Some, None, refl}
 use Rattle.std.specs.Prelude.{IfSome}
 use Rattle.solo_base.specs.declared.outcome.Cause.{Cause}
 use Rattle.solo_base.specs.declared.outcome.Outcome.TheVariants as outcome
@@ -8,11 +8,12 @@ use Rattle.batch_ends.specs.declared.ends.Outcomes.{Outcomes}
 use Rattle.batch_ends.specs.Ended.{EndTogether, FaultsAre, all_done}
 use Rattle.solo_cli.specs.declared.refusal.Refusal.{Refusal}
 use Rattle.solo_cli.specs.declared.refusal.Refusal.TheVariants.{Fault, NoRoom}
-use Rattle.solo_cli.specs.Decides.{LowestDecides, decides, list_of, IsIn}
+use Rattle.run_report.specs.Decides.{IsIn, decides}
+use Rattle.run_report.specs.Status.{number_of}
+use Rattle.solo_cli.specs.Decides.{LowestDecides, Nothing, list_of}
 use Rattle.solo_cli.specs.Refusals.{OfFault, as_refusal}
-use Rattle.solo_cli.specs.Status.{number_of}
 use Rattle.solo_cli.proofs.AllDone.{all-done}
-use Rattle.solo_cli.proofs.Lowest.{among, no-fault, least}
+use Rattle.run_report.proofs.Lowest.{among, no-fault, least}
 
 -- where a command has no cause its run has none
 pub none-is : (why : Option Cause) → as_refusal why ≡ None → why ≡ None
@@ -43,20 +44,42 @@ module _ (outcomes : Outcomes) (stops : List (Option Side)) (together : EndToget
     done = λ none. all-done outcomes stops together (none-is (decides (list_of outcomes)) none);
   }
 
-  pub behind-of : (answer : Option Refusal) → outcomes ≡ all_done → IfSome answer (OfFault Behind)
+-- ---- a line that comes behind the five
+module _ (Behind : Cause → Type 0) where
+  pub alone : (outcomes : Outcomes) (answer : Option Refusal)
+      → IfSome answer (OfFault (λ why. IsIn (outcome.Fault why) (list_of outcomes) ⊎ ((outcomes ≡ all_done) × ⊥)))
       → IfSome answer (OfFault (λ why. IsIn (outcome.Fault why) (list_of outcomes) ⊎ ((outcomes ≡ all_done) × Behind why)))
-  behind-of None all later = tt
-  behind-of (Some (Fault why)) all later = inr (all, later)
-  behind-of (Some (NoRoom needed free)) all later = later
+  alone outcomes None one = tt
+  alone outcomes (Some (Fault why)) (inl at) = inl at
+  alone outcomes (Some (Fault why)) (inr both) = absurd both.1
+  alone outcomes (Some (NoRoom needed free)) one = one
 
-  -- and where they have none it is one of what comes behind them
-  abbrev pub comes-behind : (answer : Option Refusal) → decides (list_of outcomes) ≡ None → IfSome answer (OfFault Behind) → LowestDecides Behind answer
-  comes-behind answer none later = record {
-    outcomes = outcomes;
-    stopped_by = stops;
-    together = together;
-    faults = faults;
-    one_of = behind-of answer (all-done outcomes stops together none) later;
-    none_lower = λ fault at. absurd (no-fault (list_of outcomes) none fault at);
-    done = λ _. all-done outcomes stops together none;
+  pub behind-of : (outcomes : Outcomes) (answer : Option Refusal) → outcomes ≡ all_done → IfSome answer (OfFault Behind)
+      → IfSome answer (OfFault (λ why. IsIn (outcome.Fault why) (list_of outcomes) ⊎ ((outcomes ≡ all_done) × Behind why)))
+  behind-of outcomes None all later = tt
+  behind-of outcomes (Some (Fault why)) all later = inr (all, later)
+  behind-of outcomes (Some (NoRoom needed free)) all later = later
+
+  -- nothing came behind a run that met a fault
+  abbrev pub met : (answer : Option Refusal) → LowestDecides Nothing answer → LowestDecides Behind answer
+  met answer lowest = record {
+    outcomes = lowest.outcomes;
+    stopped_by = lowest.stopped_by;
+    together = lowest.together;
+    faults = lowest.faults;
+    one_of = alone lowest.outcomes answer lowest.one_of;
+    none_lower = lowest.none_lower;
+    done = lowest.done;
+  }
+
+  -- and behind one that is done the cause is that of the line
+  abbrev pub comes-behind : (answer : Option Refusal) → LowestDecides Nothing None → IfSome answer (OfFault Behind) → LowestDecides Behind answer
+  comes-behind answer lowest later = record {
+    outcomes = lowest.outcomes;
+    stopped_by = lowest.stopped_by;
+    together = lowest.together;
+    faults = lowest.faults;
+    one_of = behind-of lowest.outcomes answer (lowest.done refl) later;
+    none_lower = λ fault at. absurd (let lower = lowest.none_lower fault at in (let none : None ≡ Some (Fault lower.0) = lower.1 in cc));
+    done = λ _. lowest.done refl;
   }

@@ -9,12 +9,13 @@ use Rattle.disk_system.specs.Migrating.{IsNewer, RefusesNewer, RefusesOlder}
 use Rattle.solo_cli.specs.declared.refusal.Refusal.TheVariants.{Fault}
 use Rattle.solo_cli.specs.declared.words.Command.{Command}
 use Rattle.solo_cli.specs.declared.words.Command.TheVariants as command
-use Rattle.solo_cli.specs.Causes.{IsCheckCause}
+use Rattle.solo_cli.specs.Causes.{MayBeRefused}
 use Rattle.solo_cli.specs.Devices.{Kit}
 use Rattle.solo_cli.specs.Does.{DoesItsWork}
 use Rattle.solo_cli.specs.FileCommands.{CanUse, KeepsItsFormat, MigratesTo}
-use Rattle.solo_cli.specs.Refusals.{MayBeRefused, refusal_of}
+use Rattle.solo_cli.specs.Refusals.{refusal_of}
 use Rattle.solo_cli.proofs.Mounted.{no-solo}
+use Rattle.solo_cli.proofs.Tables.{untrue}
 
 -- ---- the page that is named breaks the format
 fault-is : (it : MigrateFault) (page : ℕ) → Fault (cause.NotSolo page) ≡ refusal_of it → it ≡ migrating.NotSolo page
@@ -42,23 +43,16 @@ neither pages now page (newer, older) (it, is, by_newer, by_older) =
     = λ new. newer-bad pages page (subst (RefusesNewer pages) same (by_newer new)) (newer new) in
     older-bad pages page (subst (RefusesOlder pages) same (by_older no)) (older no)
 
--- a judgement names no page
-no_page : (page : ℕ) → IsCheckCause (cause.NotSolo page) → ⊥
-no_page page (inl is) = cc
-no_page page (inr (inl is)) = cc
-no_page page (inr (inr (inl is))) = cc
-no_page page (inr (inr (inr is))) = cc
-
 -- no page of an area that the command can use is named
 pub none-named : {S Y K T F I O : Type 0} (before after : Kit S Y K T F I O) (asked : Option Command) (page : ℕ) → CanUse asked before.files.pages
     → MayBeRefused asked (Fault (cause.NotSolo page)) → DoesItsWork asked before after (Some (Fault (cause.NotSolo page))) → ⊥
-none-named before after None page can known does = cc
+none-named before after None page can known does = absurd (untrue known)
 none-named before after (Some command.Batch) page (pages, is, solo) known does = no-solo pages page solo ((does.1.not_solo page refl).0 pages is)
 none-named before after (Some (command.Core schedule)) page (pages, is, solo) known does = no-solo pages page solo ((does.1.not_solo page refl).0 pages is)
 none-named before after (Some (command.Make number)) page (pages, is, solo) known does = no-solo pages page solo ((does.1.not_solo page refl).0 pages is)
-none-named before after (Some command.Format) page can known does = cc
+none-named before after (Some command.Format) page can known does = absurd (untrue known)
 none-named before after (Some command.Migrate) page (pages, is, keeps) known does =
     neither pages after.files.pages page keeps (does.migrated pages is)
-none-named before after (Some command.Check) page can known does = no_page page known
-none-named before after (Some (command.Times schedule)) page can known does = known
+none-named before after (Some command.Check) page can known does = absurd (untrue known)
+none-named before after (Some (command.Times schedule)) page can known does = absurd (untrue known)
 none-named before after (Some command.Solo) page (pages, is, solo) known does = no-solo pages page solo ((does.1.not_solo page refl).0 pages is)

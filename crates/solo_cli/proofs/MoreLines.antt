@@ -1,19 +1,7 @@
 -- What a paper gains of lines that are printed one by one.
-use Rattle.std.proofs.Common.{◌≡◌, ℕ, List, [], ◌∷◌, ◌++◌, Option, Some, refl, sym, ◌∙◌, ap, append_assoc, append-nil}
+use Rattle.std.proofs.Common.{◌≡◌, ℕ, List, ◌∷◌, ◌++◌, Option, Some, sym, ◌∙◌, ap, append_assoc}
 use Rattle.solo_base.specs.Text.{text, line_text}
 use Rattle.solo_devices.specs.PrinterUnit.{Gains, GainsOf}
-
--- no line
-pub none_more : (given : Option (List ℕ)) (all : Type 0) → Gains given given (text []) all
-none_more given all = record {
-  told = λ bytes told. record {
-    part = [];
-    now_is = told ∙ ap Some (sym (append-nil bytes));
-    prefix = record { rest = []; whole_is = refl };
-    all_is = λ _. refl;
-  };
-  untold = λ none. none;
-}
 
 module _ (before mid now : Option (List ℕ)) (line : List ℕ) (lines : List (List ℕ)) (first all : Type 0) where
   on : (given : List ℕ) → first → GainsOf given mid (line_text line) first

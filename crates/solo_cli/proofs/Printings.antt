@@ -1,22 +1,21 @@
 -- What is printed through a unit is printed on its paper.
-use Rattle.std.proofs.Common.{◌≡◌, ◌≤◌, ℕ, List, Option, Some, None, Result, inr, refl, subst, arith}
+use Rattle.std.proofs.Common.{◌≡◌, ◌≤◌, ℕ, List, Option, Some, None, Result, refl, subst, arith}
 use Rattle.std.specs.Prelude.{IfSome, IsOk, IsErrOf}
 use Rattle.solo_base.specs.declared.outcome.Cause.TheVariants as cause
 use Rattle.solo_devices.specs.Count.{Rose}
 use Rattle.solo_devices.specs.PrinterUnit.{Gains}
 use Rattle.solo_devices.specs.declared.printer_unit.PrintFault.{PrintFault}
 use Rattle.solo_devices.specs.declared.printer_unit.PrintFault.TheVariants.{Failed}
+use Rattle.run_report.specs.Told.{SinkTold}
+use Rattle.run_report.proofs.Adding.{gains-same, nothing}
 use Rattle.solo_cli.specs.declared.refusal.Refusal.{Refusal}
 use Rattle.solo_cli.specs.declared.refusal.Refusal.TheVariants.{Fault}
-use Rattle.solo_cli.specs.Causes.{IsPrintCause}
-use Rattle.solo_cli.specs.Devices.{SinkTold}
+use Rattle.solo_cli.specs.Causes.{EndsBy, print_statuses}
 use Rattle.solo_cli.specs.Printing.{PrintsBytes}
-use Rattle.solo_cli.specs.Refusals.{OfFault}
-use Rattle.solo_cli.proofs.Adding.{gains-same, nothing}
 
 pub prints-as : {K T : Type 0} {before after : SinkTold K} {bytes : List ℕ} {answer : Option Refusal} {printed : Result T PrintFault}
     {given given' : Option (List ℕ)} {faults faults' : ℕ} → given ≡ before.given → faults ≡ before.faults → given' ≡ after.given → faults' ≡ after.faults
-    → (answer ≡ None → IsOk printed) → IfSome answer (OfFault IsPrintCause)
+    → (answer ≡ None → IsOk printed) → IfSome answer (EndsBy print_statuses)
     → (answer ≡ Some (Fault cause.PrintFault) → IsErrOf printed Failed)
     → Gains given given' bytes (IsOk printed) → (IsErrOf printed Failed → Rose faults faults') → faults ≤ faults' → PrintsBytes before after bytes answer
 prints-as {before = before} {faults' = faults'} b f a n done known failed gains rose counts = record {
@@ -30,7 +29,7 @@ prints-as {before = before} {faults' = faults'} b f a n done known failed gains 
 pub lacks_print : {K : Type 0} (before : SinkTold K) (bytes : List ℕ) → PrintsBytes before before bytes (Some (Fault cause.NoMemory))
 lacks_print before bytes = record {
   gains = nothing before.given bytes (Some (Fault cause.NoMemory) ≡ None) (λ none. cc);
-  known = inr refl;
+  known = refl;
   failed = λ is. absurd (let no : Some (Fault cause.NoMemory) ≡ Some (Fault cause.PrintFault) = is in cc);
   counts = omega arith;
 }

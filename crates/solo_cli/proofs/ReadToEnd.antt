@@ -2,11 +2,10 @@
 use Rattle.std.proofs.Common.{◌≡◌, ◌⊎◌, inl, inr, ◌<◌, ◌≤◌, ◌+◌, ℕ, List, [], length, Option, Some, None, refl, sym, ◌∙◌, ap, arith}
 use Rattle.solo_base.specs.declared.outcome.Cause.TheVariants as cause
 use Rattle.solo_devices.specs.CardUnit.{byte_limit, bytes_total, IsAllTaken}
+use Rattle.run_report.specs.Told.{SourceTold}
 use Rattle.solo_cli.specs.declared.refusal.Refusal.{Refusal}
 use Rattle.solo_cli.specs.declared.refusal.Refusal.TheVariants.{Fault}
-use Rattle.solo_cli.specs.Causes.{IsWithinLimit}
-use Rattle.solo_cli.specs.Devices.{SourceTold}
-use Rattle.solo_cli.specs.Reading.{ReadsToEnd}
+use Rattle.solo_cli.specs.Reading.{IsWithinLimit, ReadsToEnd, StaysWithin}
 
 -- of a deck that told its bytes no more was taken than it had, and all of it where nothing is left
 pub taken-of : (taken before : ℕ) (left told : Option (List ℕ)) (bytes : List ℕ) → before ≡ 0 → told ≡ Some bytes →
@@ -48,8 +47,13 @@ reads-to-end {before = before} {after = after} {answer = answer} zero total all 
 }
 
 -- no more than the limit is taken of what is within it
-pub none-beyond : (taken before : ℕ) (left told : Option (List ℕ)) → IsWithinLimit told → before ≡ 0
+few-taken : (taken before : ℕ) (left told : Option (List ℕ)) → IsWithinLimit told → before ≡ 0
     → bytes_total taken left ≡ bytes_total before told → byte_limit < taken → ⊥
-none-beyond taken before left None within zero total more = within
-none-beyond taken before left (Some bytes) within zero total more =
+few-taken taken before left None within zero total more = within
+few-taken taken before left (Some bytes) within zero total more =
     let few = (taken-of taken before left (Some bytes) bytes zero refl total).0 in omega (arith, few, within, more)
+
+pub none-beyond : {S : Type 0} (before after : SourceTold S) → StaysWithin before after → before.taken ≡ 0
+    → bytes_total after.taken after.left ≡ bytes_total before.taken before.left → byte_limit < after.taken → ⊥
+none-beyond before after (inl within) zero total more = few-taken after.taken before.taken after.left before.left within zero total more
+none-beyond before after (inr few) zero total more = omega (arith, few, more)

@@ -1,18 +1,13 @@
 -- What the console gains of a script, with the line of its counts or without.
-use Rattle.std.proofs.Common.{◌≡◌, ◌⊎◌, ◌≤◌, inl, inr, ℕ, List, [], ◌∷◌, ◌++◌, Option, Some, None, refl, sym, ◌∙◌, ap, subst, arith}
-use Rattle.std.specs.Prelude.{IfSome}
+use Rattle.std.proofs.Common.{◌≡◌, ℕ, List, [], ◌∷◌, ◌++◌, Option, Some, None, refl, ◌∙◌, ap, subst}
 use Rattle.solo_base.specs.Text.{text, line_text}
 use Rattle.solo_base.specs.declared.item.Item.{Item}
-use Rattle.solo_base.specs.declared.outcome.Cause.{Cause}
-use Rattle.solo_base.specs.declared.outcome.Cause.TheVariants as cause
 use Rattle.solo_base.specs.declared.outcome.Outcome.{Outcome}
 use Rattle.solo_base.specs.declared.outcome.Outcome.TheVariants as outcome
-use Rattle.solo_devices.specs.Count.{Rose}
 use Rattle.solo_devices.specs.PrinterUnit.{Gains}
 use Rattle.network_run.specs.declared.counts.Counts.{Counts}
 use Rattle.network_run.specs.declared.rules.Rule.{Rule}
 use Rattle.network_run.specs.Counting.{counts_of}
-use Rattle.network_run.specs.Law.{IsReached}
 use Rattle.network_run.specs.OneRun.{AreItsCounts, TheRun}
 use Rattle.network_run.proofs.OneRun.{some-run}
 use Rattle.real_time.specs.Starts.{times}
@@ -20,14 +15,11 @@ use Rattle.real_time.specs.States.{Opening}
 use Rattle.real_time.proofs.Sureness.{sure}
 use Rattle.real_time.specs.TimesLaw.{timing}
 use Rattle.real_time.proofs.Unstuck.{sound}
-use Rattle.time_net.specs.TimeStands.{IsTimesCause, outcome_with}
+use Rattle.time_net.specs.TimeStands.{outcome_with}
 use Rattle.time_net.specs.TimesRuns.{fault_told}
-use Rattle.solo_cli.specs.declared.refusal.Refusal.{Refusal}
-use Rattle.solo_cli.specs.declared.refusal.Refusal.TheVariants.{Fault}
-use Rattle.solo_cli.specs.CountsLine.{counts_line}
-use Rattle.solo_cli.specs.Refusals.{OfFault}
+use Rattle.run_report.specs.CountsLine.{counts_line}
+use Rattle.run_report.proofs.Adding.{both, gains-same, without}
 use Rattle.solo_cli.specs.TimesConsole.{GainsTimes, script_opened}
-use Rattle.solo_cli.proofs.Adding.{both, gains-same, without}
 
 pub done-of : (o : Outcome) → o ≡ outcome_with (fault_told o) → fault_told o ≡ None → o ≡ outcome.Done
 done-of o ends none = ends ∙ ap outcome_with none
@@ -66,29 +58,3 @@ without-counts rule items before now all done never gains =
       gains = without before now (times items) (counts_line counts.events counts.delays 0) all never
           (gains-same before before now now (text (times items)) (text (times items)) done all refl refl refl (λ is. absurd (never is)) gains);
     }
-
--- what ends the line of counts is no fault of the keys
-abbrev ShowCause : Option Refusal → Type 0
-ShowCause why = (why ≡ None) ⊎ ((why ≡ Some (Fault cause.ConsoleFault)) ⊎ (why ≡ Some (Fault cause.NoMemory)))
-
-pub not-read : (why : Option Refusal) → ShowCause why → why ≡ Some (Fault cause.ReadFault) → ⊥
-not-read why (inl is) at = (let no : None ≡ Some (Fault cause.ReadFault) = sym is ∙ at in cc)
-not-read why (inr (inl is)) at = (let no : Some (Fault cause.ConsoleFault) ≡ Some (Fault cause.ReadFault) = sym is ∙ at in cc)
-not-read why (inr (inr is)) at = (let no : Some (Fault cause.NoMemory) ≡ Some (Fault cause.ReadFault) = sym is ∙ at in cc)
-
-pub not-limit : (why : Option Refusal) → ShowCause why → why ≡ Some (Fault cause.DeckLimit) → ⊥
-not-limit why (inl is) at = (let no : None ≡ Some (Fault cause.DeckLimit) = sym is ∙ at in cc)
-not-limit why (inr (inl is)) at = (let no : Some (Fault cause.ConsoleFault) ≡ Some (Fault cause.DeckLimit) = sym is ∙ at in cc)
-not-limit why (inr (inr is)) at = (let no : Some (Fault cause.NoMemory) ≡ Some (Fault cause.DeckLimit) = sym is ∙ at in cc)
-
-pub rose-on : (a b c : ℕ) → a ≤ b → Rose b c → Rose a c
-rose-on a b c less rose = omega (arith, less, rose)
-
-pub known-of : (why : Option Refusal) → ShowCause why → IfSome why (OfFault IsTimesCause)
-known-of why (inl is) = rw is tt
-known-of why (inr (inl is)) = rw is tt
-known-of why (inr (inr is)) = rw is tt
-
--- a fault of the script as the cause of the command
-pub fault-is : {a b : Cause} → Some (Fault a) ≡ Some (Fault b) → a ≡ b
-fault-is same = cc

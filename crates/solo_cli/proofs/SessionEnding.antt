@@ -1,5 +1,5 @@
 -- How a session ends a command, by the outcomes of its three processes; and the reason of each cause.
-use Rattle.std.proofs.Common.{◌≡◌, ◌≢◌, ◌⊎◌, inl, inr, ◌<◌, ◌≤◌, ℕ, true, List, [], ◌∷◌, length, Option, Some, None, refl, sym, ◌∙◌, ap, subst, arith, lit≤}
+use Rattle.std.proofs.Common.{◌≡◌, ◌≢◌, ◌⊎◌, inl, inr, ◌<◌, ◌≤◌, ℕ, true, List, [], ◌∷◌, length, Option, Some, None, refl, sym, ◌∙◌, subst, arith, lit≤}
 use Rattle.std.specs.Prelude.{IfSome}
 use Rattle.solo_base.specs.declared.outcome.Cause.{Cause}
 use Rattle.solo_base.specs.declared.outcome.Cause.TheVariants as cause
@@ -13,18 +13,19 @@ use Rattle.solo_law.specs.Holds.{IsAmong}
 use Rattle.solo_law.proofs.Placed.{each-process, is-1, is-2}
 use Rattle.solo_ends.specs.Ends.{EndTogether, FaultsAre, all_done, outcome_at}
 use Rattle.solo_ends.specs.Faults.{AreCounted}
+use Rattle.run_report.specs.Decides.{IsIn, decides}
+use Rattle.run_report.specs.Status.{number_of}
+use Rattle.run_report.proofs.Lowest.{among, least, no-fault}
 use Rattle.solo_cli.specs.declared.refusal.Refusal.{Refusal}
 use Rattle.solo_cli.specs.declared.refusal.Refusal.TheVariants.{Fault, NoRoom}
-use Rattle.solo_cli.specs.Causes.{IsSessionCause}
-use Rattle.solo_cli.specs.Decides.{IsIn, decides}
+use Rattle.solo_cli.specs.Causes.{EndsBy, FaultBy, is_listed, session_statuses}
 use Rattle.solo_cli.specs.Devices.{Kit}
 use Rattle.solo_cli.specs.Reasons.{Answers, EndsByLimit}
-use Rattle.solo_cli.specs.Refusals.{OfFault, TellsPlace, as_refusal}
+use Rattle.solo_cli.specs.Refusals.{OfFault, as_refusal}
 use Rattle.solo_cli.specs.Sessions.{SessionEnds, as_peripherals, counts_told}
-use Rattle.solo_cli.specs.Status.{number_of, status_of}
 use Rattle.solo_cli.specs.Uses.{Kept, session_used}
-use Rattle.solo_cli.proofs.Lowest.{among, least, no-fault}
 use Rattle.solo_cli.proofs.LowestCause.{none-is}
+use Rattle.solo_cli.proofs.Tables.{tells-place, untrue, whole}
 
 -- ---- three outcomes
 pub at-some : (outcomes : List Outcome) → length outcomes ≡ 3 → (o : Outcome) → IsIn o outcomes
@@ -122,61 +123,38 @@ no-print (inr (inr (inr (inl is)))) = cc
 no-print (inr (inr (inr (inr (inl is))))) = cc
 no-print (inr (inr (inr (inr (inr none))))) = none
 
-of-input : (c : Cause) → IsAmong c (cause.ReadFault ∷ cause.DeckLimit ∷ []) → IsSessionCause c
-of-input c (inl is) = subst IsSessionCause (sym is) tt
-of-input c (inr (inl is)) = subst IsSessionCause (sym is) tt
+by : (c it : Cause) → c ≡ it → is_listed session_statuses (number_of it) ≡ true → FaultBy session_statuses c
+by c it is one = subst (FaultBy session_statuses) (sym is) one
+
+of-input : (c : Cause) → IsAmong c (cause.ReadFault ∷ cause.DeckLimit ∷ []) → FaultBy session_statuses c
+of-input c (inl is) = by c cause.ReadFault is refl
+of-input c (inr (inl is)) = by c cause.DeckLimit is refl
 of-input c (inr (inr none)) = absurd none
 
-of-job : (c : Cause) → OfJob c → IsSessionCause c
-of-job c (inl is) = subst IsSessionCause (sym is) tt
-of-job c (inr (inl is)) = subst IsSessionCause (sym is) tt
-of-job c (inr (inr (inl is))) = subst IsSessionCause (sym is) tt
-of-job c (inr (inr (inr (inl is)))) = subst IsSessionCause (sym is) tt
-of-job c (inr (inr (inr (inr (inl is))))) = subst IsSessionCause (sym is) tt
+of-job : (c : Cause) → OfJob c → FaultBy session_statuses c
+of-job c (inl is) = by c cause.ReadFault is refl
+of-job c (inr (inl is)) = by c cause.DeckLimit is refl
+of-job c (inr (inr (inl is))) = by c cause.ConsoleFault is refl
+of-job c (inr (inr (inr (inl is)))) = by c cause.DiskFault is refl
+of-job c (inr (inr (inr (inr (inl is))))) = by c cause.NoMemory is refl
 of-job c (inr (inr (inr (inr (inr none))))) = absurd none
 
-of-output : (c : Cause) → IsAmong c (cause.PrintFault ∷ cause.NoMemory ∷ []) → IsSessionCause c
-of-output c (inl is) = subst IsSessionCause (sym is) tt
-of-output c (inr (inl is)) = subst IsSessionCause (sym is) tt
+of-output : (c : Cause) → IsAmong c (cause.PrintFault ∷ cause.NoMemory ∷ []) → FaultBy session_statuses c
+of-output c (inl is) = by c cause.PrintFault is refl
+of-output c (inr (inl is)) = by c cause.NoMemory is refl
 of-output c (inr (inr none)) = absurd none
 
-pub session-whole : (answer : Option Refusal) → IfSome answer (OfFault IsSessionCause) → status_of answer ≢ 8
-session-whole None known eight = cc
-session-whole (Some (NoRoom needed free)) known eight = known
-session-whole (Some (Fault cause.Usage)) known eight = cc
-session-whole (Some (Fault cause.ReadFault)) known eight = cc
-session-whole (Some (Fault cause.DiskFault)) known eight = cc
-session-whole (Some (Fault cause.PrintFault)) known eight = cc
-session-whole (Some (Fault cause.ConsoleFault)) known eight = cc
-session-whole (Some (Fault cause.DeckLimit)) known eight = cc
-session-whole (Some (Fault (cause.NotSolo page))) known eight = cc
-session-whole (Some (Fault (cause.Damaged expected found at))) known eight = known
-session-whole (Some (Fault cause.NoMemory)) known eight = cc
-
-session-numbers : (answer : Option Refusal) → IfSome answer (OfFault IsSessionCause) → IfSome answer TellsPlace
-session-numbers None known = tt
-session-numbers (Some (NoRoom needed free)) known = tt
-session-numbers (Some (Fault cause.Usage)) known = tt
-session-numbers (Some (Fault cause.ReadFault)) known = tt
-session-numbers (Some (Fault cause.DiskFault)) known = tt
-session-numbers (Some (Fault cause.PrintFault)) known = tt
-session-numbers (Some (Fault cause.ConsoleFault)) known = tt
-session-numbers (Some (Fault cause.DeckLimit)) known = tt
-session-numbers (Some (Fault (cause.NotSolo page))) known = tt
-session-numbers (Some (Fault (cause.Damaged expected found at))) known = absurd known
-session-numbers (Some (Fault cause.NoMemory)) known = tt
-
 -- a cause with a number up to that of the limit
-by-limit : (answer : Option Refusal) (why : Cause) → answer ≡ Some (Fault why) → number_of why ≤ 6 → IsSessionCause why
+by-limit : (answer : Option Refusal) (why : Cause) → answer ≡ Some (Fault why) → number_of why ≤ 6 → FaultBy session_statuses why
     → EndsByLimit true true answer
-by-limit answer cause.Usage is low known = absurd known
+by-limit answer cause.Usage is low known = absurd (untrue known)
 by-limit answer cause.ReadFault is low known = inl is
 by-limit answer cause.DiskFault is low known = inr (inr (inl is))
 by-limit answer cause.PrintFault is low known = inr (inr (inr (inl is)))
 by-limit answer cause.ConsoleFault is low known = inr (inl is)
 by-limit answer cause.DeckLimit is low known = inr (inr (inr (inr is)))
-by-limit answer (cause.NotSolo page) is low known = absurd known
-by-limit answer (cause.Damaged expected found at) is low known = absurd known
+by-limit answer (cause.NotSolo page) is low known = absurd (untrue known)
+by-limit answer (cause.Damaged expected found at) is low known = absurd (untrue known)
 by-limit answer cause.NoMemory is low known = absurd (omega (arith, low))
 
 module _ {S Y K T F I O : Type 0} {before after : Kit S Y K T F I O} {answer : Option Refusal} (ends : SessionEnds before after answer)
@@ -188,19 +166,19 @@ module _ {S Y K T F I O : Type 0} {before after : Kit S Y K T F I O} {answer : O
       ⊎ ((outcome_at ends.outcomes 2 ≡ outcome.Fault c) ⊎ (outcome_at ends.outcomes 3 ≡ outcome.Fault c))
   at c is = at-some ends.outcomes three (outcome.Fault c) (subst (λ answer. IfSome answer (OfFault OneOf)) is ends.one_of)
 
-  known-at : (c : Cause) → OneOf c → IsSessionCause c
+  known-at : (c : Cause) → OneOf c → FaultBy session_statuses c
   known-at c one = elim (at-some ends.outcomes three (outcome.Fault c) one) [
     | inl at ↦ of-input c (ends.faults.input c at)
     | inr (inl at) ↦ of-job c (ends.faults.job c at)
     | inr (inr at) ↦ of-output c (ends.faults.output c at)
   ]
 
-  known-of : (answer : Option Refusal) → IfSome answer (OfFault OneOf) → IfSome answer (OfFault IsSessionCause)
+  known-of : (answer : Option Refusal) → IfSome answer (OfFault OneOf) → IfSome answer (EndsBy session_statuses)
   known-of None one = tt
-  known-of (Some (NoRoom needed free)) one = one
+  known-of (Some (NoRoom needed free)) one = absurd one
   known-of (Some (Fault why)) one = known-at why one
 
-  known : IfSome answer (OfFault IsSessionCause)
+  known : IfSome answer (EndsBy session_statuses)
   known = known-of answer ends.one_of
 
   read : answer ≡ Some (Fault cause.ReadFault)
@@ -242,7 +220,7 @@ module _ {S Y K T F I O : Type 0} {before after : Kit S Y K T F I O} {answer : O
   by-lower : OneOf cause.DeckLimit → EndsByLimit true true answer
   by-lower one =
       let lower = ends.none_lower cause.DeckLimit one in
-      by-limit answer lower.0 lower.1 lower.2 (subst (λ answer. IfSome answer (OfFault IsSessionCause)) lower.1 known)
+      by-limit answer lower.0 lower.1 lower.2 (subst (λ answer. IfSome answer (EndsBy session_statuses)) lower.1 known)
 
   pub beyond : before.deck.taken ≡ 0 → before.keys.taken ≡ 0 → (byte_limit < after.deck.taken) ⊎ (byte_limit < after.keys.taken)
       → EndsByLimit true true answer
@@ -256,7 +234,7 @@ module _ {S Y K T F I O : Type 0} {before after : Kit S Y K T F I O} {answer : O
   pub session-answers : before.deck.taken ≡ 0 → before.keys.taken ≡ 0
       → bytes_total after.deck.taken after.deck.left ≡ bytes_total before.deck.taken before.deck.left
       → bytes_total after.keys.taken after.keys.left ≡ bytes_total before.keys.taken before.keys.left
-      → Kept session_used before after → after.files.size ≡ before.files.size → Answers session_used (OfFault IsSessionCause) before after answer
+      → Kept session_used before after → after.files.size ≡ before.files.size → Answers session_used (EndsBy session_statuses) before after answer
   session-answers deck keys deck_total keys_total kept size = record {
     known = known;
     read = read;
@@ -265,8 +243,8 @@ module _ {S Y K T F I O : Type 0} {before after : Kit S Y K T F I O} {answer : O
     shown = shown;
     limit = limit;
     beyond = beyond deck keys;
-    undamaged = λ input output told. session-whole answer known;
-    numbers = session-numbers answer known;
+    undamaged = λ input output. whole session_statuses answer refl known;
+    numbers = tells-place session_statuses answer refl known;
     total = (deck_total, keys_total);
     kept = kept;
     size = size;

@@ -1,12 +1,11 @@
 -- Which of a session's maps the files are; and that no typed line is left.
-use Rattle.std.proofs.Common.{◌≡◌, ◌≢◌, inl, inr, ◌<◌, ◌≤◌, ℕ, suc, Bool, true, false, ◌==◌, if◌then◌else◌, List, [], ◌∷◌, ◌++◌, length, map, Option, Some, None, refl, sym, ◌∙◌, ap, subst, arith}
+use Rattle.std.proofs.Common.{◌≡◌, inl, inr, ◌<◌, ℕ, suc, Bool, true, false, ◌==◌, if◌then◌else◌, List, [], ◌∷◌, ◌++◌, map, Option, Some, None, refl, sym, ◌∙◌, ap, subst, arith}
 use Rattle.std.specs.Prelude.{Contains}
 use Rattle.solo_base.specs.Card.{before_lines, card_of, cards, lines}
-use Rattle.solo_base.specs.declared.item.Item.{Item}
 use Rattle.solo_devices.specs.CardUnit.{byte_limit, bytes_total, items_ahead}
 use Rattle.disk_layout.specs.Files.{Files}
 use Rattle.session_law.specs.Passing.{IsAmong}
-use Rattle.solo_cli.specs.Devices.{SourceTold}
+use Rattle.run_report.specs.Told.{SourceTold}
 use Rattle.solo_cli.specs.Reading.{ReadsToEnd}
 use Rattle.solo_cli.proofs.ReadToEnd.{taken-of}
 

@@ -1,5 +1,5 @@
 -- A run of Solo's three processes over the devices of a command, in the words of the command.
-use Rattle.std.proofs.Common.{◌≡◌, inl, inr, ℕ, List, [], ◌∷◌, ◌++◌, Option, Some, None, refl, sym, ◌∙◌, ap, subst}
+use Rattle.std.proofs.Common.{◌≡◌, inl, inr, ℕ, List, [], ◌∷◌, ◌++◌, Option, Some, refl, sym, ◌∙◌, ap, subst}
 use Rattle.solo_base.specs.declared.outcome.Outcome.{Outcome}
 use Rattle.solo_devices.specs.declared.source.Source.{Ghosts as Source}
 use Rattle.solo_devices.specs.declared.sink.Sink.{Ghosts as Sink}

@@ -1,12 +1,11 @@
 -- What a run of Solo's three processes tells of the session, as a command.
-use Rattle.std.proofs.Common.{◌≡◌, ◌≢◌, ◌⊎◌, inl, inr, ◌<◌, ◌≤◌, ℕ, List, [], ◌∷◌, ◌++◌, length, Option, Some, None, refl, sym, ◌∙◌, ap, subst, arith}
+use Rattle.std.proofs.Common.{◌≡◌, inl, inr, ◌<◌, ℕ, List, [], ◌∷◌, ◌++◌, length, Option, Some, None, refl, sym, ◌∙◌, ap, subst, arith}
 use Rattle.std.specs.Prelude.{Contains}
 use Rattle.solo_base.specs.Card.{cards}
-use Rattle.solo_base.specs.Text.{text}
 use Rattle.solo_base.specs.declared.outcome.Outcome.{Outcome}
 use Rattle.solo_base.specs.declared.outcome.Outcome.TheVariants as outcome
 use Rattle.solo_base.specs.declared.outcome.Cause.TheVariants as cause
-use Rattle.solo_devices.specs.Count.{Rose, Stayed}
+use Rattle.solo_devices.specs.Count.{Stayed}
 use Rattle.solo_devices.specs.CardUnit.{byte_limit, bytes_total, items_ahead}
 use Rattle.disk_layout.specs.Files.{Files, files}
 use Rattle.disk_layout.specs.Format.{IsSoloDisk}
@@ -22,17 +21,16 @@ use Rattle.session_law.specs.Plans.{at_rest, behind_pieces, maps_passed, session
 use Rattle.session_law.specs.Tells.{AreFirstMaps, Tells}
 use Rattle.session_law.proofs.Told.{tells-so}
 use Rattle.solo_ends.specs.Ends.{all_done, outcome_at}
-use Rattle.solo_run.specs.Ran.{BrokenOff, HavePassed}
+use Rattle.solo_run.specs.Ran.{HavePassed}
 use Rattle.session_work.specs.Facing.{PassedTo}
+use Rattle.run_report.proofs.Adding.{gains-same}
 use Rattle.solo_cli.specs.declared.refusal.Refusal.{Refusal}
-use Rattle.solo_cli.specs.Causes.{IsSessionCause}
+use Rattle.solo_cli.specs.Causes.{EndsBy, session_statuses}
 use Rattle.solo_cli.specs.Devices.{Kit}
 use Rattle.solo_cli.specs.Ready.{MayBeGiven}
-use Rattle.solo_cli.specs.Reasons.{Answers, AsRun}
-use Rattle.solo_cli.specs.Refusals.{OfFault}
+use Rattle.solo_cli.specs.Reasons.{Answers}
 use Rattle.solo_cli.specs.Sessions.{HaveFiles, RunsSession, SessionEnds, TellsSession}
 use Rattle.solo_cli.specs.Uses.{Kept, session_used}
-use Rattle.solo_cli.proofs.Adding.{gains-same}
 use Rattle.solo_cli.proofs.SessionEnding.{beyond, few-typed, is-3, session-answers}
 use Rattle.solo_cli.proofs.SessionFiles.{among-maps, typed-to-end}
 
@@ -64,6 +62,10 @@ pub record RanSession {S Y K T F I O : Type 0} (before after : Kit S Y K T F I O
   pub led : outcome_at outcomes 2 ≡ outcome.Done → AreLedTo pages (begun (state.histories 2)) after.files.pages
   pub passed : (outcome_at outcomes 2 ≡ outcome.Fault cause.DiskFault → ⊥)
       → HavePassed devices (PassedTo pages) (begun (state.histories 2)) after.files.pages
+
+-- what a session does, and why it ended so
+abbrev pub AsSession : {S Y K T F I O : Type 0} → Kit S Y K T F I O → Kit S Y K T F I O → Option Refusal → Type 0
+AsSession before after answer = RunsSession before after answer × Answers session_used (EndsBy session_statuses) before after answer
 
 module _ {S Y K T F I O : Type 0} {before after : Kit S Y K T F I O} {answer : Option Refusal} where
   module _ (ends : SessionEnds before after answer) (deck typed : List ℕ) (pages : List (List ℕ)) (solo : IsSoloDisk pages)
@@ -125,7 +127,7 @@ module _ {S Y K T F I O : Type 0} {before after : Kit S Y K T F I O} {answer : O
       → Kept session_used before after → after.files.size ≡ before.files.size
       → ((deck typed : List ℕ) (pages : List (List ℕ)) → before.deck.left ≡ Some deck → before.keys.left ≡ Some typed
       → before.files.pages ≡ Some pages → IsSoloDisk pages → RanSession before after ends.outcomes deck typed pages)
-      → AsRun RunsSession session_used IsSessionCause before after answer
+      → AsSession before after answer
   session-ran ends three ready deck_total keys_total kept size runs = (
     record {
       tells = λ deck typed pages deck_told keys_told files_told solo.

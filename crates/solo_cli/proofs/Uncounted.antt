@@ -1,5 +1,5 @@
 -- Whatever became of a run, the counts of its rule are those of the one undisturbed run.
-use Rattle.std.proofs.Common.{◌≡◌, inr, ℕ, List, [], ◌∷◌, ◌++◌, Option, Some}
+use Rattle.std.proofs.Common.{◌≡◌, inr, ℕ, List, [], Option, Some}
 use Rattle.solo_base.specs.Card.{cards}
 use Rattle.solo_base.specs.Text.{text}
 use Rattle.solo_devices.specs.PrinterUnit.{Gains}
@@ -14,7 +14,7 @@ use Rattle.network_run.specs.declared.rules.Rule.{Rule}
 use Rattle.solo_cli.specs.DeckNumbers.{deck_lines}
 use Rattle.solo_cli.specs.DeckRuns.{GainsCounted}
 use Rattle.solo_cli.specs.MakesDeck.{GainsNumbers}
-use Rattle.solo_cli.proofs.Adding.{nothing, without}
+use Rattle.run_report.proofs.Adding.{nothing, without}
 use Rattle.solo_cli.proofs.Counted.{some-counts}
 
 -- the lines are gained without the counts

@@ -1,9 +1,9 @@
 -- The cause that decides how a run ended.
-use Rattle.std.specs.Prelude.{◌≡◌, ◌≤◌, ◌<◌, ◌⊎◌, ◌+◌, List, [], ◌∷◌, Option, Some, None, IfSome, nat_le, if◌then◌else◌}
+use Rattle.std.specs.Prelude.{◌≡◌, ◌≤◌, ◌<◌, ◌⊎◌, ◌+◌, List, [], ◌∷◌, Option, Some, None, IfSome}
 use Rattle.solo_base.specs.declared.outcome.Cause.{Cause}
 use Rattle.solo_base.specs.declared.outcome.Cause.TheVariants as cause
 use Rattle.solo_base.specs.declared.outcome.Outcome.{Outcome}
-use Rattle.solo_base.specs.declared.outcome.Outcome.TheVariants.{Done, Fault, Stopped}
+use Rattle.solo_base.specs.declared.outcome.Outcome.TheVariants.{Fault}
 use Rattle.solo_base.specs.declared.outcome.Side.{Side}
 use Rattle.solo_devices.specs.Count.{Rose, raised}
 use Rattle.solo_devices.specs.CardUnit.{byte_limit}
@@ -12,26 +12,10 @@ use Rattle.batch_ends.specs.Ended.{EndTogether, FaultsAre, all_done}
 use Rattle.net_core.specs.Faults.{disk_fault}
 use Rattle.solo_cli.specs.declared.refusal.Refusal.{Refusal}
 use Rattle.solo_cli.specs.declared.refusal.Refusal.TheVariants as refusal
-use Rattle.solo_cli.specs.Devices.{Kit}
+use Rattle.solo_cli.specs.Devices.{DeckKit}
 use Rattle.solo_cli.specs.Refusals.{OfFault}
-use Rattle.solo_cli.specs.Status.{number_of}
-
--- the cause with the lower number; of two with one number, the first
-abbrev pub lower : Cause → Option Cause → Cause
-lower first None = first
-lower first (Some second) = if nat_le (number_of first) (number_of second) then first else second
-
--- of the faults of all processes, the one with the lowest number; a process that was stopped never decides
-abbrev pub decides : List Outcome → Option Cause
-decides [] = None
-decides (Done ∷ others) = decides others
-decides (Stopped ∷ others) = decides others
-decides (Fault cause ∷ others) = Some (lower cause (decides others))
-
--- one of the outcomes
-abbrev pub IsIn : Outcome → List Outcome → Type 0
-IsIn outcome [] = ⊥
-IsIn outcome (first ∷ others) = (first ≡ outcome) ⊎ IsIn outcome others
+use Rattle.run_report.specs.Decides.{IsIn}
+use Rattle.run_report.specs.Status.{number_of}
 
 -- the outcomes of the five, in order
 abbrev pub list_of : Outcomes → List Outcome
@@ -55,7 +39,7 @@ pub record LowestDecides (Behind : Cause → Type 0) (answer : Option Refusal) :
 
 -- Each fault of these outcomes was counted by its own device since, and the limit is told exactly where too
 -- many bytes were taken.
-pub record FaultsCounted {S Y K T F I O : Type 0} (before after : Kit S Y K T F I O) (outcomes : Outcomes)
+pub record FaultsCounted {S K F I O : Type 0} (before after : DeckKit S K F I O) (outcomes : Outcomes)
     : Type 0 where
   pub read : outcomes.card ≡ Fault cause.ReadFault → Rose before.deck.faults after.deck.faults
   pub limit : outcomes.card ≡ Fault cause.DeckLimit → byte_limit < after.deck.taken
@@ -68,7 +52,7 @@ pub record FaultsCounted {S Y K T F I O : Type 0} (before after : Kit S Y K T F 
 
 -- The job process met its fault of the disk in a call of its own: at one of the spools a failure was counted
 -- beside that of the other process there, or at the files.
-abbrev pub JobMeetsItsOwn : {S Y K T F I O : Type 0} → Kit S Y K T F I O → Kit S Y K T F I O → Outcomes
+abbrev pub JobMeetsItsOwn : {S K F I O : Type 0} → DeckKit S K F I O → DeckKit S K F I O → Outcomes
     → Type 0
 JobMeetsItsOwn before after outcomes =
     outcomes.job ≡ Fault cause.DiskFault
@@ -77,7 +61,7 @@ JobMeetsItsOwn before after outcomes =
     ⊎ Rose before.files.faults after.files.faults
 
 -- how a run of the deck ended
-pub record DeckEnds {S Y K T F I O : Type 0} (Behind : Cause → Type 0) (before after : Kit S Y K T F I O)
+pub record DeckEnds {S K F I O : Type 0} (Behind : Cause → Type 0) (before after : DeckKit S K F I O)
     (answer : Option Refusal) : Type 0 where
   pub five : LowestDecides Behind answer
   pub counted : FaultsCounted before after five.outcomes
@@ -87,6 +71,6 @@ abbrev pub Nothing : Cause → Type 0
 Nothing = λ why. ⊥
 
 -- a line is printed behind them
-abbrev pub LineBehind : {S Y K T F I O : Type 0} → Kit S Y K T F I O → Kit S Y K T F I O → Cause → Type 0
+abbrev pub LineBehind : {S K F I O : Type 0} → DeckKit S K F I O → DeckKit S K F I O → Cause → Type 0
 LineBehind before after =
     λ why. ((why ≡ cause.PrintFault) × Rose before.paper.faults after.paper.faults) ⊎ (why ≡ cause.NoMemory)

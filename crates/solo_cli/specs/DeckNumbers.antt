@@ -6,7 +6,7 @@ use Rattle.deck_format.specs.Jobs.{jobs}
 use Rattle.batch_job.specs.Report.{Loads}
 use Rattle.batch_job.specs.OneThread.{one_thread_output}
 use Rattle.network_run.specs.declared.counts.Counts.{Counts}
-use Rattle.solo_cli.specs.CountsLine.{counts_line}
+use Rattle.run_report.specs.CountsLine.{counts_line}
 
 -- how many characters lines have, without their ends
 abbrev pub characters_of : List (List ℕ) → ℕ

@@ -22,8 +22,8 @@ pub mod Decides
 pub mod Reading
 pub mod Mounting
 pub mod Printing
-pub mod CountsLine
 pub mod DeckRuns
+pub mod DeckRan
 pub mod DeckNumbers
 pub mod Tallies
 pub mod MakesDeck
@@ -31,3 +31,4 @@ pub mod AccessLines
 pub mod TimesConsole
 pub mod Sessions
 pub mod Does
+pub mod Judges

@@ -1,16 +1,15 @@
 -- Why a command ended as it did, told by its devices.
 use Rattle.std.specs.Prelude.{◌≡◌, ◌≢◌, ◌<◌, ◌⊎◌, Bool, true, false, Option, Some, IfSome, IsSome}
-use Rattle.solo_base.specs.declared.outcome.Cause.{Cause}
 use Rattle.solo_base.specs.declared.outcome.Cause.TheVariants as cause
 use Rattle.solo_devices.specs.Count.{Rose, Stayed}
 use Rattle.solo_devices.specs.CardUnit.{byte_limit, bytes_total}
 use Rattle.solo_cli.specs.declared.refusal.Refusal.{Refusal}
 use Rattle.solo_cli.specs.declared.refusal.Refusal.TheVariants.{Fault}
 use Rattle.solo_cli.specs.declared.words.Command.{Command}
-use Rattle.solo_cli.specs.Causes.{IsWithinLimit}
 use Rattle.solo_cli.specs.Devices.{Kit}
 use Rattle.solo_cli.specs.FileCommands.{CanUse}
-use Rattle.solo_cli.specs.Refusals.{OfFault, TellsPlace}
+use Rattle.solo_cli.specs.Reading.{StaysWithin}
+use Rattle.solo_cli.specs.Refusals.{TellsPlace}
 use Rattle.solo_cli.specs.Status.{status_of}
 use Rattle.solo_cli.specs.Uses.{DevicesUsed, Kept, IfUsed, OfEachRead, OfSomeRead, uses}
 
@@ -43,9 +42,8 @@ pub record Answers {S Y K T F I O : Type 0} (used : DevicesUsed) (MayBe : Refusa
       → OfSomeRead used (byte_limit < after.deck.taken) (byte_limit < after.keys.taken)
   pub beyond : OfSomeRead used (byte_limit < after.deck.taken) (byte_limit < after.keys.taken)
       → EndsByLimit used.keys used.deck answer
-  -- No page is damaged of a deck that tells its bytes, over spools that tell their pages.
-  pub undamaged : IsSome before.input.pages → IsSome before.output.pages
-      → IfUsed used.deck (IsSome before.deck.left) → status_of answer ≢ 8
+  -- No page is damaged over spools that tell their pages.
+  pub undamaged : IsSome before.input.pages → IsSome before.output.pages → status_of answer ≢ 8
   -- The numbers of a damaged page agree: the one found differs from the one expected exactly where byte 0 is
   -- the first that is wrong.
   pub numbers : IfSome answer TellsPlace
@@ -56,19 +54,12 @@ pub record Answers {S Y K T F I O : Type 0} (used : DevicesUsed) (MayBe : Refusa
   pub kept : Kept used before after
   pub size : after.files.size ≡ before.files.size
 
--- What a run does with these devices, and why it ended so.
-abbrev pub AsRun : {S Y K T F I O : Type 0}
-    → (Kit S Y K T F I O → Kit S Y K T F I O → Option Refusal → Type 0) → DevicesUsed → (Cause → Type 0)
-    → Kit S Y K T F I O → Kit S Y K T F I O → Option Refusal → Type 0
-AsRun Runs used May before after answer =
-    Runs before after answer × Answers used (OfFault May) before after answer
-
--- What a command is asked for can be done: of what it reads there are bytes within the limit, its spools tell
--- their pages, its files are those that it wants, and no device was counted to fail.
+-- What a command is asked for can be done: what it reads stays within the limit, its spools tell their pages,
+-- its files are those that it wants, and no device was counted to fail.
 pub record NothingFails {S Y K T F I O : Type 0} (asked : Option Command) (before after : Kit S Y K T F I O)
     : Type 0 where
-  pub deck_within : IfUsed (uses asked).deck (IsWithinLimit before.deck.left)
-  pub keys_within : IfUsed (uses asked).keys (IsWithinLimit before.keys.left)
+  pub deck_within : IfUsed (uses asked).deck (StaysWithin before.deck after.deck)
+  pub keys_within : IfUsed (uses asked).keys (StaysWithin before.keys after.keys)
   pub usable : CanUse asked before.files.pages
   pub input_told : IsSome before.input.pages
   pub output_told : IsSome before.output.pages

@@ -15,15 +15,16 @@ use Rattle.disk_files.specs.Answers.{Told}
 use Rattle.solo_task.specs.Session.{Transcript, session, last_map}
 use Rattle.solo_ends.specs.Ends.{EndTogether, FaultsAre, all_done}
 use Rattle.solo_ends.specs.Faults.{AreCounted, Counts, Peripherals}
+use Rattle.run_report.specs.Decides.{IsIn}
+use Rattle.run_report.specs.Status.{number_of}
+use Rattle.run_report.specs.Told.{AreaTold, SinkTold, SourceTold}
 use Rattle.solo_cli.specs.declared.refusal.Refusal.{Refusal}
 use Rattle.solo_cli.specs.declared.refusal.Refusal.TheVariants.{Fault}
-use Rattle.solo_cli.specs.Decides.{IsIn}
-use Rattle.solo_cli.specs.Devices.{AreaTold, Kit, SinkTold, SourceTold}
+use Rattle.solo_cli.specs.Devices.{Kit, deck_kit_of}
 use Rattle.solo_cli.specs.FileCommands.{RefusesFiles}
 use Rattle.solo_cli.specs.Mounting.{Untouched}
 use Rattle.solo_cli.specs.Reading.{ReadsToEnd}
 use Rattle.solo_cli.specs.Refusals.{OfFault}
-use Rattle.solo_cli.specs.Status.{number_of}
 
 -- ---- what it comes to
 -- pages of a Solo disk with these files
@@ -83,7 +84,7 @@ pub record SessionEnds {S Y K T F I O : Type 0} (before after : Kit S Y K T F I 
 
 -- beside the files, whose pages stay, no device was used
 pub record NothingBegun {S Y K T F I O : Type 0} (before after : Kit S Y K T F I O) : Type 0 where
-  pub untouched : Untouched before after
+  pub untouched : Untouched (deck_kit_of before) (deck_kit_of after)
   pub keys : after.keys ≡ before.keys
   pub console : after.console ≡ before.console
   pub files : after.files.pages ≡ before.files.pages

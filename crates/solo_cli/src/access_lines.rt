@@ -5,8 +5,8 @@ ghost use Rattle.solo_base.specs.Line.{is_printable};
 ghost use Rattle.solo_cli.specs.AccessLines.{accepted_line, card_line, access_fault_line, judgement_line};
 ghost use Rattle.access_check.specs.declared.fault.AccessFault.TheVariants as why;
 
-use crate::counts::append_count;
 use access_check::{Accepted, AccessFault};
+use run_report::append_count;
 use solo_base::{Ident, Line};
 
 /// The line of a judgement, or `None` where memory was refused.

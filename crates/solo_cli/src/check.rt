@@ -6,60 +6,28 @@ ghost use Rattle.solo_devices.specs.Count.{Rose};
 ghost use Rattle.solo_devices.specs.CardUnit.{IsAllTaken, StandsFor, bytes_total, byte_limit, work_ahead};
 ghost use Rattle.access_check.specs.Judgement.{judge};
 ghost use Rattle.solo_cli.specs.AccessLines.{judgement_line};
-ghost use Rattle.solo_cli.specs.Reasons.{Answers};
-ghost use Rattle.solo_cli.specs.Causes.{IsReadCause};
-ghost use Rattle.solo_cli.specs.Devices.{sink_told, kit_of};
-ghost use Rattle.solo_cli.specs.Does.{Checks};
+ghost use Rattle.run_report.specs.Told.{sink_told, source_told};
+ghost use Rattle.solo_cli.specs.Causes.{FaultBy, read_statuses};
+ghost use Rattle.solo_cli.specs.Judges.{Judges};
 ghost use Rattle.solo_cli.specs.Printing.{PrintsBytes};
-ghost use Rattle.solo_cli.specs.Ready.{MayBeGiven};
-ghost use Rattle.solo_cli.specs.Refusals.{MayBeRefused};
-ghost use Rattle.solo_cli.specs.Uses.{uses};
 
 use crate::access_lines::judgement_line;
-use crate::devices::{Devices, Done};
 use crate::printing::print_line;
 use crate::refusal::Refusal;
-use crate::words::Command;
 use solo_base::{Cause, Item};
-use solo_devices::{Area, CardRead, CardUnit, Sink, Source};
+use solo_devices::{CardRead, CardUnit, Sink, Source};
 use std::alloc::Global;
 
 /// Judges the deck, and prints the line of its judgement.
 #[inline(never)]
-pub fn check<S: Source, Y: Source, K: Sink, T: Sink, F: Area, I: Area, O: Area>(
-    alloc: Global,
-    devices: Devices<S, Y, K, T, F, I, O>,
-) -> Done<S, Y, K, T, F, I, O>
-    requires { MayBeGiven (kit_of S.Source Y.Source K.Sink T.Sink F.Area I.Area O.Area devices) }
-    ensures checks { Checks (kit_of S.Source Y.Source K.Sink T.Sink F.Area I.Area O.Area devices)
-        (kit_of S.Source Y.Source K.Sink T.Sink F.Area I.Area O.Area result.devices) result.cause }
-    ensures answers { Answers (uses (Some Command.Check)) (MayBeRefused (Some Command.Check))
-        (kit_of S.Source Y.Source K.Sink T.Sink F.Area I.Area O.Area devices)
-        (kit_of S.Source Y.Source K.Sink T.Sink F.Area I.Area O.Area result.devices) result.cause }
+pub fn check<S: Source, K: Sink>(alloc: Global, deck: S, paper: K) -> (Option<Refusal>, S, K)
+    requires { S.taken deck ≡ 0 }
+    ensures { Judges (source_told S.Source deck) (source_told S.Source result.1) (sink_told K.Sink paper)
+        (sink_told K.Sink result.2) result.0 }
 {
-    let Devices {
-        deck,
-        keys,
-        paper,
-        console,
-        files,
-        input,
-        output,
-    } = devices;
     let (items, deck) = read_deck(alloc, deck);
     let (cause, paper) = print_judgement(alloc, items, paper);
-    Done {
-        cause,
-        devices: Devices {
-            deck,
-            keys,
-            paper,
-            console,
-            files,
-            input,
-            output,
-        },
-    }
+    (cause, deck, paper)
 }
 
 // The items of a deck, or why they weren't all read.
@@ -73,7 +41,7 @@ fn read_deck<S: Source>(alloc: Global, deck: S) -> (Result<Vec<Item>, Cause>, S)
     ensures beyond { byte_limit < S.taken result.1 → result.0 ≡ Err Cause.DeckLimit }
     ensures total { bytes_total (S.taken result.1) (S.left result.1)
         ≡ bytes_total (S.taken deck) (S.left deck) }
-    ensures known { IfErr result.0 IsReadCause }
+    ensures known { IfErr result.0 (FaultBy read_statuses) }
 {
     let mut unit = CardUnit::new(deck);
     let read = read_items(alloc, &mut unit);
@@ -93,7 +61,7 @@ fn read_items<S: Source>(alloc: Global, unit: &mut CardUnit<S>) -> Result<Vec<It
     ensures beyond { byte_limit < S.taken unit.new.source → result ≡ Err Cause.DeckLimit }
     ensures total { bytes_total (S.taken unit.new.source) (S.left unit.new.source)
         ≡ bytes_total (S.taken unit.old.source) (S.left unit.old.source) }
-    ensures known { IfErr result IsReadCause }
+    ensures known { IfErr result (FaultBy read_statuses) }
 {
     let mut items = Vec::new(alloc);
     while read_item(unit, &mut items)? {}
@@ -120,7 +88,7 @@ fn read_item<S: Source>(unit: &mut CardUnit<S>, items: &mut Vec<Item>) -> Result
         ≡ bytes_total (S.taken unit.old.source) (S.left unit.old.source) }
     ensures falls { result ≡ Ok true → work_ahead (S.taken unit.new.source) unit.new.pending unit.new.ended
         < work_ahead (S.taken unit.old.source) unit.old.pending unit.old.ended }
-    ensures known { IfErr result IsReadCause }
+    ensures known { IfErr result (FaultBy read_statuses) }
 {
     match unit.read() {
         CardRead::Card(line) => keep(items, Item::Line(line)),

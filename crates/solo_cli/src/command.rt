@@ -7,10 +7,10 @@ ghost use Rattle.batch_job.specs.Report.{Loads};
 ghost use Rattle.batch_job.specs.OneThread.{one_thread_output};
 ghost use Rattle.deck_work.specs.DeckJobs.{AreFound, files_found};
 ghost use Rattle.solo_cli.specs.Reasons.{Answers, NothingFails};
-ghost use Rattle.solo_cli.specs.Devices.{kit, kit_after, kit_of};
-ghost use Rattle.solo_cli.specs.Does.{DoesItsWork};
+ghost use Rattle.solo_cli.specs.Causes.{MayBeRefused};
+ghost use Rattle.solo_cli.specs.Devices.{finished_with, kit, kit_after};
+ghost use Rattle.solo_cli.specs.Does.{DoesItsWork, Finishes};
 ghost use Rattle.solo_cli.specs.Ready.{MayBeGiven};
-ghost use Rattle.solo_cli.specs.Refusals.{MayBeRefused};
 ghost use Rattle.solo_cli.specs.Status.{status_of};
 ghost use Rattle.solo_cli.specs.Uses.{uses};
 ghost use Rattle.solo_cli.specs.Words.{asked, HasNumber};
@@ -18,10 +18,9 @@ ghost use Rattle.solo_cli.specs.Words.{asked, HasNumber};
 use crate::batch::batch;
 use crate::check::check;
 use crate::core_run::core;
-use crate::devices::{Devices, Done};
-use crate::format::format;
+use crate::ending::Ended;
+use crate::files::{format, migrate};
 use crate::make::make;
-use crate::migrate::migrate;
 use crate::refusal::Refusal;
 use crate::session::session;
 use crate::status::status_of;
@@ -118,52 +117,13 @@ pub fn top<
         ⊎ ((result.status ≡ 10) × (asked words.now ≡ Some Command.Migrate)) }
     ensures files_size { F.size result.files ≡ F.size files }
 {
-    let devices = Devices {
-        deck,
-        keys,
-        paper,
-        console,
-        files,
-        input,
-        output,
-    };
-    finish(run_asked(rt, alloc, command_of(words), devices))
+    let command = command_of(words);
+    run(
+        rt, alloc, command, deck, keys, paper, console, files, input, output,
+    )
 }
 
 // Runs a command, or none.
-fn run_asked<
-    S: Source + Drop + Send,
-    Y: Source + Drop + Send,
-    K: Sink + Drop + Send,
-    T: Sink + Drop + Send,
-    F: Area + Drop + Send,
-    I: Area + Send,
-    O: Area + Send,
-    R: Threads + Wait + Sync,
->(
-    rt: &R,
-    alloc: Global,
-    command: Option<Command>,
-    devices: Devices<S, Y, K, T, F, I, O>,
-) -> Done<S, Y, K, T, F, I, O>
-    requires ready { MayBeGiven (kit_of S.Source Y.Source K.Sink T.Sink F.Area I.Area O.Area devices) }
-    requires number { HasNumber command }
-    ensures does { DoesItsWork command (kit_of S.Source Y.Source K.Sink T.Sink F.Area I.Area O.Area devices)
-        (kit_of S.Source Y.Source K.Sink T.Sink F.Area I.Area O.Area result.devices) result.cause }
-    ensures answers { Answers (uses command) (MayBeRefused command)
-        (kit_of S.Source Y.Source K.Sink T.Sink F.Area I.Area O.Area devices)
-        (kit_of S.Source Y.Source K.Sink T.Sink F.Area I.Area O.Area result.devices) result.cause }
-{
-    match command {
-        Some(command) => run(rt, alloc, command, devices),
-        None => Done {
-            cause: Some(Refusal::Fault(Cause::Usage)),
-            devices,
-        },
-    }
-}
-
-// Runs a command.
 fn run<
     S: Source + Drop + Send,
     Y: Source + Drop + Send,
@@ -176,54 +136,86 @@ fn run<
 >(
     rt: &R,
     alloc: Global,
-    command: Command,
-    devices: Devices<S, Y, K, T, F, I, O>,
-) -> Done<S, Y, K, T, F, I, O>
-    requires ready { MayBeGiven (kit_of S.Source Y.Source K.Sink T.Sink F.Area I.Area O.Area devices) }
-    requires number { HasNumber (Some command) }
-    ensures does { DoesItsWork (Some command)
-        (kit_of S.Source Y.Source K.Sink T.Sink F.Area I.Area O.Area devices)
-        (kit_of S.Source Y.Source K.Sink T.Sink F.Area I.Area O.Area result.devices) result.cause }
-    ensures answers { Answers (uses (Some command)) (MayBeRefused (Some command))
-        (kit_of S.Source Y.Source K.Sink T.Sink F.Area I.Area O.Area devices)
-        (kit_of S.Source Y.Source K.Sink T.Sink F.Area I.Area O.Area result.devices) result.cause }
+    command: Option<Command>,
+    deck: S,
+    keys: Y,
+    paper: K,
+    console: T,
+    files: F,
+    input: I,
+    output: O,
+) -> Finished<S, Y, K, T, F, I, O>
+    requires ready { MayBeGiven (kit S.Source Y.Source K.Sink T.Sink F.Area I.Area O.Area deck keys paper
+        console files input output) }
+    requires number { HasNumber command }
+    ensures status { result.status ≡ status_of result.cause }
+    ensures finishes { Finishes command
+        (kit S.Source Y.Source K.Sink T.Sink F.Area I.Area O.Area deck keys paper console files input output)
+        (kit_after S.Source Y.Source K.Sink T.Sink F.Area I.Area O.Area result) result.cause }
 {
+    let Some(command) = command else {
+        let cause = Some(Refusal::Fault(Cause::Usage));
+        return finish(cause, deck, keys, paper, console, files, input, output);
+    };
     match command {
-        Command::Batch => batch(rt, alloc, devices),
-        Command::Core { schedule } => core(alloc, schedule, devices),
-        Command::Make { number } => make(alloc, number, devices),
-        Command::Format => format(devices),
-        Command::Migrate => migrate(alloc, devices),
-        Command::Check => check(alloc, devices),
-        Command::Times { schedule } => times(schedule, devices),
-        Command::Solo => session(rt, alloc, devices),
+        Command::Batch => {
+            let ended = batch(rt, alloc, deck, paper, files, input, output);
+            beside(ended, keys, console)
+        }
+        Command::Core { schedule } => {
+            let ended = core(alloc, schedule, deck, paper, files, input, output);
+            beside(ended, keys, console)
+        }
+        Command::Make { number } => {
+            let ended = make(alloc, number, deck, paper, files, input, output);
+            beside(ended, keys, console)
+        }
+        Command::Format => {
+            let (cause, files) = format(files);
+            finish(cause, deck, keys, paper, console, files, input, output)
+        }
+        Command::Migrate => {
+            let (cause, files) = migrate(alloc, files);
+            finish(cause, deck, keys, paper, console, files, input, output)
+        }
+        Command::Check => {
+            let (cause, deck, paper) = check(alloc, deck, paper);
+            finish(cause, deck, keys, paper, console, files, input, output)
+        }
+        Command::Times { schedule } => {
+            let (cause, keys, console) = times(schedule, keys, console);
+            finish(cause, deck, keys, paper, console, files, input, output)
+        }
+        Command::Solo => session(rt, alloc, deck, keys, paper, console, files, input, output),
     }
 }
 
-// The end of a command, with its status.
-fn finish<S, Y, K, T, F, I, O>(done: Done<S, Y, K, T, F, I, O>) -> Finished<S, Y, K, T, F, I, O>
-    ensures { result ≡ record {
-      status = status_of done.cause;
-      cause = done.cause;
-      deck = done.devices.deck;
-      keys = done.devices.keys;
-      paper = done.devices.paper;
-      console = done.devices.console;
-      files = done.devices.files;
-      input = done.devices.input;
-      output = done.devices.output;
-    } }
+// How a command that runs a deck ended, beside the keys and the console, which it doesn't use.
+#[inline(never)]
+fn beside<S, Y, K, T, F, I, O>(
+    ended: Ended<S, K, F, I, O>,
+    keys: Y,
+    console: T,
+) -> Finished<S, Y, K, T, F, I, O>
+    ensures { result ≡ finished_with ended.0 ended.1 keys ended.2 console ended.3 ended.4 ended.5 }
 {
-    let Done { cause, devices } = done;
-    let Devices {
-        deck,
-        keys,
-        paper,
-        console,
-        files,
-        input,
-        output,
-    } = devices;
+    let (cause, deck, paper, files, input, output) = ended;
+    finish(cause, deck, keys, paper, console, files, input, output)
+}
+
+/// The end of a command with this cause, and its devices.
+pub fn finish<S, Y, K, T, F, I, O>(
+    cause: Option<Refusal>,
+    deck: S,
+    keys: Y,
+    paper: K,
+    console: T,
+    files: F,
+    input: I,
+    output: O,
+) -> Finished<S, Y, K, T, F, I, O>
+    ensures { result ≡ finished_with cause deck keys paper console files input output }
+{
     Finished {
         status: status_of(cause),
         cause,

@@ -1,127 +1,96 @@
 //! The command that runs the deck on the core, under the schedule of a number.
-ghost use Rattle.std.specs.Prelude.{◌≡◌, true, Some};
+ghost use Rattle.std.specs.Prelude.{◌≡◌, ◌∷◌, Some, IfSome, None, true};
 ghost use Rattle.solo_base.specs.Text.{line_text};
-ghost use Rattle.solo_cli.specs.Causes.{IsRunCause};
-ghost use Rattle.solo_cli.specs.CountsLine.{counts_line};
+ghost use Rattle.run_report.specs.CountsLine.{counts_line};
+ghost use Rattle.run_report.specs.Told.{sink_told};
+ghost use Rattle.solo_cli.specs.Causes.{run_statuses};
+ghost use Rattle.solo_cli.specs.DeckRan.{RanCore, RanDeck};
 ghost use Rattle.solo_cli.specs.DeckRuns.{RunsCore};
-ghost use Rattle.solo_cli.specs.Devices.{sink_told, kit, kit_of};
-ghost use Rattle.solo_cli.specs.Mounting.{MountsFiles};
+ghost use Rattle.solo_cli.specs.Devices.{deck_kit};
 ghost use Rattle.solo_cli.specs.Printing.{PrintsBytes};
-ghost use Rattle.solo_cli.specs.Ready.{MayBeGiven};
-ghost use Rattle.solo_cli.specs.Refusals.{MayBeRefused};
-ghost use Rattle.solo_cli.specs.Reasons.{Answers, AsRun};
-ghost use Rattle.solo_cli.specs.Uses.{deck_used, uses};
+ghost use Rattle.solo_cli.specs.Ready.{MayRunDeck};
 
-use crate::counts::counts_line;
-use crate::devices::{Devices, Done};
-use crate::ending::came_to;
-use crate::mounting::mount;
+use crate::ending::{Ended, came_to, units_of};
 use crate::printing::print_line;
-use crate::words::Command;
-use batch_ends::Units;
+use crate::refusal::Refusal;
 use deck_work::{DeckFiles, DeckWork};
 use disk_files::FileArea;
 use net_core::run_core;
 use network_run::{Counts, Rule};
-use solo_devices::{Area, CardUnit, PrinterUnit, Sink, Source};
+use run_report::counts_line;
+use solo_devices::{Area, Sink, Source};
 use std::alloc::Global;
 
 /// Mounts the files, runs the deck under the schedule of this number, prints the report of each of its jobs,
 /// and behind the reports what was counted.
 #[inline(never)]
-pub fn core<S: Source, Y: Source, K: Sink, T: Sink, F: Area + Drop, I: Area, O: Area>(
+pub fn core<S: Source, K: Sink, F: Area + Drop, I: Area, O: Area>(
     alloc: Global,
     schedule: u32,
-    devices: Devices<S, Y, K, T, F, I, O>,
-) -> Done<S, Y, K, T, F, I, O>
-    requires { MayBeGiven (kit_of S.Source Y.Source K.Sink T.Sink F.Area I.Area O.Area devices) }
-    ensures runs { RunsCore schedule (kit_of S.Source Y.Source K.Sink T.Sink F.Area I.Area O.Area devices)
-        (kit_of S.Source Y.Source K.Sink T.Sink F.Area I.Area O.Area result.devices) result.cause }
-    ensures mounts { MountsFiles (kit_of S.Source Y.Source K.Sink T.Sink F.Area I.Area O.Area devices)
-        (kit_of S.Source Y.Source K.Sink T.Sink F.Area I.Area O.Area result.devices) result.cause }
-    ensures answers { Answers (uses (Some (Command.Core schedule)))
-        (MayBeRefused (Some (Command.Core schedule)))
-        (kit_of S.Source Y.Source K.Sink T.Sink F.Area I.Area O.Area devices)
-        (kit_of S.Source Y.Source K.Sink T.Sink F.Area I.Area O.Area result.devices) result.cause }
+    deck: S,
+    paper: K,
+    files: F,
+    input: I,
+    output: O,
+) -> Ended<S, K, F, I, O>
+    requires { MayRunDeck (deck_kit S.Source K.Sink F.Area I.Area O.Area deck paper files input output) }
+    ensures { RanDeck (RunsCore schedule) true (7 ∷ run_statuses)
+        (deck_kit S.Source K.Sink F.Area I.Area O.Area deck paper files input output)
+        (deck_kit S.Source K.Sink F.Area I.Area O.Area result.1 result.2 result.3 result.4 result.5)
+        result.0 }
 {
-    match mount(alloc, devices) {
-        Ok(mounted) => run_mounted(alloc, schedule, mounted),
-        Err(done) => done,
-    }
-}
-
-// Runs the deck with its files, and prints what was counted.
-#[inline(never)]
-fn run_mounted<S: Source, Y: Source, K: Sink, T: Sink, F: Area + Drop, I: Area, O: Area>(
-    alloc: Global,
-    schedule: u32,
-    devices: Devices<S, Y, K, T, FileArea<F>, I, O>,
-) -> Done<S, Y, K, T, F, I, O>
-    requires ready { MayBeGiven (kit S.Source Y.Source K.Sink T.Sink F.Area I.Area O.Area devices.deck
-        devices.keys devices.paper devices.console devices.files.area devices.input devices.output) }
-    requires sound { devices.files.sound ≡ true }
-    ensures ran { AsRun (RunsCore schedule) deck_used IsRunCause
-        (kit S.Source Y.Source K.Sink T.Sink F.Area I.Area O.Area devices.deck devices.keys devices.paper
-        devices.console devices.files.area devices.input devices.output)
-        (kit_of S.Source Y.Source K.Sink T.Sink F.Area I.Area O.Area result.devices) result.cause }
-    ensures left { F.pages result.devices.files ≡ F.pages devices.files.area }
-{
-    let Devices {
-        deck,
-        keys,
-        paper,
-        console,
-        files,
-        input,
-        output,
-    } = devices;
-    let rule = Rule::Numbered { number: schedule };
-    let units = Units {
-        deck: CardUnit::new(deck),
-        paper: PrinterUnit::new(paper),
-        files: DeckFiles { files },
-        input,
-        output,
-    };
-    let (ran, counts) = run_core::<DeckWork, S, K, DeckFiles<F>, I, O>(alloc, units, rule);
-    let done = came_to(ran, keys, console);
-    match done.cause {
-        None => with_counts(done, counts),
-        Some(_) => done,
-    }
-}
-
-// Prints what a run counted, behind its reports.
-#[inline(never)]
-fn with_counts<S: Source, Y: Source, K: Sink, T: Sink, F: Area, I: Area, O: Area>(
-    done: Done<S, Y, K, T, F, I, O>,
-    counts: Counts,
-) -> Done<S, Y, K, T, F, I, O>
-    ensures prints { PrintsBytes (sink_told K.Sink done.devices.paper) (sink_told K.Sink result.devices.paper)
-        (line_text (counts_line counts.events counts.delays counts.grants)) result.cause }
-    ensures stays { result.devices ≡ record done.devices { paper = result.devices.paper } }
-{
-    let Done { cause: _, devices } = done;
-    let Devices {
-        deck,
-        keys,
-        paper,
-        console,
-        files,
-        input,
-        output,
-    } = devices;
-    let (cause, paper) = print_line(paper, &counts_line(counts));
-    Done {
-        cause,
-        devices: Devices {
+    match FileArea::mount(alloc, files) {
+        Ok(files) => {
+            let (ran, counts) = run_numbered(alloc, schedule, deck, paper, files, input, output);
+            let (cause, deck, paper, files, input, output) = ran;
+            let (cause, paper) = with_counts(cause, paper, counts);
+            (cause, deck, paper, files, input, output)
+        }
+        Err((files, fault)) => (
+            Some(Refusal::of_mount(fault)),
             deck,
-            keys,
             paper,
-            console,
             files,
             input,
             output,
-        },
+        ),
+    }
+}
+
+/// Runs a deck with mounted files under the schedule of this number. What it came to, and what it counted.
+#[inline(never)]
+pub fn run_numbered<S: Source, K: Sink, F: Area + Drop, I: Area, O: Area>(
+    alloc: Global,
+    number: u32,
+    deck: S,
+    paper: K,
+    files: FileArea<F>,
+    input: I,
+    output: O,
+) -> (Ended<S, K, F, I, O>, Counts)
+    requires ready { MayRunDeck
+        (deck_kit S.Source K.Sink F.Area I.Area O.Area deck paper files.area input output) }
+    requires sound { files.sound ≡ true }
+    ensures { RanCore (Rule.Numbered number)
+        (deck_kit S.Source K.Sink F.Area I.Area O.Area deck paper files.area input output)
+        (deck_kit S.Source K.Sink F.Area I.Area O.Area result.0.1 result.0.2 result.0.3 result.0.4 result.0.5)
+        result.0.0 result.1 }
+{
+    let units = units_of(deck, paper, files, input, output);
+    let rule = Rule::Numbered { number };
+    let (ran, counts) = run_core::<DeckWork, S, K, DeckFiles<F>, I, O>(alloc, units, rule);
+    (came_to(ran), counts)
+}
+
+// Prints what a run counted, behind its reports, unless it has a cause.
+fn with_counts<K: Sink>(cause: Option<Refusal>, paper: K, counts: Counts) -> (Option<Refusal>, K)
+    ensures fault { IfSome cause (λ why. (result.0 ≡ Some why)
+        × (sink_told K.Sink result.1 ≡ sink_told K.Sink paper)) }
+    ensures prints { cause ≡ None → PrintsBytes (sink_told K.Sink paper) (sink_told K.Sink result.1)
+        (line_text (counts_line counts.events counts.delays counts.grants)) result.0 }
+{
+    match cause {
+        Some(cause) => (Some(cause), paper),
+        None => print_line(paper, &counts_line(counts)),
     }
 }

@@ -1,33 +1,62 @@
-//! How a run of the five processes ends a command.
+//! The devices of a run of the five processes, and how it ends a command.
 ghost use Rattle.std.specs.Prelude.{◌≡◌};
-ghost use Rattle.solo_cli.specs.Decides.{decides, list_of, lower};
+ghost use Rattle.solo_devices.specs.CardUnit.{fresh_unit};
+ghost use Rattle.solo_devices.specs.PrinterUnit.{fresh_printer};
+ghost use Rattle.run_report.specs.Decides.{decides};
+ghost use Rattle.solo_cli.specs.Decides.{list_of};
 ghost use Rattle.solo_cli.specs.Refusals.{as_refusal};
 
-use crate::devices::{Devices, Done};
 use crate::refusal::Refusal;
-use crate::status::number_of;
 use batch_ends::{Outcomes, Ran, Units};
 use deck_work::DeckFiles;
+use disk_files::FileArea;
+use run_report::decides;
 use solo_base::{Cause, Outcome};
-use solo_devices::{Area, Sink, Source};
+use solo_devices::{Area, CardUnit, PrinterUnit, Sink, Source};
 
-/// What a run of the five processes came to, beside the keys and the console, which it doesn't use.
-#[inline(never)]
-pub fn came_to<S: Source, Y, K: Sink, T, F: Area + Drop, I: Area, O: Area>(
-    ran: Ran<S, K, DeckFiles<F>, I, O>,
-    keys: Y,
-    console: T,
-) -> Done<S, Y, K, T, F, I, O>
-    ensures decided { result.cause ≡ as_refusal (decides (list_of ran.outcomes)) }
-    ensures devices { result.devices ≡ record {
-      deck = ran.units.deck.source;
-      keys = keys;
-      paper = ran.units.paper.sink;
-      console = console;
-      files = ran.units.files.files.area;
-      input = ran.units.input;
-      output = ran.units.output;
+/// How a command that runs a deck ended, and its devices: the deck, the paper, the files, and the areas of
+/// the spools.
+pub type Ended<S, K, F, I, O> = (Option<Refusal>, S, K, F, I, O);
+
+/// What a run of the deck runs on, with its files mounted.
+pub fn units_of<S: Source, K: Sink, F: Area + Drop, I: Area, O: Area>(
+    deck: S,
+    paper: K,
+    files: FileArea<F>,
+    input: I,
+    output: O,
+) -> Units<S, K, DeckFiles<F>, I, O>
+    requires { S.taken deck ≡ 0 }
+    ensures { result ≡ record {
+      deck = fresh_unit deck;
+      paper = fresh_printer paper;
+      files = record { files = files };
+      input = input;
+      output = output;
     } }
+{
+    Units {
+        deck: CardUnit::new(deck),
+        paper: PrinterUnit::new(paper),
+        files: DeckFiles { files },
+        input,
+        output,
+    }
+}
+
+/// What a run of the five processes came to.
+#[inline(never)]
+pub fn came_to<S: Source, K: Sink, F: Area + Drop, I: Area, O: Area>(
+    ran: Ran<S, K, DeckFiles<F>, I, O>,
+) -> Ended<S, K, F, I, O>
+    ensures ended { result ≡ (
+      as_refusal (decides (list_of ran.outcomes)),
+      ran.units.deck.source,
+      ran.units.paper.sink,
+      ran.units.files.files.area,
+      ran.units.input,
+      ran.units.output,
+    ) }
     ensures size { F.size ran.units.files.files.area ≡ 4288 }
 {
     let Ran {
@@ -35,27 +64,23 @@ pub fn came_to<S: Source, Y, K: Sink, T, F: Area + Drop, I: Area, O: Area>(
         stopped_by: _,
         units,
     } = ran;
-    given_back(decides(&list_of(outcomes)), units, keys, console)
+    given_back(decides(&list_of(outcomes)), units)
 }
 
 /// The devices behind a run with this cause.
 #[inline(never)]
-pub fn given_back<S: Source, Y, K: Sink, T, F: Area + Drop, I: Area, O: Area>(
+pub fn given_back<S: Source, K: Sink, F: Area + Drop, I: Area, O: Area>(
     cause: Option<Cause>,
     units: Units<S, K, DeckFiles<F>, I, O>,
-    keys: Y,
-    console: T,
-) -> Done<S, Y, K, T, F, I, O>
-    ensures cause { result.cause ≡ as_refusal cause }
-    ensures devices { result.devices ≡ record {
-      deck = units.deck.source;
-      keys = keys;
-      paper = units.paper.sink;
-      console = console;
-      files = units.files.files.area;
-      input = units.input;
-      output = units.output;
-    } }
+) -> Ended<S, K, F, I, O>
+    ensures ended { result ≡ (
+      as_refusal cause,
+      units.deck.source,
+      units.paper.sink,
+      units.files.files.area,
+      units.input,
+      units.output,
+    ) }
     ensures size { F.size units.files.files.area ≡ 4288 }
 {
     let Units {
@@ -66,18 +91,14 @@ pub fn given_back<S: Source, Y, K: Sink, T, F: Area + Drop, I: Area, O: Area>(
         output,
     } = units;
     let DeckFiles { files } = files;
-    Done {
-        cause: Refusal::of_run(cause),
-        devices: Devices {
-            deck: deck.into_inner(),
-            keys,
-            paper: paper.into_inner(),
-            console,
-            files: files.into_inner(),
-            input,
-            output,
-        },
-    }
+    (
+        Refusal::of_run(cause),
+        deck.into_inner(),
+        paper.into_inner(),
+        files.into_inner(),
+        input,
+        output,
+    )
 }
 
 // The outcomes of the five, in order.
@@ -91,25 +112,4 @@ fn list_of(outcomes: Outcomes) -> [Outcome; 5]
         outcomes.output,
         outcomes.printer,
     ]
-}
-
-/// The cause that decides how a run ended whose processes ended so.
-pub fn decides(outcomes: &[Outcome]) -> Option<Cause>
-    ensures { result ≡ decides outcomes.now }
-{
-    match outcomes {
-        [] => None,
-        [Outcome::Fault(cause), others @ ..] => Some(lower(*cause, decides(others))),
-        [Outcome::Done | Outcome::Stopped, others @ ..] => decides(others),
-    }
-}
-
-// The cause with the lower number; of two with one number, the first.
-fn lower(first: Cause, second: Option<Cause>) -> Cause
-    ensures { result ≡ lower first second }
-{
-    match second {
-        Some(second) if number_of(second) < number_of(first) => second,
-        _ => first,
-    }
 }

@@ -1,5 +1,5 @@
 //! The command that makes the deck of a number, runs it in memory and prints the numbers of both.
-ghost use Rattle.std.specs.Prelude.{◌≡◌, ◌≢◌, ◌⊎◌, ◌≤◌, ◌<◌, ◌==◌, ℕ, List, [], Some, None, IsSome, IfSome, IfOk, length, count_by, true};
+ghost use Rattle.std.specs.Prelude.{◌≡◌, ◌≤◌, ◌∷◌, ◌==◌, ℕ, List, false, Some, None, IfSome, IfOk, length, count_by};
 ghost use Rattle.std.specs.List.{AllByRecursion};
 ghost use Rattle.solo_base.specs.Text.{text};
 ghost use Rattle.solo_base.specs.Card.{cards};
@@ -7,90 +7,73 @@ ghost use Rattle.solo_base.specs.Line.{IsLine};
 ghost use Rattle.solo_devices.specs.CardUnit.{byte_limit};
 ghost use Rattle.solo_devices.specs.Count.{Rose};
 ghost use Rattle.deck_format.specs.Jobs.{jobs};
-ghost use Rattle.batch_job.specs.Report.{Loads};
-ghost use Rattle.batch_job.specs.OneThread.{one_thread_output};
 ghost use Rattle.made_deck.specs.MadeDeck.{made_deck};
-ghost use Rattle.core_law.specs.Opening.{opened};
-ghost use Rattle.core_law.specs.TheLaw.{the_law};
-ghost use Rattle.batch_ends.specs.Openings.{spools_over};
-ghost use Rattle.network_run.specs.OneRun.{AreItsCounts};
-ghost use Rattle.deck_work.specs.DeckJobs.{AreFound, files_found, deck_jobs};
-ghost use Rattle.solo_cli.specs.Reasons.{Answers, AsRun};
-ghost use Rattle.solo_cli.specs.Causes.{IsMakeCause, IsPrintCause};
-ghost use Rattle.solo_cli.specs.Decides.{LowestDecides, Nothing};
+ghost use Rattle.run_report.specs.Told.{sink_told};
+ghost use Rattle.solo_cli.specs.Causes.{EndsBy, make_statuses, print_statuses};
 ghost use Rattle.solo_cli.specs.DeckNumbers.{five_lines, characters_of};
-ghost use Rattle.solo_cli.specs.Devices.{sink_told, kit, kit_of};
+ghost use Rattle.solo_cli.specs.DeckRan.{RanDeck};
+ghost use Rattle.solo_cli.specs.Devices.{deck_kit};
 ghost use Rattle.solo_cli.specs.MakesDeck.{MakesDeck};
-ghost use Rattle.solo_cli.specs.Mounting.{MountsFiles};
 ghost use Rattle.solo_cli.specs.Printing.{PrintsBytes};
-ghost use Rattle.solo_cli.specs.Ready.{MayBeGiven};
-ghost use Rattle.solo_cli.specs.Refusals.{MayBeRefused, OfFault};
-ghost use Rattle.solo_cli.specs.Status.{status_of};
-ghost use Rattle.solo_cli.specs.Uses.{made_used, uses};
+ghost use Rattle.solo_cli.specs.Ready.{MayRunDeck};
 
-use crate::counts::{counts_line, number_line};
+use crate::core_run::run_numbered;
 use crate::deck_numbers::{DeckNumbers, PIECE, numbers_of};
-use crate::devices::{Devices, Done};
-use crate::ending::came_to;
-use crate::mounting::{mount, unmount};
+use crate::ending::Ended;
 use crate::printing::print_all;
 use crate::refusal::Refusal;
-use crate::words::Command;
-use batch_ends::Units;
-use deck_work::{DeckFiles, DeckWork};
 use disk_files::FileArea;
 use made_deck::make_deck;
-use net_core::run_core;
-use network_run::{Counts, Rule};
+use network_run::Counts;
+use run_report::{counts_line, number_line};
 use solo_base::{Cause, Line, NoMemory};
-use solo_devices::{Area, CardUnit, PrinterUnit, Sink, Source, SureSink, SureSource};
+use solo_devices::{Area, Sink, Source, SureSink, SureSource};
 use std::alloc::Global;
 
 /// Mounts the files, makes the deck of a number, runs it on the core under the schedule of this number, to
 /// a paper in memory, and prints how many jobs, cards, lines and characters there were, and what the run
-/// counted. Where the run met a fault nothing is printed.
+/// counted. Where the run met a fault nothing is printed. The other deck is given back as it came.
 #[inline(never)]
-pub fn make<S: Source, Y: Source, K: Sink, T: Sink, F: Area + Drop, I: Area, O: Area>(
+pub fn make<S: Source, K: Sink, F: Area + Drop, I: Area, O: Area>(
     alloc: Global,
     number: u32,
-    devices: Devices<S, Y, K, T, F, I, O>,
-) -> Done<S, Y, K, T, F, I, O>
+    deck: S,
+    paper: K,
+    files: F,
+    input: I,
+    output: O,
+) -> Ended<S, K, F, I, O>
     requires number { number ≤ 50000 }
-    requires ready { MayBeGiven (kit_of S.Source Y.Source K.Sink T.Sink F.Area I.Area O.Area devices) }
-    ensures makes { MakesDeck number (kit_of S.Source Y.Source K.Sink T.Sink F.Area I.Area O.Area devices)
-        (kit_of S.Source Y.Source K.Sink T.Sink F.Area I.Area O.Area result.devices) result.cause }
-    ensures mounts { MountsFiles (kit_of S.Source Y.Source K.Sink T.Sink F.Area I.Area O.Area devices)
-        (kit_of S.Source Y.Source K.Sink T.Sink F.Area I.Area O.Area result.devices) result.cause }
-    ensures answers { Answers (uses (Some (Command.Make number))) (MayBeRefused (Some (Command.Make number)))
-        (kit_of S.Source Y.Source K.Sink T.Sink F.Area I.Area O.Area devices)
-        (kit_of S.Source Y.Source K.Sink T.Sink F.Area I.Area O.Area result.devices) result.cause }
+    requires ready { MayRunDeck
+        (deck_kit S.Source K.Sink F.Area I.Area O.Area deck paper files input output) }
+    ensures { RanDeck (MakesDeck number) false (7 ∷ make_statuses)
+        (deck_kit S.Source K.Sink F.Area I.Area O.Area deck paper files input output)
+        (deck_kit S.Source K.Sink F.Area I.Area O.Area result.1 result.2 result.3 result.4 result.5)
+        result.0 }
 {
-    match mount(alloc, devices) {
-        Ok(mounted) => make_mounted(alloc, number, mounted),
-        Err(done) => done,
-    }
-}
-
-// Makes the deck of a number, and runs it with the files.
-#[inline(never)]
-fn make_mounted<S: Source, Y: Source, K: Sink, T: Sink, F: Area + Drop, I: Area, O: Area>(
-    alloc: Global,
-    number: u32,
-    devices: Devices<S, Y, K, T, FileArea<F>, I, O>,
-) -> Done<S, Y, K, T, F, I, O>
-    requires number { number ≤ 50000 }
-    requires ready { MayBeGiven (kit S.Source Y.Source K.Sink T.Sink F.Area I.Area O.Area devices.deck
-        devices.keys devices.paper devices.console devices.files.area devices.input devices.output) }
-    requires sound { devices.files.sound ≡ true }
-    ensures ran { AsRun (MakesDeck number) made_used IsMakeCause
-        (kit S.Source Y.Source K.Sink T.Sink F.Area I.Area O.Area devices.deck devices.keys devices.paper
-        devices.console devices.files.area devices.input devices.output)
-        (kit_of S.Source Y.Source K.Sink T.Sink F.Area I.Area O.Area result.devices) result.cause }
-    ensures left { F.pages result.devices.files ≡ F.pages devices.files.area }
-{
-    match deck_of(alloc, number) {
-        Ok((deck, numbers)) => run_made(alloc, number, deck, numbers, devices),
-        Err(NoMemory) => unmount(Refusal::Fault(Cause::NoMemory), devices),
+    match FileArea::mount(alloc, files) {
+        Ok(files) => match deck_of(alloc, number) {
+            Ok((made, numbers)) => {
+                let source = SureSource::new(made, PIECE);
+                let sink = SureSink::new(alloc);
+                let (ran, counts) = run_numbered(alloc, number, source, sink, files, input, output);
+                let (cause, _, printed, files, input, output) = ran;
+                let (cause, paper) = print_numbers(paper, cause, numbers, &printed, counts);
+                (cause, deck, paper, files, input, output)
+            }
+            Err(NoMemory) => {
+                let cause = Refusal::Fault(Cause::NoMemory);
+                (Some(cause), deck, paper, files.into_inner(), input, output)
+            }
+        },
+        Err((files, fault)) => (
+            Some(Refusal::of_mount(fault)),
+            deck,
+            paper,
+            files,
+            input,
+            output,
+        ),
     }
 }
 
@@ -107,136 +90,6 @@ fn deck_of(alloc: Global, number: u32) -> Result<(Vec<u8>, DeckNumbers), NoMemor
     Ok((deck, numbers))
 }
 
-// Runs a deck in memory, and prints its numbers and what was counted.
-#[inline(never)]
-fn run_made<S: Source, Y: Source, K: Sink, T: Sink, F: Area + Drop, I: Area, O: Area>(
-    alloc: Global,
-    number: u32,
-    deck: Vec<u8>,
-    numbers: DeckNumbers,
-    devices: Devices<S, Y, K, T, FileArea<F>, I, O>,
-) -> Done<S, Y, K, T, F, I, O>
-    requires deck { deck.items ≡ made_deck number }
-    requires short { length deck.items ≤ byte_limit }
-    requires jobs { numbers.jobs ≡ length (jobs (cards deck.items)) }
-    requires cards { numbers.cards ≡ length (cards deck.items) }
-    requires ready { MayBeGiven (kit S.Source Y.Source K.Sink T.Sink F.Area I.Area O.Area devices.deck
-        devices.keys devices.paper devices.console devices.files.area devices.input devices.output) }
-    requires sound { devices.files.sound ≡ true }
-    ensures ran { AsRun (MakesDeck number) made_used IsMakeCause
-        (kit S.Source Y.Source K.Sink T.Sink F.Area I.Area O.Area devices.deck devices.keys devices.paper
-        devices.console devices.files.area devices.input devices.output)
-        (kit_of S.Source Y.Source K.Sink T.Sink F.Area I.Area O.Area result.devices) result.cause }
-    ensures left { F.pages result.devices.files ≡ F.pages devices.files.area }
-{
-    let Devices {
-        deck: unread,
-        keys,
-        paper,
-        console,
-        files,
-        input,
-        output,
-    } = devices;
-    let ran = run_in_memory(alloc, number, deck, files, input, output);
-    let InMemory {
-        cause,
-        printed,
-        counts,
-        files,
-        input,
-        output,
-    } = ran;
-    let (cause, paper) = print_numbers(paper, cause, numbers, &printed, counts);
-    Done {
-        cause,
-        devices: Devices {
-            deck: unread,
-            keys,
-            paper,
-            console,
-            files,
-            input,
-            output,
-        },
-    }
-}
-
-/// How a run in memory ended: what it printed and counted, and the areas that it used.
-struct InMemory<F, I, O> {
-    cause: Option<Refusal>,
-    printed: SureSink,
-    counts: Counts,
-    files: F,
-    input: I,
-    output: O,
-}
-
-// Runs a deck to a paper in memory, under the schedule of this number.
-#[inline(never)]
-fn run_in_memory<F: Area + Drop, I: Area, O: Area>(
-    alloc: Global,
-    number: u32,
-    deck: Vec<u8>,
-    files: FileArea<F>,
-    input: I,
-    output: O,
-) -> InMemory<F, I, O>
-    requires files { files.sound ≡ true }
-    requires deck { length deck.items ≤ byte_limit }
-    requires input { (0 < I.size input) × (I.size input ≤ 256) }
-    requires output { (0 < O.size output) × (O.size output ≤ 256) }
-    ensures counted { (found : Loads) → AreFound (files_found (F.pages files.area)) found (cards deck.items) →
-        IsSome (I.pages input) → IsSome (O.pages output) → result.cause ≡ None →
-        AreItsCounts (the_law deck_jobs) (Rule.Numbered number)
-        (opened (spools_over (I.size input) (I.pages input) (O.size output) (O.pages output))
-        (Some (cards deck.items)) (Some []) (files_found (F.pages files.area))) result.counts }
-    ensures printed { (found : Loads) → AreFound (files_found (F.pages files.area)) found (cards deck.items) →
-        IsSome (I.pages input) → IsSome (O.pages output) → result.cause ≡ None →
-        ⟦<SureSink as Sink>⟧.given result.printed ≡ Some (text (one_thread_output found deck.items)) }
-    ensures lowest { LowestDecides Nothing result.cause }
-    ensures disk { result.cause ≡ Some (Refusal.Fault Cause.DiskFault) →
-        Rose (I.faults input) (I.faults result.input) ⊎ Rose (O.faults output) (O.faults result.output)
-        ⊎ Rose (F.faults files.area) (F.faults result.files) }
-    ensures left { F.pages result.files ≡ F.pages files.area }
-    ensures size { F.size result.files ≡ 4288 }
-    ensures undamaged { IsSome (I.pages input) → IsSome (O.pages output) → status_of result.cause ≢ 8 }
-    ensures known { IfSome result.cause (OfFault IsMakeCause) }
-    ensures sure { result.cause ≢ Some (Refusal.Fault Cause.PrintFault) }
-{
-    let deck = SureSource::new(deck, PIECE);
-    let paper = SureSink::new(alloc);
-    let units = Units {
-        deck: CardUnit::new(deck),
-        paper: PrinterUnit::new(paper),
-        files: DeckFiles { files },
-        input,
-        output,
-    };
-    let rule = Rule::Numbered { number };
-    let (ran, counts) = run_core::<DeckWork, SureSource, SureSink, DeckFiles<F>, I, O>(
-        alloc, units, rule,
-    );
-    let Done { cause, devices } = came_to(ran, (), ());
-    let Devices {
-        deck: _,
-        keys: _,
-        paper: printed,
-        console: _,
-        files,
-        input,
-        output,
-    } = devices;
-    InMemory {
-        cause,
-        printed,
-        counts,
-        files,
-        input,
-        output,
-    }
-}
-
 // Prints the numbers of a deck and of its run, unless the run met a fault.
 fn print_numbers<K: Sink>(
     paper: K,
@@ -245,12 +98,13 @@ fn print_numbers<K: Sink>(
     printed: &SureSink,
     counts: Counts,
 ) -> (Option<Refusal>, K)
-    ensures fault { IfSome cause (λ why. (result.0 ≡ Some why) × (result.1 ≡ paper)) }
+    ensures fault { IfSome cause (λ why. (result.0 ≡ Some why)
+        × (sink_told K.Sink result.1 ≡ sink_told K.Sink paper)) }
     ensures prints { cause ≡ None → (lines : List (List ℕ)) → AllByRecursion IsLine lines →
         ⟦<SureSink as Sink>⟧.given printed.now ≡ Some (text lines) →
         PrintsBytes (sink_told K.Sink paper) (sink_told K.Sink result.1)
         (text (five_lines numbers.jobs numbers.cards (length lines) (characters_of lines) counts)) result.0 }
-    ensures known { cause ≡ None → IfSome result.0 (OfFault IsPrintCause) }
+    ensures known { cause ≡ None → IfSome result.0 (EndsBy print_statuses) }
     ensures failed { cause ≡ None → result.0 ≡ Some (Refusal.Fault Cause.PrintFault) →
         Rose (K.faults paper) (K.faults result.1) }
 {

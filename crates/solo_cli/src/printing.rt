@@ -3,10 +3,9 @@ ghost use Rattle.std.specs.Prelude.{◌≡◌, ◌≤◌, Some, None, IsOk, IsEr
 ghost use Rattle.solo_base.specs.Text.{line_text, text};
 ghost use Rattle.solo_devices.specs.Count.{Rose};
 ghost use Rattle.solo_devices.specs.PrinterUnit.{Gains};
-ghost use Rattle.solo_cli.specs.Causes.{IsPrintCause};
-ghost use Rattle.solo_cli.specs.Devices.{sink_told};
+ghost use Rattle.run_report.specs.Told.{sink_told};
+ghost use Rattle.solo_cli.specs.Causes.{EndsBy, print_statuses};
 ghost use Rattle.solo_cli.specs.Printing.{PrintsBytes};
-ghost use Rattle.solo_cli.specs.Refusals.{OfFault};
 
 use crate::refusal::Refusal;
 use solo_base::{Cause, Line};
@@ -49,7 +48,7 @@ fn print_lines<K: Sink>(unit: &mut PrinterUnit<K>, lines: &[Line]) -> Result<(),
 // Why a line wasn't printed.
 fn refusal_of(printed: Result<(), PrintFault>) -> Option<Refusal>
     ensures done { result ≡ None → IsOk printed }
-    ensures known { IfSome result (OfFault IsPrintCause) }
+    ensures known { IfSome result (EndsBy print_statuses) }
     ensures failed { result ≡ Some (Refusal.Fault Cause.PrintFault) → IsErrOf printed PrintFault.Failed }
 {
     match printed {

@@ -1,6 +1,7 @@
 ghost use Rattle.std.specs.Prelude.{◌≡◌};
-ghost use Rattle.solo_cli.specs.Refusals.{as_refusal, refusal_of};
+ghost use Rattle.solo_cli.specs.Refusals.{as_refusal, mount_cause, refusal_of};
 
+use disk_files::FileFault;
 use disk_system::MigrateFault;
 use solo_base::Cause;
 
@@ -21,6 +22,17 @@ impl Refusal {
         match cause {
             None => None,
             Some(cause) => Some(Refusal::Fault(cause)),
+        }
+    }
+
+    /// A refused mount's fault as that of a command.
+    pub fn of_mount(fault: FileFault) -> Refusal
+        ensures { result ≡ Refusal.Fault (mount_cause fault) }
+    {
+        match fault {
+            FileFault::NotSolo { page } => Refusal::Fault(Cause::NotSolo { page }),
+            FileFault::NoMemory => Refusal::Fault(Cause::NoMemory),
+            _ => Refusal::Fault(Cause::DiskFault),
         }
     }
 

@@ -1,20 +1,17 @@
 //! The command that runs a session of Solo on threads.
-ghost use Rattle.std.specs.Prelude.{◌≡◌, length, true, Some};
-ghost use Rattle.solo_cli.specs.Causes.{IsSessionCause};
-ghost use Rattle.solo_cli.specs.Decides.{decides};
-ghost use Rattle.solo_cli.specs.Devices.{kit, kit_of};
+ghost use Rattle.std.specs.Prelude.{◌≡◌, length, Some};
+ghost use Rattle.run_report.specs.Decides.{decides};
+ghost use Rattle.solo_cli.specs.Devices.{finished_with, kit, kit_after};
+ghost use Rattle.solo_cli.specs.Does.{Finishes};
 ghost use Rattle.solo_cli.specs.Ready.{MayBeGiven};
-ghost use Rattle.solo_cli.specs.Reasons.{Answers, AsRun};
-ghost use Rattle.solo_cli.specs.Refusals.{MayBeRefused, as_refusal};
-ghost use Rattle.solo_cli.specs.Sessions.{MountsFirst, RunsSession};
-ghost use Rattle.solo_cli.specs.Uses.{session_used, uses};
+ghost use Rattle.solo_cli.specs.Refusals.{as_refusal};
+ghost use Rattle.solo_cli.specs.Status.{status_of};
 
-use crate::devices::{Devices, Done};
-use crate::ending::decides;
-use crate::mounting::mount;
+use crate::command::{Finished, finish};
 use crate::refusal::Refusal;
 use crate::words::Command;
 use disk_files::FileArea;
+use run_report::decides;
 use session_work::SessionCommands;
 use solo_base::{Cause, NoMemory};
 use solo_devices::{Area, CardUnit, PrinterUnit, Sink, Source, Typewriter};
@@ -25,36 +22,10 @@ use std::sync::Wait;
 use std::thread::Threads;
 
 /// Mounts the files, and then runs the commands that are typed at the keys on three threads, with the deck as
-/// cards: it displays their answers on the console, and prints and changes files as they say.
+/// cards: it displays their answers on the console, and prints and changes files as they say. The areas of
+/// the spools are given back as they came.
 #[inline(never)]
 pub fn session<
-    S: Source + Drop + Send,
-    Y: Source + Drop + Send,
-    K: Sink + Drop + Send,
-    T: Sink + Drop + Send,
-    F: Area + Drop + Send,
-    I: Area,
-    O: Area,
-    R: Threads + Wait + Sync,
->(rt: &R, alloc: Global, devices: Devices<S, Y, K, T, F, I, O>) -> Done<S, Y, K, T, F, I, O>
-    requires { MayBeGiven (kit_of S.Source Y.Source K.Sink T.Sink F.Area I.Area O.Area devices) }
-    ensures runs { RunsSession (kit_of S.Source Y.Source K.Sink T.Sink F.Area I.Area O.Area devices)
-        (kit_of S.Source Y.Source K.Sink T.Sink F.Area I.Area O.Area result.devices) result.cause }
-    ensures mounts { MountsFirst (kit_of S.Source Y.Source K.Sink T.Sink F.Area I.Area O.Area devices)
-        (kit_of S.Source Y.Source K.Sink T.Sink F.Area I.Area O.Area result.devices) result.cause }
-    ensures answers { Answers (uses (Some Command.Solo)) (MayBeRefused (Some Command.Solo))
-        (kit_of S.Source Y.Source K.Sink T.Sink F.Area I.Area O.Area devices)
-        (kit_of S.Source Y.Source K.Sink T.Sink F.Area I.Area O.Area result.devices) result.cause }
-{
-    match mount(alloc, devices) {
-        Ok(mounted) => run_mounted(rt, alloc, mounted),
-        Err(done) => done,
-    }
-}
-
-// Runs the session over its files.
-#[inline(never)]
-fn run_mounted<
     S: Source + Drop + Send,
     Y: Source + Drop + Send,
     K: Sink + Drop + Send,
@@ -66,34 +37,38 @@ fn run_mounted<
 >(
     rt: &R,
     alloc: Global,
-    devices: Devices<S, Y, K, T, FileArea<F>, I, O>,
-) -> Done<S, Y, K, T, F, I, O>
-    requires ready { MayBeGiven (kit S.Source Y.Source K.Sink T.Sink F.Area I.Area O.Area devices.deck
-        devices.keys devices.paper devices.console devices.files.area devices.input devices.output) }
-    requires sound { devices.files.sound ≡ true }
-    ensures ran { AsRun RunsSession session_used IsSessionCause
-        (kit S.Source Y.Source K.Sink T.Sink F.Area I.Area O.Area devices.deck devices.keys devices.paper
-        devices.console devices.files.area devices.input devices.output)
-        (kit_of S.Source Y.Source K.Sink T.Sink F.Area I.Area O.Area result.devices) result.cause }
+    deck: S,
+    keys: Y,
+    paper: K,
+    console: T,
+    files: F,
+    input: I,
+    output: O,
+) -> Finished<S, Y, K, T, F, I, O>
+    requires { MayBeGiven (kit S.Source Y.Source K.Sink T.Sink F.Area I.Area O.Area deck keys paper console
+        files input output) }
+    ensures status { result.status ≡ status_of result.cause }
+    ensures session { Finishes (Some Command.Solo)
+        (kit S.Source Y.Source K.Sink T.Sink F.Area I.Area O.Area deck keys paper console files input output)
+        (kit_after S.Source Y.Source K.Sink T.Sink F.Area I.Area O.Area result) result.cause }
 {
-    let Devices {
-        deck,
-        keys,
-        paper,
-        console,
-        files,
-        input,
-        output,
-    } = devices;
-    let units = SoloUnits {
-        cards: CardUnit::new(deck),
-        typewriter: Typewriter::new(keys, console),
-        paper: PrinterUnit::new(paper),
-        files,
-    };
-    match run_solo::<SessionCommands<F>, S, Y, K, T, R>(rt, alloc, units) {
-        Ok(ran) => came_to(ran, input, output),
-        Err((units, NoMemory)) => given_back(Some(Cause::NoMemory), units, input, output),
+    match FileArea::mount(alloc, files) {
+        Ok(files) => {
+            let units = SoloUnits {
+                cards: CardUnit::new(deck),
+                typewriter: Typewriter::new(keys, console),
+                paper: PrinterUnit::new(paper),
+                files,
+            };
+            match run_solo::<SessionCommands<F>, S, Y, K, T, R>(rt, alloc, units) {
+                Ok(ran) => came_to(ran, input, output),
+                Err((units, NoMemory)) => given_back(Some(Cause::NoMemory), units, input, output),
+            }
+        }
+        Err((files, fault)) => {
+            let cause = Some(Refusal::of_mount(fault));
+            finish(cause, deck, keys, paper, console, files, input, output)
+        }
     }
 }
 
@@ -103,18 +78,11 @@ fn came_to<S: Source, Y: Source, K: Sink, T: Sink, F: Area + Drop, I, O>(
     ran: SoloRan<S, Y, K, T, FileArea<F>>,
     input: I,
     output: O,
-) -> Done<S, Y, K, T, F, I, O>
-    ensures decided { result.cause ≡ as_refusal (decides ran.outcomes) }
+) -> Finished<S, Y, K, T, F, I, O>
+    ensures finishes { result ≡ finished_with (as_refusal (decides ran.outcomes)) ran.units.cards.source
+        ran.units.typewriter.keys.source ran.units.paper.sink ran.units.typewriter.console.sink
+        ran.units.files.area input output }
     ensures three { length ran.outcomes ≡ 3 }
-    ensures devices { result.devices ≡ record {
-      deck = ran.units.cards.source;
-      keys = ran.units.typewriter.keys.source;
-      paper = ran.units.paper.sink;
-      console = ran.units.typewriter.console.sink;
-      files = ran.units.files.area;
-      input = input;
-      output = output;
-    } }
     ensures size { F.size ran.units.files.area ≡ 4288 }
 {
     let SoloRan {
@@ -132,17 +100,10 @@ fn given_back<S: Source, Y: Source, K: Sink, T: Sink, F: Area + Drop, I, O>(
     units: SoloUnits<S, Y, K, T, FileArea<F>>,
     input: I,
     output: O,
-) -> Done<S, Y, K, T, F, I, O>
-    ensures cause { result.cause ≡ as_refusal cause }
-    ensures devices { result.devices ≡ record {
-      deck = units.cards.source;
-      keys = units.typewriter.keys.source;
-      paper = units.paper.sink;
-      console = units.typewriter.console.sink;
-      files = units.files.area;
-      input = input;
-      output = output;
-    } }
+) -> Finished<S, Y, K, T, F, I, O>
+    ensures finishes { result ≡ finished_with (as_refusal cause) units.cards.source
+        units.typewriter.keys.source units.paper.sink units.typewriter.console.sink units.files.area input
+        output }
     ensures size { F.size units.files.area ≡ 4288 }
 {
     let SoloUnits {
@@ -152,16 +113,15 @@ fn given_back<S: Source, Y: Source, K: Sink, T: Sink, F: Area + Drop, I, O>(
         files,
     } = units;
     let (keys, console) = typewriter.into_inner();
-    Done {
-        cause: Refusal::of_run(cause),
-        devices: Devices {
-            deck: cards.into_inner(),
-            keys,
-            paper: paper.into_inner(),
-            console,
-            files: files.into_inner(),
-            input,
-            output,
-        },
-    }
+    let cause = Refusal::of_run(cause);
+    finish(
+        cause,
+        cards.into_inner(),
+        keys,
+        paper.into_inner(),
+        console,
+        files.into_inner(),
+        input,
+        output,
+    )
 }

@@ -7,70 +7,28 @@ ghost use Rattle.solo_devices.specs.CardUnit.{IsAllTaken, byte_limit, bytes_tota
 ghost use Rattle.solo_devices.specs.PrinterUnit.{Gains};
 ghost use Rattle.time_net.specs.TimeStands.{IsTimesCause};
 ghost use Rattle.time_net.specs.TimesRuns.{fault_told};
-ghost use Rattle.solo_cli.specs.Reasons.{Answers};
-ghost use Rattle.solo_cli.specs.CountsLine.{counts_line};
-ghost use Rattle.solo_cli.specs.Devices.{kit_of};
-ghost use Rattle.solo_cli.specs.Does.{RunsTimes};
-ghost use Rattle.solo_cli.specs.Ready.{MayBeGiven};
-ghost use Rattle.solo_cli.specs.Refusals.{MayBeRefused, OfFault};
-ghost use Rattle.solo_cli.specs.TimesConsole.{GainsTimes};
-ghost use Rattle.solo_cli.specs.Uses.{uses};
+ghost use Rattle.run_report.specs.CountsLine.{counts_line};
+ghost use Rattle.run_report.specs.Told.{sink_told, source_told};
+ghost use Rattle.solo_cli.specs.Refusals.{OfFault};
+ghost use Rattle.solo_cli.specs.TimesConsole.{GainsTimes, TimesEnds};
 
-use crate::counts::counts_line;
-use crate::devices::{Devices, Done};
 use crate::refusal::Refusal;
-use crate::words::Command;
 use network_run::{Counts, Rule};
+use run_report::counts_line;
 use solo_base::{Cause, Outcome};
-use solo_devices::{Area, PrintFault, PrinterUnit, Sink, Source};
+use solo_devices::{PrintFault, PrinterUnit, Sink, Source};
 use time_net::{TimeRan, run_times};
 
 /// Runs what is typed at the keys, under the schedule of a number, and displays its lines on the console, and
 /// behind them what it counted.
 #[inline(never)]
-pub fn times<S: Source, Y: Source, K: Sink, T: Sink, F: Area, I: Area, O: Area>(
-    schedule: u32,
-    devices: Devices<S, Y, K, T, F, I, O>,
-) -> Done<S, Y, K, T, F, I, O>
-    requires { MayBeGiven (kit_of S.Source Y.Source K.Sink T.Sink F.Area I.Area O.Area devices) }
-    ensures times { RunsTimes schedule (kit_of S.Source Y.Source K.Sink T.Sink F.Area I.Area O.Area devices)
-        (kit_of S.Source Y.Source K.Sink T.Sink F.Area I.Area O.Area result.devices) result.cause }
-    ensures answers { Answers (uses (Some (Command.Times schedule)))
-        (MayBeRefused (Some (Command.Times schedule)))
-        (kit_of S.Source Y.Source K.Sink T.Sink F.Area I.Area O.Area devices)
-        (kit_of S.Source Y.Source K.Sink T.Sink F.Area I.Area O.Area result.devices) result.cause }
-{
-    let Devices {
-        deck,
-        keys,
-        paper,
-        console,
-        files,
-        input,
-        output,
-    } = devices;
-    let (cause, keys, console) = run_script(schedule, keys, console);
-    Done {
-        cause,
-        devices: Devices {
-            deck,
-            keys,
-            paper,
-            console,
-            files,
-            input,
-            output,
-        },
-    }
-}
-
-// Runs what is typed at the keys, and displays what it counted.
-#[inline(never)]
-fn run_script<Y: Source, T: Sink>(schedule: u32, keys: Y, console: T) -> (Option<Refusal>, Y, T)
+pub fn times<Y: Source, T: Sink>(schedule: u32, keys: Y, console: T) -> (Option<Refusal>, Y, T)
     requires { Y.taken keys ≡ 0 }
     ensures output { (bytes : List ℕ) → Y.left keys ≡ Some bytes →
         GainsTimes (Rule.Numbered schedule) (cards bytes) (T.given console) (T.given result.2)
         (result.0 ≡ None) }
+    ensures ends { TimesEnds (Rule.Numbered schedule) (source_told Y.Source keys)
+        (source_told Y.Source result.1) (sink_told T.Sink console) (sink_told T.Sink result.2) result.0 }
     ensures all_taken { result.0 ≡ None → IsAllTaken (Y.left result.1) }
     ensures read { result.0 ≡ Some (Refusal.Fault Cause.ReadFault) →
         Rose (Y.faults keys) (Y.faults result.1) }

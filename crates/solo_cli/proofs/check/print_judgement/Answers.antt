@@ -1,8 +1,8 @@
-use Rattle.std.proofs.Common.{sym, ◌∙◌, ap, subst}
+use Rattle.std.proofs.Common.{◌∙◌, ap, subst}
 use Rattle.solo_base.specs.Text.{line_text}
 use Rattle.access_check.specs.Judgement.{judge}
 use Rattle.solo_cli.specs.AccessLines.{judgement_line}
-use Rattle.solo_cli.specs.Devices.{sink_told}
+use Rattle.run_report.specs.Told.{sink_told}
 use Rattle.solo_cli.specs.Printing.{PrintsBytes}
 use Rattle.solo_cli.proofs.check.print_judgement.Goals as goal
 

@@ -1,6 +1,6 @@
 use Rattle.std.proofs.Common.{◌≡◌, None, Some, sym, ◌∙◌, subst}
 use Rattle.solo_base.specs.Text.{text}
-use Rattle.solo_cli.specs.Devices.{sink_told}
+use Rattle.run_report.specs.Told.{sink_told}
 use Rattle.solo_cli.specs.Printing.{PrintsBytes}
 use Rattle.solo_cli.proofs.make.print_numbers.Goals as goal
 

@@ -1,5 +1,4 @@
-use Rattle.std.proofs.Common.{refl, sym, ap}
-use Rattle.solo_cli.proofs.Adding.{gains-same}
+use Rattle.std.proofs.Common.{sym, ap}
 use Rattle.solo_cli.proofs.Printings.{prints-as}
 use Rattle.solo_cli.proofs.printing.print_line.Goals as goal
 

@@ -1,6 +1,6 @@
 use Rattle.std.proofs.Common.{sym, ap}
 use Rattle.solo_base.specs.Text.{line_text}
-use Rattle.solo_cli.proofs.Adding.{gains-same}
+use Rattle.run_report.proofs.Adding.{gains-same}
 use Rattle.solo_cli.proofs.times.show_counts.Goals as goal
 
 pub returns-clause-line : goal.returns-clause-line
