@@ -30,8 +30,8 @@ to_each_other = map item.Line
     ∷ codes "RIGHT Q B" ∷ codes "RIGHT A B" ∷ codes "RIGHT B A" ∷ codes "ORDER A B" ∷ [])
 
 -- two processes that go from one monitor to the other, which is later in the order
-abbrev pub in_order : List Item
-in_order = map item.Line
+abbrev pub along_the_order : List Item
+along_the_order = map item.Line
     (codes "MONITOR A" ∷ codes "MONITOR B" ∷ codes "PROCESS P" ∷ codes "PROCESS Q" ∷ codes "RIGHT P A"
     ∷ codes "RIGHT Q A" ∷ codes "RIGHT A B" ∷ codes "ORDER A B" ∷ [])
 

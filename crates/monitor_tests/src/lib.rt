@@ -21,3 +21,5 @@ mod running_spools;
 mod slots;
 #[cfg(test)]
 mod spools;
+#[cfg(test)]
+mod starts;
