@@ -12,7 +12,7 @@ from runtable import waits_for
 from wrong import WRONG, failing  # noqa: F401
 
 MOST_CARDS = 6
-NAMES = ("disk-first", "no-continue", "signal-and-leave", "no-stop", "two-disks", "early-last")
+NAMES = ("disk-first", "no-continue", "signal-and-continue", "no-stop", "two-disks", "early-last")
 
 
 def problem_of(whole, right):
@@ -41,7 +41,7 @@ def right_paper(five, room):
 
 
 def show(options, five, most):
-    if options.wrong == "signal-and-leave":
+    if options.wrong == "signal-and-continue":
         show_senders(options)
         return
     wrong = WRONG[options.wrong]
@@ -106,7 +106,7 @@ def show_senders(options):
     cards = [simulate.shown(card) for card in simulate.cards(Path(options.deck).read_bytes())][:MOST_CARDS]
     scene = senders.scene(cards, False)
     found, right = monitors.search(scene), monitors.search(senders.scene(cards, True))
-    print(f"{options.deck}, signal-and-leave: two senders put its cards in turn, and test by `if`; who continues goes on inside")
+    print(f"{options.deck}, signal-and-continue: two senders put its cards in turn, and test by `if`; who continues goes on inside")
     if len(cards) == MOST_CARDS:
         print(f"  (its first {MOST_CARDS} cards)")
     if right.problem:
@@ -119,4 +119,4 @@ def show_senders(options):
     print(f"with the turn handed over, nothing is lost in all {right.states} states")
     if options.picture:
         events = monitors.events(scene, found.way)
-        Picture(f"signal-and-leave: {found.problem.split(' was in')[0]} is lost", scene.names, events).write(options.picture)
+        Picture(f"signal-and-continue: {found.problem.split(':')[0]}", scene.names, events).write(options.picture)

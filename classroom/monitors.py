@@ -8,12 +8,27 @@ and a queue may hold many."""
 import inspect
 
 
+class Asked(tuple):
+    """What an entry asks for by `yield`: to be delayed in a queue, or to continue who waits there. `unused` has what was not yielded yet."""
+    unused = []
+
+    def __new__(cls, kind, queue):
+        made = super().__new__(cls, (kind, queue))
+        cls.unused.append(made)
+        return made
+
+    @classmethod
+    def forgotten(cls):
+        """What is wrong where something was asked for and not yielded."""
+        return "".join(f"{'delay' if kind == 'delay' else 'cont'}({queue!r}) without `yield` does nothing" for kind, queue in cls.unused[:1])
+
+
 def delay(queue):
-    return ("delay", queue)
+    return Asked("delay", queue)
 
 
 def cont(queue):
-    return ("continue", queue)
+    return Asked("continue", queue)
 
 
 class Wrong(Exception):
@@ -75,6 +90,8 @@ class Run:
 
     def __init__(self, scene):
         self.scene, self.monitor = scene, scene.make()
+        if not hasattr(self.monitor, "_queues"):
+            raise Wrong("write a class over Monitor, and set its variables in `start`, not in `__init__`")
         self.answers = {p: [] for p in scene.calls}
         self.inside, self.turn, self.history = {}, None, []
 
@@ -113,6 +130,7 @@ class Run:
         """One event: a call up to its delay or its end, or the rest of one that was delayed. It tells the event's words."""
         name, *words = self.call(p)
         said = " ".join([name, *map(str, words)])
+        Asked.unused.clear()
         if p in self.inside:
             entry, self.turn = self.inside.pop(p), None
             said = "goes on in " + said
@@ -129,13 +147,28 @@ class Run:
         return answer
         yield
 
+    def asked(self, given):
+        """What a `yield` asks for."""
+        if not isinstance(given, Asked):
+            raise Wrong(f"it yields {given!r}: delay(..) or cont(..) is what an entry yields")
+        if given in Asked.unused:
+            Asked.unused.remove(given)
+        self.all_yielded()
+        return given
+
+    @staticmethod
+    def all_yielded():
+        if Asked.unused:
+            raise Wrong(Asked.forgotten())
+
     def go_through(self, p, entry):
         continued = None
         while True:
             before = self.monitor.variables()
             try:
-                kind, queue = next(entry)
+                kind, queue = self.asked(next(entry))
             except StopIteration as ended:
+                self.all_yielded()
                 if continued is not None and self.scene.hand_over and self.monitor.variables() != before:
                     raise Wrong(f"the monitor is changed behind cont({continued!r}), which is the last thing that an entry does") from None
                 self.answers[p].append(ended.value)
@@ -181,7 +214,7 @@ def search(scene, most=60000):
             except Wrong as wrong:
                 problem = str(wrong)
             except Exception as failed:
-                problem = f"{type(failed).__name__}: {failed}"
+                problem = Asked.forgotten() or f"{type(failed).__name__}: {failed}"
             if problem:
                 return Found(len(ways), events, problem, (*way, p))
             key = after.key()

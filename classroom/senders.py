@@ -1,4 +1,4 @@
-"""Two senders at one line buffer, for `every --wrong signal-and-leave`: the cards of a deck are put by two processes in turn, and one takes
+"""Two senders at one line buffer, for `every --wrong signal-and-continue`: the cards of a deck are put by two processes in turn, and one takes
 them all. The buffer tests by `if`. Where a continue hands the turn over that is right; where who continues goes on inside, and who was
 delayed comes in like any other, a card is lost."""
 from monitors import Monitor, Scene, cont, delay

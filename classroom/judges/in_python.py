@@ -1,6 +1,7 @@
 """Pieces 8 to 11: monitors written in Python, in every order of some calls, the smallest first."""
 import importlib.machinery
 import importlib.util
+import traceback
 
 from monitors import Scene, Wrong, search, told
 
@@ -29,7 +30,10 @@ def tried(path, name, scenes):
     except SyntaxError as failed:
         return f"Python doesn't read it: {failed}"
     except Exception as failed:
-        return f"before any call, {type(failed).__name__}: {failed}"
+        lines = [at.lineno for at in traceback.extract_tb(failed.__traceback__) if at.filename == str(path)]
+        if not lines:
+            raise
+        return f"line {lines[-1]}: {type(failed).__name__}: {failed}"
     return None
 
 
@@ -56,9 +60,9 @@ def buffer_scene(make, places, items):
         if taken != items[:len(taken)]:
             return f"taken were {', '.join(map(str, taken))}"
         if not 0 <= put - len(taken) <= places:
-            return f"{put} were put and {len(taken)} taken, and there are {places} places"
+            return f"{put} were put and {len(taken)} taken, and there {'is' if places == 1 else 'are'} {some(places, 'place')}"
         if run.waits(1) and put - len(taken) < places:
-            return f"the sender waits, and of {places} places {put - len(taken)} are taken"
+            return f"the sender waits, and {put - len(taken)} of {some(places, 'place')} are taken"
         if run.waits(2) and put > len(taken):
             return f"the receiver waits, and {put - len(taken)} are inside"
         return None
@@ -163,9 +167,9 @@ def senders_scene(make, senders, receivers, count):
 
     def judge(run):
         found = taken(run)
-        twice = [item for item in found if item not in items or found.count(item) > 1]
-        if twice:
-            return f"{twice[0]} was taken, which is lost, twice taken or was never put"
+        for item in found:
+            if item not in items or found.count(item) > 1:
+                return f"{item} was taken twice" if item in items else f"{item} was taken, which nobody put"
         put = done(run, "put")
         return f"{put} were put and {len(found)} taken, and there is one place" if put > len(found) + 1 else None
 

@@ -9,7 +9,7 @@ DECK, MOST, LONGEST = "listing", 20, 57
 
 def walked(path, changed):
     """The core behind an order, how many events it took, and what is wrong with the order."""
-    words = re.sub(r"#.*", "", path.read_text(errors="replace")).split()
+    words = re.sub(r"#.*|,", " ", path.read_text(errors="replace")).split()
     oracle, make = tables.five((tables.ROOT / f"decks/{DECK}.deck").read_bytes(), None, (256, 256), None, changed)
     core = make()
     for at, word in enumerate(words, 1):
