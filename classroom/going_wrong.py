@@ -12,7 +12,7 @@ from runtable import waits_for
 from wrong import WRONG, failing  # noqa: F401
 
 MOST_CARDS = 6
-NAMES = ("disk-first", "no-continue", "signal-and-continue", "no-stop", "two-disks", "early-last")
+NAMES = ("disk-first", "no-continue", "signal-and-continue", "signal-and-leave", "no-stop", "two-disks", "early-last")
 
 
 def problem_of(whole, right):
@@ -41,7 +41,7 @@ def right_paper(five, room):
 
 
 def show(options, five, most):
-    if options.wrong == "signal-and-continue":
+    if options.wrong in ("signal-and-continue", "signal-and-leave"):
         show_senders(options)
         return
     wrong = WRONG[options.wrong]
