@@ -15,11 +15,12 @@ SIDES = {"put": "s", "putpage": "s", "take": "r", "takepage": "r"}
 
 
 class Made:
-    """A graph, and how it is drawn: `columns` are the names of processes and monitors from left to right, `foot` those below."""
+    """A graph, and how it is drawn: `columns` are the names of processes and monitors from left to right, `foot` those below. A process has on
+    the page the number that it has, less `below`: so task 1 is 1, and the operator 0."""
 
     def __init__(self, title, graph, names, columns, foot, teller):
         self.title, self.graph, self.names, self.columns, self.foot, self.teller = title, graph, names, columns, foot, teller
-        self.run, self.whole, self.right = [], True, None
+        self.run, self.whole, self.right, self.below = [], True, None, 0
         self.arrows = ["\u2192"] * (len(columns) - 1) if foot else ["\u2194"] * 2 + ["\u2194" if len(graph.monitors) > 1 else ""] * 2
 
 
@@ -55,7 +56,9 @@ def of_times(options, script):
     graph = Graph(timetable.Table(times, lines, options.tasks))
     tasks = [("p", p) for p in range(2, options.tasks + 2)]
     columns = [[("p", 1)], [("m", "table")], tasks[:4]] + ([tasks[4:]] if tasks[4:] else [])
-    return Made(f"The timetable over {Path(script).name}", graph, graph.table.names, columns, [], TimesTeller(graph))
+    made = Made(f"The timetable over {Path(script).name}", graph, graph.table.names, columns, [], TimesTeller(graph))
+    made.below = timetable.OPERATOR
+    return made
 
 
 def after_node(graph, p, node):
@@ -210,14 +213,18 @@ class TimesTeller:
                 "gone": sorted(values["gone"])}
 
     def sentence(self, p, action, node, before, after, waits, answer):
-        names = self.graph.table.names
-        start = f"The {names[p]}" if p == 1 else names[p].capitalize()
+        start = self.named(p)[0].upper() + self.named(p)[1:]
         if action[0] == "ended":
             return f"{start} has ended."
         if waits:
             return f"{start} {action[1]}: it is delayed in its queue."
-        said = f"{start} has the turn and goes on: it {action[1]}." if before and before["turn"] == p else f"{start} {action[1]}."
-        return said + (f" It continues {names[after['turn']]}, which has the turn now." if after and after["turn"] else "")
+        does = {"runs": "sees its start", "gone": "leaves the closed table"}[answer] if action[0] == "come" else action[1]
+        said = f"{start} has the turn and goes on: it {does}." if before and before["turn"] == p else f"{start} {does}."
+        return said + (f" It continues {self.named(after['turn'])}, which has the turn now." if after and after["turn"] else "")
+
+    def named(self, p):
+        name = self.graph.table.names[p]
+        return f"the {name}" if p == timetable.OPERATOR else name
 
     def typed(self, p, action, node):
         if action[0] == "free" and action[1].startswith("reads ") and action[1] != "reads the end":
@@ -282,7 +289,7 @@ def page(made, schedule):
         made.whole = False
     data = {
         "title": made.title, "whole": made.whole, "run": made.run, "start": list(graph.start),
-        "processes": [{"number": p, "name": made.names[p]} for p in graph.processes],
+        "below": made.below, "processes": [{"number": p, "name": made.names[p]} for p in graph.processes],
         "monitors": [{"name": str(name), "title": teller.titles[name]} for name in graph.monitors],
         "columns": [[[kind, str(name)] for kind, name in column] for column in made.columns],
         "foot": [[kind, str(name)] for kind, name in made.foot],
