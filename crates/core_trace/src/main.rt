@@ -24,7 +24,7 @@ use disk_system::format;
 use fault::Fault;
 use net_core::Net;
 use solo_devices::{Area, CardUnit, PrinterUnit, SureArea, SureSink};
-use solo_edge::ReaderSource;
+use solo_edge::{ReaderSource, Untold};
 use std::alloc::Global;
 use std::env;
 use std::process::ExitCode;
@@ -61,7 +61,7 @@ where
         return Err(Fault::NoMemory);
     };
     let units = Units {
-        deck: CardUnit::new(ReaderSource::new(rt.reader())),
+        deck: CardUnit::new(ReaderSource::<_, Untold>::new(rt.reader())),
         paper: PrinterUnit::new(SureSink::new(rt.alloc())),
         files: DeckFiles { files },
         input,

@@ -1,7 +1,8 @@
 use crate::asking::{Ask, ask_all};
 use solo_devices::{Area, Gave, Sink, Source, Took};
 use solo_edge::{
-    DriveArea, ReaderSource, WriterSink, deck_over, open_drive, paper_over, take_drive,
+    DriveArea, ReaderSource, Recorded, Unknown, Untold, WriterSink, deck_over, open_drive,
+    paper_over, take_drive,
 };
 use std::fs::{self, File, OpenOptions};
 use std::process::Abort;
@@ -21,20 +22,24 @@ fn drive(rt: &HostRuntime, path: &str, bytes: &[u8]) -> Result<File, Fail> {
 
 /// Asks all this of so many pages of a drive.
 fn ask_drive(rt: &impl Abort, drive: Option<File>, size: u16, asks: &[Ask]) {
-    let mut area = DriveArea::new(drive, 0, size);
+    let mut area = DriveArea::<_, Unknown>::over(drive, 0, size);
     ask_all(rt, &mut area, asks);
 }
 
 /// Asks all this of four pages of a drive, after which so many calls have failed.
 fn ask_counted(rt: &impl Abort, drive: File, asks: &[Ask], faults: u64) {
-    let mut area = DriveArea::new(Some(drive), 0, 4);
+    let mut area = DriveArea::<_, Unknown>::over(Some(drive), 0, 4);
     ask_all(rt, &mut area, asks);
     assert_eq!(rt; area.faults(), faults);
 }
 
 #[test]
 fn a_page_of_a_drive_is_read_as_it_was_written(rt: HostRuntime) -> Result<(), Fail> {
-    let mut area = DriveArea::new(Some(drive(&rt, "solo_edge_pages", &[9; 4 * 512])?), 1, 3);
+    let mut area = DriveArea::<_, Unknown>::over(
+        Some(drive(&rt, "solo_edge_pages", &[9; 4 * 512])?),
+        1,
+        3,
+    );
     assert_eq!(rt; area.size(), 3);
     ask_all(
         &rt,
@@ -47,8 +52,8 @@ fn a_page_of_a_drive_is_read_as_it_was_written(rt: HostRuntime) -> Result<(), Fa
 
 /// Writes to both areas of two pages of one drive, and reads from the second.
 fn ask_both(rt: &impl Abort, first: File, second: File) {
-    let mut first = DriveArea::new(Some(first), 0, 2);
-    let mut second = DriveArea::new(Some(second), 2, 2);
+    let mut first = DriveArea::<_, Unknown>::over(Some(first), 0, 2);
+    let mut second = DriveArea::<_, Unknown>::over(Some(second), 2, 2);
     ask_all(rt, &mut second, &[Ask::Writes(0, 5)]);
     ask_all(rt, &mut first, &[Ask::Writes(1, 4)]);
     ask_all(rt, &mut second, &[Ask::Reads(0, 5)]);
@@ -98,7 +103,7 @@ fn ask_resized(
     length: u64,
     asks: &[Ask],
 ) -> Result<(), Fail> {
-    let mut area = DriveArea::new(Some(drive), 0, 4);
+    let mut area = DriveArea::<_, Unknown>::over(Some(drive), 0, 4);
     other.set_len(length)?;
     ask_all(rt, &mut area, asks);
     Ok(())
@@ -142,7 +147,7 @@ fn a_page_that_a_drive_lost_is_not_read_and_the_drive_gets_no_longer_than_it_was
 
 /// The bytes of a long deck come in their order to their end, whatever is read ahead of them.
 fn take_to_end(rt: &HostRuntime, deck: File, bytes: &[u8]) -> Result<(), Fail> {
-    let mut source = ReaderSource::new(deck_over(rt.alloc(), deck)?);
+    let mut source = ReaderSource::<_, Untold>::new(deck_over(rt.alloc(), deck)?);
     let mut piece = [0; 512];
     let mut taken = Vec::new(rt.alloc());
     for _ in 0..bytes.len() {
@@ -237,7 +242,7 @@ fn a_directory_and_a_path_through_a_file_are_no_drive(rt: HostRuntime) -> Result
 
 #[test]
 fn each_call_on_no_drive_fails_and_is_counted(rt: HostRuntime) {
-    let mut area: DriveArea<File> = DriveArea::new(None, 0, 1);
+    let mut area = DriveArea::<Recorded<File>, Unknown>::over(None, 0, 1);
     assert_eq!(rt; area.size(), 1);
     ask_all(&rt, &mut area, &[Ask::ReadFails(0), Ask::WriteFails(0)]);
     assert_eq!(rt; area.faults(), 2);
@@ -245,10 +250,10 @@ fn each_call_on_no_drive_fails_and_is_counted(rt: HostRuntime) {
 
 #[test]
 fn a_full_device_takes_no_page_and_no_line(rt: HostRuntime) -> Result<(), Fail> {
-    let mut area = DriveArea::new(Some(opened(&rt, "/dev/full")?), 0, 1);
+    let mut area = DriveArea::<_, Unknown>::over(Some(opened(&rt, "/dev/full")?), 0, 1);
     ask_all(&rt, &mut area, &[Ask::WriteFails(0)]);
     assert_eq!(rt; area.faults(), 1);
-    let mut sink = WriterSink::new(opened(&rt, "/dev/full")?);
+    let mut sink = WriterSink::<_, Untold>::new(opened(&rt, "/dev/full")?);
     assert!(rt; matches!(sink.give(b"JOB A\n"), Gave::Failed));
     assert_eq!(rt; sink.faults(), 1);
     Ok(())
@@ -256,11 +261,11 @@ fn a_full_device_takes_no_page_and_no_line(rt: HostRuntime) -> Result<(), Fail> 
 
 #[test]
 fn a_directory_is_no_deck_and_no_drive(rt: HostRuntime) -> Result<(), Fail> {
-    let mut source = ReaderSource::new(File::open(&rt, ".")?);
+    let mut source = ReaderSource::<_, Untold>::new(File::open(&rt, ".")?);
     let mut piece = [0; 16];
     assert!(rt; matches!(source.take(&mut piece), Took::Failed));
     assert_eq!(rt; source.faults(), 1);
-    let mut area = DriveArea::new(Some(File::open(&rt, ".")?), 0, 1);
+    let mut area = DriveArea::<_, Unknown>::over(Some(File::open(&rt, ".")?), 0, 1);
     ask_all(&rt, &mut area, &[Ask::ReadFails(0)]);
     assert_eq!(rt; area.faults(), 1);
     Ok(())
@@ -268,7 +273,7 @@ fn a_directory_is_no_deck_and_no_drive(rt: HostRuntime) -> Result<(), Fail> {
 
 /// The bytes of a deck of eight come in pieces of five, to their end.
 fn take_all(rt: &impl Abort, deck: File) {
-    let mut source = ReaderSource::new(deck);
+    let mut source = ReaderSource::<_, Untold>::new(deck);
     let mut piece = [0; 5];
     assert!(rt; matches!(source.take(&mut piece), Took::Bytes(5)));
     assert_eq!(rt; piece.as_slice(), b"#LIST".as_slice());
@@ -279,7 +284,7 @@ fn take_all(rt: &impl Abort, deck: File) {
 
 /// A line is given whole, and goes out.
 fn give_line(rt: &impl Abort, paper: File) -> Result<(), Fail> {
-    let mut sink = WriterSink::new(paper);
+    let mut sink = WriterSink::<_, Untold>::new(paper);
     assert!(rt; matches!(sink.give(b"JOB A\n"), Gave::Bytes(6)));
     sink.flush()?;
     Ok(())
@@ -298,7 +303,7 @@ fn a_file_is_a_source_to_its_end_and_a_sink(rt: HostRuntime) -> Result<(), Fail>
 /// Gives a line to a paper, and tells what is in its file before the rest goes out; then the line is there.
 fn give_paper(rt: &HostRuntime, path: &str, by_line: bool) -> Result<usize, Fail> {
     let file = File::create(rt, path)?;
-    let mut sink = WriterSink::new(paper_over(rt.alloc(), file, by_line)?);
+    let mut sink = WriterSink::<_, Untold>::new(paper_over(rt.alloc(), file, by_line)?);
     let gave = sink.give(b"JOB A\n");
     let early = fs::read(rt, path)?.len();
     sink.flush()?;

@@ -8,4 +8,6 @@ mod areas;
 #[cfg(test)]
 mod asking;
 #[cfg(test)]
+mod parts;
+#[cfg(test)]
 mod units;

@@ -163,7 +163,7 @@ fn a_failing_take_is_told_and_counted(rt: HostRuntime) {
 }
 
 /// Prints two lines, and tells whether the second one was printed.
-fn print_two<K: Sink + Drop>(sink: K) -> (K, Option<PrintFault>) {
+pub fn print_two<K: Sink + Drop>(sink: K) -> (K, Option<PrintFault>) {
     let mut unit = PrinterUnit::new(sink);
     let fault = match unit.print(&starting(b"JOB A")) {
         Ok(()) => unit.print(&starting(b"HELLO")).err(),

@@ -11,8 +11,8 @@ use solo_base::NoMemory;
 use solo_cli::{Command, Finished, command_of, top};
 use solo_devices::{Area, Sink, Source, SureSink, SureSource};
 use solo_edge::{
-    DriveArea, OwnDrive, ReaderSource, WriterSink, deck_over, hold_streams, open_drive, paper_over,
-    reads_file, take_drive,
+    DriveArea, OwnDrive, ReaderSource, Recorded, Unknown, Untold, WriterSink, deck_over,
+    hold_streams, open_drive, paper_over, reads_file, take_drive,
 };
 use std::env;
 use std::fs::{self, File, Files};
@@ -137,18 +137,18 @@ where
     if command_of(words) == Some(Command::Solo) {
         return run_session(rt, path, words, by_line);
     }
-    let output = WriterSink::new(paper_over(rt.alloc(), io::writer(rt), by_line)?);
+    let output = WriterSink::<_, Untold>::new(paper_over(rt.alloc(), io::writer(rt), by_line)?);
     let memory = SureSink::new(rt.alloc());
     // What was printed so far goes out whatever the status, and the lowest status decides.
     if words.iter().any(|word| word.as_str() == "times") {
-        let (deck, keys) = (no_bytes(rt), ReaderSource::new(rt.reader()));
+        let (deck, keys) = (no_bytes(rt), ReaderSource::<_, Untold>::new(rt.reader()));
         let (_, mut console, ended) = over_drive(rt, path, words, deck, keys, memory, output);
         if console.flush().is_err() && (ended.status == 0 || ended.status > 5) {
             return Ok(Ended::with(5, Fault::Console));
         }
         return Ok(ended);
     }
-    let deck = ReaderSource::new(deck_over(rt.alloc(), rt.reader())?);
+    let deck = ReaderSource::<_, Untold>::new(deck_over(rt.alloc(), rt.reader())?);
     let (mut paper, _, ended) = over_drive(rt, path, words, deck, no_bytes(rt), output, memory);
     if paper.flush().is_err() && (ended.status == 0 || ended.status > 4) {
         return Ok(Ended::with(4, Fault::Print));
@@ -178,10 +178,10 @@ where
     let Ok(printer) = make_printer(rt) else {
         return Ok(Ended::with(4, Fault::Print));
     };
-    let deck = ReaderSource::new(deck_over(rt.alloc(), cards)?);
-    let keys = ReaderSource::new(rt.reader());
-    let paper = WriterSink::new(paper_over(rt.alloc(), printer, by_line)?);
-    let console = WriterSink::new(paper_over(rt.alloc(), io::writer(rt), true)?);
+    let deck = ReaderSource::<_, Untold>::new(deck_over(rt.alloc(), cards)?);
+    let keys = ReaderSource::<_, Untold>::new(rt.reader());
+    let paper = WriterSink::<_, Untold>::new(paper_over(rt.alloc(), printer, by_line)?);
+    let console = WriterSink::<_, Untold>::new(paper_over(rt.alloc(), io::writer(rt), true)?);
     let (mut paper, mut console, ended) = over_drive(rt, path, words, deck, keys, paper, console);
     if paper.flush().is_err() && (ended.status == 0 || ended.status > 4) {
         return Ok(Ended::with(4, Fault::Print));
@@ -283,14 +283,14 @@ fn area<R: Files<File = File>>(
     path: Option<&str>,
     first: u16,
     pages: u16,
-) -> DriveArea<File>
-    ensures { ⟦<DriveArea<File> as Area>⟧.size result ≡ pages }
+) -> DriveArea<Recorded<File>, Unknown>
+    ensures { ⟦<DriveArea<Recorded<File>, Unknown> as Area>⟧.size result ≡ pages }
 {
     let drive = match path {
         Some(path) => open_drive(rt, path),
         None => None,
     };
-    DriveArea::new(drive, first, pages)
+    DriveArea::<_, Unknown>::over(drive, first, pages)
 }
 
 /// The words of the command line behind the program's name, or `None` where they can't be read.

@@ -10,7 +10,7 @@ use network_run::{Network, Rule, next_by};
 use session_work::SessionCommands;
 use solo_base::{Outcome, ProcNo};
 use solo_devices::{CardUnit, PrinterUnit, Sink, Source, Typewriter};
-use solo_edge::{DriveArea, ReaderSource, WriterSink, open_drive};
+use solo_edge::{DriveArea, ReaderSource, Recorded, Unknown, Untold, WriterSink, open_drive};
 use solo_ends::{SoloRan, SoloUnits};
 use solo_net::SoloNet;
 use solo_procs::Commands;
@@ -36,22 +36,24 @@ where
     let paper = File::create(rt, PAPER)?;
     let files = files(rt)?;
     let units = SoloUnits {
-        cards: CardUnit::new(ReaderSource::new(cards)),
+        cards: CardUnit::new(ReaderSource::<_, Untold>::new(cards)),
         typewriter: Typewriter::new(
-            ReaderSource::new(rt.reader()),
-            WriterSink::new(io::writer(rt)),
+            ReaderSource::<_, Untold>::new(rt.reader()),
+            WriterSink::<_, Untold>::new(io::writer(rt)),
         ),
-        paper: PrinterUnit::new(WriterSink::new(paper)),
+        paper: PrinterUnit::new(WriterSink::<_, Untold>::new(paper)),
         files,
     };
-    run_over::<SessionCommands<DriveArea<File>>, _, _, _, _>(rt, units, number)
+    run_over::<SessionCommands<DriveArea<Recorded<File>, Unknown>>, _, _, _, _>(rt, units, number)
 }
 
 /// The files of the drive.
-fn files<R: AllocGlobal + Files<File = File>>(rt: &R) -> Result<FileArea<DriveArea<File>>, Fault>
+fn files<R: AllocGlobal + Files<File = File>>(
+    rt: &R,
+) -> Result<FileArea<DriveArea<Recorded<File>, Unknown>>, Fault>
     ensures { IfOk result (λ files. files.sound ≡ true) }
 {
-    let area = DriveArea::new(open_drive(rt, DRIVE), 0, AREA_PAGES);
+    let area = DriveArea::<_, Unknown>::over(open_drive(rt, DRIVE), 0, AREA_PAGES);
     match FileArea::mount(rt.alloc(), area) {
         Ok(files) => Ok(files),
         Err(_) => Err(Fault::Unexpected("no Solo disk")),

@@ -1,57 +1,86 @@
-ghost use Rattle.std.specs.Prelude.{◌≡◌, ◌<◌, ◌≤◌, ◌^◌, ◌*◌, ◌+◌, ◌↔◌, ℕ, None};
+ghost use Rattle.std.specs.Prelude.{◌≡◌, ◌<◌, ◌≤◌, ◌*◌, ◌+◌, ◌↔◌, ℕ, [], None, Some};
 ghost use Rattle.solo_devices.specs.Area.{ReadsFrom, Writes, CountsFaults, HasWholePages};
+ghost use Rattle.solo_edge.specs.Events.{InRange, range_of};
+ghost use Rattle.solo_edge.specs.Honest.{ReadsIfHonest, WritesIfHonest};
 
+use crate::{Calls, Recorded, Start};
 use solo_base::{PAGE_LENGTH, Page};
 use solo_devices::{Area, Moved};
-use std::io::{self, Seek, SeekFrom};
+use std::io::{Seek, SeekFrom};
+use std::marker::PhantomData;
 use std::os::unix::fs::FileExt;
 
-/// A range of pages of a drive, which is a file or anything else that is read and written at positions.
-/// A drive that couldn't be opened is none: each call fails then. So does a read of a page that the drive
-/// doesn't have whole, and a write of one that it didn't have whole when the area was made: nothing is
+/// A range of pages of a drive: each of its calls lies in it. A read of a page that the drive doesn't have
+/// whole fails, and a write of one that it didn't have whole when the area was made isn't made: nothing is
 /// written behind the end that it had then. What failed is counted.
 #[derive(Drop)]
-pub struct DriveArea<D> {
-    drive: Option<D>,
+pub struct DriveArea<C: Calls, S: Start> {
+    drive: C,
     first: u16,
     pages: u16,
     /// How many pages the drive had whole when the area was made.
     whole: u64,
     faults: u64,
+    start: PhantomData<S>,
+    ghost within: { InRange first pages (C.Calls.history drive) },
 }
 
-impl<D: FileExt> DriveArea<D> {
-    /// The area of so many pages of the drive, from page `first` on. A drive whose length can't be told has
-    /// no page to be written.
-    pub fn new(mut drive: Option<D>, first: u16, pages: u16) -> DriveArea<D>
-    where
-        D: Seek,
-        ensures untold { ⟦<DriveArea<D> as Area>⟧.pages result ≡ None }
-        ensures size { ⟦<DriveArea<D> as Area>⟧.size result ≡ pages }
-        ensures faults { ⟦<DriveArea<D> as Area>⟧.faults result ≡ 0 }
+impl<C: Calls, S: Start> DriveArea<C, S> {
+    ghost use Rattle.solo_edge.specs.DriveArea.{told_pages, calls_of, range_of_area};
+
+    /// The area of so many pages of the drive, from page `first` on. The drive has a length of so many bytes.
+    pub fn new(drive: C, length: u64, first: u16, pages: u16) -> DriveArea<C, S>
+        requires { C.Calls.history drive ≡ [] }
+        ensures untold { ⟦<DriveArea<C, S> as Area>⟧.pages result ≡ None }
+        ensures size { ⟦<DriveArea<C, S> as Area>⟧.size result ≡ pages }
+        ensures faults { ⟦<DriveArea<C, S> as Area>⟧.faults result ≡ 0 }
+        ensures drive { calls_of result ≡ drive }
+        ensures range { range_of_area result ≡ (first, pages) }
+        ensures told { told_pages S.Start.pages S.Start.torn result
+            ≡ Some (range_of first pages S.Start.pages) }
     {
-        let whole = match &mut drive {
-            Some(drive) => whole_pages(drive.seek(SeekFrom::End(0)).unwrap_or(0)),
-            None => 0,
-        };
         DriveArea {
             drive,
             first,
             pages,
-            whole,
+            whole: whole_pages(length),
             faults: 0,
+            start: PhantomData,
         }
     }
 
     /// How often a call failed so far.
     pub fn faults(&self) -> u64
-        ensures { result ≡ ⟦<DriveArea<D> as Area>⟧.faults self.now }
+        ensures { result ≡ ⟦<DriveArea<C, S> as Area>⟧.faults self.now }
     {
         self.faults
     }
 }
 
-impl<D: FileExt> Area for DriveArea<D> {
+impl<D: FileExt + Seek, S: Start> DriveArea<Recorded<D>, S> {
+    ghost use Rattle.solo_edge.specs.DriveArea.{told_pages, range_of_area};
+
+    /// The area of so many pages of this drive, from page `first` on, with a record of its calls. A drive
+    /// that couldn't be opened is none, and one whose length can't be told has no page to be written.
+    pub fn over(mut drive: Option<D>, first: u16, pages: u16) -> DriveArea<Recorded<D>, S>
+        ensures untold { ⟦<DriveArea<Recorded<D>, S> as Area>⟧.pages result ≡ None }
+        ensures size { ⟦<DriveArea<Recorded<D>, S> as Area>⟧.size result ≡ pages }
+        ensures faults { ⟦<DriveArea<Recorded<D>, S> as Area>⟧.faults result ≡ 0 }
+        ensures range { range_of_area result ≡ (first, pages) }
+        ensures told { told_pages S.Start.pages S.Start.torn result
+            ≡ Some (range_of first pages S.Start.pages) }
+    {
+        let length = match &mut drive {
+            Some(drive) => drive.seek(SeekFrom::End(0)).unwrap_or(0),
+            None => 0,
+        };
+        DriveArea::new(Recorded::new(drive), length, first, pages)
+    }
+}
+
+impl<C: Calls, S: Start> Area for DriveArea<C, S> {
+    ghost use Rattle.solo_edge.specs.DriveArea.{told_pages, calls_of, range_of_area};
+
     ghost pages = { λ _. None };
 
     ghost size = { λ area. area.pages };
@@ -63,73 +92,70 @@ impl<D: FileExt> Area for DriveArea<D> {
     }
 
     fn read(&mut self, n: u16, page: &mut Page) -> Moved
-        requires { n < ⟦<DriveArea<D> as Area>⟧.size self.old }
+        requires { n < ⟦<DriveArea<C, S> as Area>⟧.size self.old }
         // A read that is done counts no fault.
         ensures done { result ≡ Moved.Done
-            → ⟦<DriveArea<D> as Area>⟧.faults self.new ≡ ⟦<DriveArea<D> as Area>⟧.faults self.old }
+            → ⟦<DriveArea<C, S> as Area>⟧.faults self.new ≡ ⟦<DriveArea<C, S> as Area>⟧.faults self.old }
+        // Each call lies in the range, which stays.
+        ensures within { InRange (range_of_area self.new).0 (range_of_area self.new).1
+            (C.Calls.history (calls_of self.new)) }
+        ensures range { range_of_area self.new ≡ range_of_area self.old }
+        // Where the answers agree with the start of the drive, the page is the one that is told.
+        ensures honest { ReadsIfHonest (told_pages S.Start.pages S.Start.torn self.old)
+            (told_pages S.Start.pages S.Start.torn self.new) n result page.new.0 }
         // As the trait says.
-        ensures page { ReadsFrom (⟦<DriveArea<D> as Area>⟧.pages self.old)
-            (⟦<DriveArea<D> as Area>⟧.pages self.new) n result page.new.0 }
-        ensures size { ⟦<DriveArea<D> as Area>⟧.size self.new ≡ ⟦<DriveArea<D> as Area>⟧.size self.old }
-        ensures whole { HasWholePages (⟦<DriveArea<D> as Area>⟧.pages self.new) }
-        ensures cause { CountsFaults (⟦<DriveArea<D> as Area>⟧.faults self.old)
-            (⟦<DriveArea<D> as Area>⟧.faults self.new) result }
+        ensures page { ReadsFrom (⟦<DriveArea<C, S> as Area>⟧.pages self.old)
+            (⟦<DriveArea<C, S> as Area>⟧.pages self.new) n result page.new.0 }
+        ensures size { ⟦<DriveArea<C, S> as Area>⟧.size self.new ≡ ⟦<DriveArea<C, S> as Area>⟧.size self.old }
+        ensures whole { HasWholePages (⟦<DriveArea<C, S> as Area>⟧.pages self.new) }
+        ensures cause { CountsFaults (⟦<DriveArea<C, S> as Area>⟧.faults self.old)
+            (⟦<DriveArea<C, S> as Area>⟧.faults self.new) result }
     {
         let address = u64::from(self.first) + u64::from(n);
-        let is_done = match &self.drive {
-            Some(drive) => read_page(drive, address, page).is_ok(),
-            None => false,
-        };
-        counted(&mut self.faults, is_done)
+        let moved = self.drive.read_page(address, page);
+        counted(&mut self.faults, moved);
+        moved
     }
 
     fn write(&mut self, n: u16, page: &Page) -> Moved
-        requires { n < ⟦<DriveArea<D> as Area>⟧.size self.old }
+        requires { n < ⟦<DriveArea<C, S> as Area>⟧.size self.old }
         // A write that is done counts no fault.
         ensures done { result ≡ Moved.Done
-            → ⟦<DriveArea<D> as Area>⟧.faults self.new ≡ ⟦<DriveArea<D> as Area>⟧.faults self.old }
+            → ⟦<DriveArea<C, S> as Area>⟧.faults self.new ≡ ⟦<DriveArea<C, S> as Area>⟧.faults self.old }
+        // Each call lies in the range, which stays.
+        ensures within { InRange (range_of_area self.new).0 (range_of_area self.new).1
+            (C.Calls.history (calls_of self.new)) }
+        ensures range { range_of_area self.new ≡ range_of_area self.old }
+        // Where the answers agree with the start of the drive, the page is told as it was written.
+        ensures honest { WritesIfHonest (told_pages S.Start.pages S.Start.torn self.old)
+            (told_pages S.Start.pages S.Start.torn self.new) n result page.now.0 }
         // As the trait says.
-        ensures page { Writes (⟦<DriveArea<D> as Area>⟧.pages self.old)
-            (⟦<DriveArea<D> as Area>⟧.pages self.new) n result page.now.0 }
-        ensures size { ⟦<DriveArea<D> as Area>⟧.size self.new ≡ ⟦<DriveArea<D> as Area>⟧.size self.old }
-        ensures whole { HasWholePages (⟦<DriveArea<D> as Area>⟧.pages self.new) }
-        ensures cause { CountsFaults (⟦<DriveArea<D> as Area>⟧.faults self.old)
-            (⟦<DriveArea<D> as Area>⟧.faults self.new) result }
+        ensures page { Writes (⟦<DriveArea<C, S> as Area>⟧.pages self.old)
+            (⟦<DriveArea<C, S> as Area>⟧.pages self.new) n result page.now.0 }
+        ensures size { ⟦<DriveArea<C, S> as Area>⟧.size self.new ≡ ⟦<DriveArea<C, S> as Area>⟧.size self.old }
+        ensures whole { HasWholePages (⟦<DriveArea<C, S> as Area>⟧.pages self.new) }
+        ensures cause { CountsFaults (⟦<DriveArea<C, S> as Area>⟧.faults self.old)
+            (⟦<DriveArea<C, S> as Area>⟧.faults self.new) result }
     {
         let address = u64::from(self.first) + u64::from(n);
-        let is_done = match &self.drive {
-            Some(drive) if address < self.whole => write_page(drive, address, page).is_ok(),
-            _ => false,
+        let moved = if address < self.whole {
+            self.drive.write_page(address, page)
+        } else {
+            Moved::Failed
         };
-        counted(&mut self.faults, is_done)
+        counted(&mut self.faults, moved);
+        moved
     }
 }
 
-/// Whether the call was done; one that failed is counted.
-fn counted(faults: &mut u64, is_done: bool) -> Moved
-    ensures cause { CountsFaults faults.old faults.new result }
-    ensures done { result ≡ Moved.Done → faults.new ≡ faults.old }
+/// Counts a call that failed.
+fn counted(faults: &mut u64, moved: Moved)
+    ensures cause { CountsFaults faults.old faults.new moved }
+    ensures done { moved ≡ Moved.Done → faults.new ≡ faults.old }
 {
-    if is_done {
-        Moved::Done
-    } else {
+    if matches!(moved, Moved::Failed) {
         *faults = faults.saturating_add(1);
-        Moved::Failed
     }
-}
-
-/// Reads the page at this address of the drive.
-fn read_page<D: FileExt>(drive: &D, address: u64, page: &mut Page) -> io::Result<()>
-    requires { address < 2 ^ 17 }
-{
-    drive.read_exact_at(&mut page.0, address * PAGE_LENGTH as u64)
-}
-
-/// Writes the page at this address of the drive.
-fn write_page<D: FileExt>(drive: &D, address: u64, page: &Page) -> io::Result<()>
-    requires { address < 2 ^ 17 }
-{
-    drive.write_all_at(&page.0, address * PAGE_LENGTH as u64)
 }
 
 /// How many whole pages a drive of so many bytes has: each page that ends within them.

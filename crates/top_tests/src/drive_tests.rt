@@ -4,7 +4,7 @@ ghost use Rattle.std.specs.Prelude.{◌≡◌, IfOk};
 use crate::made_area::{formatted, page_of, readable};
 use crate::running::{run_over, run_over_files, sink, source, spool, undisturbed};
 use solo_devices::Area;
-use solo_edge::DriveArea;
+use solo_edge::{DriveArea, Recorded, Unknown};
 use std::alloc::Global;
 use std::fs::{self, File, OpenOptions};
 use std::test::Fail;
@@ -14,13 +14,18 @@ const LISTING: &[u8] = b"#LIST A\nHELLO\n#END\n";
 const PAPER: &[u8] = b"JOB A\nHELLO\nA: LISTED 1 CARDS\n";
 
 /// The area of so many pages of a drive whose file has these bytes.
-fn drive(rt: &HostRuntime, path: &str, bytes: &[u8], pages: u16) -> Result<DriveArea<File>, Fail>
-    ensures { IfOk result (λ area. ⟦<DriveArea<File> as Area>⟧.size area ≡ pages) }
+fn drive(
+    rt: &HostRuntime,
+    path: &str,
+    bytes: &[u8],
+    pages: u16,
+) -> Result<DriveArea<Recorded<File>, Unknown>, Fail>
+    ensures { IfOk result (λ area. ⟦<DriveArea<Recorded<File>, Unknown> as Area>⟧.size area ≡ pages) }
 {
     fs::write(rt, path, bytes)?;
     let file = OpenOptions::new().read(true).write(true).open(rt, path)?;
     fs::remove_file(rt, path)?;
-    Ok(DriveArea::new(Some(file), 0, pages))
+    Ok(DriveArea::<_, Unknown>::over(Some(file), 0, pages))
 }
 
 /// The bytes of the pages that a mount of no files reads.

@@ -8,7 +8,7 @@ use solo_cli::{Finished, Refusal, top};
 use solo_devices::{
     Area, BlankArea, HurtArea, MemArea, MemSink, MemSource, Sink, Source, SureSource, Took,
 };
-use solo_edge::DriveArea;
+use solo_edge::{DriveArea, Recorded, Unknown};
 use std::alloc::Global;
 use std::fs::File;
 use std::process::Abort;
@@ -146,7 +146,7 @@ impl Counted for MemArea {
     }
 }
 
-impl Counted for DriveArea<File> {
+impl Counted for DriveArea<Recorded<File>, Unknown> {
     fn failures(&self) -> u64 {
         self.faults()
     }

@@ -10,8 +10,8 @@ use fault::Fault;
 use solo_base::NoMemory;
 use solo_devices::Area;
 use solo_edge::{
-    DriveArea, ReaderSource, WriterSink, deck_over, hold_streams, open_drive, paper_over,
-    reads_file,
+    DriveArea, ReaderSource, Recorded, Unknown, Untold, WriterSink, deck_over, hold_streams,
+    open_drive, paper_over, reads_file,
 };
 use std::env;
 use std::fs::{File, Files, OpenOptions};
@@ -137,8 +137,8 @@ where
     } = twin_top(
         rt.alloc(),
         words,
-        ReaderSource::new(deck_over(rt.alloc(), rt.reader())?),
-        WriterSink::new(paper_over(rt.alloc(), io::writer(rt), by_line)?),
+        ReaderSource::<_, Untold>::new(deck_over(rt.alloc(), rt.reader())?),
+        WriterSink::<_, Untold>::new(paper_over(rt.alloc(), io::writer(rt), by_line)?),
         area(rt, path, 0, FILE_PAGES),
         area(rt, path, FILE_PAGES, HALF_PAGES),
         area(rt, path, FILE_PAGES + HALF_PAGES, HALF_PAGES),
@@ -160,14 +160,14 @@ fn area<R: Files<File = File>>(
     path: Option<&str>,
     first: u16,
     pages: u16,
-) -> DriveArea<File>
-    ensures { ⟦<DriveArea<File> as Area>⟧.size result ≡ pages }
+) -> DriveArea<Recorded<File>, Unknown>
+    ensures { ⟦<DriveArea<Recorded<File>, Unknown> as Area>⟧.size result ≡ pages }
 {
     let drive = match path {
         Some(path) => open_drive(rt, path),
         None => None,
     };
-    DriveArea::new(drive, first, pages)
+    DriveArea::<_, Unknown>::over(drive, first, pages)
 }
 
 /// The words of the command line behind the program's name, or `None` where they can't be read.
