@@ -1,0 +1,4 @@
+pub mod First
+pub mod Came
+pub mod Rows
+pub mod Blocks
