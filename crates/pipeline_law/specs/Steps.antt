@@ -2,7 +2,7 @@
 -- gives for it, one
 -- after the other; behind the last it puts what it gives at the end, and the end.
 use Rattle.std.specs.Prelude.{ℕ, Bool, true, false, refl, List, [], ◌∷◌, Option, None, Some}
-use Rattle.network_run.specs.Law.{Law, IsReached}
+use Rattle.network_run.specs.Law.{Law}
 use Rattle.network_law.specs.Stepping.{Openings, law_of}
 use Rattle.place_law.specs.Process.{Entry}
 use Rattle.row_law.specs.Row.{network_of}
