@@ -12,8 +12,8 @@ pub struct Outcomes {
     pub printer: Outcome,
 }
 
-/// How a run ended: the outcomes of its processes, the sides that stopped the buffers 1 to 4 first, and what
-/// it ran on.
+/// How a run ended: the outcomes of its processes, who stopped each of the buffers 1 to 4, and what it ran
+/// on.
 #[derive(Drop)]
 pub struct Ran<S: Source, K: Sink, F, A: Area, B: Area> {
     pub outcomes: Outcomes,

@@ -12,8 +12,7 @@ use std::alloc::Global;
 use std::marker::Model;
 
 /// The lines of a stream of items, in pages: each item is used as it comes, and a page goes out as it
-/// fills. It keeps the items of the page in hand, what their files were loaded as, and no more than the lines
-/// of one of them.
+/// fills. How little it keeps of what was used is measured (`bench/jobs`), and no clause says it.
 #[derive(Debug, Drop)]
 pub struct JobStream {
     ahead: LinesAhead,

@@ -41,7 +41,7 @@ impl<J: JobWork, W: Work<J>> Machine<J, W> {
         }
     }
 
-    /// What the process does next. Once it has ended it does nothing more.
+    /// What the process does next. Of one that has ended nothing is said.
     #[inline(always)]
     pub fn next(&self) -> Action<'_>
         ensures next { (h : List (Entry J.Load)) → StandsFor J.jobs W.process W.keeps self.now h

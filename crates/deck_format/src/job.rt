@@ -28,7 +28,7 @@ pub enum Job {
         fault: Option<CardFault>,
     },
     /// The cards before `#DATA` are the program, and those behind it its input. The program may take so
-    /// many ticks. One with a fault has no input.
+    /// many ticks.
     Pascal {
         name: Ident,
         limit: u32,

@@ -1,4 +1,4 @@
-//! Compiles programs of Sequential Pascal to code of the stack machine.
+//! The code of programs of Sequential Pascal for the stack machine: definitions, and a law of its length.
 #![tactic(auto)]
 
 mod laws;

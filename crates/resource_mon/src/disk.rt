@@ -51,7 +51,7 @@ impl DiskResource {
         Ok((DiskResource { gate }, dealt))
     }
 
-    /// Waits until nobody has the resource and no process that has waited longer wants it.
+    /// Waits until it has the resource: no other process has a grant then.
     pub fn request<R: Threads + Wait + Sync>(&self, seat: &mut DiskSeat, rt: &R) -> DiskPass
         requires { IsIdle self.now seat.old }
         ensures call { seat.new ≡ after_call seat.old Request }

@@ -33,7 +33,7 @@ impl<P: Proc> Machine<P> {
         }
     }
 
-    /// What the process does next. Once it has ended it does nothing more.
+    /// What the process does next. Of one that has ended nothing is said.
     // Inlined, since an action may hold a whole page: who looks at its kind alone then makes none.
     #[inline(always)]
     pub fn next(&self) -> SoloAction
